@@ -1,0 +1,4 @@
+pub mod Results
+pub mod Integers
+pub mod WrittenIntegers
+pub mod StaticPlaces

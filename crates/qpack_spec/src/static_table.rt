@@ -1,0 +1,23 @@
+//! Laws of the static table (RFC 9204, Appendix A).
+
+ghost use Rattle.qpack_spec.specs.StaticTableLaws.{StaticTableHas99, StaticFieldsDiffer, StaticPlaceIsLeast, StaticNamePlaceIsLeast};
+
+/// The table has 99 fields.
+pub fn static_table_has_99()
+    ensures { StaticTableHas99 }
+{}
+
+/// No field stands in the table twice.
+pub fn static_fields_differ()
+    ensures { StaticFieldsDiffer }
+{}
+
+/// Looking for a field finds its index exactly if it stands there.
+pub fn static_place_is_least()
+    ensures { StaticPlaceIsLeast }
+{}
+
+/// Looking for a name finds the least index of a field with it, exactly if there is one.
+pub fn static_name_place_is_least()
+    ensures { StaticNamePlaceIsLeast }
+{}
