@@ -2,7 +2,7 @@
 use Rattle.std.proofs.Common.{◌≡◌, ℕ, zero, suc, ◌+◌, ◌-◌, ◌*◌, ◌/◌, ◌%◌, ◌^◌, ◌<◌, ◌≤◌, List, [], ◌∷◌, length, refl, sym, ap, ◌∙◌, arith, inl, inr, lit≤}
 use Rattle.std.proofs.Math.Nat.{pow-succ', mod-eq_of_lt}
 use Rattle.std.proofs.lemmas.Bool.{cases_lt, le-ltb, lt-ltb}
-use Rattle.std.proofs.lemmas.Nat.{div-mul-add, mod-mul-add, pow_pos}
+use Rattle.std.proofs.lemmas.Nat.{div-mul-add, mod-mul-add, pow_pos, pow-add, mul-add-lt, mod_below}
 use Rattle.qpack_spec.specs.Integer.{full, EndsAtLast, groups_sum, written_groups, written_integer, StandsFor, SpellsInteger, integer_at}
 use Rattle.qpack_spec.specs.IntegerLaws.{IsWritable, WrittenIntegersAreShortest, WrittenIntegersAreReadBack}
 use Rattle.qpack_spec.proofs.Results.{ok_triple}
@@ -117,3 +117,59 @@ written_back n flags value w h = (
       let q = integer_again n text more f v s in
       ok_triple f flags v value more rest (sym q ∙ ap (integer_at n) (sym e) ∙ r),
 )
+
+-- ---- writing the groups one by one
+
+-- more groups than a number takes change nothing
+groups_enough : (k value : ℕ) → value < 128 ^ suc k → written_groups (suc k) value ≡ written_groups k value
+unfolding written_groups
+groups_enough zero value h =
+    let lt : value < 128 = omega (arith, pow-succ' 128 0) in rw (lt-ltb value 128 lt) refl
+groups_enough (suc k) value h =
+    elim (cases_lt value 128) [
+      | inl lt ↦ rw (lt-ltb value 128 lt) refl
+      | inr le ↦
+          let i = groups_enough k (value / 128) (omega (arith, pow-succ' 128 (suc k))) in
+          rw (le-ltb value 128 le) (ap (λ (gs : List ℕ). (128 + value % 128) ∷ gs) i)
+    ]
+
+-- the last group
+pub groups_last : (value : ℕ) → value < 128 → written_groups 9 value ≡ value ∷ []
+unfolding written_groups
+groups_last value h = rw (lt-ltb value 128 h) refl
+
+-- a group with others behind it
+pub groups_more : (value : ℕ) → value < 2 ^ 64 → 128 ≤ value → written_groups 9 value ≡ (128 + value % 128) ∷ written_groups 9 (value / 128)
+unfolding written_groups
+groups_more value small high =
+    let l : 2 ^ 57 ≤ 128 ^ 9 = lit≤ tt in
+    let e = groups_enough 8 (value / 128) (omega (arith, l)) in
+    rw (le-ltb value 128 high) (ap (λ (gs : List ℕ). (128 + value % 128) ∷ gs) (sym e))
+
+-- at most one group more than the fuel
+pub groups_most : (k value : ℕ) → length (written_groups k value) ≤ suc k
+unfolding written_groups
+groups_most zero value = omega arith
+groups_most (suc k) value =
+    elim (cases_lt value 128) [
+      | inl lt ↦ rw (lt-ltb value 128 lt) (omega arith)
+      | inr le ↦ let i = groups_most k (value / 128) in rw (le-ltb value 128 le) (omega (arith, i))
+    ]
+
+-- a spelling has a first group
+pub groups_least : (k value : ℕ) → 1 ≤ length (written_groups k value)
+unfolding written_groups
+groups_least zero value = omega arith
+groups_least (suc k) value =
+    elim (cases_lt value 128) [
+      | inl lt ↦ rw (lt-ltb value 128 lt) (omega arith)
+      | inr le ↦ rw (le-ltb value 128 le) (omega arith)
+    ]
+
+-- the flags above a prefix, and what stands in it, fit a byte
+pub byte_fits : (n flags low : ℕ) → n ≤ 8 → low < 2 ^ n → flags % 2 ^ (8 - n) * 2 ^ n + low < 256
+byte_fits n flags low le lt =
+    let e : 8 ≡ n + (8 - n) = omega arith in
+    let whole : 256 ≡ 2 ^ n * 2 ^ (8 - n) = ap (λ (k : ℕ). 2 ^ k) e ∙ pow-add 2 n (8 - n) in
+    let m = mul-add-lt (flags % 2 ^ (8 - n)) (2 ^ n) low (2 ^ (8 - n)) (mod_below flags (2 ^ (8 - n)) (pow_pos (8 - n))) lt in
+    rw whole m

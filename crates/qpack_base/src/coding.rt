@@ -1,0 +1,181 @@
+//! A cursor over bytes, and the reading and writing of single bytes.
+
+ghost use Rattle.std.specs.Prelude.{◌≡◌, ℕ, ◌+◌, ◌^◌, ◌<◌, ◌≤◌, ◌++◌, ◌∷◌, [], List, OnOk, OnErr, IsOk, length, drop, vec_len, vec_capacity};
+ghost use Rattle.qpack_base.specs.Cursor.{Reading, ReadsByte};
+
+use std::alloc::{AllocError, AllocFailed, Allocator};
+use std::marker::Model;
+use thiserror::Error as ThisError;
+
+/// The bytes ended before the value did: so many more were wanted, and nothing was read.
+#[derive(Clone, Copy, Debug, PartialEq, Eq, ThisError)]
+#[error("unexpected end")]
+pub struct UnexpectedEnd(pub usize);
+
+/// No memory was left.
+#[derive(Clone, Copy, Debug, PartialEq, Eq, ThisError)]
+#[error("out of memory")]
+pub struct NoMemory;
+
+impl From<AllocError> for NoMemory {
+    fn from(_e: AllocError) -> NoMemory {
+        NoMemory
+    }
+}
+
+impl<T: Drop> From<AllocFailed<T>> for NoMemory {
+    fn from(_e: AllocFailed<T>) -> NoMemory {
+        NoMemory
+    }
+}
+
+/// What reading a value answers.
+pub type Result<T> = std::result::Result<T, UnexpectedEnd>;
+
+/// A place in a byte slice, from which reading goes on.
+#[derive(Debug, Drop)]
+pub struct Cursor<'a> {
+    rest: &'a [u8],
+    passed: usize,
+}
+
+impl<'a> Model for Cursor<'a> {
+    ghost Value = { Reading };
+
+    ghost view = { λ c. record { rest = c.rest.now; total = c.passed + length c.rest.now } };
+
+    ghost invariant = { λ c. c.passed + length c.rest.now < 2 ^ 64 };
+}
+
+impl<'a> Cursor<'a> {
+    /// A cursor at the front of a slice.
+    pub fn new(bytes: &'a [u8]) -> Cursor<'a>
+        ensures rest { result.rest ≡ bytes.now }
+        ensures total { result.total ≡ length bytes.now }
+    {
+        Cursor {
+            rest: bytes,
+            passed: 0,
+        }
+    }
+
+    /// Another cursor at this place, to look ahead with.
+    pub fn fork(&self) -> Cursor<'a>
+        ensures { result ≡ self.now }
+    {
+        Cursor {
+            rest: self.rest,
+            passed: self.passed,
+        }
+    }
+
+    /// How many bytes are left.
+    pub fn remaining(&self) -> usize
+        ensures { result ≡ length self.now.rest }
+    {
+        self.rest.len()
+    }
+
+    /// The bytes that are left.
+    pub fn chunk(&self) -> &'a [u8]
+        ensures { result.now ≡ self.now.rest }
+    {
+        self.rest
+    }
+
+    /// How many bytes were passed.
+    pub fn position(&self) -> usize
+        ensures { result + length self.now.rest ≡ self.now.total }
+    {
+        self.passed
+    }
+
+    /// Passes `count` bytes, at most as many as are left.
+    pub fn advance(&mut self, count: usize)
+        requires { count ≤ length self.old.rest }
+        ensures rest { self.new.rest ≡ drop count self.old.rest }
+        ensures total { self.new.total ≡ self.old.total }
+    {
+        self.rest = &self.rest[count..];
+        self.passed += count;
+    }
+}
+
+/// What can be read from a cursor.
+pub trait Decode: Sized {
+    ghost use Rattle.qpack_base.specs.Cursor.{Reads};
+
+    /// What is read, and where the cursor stands then.
+    ghost decode_gives: { Reads Self };
+
+    /// Reads a value at the cursor.
+    fn decode(buf: &mut Cursor) -> Result<Self>
+        ensures { decode_gives buf.old result buf.new };
+}
+
+/// What can be written to a vector.
+pub trait Encode {
+    /// The bytes that are written.
+    ghost encoding: { Self → List ℕ };
+
+    /// Appends the value's bytes; refused, the vector is as before.
+    fn encode<A: Allocator>(&self, buf: &mut Vec<u8, A>) -> std::result::Result<(), NoMemory>
+        ensures ok { OnOk result (buf.new.items ≡ buf.old.items ++ encoding self.now) }
+        ensures err { OnErr result (buf.new.items ≡ buf.old.items) }
+        ensures succeeds { vec_len buf.old + length (encoding self.now) ≤ vec_capacity buf.old → IsOk result }
+        ensures capacity { vec_capacity buf.old ≤ vec_capacity buf.new };
+}
+
+impl Decode for u8 {
+    ghost decode_gives = { ReadsByte };
+
+    fn decode(buf: &mut Cursor) -> Result<u8> {
+        let Some((first, rest)) = buf.rest.split_first() else {
+            return Err(UnexpectedEnd(1));
+        };
+        let first = *first;
+        buf.rest = rest;
+        buf.passed += 1;
+        Ok(first)
+    }
+}
+
+impl Encode for u8 {
+    ghost encoding = { λ byte. byte ∷ [] };
+
+    fn encode<A: Allocator>(&self, buf: &mut Vec<u8, A>) -> std::result::Result<(), NoMemory> {
+        buf.push(*self)?;
+        Ok(())
+    }
+}
+
+/// Reading at a cursor.
+pub trait BufExt {
+    /// Reads a value.
+    fn get<T: Decode>(&mut self) -> Result<T>;
+}
+
+impl BufExt for Cursor<'_> {
+    fn get<T: Decode>(&mut self) -> Result<T>
+        ensures { T.decode_gives self.old result self.new }
+    {
+        T::decode(self)
+    }
+}
+
+/// Writing at the end of a vector.
+pub trait BufMutExt {
+    /// Appends a value's bytes.
+    fn write<T: Encode + Drop>(&mut self, value: T) -> std::result::Result<(), NoMemory>;
+}
+
+impl<A: Allocator> BufMutExt for Vec<u8, A> {
+    fn write<T: Encode + Drop>(&mut self, value: T) -> std::result::Result<(), NoMemory>
+        ensures ok { OnOk result (self.new.items ≡ self.old.items ++ T.encoding value) }
+        ensures err { OnErr result (self.new.items ≡ self.old.items) }
+        ensures succeeds { vec_len self.old + length (T.encoding value) ≤ vec_capacity self.old → IsOk result }
+        ensures capacity { vec_capacity self.old ≤ vec_capacity self.new }
+    {
+        value.encode(self)
+    }
+}

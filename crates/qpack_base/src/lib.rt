@@ -1,0 +1,6 @@
+//! The byte layers of QPACK (RFC 9204): a cursor over bytes, integers with a prefix, header fields
+//! and the static table.
+#![tactic(auto)]
+
+pub mod coding;
+pub mod prefix_int;

@@ -1,0 +1,156 @@
+//! Integers with a prefix of 1 to 8 bits (RFC 7541, section 5.1; RFC 9204, section 4.1.1).
+
+ghost use Rattle.std.specs.Prelude.{◌≡◌, ℕ, ◌+◌, ◌*◌, ◌^◌, ◌<◌, ◌≤◌, ◌-◌, ◌++◌, ◌↔◌, List, IfOk, OnOk, OnErr, IsOk, vec_len, vec_capacity, length};
+ghost use Rattle.qpack_spec.specs.Bytes.{Begins};
+ghost use Rattle.qpack_spec.specs.Integer.{integer_at, groups_at, SpellsInteger, OverflowsInteger, TruncatesInteger, written_integer, written_groups};
+ghost use Rattle.qpack_base.specs.Cursor.{MovesPast};
+ghost use Rattle.qpack_base.specs.Integers.{ReadsInteger, ReadsGroups};
+ghost use Rattle.qpack_base.specs.declared.prefix_int.Error.TheVariants.{Overflow, UnexpectedEnd as Truncated};
+
+use crate::coding::{self, BufExt, Cursor, NoMemory};
+use std::alloc::Allocator;
+use thiserror::Error as ThisError;
+
+/// Why an integer could not be read.
+#[derive(Debug, PartialEq, Drop, ThisError)]
+pub enum Error {
+    /// The prefix is full, and nine further bytes have their high bits set: the value may pass what is
+    /// read, 2^63 + 2^n - 2 for a prefix of n bits.
+    #[error("value overflow")]
+    Overflow,
+    /// The bytes end within the integer.
+    #[error("unexpected end")]
+    UnexpectedEnd,
+}
+
+impl From<coding::UnexpectedEnd> for Error {
+    ghost from_gives = { λ _ e. e ≡ Truncated };
+
+    fn from(_e: coding::UnexpectedEnd) -> Error {
+        Error::UnexpectedEnd
+    }
+}
+
+/// The further bytes that are read behind a full prefix, at most.
+const MOST_GROUPS: u8 = 9;
+
+/// Reads the integer at the cursor, with a prefix of `size` bits: the flags, which are the bits above
+/// the prefix, and the value. Takes no memory. Where it is refused, the cursor's place is not told.
+pub fn decode(size: u8, buf: &mut Cursor) -> Result<(u8, u64), Error>
+    requires least { 1 ≤ size }
+    requires most { size ≤ 8 }
+    // What is read is spelled so, and the cursor moves past exactly it.
+    ensures found { IfOk result (λ x. (text : List ℕ) × SpellsInteger size text x.0 x.1 × MovesPast text buf.old buf.new) }
+    // What is spelled so is read, whatever follows.
+    ensures only { (text rest : List ℕ) (flags value : ℕ) → SpellsInteger size text flags value → buf.old.rest ≡ text ++ rest →
+        (result ≡ Ok (flags, value)) × MovesPast text buf.old buf.new }
+    ensures overflow { (result ≡ Err Overflow) ↔ Begins (OverflowsInteger size) buf.old.rest }
+    ensures truncated { (result ≡ Err Truncated) ↔ TruncatesInteger size buf.old.rest }
+    // The same, as reading from left to right.
+    ensures exact { ReadsInteger buf.old buf.new result (integer_at size buf.old.rest) }
+{
+    read(size, buf)
+}
+
+#[tactic(auto, unfolding(qpack_spec::specs::Integer::integer_at))]
+fn read(size: u8, buf: &mut Cursor) -> Result<(u8, u64), Error>
+    requires least { 1 ≤ size }
+    requires most { size ≤ 8 }
+    ensures { ReadsInteger buf.old buf.new result (integer_at size buf.old.rest) }
+{
+    let first = u64::from(buf.get::<u8>()?);
+    let end = power(size);
+    let flags = (first / end) as u8;
+    let prefix = first % end;
+    if prefix < end - 1 {
+        return Ok((flags, prefix));
+    }
+    let sum = read_groups(buf)?;
+    Ok((flags, end - 1 + sum))
+}
+
+/// Reads groups of seven bits, the least first, up to the byte whose high bit is clear.
+fn read_groups(buf: &mut Cursor) -> Result<u64, Error>
+    ensures exact { ReadsGroups buf.old buf.new result (groups_at 9 buf.old.rest) }
+    ensures small { IfOk result (λ sum. sum < 2 ^ 63) }
+{
+    let mut sum = 0;
+    let mut weight: u64 = 1;
+    for _ in 0..MOST_GROUPS {
+        let byte = u64::from(buf.get::<u8>()?);
+        sum += byte % 128 * weight;
+        if byte < 128 {
+            return Ok(sum);
+        }
+        weight *= 128;
+    }
+    Err(Error::Overflow)
+}
+
+/// Appends the shortest spelling of the value with a prefix of `size` bits, under the flags, which are
+/// cut to the bits above the prefix. Refused, the vector is as before; with free room for the
+/// spelling it succeeds and takes no memory.
+#[tactic(auto, unfolding(qpack_spec::specs::Integer::written_integer))]
+pub fn encode<A: Allocator>(
+    size: u8,
+    flags: u8,
+    value: u64,
+    buf: &mut Vec<u8, A>,
+) -> Result<(), NoMemory>
+    requires least { 1 ≤ size }
+    requires most { size ≤ 8 }
+    ensures ok { OnOk result (buf.new.items ≡ buf.old.items ++ written_integer size flags value) }
+    ensures err { OnErr result (buf.new.items ≡ buf.old.items) }
+    ensures succeeds { vec_len buf.old + length (written_integer size flags value) ≤ vec_capacity buf.old → IsOk result }
+    ensures capacity { vec_capacity buf.old ≤ vec_capacity buf.new }
+{
+    let end = power(size);
+    let high = u64::from(flags) % power(8 - size) * end;
+    if value < end - 1 {
+        buf.push((high + value) as u8)?;
+        return Ok(());
+    }
+    let rest = value - (end - 1);
+    buf.reserve(1 + groups_len(rest))?;
+    buf.push_reserved((high + (end - 1)) as u8);
+    put_groups(rest, buf);
+    Ok(())
+}
+
+/// Two to the number of bits.
+fn power(bits: u8) -> u64
+    requires { bits ≤ 8 }
+    ensures { result ≡ 2 ^ bits }
+{
+    1 << bits
+}
+
+/// How many groups of seven bits the value takes.
+#[tactic(auto, using(qpack_spec::proofs::WrittenIntegers::groups_last, qpack_spec::proofs::WrittenIntegers::groups_more))]
+fn groups_len(value: u64) -> usize
+    ensures len { result ≡ length (written_groups 9 value) }
+    ensures few { result ≤ 10 }
+{
+    let mut len = 1;
+    let mut left = value;
+    while left >= 128 {
+        left /= 128;
+        len += 1;
+    }
+    len
+}
+
+/// Appends the value in groups of seven bits, the least first, into the free room.
+#[tactic(auto, using(qpack_spec::proofs::WrittenIntegers::groups_last, qpack_spec::proofs::WrittenIntegers::groups_more))]
+fn put_groups<A: Allocator>(value: u64, buf: &mut Vec<u8, A>)
+    requires { vec_len buf.old + length (written_groups 9 value) ≤ vec_capacity buf.old }
+    ensures items { buf.new.items ≡ buf.old.items ++ written_groups 9 value }
+    ensures capacity { vec_capacity buf.new ≡ vec_capacity buf.old }
+{
+    let mut left = value;
+    while left >= 128 {
+        buf.push_reserved((128 + left % 128) as u8);
+        left /= 128;
+    }
+    buf.push_reserved(left as u8);
+}
