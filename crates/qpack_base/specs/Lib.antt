@@ -4,3 +4,5 @@ pub use Rattle.qpack_spec.specs.Field
 pub use Rattle.qpack_spec.specs.StaticTable
 pub mod Cursor
 pub mod Integers
+pub mod HeaderFields
+pub mod StaticFields

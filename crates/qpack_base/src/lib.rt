@@ -3,4 +3,8 @@
 #![tactic(auto)]
 
 pub mod coding;
+pub mod field;
 pub mod prefix_int;
+pub mod static_;
+#[cfg(test)]
+mod tests;

@@ -20,8 +20,7 @@ overflow_add-sum c =
 
 pub returns-then-byte-lt128-clause-exact : goal.returns-then-byte-lt128-clause-exact
 returns-then-byte-lt128-clause-exact c =
-    let read = c.in_ok-get.ensures in
-    (
+    let read = c.in_ok-get.ensures in (
       ends_here c.loop.counter c.loop.sum c.loop.weight c.from-byte.result c.loop.buf.rest c.get.new.self.rest _ c.loop-test.true c.loop.invariant.0 (rw c.from-byte.ensures read.0) c.if-byte-lt128.true,
       read.1 ∙ c.loop.invariant.1,
     )
@@ -36,8 +35,7 @@ overflow_mul-weight c = omega (arith, weight_fits c.loop.counter c.loop.weight c
 
 pub loop-preserved : goal.loop-preserved
 loop-preserved c =
-    let read = c.in_ok-get.ensures in
-    (
+    let read = c.in_ok-get.ensures in (
       goes_on c.loop.counter c.loop.sum c.loop.weight c.from-byte.result c.loop.buf.rest c.get.new.self.rest _ c.loop-test.true c.loop.invariant.0 (rw c.from-byte.ensures read.0) c.if-byte-lt128.false,
       read.1 ∙ c.loop.invariant.1,
       next_weight c.loop.counter c.loop.weight c.loop.invariant.2,

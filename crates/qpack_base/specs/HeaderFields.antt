@@ -1,0 +1,30 @@
+-- Header fields as clauses see them: two byte lists.
+use Rattle.std.specs.Prelude.{ℕ, List, [], ◌∷◌, ◌++◌, map, Option}
+use Rattle.std.specs.Borrow.{Bor}
+use Rattle.std.specs.Iterator.{Drains}
+use Rattle.std.specs.Cow.{cow_slice_items}
+use Rattle.std.specs.Hash.{HashWrites, slice, u8}
+use Rattle.std.specs.Str.{encode_utf8_all}
+use Rattle.bstr.specs.Utf8.{lossy_chars}
+use Rattle.qpack_spec.specs.Field.{Field}
+use Rattle.qpack_base.specs.declared.field.HeaderField.{HeaderField}
+
+-- the name and the value, borrowed or owned
+abbrev pub field_of : HeaderField → Field
+field_of f = record { name = cow_slice_items f.name; value = cow_slice_items f.value }
+
+-- the fields behind references
+abbrev pub fields_behind : List (Bor HeaderField) → List Field
+fields_behind fs = map (λ f. field_of f.now) fs
+
+-- the iterator gives so many fields and ends, and P holds of their list
+abbrev pub DrainsFields : {S : Type 0} → (S → Option (Bor HeaderField) → S → Type 0) → S → (List Field → Type 0) → Type 0
+DrainsFields steps it P = (fs : List (Bor HeaderField)) × Drains steps it fs × P (fields_behind fs)
+
+-- the name, a TAB and the value, with U+FFFD for what is no UTF-8
+abbrev pub text_of : Field → List ℕ
+text_of f = encode_utf8_all (lossy_chars f.name) ++ 9 ∷ [] ++ encode_utf8_all (lossy_chars f.value)
+
+-- what a hasher is fed of a field: its two byte lists
+abbrev pub hash_input_of : Field → HashWrites
+hash_input_of f = slice u8 f.name ++ slice u8 f.value

@@ -1,0 +1,114 @@
+//! Header fields: a name and a value (RFC 9204, section 1.1).
+
+ghost use Rattle.std.specs.Prelude.{◌≡◌, ◌+◌, ◌-◌, ◌^◌, ◌↔◌, min, fold, IfOk, IsTrue, string_bytes};
+ghost use Rattle.std.specs.Hash.DefaultHasher as sip;
+ghost use Rattle.qpack_spec.specs.Field.{field_size};
+ghost use Rattle.qpack_base.specs.HeaderFields.{field_of, text_of, hash_input_of};
+
+use crate::coding::NoMemory;
+use bstr::ByteSlice;
+use std::alloc::Global;
+use std::borrow::CowSlice;
+use std::fmt;
+use std::hash::{DefaultHasher, Hash, Hasher};
+
+/// What a table counts for an entry besides its name and its value, in bytes (RFC 9204, section 3.2.1).
+pub const ESTIMATED_OVERHEAD_BYTES: usize = 32;
+
+/// A name and a value, each borrowed for good or owned. Two fields are equal, and hash alike, exactly
+/// if their names and their values are the same bytes.
+#[derive(Debug, PartialEq, Eq, Hash, Clone, Drop)]
+pub struct HeaderField {
+    pub name: CowSlice<'static, u8>,
+    pub value: CowSlice<'static, u8>,
+}
+
+impl HeaderField {
+    /// The field of two byte vectors.
+    pub fn new(name: Vec<u8>, value: Vec<u8>) -> HeaderField
+        ensures { field_of result ≡ record { name = name.items; value = value.items } }
+    {
+        HeaderField {
+            name: CowSlice::Owned(name),
+            value: CowSlice::Owned(value),
+        }
+    }
+
+    /// A copy of two byte slices.
+    pub fn from_pair(alloc: Global, name: &[u8], value: &[u8]) -> Result<HeaderField, NoMemory>
+        ensures { IfOk result (λ field. field_of field ≡ record { name = name.now; value = value.now }) }
+    {
+        let name = Vec::from_slice(alloc, name)?;
+        let value = Vec::from_slice(alloc, value)?;
+        Ok(HeaderField::new(name, value))
+    }
+
+    /// The size of the field in a table, in bytes, held at the greatest number (RFC 9204, section 3.2.1).
+    pub fn mem_size(&self) -> usize
+        ensures { result ≡ min (field_size (field_of self.now)) (2 ^ 64 - 1) }
+    {
+        self.name
+            .len()
+            .saturating_add(self.value.len())
+            .saturating_add(ESTIMATED_OVERHEAD_BYTES)
+    }
+
+    /// The field with another value.
+    pub fn with_value(&self, value: Vec<u8>) -> Result<HeaderField, NoMemory>
+        ensures { IfOk result (λ field. field_of field ≡ record { name = (field_of self.now).name; value = value.items }) }
+    {
+        Ok(HeaderField {
+            name: self.name.clone()?,
+            value: CowSlice::Owned(value),
+        })
+    }
+
+    /// The name and the value.
+    pub fn into_inner(self) -> (CowSlice<'static, u8>, CowSlice<'static, u8>)
+        ensures { result ≡ (self.name, self.value) }
+    {
+        (self.name, self.value)
+    }
+
+    /// The name, a TAB and the value as text, with U+FFFD for what is no UTF-8.
+    pub fn to_text(&self, alloc: Global) -> Result<String, NoMemory>
+        ensures { IfOk result (λ text. string_bytes text ≡ text_of (field_of self.now)) }
+    {
+        let mut text = String::new(alloc);
+        self.name.as_slice().to_str_lossy_into(&mut text)?;
+        text.push('\t')?;
+        self.value.as_slice().to_str_lossy_into(&mut text)?;
+        Ok(text)
+    }
+}
+
+impl fmt::Display for HeaderField {
+    fn fmt<W: fmt::Write>(&self, f: &mut fmt::Formatter<W>) -> fmt::Result {
+        let name = self.name.as_slice().as_bstr();
+        let value = self.value.as_slice().as_bstr();
+        write!(f, "\"{name}\": \"{value}\"")
+    }
+}
+
+/// What `==` answers: whether the two names and the two values are the same bytes, however each is held.
+pub fn equality_is_of_bytes(field: &HeaderField, other: &HeaderField) -> bool
+    ensures { IsTrue result ↔ (field_of field.now ≡ field_of other.now) }
+{
+    field == other
+}
+
+/// Whether two fields hash alike, as fields of the same bytes do, however each is held.
+pub fn equal_fields_hash_alike(field: &HeaderField, other: &HeaderField) -> bool
+    ensures { field_of field.now ≡ field_of other.now → IsTrue result }
+{
+    hash_of(field) == hash_of(other)
+}
+
+/// A field's hash by std's hasher.
+fn hash_of(field: &HeaderField) -> u64
+    ensures { result ≡ sip.finish (fold sip.write sip.initial (hash_input_of (field_of field.now))) }
+{
+    let mut state = DefaultHasher::new();
+    field.hash(&mut state);
+    state.finish()
+}
