@@ -1,6 +1,6 @@
 //! The static table (RFC 9204, Appendix A).
 
-ghost use Rattle.std.specs.Prelude.{◌≡◌, ◌≤◌, ◌↔◌, ◌&&◌, IfOk, IfSome, IfNone, position, length};
+ghost use Rattle.std.specs.Prelude.{◌≡◌, ◌≤◌, ◌&&◌, IfOk, IfErr, IfSome, IfNone, position, length};
 ghost use Rattle.std.specs.Str.{bytes_eq};
 ghost use Rattle.qpack_spec.specs.StaticTable.{static_table, static_place, static_name_place, IsStaticAt, IsLeastStatic, NoStatic};
 ghost use Rattle.qpack_base.specs.HeaderFields.{field_of};
@@ -26,7 +26,7 @@ impl StaticTable {
     /// The field at an index, from 0 to 98, lent for good.
     pub fn get(index: usize) -> Result<HeaderField, Error>
         ensures found { IfOk result (λ field. IsStaticAt index (field_of field)) }
-        ensures unknown { (result ≡ Err (Unknown index)) ↔ (length static_table ≤ index) }
+        ensures unknown { IfErr result (λ e. (e ≡ Unknown index) × (length static_table ≤ index)) }
     {
         let Some(field) = fields().get(index) else {
             return Err(Error::Unknown(index));
