@@ -1,3 +1,4 @@
 pub mod Groups
 pub mod Readers
 pub mod StaticScans
+pub mod FieldLists

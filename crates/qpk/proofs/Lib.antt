@@ -1,0 +1,3 @@
+pub mod FieldLines
+pub mod Texts
+pub mod Words

@@ -1,0 +1,3 @@
+pub mod FieldText
+pub mod Answers
+pub mod Serving

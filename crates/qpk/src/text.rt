@@ -1,0 +1,144 @@
+//! The text calls: lines of fields to hexadecimal, and hexadecimal to fields.
+
+ghost use Rattle.std.specs.Prelude.{◌≡◌, ◌+◌};
+ghost use Rattle.hex.specs.Hex.{decode_of};
+ghost use Rattle.h3_qpack.specs.Stateless.{fields_in};
+ghost use Rattle.qpk.specs.FieldText.{lines_of, fields_from};
+ghost use Rattle.qpk.specs.Answers.{encode_answer, EncodesText, ReadsFields, first_not_static, without_feed, DecodesText, fault_of_decoder};
+ghost use Rattle.qpk.specs.declared.text.Fault.TheVariants.{Memory};
+
+use crate::lines::{split_field, split_line};
+use h3_qpack::coding::{Cursor, NoMemory};
+use h3_qpack::static_::StaticTable;
+use h3_qpack::{
+    Decoded, DecoderError, EncoderError, HeaderField, decode_stateless, encode_stateless,
+};
+use hex::FromHexError;
+use std::alloc::{AllocError, AllocFailed, Global};
+use thiserror::Error;
+
+/// Why a text was not encoded or decoded.
+#[derive(Debug, PartialEq, Drop, Error)]
+pub enum Fault {
+    /// The line of this number, counted from 1, has no TAB.
+    #[error("line {0}: no tab")]
+    NoTab(usize),
+    /// The field of the line of this number, counted from 1, is not in the static table.
+    #[error("line {0}: not static")]
+    NotStatic(usize),
+    /// The text is no hexadecimal.
+    #[error("not hexadecimal")]
+    NotHexadecimal,
+    /// The bytes that the text stands for were not decoded.
+    #[error("refused: {0}")]
+    Refused(DecoderError),
+    /// No memory was left.
+    #[error("refused: memory")]
+    Memory,
+}
+
+impl From<AllocError> for Fault {
+    ghost from_gives = { λ _ r. r ≡ Memory };
+
+    fn from(_e: AllocError) -> Fault {
+        Fault::Memory
+    }
+}
+
+impl<T: Drop> From<AllocFailed<T>> for Fault {
+    ghost from_gives = { λ _ r. r ≡ Memory };
+
+    fn from(_e: AllocFailed<T>) -> Fault {
+        Fault::Memory
+    }
+}
+
+impl From<NoMemory> for Fault {
+    ghost from_gives = { λ _ r. r ≡ Memory };
+
+    fn from(_e: NoMemory) -> Fault {
+        Fault::Memory
+    }
+}
+
+impl From<EncoderError> for Fault {
+    ghost from_gives = { λ _ r. r ≡ Memory };
+
+    fn from(e: EncoderError) -> Fault {
+        match e {
+            EncoderError::Memory => Fault::Memory,
+        }
+    }
+}
+
+impl From<DecoderError> for Fault {
+    ghost from_gives = { λ e r. r ≡ fault_of_decoder e };
+
+    fn from(e: DecoderError) -> Fault {
+        match e {
+            DecoderError::Memory => Fault::Memory,
+            e => Fault::Refused(e),
+        }
+    }
+}
+
+/// The stateless block of the fields of the text's lines, `name TAB value` each, in lower-case
+/// hexadecimal; or the first line without a TAB, or else the first field that is not static.
+pub fn encode_text(alloc: Global, text: &[u8]) -> Result<String, Fault>
+    ensures { EncodesText result (encode_answer text.now) }
+{
+    let fields = read_fields(alloc, text)?;
+    if let Some(number) = first_foreign(&fields) {
+        return Err(Fault::NotStatic(number));
+    }
+    let mut block = Vec::new(alloc);
+    encode_stateless(&mut block, fields.iter())?;
+    Ok(hex::encode(alloc, block.as_slice())?)
+}
+
+/// The fields of the text's lines.
+fn read_fields(alloc: Global, text: &[u8]) -> Result<Vec<HeaderField>, Fault>
+    ensures { ReadsFields result (fields_from 1 (lines_of text.now)) }
+{
+    let mut fields = Vec::new(alloc);
+    let mut rest = text;
+    let mut number = 0usize;
+    while !rest.is_empty() {
+        number += 1;
+        let (line, after) = split_line(rest);
+        let Some((name, value)) = split_field(line) else {
+            return Err(Fault::NoTab(number));
+        };
+        fields.push(HeaderField::from_pair(alloc, name, value)?)?;
+        rest = after;
+    }
+    Ok(fields)
+}
+
+/// The number of the first field, counted from 1, that is not in the static table.
+fn first_foreign(fields: &[HeaderField]) -> Option<usize>
+    ensures { result ≡ first_not_static 1 (fields_in fields.now) }
+{
+    let mut number = 0usize;
+    for field in fields {
+        number += 1;
+        if StaticTable::find(field).is_none() {
+            return Some(number);
+        }
+    }
+    None
+}
+
+/// The fields of the block that the text stands for in hexadecimal, in either case, with or without
+/// a line feed at its end, up to a sum of sizes.
+pub fn decode_text(alloc: Global, text: &[u8], max_size: u64) -> Result<Decoded, Fault>
+    ensures { DecodesText result max_size (decode_of (without_feed text.now)) }
+{
+    let digits = text.strip_suffix(b"\n").unwrap_or(text);
+    let block = match hex::decode(alloc, digits) {
+        Ok(block) => block,
+        Err(FromHexError::OutOfMemory) => return Err(Fault::Memory),
+        Err(_) => return Err(Fault::NotHexadecimal),
+    };
+    Ok(decode_stateless(alloc, &mut Cursor::new(&block), max_size)?)
+}
