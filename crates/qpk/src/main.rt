@@ -3,6 +3,8 @@
 
 mod lines;
 mod serve;
+#[cfg(test)]
+mod tests;
 mod text;
 
 use std::process::ExitCode;
