@@ -1,5 +1,5 @@
 -- What the program does with its words and its input.
-use Rattle.std.specs.Prelude.{◌≡◌, ℕ, ◌^◌, ◌<◌, List, [], ◌∷◌, ◌++◌, Ok, map, codes, string_bytes, String}
+use Rattle.std.specs.Prelude.{◌≡◌, ℕ, ◌^◌, ◌<◌, List, [], ◌∷◌, ◌++◌, Ok, Result, Err, Option, map, codes, IfSome, string_bytes, String}
 use Rattle.std.specs.List.{flat_map}
 use Rattle.std.specs.Str.Parse.{IsNumeral, digits_value, without_leading_plus}
 use Rattle.std.specs.Fmt.{decimal}
@@ -7,9 +7,12 @@ use Rattle.hex.specs.Hex.{decode_of}
 use Rattle.qpack_spec.specs.Field.{Field, total_size}
 use Rattle.qpack_base.specs.HeaderFields.{text_of}
 use Rattle.h3_qpack.specs.StaticBlock.{held, static_block_at}
-use Rattle.qpk.specs.Answers.{encode_answer, without_feed}
+use Rattle.qpk.specs.Answers.{encode_answer, without_feed, FailsText, FailsHexadecimal}
 use Rattle.qpk.specs.declared.serve.Command.{Command}
 use Rattle.qpk.specs.declared.serve.Command.TheVariants.{Encode, Decode}
+use Rattle.qpk.specs.declared.serve.Refusal.{Refusal}
+use Rattle.qpk.specs.declared.serve.Refusal.TheVariants as refusal
+use Rattle.qpk.specs.declared.text.Fault.{Fault}
 
 -- a decimal number of 64 bits, as std parses it: digits, after a plus or not
 pub record SaysNumber (text : List ℕ) (n : ℕ) : Type 0 where
@@ -35,3 +38,21 @@ abbrev pub Answers : Command → List ℕ → List ℕ → Type 0
 Answers Encode input out = (text : List ℕ) × (encode_answer input ≡ Ok text) × (out ≡ text ++ 10 ∷ [])
 Answers (Decode limit) input out =
     (block : List ℕ) × (fs : List Field) × (decode_of (without_feed input) ≡ Ok block) × (static_block_at limit block ≡ Ok fs) × (out ≡ shown fs)
+
+-- the fault that stands in a command's input, or want of memory
+abbrev pub HasFault : Command → List ℕ → Fault → Type 0
+HasFault Encode input fault = FailsText fault (encode_answer input)
+HasFault (Decode limit) input fault = FailsHexadecimal fault limit (decode_of (without_feed input))
+
+-- the answer to a command's input, or the fault that stands there
+abbrev pub AnswersInput : {Z : Type 0} → Command → List ℕ → Result (String Z) Fault → Type 0
+AnswersInput command input (Ok text) = Answers command input (string_bytes text)
+AnswersInput command input (Err fault) = HasFault command input fault
+
+-- why a run ended: other words, or the input could not be read, or it has a fault, and then nothing was written; or its
+-- answer could not be written. The input is what the reader gives, where that is known
+abbrev pub EndsFor : {Z : Type 0} → List (String Z) → Option (List ℕ) → Type 0 → Refusal → Type 0
+EndsFor words input quiet refusal.Usage = AsksForNothing words × quiet
+EndsFor words input quiet refusal.Input = (command : Command) × AsksFor words command × quiet
+EndsFor words input quiet refusal.Output = (command : Command) × AsksFor words command × IfSome input (λ bytes. (out : List ℕ) × Answers command bytes out)
+EndsFor words input quiet (refusal.Fault fault) = (command : Command) × AsksFor words command × IfSome input (λ bytes. HasFault command bytes fault) × quiet

@@ -1,16 +1,17 @@
 //! The program over any reader and writers.
 
-ghost use Rattle.std.specs.Prelude.{◌≡◌, ◌<◌, ◌++◌, ◌∷◌, [], List, ℕ, IfOk, IfSome, IsErr, MatchOption, string_bytes};
+ghost use Rattle.std.specs.Prelude.{◌≡◌, ◌≢◌, ◌++◌, ◌∷◌, [], List, ℕ, IfOk, IfErr, IfSome, MatchOption, string_bytes};
 ghost use Rattle.std.specs.Io.KnownBytes.{Appends};
 ghost use Rattle.qpack_spec.specs.Field.{total_size};
 ghost use Rattle.h3_qpack.specs.StaticBlock.{held};
 ghost use Rattle.h3_qpack.specs.Stateless.{fields_in};
-ghost use Rattle.qpk.specs.Serving.{AsksFor, AsksForNothing, Answers, SaysNumber, shown};
+ghost use Rattle.qpk.specs.declared.serve.Refusal.TheVariants.{Fault as Refused};
+ghost use Rattle.qpk.specs.Serving.{AsksFor, AsksForNothing, Answers, AnswersInput, EndsFor, SaysNumber, shown};
 
 use crate::text::{Fault, decode_text, encode_text};
 use h3_qpack::Decoded;
 use h3_qpack::coding::NoMemory;
-use std::alloc::{AllocError, Global};
+use std::alloc::Global;
 use std::fmt;
 use std::io::{ErrorKind, Read, Write};
 
@@ -25,28 +26,22 @@ pub enum Command {
 
 /// Why nothing was answered.
 #[derive(Debug, Drop)]
-enum Refusal {
+pub enum Refusal {
+    /// The words ask for nothing.
     Usage,
+    /// The input could not be read.
     Input,
+    /// The answer could not be written.
     Output,
+    /// The input has a fault, or no memory was left.
     Fault(Fault),
 }
 
 impl From<Fault> for Refusal {
+    ghost from_gives = { λ fault r. r ≡ Refused fault };
+
     fn from(fault: Fault) -> Refusal {
         Refusal::Fault(fault)
-    }
-}
-
-impl From<AllocError> for Refusal {
-    fn from(_e: AllocError) -> Refusal {
-        Refusal::Fault(Fault::Memory)
-    }
-}
-
-impl From<NoMemory> for Refusal {
-    fn from(_e: NoMemory) -> Refusal {
-        Refusal::Fault(Fault::Memory)
     }
 }
 
@@ -76,9 +71,10 @@ pub fn serve<R: Read, W: Write, E: Write>(
     ensures answered { result ≡ 0 → (command : Command) × AsksFor words.now command × IfSome (R.remaining input.old) (λ bytes.
         (out : List ℕ) × Answers command bytes out × Appends (W.contents output.old) (W.contents output.new) out) }
     ensures quiet { result ≡ 0 → E.contents faults.new ≡ E.contents faults.old }
-    // Other words are refused, and nothing is written to the output.
-    ensures usage { AsksForNothing words.now → (result ≡ 1) × (W.contents output.new ≡ W.contents output.old) }
-    ensures status { result < 2 }
+    // Else why: other words, an input that can't be read or has a fault, an output that can't be written. Nothing is
+    // written there but in the last case.
+    ensures refused { result ≢ 0 → (result ≡ 1) × (refusal : Refusal)
+        × EndsFor words.now (R.remaining input.old) (W.contents output.new ≡ W.contents output.old) refusal }
 {
     match run(alloc, words, input, output) {
         Ok(()) => 0,
@@ -98,7 +94,7 @@ fn run<R: Read, W: Write>(
 ) -> Result<(), Refusal>
     ensures answered { IfOk result (λ _. (command : Command) × AsksFor words.now command × IfSome (R.remaining input.old) (λ bytes.
         (out : List ℕ) × Answers command bytes out × Appends (W.contents output.old) (W.contents output.new) out)) }
-    ensures usage { AsksForNothing words.now → IsErr result × (W.contents output.new ≡ W.contents output.old) }
+    ensures refused { IfErr result (EndsFor words.now (R.remaining input.old) (W.contents output.new ≡ W.contents output.old)) }
 {
     let Some(command) = read_command(words) else {
         return Err(Refusal::Usage);
@@ -139,8 +135,8 @@ fn read_number(word: &str) -> Option<u64>
 }
 
 /// What is written for an input.
-fn answer(alloc: Global, command: Command, input: &[u8]) -> Result<String, Refusal>
-    ensures { IfOk result (λ text. Answers command input.now (string_bytes text)) }
+fn answer(alloc: Global, command: Command, input: &[u8]) -> Result<String, Fault>
+    ensures { AnswersInput command input.now result }
 {
     match command {
         Command::Encode => {
