@@ -1,4 +1,15 @@
 pub mod Groups
 pub mod Readers
 pub mod StaticScans
+pub mod WordTables
+pub mod LoadedBits
+pub mod LongWords
+pub mod Items
+pub mod LastItems
+pub mod TextItems
+pub mod StringReaders
+pub mod WrittenWords
+pub mod AddedBits
+pub mod PutWords
+pub mod PutStrings
 pub mod FieldLists

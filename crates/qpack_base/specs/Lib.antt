@@ -6,3 +6,8 @@ pub mod Cursor
 pub mod Integers
 pub mod HeaderFields
 pub mod StaticFields
+pub mod HuffmanTables
+pub mod BitPlaces
+pub mod Payloads
+pub mod Strings
+pub mod WrittenPayloads

@@ -5,6 +5,7 @@
 pub mod coding;
 pub mod field;
 pub mod prefix_int;
+pub mod prefix_string;
 pub mod static_;
 #[cfg(test)]
 mod tests;

@@ -117,6 +117,21 @@ pub fn encode<A: Allocator>(
     Ok(())
 }
 
+/// How many bytes the shortest spelling of the value has, with a prefix of `size` bits.
+#[tactic(auto, unfolding(qpack_spec::specs::Integer::written_integer))]
+pub(crate) fn encoded_len(size: u8, value: u64) -> usize
+    requires least { 1 ≤ size }
+    requires most { size ≤ 8 }
+    ensures len { (flags : ℕ) → result ≡ length (written_integer size flags value) }
+    ensures few { result ≤ 11 }
+{
+    let end = power(size);
+    if value < end - 1 {
+        return 1;
+    }
+    1 + groups_len(value - (end - 1))
+}
+
 /// Two to the number of bits.
 fn power(bits: u8) -> u64
     requires { bits ≤ 8 }

@@ -2,4 +2,12 @@ pub mod Results
 pub mod Integers
 pub mod WrittenIntegers
 pub mod StaticPlaces
+pub mod WordTable
+pub mod Bits
+pub mod Words
+pub mod Payloads
+pub mod PayloadFaults
+pub mod WrittenPayloads
+pub mod Texts
+pub mod WrittenStrings
 pub mod Sizes

@@ -4,3 +4,7 @@ pub mod IntegerLaws
 pub mod Field
 pub mod StaticTable
 pub mod StaticTableLaws
+pub mod Huffman
+pub mod Text
+pub mod HuffmanLaws
+pub mod TextLaws

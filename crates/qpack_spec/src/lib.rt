@@ -3,5 +3,7 @@
 //! it does nothing, and its contract is a statement on the definitions, which the check proves.
 #![tactic(auto)]
 
+pub mod huffman;
 pub mod integer;
 pub mod static_table;
+pub mod text;

@@ -1,0 +1,118 @@
+-- Bytes that were appended, and the bits that are still to be.
+use Rattle.std.proofs.Common.{◌≡◌, ℕ, ◌+◌, ◌-◌, ◌*◌, ◌/◌, ◌%◌, ◌^◌, ◌<◌, List, [], ◌∷◌, ◌++◌, refl, sym, ap, ◌∙◌, arith, append_assoc, append-nil, pow-add}
+use Rattle.std.specs.Prelude.{slice_index}
+use Rattle.std.proofs.lemmas.List.Concat.{flat_map-cons}
+use Rattle.std.proofs.lemmas.Grind.{flat_map-append}
+use Rattle.std.proofs.lemmas.Nat.{pow_pos, mul-add-lt}
+use Rattle.qpack_spec.specs.Huffman.{bits_of, bits_of_bytes, AreBytes}
+use Rattle.qpack_spec.proofs.Bits.{bits_append, bits_push, bits_cut, ones_number}
+use Rattle.qpack_base.specs.WrittenPayloads.{AddsBits, AddsLastBits}
+use Rattle.qpack_base.proofs.LoadedBits.{IsFour, load_four}
+
+-- the bytes appended and then the lowest `left` bits of a number are these bits
+pub record HasAdded (whole : List ℕ) (left number : ℕ) (old new : List ℕ) : Type 0 where
+  pub bytes : List ℕ
+  pub are : AreBytes bytes
+  pub items : new ≡ old ++ bytes
+  pub bits : bits_of_bytes bytes ++ bits_of left number ≡ whole
+
+no_bits : (n : ℕ) → bits_of 0 n ≡ []
+unfolding bits_of
+no_bits n = refl
+
+pub added_none : (left number : ℕ) (old : List ℕ) → HasAdded (bits_of left number) left number old old
+added_none left number old = record { bytes = []; are = tt; items = sym (append-nil old); bits = refl }
+
+pub nothing_added : (old : List ℕ) → HasAdded [] 0 0 old old
+nothing_added old = record { bytes = []; are = tt; items = sym (append-nil old); bits = no_bits 0 }
+
+pub bytes_join : (a b : List ℕ) → AreBytes a → AreBytes b → AreBytes (a ++ b)
+bytes_join [] b p q = q
+bytes_join (x ∷ a) b p q = (p.0, bytes_join a b p.1 q)
+
+-- the number grows by bits behind it
+pub added_word : (whole : List ℕ) (left number n word : ℕ) (old new : List ℕ) → HasAdded whole left number old new → word < 2 ^ n → HasAdded (whole ++ bits_of n word) (left + n) (number * 2 ^ n + word) old new
+added_word whole left number n word old new a h = record {
+  bytes = a.bytes;
+  are = a.are;
+  items = a.items;
+  bits = ap (λ (l : List ℕ). bits_of_bytes a.bytes ++ l) (bits_push left n number word h)
+      ∙ sym (append_assoc (bits_of_bytes a.bytes) (bits_of left number) (bits_of n word))
+      ∙ ap (λ (l : List ℕ). l ++ bits_of n word) a.bits;
+}
+
+-- its highest bits are appended
+pub added_more : (whole : List ℕ) (k m number high : ℕ) (old new more : List ℕ) → HasAdded whole (k + m) number old new → high ≡ number / 2 ^ m → AddsBits k high new more → HasAdded whole m number old more
+added_more whole k m number high old new more a e b = record {
+  bytes = a.bytes ++ b.bytes;
+  are = bytes_join a.bytes b.bytes a.are b.are;
+  items = b.items ∙ ap (λ (l : List ℕ). l ++ b.bytes) a.items ∙ append_assoc old a.bytes b.bytes;
+  bits = ap (λ (l : List ℕ). l ++ bits_of m number) (flat_map-append (bits_of 8) a.bytes b.bytes)
+      ∙ append_assoc (bits_of_bytes a.bytes) (bits_of_bytes b.bytes) (bits_of m number)
+      ∙ ap (λ (l : List ℕ). bits_of_bytes a.bytes ++ (l ++ bits_of m number)) (b.bits ∙ ap (bits_of k) e)
+      ∙ ap (λ (l : List ℕ). bits_of_bytes a.bytes ++ l) (sym (bits_append k m (k + m) number refl))
+      ∙ a.bits;
+}
+
+-- the appended bits are forgotten
+pub added_cut : (whole : List ℕ) (m number : ℕ) (old new : List ℕ) → HasAdded whole m number old new → HasAdded whole m (number % 2 ^ m) old new
+added_cut whole m number old new a = record {
+  bytes = a.bytes;
+  are = a.are;
+  items = a.items;
+  bits = ap (λ (l : List ℕ). bits_of_bytes a.bytes ++ l) (bits_cut m number) ∙ a.bits;
+}
+
+-- ---- bytes of numbers
+
+one_bits : (b : ℕ) → bits_of_bytes (b ∷ []) ≡ bits_of 8 b
+one_bits b = flat_map-cons (bits_of 8) b [] ∙ append-nil (bits_of 8 b)
+
+pub adds_byte : (x b : ℕ) (old new : List ℕ) → b ≡ x % 256 → new ≡ old ++ b ∷ [] → AddsBits 8 x old new
+adds_byte x b old new e items = record { bytes = b ∷ []; are = (omega arith, tt); items = items; bits = one_bits b ∙ ap (bits_of 8) e ∙ bits_cut 8 x }
+
+pub adds_four : (four : ℕ) (bytes old new : List ℕ) → AreBytes bytes → IsFour bytes four → new ≡ old ++ bytes → AddsBits 32 four old new
+adds_four four bytes old new are is items =
+    let z : four ≡ 0 * 4294967296 + four = omega arith in
+    record {
+      bytes = bytes;
+      are = are;
+      items = items;
+      bits = ap (λ (l : List ℕ). bits_of_bytes l) (sym (append-nil bytes)) ∙ ap (λ (l : List ℕ). l ++ bits_of_bytes (bytes ++ [])) (sym (no_bits 0))
+          ∙ sym (load_four 0 0 four bytes [] is) ∙ append-nil (bits_of (0 + 32) (0 * 4294967296 + four)) ∙ ap (bits_of 32) (sym z);
+    }
+
+-- four bytes, pushed one after the other
+pub pushed_four : (four : ℕ) (bytes old one two three new : List ℕ) → four < 2 ^ 32 → bytes ≡ four / 16777216 % 256 ∷ four / 65536 % 256 ∷ four / 256 % 256 ∷ four % 256 ∷ []
+    → one ≡ old ++ slice_index bytes 0 ∷ [] → two ≡ one ++ slice_index bytes 1 ∷ [] → three ≡ two ++ slice_index bytes 2 ∷ [] → new ≡ three ++ slice_index bytes 3 ∷ []
+    → AddsBits 32 four old new
+pushed_four four bytes old one two three new fits e a b c d =
+    let a' = a ∙ ap (λ (l : List ℕ). old ++ slice_index l 0 ∷ []) e in
+    let b' = b ∙ ap (λ (l : List ℕ). one ++ slice_index l 1 ∷ []) e in
+    let c' = c ∙ ap (λ (l : List ℕ). two ++ slice_index l 2 ∷ []) e in
+    let d' = d ∙ ap (λ (l : List ℕ). three ++ slice_index l 3 ∷ []) e in
+    let items = d' ∙ ap (λ (l : List ℕ). l ++ four % 256 ∷ []) (c' ∙ ap (λ (l : List ℕ). l ++ four / 256 % 256 ∷ []) (b' ∙ ap (λ (l : List ℕ). l ++ four / 65536 % 256 ∷ []) a')) in
+    let is : IsFour (four / 16777216 % 256 ∷ four / 65536 % 256 ∷ four / 256 % 256 ∷ four % 256 ∷ []) four =
+    record { four = refl; first = omega arith; second = omega arith; third = omega arith; fourth = omega arith; is = omega arith } in
+    adds_four four (four / 16777216 % 256 ∷ four / 65536 % 256 ∷ four / 256 % 256 ∷ four % 256 ∷ []) old new (is.first, (is.second, (is.third, (is.fourth, tt)))) is
+    (items ∙ simp append_assoc)
+
+-- ---- the end
+
+pub adds_last : (count loaded k filled : ℕ) (old new : List ℕ) → k < 8 → filled ≡ loaded * 2 ^ k + (2 ^ k - 1) → HasAdded (bits_of (count + k) filled) 0 filled old new → AddsLastBits count loaded old new
+adds_last count loaded k filled old new few e a =
+    let pos = pow_pos k in
+    let top : 2 ^ k - 1 < 2 ^ k = omega arith in
+    record {
+      bytes = a.bytes;
+      padding = k;
+      are = a.are;
+      items = a.items;
+      few = few;
+      bits = sym (append-nil (bits_of_bytes a.bytes)) ∙ ap (λ (l : List ℕ). bits_of_bytes a.bytes ++ l) (sym (no_bits filled)) ∙ a.bits
+          ∙ ap (bits_of (count + k)) e ∙ bits_push count k loaded (2 ^ k - 1) top ∙ ap (λ (l : List ℕ). bits_of count loaded ++ l) (ones_number k (2 ^ k - 1) (omega arith));
+    }
+
+-- a number of bits behind another fits
+pub pushed_fits : (p q hi lo : ℕ) → hi < 2 ^ p → lo < 2 ^ q → hi * 2 ^ q + lo < 2 ^ (p + q)
+pushed_fits p q hi lo h l = let e = pow-add 2 p q in let m = mul-add-lt hi (2 ^ q) lo (2 ^ p) h l in rw e (omega (arith, m))

@@ -1,0 +1,47 @@
+-- What readers of Huffman coded payloads answer, and which bits they leave.
+use Rattle.std.specs.Prelude.{◌≡◌, ℕ, ◌-◌, ◌^◌, ◌%◌, ◌<◌, ◌≤◌, ◌⊎◌, List, [], ◌++◌, Option, Some, None, Result, Ok, Err}
+use Rattle.qpack_spec.specs.Huffman.{HuffmanFault, bits_of, bits_of_bytes, item_at}
+use Rattle.qpack_spec.specs.Huffman as huffman
+use Rattle.qpack_base.specs.declared.prefix_string.decoding.HuffmanDecodingError.{HuffmanDecodingError}
+use Rattle.qpack_base.specs.declared.prefix_string.decoding.HuffmanDecodingError.TheVariants.{MissingBits, Unhandled}
+use Rattle.qpack_base.specs.declared.prefix_string.decoding.Bits.{Bits}
+
+-- the fault that an error stands for
+abbrev pub huffman_fault_of : HuffmanDecodingError → HuffmanFault
+huffman_fault_of (MissingBits window) = huffman.MissingBits
+huffman_fault_of (Unhandled window value) = huffman.Unhandled
+
+-- the bits that are still to be read
+abbrev pub bits_left : Bits → List ℕ
+bits_left b = bits_of b.count b.loaded ++ bits_of_bytes b.rest.now
+
+-- no other bits are loaded
+pub record IsLoaded (b : Bits) : Type 0 where
+  pub fits : b.loaded < 2 ^ b.count
+  pub few : b.count < 64
+
+-- enough bits for every word are loaded, or all that are left
+abbrev pub IsFull : Bits → Type 0
+IsFull b = (32 ≤ b.count) ⊎ (b.rest.now ≡ [])
+
+-- so many of the loaded bits were passed, and nothing else
+pub record KeepsRest (bits : ℕ) (old new : Bits) : Type 0 where
+  pub count : new.count ≡ old.count - bits
+  pub loaded : new.loaded ≡ old.loaded % 2 ^ (old.count - bits)
+  pub rest : new.rest.now ≡ old.rest.now
+
+-- what a reader of a word answers, and which bits it leaves
+abbrev pub ReadsWord : List ℕ → List ℕ → Result ℕ HuffmanDecodingError → Result (ℕ × List ℕ) HuffmanFault → Type 0
+ReadsWord old new (Ok b) read = read ≡ Ok (b, new)
+ReadsWord old new (Err e) read = (read ≡ Err (huffman_fault_of e)) × (new ≡ [])
+
+-- an item of the iterator, as the definition of payloads has it
+abbrev pub item_of : Option (Result ℕ HuffmanDecodingError) → Option (Result ℕ HuffmanFault)
+item_of None = None
+item_of (Some (Ok b)) = Some (Ok b)
+item_of (Some (Err e)) = Some (Err (huffman_fault_of e))
+
+-- what comes next of the bits: their end, a byte or a fault, and the bits behind it
+pub record GivesItem (old : List ℕ) (item : Option (Result ℕ HuffmanDecodingError)) (new : List ℕ) : Type 0 where
+  pub is : item_of item ≡ (item_at old).0
+  pub left : new ≡ (item_at old).1

@@ -1,0 +1,84 @@
+-- What readers of string literals answer.
+use Rattle.std.specs.Prelude.{◌≡◌, ℕ, ◌%◌, List, Result, Ok, Err, ◌==◌, if◌then◌else◌}
+use Rattle.std.specs.Global.{Vec}
+use Rattle.qpack_spec.specs.Huffman.{HuffmanFault, bits_of_bytes, text_of_bits}
+use Rattle.qpack_spec.specs.Text.{StringFault, EndsEarly, LengthOverflows, BadHuffman}
+use Rattle.qpack_base.specs.declared.prefix_int.Error.{Error as IntegerError}
+use Rattle.qpack_base.specs.declared.prefix_int.Error.TheVariants as integer
+use Rattle.qpack_base.specs.declared.prefix_string.Error.{Error}
+use Rattle.qpack_base.specs.declared.prefix_string.Error.TheVariants.{UnexpectedEnd, Integer, HuffmanDecoding, HuffmanEncoding, BufSize, Memory}
+use Rattle.qpack_base.specs.Cursor.{Reading}
+use Rattle.qpack_base.specs.Payloads.{huffman_fault_of}
+
+-- the error of a string whose length has this one
+abbrev pub error_of_integer : IntegerError → Error
+error_of_integer integer.UnexpectedEnd = UnexpectedEnd
+error_of_integer integer.Overflow = Integer integer.Overflow
+
+-- a whole payload was offered, so that memory may be asked for
+abbrev pub IsWhole : Result (ℕ × List ℕ × List ℕ) StringFault → Type 0
+IsWhole (Ok x) = Unit {0}
+IsWhole (Err EndsEarly) = ⊥
+IsWhole (Err LengthOverflows) = ⊥
+IsWhole (Err (BadHuffman fault)) = Unit {0}
+
+-- the error is the fault that was read, or want of memory for a whole payload
+abbrev pub FailsString : Error → Result (ℕ × List ℕ × List ℕ) StringFault → Type 0
+FailsString UnexpectedEnd read = read ≡ Err EndsEarly
+FailsString (Integer integer.Overflow) read = read ≡ Err LengthOverflows
+FailsString (Integer integer.UnexpectedEnd) read = ⊥
+FailsString (HuffmanDecoding e) read = read ≡ Err (BadHuffman (huffman_fault_of e))
+FailsString (HuffmanEncoding e) read = ⊥
+FailsString BufSize read = ⊥
+FailsString Memory read = IsWhole read
+
+-- the answer is the value that was read, under some flags, and the cursor stands behind it; or it is the fault
+abbrev pub ReadsString : Reading → Reading → Result (Vec ℕ) Error → Result (ℕ × List ℕ × List ℕ) StringFault → Type 0
+ReadsString old new (Ok v) read = ((flags : ℕ) × (read ≡ Ok (flags, v.items, new.rest))) × (new.total ≡ old.total)
+ReadsString old new (Err e) read = FailsString e read
+
+-- what a payload means, which the lowest flag says to be plain or coded
+abbrev pub meaning : ℕ → List ℕ → Result (List ℕ) HuffmanFault
+meaning flags payload = if flags % 2 == 0 then Ok payload else text_of_bits (bits_of_bytes payload)
+
+-- the same of a payload alone
+abbrev pub ReadsText : Result (Vec ℕ) Error → Result (List ℕ) HuffmanFault → Type 0
+ReadsText (Ok v) read = read ≡ Ok v.items
+ReadsText (Err UnexpectedEnd) read = ⊥
+ReadsText (Err (Integer e)) read = ⊥
+ReadsText (Err (HuffmanDecoding e)) read = read ≡ Err (huffman_fault_of e)
+ReadsText (Err (HuffmanEncoding e)) read = ⊥
+ReadsText (Err BufSize) read = ⊥
+ReadsText (Err Memory) read = Unit {0}
+
+-- ---- the same by cases
+
+-- the answer is the value, and what moves moved; or memory was refused
+abbrev pub GivesValue : Result (Vec ℕ) Error → List ℕ → Type 0 → Type 0
+GivesValue (Ok v) value moved = (v.items ≡ value) × moved
+GivesValue (Err UnexpectedEnd) value moved = ⊥
+GivesValue (Err (Integer e)) value moved = ⊥
+GivesValue (Err (HuffmanDecoding e)) value moved = ⊥
+GivesValue (Err (HuffmanEncoding e)) value moved = ⊥
+GivesValue (Err BufSize) value moved = ⊥
+GivesValue (Err Memory) value moved = Unit {0}
+
+-- the answer is that the payload means nothing, for this fault
+abbrev pub IsFaulty : Result (Vec ℕ) Error → HuffmanFault → Type 0
+IsFaulty (Ok v) fault = ⊥
+IsFaulty (Err UnexpectedEnd) fault = ⊥
+IsFaulty (Err (Integer e)) fault = ⊥
+IsFaulty (Err (HuffmanDecoding e)) fault = huffman_fault_of e ≡ fault
+IsFaulty (Err (HuffmanEncoding e)) fault = ⊥
+IsFaulty (Err BufSize) fault = ⊥
+IsFaulty (Err Memory) fault = ⊥
+
+-- the same; or memory was refused
+abbrev pub GivesFault : Result (Vec ℕ) Error → HuffmanFault → Type 0
+GivesFault (Ok v) fault = ⊥
+GivesFault (Err UnexpectedEnd) fault = ⊥
+GivesFault (Err (Integer e)) fault = ⊥
+GivesFault (Err (HuffmanDecoding e)) fault = huffman_fault_of e ≡ fault
+GivesFault (Err (HuffmanEncoding e)) fault = ⊥
+GivesFault (Err BufSize) fault = ⊥
+GivesFault (Err Memory) fault = Unit {0}

@@ -1,0 +1,187 @@
+//! String literals with a prefix of 2 to 8 bits, plain or Huffman coded (RFC 7541, section 5.2;
+//! RFC 9204, section 4.1.2).
+
+ghost use Rattle.std.specs.Prelude.{◌≡◌, ℕ, ◌≤◌, ◌-◌, ◌++◌, ◌↔◌, List, Err, IfOk, IfErr, OnOk, OnErr, IsOk, ◌+◌, length, vec_len, vec_capacity};
+ghost use Rattle.qpack_spec.specs.Bytes.{Begins};
+ghost use Rattle.qpack_spec.specs.Huffman.{HuffmanFault, bits_of_bytes, text_of_bits};
+ghost use Rattle.qpack_spec.specs.Text.{LengthOverflows, BadHuffman, SpellsString, RefusesString, TruncatesString, string_at, written_string};
+ghost use Rattle.qpack_base.specs.Cursor.{MovesPast};
+ghost use Rattle.qpack_base.specs.Payloads.{huffman_fault_of};
+ghost use Rattle.qpack_base.specs.Strings.{error_of_integer, meaning, ReadsString, ReadsText, GivesValue, IsFaulty, GivesFault};
+ghost use Rattle.qpack_base.specs.declared.prefix_string.Error.TheVariants.{UnexpectedEnd as Truncated, Integer as BadLength, HuffmanDecoding as BadPayload, Memory as NoRoom};
+ghost use Rattle.qpack_base.specs.declared.prefix_int.Error.TheVariants.{Overflow};
+
+pub mod bitwin;
+pub mod decoding;
+mod decoding_tables;
+pub mod encoding;
+mod encoding_table;
+#[cfg(test)]
+mod tests;
+
+use crate::coding::{Cursor, NoMemory};
+use crate::prefix_int;
+pub use crate::prefix_string::bitwin::BitWindow;
+pub use crate::prefix_string::decoding::{DecodeIter, HpackStringDecode, HuffmanDecodingError};
+pub use crate::prefix_string::encoding::{HpackStringEncode, HuffmanEncodingError};
+use std::alloc::{AllocError, AllocFailed, Allocator, Global};
+use thiserror::Error as ThisError;
+
+/// Why a string could not be read or written.
+#[derive(Debug, PartialEq, Drop, ThisError)]
+pub enum Error {
+    /// The bytes end within the string.
+    #[error("unexpected end")]
+    UnexpectedEnd,
+    /// The length overflows.
+    #[error("could not parse integer: {0}")]
+    Integer(prefix_int::Error),
+    /// The coded payload means nothing.
+    #[error("Huffman decode failed: {0:?}")]
+    HuffmanDecoding(HuffmanDecodingError),
+    /// Kept from the original, and never answered: a refused growth is `Memory`.
+    #[error("Huffman encode failed: {0:?}")]
+    HuffmanEncoding(HuffmanEncodingError),
+    /// Kept from the original, and never answered: no number is narrowed.
+    #[error("number in buffer wrong size")]
+    BufSize,
+    /// No memory was left.
+    #[error("out of memory")]
+    Memory,
+}
+
+impl From<prefix_int::Error> for Error {
+    ghost from_gives = { λ e r. r ≡ error_of_integer e };
+
+    fn from(e: prefix_int::Error) -> Error {
+        match e {
+            prefix_int::Error::UnexpectedEnd => Error::UnexpectedEnd,
+            prefix_int::Error::Overflow => Error::Integer(prefix_int::Error::Overflow),
+        }
+    }
+}
+
+impl From<HuffmanDecodingError> for Error {
+    ghost from_gives = { λ e r. r ≡ BadPayload e };
+
+    fn from(e: HuffmanDecodingError) -> Error {
+        Error::HuffmanDecoding(e)
+    }
+}
+
+impl From<HuffmanEncodingError> for Error {
+    ghost from_gives = { λ _ r. r ≡ NoRoom };
+
+    fn from(_e: HuffmanEncodingError) -> Error {
+        Error::Memory
+    }
+}
+
+impl From<NoMemory> for Error {
+    ghost from_gives = { λ _ r. r ≡ NoRoom };
+
+    fn from(_e: NoMemory) -> Error {
+        Error::Memory
+    }
+}
+
+impl From<AllocError> for Error {
+    ghost from_gives = { λ _ r. r ≡ NoRoom };
+
+    fn from(_e: AllocError) -> Error {
+        Error::Memory
+    }
+}
+
+impl<T: Drop> From<AllocFailed<T>> for Error {
+    ghost from_gives = { λ _ r. r ≡ NoRoom };
+
+    fn from(_e: AllocFailed<T>) -> Error {
+        Error::Memory
+    }
+}
+
+/// Reads the string at the cursor, with a prefix of `size` bits, plain or coded. Asks for no memory
+/// before the whole payload was offered. Where it is refused, the cursor's place is not told.
+pub fn decode(alloc: Global, size: u8, buf: &mut Cursor) -> Result<Vec<u8>, Error>
+    requires least { 2 ≤ size }
+    requires most { size ≤ 8 }
+    // What is read is spelled so, and the cursor moves past exactly it.
+    ensures found { IfOk result (λ v. (text : List ℕ) × (flags : ℕ) × SpellsString size text flags v.items × MovesPast text buf.old buf.new) }
+    // What is spelled so is read, whatever follows, unless memory is refused.
+    ensures only { (text rest : List ℕ) (flags : ℕ) (value : List ℕ) → SpellsString size text flags value → buf.old.rest ≡ text ++ rest →
+        GivesValue result value (MovesPast text buf.old buf.new) }
+    ensures overflow { (result ≡ Err (BadLength Overflow)) ↔ Begins (λ text. RefusesString size text LengthOverflows) buf.old.rest }
+    ensures truncated { (result ≡ Err Truncated) ↔ TruncatesString size buf.old.rest }
+    // A coded payload that means nothing is refused for its fault, unless memory is refused.
+    ensures faulty { (fault : HuffmanFault) → IsFaulty result fault → Begins (λ text. RefusesString size text (BadHuffman fault)) buf.old.rest }
+    ensures refused { (fault : HuffmanFault) → Begins (λ text. RefusesString size text (BadHuffman fault)) buf.old.rest → GivesFault result fault }
+    // The same, as reading from left to right.
+    ensures exact { ReadsString buf.old buf.new result (string_at size buf.old.rest) }
+{
+    read(alloc, size, buf)
+}
+
+/// Appends the coded literal of the value with a prefix of `size` bits, under the flags, which are cut
+/// to the bits above it. Refused, the vector is as before; with free room for the literal it succeeds
+/// and takes no memory.
+#[tactic(auto, unfolding(qpack_spec::specs::Text::written_string))]
+pub fn encode<A: Allocator>(
+    size: u8,
+    flags: u8,
+    value: &[u8],
+    buf: &mut Vec<u8, A>,
+) -> Result<(), Error>
+    requires least { 2 ≤ size }
+    requires most { size ≤ 8 }
+    ensures ok { OnOk result (buf.new.items ≡ buf.old.items ++ written_string size flags value.now) }
+    ensures err { OnErr result (buf.new.items ≡ buf.old.items) }
+    ensures memory { IfErr result (λ e. e ≡ NoRoom) }
+    ensures succeeds { vec_len buf.old + length (written_string size flags value.now) ≤ vec_capacity buf.old → IsOk result }
+    ensures capacity { vec_capacity buf.old ≤ vec_capacity buf.new }
+{
+    let len = encoding::payload_len(value);
+    let head = prefix_int::encoded_len(size - 1, len as u64);
+    buf.reserve(len.saturating_add(head))?;
+    prefix_int::encode(size - 1, flags % 0x80 * 2 + 1, len as u64, buf)?;
+    encoding::put_payload(value, buf);
+    Ok(())
+}
+
+#[tactic(auto, unfolding(qpack_spec::specs::Text::string_at))]
+fn read(alloc: Global, size: u8, buf: &mut Cursor) -> Result<Vec<u8>, Error>
+    requires least { 2 ≤ size }
+    requires most { size ≤ 8 }
+    ensures { ReadsString buf.old buf.new result (string_at size buf.old.rest) }
+{
+    let (flags, len) = prefix_int::decode(size - 1, buf)?;
+    let len = len as usize;
+    if buf.remaining() < len {
+        return Err(Error::UnexpectedEnd);
+    }
+    let payload = &buf.chunk()[..len];
+    let value = read_payload(alloc, flags, payload)?;
+    buf.advance(len);
+    Ok(value)
+}
+
+/// The value of a payload, which the lowest flag says to be plain or coded.
+fn read_payload(alloc: Global, flags: u8, payload: &[u8]) -> Result<Vec<u8>, Error>
+    ensures { ReadsText result (meaning flags payload.now) }
+{
+    if flags % 2 == 0 {
+        return Ok(Vec::from_slice(alloc, payload)?);
+    }
+    read_text(alloc, payload)
+}
+
+/// The text that a coded payload means.
+fn read_text(alloc: Global, payload: &[u8]) -> Result<Vec<u8>, Error>
+    ensures { ReadsText result (text_of_bits (bits_of_bytes payload.now)) }
+{
+    let mut text = Vec::with_capacity(alloc, payload.len() + payload.len() / 2)?;
+    for byte in DecodeIter::new(payload) {
+        text.push(byte?)?;
+    }
+    Ok(text)
+}

@@ -1,0 +1,277 @@
+//! Reading Huffman coded payloads (RFC 7541, section 5.2 and Appendix B).
+
+ghost use Rattle.std.specs.Prelude.{◌≡◌, ℕ, ◌+◌, ◌*◌, ◌/◌, ◌%◌, ◌^◌, ◌<◌, ◌≤◌, ◌-◌, List, [], length, slice_index, MatchOption};
+ghost use Rattle.std.specs.Iterator.{at_most};
+ghost use Rattle.qpack_spec.specs.Huffman.{bits_of_bytes, bytes_by_length, word_at};
+ghost use Rattle.qpack_base.specs.Payloads.{GivesItem, ReadsWord, bits_left, IsLoaded, IsFull, KeepsRest};
+
+use crate::prefix_string::bitwin::BitWindow;
+use crate::prefix_string::decoding_tables::{LONG, long_words, short_words};
+use std::marker::Model;
+use thiserror::Error as ThisError;
+
+/// Why a payload means nothing.
+#[derive(Debug, Drop, PartialEq, ThisError)]
+pub enum HuffmanDecodingError {
+    /// Behind the last word stand bits that are neither a word nor fewer than eight ones.
+    #[error("missing bits")]
+    MissingBits(BitWindow),
+    /// Behind the last word stand thirty ones, EOS.
+    #[error("unhandled code word")]
+    Unhandled(BitWindow, usize),
+}
+
+/// The bits of a payload that are still to be read: the lowest `count` bits of `loaded`, and then
+/// those of `rest`.
+#[derive(Debug, Drop)]
+struct Bits<'a> {
+    rest: &'a [u8],
+    loaded: u64,
+    count: u32,
+    length: usize,
+}
+
+/// How many loaded bits serve every word.
+const ENOUGH: u32 = 32;
+
+/// Thirty ones.
+const EOS: usize = 0x3fff_ffff;
+
+impl<'a> Bits<'a> {
+    fn new(payload: &'a [u8]) -> Bits<'a>
+        ensures left { bits_left result ≡ bits_of_bytes payload.now }
+        ensures loaded { IsLoaded result }
+    {
+        Bits {
+            rest: payload,
+            loaded: 0,
+            count: 0,
+            length: payload.len(),
+        }
+    }
+
+    /// Loads bytes until there are enough bits for every word, or no more bytes.
+    fn load(&mut self)
+        requires { IsLoaded self.old }
+        ensures left { bits_left self.new ≡ bits_left self.old }
+        ensures loaded { IsLoaded self.new }
+        ensures full { IsFull self.new }
+    {
+        if self.count >= ENOUGH {
+            return;
+        }
+        let Some((word, rest)) = self.rest.split_first_chunk::<4>() else {
+            self.load_last();
+            return;
+        };
+        let [first, second, third, fourth] = word;
+        let word = u32::from_be_bytes([*first, *second, *third, *fourth]);
+        self.loaded = self.loaded * 0x1_0000_0000 + u64::from(word);
+        self.count += 32;
+        self.rest = rest;
+    }
+
+    /// Loads the last bytes, which are fewer than four.
+    fn load_last(&mut self)
+        requires loaded { IsLoaded self.old }
+        requires room { self.old.count < 32 }
+        requires few { length self.old.rest.now < 4 }
+        ensures left { bits_left self.new ≡ bits_left self.old }
+        ensures loaded { IsLoaded self.new }
+        ensures full { IsFull self.new }
+    {
+        while let Some((first, rest)) = self.rest.split_first() {
+            self.loaded = self.loaded * 0x100 + u64::from(*first);
+            self.count += 8;
+            self.rest = rest;
+        }
+    }
+
+    /// What comes next: a byte, a fault, or the end.
+    fn item(&mut self) -> Option<Result<u8, HuffmanDecodingError>>
+        requires loaded { IsLoaded self.old }
+        requires full { IsFull self.old }
+        ensures gives { GivesItem (bits_left self.old) result (bits_left self.new) }
+        ensures loaded { IsLoaded self.new }
+    {
+        if self.count < 8 {
+            return self.last_item();
+        }
+        let window = self.loaded >> (self.count - 8);
+        if window >= LONG {
+            return Some(self.long_word());
+        }
+        let (byte, bits) = short_words()[window as usize];
+        self.pass(u32::from(bits));
+        Some(Ok(byte))
+    }
+
+    /// The same of the last bits, which are fewer than eight: they are filled up with ones, and a word
+    /// counts only where all of it remains.
+    fn last_item(&mut self) -> Option<Result<u8, HuffmanDecodingError>>
+        requires loaded { IsLoaded self.old }
+        requires few { self.old.count < 8 }
+        requires all { self.old.rest.now ≡ [] }
+        ensures gives { GivesItem (bits_left self.old) result (bits_left self.new) }
+        ensures loaded { IsLoaded self.new }
+    {
+        let places = power(8 - self.count);
+        let window = self.loaded * places + (places - 1);
+        if window == 0xff {
+            self.stop();
+            return None;
+        }
+        let (byte, bits) = short_words()[window as usize];
+        let bits = u32::from(bits);
+        if bits > self.count {
+            let window = self.window();
+            self.stop();
+            return Some(Err(HuffmanDecodingError::MissingBits(window)));
+        }
+        self.pass(bits);
+        Some(Ok(byte))
+    }
+
+    /// The byte whose word of more than eight bits comes next.
+    fn long_word(&mut self) -> Result<u8, HuffmanDecodingError>
+        requires loaded { IsLoaded self.old }
+        requires full { IsFull self.old }
+        requires eight { 8 ≤ self.old.count }
+        requires long { 254 ≤ self.old.loaded / 2 ^ (self.old.count - 8) }
+        ensures gives { ReadsWord (bits_left self.old) (bits_left self.new) result (word_at bytes_by_length 0 0 (bits_left self.old)) }
+        ensures loaded { IsLoaded self.new }
+    {
+        let rows = long_words();
+        for row in rows {
+            let bits = u32::from(row.0);
+            if bits > self.count {
+                let window = self.window();
+                self.stop();
+                return Err(HuffmanDecodingError::MissingBits(window));
+            }
+            let number = self.loaded >> (self.count - bits);
+            if let Some(byte) = byte_at(number, u64::from(row.1), row.2) {
+                self.pass(bits);
+                return Ok(byte);
+            }
+        }
+        let window = self.window();
+        self.stop();
+        Err(HuffmanDecodingError::Unhandled(window, EOS))
+    }
+
+    /// The place of the next bit, and how many are loaded.
+    fn window(&self) -> BitWindow {
+        let loaded = self.length.saturating_sub(self.rest.len()) as u64;
+        let count = u64::from(self.count);
+        BitWindow {
+            byte: loaded.saturating_sub((count + 7) / 8),
+            bit: (8 - count % 8) % 8,
+            count,
+        }
+    }
+
+    /// Passes bits that are loaded.
+    fn pass(&mut self, bits: u32)
+        requires loaded { IsLoaded self.old }
+        requires there { bits ≤ self.old.count }
+        ensures rest { KeepsRest bits self.old self.new }
+        ensures loaded { IsLoaded self.new }
+    {
+        self.count -= bits;
+        self.loaded = low_bits(self.loaded, self.count);
+    }
+
+    /// Passes all bits.
+    fn stop(&mut self)
+        ensures left { bits_left self.new ≡ [] }
+        ensures loaded { IsLoaded self.new }
+    {
+        self.rest = &[];
+        self.loaded = 0;
+        self.count = 0;
+    }
+}
+
+/// The byte whose word is the number, where those of the bytes are the numbers from `first` on.
+fn byte_at(number: u64, first: u64, bytes: &[u8]) -> Option<u8>
+    ensures { MatchOption result (first ≤ number → length bytes.now ≤ number - first)
+        (λ b. (first ≤ number) × (number - first < length bytes.now) × (b ≡ slice_index bytes.now (number - first))) }
+{
+    if number < first {
+        return None;
+    }
+    bytes.get((number - first) as usize).copied()
+}
+
+/// The lowest bits of a number.
+fn low_bits(value: u64, bits: u32) -> u64
+    requires { bits < 64 }
+    ensures { result ≡ value % 2 ^ bits }
+{
+    value % power(bits)
+}
+
+/// Two to the number of bits.
+fn power(bits: u32) -> u64
+    requires { bits < 64 }
+    ensures { result ≡ 2 ^ bits }
+{
+    1 << bits
+}
+
+/// The bytes that a payload's words spell. It ends after its first fault.
+#[derive(Debug, Drop)]
+pub struct DecodeIter<'a> {
+    bits: Bits<'a>,
+}
+
+impl<'a> Model for DecodeIter<'a> {
+    ghost Value = { List ℕ };
+
+    ghost view = { λ d. bits_left d.bits };
+
+    ghost invariant = { λ d. IsLoaded d.bits };
+}
+
+impl<'a> DecodeIter<'a> {
+    /// Over a payload.
+    pub(super) fn new(payload: &'a [u8]) -> DecodeIter<'a>
+        ensures { result ≡ bits_of_bytes payload.now }
+    {
+        DecodeIter {
+            bits: Bits::new(payload),
+        }
+    }
+}
+
+impl<'a> Iterator for DecodeIter<'a> {
+    type Item = Result<u8, HuffmanDecodingError>;
+
+    ghost next_gives = { λ bits item left. GivesItem bits item left };
+
+    ghost remaining = { λ bits. at_most (length bits) };
+
+    fn next(&mut self) -> Option<Result<u8, HuffmanDecodingError>> {
+        self.bits.load();
+        self.bits.item()
+    }
+}
+
+/// What can be read as a payload.
+pub trait HpackStringDecode {
+    /// The bytes of the payload.
+    ghost payload: { Self → List ℕ };
+
+    /// The bytes that the payload's words spell, up to its first fault. Takes no memory.
+    fn hpack_decode(&self) -> DecodeIter<'_>
+        ensures { result ≡ bits_of_bytes (payload self.now) };
+}
+
+impl HpackStringDecode for Vec<u8> {
+    ghost payload = { λ v. v.items };
+
+    fn hpack_decode(&self) -> DecodeIter<'_> {
+        DecodeIter::new(self)
+    }
+}

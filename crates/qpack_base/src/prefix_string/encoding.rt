@@ -1,0 +1,123 @@
+//! Writing Huffman coded payloads (RFC 7541, section 5.2 and Appendix B).
+
+ghost use Rattle.std.specs.Prelude.{◌≡◌, ◌+◌, ◌*◌, ◌%◌, ◌/◌, ◌-◌, ◌^◌, ◌<◌, ◌≤◌, ◌++◌, List, ℕ, IfOk, length, min, vec_len, vec_capacity};
+ghost use Rattle.qpack_spec.specs.Huffman.{payload_of};
+ghost use Rattle.qpack_base.specs.WrittenPayloads.{AddsBits, AddsLastBits};
+
+use crate::prefix_string::encoding_table::words;
+use std::alloc::{AllocError, Allocator};
+use thiserror::Error as ThisError;
+
+/// No memory was left for a payload.
+#[derive(Debug, Drop, PartialEq, ThisError)]
+#[error("out of memory")]
+pub struct HuffmanEncodingError;
+
+impl From<AllocError> for HuffmanEncodingError {
+    fn from(_e: AllocError) -> HuffmanEncodingError {
+        HuffmanEncodingError
+    }
+}
+
+/// How many bytes the payload of a text has, held at the greatest number.
+pub(super) fn payload_len(text: &[u8]) -> usize
+    ensures { result ≡ min (length (payload_of text.now)) (2 ^ 64 - 1) }
+{
+    let words = words();
+    let mut bytes = 0usize;
+    let mut bits = 0usize;
+    for byte in text {
+        bits += usize::from(words[usize::from(*byte)].0);
+        bytes = bytes.saturating_add(bits / 8);
+        bits %= 8;
+    }
+    if bits == 0 {
+        return bytes;
+    }
+    bytes.saturating_add(1)
+}
+
+/// Appends the payload of a text into the free room: the words go through `loaded`, whose lowest
+/// `count` bits are still to be written, four bytes at a time.
+pub(super) fn put_payload<A: Allocator>(text: &[u8], buf: &mut Vec<u8, A>)
+    requires { vec_len buf.old + length (payload_of text.now) ≤ vec_capacity buf.old }
+    ensures items { buf.new.items ≡ buf.old.items ++ payload_of text.now }
+    ensures capacity { vec_capacity buf.new ≡ vec_capacity buf.old }
+{
+    let words = words();
+    let mut loaded = 0u64;
+    let mut count = 0u32;
+    for byte in text {
+        let (bits, word) = words[usize::from(*byte)];
+        let bits = u32::from(bits);
+        loaded = loaded * power(bits) + u64::from(word);
+        count += bits;
+        if count >= 32 {
+            count -= 32;
+            put_four(loaded / power(count), buf);
+            loaded %= power(count);
+        }
+    }
+    put_last(loaded, count, buf);
+}
+
+/// Appends 32 bits into the free room.
+fn put_four<A: Allocator>(four: u64, buf: &mut Vec<u8, A>)
+    requires fits { four < 2 ^ 32 }
+    requires room { vec_len buf.old + 4 ≤ vec_capacity buf.old }
+    ensures items { AddsBits 32 four buf.old.items buf.new.items }
+    ensures len { vec_len buf.new ≡ vec_len buf.old + 4 }
+    ensures capacity { vec_capacity buf.new ≡ vec_capacity buf.old }
+{
+    let [first, second, third, fourth] = (four as u32).to_be_bytes();
+    buf.push_reserved(first);
+    buf.push_reserved(second);
+    buf.push_reserved(third);
+    buf.push_reserved(fourth);
+}
+
+/// Appends the last bits into the free room, filled up with ones to whole bytes.
+fn put_last<A: Allocator>(loaded: u64, count: u32, buf: &mut Vec<u8, A>)
+    requires fits { loaded < 2 ^ count }
+    requires few { count < 32 }
+    requires room { vec_len buf.old + (count + 7) / 8 ≤ vec_capacity buf.old }
+    ensures items { AddsLastBits count loaded buf.old.items buf.new.items }
+    ensures capacity { vec_capacity buf.new ≡ vec_capacity buf.old }
+{
+    let ones = (8 - count % 8) % 8;
+    let places = power(ones);
+    let filled = loaded * places + (places - 1);
+    let mut left = count + ones;
+    while left >= 8 {
+        left -= 8;
+        buf.push_reserved((filled / power(left) % 0x100) as u8);
+    }
+}
+
+/// Two to the number of bits.
+fn power(bits: u32) -> u64
+    requires { bits < 64 }
+    ensures { result ≡ 2 ^ bits }
+{
+    1 << bits
+}
+
+/// What can be coded as a payload.
+pub trait HpackStringEncode {
+    /// The bytes of the text.
+    ghost text: { Self → List ℕ };
+
+    /// The payload of the text.
+    fn hpack_encode(&self) -> Result<Vec<u8>, HuffmanEncodingError>
+        ensures { IfOk result (λ v. v.items ≡ payload_of (text self.now)) };
+}
+
+impl HpackStringEncode for Vec<u8> {
+    ghost text = { λ v. v.items };
+
+    fn hpack_encode(&self) -> Result<Vec<u8>, HuffmanEncodingError> {
+        let mut payload = Vec::with_capacity(*self.allocator(), payload_len(self))?;
+        put_payload(self, &mut payload);
+        Ok(payload)
+    }
+}

@@ -1,0 +1,64 @@
+-- String literals with a prefix of n bits, n from 2 to 8: a flag, a length, and so many bytes, plain or coded
+-- (RFC 7541, section 5.2; RFC 9204, section 4.1.2).
+use Rattle.std.specs.Prelude.{◌≡◌, ℕ, ◌+◌, ◌-◌, ◌*◌, ◌/◌, ◌%◌, ◌⊎◌, List, ◌++◌, length, take, drop, Result, Ok, Err, nat_lt, ◌==◌, if◌then◌else◌}
+use Rattle.qpack_spec.specs.Integer.{IntegerFault, Overflow, UnexpectedEnd, SpellsInteger, OverflowsInteger, integer_at, written_integer}
+use Rattle.qpack_spec.specs.Huffman.{HuffmanFault, bits_of_bytes, PayloadMeans, PayloadMeansNothing, text_of_bits, payload_of}
+
+-- why no string can be read
+pub data StringFault : Type 0 where
+  EndsEarly : StringFault
+  LengthOverflows : StringFault
+  BadHuffman : (fault : HuffmanFault) → StringFault
+
+-- The length of the payload, with a prefix one bit shorter, whose lowest flag is `huffman` (1 where the payload
+-- is coded) and whose other flags are `flags`; and then the payload.
+pub record IsLiteral (n : ℕ) (text : List ℕ) (flags huffman : ℕ) (payload : List ℕ) : Type 0 where
+  pub head : List ℕ
+  pub parts : text ≡ head ++ payload
+  pub spells : SpellsInteger (n - 1) head (2 * flags + huffman) (length payload)
+
+-- the bytes are a literal of the value, plain or coded
+abbrev pub SpellsString : ℕ → List ℕ → ℕ → List ℕ → Type 0
+SpellsString n text flags value =
+    IsLiteral n text flags 0 value ⊎ ((payload : List ℕ) × IsLiteral n text flags 1 payload × PayloadMeans payload value)
+
+-- the bytes are refused: the length overflows, or a whole coded payload means nothing
+abbrev pub RefusesString : ℕ → List ℕ → StringFault → Type 0
+RefusesString n text EndsEarly = ⊥
+RefusesString n text LengthOverflows = OverflowsInteger (n - 1) text
+RefusesString n text (BadHuffman fault) =
+    (flags : ℕ) × (payload : List ℕ) × IsLiteral n text flags 1 payload × PayloadMeansNothing payload fault
+
+-- no front is a literal or a refusal
+abbrev pub TruncatesString : ℕ → List ℕ → Type 0
+TruncatesString n bytes =
+    (text rest : List ℕ) → bytes ≡ text ++ rest
+    → ((flags : ℕ) (value : List ℕ) → SpellsString n text flags value → ⊥) × ((fault : StringFault) → RefusesString n text fault → ⊥)
+
+-- ---- the same, as reading from left to right
+
+-- the value of a payload before a rest
+abbrev pub value_before : ℕ → List ℕ → Result (List ℕ) HuffmanFault → Result (ℕ × List ℕ × List ℕ) StringFault
+value_before flags rest (Ok value) = Ok (flags, value, rest)
+value_before flags rest (Err fault) = Err (BadHuffman fault)
+
+-- the string behind its length, where the length's lowest flag says whether the payload is coded
+abbrev pub payload_at : ℕ → ℕ → List ℕ → Result (ℕ × List ℕ × List ℕ) StringFault
+payload_at flags len bytes =
+    if nat_lt (length bytes) len then Err EndsEarly
+    else value_before (flags / 2) (drop len bytes) (if flags % 2 == 0 then Ok (take len bytes) else text_of_bits (bits_of_bytes (take len bytes)))
+
+abbrev pub string_behind : Result (ℕ × ℕ × List ℕ) IntegerFault → Result (ℕ × List ℕ × List ℕ) StringFault
+string_behind (Err Overflow) = Err LengthOverflows
+string_behind (Err UnexpectedEnd) = Err EndsEarly
+string_behind (Ok x) = payload_at x.0 x.1 x.2
+
+-- the flags, the value, and the bytes behind the string
+unfoldable pub string_at : ℕ → List ℕ → Result (ℕ × List ℕ × List ℕ) StringFault
+string_at n bytes = string_behind (integer_at (n - 1) bytes)
+
+-- ---- the written spelling
+
+-- coded, the length in its written spelling, the flags cut to the bits above it
+unfoldable pub written_string : ℕ → ℕ → List ℕ → List ℕ
+written_string n flags value = written_integer (n - 1) (2 * flags + 1) (length (payload_of value)) ++ payload_of value

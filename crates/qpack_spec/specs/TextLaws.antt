@@ -1,0 +1,57 @@
+-- What every reader and writer of string literals relies on, as statements; the crate's law functions promise them.
+use Rattle.std.specs.Prelude.{◌≡◌, ℕ, ◌+◌, ◌-◌, ◌^◌, ◌<◌, ◌≤◌, ◌⊎◌, ◌↔◌, List, ◌++◌, length, Ok, Err}
+use Rattle.qpack_spec.specs.Bytes.{Begins}
+use Rattle.qpack_spec.specs.Integer.{full}
+use Rattle.qpack_spec.specs.Huffman.{HuffmanFault, AreBytes, payload_of}
+use Rattle.qpack_spec.specs.Text.{StringFault, EndsEarly, LengthOverflows, BadHuffman, SpellsString, RefusesString, TruncatesString, string_at, written_string}
+
+-- one literal is of one value, under one list of flags
+abbrev pub StringsHaveOneValue : Type 0
+StringsHaveOneValue =
+    (n : ℕ) (text : List ℕ) (f g : ℕ) (v w : List ℕ) → SpellsString n text f v → SpellsString n text g w → (f ≡ g) × (v ≡ w)
+
+-- a literal or a refusal
+abbrev pub EndsString : ℕ → List ℕ → Type 0
+EndsString n text = ((flags : ℕ) × (value : List ℕ) × SpellsString n text flags value) ⊎ ((fault : StringFault) × RefusesString n text fault)
+
+-- no literal or refusal begins another
+abbrev pub NoStringBeginsAnother : Type 0
+NoStringBeginsAnother = (n : ℕ) (a b x y : List ℕ) → EndsString n a → EndsString n b → a ++ x ≡ b ++ y → a ≡ b
+
+-- what can be written so that it is read back: a prefix of 2 to 8 bits, flags that fit above it, bytes, and a coded
+-- length up to the greatest that is read
+pub record IsWritableString (n flags : ℕ) (value : List ℕ) : Type 0 where
+  pub least : 2 ≤ n
+  pub most : n ≤ 8
+  pub flags_fit : flags < 2 ^ (8 - n)
+  pub bytes : AreBytes value
+  pub size : length (payload_of value) < 2 ^ 63 + full (n - 1)
+
+-- the written string is a literal of its value
+abbrev pub WrittenStringsAreLiterals : Type 0
+WrittenStringsAreLiterals =
+    (n flags : ℕ) (value : List ℕ) → IsWritableString n flags value → SpellsString n (written_string n flags value) flags value
+
+-- and is read back whole, whatever follows
+abbrev pub WrittenStringsAreReadBack : Type 0
+WrittenStringsAreReadBack =
+    (n flags : ℕ) (value rest text more : List ℕ) (f : ℕ) (v : List ℕ) → IsWritableString n flags value
+    → SpellsString n text f v → written_string n flags value ++ rest ≡ text ++ more
+    → (f ≡ flags) × (v ≡ value) × (more ≡ rest)
+
+-- reading from left to right finds exactly the literal at the front
+abbrev pub ReadingFindsStrings : Type 0
+ReadingFindsStrings =
+    (n : ℕ) (bytes : List ℕ) (flags : ℕ) (value rest : List ℕ)
+    → (string_at n bytes ≡ Ok (flags, value, rest)) ↔ ((text : List ℕ) × (bytes ≡ text ++ rest) × SpellsString n text flags value)
+
+-- each refusal exactly where it stands
+abbrev pub ReadingFindsRefusals : Type 0
+ReadingFindsRefusals =
+    (n : ℕ) (bytes : List ℕ)
+    → ((string_at n bytes ≡ Err LengthOverflows) ↔ Begins (λ text. RefusesString n text LengthOverflows) bytes)
+    × ((fault : HuffmanFault) → (string_at n bytes ≡ Err (BadHuffman fault)) ↔ Begins (λ text. RefusesString n text (BadHuffman fault)) bytes)
+
+-- and the end exactly where no front is one or the other
+abbrev pub ReadingFindsTruncation : Type 0
+ReadingFindsTruncation = (n : ℕ) (bytes : List ℕ) → (string_at n bytes ≡ Err EndsEarly) ↔ TruncatesString n bytes
