@@ -3,7 +3,13 @@
 //! it does nothing, and its contract is a statement on the definitions, which the check proves.
 #![tactic(auto)]
 
+pub mod block;
+pub mod form;
 pub mod huffman;
 pub mod integer;
+pub mod stateless;
 pub mod static_table;
+pub mod stream;
+pub mod table;
 pub mod text;
+pub mod window;

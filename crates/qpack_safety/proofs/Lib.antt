@@ -1,0 +1,16 @@
+pub mod OpenBlocks
+pub mod Replies
+pub mod Fronts
+pub mod Invariant
+pub mod Encoding
+pub mod Taking
+pub mod Hearing
+pub mod Decoding
+pub mod Resizing
+pub mod Steps
+pub mod Safely
+pub mod Deliveries
+pub mod Shown
+pub mod WritingEvents
+pub mod DeliveryEvents
+pub mod SessionSafely

@@ -1,0 +1,3 @@
+pub mod Safety
+pub mod Shows
+pub mod SessionSafety

@@ -1,0 +1,55 @@
+-- A session in bytes, and the world of values that it shows.
+use Rattle.std.specs.Prelude.{◌≡◌, ℕ, ◌≤◌, List, [], ◌∷◌, ◌++◌, length}
+use Rattle.qpack_spec.specs.Instruction.{Instruction, Reply, SpellsInstruction, SpellsReply}
+use Rattle.qpack_spec.specs.Stream.{Joined, Carried}
+use Rattle.qpack_spec.specs.BlockReading.{written_block}
+use Rattle.qpack_spec.specs.Table.{table_of}
+use Rattle.qpack_spec.specs.World.{SentBlock, required_count, Stream, stream_at, World}
+use Rattle.qpack_spec.specs.Session.{KeptBlock, KeptStream, kept_at, Session}
+use Rattle.qpack_spec.specs.WrittenLaws.{IsWritableBlock}
+
+-- two lists agree, element by element
+abbrev pub Agrees : {X Y : Type 0} → (X → Y → Type 0) → List X → List Y → Type 0
+Agrees P [] [] = Unit {0}
+Agrees P [] (y ∷ ys) = ⊥
+Agrees P (x ∷ xs) [] = ⊥
+Agrees P (x ∷ xs) (y ∷ ys) = P x y × Agrees P xs ys
+
+-- so many first instructions end at a place of the bytes sent
+pub record EndsAt (sent : List ℕ) (instructions : List Instruction) (place many : ℕ) : Type 0 where
+  pub front : List ℕ
+  pub rest : List ℕ
+  pub cut : sent ≡ front ++ rest
+  pub place_is : length front ≡ place
+  pub first : List Instruction
+  pub others : List Instruction
+  pub split : instructions ≡ first ++ others
+  pub many_is : length first ≡ many
+  pub joined : Joined SpellsInstruction front first
+
+-- a block in bytes is the written one
+pub record ShowsBlock (sent : List ℕ) (instructions : List Instruction) (k : KeptBlock) (b : SentBlock) : Type 0 where
+  pub bytes_are : k.bytes ≡ written_block b.block
+  pub writable : IsWritableBlock b.block
+  pub required_is : k.required ≡ required_count b
+  pub handed_are : k.handed ≡ b.handed
+  pub ends : EndsAt sent instructions k.end b.end
+
+-- a stream's blocks are those, and it stands where that one does
+pub record ShowsStream (sent : List ℕ) (instructions : List Instruction) (k : KeptStream) (st : Stream) : Type 0 where
+  pub blocks_are : Agrees (ShowsBlock sent instructions) k.blocks st.blocks
+  pub decoded_is : k.decoded ≡ st.decoded
+  pub acknowledged_is : k.acknowledged ≡ st.acknowledged
+  pub cancelled_is : k.cancelled ≡ st.cancelled
+
+-- the session shows the world: its tables are those, and its bytes are the instructions and replies taken and under way
+pub record Shows (v : Session) (w : World) : Type 0 where
+  pub encoder_is : v.encoder ≡ w.encoder
+  pub decoder_is : v.decoder ≡ table_of w.decoder
+  pub unreported_is : v.unreported ≡ w.unreported
+  pub sent_carried : Carried Instruction SpellsInstruction v.sent v.sent_taken w.taken w.flying
+  pub sent_order : v.sent_taken ≤ v.sent_delivered
+  pub heard_lines : List Reply
+  pub told_carried : Carried Reply SpellsReply v.told v.told_taken heard_lines w.replies
+  pub told_order : v.told_taken ≤ v.told_delivered
+  pub streams_are : (s : ℕ) → ShowsStream v.sent (w.taken ++ w.flying) (kept_at v.streams s) (stream_at w.streams s)

@@ -1,0 +1,164 @@
+-- Worked rows of field sections read under a window, computed by the definitions.
+use Rattle.std.proofs.Common.{ℕ, ◌≡◌, true, false, List, [], ◌∷◌, ◌++◌, refl}
+use Rattle.std.specs.Prelude.{codes, negsuc}
+use Rattle.qpack_spec.specs.Integer.{written_groups, groups_at, integer_at, written_integer, UnexpectedEnd}
+use Rattle.qpack_spec.specs.Huffman.{bits_of, ones, bytes_by_length, bytes_of_length, first_word, word_length, word_of, number_from, packed, payload_of, word_at, is_padding, item_at, text_at, text_of_bits}
+use Rattle.qpack_spec.specs.Text.{string_at, written_string, EndsEarly}
+use Rattle.qpack_spec.specs.Field.{Field}
+use Rattle.qpack_spec.specs.StaticTable.{field, static_table, static_place, static_name_place}
+use Rattle.qpack_spec.specs.Form.{BadInteger, BadString, made_at, form_at}
+use Rattle.qpack_spec.specs.Line.{line_form, written_line, written_lines}
+use Rattle.qpack_spec.specs.Instruction.{instruction_form, reply_form, written_instruction, written_instructions, written_reply, written_replies}
+use Rattle.qpack_spec.specs.Prefix.{OutOfRange, BelowZero, prefix_for, required_at, read_required, read_base, read_prefix, written_prefix, prefix_at}
+use Rattle.qpack_spec.specs.Window.{Window, excess, entry, recent, Inserts, Resizes, insertion, effect, after}
+use Rattle.qpack_spec.specs.History.{window_of, whole, grown, start}
+use Rattle.qpack_spec.specs.Reading.{BadForm, BadPrefix, BelowWindow, AboveWindow, BehindBase, NotStatic, static_field, relative_field, post_base_field, line_field, fields_of, names_of, references_of, greatest, Fields, Missing, Faulty, reading}
+use Rattle.qpack_spec.specs.BlockReading.{fields_at, reading_of_bytes, written_block}
+use Rattle.qpack_spec.specs.Table.{window, track, naming, is_held, none_held, has_room, may_name, with_entry, last_place, newest, put, resized, applied, commit, unnamed, without_oldest, without_stream, raised, heard}
+use Rattle.qpack_spec.specs.Rule.{instruction_for, rule_field, rule}
+
+-- a window in which these fields were put
+putting : Window → List Field → Window
+putting w [] = w
+putting w (f ∷ fs) = putting (after w (Inserts f)) fs
+
+window_with : ℕ → List Field → Window
+window_with capacity fs = putting (window_of (start capacity)) fs
+
+numbered : ℕ → Field
+numbered n = field (codes "foo" ++ n ∷ []) (codes "bar")
+
+-- all that has to unfold
+rows : ℕ
+unfolding excess written_groups groups_at integer_at written_integer bits_of ones bytes_by_length bytes_of_length first_word word_length word_of number_from packed payload_of word_at is_padding item_at text_at text_of_bits string_at written_string static_table static_place static_name_place line_form written_line written_lines instruction_form reply_form written_instruction written_instructions written_reply written_replies made_at form_at prefix_for required_at read_required read_base read_prefix written_prefix prefix_at entry recent insertion effect after window_of whole grown static_field relative_field post_base_field line_field fields_of names_of references_of greatest reading fields_at reading_of_bytes written_block window track naming is_held none_held has_room may_name with_entry last_place newest put resized applied commit unnamed without_oldest without_stream raised heard instruction_for rule_field rule putting window_with numbered
+rows = 0
+
+-- a relative and two post-base lines
+read_mixed : (reading_of_bytes (window_with 4096 (numbered 49 ∷ numbered 50 ∷ numbered 51 ∷ numbered 52 ∷ [])) (5 ∷ 129 ∷ 128 ∷ 16 ∷ 17 ∷ [])) ≡ Fields (numbered 50 ∷ numbered 51 ∷ numbered 52 ∷ []) true
+unfolding rows
+read_mixed = refl
+
+-- a post-base name
+read_post_base_name : (reading_of_bytes (window_with 4096 (numbered 49 ∷ numbered 50 ∷ numbered 51 ∷ numbered 52 ∷ [])) (3 ∷ 0 ∷ 0 ∷ 134 ∷ 168 ∷ 190 ∷ 20 ∷ 140 ∷ 118 ∷ 51 ∷ [])) ≡ Fields (field (codes "foo3") (codes "new bar3") ∷ []) true
+unfolding rows
+read_post_base_name = refl
+
+-- a window of which the oldest entries are gone
+read_far : (reading_of_bytes (window_with 4096 ((field (codes "foo1") (codes "bar")) ∷ (field (codes "foo2") (codes "bar")) ∷ (field (codes "foo3") (codes "bar")) ∷ (field (codes "foo4") (codes "bar")) ∷ (field (codes "foo5") (codes "bar")) ∷ (field (codes "foo6") (codes "bar")) ∷ (field (codes "foo7") (codes "bar")) ∷ (field (codes "foo8") (codes "bar")) ∷ (field (codes "foo9") (codes "bar")) ∷ (field (codes "foo10") (codes "bar")) ∷ (field (codes "foo11") (codes "bar")) ∷ (field (codes "foo12") (codes "bar")) ∷ (field (codes "foo13") (codes "bar")) ∷ (field (codes "foo14") (codes "bar")) ∷ (field (codes "foo15") (codes "bar")) ∷ (field (codes "foo16") (codes "bar")) ∷ (field (codes "foo17") (codes "bar")) ∷ (field (codes "foo18") (codes "bar")) ∷ (field (codes "foo19") (codes "bar")) ∷ (field (codes "foo20") (codes "bar")) ∷ (field (codes "foo21") (codes "bar")) ∷ (field (codes "foo22") (codes "bar")) ∷ (field (codes "foo23") (codes "bar")) ∷ (field (codes "foo24") (codes "bar")) ∷ (field (codes "foo25") (codes "bar")) ∷ (field (codes "foo26") (codes "bar")) ∷ (field (codes "foo27") (codes "bar")) ∷ (field (codes "foo28") (codes "bar")) ∷ (field (codes "foo29") (codes "bar")) ∷ (field (codes "foo30") (codes "bar")) ∷ (field (codes "foo31") (codes "bar")) ∷ (field (codes "foo32") (codes "bar")) ∷ (field (codes "foo33") (codes "bar")) ∷ (field (codes "foo34") (codes "bar")) ∷ (field (codes "foo35") (codes "bar")) ∷ (field (codes "foo36") (codes "bar")) ∷ (field (codes "foo37") (codes "bar")) ∷ (field (codes "foo38") (codes "bar")) ∷ (field (codes "foo39") (codes "bar")) ∷ (field (codes "foo40") (codes "bar")) ∷ (field (codes "foo41") (codes "bar")) ∷ (field (codes "foo42") (codes "bar")) ∷ (field (codes "foo43") (codes "bar")) ∷ (field (codes "foo44") (codes "bar")) ∷ (field (codes "foo45") (codes "bar")) ∷ (field (codes "foo46") (codes "bar")) ∷ (field (codes "foo47") (codes "bar")) ∷ (field (codes "foo48") (codes "bar")) ∷ (field (codes "foo49") (codes "bar")) ∷ (field (codes "foo50") (codes "bar")) ∷ (field (codes "foo51") (codes "bar")) ∷ (field (codes "foo52") (codes "bar")) ∷ (field (codes "foo53") (codes "bar")) ∷ (field (codes "foo54") (codes "bar")) ∷ (field (codes "foo55") (codes "bar")) ∷ (field (codes "foo56") (codes "bar")) ∷ (field (codes "foo57") (codes "bar")) ∷ (field (codes "foo58") (codes "bar")) ∷ (field (codes "foo59") (codes "bar")) ∷ (field (codes "foo60") (codes "bar")) ∷ (field (codes "foo61") (codes "bar")) ∷ (field (codes "foo62") (codes "bar")) ∷ (field (codes "foo63") (codes "bar")) ∷ (field (codes "foo64") (codes "bar")) ∷ (field (codes "foo65") (codes "bar")) ∷ (field (codes "foo66") (codes "bar")) ∷ (field (codes "foo67") (codes "bar")) ∷ (field (codes "foo68") (codes "bar")) ∷ (field (codes "foo69") (codes "bar")) ∷ (field (codes "foo70") (codes "bar")) ∷ (field (codes "foo71") (codes "bar")) ∷ (field (codes "foo72") (codes "bar")) ∷ (field (codes "foo73") (codes "bar")) ∷ (field (codes "foo74") (codes "bar")) ∷ (field (codes "foo75") (codes "bar")) ∷ (field (codes "foo76") (codes "bar")) ∷ (field (codes "foo77") (codes "bar")) ∷ (field (codes "foo78") (codes "bar")) ∷ (field (codes "foo79") (codes "bar")) ∷ (field (codes "foo80") (codes "bar")) ∷ (field (codes "foo81") (codes "bar")) ∷ (field (codes "foo82") (codes "bar")) ∷ (field (codes "foo83") (codes "bar")) ∷ (field (codes "foo84") (codes "bar")) ∷ (field (codes "foo85") (codes "bar")) ∷ (field (codes "foo86") (codes "bar")) ∷ (field (codes "foo87") (codes "bar")) ∷ (field (codes "foo88") (codes "bar")) ∷ (field (codes "foo89") (codes "bar")) ∷ (field (codes "foo90") (codes "bar")) ∷ (field (codes "foo91") (codes "bar")) ∷ (field (codes "foo92") (codes "bar")) ∷ (field (codes "foo93") (codes "bar")) ∷ (field (codes "foo94") (codes "bar")) ∷ (field (codes "foo95") (codes "bar")) ∷ (field (codes "foo96") (codes "bar")) ∷ (field (codes "foo97") (codes "bar")) ∷ (field (codes "foo98") (codes "bar")) ∷ (field (codes "foo99") (codes "bar")) ∷ (field (codes "foo100") (codes "bar")) ∷ (field (codes "foo101") (codes "bar")) ∷ (field (codes "foo102") (codes "bar")) ∷ (field (codes "foo103") (codes "bar")) ∷ (field (codes "foo104") (codes "bar")) ∷ (field (codes "foo105") (codes "bar")) ∷ (field (codes "foo106") (codes "bar")) ∷ (field (codes "foo107") (codes "bar")) ∷ (field (codes "foo108") (codes "bar")) ∷ (field (codes "foo109") (codes "bar")) ∷ (field (codes "foo110") (codes "bar")) ∷ (field (codes "foo111") (codes "bar")) ∷ (field (codes "foo112") (codes "bar")) ∷ (field (codes "foo113") (codes "bar")) ∷ (field (codes "foo114") (codes "bar")) ∷ (field (codes "foo115") (codes "bar")) ∷ (field (codes "foo116") (codes "bar")) ∷ (field (codes "foo117") (codes "bar")) ∷ (field (codes "foo118") (codes "bar")) ∷ (field (codes "foo119") (codes "bar")) ∷ (field (codes "foo120") (codes "bar")) ∷ (field (codes "foo121") (codes "bar")) ∷ (field (codes "foo122") (codes "bar")) ∷ (field (codes "foo123") (codes "bar")) ∷ (field (codes "foo124") (codes "bar")) ∷ (field (codes "foo125") (codes "bar")) ∷ (field (codes "foo126") (codes "bar")) ∷ (field (codes "foo127") (codes "bar")) ∷ (field (codes "foo128") (codes "bar")) ∷ (field (codes "foo129") (codes "bar")) ∷ (field (codes "foo130") (codes "bar")) ∷ (field (codes "foo131") (codes "bar")) ∷ (field (codes "foo132") (codes "bar")) ∷ (field (codes "foo133") (codes "bar")) ∷ (field (codes "foo134") (codes "bar")) ∷ (field (codes "foo135") (codes "bar")) ∷ (field (codes "foo136") (codes "bar")) ∷ (field (codes "foo137") (codes "bar")) ∷ (field (codes "foo138") (codes "bar")) ∷ [])) (134 ∷ 0 ∷ 138 ∷ [])) ≡ Fields ((field (codes "foo123") (codes "bar")) ∷ []) true
+unfolding rows
+read_far = refl
+
+-- entries that are missing
+missing_entries : (reading_of_bytes (window_with 4096 []) (9 ∷ 0 ∷ [])) ≡ Missing 8
+unfolding rows
+missing_entries = refl
+
+-- a base below 0 is told before missing entries
+base_before_missing : (reading_of_bytes (window_with 100 []) (4 ∷ 131 ∷ [])) ≡ Faulty (BadPrefix (BelowZero (negsuc 0)))
+unfolding rows
+base_before_missing = refl
+
+-- at base 0 they are missing
+missing_at_base_0 : (reading_of_bytes (window_with 100 []) (4 ∷ 130 ∷ [])) ≡ Missing 3
+unfolding rows
+missing_at_base_0 = refl
+
+-- a base below 0 where nothing is missing
+no_base : (reading_of_bytes (window_with 4096 ((field (codes "foo") (codes "bar")) ∷ [])) (2 ∷ 129 ∷ [])) ≡ Faulty (BadPrefix (BelowZero (negsuc 0)))
+unfolding rows
+no_base = refl
+
+-- no lines
+no_lines : (reading_of_bytes (window_with 4096 ((field (codes "foo") (codes "bar")) ∷ [])) (2 ∷ 128 ∷ [])) ≡ Fields [] true
+unfolding rows
+no_lines = refl
+
+-- a base below the least number is held there
+least_base : (reading_of_bytes (window_with 4096 ((field (codes "foo") (codes "bar")) ∷ [])) (2 ∷ 255 ∷ 255 ∷ 255 ∷ 255 ∷ 255 ∷ 255 ∷ 255 ∷ 255 ∷ 255 ∷ 127 ∷ [])) ≡ Faulty (BadPrefix (BelowZero (negsuc 9223372036854775807)))
+unfolding rows
+least_base = refl
+
+-- a place above the window
+above_window : (reading_of_bytes (window_with 4096 ((field (codes "a") (codes "1")) ∷ (field (codes "b") (codes "2")) ∷ [])) (2 ∷ 9 ∷ 128 ∷ [])) ≡ Faulty (AboveWindow 9)
+unfolding rows
+above_window = refl
+
+-- and far above it
+far_above_window : (reading_of_bytes (window_with 4096 ((field (codes "foo") (codes "bar")) ∷ [])) (2 ∷ 127 ∷ 255 ∷ 255 ∷ 255 ∷ 255 ∷ 255 ∷ 255 ∷ 255 ∷ 255 ∷ 127 ∷ 128 ∷ [])) ≡ Faulty (AboveWindow 9223372036854775934)
+unfolding rows
+far_above_window = refl
+
+-- a post-base index far above it
+far_post_base : (reading_of_bytes (window_with 4096 ((field (codes "foo") (codes "bar")) ∷ [])) (2 ∷ 0 ∷ 31 ∷ 255 ∷ 255 ∷ 255 ∷ 255 ∷ 255 ∷ 255 ∷ 255 ∷ 255 ∷ 127 ∷ [])) ≡ Faulty (BehindBase 9223372036854775822)
+unfolding rows
+far_post_base = refl
+
+-- and behind a base far above it
+far_both : (reading_of_bytes (window_with 4096 ((field (codes "foo") (codes "bar")) ∷ [])) (2 ∷ 127 ∷ 255 ∷ 255 ∷ 255 ∷ 255 ∷ 255 ∷ 255 ∷ 255 ∷ 255 ∷ 127 ∷ 31 ∷ 255 ∷ 255 ∷ 255 ∷ 255 ∷ 255 ∷ 255 ∷ 255 ∷ 255 ∷ 127 ∷ [])) ≡ Faulty (BehindBase 9223372036854775822)
+unfolding rows
+far_both = refl
+
+-- an index below the window
+below_window : (reading_of_bytes (window_with 4096 ((field (codes "foo") (codes "bar")) ∷ [])) (2 ∷ 0 ∷ 129 ∷ [])) ≡ Faulty (BelowWindow 1)
+unfolding rows
+below_window = refl
+
+-- any prefix at capacity 0
+capacity_0 : (reading_of_bytes (window_with 0 []) (3 ∷ 0 ∷ [])) ≡ Fields [] false
+unfolding rows
+capacity_0 = refl
+
+-- capacity 32: the count 1 stands for nothing above 0
+capacity_32_count_0 : (reading_of_bytes (window_with 32 []) (1 ∷ 0 ∷ [])) ≡ Faulty (BadPrefix OutOfRange)
+unfolding rows
+capacity_32_count_0 = refl
+
+-- the count 2 for 1
+capacity_32_count_1 : (reading_of_bytes (window_with 32 []) (2 ∷ 0 ∷ [])) ≡ Missing 1
+unfolding rows
+capacity_32_count_1 = refl
+
+-- the count 3 for nothing
+capacity_32_count_2 : (reading_of_bytes (window_with 32 []) (3 ∷ 0 ∷ [])) ≡ Faulty (BadPrefix OutOfRange)
+unfolding rows
+capacity_32_count_2 = refl
+
+-- no static field 99
+not_static : (reading_of_bytes (window_with 4096 []) (0 ∷ 0 ∷ 255 ∷ 36 ∷ [])) ≡ Faulty (NotStatic 99)
+unfolding rows
+not_static = refl
+
+-- :method GET
+static_get : (reading_of_bytes (window_with 4096 []) (0 ∷ 0 ∷ 209 ∷ [])) ≡ Fields ((field (codes ":method") (codes "GET")) ∷ []) false
+unfolding rows
+static_get = refl
+
+-- a cut line
+cut_static : (reading_of_bytes (window_with 4096 []) (0 ∷ 0 ∷ 255 ∷ [])) ≡ Faulty (BadForm (BadInteger UnexpectedEnd))
+unfolding rows
+cut_static = refl
+
+-- a cut prefix
+cut_prefix : (reading_of_bytes (window_with 4096 []) (0 ∷ [])) ≡ Faulty (BadForm (BadInteger UnexpectedEnd))
+unfolding rows
+cut_prefix = refl
+
+-- no bytes at all
+no_prefix : (reading_of_bytes (window_with 4096 []) ([])) ≡ Faulty (BadForm (BadInteger UnexpectedEnd))
+unfolding rows
+no_prefix = refl
+
+-- the first fault in reading order: an index before a later line that is cut
+bytes_before_index : (reading_of_bytes (window_with 4096 []) (0 ∷ 0 ∷ 255 ∷ 36 ∷ 255 ∷ [])) ≡ Faulty (NotStatic 99)
+unfolding rows
+bytes_before_index = refl
+
+-- a line whose bytes are cut tells that before its index
+line_bytes_first : (reading_of_bytes (window_with 4096 []) (0 ∷ 0 ∷ 95 ∷ 84 ∷ 129 ∷ [])) ≡ Faulty (BadForm (BadString EndsEarly))
+unfolding rows
+line_bytes_first = refl
+
+-- with an agreed maximum a present capacity of 0 still reads the count
+agreed_maximum_counts : (reading_of_bytes (after (window_of (start 4096)) (Resizes 0)) (2 ∷ 0 ∷ [])) ≡ Missing 1
+unfolding rows
+agreed_maximum_counts = refl

@@ -1,0 +1,228 @@
+-- Worked rows of tables and of the rule, computed by the definitions.
+use Rattle.std.proofs.Common.{ℕ, ◌+◌, ◌≡◌, List, [], ◌∷◌, length, take, None, Result, Ok, Err, refl}
+use Rattle.std.specs.Prelude.{codes, ℤ, negsuc}
+use Rattle.qpack_spec.specs.Bytes.{◌>>=◌}
+use Rattle.qpack_spec.specs.Integer.{written_groups, groups_at, integer_at, written_integer}
+use Rattle.qpack_spec.specs.Huffman.{bits_of, ones, bytes_by_length, bytes_of_length, first_word, word_length, word_of, number_from, packed, payload_of, word_at, is_padding, item_at, text_at, text_of_bits}
+use Rattle.qpack_spec.specs.Text.{string_at, written_string}
+use Rattle.qpack_spec.specs.Field.{Field}
+use Rattle.qpack_spec.specs.StaticTable.{field, static_table, static_place, static_name_place}
+use Rattle.qpack_spec.specs.Form.{made_at, form_at}
+use Rattle.qpack_spec.specs.Line.{line_form, written_line, written_lines}
+use Rattle.qpack_spec.specs.Instruction.{Instruction, InsertStaticName, InsertDynamicName, InsertLiteralName, Duplicate, SetCapacity, Reply, Acknowledgment, Cancellation, Increment, instruction_form, reply_form, written_instruction, written_instructions, written_reply, written_replies}
+use Rattle.qpack_spec.specs.Prefix.{prefix_for, required_at, read_required, read_base, read_prefix, written_prefix, prefix_at}
+use Rattle.qpack_spec.specs.Window.{excess, entry, recent, insertion, effect, after, Refusal, NoEntry, NoStaticField, DoesNotFit, AboveMaximum, UnknownStream}
+use Rattle.qpack_spec.specs.History.{window_of, whole, grown}
+use Rattle.qpack_spec.specs.Reading.{static_field, relative_field, post_base_field, line_field, fields_of, names_of, references_of, greatest, reading}
+use Rattle.qpack_spec.specs.BlockReading.{fields_at, reading_of_bytes, written_block}
+use Rattle.qpack_spec.specs.Table.{Table, empty_table, window, track, naming, is_held, none_held, has_room, may_name, with_entry, last_place, newest, put, resized, applied, commit, unnamed, without_oldest, without_stream, raised, heard, fields_in, count}
+use Rattle.qpack_spec.specs.Rule.{staying, instruction_for, rule_field, rule, block_of, committed}
+
+-- fields put into a table in turn; a refused one ends it
+put_all : List Field → Table → Result Table Refusal
+put_all [] t = Ok t
+put_all (f ∷ fs) t = put t f >>= λ u. put_all fs u
+
+put_into : ℕ → ℕ → List Field → Result Table Refusal
+put_into capacity limit fs = put_all fs (empty_table capacity None limit)
+
+-- the live fields, the oldest first
+live_of : Result Table Refusal → Result (List Field) Refusal
+live_of r = r >>= λ t. Ok (fields_in t.live)
+
+-- the absolute index of the oldest live entry, and how many insertions were made
+counts_of : Result Table Refusal → Result (ℕ × ℕ) Refusal
+counts_of r = r >>= λ t. Ok (t.dropped + 1, count t)
+
+-- instructions applied in turn, from their bytes
+apply_all : List Instruction → Table → Result Table Refusal
+apply_all [] t = Ok t
+apply_all (i ∷ is) t = applied t i >>= λ u. apply_all is u
+
+-- a block written on a stream, and the table behind it
+writes_on : Table → ℕ → List Field → Table
+writes_on t s fs = committed (rule t fs) s
+
+-- the bytes of a block
+block_bytes : Table → List Field → List ℕ
+block_bytes t fs = written_block (block_of t (rule t fs))
+
+hear_all : List Reply → Table → Result Table Refusal
+hear_all [] t = Ok t
+hear_all (r ∷ rs) t = heard t r >>= λ u. hear_all rs u
+
+open_count : Result Table Refusal → Result ℕ Refusal
+open_count r = r >>= λ t. Ok (length t.opened)
+
+duplicates : ℕ → List Instruction
+duplicates n = Rattle.std.specs.Prelude.replicate n (Duplicate 0)
+
+-- all that has to unfold
+rows : ℕ
+unfolding excess written_groups groups_at integer_at written_integer bits_of ones bytes_by_length bytes_of_length first_word word_length word_of number_from packed payload_of word_at is_padding item_at text_at text_of_bits string_at written_string static_table static_place static_name_place line_form written_line written_lines instruction_form reply_form written_instruction written_instructions written_reply written_replies made_at form_at prefix_for required_at read_required read_base read_prefix written_prefix prefix_at entry recent insertion effect after window_of whole grown static_field relative_field post_base_field line_field fields_of names_of references_of greatest reading fields_at reading_of_bytes written_block window track naming is_held none_held has_room may_name with_entry last_place newest put resized applied commit unnamed without_oldest without_stream raised heard instruction_for rule_field rule put_all put_into live_of counts_of apply_all writes_on block_bytes hear_all open_count duplicates
+rows = 0
+
+-- the live entries are the longest tail that fits
+live_tail : (live_of (put_into 76 0 ((field (codes "foo") (codes "bar")) ∷ (field (codes "baz") (codes "bar")) ∷ (field (codes "foo") (codes "quxx")) ∷ []))) ≡ Ok ((field (codes "foo") (codes "quxx")) ∷ [])
+unfolding rows
+live_tail = refl
+
+-- nothing is put at capacity 0
+put_at_0 : (counts_of (put_into 0 0 ((field (codes "foo") (codes "bar")) ∷ []))) ≡ Ok (1, 0)
+unfolding rows
+put_at_0 = refl
+
+-- a field larger than the capacity is refused
+put_too_large : (counts_of (put_into 33 0 ((field (codes "foo") (codes "bar")) ∷ []))) ≡ Err DoesNotFit
+unfolding rows
+put_too_large = refl
+
+-- a capacity evicts the oldest
+resize_evicts : (live_of (put_into 4096 0 ((field (codes "foo") (codes "bar")) ∷ (field (codes "baz") (codes "bar")) ∷ []) >>= λ t. resized t 38)) ≡ Ok ((field (codes "baz") (codes "bar")) ∷ [])
+unfolding rows
+resize_evicts = refl
+
+-- the greatest capacity
+greatest_taken : (counts_of (resized (empty_table 0 None 0) 1073741823)) ≡ Ok (1, 0)
+unfolding rows
+greatest_taken = refl
+
+-- and one past it
+past_greatest : (counts_of (resized (empty_table 0 None 0) 1073741824)) ≡ Err AboveMaximum
+unfolding rows
+past_greatest = refl
+
+-- the entry that is evicted is not duplicated
+equal_goes_first : (put_into 76 4 ((field (codes "foo") (codes "bar")) ∷ (field (codes "baz") (codes "bar")) ∷ []) >>= λ t. Ok (instruction_for (field (codes "foo") (codes "bar")) (staying t (field (codes "foo") (codes "bar"))))) ≡ Ok (InsertLiteralName (codes "foo") (codes "bar"))
+unfolding rows
+equal_goes_first = refl
+
+-- an equal entry is duplicated, a name referred to by its newest entry
+references : (put_into 4096 100 ((field (codes "Name-A") (codes "Value-A")) ∷ (field (codes "Name-B") (codes "Value-B")) ∷ []) >>= λ t. Ok (rule t ((field (codes "Name-B") (codes "New Value-B")) ∷ (field (codes "Name-B") (codes "Newer Value-B")) ∷ (field (codes "Name-C") (codes "Value-C")) ∷ [])).instructions) ≡ Ok (InsertDynamicName 0 (codes "New Value-B") ∷ InsertDynamicName 0 (codes "Newer Value-B") ∷ InsertLiteralName (codes "Name-C") (codes "Value-C") ∷ [])
+unfolding rows
+references = refl
+
+-- a block with each kind of line
+mixed_block : (put_into 4096 100 ((field (codes "foo1") (codes "bar1")) ∷ (field (codes "foo2") (codes "bar2")) ∷ (field (codes "foo3") (codes "bar3")) ∷ (field (codes "foo4") (codes "bar4")) ∷ []) >>= λ t. Ok (block_bytes t ((field (codes ":method") (codes "GET")) ∷ (field (codes "foo1") (codes "bar1")) ∷ (field (codes "foo3") (codes "new bar3")) ∷ (field (codes ":method") (codes "staticnameref")) ∷ (field (codes "newfoo") (codes "newbar")) ∷ []))) ≡ Ok (8 ∷ 130 ∷ 209 ∷ 131 ∷ 16 ∷ 17 ∷ 18 ∷ [])
+unfolding rows
+mixed_block = refl
+
+-- its instructions
+mixed_instructions : (put_into 4096 100 ((field (codes "foo1") (codes "bar1")) ∷ (field (codes "foo2") (codes "bar2")) ∷ (field (codes "foo3") (codes "bar3")) ∷ (field (codes "foo4") (codes "bar4")) ∷ []) >>= λ t. Ok (take 8 (written_instructions (rule t ((field (codes ":method") (codes "GET")) ∷ (field (codes "foo1") (codes "bar1")) ∷ (field (codes "foo3") (codes "new bar3")) ∷ (field (codes ":method") (codes "staticnameref")) ∷ (field (codes "newfoo") (codes "newbar")) ∷ [])).instructions))) ≡ Ok (129 ∷ 134 ∷ 168 ∷ 190 ∷ 20 ∷ 140 ∷ 118 ∷ 51 ∷ [])
+unfolding rows
+mixed_instructions = refl
+
+-- at limit 0 and capacity 4096 a literal
+literal_0_4096 : (block_bytes (empty_table 4096 None 0) ((field (codes "foo") (codes "bar")) ∷ [])) ≡ 0 ∷ 0 ∷ 42 ∷ 148 ∷ 231 ∷ 131 ∷ 140 ∷ 118 ∷ 127 ∷ []
+unfolding rows
+literal_0_4096 = refl
+
+-- at limit 1 and capacity 0 a literal
+literal_1_0 : (block_bytes (empty_table 0 None 1) ((field (codes "foo") (codes "bar")) ∷ [])) ≡ 0 ∷ 0 ∷ 42 ∷ 148 ∷ 231 ∷ 131 ∷ 140 ∷ 118 ∷ 127 ∷ []
+unfolding rows
+literal_1_0 = refl
+
+-- the second block names the entry
+second_block : (block_bytes (writes_on (empty_table 4096 None 3) 4 ((field (codes "foo") (codes "bar")) ∷ [])) ((field (codes "foo") (codes "bar")) ∷ [])) ≡ 2 ∷ 0 ∷ 128 ∷ []
+unfolding rows
+second_block = refl
+
+-- three blocks are open
+three_open : (open_count (Ok (writes_on (writes_on (writes_on (empty_table 4096 None 3) 4 ((field (codes "foo") (codes "bar")) ∷ [])) 4 ((field (codes "foo") (codes "bar")) ∷ [])) 4 ((field (codes "foo") (codes "bar")) ∷ [])))) ≡ Ok 3
+unfolding rows
+three_open = refl
+
+-- a cancellation releases them all
+cancel_all : (open_count (hear_all (Cancellation 4 ∷ []) (writes_on (writes_on (writes_on (empty_table 4096 None 3) 4 ((field (codes "foo") (codes "bar")) ∷ [])) 4 ((field (codes "foo") (codes "bar")) ∷ [])) 4 ((field (codes "foo") (codes "bar")) ∷ [])))) ≡ Ok 0
+unfolding rows
+cancel_all = refl
+
+-- so that an acknowledgment finds none
+then_unknown : (open_count (hear_all (Cancellation 4 ∷ Acknowledgment 4 ∷ []) (writes_on (writes_on (writes_on (empty_table 4096 None 3) 4 ((field (codes "foo") (codes "bar")) ∷ [])) 4 ((field (codes "foo") (codes "bar")) ∷ [])) 4 ((field (codes "foo") (codes "bar")) ∷ [])))) ≡ Err (UnknownStream 4)
+unfolding rows
+then_unknown = refl
+
+-- an acknowledgment releases one
+ack_oldest : (open_count (hear_all (Acknowledgment 4 ∷ []) (writes_on (writes_on (writes_on (empty_table 4096 None 3) 4 ((field (codes "foo") (codes "bar")) ∷ [])) 4 ((field (codes "foo") (codes "bar")) ∷ [])) 4 ((field (codes "foo") (codes "bar")) ∷ [])))) ≡ Ok 2
+unfolding rows
+ack_oldest = refl
+
+-- none is open on another stream
+unknown_ack : (open_count (hear_all (Acknowledgment 8 ∷ []) (writes_on (writes_on (writes_on (empty_table 4096 None 3) 4 ((field (codes "foo") (codes "bar")) ∷ [])) 4 ((field (codes "foo") (codes "bar")) ∷ [])) 4 ((field (codes "foo") (codes "bar")) ∷ [])))) ≡ Err (UnknownStream 8)
+unfolding rows
+unknown_ack = refl
+
+-- a cancellation of an unknown stream is nothing
+unknown_cancel : (open_count (hear_all (Cancellation 8 ∷ []) (writes_on (writes_on (writes_on (empty_table 4096 None 3) 4 ((field (codes "foo") (codes "bar")) ∷ [])) 4 ((field (codes "foo") (codes "bar")) ∷ [])) 4 ((field (codes "foo") (codes "bar")) ∷ [])))) ≡ Ok 3
+unfolding rows
+unknown_cancel = refl
+
+-- a block that names nothing is not open
+no_reference_not_opened : (open_count (Ok (writes_on (empty_table 4096 None 3) 4 ((field (codes ":method") (codes "GET")) ∷ [])))) ≡ Ok 0
+unfolding rows
+no_reference_not_opened = refl
+
+-- a capacity that an open block stands against
+resize_held : (counts_of (resized (writes_on (empty_table 4096 None 1) 4 ((field (codes "foo") (codes "bar")) ∷ [])) 37)) ≡ Err DoesNotFit
+unfolding rows
+resize_held = refl
+
+-- or an entry not known to be received
+resize_unreceived : (counts_of (hear_all (Acknowledgment 4 ∷ []) (writes_on (empty_table 4096 None 1) 4 ((field (codes "foo") (codes "bar")) ∷ [])) >>= λ t. resized t 37)) ≡ Err DoesNotFit
+unfolding rows
+resize_unreceived = refl
+
+-- once it is received
+resize_received : (counts_of (hear_all (Acknowledgment 4 ∷ Increment 1 ∷ []) (writes_on (empty_table 4096 None 1) 4 ((field (codes "foo") (codes "bar")) ∷ [])) >>= λ t. resized t 37)) ≡ Ok (2, 1)
+unfolding rows
+resize_received = refl
+
+-- an insertion at capacity 0
+ignored_at_0 : (counts_of (applied (empty_table 0 None 0) (InsertLiteralName (codes "foo") (codes "bar")))) ≡ Ok (1, 0)
+unfolding rows
+ignored_at_0 = refl
+
+-- at capacity 33
+too_large_at_33 : (counts_of (applied (empty_table 33 None 0) (InsertLiteralName (codes "foo") (codes "bar")))) ≡ Err DoesNotFit
+unfolding rows
+too_large_at_33 = refl
+
+-- a duplicate of nothing
+no_entry : (counts_of (applied (empty_table 4096 None 0) (Duplicate 0))) ≡ Err (NoEntry 0)
+unfolding rows
+no_entry = refl
+
+-- also at capacity 0
+no_entry_at_0 : (counts_of (applied (empty_table 0 None 0) (Duplicate 0))) ≡ Err (NoEntry 0)
+unfolding rows
+no_entry_at_0 = refl
+
+-- and a static name that is not there
+no_static_at_0 : (counts_of (applied (empty_table 0 None 0) (InsertStaticName 99 []))) ≡ Err (NoStaticField 99)
+unfolding rows
+no_static_at_0 = refl
+
+-- an entry far away
+no_far_entry : (counts_of (applied (empty_table 4096 None 0) (InsertDynamicName 9223372036854775870 []))) ≡ Err (NoEntry 9223372036854775870)
+unfolding rows
+no_far_entry = refl
+
+-- a capacity past the greatest
+capacity_past_greatest : (counts_of (applied (empty_table 4096 None 0) (SetCapacity 9223372036854775838))) ≡ Err AboveMaximum
+unfolding rows
+capacity_past_greatest = refl
+
+-- capacity 0 empties the table
+capacity_0 : (live_of (put_into 4096 0 ((field (codes "foo") (codes "bar")) ∷ []) >>= λ t. applied t (SetCapacity 0))) ≡ Ok []
+unfolding rows
+capacity_0 = refl
+
+-- 129 duplicates of one field
+many_duplicates : (counts_of (apply_all (InsertLiteralName (codes "foo") (codes "bar") ∷ duplicates 129) (empty_table 4096 None 0))) ≡ Ok (24, 130)
+unfolding rows
+many_duplicates = refl
+
+-- an increment of any size is heard
+known_grows : (hear_all (Increment 65 ∷ []) (empty_table 4096 None 0) >>= λ t. Ok t.known) ≡ Ok 65
+unfolding rows
+known_grows = refl

@@ -1,0 +1,11 @@
+use Rattle.qpack_spec.proofs.WrittenForms.{lines_spelled, instructions_spelled, replies_spelled}
+use Rattle.qpack_spec.proofs.form.written_forms_are_spellings.Goals as goal
+
+pub returns-clause-lines : goal.returns-clause-lines
+returns-clause-lines c = lines_spelled
+
+pub returns-clause-instructions : goal.returns-clause-instructions
+returns-clause-instructions c = instructions_spelled
+
+pub returns-clause-replies : goal.returns-clause-replies
+returns-clause-replies c = replies_spelled

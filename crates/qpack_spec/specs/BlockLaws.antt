@@ -1,0 +1,29 @@
+-- What every reader of field sections relies on, as statements; the crate's law functions promise them.
+use Rattle.std.specs.Prelude.{◌≡◌, ℕ, ◌+◌, ◌<◌, ◌≤◌, ◌↔◌, List, ◌++◌, Result, Ok}
+use Rattle.qpack_spec.specs.Field.{Field}
+use Rattle.qpack_spec.specs.Prefix.{Prefix, IsRequired, required_at, SpellsPrefix, prefix_at}
+use Rattle.qpack_spec.specs.Window.{Window}
+use Rattle.qpack_spec.specs.Reading.{Fault}
+use Rattle.qpack_spec.specs.BlockReading.{ReadsTo, fields_in_bytes}
+
+-- reading from left to right finds exactly the prefix at the front
+abbrev pub ReadingFindsPrefixes : Type 0
+ReadingFindsPrefixes =
+    (bytes : List ℕ) (p : Prefix) (rest : List ℕ)
+    → (prefix_at bytes ≡ Ok (p, rest)) ↔ ((text : List ℕ) × (bytes ≡ text ++ rest) × SpellsPrefix text p)
+
+-- an encoded count stands for one required count at most, whatever the total of insertions
+abbrev pub CountsHaveOneReading : Type 0
+CountsHaveOneReading =
+    (total entries count r s : ℕ) → 0 < count → IsRequired total entries count r → IsRequired total entries count s → r ≡ s
+
+-- which is what is computed; where none is computed, it stands for none
+abbrev pub CountsAreRead : Type 0
+CountsAreRead =
+    (total entries count r : ℕ) → 0 < count → count ≤ entries + entries
+    → IsRequired total entries count r ↔ ((0 < r) × (required_at (total + entries) entries count ≡ r))
+
+-- reading line by line gives the fields, or the first fault, of the lines that the bytes are
+abbrev pub ReadingLinesFindsFields : Type 0
+ReadingLinesFindsFields =
+    (w : Window) (base : ℕ) (bytes : List ℕ) (r : Result (List Field) Fault) → (fields_in_bytes w base bytes ≡ r) ↔ ReadsTo w base bytes r

@@ -1,0 +1,75 @@
+-- What the bytes of a field section mean under a window (RFC 9204, sections 2.2.1 and 4.5): in reading order, the first
+-- fault decides.
+use Rattle.std.specs.Prelude.{◌≡◌, ℕ, zero, suc, if◌then◌else◌, nat_lt, List, [], ◌∷◌, ◌++◌, length, Result, Ok, Err}
+use Rattle.qpack_spec.specs.Bytes.{◌>>=◌}
+use Rattle.qpack_spec.specs.Field.{Field}
+use Rattle.qpack_spec.specs.Form.{FormFault, form_at}
+use Rattle.qpack_spec.specs.Line.{Line, line_form, SpellsLine, written_lines}
+use Rattle.qpack_spec.specs.Stream.{Joined}
+use Rattle.qpack_spec.specs.Prefix.{Prefix, PrefixFault, read_prefix, written_prefix, prefix_at}
+use Rattle.qpack_spec.specs.Window.{Window, agreed_maximum, total}
+use Rattle.qpack_spec.specs.Reading.{Fault, BadForm, BadPrefix, line_field, fields_of, Block, Reading, Missing, Faulty, answered}
+
+-- why the next line gives no field: its bytes, or what it names
+pub data StopsAt (w : Window) (base : ℕ) (rest : List ℕ) (e : Fault) : Type 0 where
+  in_bytes : (fault : FormFault) → form_at line_form rest ≡ Err fault → e ≡ BadForm fault → StopsAt w base rest e
+  in_line : (text more : List ℕ) (l : Line) → rest ≡ text ++ more → SpellsLine text l → line_field w base l ≡ Err e → StopsAt w base rest e
+
+-- the bytes are lines, which mean the fields
+pub record ReadsAll (w : Window) (base : ℕ) (bytes : List ℕ) (fs : List Field) : Type 0 where
+  pub lines : List Line
+  pub joined : Joined SpellsLine bytes lines
+  pub means : fields_of w base lines ≡ Ok fs
+
+-- behind lines that mean fields, the next line gives none
+pub record ReadsSome (w : Window) (base : ℕ) (bytes : List ℕ) (e : Fault) : Type 0 where
+  pub lines : List Line
+  pub front : List ℕ
+  pub next : ℕ
+  pub more : List ℕ
+  pub cut : bytes ≡ front ++ next ∷ more
+  pub joined : Joined SpellsLine front lines
+  pub so_far : List Field
+  pub means : fields_of w base lines ≡ Ok so_far
+  pub stops : StopsAt w base (next ∷ more) e
+
+-- what the bytes of lines give: fields, or the first fault
+abbrev pub ReadsTo : Window → ℕ → List ℕ → Result (List Field) Fault → Type 0
+ReadsTo w base bytes (Ok fs) = ReadsAll w base bytes fs
+ReadsTo w base bytes (Err e) = ReadsSome w base bytes e
+
+-- ---- the same, as reading from left to right
+
+-- a form's fault as a section's
+abbrev pub or_bad_form : {A : Type 0} → Result A FormFault → Result A Fault
+or_bad_form (Ok x) = Ok x
+or_bad_form (Err e) = Err (BadForm e)
+
+-- the fields of the lines in turn, in so many steps at most
+unfoldable pub fields_at : ℕ → Window → ℕ → List ℕ → Result (List Field) Fault
+fields_at steps w base [] = Ok []
+fields_at zero w base (b ∷ bytes) = Ok []
+fields_at (suc steps) w base (b ∷ bytes) =
+    or_bad_form (form_at line_form (b ∷ bytes)) >>= λ r. line_field w base r.0 >>= λ f. fields_at steps w base r.1 >>= λ fs. Ok (f ∷ fs)
+
+-- the fields of the bytes behind a prefix; each line takes a byte at least
+abbrev pub fields_in_bytes : Window → ℕ → List ℕ → Result (List Field) Fault
+fields_in_bytes w base bytes = fields_at (length bytes) w base bytes
+
+-- the answer behind a prefix that was read
+abbrev pub bytes_behind : Window → List ℕ → Result (ℕ × ℕ) PrefixFault → Reading
+bytes_behind w rest (Err e) = Faulty (BadPrefix e)
+bytes_behind w rest (Ok p) = if nat_lt (total w) p.0 then Missing p.0 else answered (fields_in_bytes w p.1 rest) (nat_lt 0 p.0)
+
+-- the answer where a prefix stands in front, or none
+abbrev pub section_behind : Window → Result (Prefix × List ℕ) FormFault → Reading
+section_behind w (Err e) = Faulty (BadForm e)
+section_behind w (Ok p) = bytes_behind w p.1 (read_prefix (total w) (agreed_maximum w.agreed w.capacity) p.0)
+
+-- what the bytes of a field section mean under a window (section 2.2.1)
+unfoldable pub reading_of_bytes : Window → List ℕ → Reading
+reading_of_bytes w bytes = section_behind w (prefix_at bytes)
+
+-- the bytes that are written of a block
+unfoldable pub written_block : Block → List ℕ
+written_block b = written_prefix b.prefix ++ written_lines b.lines

@@ -1,0 +1,295 @@
+-- A session in bytes: two ends, the two streams between them, the blocks of each request stream, and what each event makes
+-- of it (RFC 9204, section 2).
+use Rattle.std.specs.Prelude.{◌≡◌, ℕ, ◌+◌, ◌-◌, ◌^◌, ◌≤◌, ◌⊎◌, min, Bool, true, false, if◌then◌else◌, not, nat_lt, nat_le, nat_eq, List, [], ◌∷◌, ◌++◌, length, take, drop, Option, None, Some, slice_get, Result, Ok, Err}
+use Rattle.std.specs.List.{AllByRecursion, filter}
+use Rattle.qpack_spec.specs.Bytes.{Begins, ◌>>=◌}
+use Rattle.qpack_spec.specs.Field.{Field}
+use Rattle.qpack_spec.specs.Form.{FormFault, Truncates}
+use Rattle.qpack_spec.specs.Instruction.{Instruction, SetCapacity, Reply, Acknowledgment, Cancellation, instruction_form, reply_form, SpellsInstruction, RefusesInstruction, SpellsReply, RefusesReply, written_instruction, written_instructions, written_reply, written_replies}
+use Rattle.qpack_spec.specs.Stream.{Joined}
+use Rattle.qpack_spec.specs.Window.{Refusal, NoEntry, NoStaticField, DoesNotFit, AboveMaximum, UnknownStream}
+use Rattle.qpack_spec.specs.History.{start, window_of}
+use Rattle.qpack_spec.specs.Reading.{Reading}
+use Rattle.qpack_spec.specs.BlockReading.{reading_of_bytes, written_block}
+use Rattle.qpack_spec.specs.Table.{Table, empty_table, table_of, window, count, unnamed, applied, heard, resized}
+use Rattle.qpack_spec.specs.Rule.{rule, required_of, block_of, committed}
+use Rattle.qpack_spec.specs.World.{sum_of, increments, is_read}
+use Rattle.qpack_spec.specs.WrittenLaws.{IsWritableField}
+
+-- a block: its bytes, the required count that was answered, how long the encoder's stream was at its end, and the fields
+-- that were handed to the encoder
+pub record KeptBlock : Type 0 where
+  pub bytes : List ℕ
+  pub required : ℕ
+  pub end : ℕ
+  pub handed : List Field
+
+-- a request stream: its blocks, how many were decoded, how many of the dynamic ones acknowledged, whether it is cancelled
+pub record KeptStream : Type 0 where
+  pub blocks : List KeptBlock
+  pub decoded : ℕ
+  pub acknowledged : ℕ
+  pub cancelled : Bool
+
+-- the two ends, the insertions that the decoder did not yet report, the encoder's stream with how much of it was delivered
+-- and taken, the decoder's stream likewise, and the request streams
+pub record Session : Type 0 where
+  pub encoder : Table
+  pub decoder : Table
+  pub unreported : ℕ
+  pub sent : List ℕ
+  pub sent_delivered : ℕ
+  pub sent_taken : ℕ
+  pub told : List ℕ
+  pub told_delivered : ℕ
+  pub told_taken : ℕ
+  pub streams : List (ℕ × KeptStream)
+
+-- what may happen (the session's surface): a block is written, decoded, so many bytes of a stream are delivered, a block is
+-- acknowledged, a stream cancelled, a capacity set
+pub data Event : Type 0 where
+  Encode : (stream : ℕ) (fields : List Field) → Event
+  Decode : (stream : ℕ) → Event
+  ToDecoder : (bytes : ℕ) → Event
+  ToEncoder : (bytes : ℕ) → Event
+  Acknowledge : (stream : ℕ) → Event
+  Cancel : (stream : ℕ) → Event
+  ChangeCapacity : (capacity : ℕ) → Event
+
+-- why a stream is refused: its bytes, or what an instruction asks of the table
+pub data StreamFault : Type 0 where
+  BadBytes : (fault : FormFault) → StreamFault
+  BadInstruction : (refusal : Refusal) → StreamFault
+
+-- what an event answers; any that takes memory may be refused it
+pub data Outcome : Type 0 where
+  Encoded : (required : ℕ) → Outcome
+  Decoded : (reading : Reading) → Outcome
+  Delivered : (total : ℕ) → Outcome
+  Heard : Outcome
+  Acknowledged : Outcome
+  Cancelled : Outcome
+  CapacitySet : Outcome
+  CapacityRefused : (refusal : Refusal) → Outcome
+  Refused : (fault : StreamFault) → Outcome
+  NoMemory : Outcome
+  Skipped : (reason : ℕ) → Outcome
+
+-- ---- what is kept
+
+-- the stream of a number; the first pair of a number counts, and one that was never used is empty
+abbrev pub kept_at : List (ℕ × KeptStream) → ℕ → KeptStream
+kept_at [] s = record { blocks = []; decoded = 0; acknowledged = 0; cancelled = false }
+kept_at (p ∷ ps) s = if nat_eq p.0 s then p.1 else kept_at ps s
+
+-- the session with one stream changed
+abbrev pub with_kept : Session → ℕ → KeptStream → Session
+with_kept v s k = record v { streams = (s, k) ∷ v.streams }
+
+-- how a session begins: both tables empty, the capacity agreed
+abbrev pub opened : ℕ → ℕ → Session
+opened capacity limit =
+    record {
+      encoder = empty_table capacity (Some capacity) limit;
+      decoder = table_of (window_of (start capacity));
+      unreported = 0;
+      sent = [];
+      sent_delivered = 0;
+      sent_taken = 0;
+      told = [];
+      told_delivered = 0;
+      told_taken = 0;
+      streams = [];
+    }
+
+-- the oldest undecoded block of a stream
+abbrev pub next_block : Session → ℕ → Option KeptBlock
+next_block v s = slice_get (kept_at v.streams s).blocks (kept_at v.streams s).decoded
+
+-- a block requires an entry
+abbrev pub requires_entry : KeptBlock → Bool
+requires_entry b = not (nat_eq b.required 0)
+
+-- a decoded block that requires an entry waits for its acknowledgment
+abbrev pub waits : KeptStream → Bool
+waits k = nat_lt k.acknowledged (length (filter requires_entry (take k.decoded k.blocks)))
+
+-- ---- what is skipped
+
+-- the first reason why an event on a stream that is in use is outside a lawful session
+abbrev pub unless_cancelled : KeptStream → Bool → ℕ → Option ℕ
+unless_cancelled k lawful reason = if k.cancelled then Some 3 else if lawful then None else Some reason
+
+-- the first reason why an event is outside a lawful session, in the order 1, 3, 2, 4: a stream number of 2^62 or more; an
+-- event on a cancelled stream; nothing to decode; nothing to acknowledge
+unfoldable pub skip_reason : Session → Event → Option ℕ
+skip_reason v (Encode s fs) = if nat_le (2 ^ 62) s then Some 1 else None
+skip_reason v (Decode s) =
+    let k = kept_at v.streams s in
+    if nat_le (2 ^ 62) s then Some 1 else unless_cancelled k (nat_lt k.decoded (length k.blocks)) 2
+skip_reason v (ToDecoder n) = None
+skip_reason v (ToEncoder n) = None
+skip_reason v (Acknowledge s) =
+    let k = kept_at v.streams s in if nat_le (2 ^ 62) s then Some 1 else unless_cancelled k (waits k) 4
+skip_reason v (Cancel s) = if nat_le (2 ^ 62) s then Some 1 else unless_cancelled (kept_at v.streams s) true 0
+skip_reason v (ChangeCapacity n) = None
+
+-- ---- what happens
+
+-- the session with a block more
+abbrev pub with_block : Session → ℕ → List Field → Session
+with_block v s fs =
+    let d = rule v.encoder fs in
+    let k = kept_at v.streams s in
+    let sent = v.sent ++ written_instructions d.instructions in
+    let b : KeptBlock = record { bytes = written_block (block_of v.encoder d); required = required_of d; end = length sent; handed = fs } in
+    record v { encoder = committed d s; sent = sent; streams = (s, record k { blocks = k.blocks ++ b ∷ [] }) ∷ v.streams }
+
+-- the session behind a block that was given up: its insertions stand and were written
+abbrev pub given_up : Session → List Field → Session
+given_up v fs =
+    let d = rule v.encoder fs in
+    record v { encoder = unnamed d.table; sent = v.sent ++ written_instructions d.instructions }
+
+-- the session behind a decoded block
+abbrev pub with_decoded : Session → ℕ → Session
+with_decoded v s = let k = kept_at v.streams s in with_kept v s (record k { decoded = k.decoded + 1 })
+
+-- the table behind some instructions
+abbrev pub all_applied : Table → List Instruction → Result Table Refusal
+all_applied t [] = Ok t
+all_applied t (i ∷ is) = applied t i >>= λ u. all_applied u is
+
+-- the table behind some replies
+abbrev pub all_heard : Table → List Reply → Result Table Refusal
+all_heard t [] = Ok t
+all_heard t (r ∷ rs) = heard t r >>= λ u. all_heard u rs
+
+-- an increment is from 1 to 64
+abbrev pub IsPiece : ℕ → Type 0
+IsPiece n = (1 ≤ n) × (n ≤ 64)
+
+-- a table's refusal that consumes its instruction: what it asks for is known, and only the table refuses it
+abbrev pub is_consumed : Refusal → Bool
+is_consumed (NoEntry relative) = false
+is_consumed (NoStaticField index) = false
+is_consumed DoesNotFit = true
+is_consumed AboveMaximum = true
+is_consumed (UnknownStream stream) = true
+
+-- the session when the next n bytes were delivered to the decoder, so many consumed, and this table made
+abbrev pub decoder_moved : Session → ℕ → Table → ℕ → ℕ → List ℕ → Session
+decoder_moved v n t consumed unreported told =
+    record v {
+      decoder = t;
+      unreported = unreported;
+      sent_delivered = min (v.sent_delivered + n) (length v.sent);
+      sent_taken = v.sent_taken + consumed;
+      told = told;
+    }
+
+-- the insertions that are to be reported
+abbrev pub to_report : Session → Table → ℕ
+to_report v t = v.unreported + (count t - count v.decoder)
+
+-- how a delivery to the decoder ends, behind lines that it took: nothing whole is left, and its insertions are reported; it
+-- is refused memory; the next bytes are refused; or the next instruction is. Refused, it reports nothing
+pub data DeliveryEnds (v : Session) (n : ℕ) (t : Table) (front rest : List ℕ) (o : Outcome) (v' : Session) : Type 0 where
+  takes_all : (pieces : List ℕ) → Truncates instruction_form rest → AllByRecursion IsPiece pieces → sum_of pieces ≡ to_report v t
+      → o ≡ Delivered (count t) → v' ≡ decoder_moved v n t (length front) 0 (v.told ++ written_replies (increments pieces))
+      → DeliveryEnds v n t front rest o v'
+  no_memory : o ≡ NoMemory → v' ≡ decoder_moved v n t (length front) (to_report v t) v.told → DeliveryEnds v n t front rest o v'
+  bad_bytes : (fault : FormFault) → Begins (λ text. RefusesInstruction text fault) rest → o ≡ Refused (BadBytes fault)
+      → v' ≡ decoder_moved v n t (length front) (to_report v t) v.told → DeliveryEnds v n t front rest o v'
+  bad_instruction : (text more : List ℕ) (i : Instruction) (e : Refusal) → rest ≡ text ++ more → SpellsInstruction text i
+      → applied t i ≡ Err e → o ≡ Refused (BadInstruction e)
+      → v' ≡ decoder_moved v n t (length front + (if is_consumed e then length text else 0)) (to_report v t) v.told
+      → DeliveryEnds v n t front rest o v'
+
+-- the next n bytes are delivered to the decoder, and offered behind those that it left; it takes lines at their front
+pub record DeliversTo (v : Session) (n : ℕ) (o : Outcome) (v' : Session) : Type 0 where
+  pub lines : List Instruction
+  pub front : List ℕ
+  pub rest : List ℕ
+  pub table : Table
+  pub offered : drop v.sent_taken (take (v.sent_delivered + n) v.sent) ≡ front ++ rest
+  pub joined : Joined SpellsInstruction front lines
+  pub applies : all_applied v.decoder lines ≡ Ok table
+  pub ends : DeliveryEnds v n table front rest o v'
+
+-- the session when the next n bytes were delivered to the encoder, so many consumed, and this table made
+abbrev pub encoder_moved : Session → ℕ → Table → ℕ → Session
+encoder_moved v n t consumed =
+    record v { encoder = t; told_delivered = min (v.told_delivered + n) (length v.told); told_taken = v.told_taken + consumed }
+
+-- how a delivery to the encoder ends; it takes no memory
+pub data HearingEnds (v : Session) (n : ℕ) (t : Table) (front rest : List ℕ) (o : Outcome) (v' : Session) : Type 0 where
+  hears_all : Truncates reply_form rest → o ≡ Heard → v' ≡ encoder_moved v n t (length front) → HearingEnds v n t front rest o v'
+  bad_bytes_heard : (fault : FormFault) → Begins (λ text. RefusesReply text fault) rest → o ≡ Refused (BadBytes fault)
+      → v' ≡ encoder_moved v n t (length front) → HearingEnds v n t front rest o v'
+  bad_reply : (text more : List ℕ) (r : Reply) (e : Refusal) → rest ≡ text ++ more → SpellsReply text r → heard t r ≡ Err e
+      → o ≡ Refused (BadInstruction e) → v' ≡ encoder_moved v n t (length front + length text) → HearingEnds v n t front rest o v'
+
+-- the next n bytes are delivered to the encoder, and offered behind those that it left; it hears replies at their front
+pub record HearsFrom (v : Session) (n : ℕ) (o : Outcome) (v' : Session) : Type 0 where
+  pub lines : List Reply
+  pub front : List ℕ
+  pub rest : List ℕ
+  pub table : Table
+  pub offered : drop v.told_taken (take (v.told_delivered + n) v.told) ≡ front ++ rest
+  pub joined : Joined SpellsReply front lines
+  pub hears : all_heard v.encoder lines ≡ Ok table
+  pub ends : HearingEnds v n table front rest o v'
+
+-- an event refused for memory, where it leaves everything as it was
+abbrev pub LeavesAll : Session → Outcome → Session → Type 0
+LeavesAll v o v' = (o ≡ NoMemory) × (v' ≡ v)
+
+-- the next block of a stream is read
+pub record DecodesNext (v : Session) (s : ℕ) (o : Outcome) (v' : Session) : Type 0 where
+  pub block : KeptBlock
+  pub is_next : next_block v s ≡ Some block
+  pub answers : o ≡ Decoded (reading_of_bytes (window v.decoder) block.bytes)
+  pub moves : v' ≡ (if is_read (Some (reading_of_bytes (window v.decoder) block.bytes)) then with_decoded v s else v)
+
+-- what a lawful event does
+unfoldable pub Happens : Session → Event → Outcome → Session → Type 0
+Happens v (Encode s fs) o v' =
+    ((o ≡ Encoded (required_of (rule v.encoder fs))) × (v' ≡ with_block v s fs))
+    ⊎ ((o ≡ NoMemory) × (many : ℕ) × (v' ≡ given_up v (take many fs)))
+    ⊎ LeavesAll v o v'
+Happens v (Decode s) o v' = DecodesNext v s o v' ⊎ LeavesAll v o v'
+Happens v (ToDecoder n) o v' = DeliversTo v n o v'
+Happens v (ToEncoder n) o v' = HearsFrom v n o v'
+Happens v (Acknowledge s) o v' =
+    let k = kept_at v.streams s in
+    ((o ≡ Acknowledged) × (v' ≡ record (with_kept v s (record k { acknowledged = k.acknowledged + 1 })) { told = v.told ++ written_reply (Acknowledgment s) }))
+    ⊎ LeavesAll v o v'
+Happens v (Cancel s) o v' =
+    let k = kept_at v.streams s in
+    ((o ≡ Cancelled) × (v' ≡ record (with_kept v s (record k { cancelled = true })) { told = v.told ++ written_reply (Cancellation s) }))
+    ⊎ LeavesAll v o v'
+Happens v (ChangeCapacity n) o v' =
+    ((t : Table) × (resized v.encoder n ≡ Ok t) × (o ≡ CapacitySet) × (v' ≡ record v { encoder = t; sent = v.sent ++ written_instruction (SetCapacity n) }))
+    ⊎ ((e : Refusal) × (resized v.encoder n ≡ Err e) × (o ≡ CapacityRefused e) × (v' ≡ v))
+    ⊎ LeavesAll v o v'
+
+-- an event, what it answers, and the session behind it: skipped for the first reason that applies, or done
+abbrev pub Goes : Session → Event → Outcome → Session → Type 0
+Goes v e o v' =
+    ((reason : ℕ) × (skip_reason v e ≡ Some reason) × (o ≡ Skipped reason) × (v' ≡ v)) ⊎ ((skip_reason v e ≡ None) × Happens v e o v')
+
+-- the fields of an event are byte lists that can be coded in fewer than 2^63 bytes, as every vector of bytes is
+abbrev pub IsWritableEvent : Event → Type 0
+IsWritableEvent (Encode s fs) = AllByRecursion IsWritableField fs
+IsWritableEvent (Decode s) = Unit {0}
+IsWritableEvent (ToDecoder n) = Unit {0}
+IsWritableEvent (ToEncoder n) = Unit {0}
+IsWritableEvent (Acknowledge s) = Unit {0}
+IsWritableEvent (Cancel s) = Unit {0}
+IsWritableEvent (ChangeCapacity n) = Unit {0}
+
+-- events in turn, each with its answer, lead from a session to another
+abbrev pub Runs : Session → List (Event × Outcome) → Session → Type 0
+Runs v [] v' = v ≡ v'
+Runs v (p ∷ ps) v' = (m : Session) × IsWritableEvent p.0 × Goes v p.0 p.1 m × Runs m ps v'

@@ -1,0 +1,99 @@
+-- Field sections that name no entry: what is written with no table at hand, and read so (RFC 9204, sections 2.1 and 4.5).
+use Rattle.std.specs.Prelude.{◌≡◌, ℕ, zero, suc, ◌+◌, ◌-◌, ◌^◌, min, false, if◌then◌else◌, nat_lt, List, [], ◌∷◌, length, map, Option, None, Some, Result, Ok, Err}
+use Rattle.std.specs.List.{AllByRecursion}
+use Rattle.qpack_spec.specs.Bytes.{◌>>=◌}
+use Rattle.qpack_spec.specs.Field.{Field, field_size}
+use Rattle.qpack_spec.specs.StaticTable.{static_place, static_name_place}
+use Rattle.qpack_spec.specs.Form.{FormFault, form_at}
+use Rattle.qpack_spec.specs.Line.{Line, IndexedStatic, IndexedDynamic, IndexedPostBase, NamedStatic, NamedDynamic, NamedPostBase, Literal, line_form}
+use Rattle.qpack_spec.specs.Prefix.{prefix_at}
+use Rattle.qpack_spec.specs.Reading.{Fault, BadForm, static_field, valued, Block}
+use Rattle.qpack_spec.specs.BlockReading.{written_block}
+use Rattle.qpack_spec.specs.Table.{empty_table}
+use Rattle.qpack_spec.specs.Rule.{rule, block_of}
+use Rattle.qpack_spec.specs.WrittenLaws.{IsWritableField}
+
+-- a literal, by the least static field of the name
+abbrev pub literal_alone : Field → Option ℕ → Line
+literal_alone f (Some i) = NamedStatic i f.value
+literal_alone f None = Literal f.name f.value
+
+-- an equal static field, else a literal
+abbrev pub line_alone : Field → Option ℕ → Line
+line_alone f (Some i) = IndexedStatic i
+line_alone f None = literal_alone f (static_name_place f.name)
+
+-- the line of a field where no entry is at hand
+abbrev pub stateless_line : Field → Line
+stateless_line f = line_alone f (static_place f)
+
+-- the block of fields where no entry is at hand: nothing is required
+abbrev pub stateless_block : List Field → Block
+stateless_block fs = record { prefix = record { count = 0; sign = false; delta = 0 }; lines = map (λ f. stateless_line f) fs }
+
+-- why a section can't be read alone: its bytes or a static index, a line that names an entry, or a sum of sizes that
+-- passes the limit
+pub data StatelessFault : Type 0 where
+  BadSection : (fault : Fault) → StatelessFault
+  NamesEntry : StatelessFault
+  TooLong : (sum : ℕ) → StatelessFault
+
+-- a sum of sizes, held at the greatest number of 64 bits
+abbrev pub held_size : ℕ → ℕ
+held_size n = min n (2 ^ 64 - 1)
+
+-- a fault of a section
+abbrev pub or_bad_section : {A : Type 0} → Result A Fault → Result A StatelessFault
+or_bad_section (Ok x) = Ok x
+or_bad_section (Err e) = Err (BadSection e)
+
+-- the field that a line means alone
+abbrev pub field_alone : Line → Result Field StatelessFault
+field_alone (IndexedStatic index) = or_bad_section (static_field index)
+field_alone (IndexedDynamic relative) = Err NamesEntry
+field_alone (IndexedPostBase post_base) = Err NamesEntry
+field_alone (NamedStatic index value) = or_bad_section (valued value (static_field index))
+field_alone (NamedDynamic relative value) = Err NamesEntry
+field_alone (NamedPostBase post_base value) = Err NamesEntry
+field_alone (Literal name value) = Ok (record { name = name; value = value })
+
+-- a form's fault
+abbrev pub or_bad_bytes : {A : Type 0} → Result A FormFault → Result A StatelessFault
+or_bad_bytes (Ok x) = Ok x
+or_bad_bytes (Err e) = Err (BadSection (BadForm e))
+
+-- the next field, where the sizes so far have this sum: refused if the limit is passed
+abbrev pub within_limit : ℕ → ℕ → Field → Result Field StatelessFault
+within_limit limit sum f =
+    if nat_lt limit (held_size (sum + field_size f)) then Err (TooLong (held_size (sum + field_size f))) else Ok f
+
+-- the fields of the lines in turn, in so many steps at most; a post-base line, whose first bits are 000, is refused by its
+-- first byte alone
+unfoldable pub stateless_at : ℕ → ℕ → ℕ → List ℕ → Result (List Field) StatelessFault
+stateless_at steps limit sum [] = Ok []
+stateless_at zero limit sum (b ∷ bytes) = Ok []
+stateless_at (suc steps) limit sum (b ∷ bytes) =
+    if nat_lt b 32 then Err NamesEntry
+    else (or_bad_bytes (form_at line_form (b ∷ bytes)) >>= λ r. field_alone r.0 >>= λ f. within_limit limit sum f
+    >>= λ g. stateless_at steps limit (sum + field_size g) r.1 >>= λ fs. Ok (g ∷ fs))
+
+-- what the bytes of a section mean alone, with a limit on the sum of sizes; the prefix is read, whatever it says
+unfoldable pub stateless_reading : ℕ → List ℕ → Result (List Field) StatelessFault
+stateless_reading limit bytes = or_bad_bytes (prefix_at bytes) >>= λ p. stateless_at (length p.1) limit 0 p.1
+
+-- ---- what is promised
+
+-- without a table, the rule writes just these lines
+abbrev pub RuleWithoutTable : Type 0
+RuleWithoutTable = (fs : List Field) → block_of (empty_table 0 None 0) (rule (empty_table 0 None 0) fs) ≡ stateless_block fs
+
+-- the fields themselves, or the sum at the first one that passes the limit
+abbrev pub up_to_limit : ℕ → ℕ → List Field → Result (List Field) StatelessFault
+up_to_limit limit sum [] = Ok []
+up_to_limit limit sum (f ∷ fs) = within_limit limit sum f >>= λ g. up_to_limit limit (sum + field_size g) fs >>= λ gs. Ok (g ∷ gs)
+
+-- what is written alone is read alone as the fields, up to the limit
+abbrev pub StatelessPairAgrees : Type 0
+StatelessPairAgrees =
+    (limit : ℕ) (fs : List Field) → AllByRecursion IsWritableField fs
+    → stateless_reading limit (written_block (stateless_block fs)) ≡ up_to_limit limit 0 fs

@@ -1,0 +1,25 @@
+-- A stream's lines are the same however it is cut, as statements; the crate's law functions promise them.
+use Rattle.std.specs.Prelude.{◌≡◌, ℕ, List, ◌++◌, Option}
+use Rattle.qpack_spec.specs.Form.{FormFault, Form, Spells, Refuses}
+use Rattle.qpack_spec.specs.Stream.{Joined, Holds}
+
+-- a byte list holds one list of lines, and leaves one rest
+abbrev pub StreamsHaveOneReading : {L : Type 0} → (ℕ → Option (Form L)) → Type 0
+StreamsHaveOneReading {L} form_of =
+    (bytes : List ℕ) (ls ms : List L) (rest more : List ℕ) → Holds L (λ t l. Spells L form_of t l) bytes ls rest
+    → Holds L (λ t l. Spells L form_of t l) bytes ms more → (ls ≡ ms) × (rest ≡ more)
+
+-- of bytes that are lines, whatever piece comes first holds the first of them, and the others are those of what it leaves
+-- with the bytes behind the piece
+abbrev pub PiecesHoldFronts : {L : Type 0} → (ℕ → Option (Form L)) → Type 0
+PiecesHoldFronts {L} form_of =
+    (piece behind : List ℕ) (all ls : List L) (rest : List ℕ) → Joined (λ t l. Spells L form_of t l) (piece ++ behind) all
+    → Holds L (λ t l. Spells L form_of t l) piece ls rest
+    → (others : List L) × (all ≡ ls ++ others) × Joined (λ t l. Spells L form_of t l) (rest ++ behind) others
+
+-- and what it leaves begins with no refusal
+abbrev pub PiecesAreNeverRefused : {L : Type 0} → (ℕ → Option (Form L)) → Type 0
+PiecesAreNeverRefused {L} form_of =
+    (piece behind : List ℕ) (all ls : List L) (rest text more : List ℕ) (fault : FormFault)
+    → Joined (λ t l. Spells L form_of t l) (piece ++ behind) all → Holds L (λ t l. Spells L form_of t l) piece ls rest
+    → rest ≡ text ++ more → Refuses L form_of text fault → ⊥

@@ -1,0 +1,22 @@
+//! Laws of the two instruction streams, however they are cut (RFC 9204, sections 4.2 to 4.4).
+
+ghost use Rattle.qpack_spec.specs.StreamLaws.{StreamsHaveOneReading, PiecesHoldFronts, PiecesAreNeverRefused};
+ghost use Rattle.qpack_spec.specs.Instruction.{instruction_form, reply_form};
+
+/// A byte list holds one list of instructions, and leaves one rest.
+pub fn streams_have_one_reading()
+    ensures instructions { StreamsHaveOneReading instruction_form }
+    ensures replies { StreamsHaveOneReading reply_form }
+{}
+
+/// Any piece of a stream holds the next of its instructions, and leaves the others with what comes behind it.
+pub fn pieces_hold_fronts()
+    ensures instructions { PiecesHoldFronts instruction_form }
+    ensures replies { PiecesHoldFronts reply_form }
+{}
+
+/// No piece of a stream of instructions is refused for its bytes.
+pub fn pieces_are_never_refused()
+    ensures instructions { PiecesAreNeverRefused instruction_form }
+    ensures replies { PiecesAreNeverRefused reply_form }
+{}
