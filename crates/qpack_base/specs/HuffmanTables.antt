@@ -29,10 +29,11 @@ pub record AreWords (table : List (ℕ × ℕ)) : Type 0 where
 abbrev pub long_lengths : List ℕ
 long_lengths = 10 ∷ 11 ∷ 12 ∷ 13 ∷ 14 ∷ 15 ∷ 19 ∷ 20 ∷ 21 ∷ 22 ∷ 23 ∷ 24 ∷ 25 ∷ 26 ∷ 27 ∷ 28 ∷ 30 ∷ []
 
--- each with its first word, and the bytes whose words have it
+-- a length with its first word, and the bytes whose words have it
 abbrev pub long_row : ℕ → ℕ × ℕ × List ℕ
 long_row n = (n, first_word n, bytes_of_length n)
 
+-- the code beyond eight bits
 unfoldable pub long_rows : List (ℕ × ℕ × List ℕ)
 long_rows = map long_row long_lengths
 

@@ -1,5 +1,5 @@
-//! The byte layers of QPACK (RFC 9204): a cursor over bytes, integers with a prefix, header fields
-//! and the static table.
+//! The byte layers of QPACK (RFC 9204): a cursor over bytes, integers with a prefix, string literals,
+//! header fields and the static table.
 #![tactic(auto)]
 
 pub mod coding;

@@ -11,10 +11,10 @@ ghost use Rattle.qpack_base.specs.Strings.{error_of_integer, meaning, ReadsStrin
 ghost use Rattle.qpack_base.specs.declared.prefix_string.Error.TheVariants.{UnexpectedEnd as Truncated, Integer as BadLength, HuffmanDecoding as BadPayload, Memory as NoRoom};
 ghost use Rattle.qpack_base.specs.declared.prefix_int.Error.TheVariants.{Overflow};
 
-pub mod bitwin;
-pub mod decoding;
+mod bitwin;
+mod decoding;
 mod decoding_tables;
-pub mod encoding;
+mod encoding;
 mod encoding_table;
 #[cfg(test)]
 mod tests;

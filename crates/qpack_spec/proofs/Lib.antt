@@ -33,3 +33,4 @@ pub mod TableLaws
 pub mod StatelessPairs
 pub mod StatelessRows
 pub mod Sizes
+pub mod StringRows

@@ -149,11 +149,12 @@ is_padding zero bits = false
 is_padding (suc k) [] = true
 is_padding (suc k) (bit ∷ bits) = if bit == 1 then is_padding k bits else false
 
--- what comes next of a payload's bits: its end, a byte or a fault, and the bits behind it
+-- a word that was read, or its fault, as an item, and the bits behind it: none after a fault
 abbrev pub item_of : Result (ℕ × List ℕ) HuffmanFault → Option (Result ℕ HuffmanFault) × List ℕ
 item_of (Ok x) = (Some (Ok x.0), x.1)
 item_of (Err fault) = (Some (Err fault), [])
 
+-- what comes next of a payload's bits: their end, a byte or a fault, and the bits behind it
 unfoldable pub item_at : List ℕ → Option (Result ℕ HuffmanFault) × List ℕ
 item_at bits = if is_padding 8 bits then (None, []) else item_of (word_at bytes_by_length 0 0 bits)
 

@@ -48,6 +48,7 @@ payload_at flags len bytes =
     if nat_lt (length bytes) len then Err EndsEarly
     else value_before (flags / 2) (drop len bytes) (if flags % 2 == 0 then Ok (take len bytes) else text_of_bits (bits_of_bytes (take len bytes)))
 
+-- the string whose length was read so
 abbrev pub string_behind : Result (ℕ × ℕ × List ℕ) IntegerFault → Result (ℕ × List ℕ × List ℕ) StringFault
 string_behind (Err Overflow) = Err LengthOverflows
 string_behind (Err UnexpectedEnd) = Err EndsEarly

@@ -1,0 +1,59 @@
+-- The definitions of coded strings on worked examples, computed.
+use Rattle.std.proofs.Common.{◌≡◌, ℕ, List, [], ◌∷◌, ◌++◌, Result, Ok, Err, refl}
+use Rattle.std.specs.Prelude.{codes, length}
+use Rattle.qpack_spec.specs.Integer.{groups_at, integer_at, written_groups, written_integer}
+use Rattle.qpack_spec.specs.Huffman.{MissingBits, Unhandled, bits_of, ones, bytes_by_length, bytes_of_length, first_word, word_length, word_of, number_from, packed, payload_of, word_at, is_padding, item_at, text_at, text_of_bits}
+use Rattle.qpack_spec.specs.Text.{EndsEarly, LengthOverflows, BadHuffman, string_at, written_string}
+
+-- `foo` fills two bytes, with no padding
+foo_written : written_string 8 0 (codes "foo") ≡ 130 ∷ 148 ∷ 231 ∷ []
+unfolding written_integer written_groups payload_of bits_of ones bytes_by_length bytes_of_length first_word word_length word_of number_from packed written_string
+foo_written = refl
+
+-- nothing is a length of 0
+nothing_written : written_string 8 0 [] ≡ 128 ∷ []
+unfolding written_integer written_groups payload_of bits_of ones bytes_by_length bytes_of_length first_word word_length word_of number_from packed written_string
+nothing_written = refl
+
+-- the flags stand above H
+flagged_written : written_string 6 1 (codes "name without ref") ≡ 108 ∷ 168 ∷ 116 ∷ 149 ∷ 79 ∷ 6 ∷ 76 ∷ 231 ∷ 181 ∷ 42 ∷ 88 ∷ 89 ∷ 127 ∷ []
+unfolding written_integer written_groups payload_of bits_of ones bytes_by_length bytes_of_length first_word word_length word_of number_from packed written_string
+flagged_written = refl
+
+-- a coded string, and what follows it
+new_bar_read : string_at 8 (134 ∷ 168 ∷ 190 ∷ 20 ∷ 140 ∷ 118 ∷ 51 ∷ 7 ∷ []) ≡ Ok (0, codes "new bar3", 7 ∷ [])
+unfolding groups_at integer_at bits_of bytes_by_length word_at is_padding item_at text_at text_of_bits string_at
+new_bar_read = refl
+
+-- a plain string under a flag, whole and cut
+bar_read : string_at 6 (67 ∷ 98 ∷ 97 ∷ 114 ∷ []) ≡ Ok (1, codes "bar", [])
+unfolding groups_at integer_at bits_of bytes_by_length word_at is_padding item_at text_at text_of_bits string_at
+bar_read = refl
+
+bar_cut : string_at 6 (67 ∷ 98 ∷ 97 ∷ []) ≡ Err EndsEarly
+unfolding groups_at integer_at string_at
+bar_cut = refl
+
+-- eight ones are no padding
+ones_refused : string_at 8 (129 ∷ 255 ∷ []) ≡ Err (BadHuffman MissingBits)
+unfolding groups_at integer_at bits_of bytes_by_length word_at is_padding item_at text_at text_of_bits string_at
+ones_refused = refl
+
+-- zeros are none either
+zeros_refused : string_at 8 (129 ∷ 0 ∷ []) ≡ Err (BadHuffman MissingBits)
+unfolding groups_at integer_at bits_of bytes_by_length word_at is_padding item_at text_at text_of_bits string_at
+zeros_refused = refl
+
+-- thirty ones, at the front and behind a word
+eos_refused : string_at 8 (132 ∷ 255 ∷ 255 ∷ 255 ∷ 255 ∷ []) ≡ Err (BadHuffman Unhandled)
+unfolding groups_at integer_at bits_of bytes_by_length word_at is_padding item_at text_at text_of_bits string_at
+eos_refused = refl
+
+eos_behind_refused : string_at 8 (133 ∷ 7 ∷ 255 ∷ 255 ∷ 255 ∷ 255 ∷ []) ≡ Err (BadHuffman Unhandled)
+unfolding groups_at integer_at bits_of bytes_by_length word_at is_padding item_at text_at text_of_bits string_at
+eos_behind_refused = refl
+
+-- a length of ten full bytes
+length_refused : string_at 8 (255 ∷ 255 ∷ 255 ∷ 255 ∷ 255 ∷ 255 ∷ 255 ∷ 255 ∷ 255 ∷ 255 ∷ []) ≡ Err LengthOverflows
+unfolding groups_at integer_at string_at
+length_refused = refl
