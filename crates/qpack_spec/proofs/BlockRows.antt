@@ -1,6 +1,6 @@
 -- Worked rows of field sections read under a window, computed by the definitions.
-use Rattle.std.proofs.Common.{ℕ, ◌≡◌, true, false, List, [], ◌∷◌, ◌++◌, refl}
-use Rattle.std.specs.Prelude.{codes, negsuc}
+use Rattle.std.proofs.Common.{ℕ, zero, suc, ◌+◌, ◌/◌, ◌%◌, ◌≡◌, true, false, List, [], ◌∷◌, ◌++◌, refl}
+use Rattle.std.specs.Prelude.{codes, negsuc, if◌then◌else◌, nat_lt}
 use Rattle.qpack_spec.specs.Integer.{written_groups, groups_at, integer_at, written_integer, UnexpectedEnd}
 use Rattle.qpack_spec.specs.Huffman.{bits_of, ones, bytes_by_length, bytes_of_length, first_word, word_length, word_of, number_from, packed, payload_of, word_at, is_padding, item_at, text_at, text_of_bits}
 use Rattle.qpack_spec.specs.Text.{string_at, written_string, EndsEarly}
@@ -28,9 +28,21 @@ window_with capacity fs = putting (window_of (start capacity)) fs
 numbered : ℕ → Field
 numbered n = field (codes "foo" ++ n ∷ []) (codes "bar")
 
+-- a number in decimal
+decimal : ℕ → List ℕ
+decimal n =
+    if nat_lt n 10 then (48 + n) ∷ []
+    else if nat_lt n 100 then (48 + n / 10) ∷ (48 + n % 10) ∷ []
+    else (48 + n / 100) ∷ (48 + n / 10 % 10) ∷ (48 + n % 10) ∷ []
+
+-- so many fields, foo1 first
+counted : ℕ → List Field
+counted zero = []
+counted (suc n) = counted n ++ field (codes "foo" ++ decimal (suc n)) (codes "bar") ∷ []
+
 -- all that has to unfold
 rows : ℕ
-unfolding excess written_groups groups_at integer_at written_integer bits_of ones bytes_by_length bytes_of_length first_word word_length word_of number_from packed payload_of word_at is_padding item_at text_at text_of_bits string_at written_string static_table static_place static_name_place line_form written_line written_lines instruction_form reply_form written_instruction written_instructions written_reply written_replies made_at form_at prefix_for required_at read_required read_base read_prefix written_prefix prefix_at entry recent insertion effect after window_of whole grown static_field relative_field post_base_field line_field fields_of names_of references_of greatest reading fields_at reading_of_bytes written_block window track naming is_held none_held has_room may_name with_entry last_place newest put resized applied commit unnamed without_oldest without_stream raised heard instruction_for rule_field rule putting window_with numbered
+unfolding excess written_groups groups_at integer_at written_integer bits_of ones bytes_by_length bytes_of_length first_word word_length word_of number_from packed payload_of word_at is_padding item_at text_at text_of_bits string_at written_string static_table static_place static_name_place line_form written_line written_lines instruction_form reply_form written_instruction written_instructions written_reply written_replies made_at form_at prefix_for required_at read_required read_base read_prefix written_prefix prefix_at entry recent insertion effect after window_of whole grown static_field relative_field post_base_field line_field fields_of names_of references_of greatest reading fields_at reading_of_bytes written_block window track naming is_held none_held has_room may_name with_entry last_place newest put resized applied commit unnamed without_oldest without_stream raised heard instruction_for rule_field rule putting window_with numbered decimal counted
 rows = 0
 
 -- a relative and two post-base lines
@@ -44,7 +56,7 @@ unfolding rows
 read_post_base_name = refl
 
 -- a window of which the oldest entries are gone
-read_far : (reading_of_bytes (window_with 4096 ((field (codes "foo1") (codes "bar")) ∷ (field (codes "foo2") (codes "bar")) ∷ (field (codes "foo3") (codes "bar")) ∷ (field (codes "foo4") (codes "bar")) ∷ (field (codes "foo5") (codes "bar")) ∷ (field (codes "foo6") (codes "bar")) ∷ (field (codes "foo7") (codes "bar")) ∷ (field (codes "foo8") (codes "bar")) ∷ (field (codes "foo9") (codes "bar")) ∷ (field (codes "foo10") (codes "bar")) ∷ (field (codes "foo11") (codes "bar")) ∷ (field (codes "foo12") (codes "bar")) ∷ (field (codes "foo13") (codes "bar")) ∷ (field (codes "foo14") (codes "bar")) ∷ (field (codes "foo15") (codes "bar")) ∷ (field (codes "foo16") (codes "bar")) ∷ (field (codes "foo17") (codes "bar")) ∷ (field (codes "foo18") (codes "bar")) ∷ (field (codes "foo19") (codes "bar")) ∷ (field (codes "foo20") (codes "bar")) ∷ (field (codes "foo21") (codes "bar")) ∷ (field (codes "foo22") (codes "bar")) ∷ (field (codes "foo23") (codes "bar")) ∷ (field (codes "foo24") (codes "bar")) ∷ (field (codes "foo25") (codes "bar")) ∷ (field (codes "foo26") (codes "bar")) ∷ (field (codes "foo27") (codes "bar")) ∷ (field (codes "foo28") (codes "bar")) ∷ (field (codes "foo29") (codes "bar")) ∷ (field (codes "foo30") (codes "bar")) ∷ (field (codes "foo31") (codes "bar")) ∷ (field (codes "foo32") (codes "bar")) ∷ (field (codes "foo33") (codes "bar")) ∷ (field (codes "foo34") (codes "bar")) ∷ (field (codes "foo35") (codes "bar")) ∷ (field (codes "foo36") (codes "bar")) ∷ (field (codes "foo37") (codes "bar")) ∷ (field (codes "foo38") (codes "bar")) ∷ (field (codes "foo39") (codes "bar")) ∷ (field (codes "foo40") (codes "bar")) ∷ (field (codes "foo41") (codes "bar")) ∷ (field (codes "foo42") (codes "bar")) ∷ (field (codes "foo43") (codes "bar")) ∷ (field (codes "foo44") (codes "bar")) ∷ (field (codes "foo45") (codes "bar")) ∷ (field (codes "foo46") (codes "bar")) ∷ (field (codes "foo47") (codes "bar")) ∷ (field (codes "foo48") (codes "bar")) ∷ (field (codes "foo49") (codes "bar")) ∷ (field (codes "foo50") (codes "bar")) ∷ (field (codes "foo51") (codes "bar")) ∷ (field (codes "foo52") (codes "bar")) ∷ (field (codes "foo53") (codes "bar")) ∷ (field (codes "foo54") (codes "bar")) ∷ (field (codes "foo55") (codes "bar")) ∷ (field (codes "foo56") (codes "bar")) ∷ (field (codes "foo57") (codes "bar")) ∷ (field (codes "foo58") (codes "bar")) ∷ (field (codes "foo59") (codes "bar")) ∷ (field (codes "foo60") (codes "bar")) ∷ (field (codes "foo61") (codes "bar")) ∷ (field (codes "foo62") (codes "bar")) ∷ (field (codes "foo63") (codes "bar")) ∷ (field (codes "foo64") (codes "bar")) ∷ (field (codes "foo65") (codes "bar")) ∷ (field (codes "foo66") (codes "bar")) ∷ (field (codes "foo67") (codes "bar")) ∷ (field (codes "foo68") (codes "bar")) ∷ (field (codes "foo69") (codes "bar")) ∷ (field (codes "foo70") (codes "bar")) ∷ (field (codes "foo71") (codes "bar")) ∷ (field (codes "foo72") (codes "bar")) ∷ (field (codes "foo73") (codes "bar")) ∷ (field (codes "foo74") (codes "bar")) ∷ (field (codes "foo75") (codes "bar")) ∷ (field (codes "foo76") (codes "bar")) ∷ (field (codes "foo77") (codes "bar")) ∷ (field (codes "foo78") (codes "bar")) ∷ (field (codes "foo79") (codes "bar")) ∷ (field (codes "foo80") (codes "bar")) ∷ (field (codes "foo81") (codes "bar")) ∷ (field (codes "foo82") (codes "bar")) ∷ (field (codes "foo83") (codes "bar")) ∷ (field (codes "foo84") (codes "bar")) ∷ (field (codes "foo85") (codes "bar")) ∷ (field (codes "foo86") (codes "bar")) ∷ (field (codes "foo87") (codes "bar")) ∷ (field (codes "foo88") (codes "bar")) ∷ (field (codes "foo89") (codes "bar")) ∷ (field (codes "foo90") (codes "bar")) ∷ (field (codes "foo91") (codes "bar")) ∷ (field (codes "foo92") (codes "bar")) ∷ (field (codes "foo93") (codes "bar")) ∷ (field (codes "foo94") (codes "bar")) ∷ (field (codes "foo95") (codes "bar")) ∷ (field (codes "foo96") (codes "bar")) ∷ (field (codes "foo97") (codes "bar")) ∷ (field (codes "foo98") (codes "bar")) ∷ (field (codes "foo99") (codes "bar")) ∷ (field (codes "foo100") (codes "bar")) ∷ (field (codes "foo101") (codes "bar")) ∷ (field (codes "foo102") (codes "bar")) ∷ (field (codes "foo103") (codes "bar")) ∷ (field (codes "foo104") (codes "bar")) ∷ (field (codes "foo105") (codes "bar")) ∷ (field (codes "foo106") (codes "bar")) ∷ (field (codes "foo107") (codes "bar")) ∷ (field (codes "foo108") (codes "bar")) ∷ (field (codes "foo109") (codes "bar")) ∷ (field (codes "foo110") (codes "bar")) ∷ (field (codes "foo111") (codes "bar")) ∷ (field (codes "foo112") (codes "bar")) ∷ (field (codes "foo113") (codes "bar")) ∷ (field (codes "foo114") (codes "bar")) ∷ (field (codes "foo115") (codes "bar")) ∷ (field (codes "foo116") (codes "bar")) ∷ (field (codes "foo117") (codes "bar")) ∷ (field (codes "foo118") (codes "bar")) ∷ (field (codes "foo119") (codes "bar")) ∷ (field (codes "foo120") (codes "bar")) ∷ (field (codes "foo121") (codes "bar")) ∷ (field (codes "foo122") (codes "bar")) ∷ (field (codes "foo123") (codes "bar")) ∷ (field (codes "foo124") (codes "bar")) ∷ (field (codes "foo125") (codes "bar")) ∷ (field (codes "foo126") (codes "bar")) ∷ (field (codes "foo127") (codes "bar")) ∷ (field (codes "foo128") (codes "bar")) ∷ (field (codes "foo129") (codes "bar")) ∷ (field (codes "foo130") (codes "bar")) ∷ (field (codes "foo131") (codes "bar")) ∷ (field (codes "foo132") (codes "bar")) ∷ (field (codes "foo133") (codes "bar")) ∷ (field (codes "foo134") (codes "bar")) ∷ (field (codes "foo135") (codes "bar")) ∷ (field (codes "foo136") (codes "bar")) ∷ (field (codes "foo137") (codes "bar")) ∷ (field (codes "foo138") (codes "bar")) ∷ [])) (134 ∷ 0 ∷ 138 ∷ [])) ≡ Fields ((field (codes "foo123") (codes "bar")) ∷ []) true
+read_far : (reading_of_bytes (window_with 4096 (counted 138)) (134 ∷ 0 ∷ 138 ∷ [])) ≡ Fields ((field (codes "foo123") (codes "bar")) ∷ []) true
 unfolding rows
 read_far = refl
 

@@ -99,6 +99,21 @@ received_named : (block_on (after_steps 4096 1 (Encode 4 ((field (codes "foo") (
 unfolding rows
 received_named = refl
 
+-- at the limit the last entry known to be received is named
+known_is_named : (block_on (after_steps 4096 1 (Encode 4 ((field (codes "foo") (codes "bar")) ∷ []) ∷ Take ∷ Report (1 ∷ []) ∷ Hear ∷ Encode 8 ((field (codes "baz") (codes "bar")) ∷ []) ∷ Encode 12 ((field (codes "foo") (codes "bar")) ∷ []) ∷ [])) 12) ≡ 2 ∷ 1 ∷ 129 ∷ []
+unfolding rows
+known_is_named = refl
+
+-- an entry that the block in progress names is held, received as it may be
+named_held : (block_on (after_steps 64 4 (Encode 4 ((field (codes "foo") (codes "bar")) ∷ []) ∷ Take ∷ Report (1 ∷ []) ∷ Decode 4 ∷ Acknowledge 4 ∷ Hear ∷ Hear ∷ Encode 8 ((field (codes "foo") (codes "bar")) ∷ (field (codes "baz") (codes "bar")) ∷ []) ∷ [])) 8) ≡ 2 ∷ 0 ∷ 128 ∷ 43 ∷ 140 ∷ 126 ∷ 255 ∷ 131 ∷ 140 ∷ 118 ∷ 127 ∷ []
+unfolding rows
+named_held = refl
+
+-- and one that an open block names
+open_held : (block_on (after_steps 64 4 (Encode 4 ((field (codes "foo") (codes "bar")) ∷ []) ∷ Take ∷ Report (1 ∷ []) ∷ Decode 4 ∷ Hear ∷ Encode 8 ((field (codes "baz") (codes "bar")) ∷ []) ∷ [])) 8) ≡ 0 ∷ 0 ∷ 43 ∷ 140 ∷ 126 ∷ 255 ∷ 131 ∷ 140 ∷ 118 ∷ 127 ∷ []
+unfolding rows
+open_held = refl
+
 -- an equal field is inserted, then duplicated
 twice_block : (block_on (after_steps 4096 1 (Encode 4 ((field (codes "foo") (codes "bar")) ∷ (field (codes "foo") (codes "bar")) ∷ []) ∷ [])) 4) ≡ 3 ∷ 129 ∷ 16 ∷ 17 ∷ []
 unfolding rows

@@ -1,5 +1,5 @@
 -- Worked rows of field sections that name no entry, and of what a session skips, computed by the definitions.
-use Rattle.std.proofs.Common.{ℕ, ◌^◌, ◌≡◌, true, List, [], ◌∷◌, None, Some, Ok, Err, refl}
+use Rattle.std.proofs.Common.{ℕ, ◌^◌, ◌≡◌, true, false, List, [], ◌∷◌, None, Some, Ok, Err, refl}
 use Rattle.std.specs.Prelude.{codes}
 use Rattle.qpack_spec.specs.Integer.{written_groups, groups_at, integer_at, written_integer, UnexpectedEnd}
 use Rattle.qpack_spec.specs.Huffman.{bits_of, ones, bytes_by_length, bytes_of_length, first_word, word_length, word_of, number_from, packed, payload_of, word_at, is_padding, item_at, text_at, text_of_bits}
@@ -10,7 +10,7 @@ use Rattle.qpack_spec.specs.Form.{BadInteger, BadString, made_at, form_at}
 use Rattle.qpack_spec.specs.Line.{line_form, written_line, written_lines}
 use Rattle.qpack_spec.specs.Instruction.{instruction_form, reply_form, written_instruction, written_instructions, written_reply, written_replies}
 use Rattle.qpack_spec.specs.Prefix.{prefix_for, required_at, read_required, read_base, read_prefix, written_prefix, prefix_at}
-use Rattle.qpack_spec.specs.Window.{excess, entry, recent, insertion, effect, after}
+use Rattle.qpack_spec.specs.Window.{excess, entry, recent, insertion, effect, after, NoEntry, NoStaticField, DoesNotFit, AboveMaximum, UnknownStream}
 use Rattle.qpack_spec.specs.History.{window_of, whole, grown}
 use Rattle.qpack_spec.specs.Reading.{BadForm, NotStatic, static_field, relative_field, post_base_field, line_field, fields_of, names_of, references_of, greatest, reading}
 use Rattle.qpack_spec.specs.BlockReading.{fields_at, reading_of_bytes, written_block}
@@ -18,7 +18,7 @@ use Rattle.qpack_spec.specs.Table.{window, track, naming, is_held, none_held, ha
 use Rattle.qpack_spec.specs.Rule.{instruction_for, rule_field, rule}
 use Rattle.qpack_spec.specs.Session.{Encode, Decode, Acknowledge, Cancel}
 use Rattle.qpack_spec.specs.Stateless.{stateless_block, BadSection, NamesEntry, TooLong, stateless_at, stateless_reading}
-use Rattle.qpack_spec.specs.Session.{Session, opened, with_block, with_decoded, with_kept, kept_at, skip_reason}
+use Rattle.qpack_spec.specs.Session.{Session, opened, with_block, with_decoded, with_kept, kept_at, skip_reason, is_consumed}
 
 alone : List Field → List ℕ
 alone fs = written_block (stateless_block fs)
@@ -185,3 +185,28 @@ cancelled_again = refl
 cancelled_encode : (skip_reason cancelled_stream (Encode 4 [])) ≡ None
 unfolding rows
 cancelled_encode = refl
+
+-- an instruction that only the table refuses is consumed
+consumed_too_large : (is_consumed DoesNotFit) ≡ true
+unfolding rows
+consumed_too_large = refl
+
+-- so is a capacity above the maximum
+consumed_maximum : (is_consumed AboveMaximum) ≡ true
+unfolding rows
+consumed_maximum = refl
+
+-- one that names nothing is not
+consumed_no_entry : (is_consumed (NoEntry 0)) ≡ false
+unfolding rows
+consumed_no_entry = refl
+
+-- nor one that names no static field
+consumed_no_static : (is_consumed (NoStaticField 99)) ≡ false
+unfolding rows
+consumed_no_static = refl
+
+-- an acknowledgment that finds no open block is
+consumed_reply : (is_consumed (UnknownStream 4)) ≡ true
+unfolding rows
+consumed_reply = refl

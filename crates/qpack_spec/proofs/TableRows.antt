@@ -1,6 +1,6 @@
 -- Worked rows of tables and of the rule, computed by the definitions.
-use Rattle.std.proofs.Common.{ℕ, ◌+◌, ◌≡◌, List, [], ◌∷◌, length, take, None, Result, Ok, Err, refl}
-use Rattle.std.specs.Prelude.{codes, ℤ, negsuc}
+use Rattle.std.proofs.Common.{ℕ, ◌+◌, ◌-◌, ◌^◌, ◌≡◌, true, false, List, [], ◌∷◌, length, take, None, Result, Ok, Err, refl}
+use Rattle.std.specs.Prelude.{codes, ℤ, negsuc, if◌then◌else◌, nat_lt}
 use Rattle.qpack_spec.specs.Bytes.{◌>>=◌}
 use Rattle.qpack_spec.specs.Integer.{written_groups, groups_at, integer_at, written_integer}
 use Rattle.qpack_spec.specs.Huffman.{bits_of, ones, bytes_by_length, bytes_of_length, first_word, word_length, word_of, number_from, packed, payload_of, word_at, is_padding, item_at, text_at, text_of_bits}
@@ -54,12 +54,15 @@ hear_all (r ∷ rs) t = heard t r >>= λ u. hear_all rs u
 open_count : Result Table Refusal → Result ℕ Refusal
 open_count r = r >>= λ t. Ok (length t.opened)
 
+waiting_count : Result Table Refusal → Result ℕ Refusal
+waiting_count r = r >>= λ t. Ok (length t.waiting)
+
 duplicates : ℕ → List Instruction
 duplicates n = Rattle.std.specs.Prelude.replicate n (Duplicate 0)
 
 -- all that has to unfold
 rows : ℕ
-unfolding excess written_groups groups_at integer_at written_integer bits_of ones bytes_by_length bytes_of_length first_word word_length word_of number_from packed payload_of word_at is_padding item_at text_at text_of_bits string_at written_string static_table static_place static_name_place line_form written_line written_lines instruction_form reply_form written_instruction written_instructions written_reply written_replies made_at form_at prefix_for required_at read_required read_base read_prefix written_prefix prefix_at entry recent insertion effect after window_of whole grown static_field relative_field post_base_field line_field fields_of names_of references_of greatest reading fields_at reading_of_bytes written_block window track naming is_held none_held has_room may_name with_entry last_place newest put resized applied commit unnamed without_oldest without_stream raised heard instruction_for rule_field rule put_all put_into live_of counts_of apply_all writes_on block_bytes hear_all open_count duplicates
+unfolding excess written_groups groups_at integer_at written_integer bits_of ones bytes_by_length bytes_of_length first_word word_length word_of number_from packed payload_of word_at is_padding item_at text_at text_of_bits string_at written_string static_table static_place static_name_place line_form written_line written_lines instruction_form reply_form written_instruction written_instructions written_reply written_replies made_at form_at prefix_for required_at read_required read_base read_prefix written_prefix prefix_at entry recent insertion effect after window_of whole grown static_field relative_field post_base_field line_field fields_of names_of references_of greatest reading fields_at reading_of_bytes written_block window track naming is_held none_held has_room may_name with_entry last_place newest put resized applied commit unnamed without_oldest without_stream raised heard instruction_for rule_field rule put_all put_into live_of counts_of apply_all writes_on block_bytes hear_all open_count waiting_count duplicates
 rows = 0
 
 -- the live entries are the longest tail that fits
@@ -161,6 +164,41 @@ unknown_cancel = refl
 no_reference_not_opened : (open_count (Ok (writes_on (empty_table 4096 None 3) 4 ((field (codes ":method") (codes "GET")) ∷ [])))) ≡ Ok 0
 unfolding rows
 no_reference_not_opened = refl
+
+-- nor does it count as blocked
+static_not_waiting : (waiting_count (Ok (writes_on (empty_table 4096 None 3) 4 ((field (codes ":method") (codes "GET")) ∷ [])))) ≡ Ok 0
+unfolding rows
+static_not_waiting = refl
+
+-- a block that requires an unreceived entry does
+one_waiting : (waiting_count (Ok (writes_on (empty_table 4096 None 3) 4 ((field (codes "foo") (codes "bar")) ∷ [])))) ≡ Ok 1
+unfolding rows
+one_waiting = refl
+
+-- one that requires what is known to be received does not
+known_not_waiting : (waiting_count ((hear_all (Increment 1 ∷ []) (writes_on (empty_table 4096 None 3) 4 ((field (codes "foo") (codes "bar")) ∷ []))) >>= λ t. Ok (writes_on t 8 ((field (codes "foo") (codes "bar")) ∷ [])))) ≡ Ok 0
+unfolding rows
+known_not_waiting = refl
+
+-- the 2^62th insertion is made
+last_insertion : (counts_of (put (record (empty_table 4096 None 0) { dropped = 2 ^ 62 - 1 }) (field (codes "foo") (codes "bar")))) ≡ Ok (4611686018427387904, 4611686018427387904)
+unfolding rows
+last_insertion = refl
+
+-- and none behind it
+past_last_insertion : (counts_of (put (record (empty_table 4096 None 0) { dropped = 2 ^ 62 }) (field (codes "foo") (codes "bar")))) ≡ Ok (4611686018427387905, 4611686018427387904)
+unfolding rows
+past_last_insertion = refl
+
+-- by the encoder neither
+no_room_past_last : (has_room (record (empty_table 4096 None 1) { dropped = 2 ^ 62 }) (field (codes "foo") (codes "bar"))) ≡ false
+unfolding rows
+no_room_past_last = refl
+
+-- which makes that one
+room_for_last : (has_room (record (empty_table 4096 None 1) { dropped = 2 ^ 62 - 1 }) (field (codes "foo") (codes "bar"))) ≡ true
+unfolding rows
+room_for_last = refl
 
 -- a capacity that an open block stands against
 resize_held : (counts_of (resized (writes_on (empty_table 4096 None 1) 4 ((field (codes "foo") (codes "bar")) ∷ [])) 37)) ≡ Err DoesNotFit
