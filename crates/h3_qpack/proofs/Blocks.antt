@@ -73,8 +73,7 @@ block_takes limit bytes fs e =
     let d = bind_ok (block_integer (integer_at 7 c.0.2)) (λ d. static_lines_at (length d.2) limit 0 d.2) fs c.2 in
     let count = integer_takes 8 bytes c.0.0 c.0.1 c.0.2 (block_ok (integer_at 8 bytes) c.0 c.1) in
     let base = integer_takes 7 c.0.2 d.0.0 d.0.1 d.0.2 (block_ok (integer_at 7 c.0.2) d.0 d.1) in
-    let lines = lines_take (length d.0.2) limit 0 d.0.2 fs (omega arith) (omega arith) d.2 in
-    (
+    let lines = lines_take (length d.0.2) limit 0 d.0.2 fs (omega arith) (omega arith) d.2 in (
       record {
         count = count.text;
         base = base.text;

@@ -89,8 +89,8 @@ lines_end k limit sum rest front whole is none =
 -- with lines left, the one at the front decides
 pub turn : (k limit sum b : ℕ) (cs : List ℕ) → 0 < k → static_lines_at k limit sum (b ∷ cs)
     ≡ (static_line_at b cs >>= λ r.
-      cond (ltb limit (held (sum + field_size r.0))) (Err (TooLong (held (sum + field_size r.0))))
-        (static_lines_at (k - 1) limit (held (sum + field_size r.0)) r.1 >>= λ fs. Ok (r.0 ∷ fs)))
+    cond (ltb limit (held (sum + field_size r.0))) (Err (TooLong (held (sum + field_size r.0))))
+    (static_lines_at (k - 1) limit (held (sum + field_size r.0)) r.1 >>= λ fs. Ok (r.0 ∷ fs)))
 unfolding static_lines_at
 turn zero limit sum b cs h = absurd (omega arith)
 turn (suc k) limit sum b cs h = let e : suc k - 1 ≡ k = omega arith in rw e refl

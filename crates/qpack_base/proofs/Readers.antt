@@ -3,7 +3,6 @@ use Rattle.std.proofs.Common.{◌≡◌, ℕ, ◌++◌, List, Result, Ok, Err, r
 use Rattle.std.specs.Prelude.{IfOk, ◌↔◌}
 use Rattle.qpack_spec.specs.Bytes.{Begins}
 use Rattle.qpack_spec.specs.Integer.{IntegerFault, SpellsInteger, OverflowsInteger, TruncatesInteger, integer_at}
-use Rattle.qpack_spec.specs.Integer as integer
 use Rattle.qpack_spec.proofs.Results.{ok_triple, pair_is}
 use Rattle.qpack_spec.proofs.Integers.{integer_takes, integer_again, reads_faults}
 use Rattle.qpack_base.specs.Cursor.{Reading, MovesPast}

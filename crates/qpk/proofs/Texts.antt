@@ -1,5 +1,5 @@
 -- The fields of the lines, one by one.
-use Rattle.std.proofs.Common.{◌≡◌, ℕ, ◌+◌, List, [], ◌∷◌, ◌++◌, Option, Some, None, Result, Ok, Err, refl, sym, ap, ◌∙◌, append_assoc, append-nil, cond}
+use Rattle.std.proofs.Common.{◌≡◌, ℕ, ◌+◌, List, [], ◌∷◌, ◌++◌, Option, Some, None, Result, Ok, Err, refl, cond}
 use Rattle.std.specs.Prelude.{is_some}
 use Rattle.std.specs.List.{AllByRecursion}
 use Rattle.std.proofs.iter.Yields.{fronts}
@@ -16,7 +16,7 @@ use Rattle.qpack_base.proofs.FieldLists.{fields_from_slice}
 use Rattle.h3_qpack.specs.StaticBlock.{IsStatic, static_block, held}
 use Rattle.h3_qpack.specs.Stateless.{fields_in}
 use Rattle.qpk.specs.Answers.{first_not_static, encode_answer}
-use Rattle.qpk.specs.FieldText.{lines_of, field_of_line, fields_from, with_field}
+use Rattle.qpk.specs.FieldText.{lines_of, fields_from}
 
 abbrev pub with_front : List Field → Result (List Field) ℕ → Result (List Field) ℕ
 with_front front (Ok fs) = Ok (front ++ fs)

@@ -1,10 +1,7 @@
 -- The program's words as texts.
-use Rattle.std.proofs.Common.{◌≡◌, ℕ, ◌<◌, ◌≤◌, List, [], ◌∷◌, length, map, get_or, Bool, true, refl, sym, ap, subst, ◌∙◌, arith}
-use Rattle.std.specs.Prelude.{String, string_bytes, codes, Option, Some, None, MatchOption}
-use Rattle.std.proofs.lemmas.Slice.Eq.{slice_eq-Decides}
-use Rattle.std.proofs.lemmas.Bool.Decides.{Decides-eqb}
-use Rattle.qpk.specs.Serving.{AsksFor, AsksForNothing, SaysNumber}
-use Rattle.qpk.specs.declared.serve.Command.{Command}
+use Rattle.std.proofs.Common.{◌≡◌, ℕ, ◌<◌, ◌≤◌, List, [], ◌∷◌, length, map, get_or, sym, ap, subst, ◌∙◌, arith}
+use Rattle.std.specs.Prelude.{String, string_bytes, Option, None, MatchOption}
+use Rattle.qpk.specs.Serving.{AsksForNothing, SaysNumber}
 use Rattle.qpk.specs.declared.serve.Command.TheVariants.{Encode, Decode}
 
 pub one_word : {Z : Type 0} (ws : List (String Z)) (w : String Z) → 1 ≤ length ws → length ws < 2 → w ≡ get_or ws 0 w → map string_bytes ws ≡ string_bytes w ∷ []

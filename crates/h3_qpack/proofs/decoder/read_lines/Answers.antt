@@ -14,7 +14,7 @@ returns-in_err-field c =
     let inv = c.loop-byte.invariant.0 in
     let at = c.in-Some.ensures.value ∙ ap (λ (l : List ℕ). slice_get l 0) c.chunk.ensures in
     rw (p.1, p.2)
-      (turn_bad inv.0 c.args.max_size c.loop-byte.mem_size c.loop-byte.buf.rest c.in-Some.byte.now (fields_in c.loop-byte.fields.items) _ c.in_err-field.field-0.0 inv.1 inv.2 at c.in_err-field.ensures)
+    (turn_bad inv.0 c.args.max_size c.loop-byte.mem_size c.loop-byte.buf.rest c.in-Some.byte.now (fields_in c.loop-byte.fields.items) _ c.in_err-field.field-0.0 inv.1 inv.2 at c.in_err-field.ensures)
 
 pub returns-then-mem_size-max_size : goal.returns-then-mem_size-max_size
 returns-then-mem_size-max_size c =
@@ -22,7 +22,7 @@ returns-then-mem_size-max_size c =
     let at = c.in-Some.ensures.value ∙ ap (λ (l : List ℕ). slice_get l 0) c.chunk.ensures in
     let told = told_is c.loop-byte.mem_size (field_size (field_of c.in_ok-field.field)) c.mem_size.result c.saturating_add-mem_size.result c.mem_size.ensures c.saturating_add-mem_size.ensures in
     rw told
-      (turn_long inv.0 c.args.max_size c.loop-byte.mem_size c.loop-byte.buf.rest c.in-Some.byte.now (fields_in c.loop-byte.fields.items) _ (field_of c.in_ok-field.field) c.read_line.new.buf.rest inv.1 inv.2 at c.in_ok-field.ensures.0 (omega (arith, told, c.if-mem_size-max_size.true)))
+    (turn_long inv.0 c.args.max_size c.loop-byte.mem_size c.loop-byte.buf.rest c.in-Some.byte.now (fields_in c.loop-byte.fields.items) _ (field_of c.in_ok-field.field) c.read_line.new.buf.rest inv.1 inv.2 at c.in_ok-field.ensures.0 (omega (arith, told, c.if-mem_size-max_size.true)))
 
 pub loop-byte-smaller : goal.loop-byte-smaller
 loop-byte-smaller c =
@@ -37,8 +37,7 @@ loop-byte-preserved c =
     let at = c.in-Some.ensures.value ∙ ap (λ (l : List ℕ). slice_get l 0) c.chunk.ensures in
     let told = told_is c.loop-byte.mem_size (field_size (field_of c.in_ok-field.field)) c.mem_size.result c.saturating_add-mem_size.result c.mem_size.ensures c.saturating_add-mem_size.ensures in
     let goes = turn_good inv.0 c.args.max_size c.loop-byte.mem_size c.loop-byte.buf.rest c.in-Some.byte.now (fields_in c.loop-byte.fields.items) _ (field_of c.in_ok-field.field) c.read_line.new.buf.rest inv.1 inv.2 at c.in_ok-field.ensures.0 (omega (arith, told, c.if-mem_size-max_size.false)) in
-    let more : fields_in c.push.new.self.items ≡ fields_in c.loop-byte.fields.items ++ field_of c.in_ok-field.field ∷ [] = ap fields_in c.in_ok-push.ensures.items ∙ fields_more c.loop-byte.fields.items c.in_ok-field.field in
-    (
+    let more : fields_in c.push.new.self.items ≡ fields_in c.loop-byte.fields.items ++ field_of c.in_ok-field.field ∷ [] = ap fields_in c.in_ok-push.ensures.items ∙ fields_more c.loop-byte.fields.items c.in_ok-field.field in (
       rw (more, told) goes.next,
       rw more (held_more (fields_in c.loop-byte.fields.items) (field_of c.in_ok-field.field) c.loop-byte.mem_size c.saturating_add-mem_size.result c.loop-byte.invariant.1 told),
     )

@@ -1,4 +1,4 @@
-use Rattle.std.proofs.Common.{◌≡◌, ◌+◌, ◌≤◌, arith}
+use Rattle.std.proofs.Common.{arith}
 use Rattle.qpack_spec.proofs.WrittenIntegers.{groups_most, groups_least}
 use Rattle.qpack_base.proofs.prefix_int.groups_len.Goals as goal
 

@@ -1,4 +1,4 @@
-use Rattle.std.proofs.Common.{◌≡◌, ◌+◌, ◌*◌, ◌/◌, ◌%◌, ◌≤◌, ◌++◌, ◌∷◌, [], List, ℕ, length, vec_len, vec_capacity, append_assoc, sym, ap, ◌∙◌, arith}
+use Rattle.std.proofs.Common.{◌+◌, ◌/◌, ◌%◌, ◌++◌, ◌∷◌, [], List, ℕ, length, append_assoc, sym, ap, ◌∙◌, arith}
 use Rattle.qpack_spec.specs.Integer.{written_groups}
 use Rattle.qpack_spec.proofs.WrittenIntegers.{groups_more}
 use Rattle.qpack_base.proofs.prefix_int.put_groups.Goals as goal

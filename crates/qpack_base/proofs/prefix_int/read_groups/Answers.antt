@@ -1,4 +1,4 @@
-use Rattle.std.proofs.Common.{◌≡◌, ◌+◌, ◌*◌, ◌%◌, ◌^◌, ◌<◌, ◌∷◌, arith, sym, ◌∙◌, ap}
+use Rattle.std.proofs.Common.{arith, ◌∙◌}
 use Rattle.std.proofs.lemmas.Result.{err_from_is_err_and}
 use Rattle.qpack_base.proofs.Groups.{ends_early, ends_here, goes_on, overflows, next_weight, weight_fits, sum_fits}
 use Rattle.qpack_base.proofs.prefix_int.read_groups.Goals as goal

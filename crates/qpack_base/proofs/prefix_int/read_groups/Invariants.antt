@@ -1,4 +1,4 @@
-use Rattle.std.proofs.Common.{◌≡◌, ℕ, ◌-◌, ◌^◌, ◌<◌}
+use Rattle.std.proofs.Common.{◌≡◌, ◌-◌, ◌^◌, ◌<◌}
 use Rattle.qpack_spec.specs.Integer.{groups_at}
 use Rattle.qpack_base.proofs.Groups.{above}
 use Rattle.qpack_base.proofs.prefix_int.read_groups.Given as goal

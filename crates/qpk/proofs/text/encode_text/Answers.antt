@@ -1,4 +1,4 @@
-use Rattle.std.proofs.Common.{◌≡◌, List, refl, sym, ap, ◌∙◌}
+use Rattle.std.proofs.Common.{List, refl, sym, ap, ◌∙◌}
 use Rattle.hex.specs.Hex.{encode_lower}
 use Rattle.qpack_base.specs.declared.field.HeaderField.{HeaderField}
 use Rattle.h3_qpack.specs.Stateless.{fields_in}
