@@ -1,6 +1,6 @@
 -- The definitions of coded strings on worked examples, computed.
-use Rattle.std.proofs.Common.{◌≡◌, ℕ, List, [], ◌∷◌, ◌++◌, Result, Ok, Err, refl}
-use Rattle.std.specs.Prelude.{codes, length}
+use Rattle.std.proofs.Common.{◌≡◌, [], ◌∷◌, Ok, Err, refl}
+use Rattle.std.specs.Prelude.{codes}
 use Rattle.qpack_spec.specs.Integer.{groups_at, integer_at, written_groups, written_integer}
 use Rattle.qpack_spec.specs.Huffman.{MissingBits, Unhandled, bits_of, ones, bytes_by_length, bytes_of_length, first_word, word_length, word_of, number_from, packed, payload_of, word_at, is_padding, item_at, text_at, text_of_bits}
 use Rattle.qpack_spec.specs.Text.{EndsEarly, LengthOverflows, BadHuffman, string_at, written_string}

@@ -9,7 +9,7 @@ use Rattle.qpack_spec.proofs.Results.{chosen, ok_pair}
 use Rattle.qpack_spec.proofs.Bits.{AreBits, bits_next}
 use Rattle.qpack_spec.proofs.WordTable.{gives, all_give, row_good, rows_good, all_words, all_rows}
 
-both : (a b : Bool) → (a && b) ≡ true → (a ≡ true) × (b ≡ true)
+pub both : (a b : Bool) → (a && b) ≡ true → (a ≡ true) × (b ≡ true)
 both true true e = (refl, refl)
 both true false e = absurd cc
 both false b e = absurd cc

@@ -1,11 +1,11 @@
 -- The written string is a literal of its value, and is read back whole.
-use Rattle.std.proofs.Common.{◌≡◌, ℕ, suc, ◌+◌, ◌-◌, ◌*◌, ◌^◌, ◌<◌, ◌≤◌, length, refl, sym, ap, ◌∙◌, arith, inr}
+use Rattle.std.proofs.Common.{◌≡◌, ℕ, suc, ◌+◌, ◌-◌, ◌*◌, ◌^◌, ◌<◌, ◌≤◌, List, ◌++◌, length, Ok, refl, sym, ap, ◌∙◌, arith, inr}
 use Rattle.std.proofs.Math.Nat.{pow-succ'}
 use Rattle.std.proofs.Math.Pow.{pow_mono}
 use Rattle.qpack_spec.specs.IntegerLaws.{IsWritable}
 use Rattle.qpack_spec.specs.Huffman.{payload_of}
 use Rattle.qpack_spec.specs.Text.{string_at, written_string}
-use Rattle.qpack_spec.specs.TextLaws.{WrittenStringsAreLiterals, WrittenStringsAreReadBack}
+use Rattle.qpack_spec.specs.TextLaws.{IsWritableString, WrittenStringsAreLiterals, WrittenStringsAreReadBack}
 use Rattle.qpack_spec.proofs.Results.{ok_triple}
 use Rattle.qpack_spec.proofs.WrittenIntegers.{written_back}
 use Rattle.qpack_spec.proofs.WrittenPayloads.{written_means}
@@ -30,9 +30,13 @@ written_literal n flags value w =
     let b = written_back (n - 1) (2 * flags + 1) (length (payload_of value)) i w.size in
     inr (payload_of value, record { head = _; parts = refl; spells = b.0 }, m.1)
 
+-- what is written is read, whatever follows
+pub written_again : (n flags : ℕ) (value rest : List ℕ) → IsWritableString n flags value → string_at n (written_string n flags value ++ rest) ≡ Ok (flags, value, rest)
+written_again n flags value rest w = string_again n (written_string n flags value) rest flags value (written_literal n flags value w)
+
 pub written_read : WrittenStringsAreReadBack
 written_read n flags value rest text more f v w s e =
     let a = string_again n text more f v s in
-    let b = string_again n (written_string n flags value) rest flags value (written_literal n flags value w) in
+    let b = written_again n flags value rest w in
     let t = ok_triple f flags v value more rest (sym a ∙ ap (string_at n) (sym e) ∙ b) in
     (t.0, t.1, t.2)

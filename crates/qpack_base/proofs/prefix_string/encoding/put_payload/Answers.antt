@@ -1,4 +1,5 @@
-use Rattle.std.proofs.Common.{◌≡◌, ℕ, ◌+◌, ◌-◌, ◌*◌, ◌%◌, ◌<◌, get_or, refl, ap, ◌∙◌, arith}
+use Rattle.std.proofs.Common.{◌≡◌, ℕ, ◌+◌, ◌-◌, ◌*◌, ◌%◌, ◌<◌, ◌≤◌, get_or, refl, ap, ◌∙◌, arith}
+use Rattle.std.proofs.Math.Pow.{pow_mono}
 use Rattle.qpack_spec.proofs.WrittenPayloads.{payload_length}
 use Rattle.qpack_base.proofs.AddedBits.{nothing_added}
 use Rattle.qpack_base.proofs.PutWords.{next_word, word_added, word_fits, word_counted, word_room, four_fit, four_added, cut_fits, all_put, all_bits, bytes_from}
@@ -7,6 +8,19 @@ use Rattle.qpack_base.proofs.prefix_string.encoding.put_payload.Goals.{then-coun
 
 pub loop-byte-init : goal.loop-byte-init
 loop-byte-init g c = (nothing_added c.args.buf.now.items, c.words-words.ensures, omega arith, omega arith, refl, refl)
+
+pub overflow_mul-loaded : goal.overflow_mul-loaded
+overflow_mul-loaded g c =
+    let loop = c.loop-byte in
+    let text = c.args.text.now in
+    let i = loop.byte-index in
+    let byte : get_or text i 0 < 256 = omega (arith, c.from.ensures) in
+    let entry = c.words-words.ensures.at (get_or text i 0) byte in
+    let bits = c.from-bits.ensures ∙ ap (λ (b : ℕ). (get_or c.words-words.result.now b (0, 0)).0) c.from.ensures in
+    let word = (get_or c.words-words.result.now (get_or text i 0) (0, 0)).1 in
+    let next = next_word text i c.from-bits.result c.power.result word _ c.loop-byte-test.true entry bits refl c.power.ensures in
+    let few : loop.count + c.from-bits.result ≤ 61 = omega (arith, next.most, loop.invariant.3) in
+    omega (arith, word_fits text i c.from-bits.result c.power.result word loop.count loop.loaded next loop.invariant.2, pow_mono few)
 
 pub put_four-requires-clause-fits : goal.put_four-requires-clause-fits
 put_four-requires-clause-fits g c =
