@@ -1,5 +1,5 @@
 -- Elements that pass a test among the first of a list, and fronts of lists.
-use Rattle.std.proofs.Common.{ℕ, zero, suc, ◌≤◌, ◌≡◌, Bool, true, false, cond, List, [], ◌∷◌, ◌++◌, length, drop, take, map, Some, refl, subst, arith}
+use Rattle.std.proofs.Common.{ℕ, zero, suc, ◌≤◌, ◌≡◌, Bool, true, false, cond, List, [], ◌∷◌, ◌++◌, length, drop, take, map, Some, subst, arith}
 use Rattle.std.specs.List.{AllByRecursion, slice_get, filter}
 
 -- an element behind the first n that passes is among those that pass, but for a that are within the first n

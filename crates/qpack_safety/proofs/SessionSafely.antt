@@ -1,30 +1,38 @@
 -- A session in bytes is safe at every moment.
-use Rattle.std.proofs.Common.{ℕ, ◌+◌, ◌≤◌, ◌≡◌, Bool, true, false, cond, List, [], ◌∷◌, ◌++◌, length, take, min, None, Some, refl, sym, ap, ◌∙◌, subst, arith, lit≤, inl, inr, length-append}
+use Rattle.std.proofs.Common.{ℕ, ◌+◌, ◌<◌, ◌≤◌, ◌≡◌, Bool, true, false, cond, List, [], ◌∷◌, ◌++◌, length, take, min, None, Some, Result, Ok, refl, sym, ap, ◌∙◌, subst, arith, lit≤, inl, inr, ◌⊎◌, length-append}
 use Rattle.std.specs.List.{slice_get}
-use Rattle.std.specs.Prelude.{nat_lt}
+use Rattle.std.specs.Prelude.{nat_lt, nat_eq}
+use Rattle.std.proofs.lemmas.Bool.{cases_lt, eq-eqb, ne_eqb}
 use Rattle.std.proofs.lemmas.List.{append_assoc, append_cancel_left}
 use Rattle.qpack_spec.specs.Field.{Field, total_size}
 use Rattle.qpack_spec.specs.Form.{Truncates}
-use Rattle.qpack_spec.specs.Instruction.{instruction_form, SpellsInstruction}
+use Rattle.qpack_spec.specs.Instruction.{Instruction, instruction_form, SpellsInstruction}
 use Rattle.qpack_spec.specs.Stream.{Joined, IsCutOff}
 use Rattle.qpack_spec.specs.Window.{Window, total}
-use Rattle.qpack_spec.specs.Reading.{Fields, Missing, reading}
-use Rattle.qpack_spec.specs.BlockReading.{reading_of_bytes}
+use Rattle.qpack_spec.specs.Reading.{Fault, Fields, Missing, reading, fields_of, references_of}
+use Rattle.qpack_spec.specs.History.{History, whole, start, Leads}
+use Rattle.qpack_spec.specs.BlockReading.{reading_of_bytes, base_behind, meaning_over_all, written_block}
 use Rattle.qpack_spec.specs.Table.{Table, table_of, fields_in, window, count}
-use Rattle.qpack_spec.specs.World.{required_count, stream_at, World, started, is_read}
-use Rattle.qpack_spec.specs.Session.{KeptBlock, kept_at, Session, Event, Encode, Decode, ToDecoder, ToEncoder, Acknowledge, Cancel, ChangeCapacity, Outcome, Delivered, Refused, StreamFault, opened, next_block, waits, skip_reason, with_block, given_up, with_decoded, DeliveryEnds, takes_all, no_memory, bad_bytes, bad_instruction, DeliversTo, Happens, Goes, IsWritableEvent, Runs}
-use Rattle.qpack_spec.specs.WrittenLaws.{IsWritableField}
+use Rattle.qpack_spec.specs.World.{SentBlock, required_count, stream_at, World, started, is_read}
+use Rattle.qpack_spec.specs.Session.{KeptBlock, kept_at, Session, Event, Encode, Decode, ToDecoder, ToEncoder, Acknowledge, Cancel, ChangeCapacity, Outcome, Delivered, Refused, StreamFault, opened, next_block, waits, skip_reason, with_block, given_up, with_decoded, DeliveryEnds, takes_all, no_memory, bad_bytes, bad_instruction, DeliversTo, Happens, Goes, IsByteEvent, FitsMemory, Runs}
+use Rattle.qpack_spec.specs.WrittenLaws.{IsByteField}
 use Rattle.qpack_spec.proofs.Places.{every_take}
-use Rattle.qpack_spec.proofs.BlockReadings.{written_read}
+use Rattle.qpack_spec.proofs.BlockReadings.{written_read, written_means}
 use Rattle.qpack_spec.proofs.PutTables.{window_put, count_put}
+use Rattle.qpack_spec.specs.Prefix.{Prefix, read_base}
+use Rattle.qpack_spec.proofs.Lists.{every_get}
+use Rattle.qpack_spec.proofs.Windows.{Agreed, agreed_start, leads_agreed, leads_append, leads_unique}
+use Rattle.qpack_spec.proofs.Readings.{fields_plain}
+use Rattle.qpack_spec.proofs.Places.{tracked_none}
+use Rattle.qpack_spec.proofs.Prefixes.{base_written}
 use Rattle.qpack_safety.specs.Safety.{DecodesExactly, Safe}
 use Rattle.qpack_safety.specs.SessionSafety.{ReadsExactly, SafeSession, SessionsAreSafe}
 use Rattle.qpack_safety.specs.Shows.{EndsAt, ShowsBlock, Shows}
-use Rattle.qpack_safety.proofs.Invariant.{Invariant, inv_started}
+use Rattle.qpack_safety.proofs.Invariant.{KeepsBlock, Invariant, inv_started}
 use Rattle.qpack_safety.proofs.Safely.{inv_safe}
-use Rattle.qpack_spec.proofs.Cuttings.{Wire, wire, reads_delivered}
+use Rattle.qpack_spec.proofs.Cuttings.{Wire, wire, reads_delivered, one_reading}
 use Rattle.qpack_safety.proofs.Shown.{agrees_get}
-use Rattle.qpack_safety.proofs.WritingEvents.{Lands, lands_encoded, lands_given_up, lands_resized, lands_decoded, lawful_on, lands_acknowledged, lands_cancelled}
+use Rattle.qpack_safety.proofs.WritingEvents.{Lands, whole_sent, lands_encoded, lands_given_up, lands_resized, lands_decoded, lawful_on, lands_acknowledged, lands_cancelled}
 use Rattle.qpack_safety.proofs.DeliveryEvents.{Moved, moved, lands_delivered, delivered_lawful, lands_heard, heard_lawful}
 
 -- ---- every event
@@ -35,35 +43,35 @@ stays capacity limit v v' w sh k e = subst (Lands capacity limit) (sym e) (recor
 moves : (capacity limit : ℕ) (v' u : Session) → v' ≡ u → Lands capacity limit u → Lands capacity limit v'
 moves capacity limit v' u e l = subst (Lands capacity limit) (sym e) l
 
-happens_lands : (capacity limit : ℕ) (v : Session) (w : World) (e : Event) (o : Outcome) (v' : Session) → Shows v w → Invariant capacity limit w → IsWritableEvent e → skip_reason v e ≡ None → Happens v e o v' → Lands capacity limit v'
+happens_lands : (capacity limit : ℕ) (v : Session) (w : World) (e : Event) (o : Outcome) (v' : Session) → Shows v w → Invariant capacity limit w → IsByteEvent e → FitsMemory v' → skip_reason v e ≡ None → Happens v e o v' → Lands capacity limit v'
 unfolding Happens skip_reason
-happens_lands capacity limit v w (Encode s fs) o v' sh k wr none (inl h) = moves capacity limit v' (with_block v s fs) h.1 (lands_encoded capacity limit v w s fs sh k wr)
-happens_lands capacity limit v w (Encode s fs) o v' sh k wr none (inr (inl h)) =
-    moves capacity limit v' (given_up v (take h.1 fs)) h.2 (lands_given_up capacity limit v w (take h.1 fs) sh k (every_take IsWritableField h.1 fs wr))
-happens_lands capacity limit v w (Encode s fs) o v' sh k wr none (inr (inr h)) = stays capacity limit v v' w sh k h.1
-happens_lands capacity limit v w (Decode s) o v' sh k wr none (inl h) =
+happens_lands capacity limit v w (Encode s fs) o v' sh k wr fits none (inl h) = moves capacity limit v' (with_block v s fs) h.1 (lands_encoded capacity limit v w s fs sh k wr (subst FitsMemory h.1 fits))
+happens_lands capacity limit v w (Encode s fs) o v' sh k wr fits none (inr (inl h)) =
+    moves capacity limit v' (given_up v (take h.1 fs)) h.2 (lands_given_up capacity limit v w (take h.1 fs) sh k (every_take IsByteField h.1 fs wr) (subst FitsMemory h.2 fits))
+happens_lands capacity limit v w (Encode s fs) o v' sh k wr fits none (inr (inr h)) = stays capacity limit v v' w sh k h.1
+happens_lands capacity limit v w (Decode s) o v' sh k wr fits none (inl h) =
     moves capacity limit v' _ h.moves (both (is_read (Some (reading_of_bytes (window v.decoder) h.block.bytes))))
   where
     both : (b : Bool) → Lands capacity limit (cond b (with_decoded v s) v)
     both true = lands_decoded capacity limit v w s sh k
     both false = record { world = w; shows = sh; keeps = k }
-happens_lands capacity limit v w (Decode s) o v' sh k wr none (inr h) = stays capacity limit v v' w sh k h.1
-happens_lands capacity limit v w (ToDecoder n) o v' sh k wr none h = lands_delivered capacity limit v w n o v' sh k h
-happens_lands capacity limit v w (ToEncoder n) o v' sh k wr none h = lands_heard capacity limit v w n o v' sh k h
-happens_lands capacity limit v w (Acknowledge s) o v' sh k wr none (inl h) =
+happens_lands capacity limit v w (Decode s) o v' sh k wr fits none (inr h) = stays capacity limit v v' w sh k h.1
+happens_lands capacity limit v w (ToDecoder n) o v' sh k wr fits none h = lands_delivered capacity limit v w n o v' sh k h
+happens_lands capacity limit v w (ToEncoder n) o v' sh k wr fits none h = lands_heard capacity limit v w n o v' sh k h
+happens_lands capacity limit v w (Acknowledge s) o v' sh k wr fits none (inl h) =
     moves capacity limit v' _ h.1 (lands_acknowledged capacity limit v w s sh k (lawful_on s (kept_at v.streams s) (waits (kept_at v.streams s)) 4 none))
-happens_lands capacity limit v w (Acknowledge s) o v' sh k wr none (inr h) = stays capacity limit v v' w sh k h.1
-happens_lands capacity limit v w (Cancel s) o v' sh k wr none (inl h) =
+happens_lands capacity limit v w (Acknowledge s) o v' sh k wr fits none (inr h) = stays capacity limit v v' w sh k h.1
+happens_lands capacity limit v w (Cancel s) o v' sh k wr fits none (inl h) =
     moves capacity limit v' _ h.1 (lands_cancelled capacity limit v w s sh k (lawful_on s (kept_at v.streams s) true 0 none).small)
-happens_lands capacity limit v w (Cancel s) o v' sh k wr none (inr h) = stays capacity limit v v' w sh k h.1
-happens_lands capacity limit v w (ChangeCapacity n) o v' sh k wr none (inl h) = moves capacity limit v' _ h.3 (lands_resized capacity limit v w n h.0 sh k h.1)
-happens_lands capacity limit v w (ChangeCapacity n) o v' sh k wr none (inr (inl h)) = stays capacity limit v v' w sh k h.3
-happens_lands capacity limit v w (ChangeCapacity n) o v' sh k wr none (inr (inr h)) = stays capacity limit v v' w sh k h.1
+happens_lands capacity limit v w (Cancel s) o v' sh k wr fits none (inr h) = stays capacity limit v v' w sh k h.1
+happens_lands capacity limit v w (ChangeCapacity n) o v' sh k wr fits none (inl h) = moves capacity limit v' _ h.3 (lands_resized capacity limit v w n h.0 sh k h.1)
+happens_lands capacity limit v w (ChangeCapacity n) o v' sh k wr fits none (inr (inl h)) = stays capacity limit v v' w sh k h.3
+happens_lands capacity limit v w (ChangeCapacity n) o v' sh k wr fits none (inr (inr h)) = stays capacity limit v v' w sh k h.1
 
 -- each event leads to a session that shows a world again
-pub goes_lands : (capacity limit : ℕ) (v : Session) (w : World) (e : Event) (o : Outcome) (v' : Session) → Shows v w → Invariant capacity limit w → IsWritableEvent e → Goes v e o v' → Lands capacity limit v'
-goes_lands capacity limit v w e o v' sh k wr (inl h) = stays capacity limit v v' w sh k h.3
-goes_lands capacity limit v w e o v' sh k wr (inr h) = happens_lands capacity limit v w e o v' sh k wr h.0 h.1
+pub goes_lands : (capacity limit : ℕ) (v : Session) (w : World) (e : Event) (o : Outcome) (v' : Session) → Shows v w → Invariant capacity limit w → IsByteEvent e → FitsMemory v' → Goes v e o v' → Lands capacity limit v'
+goes_lands capacity limit v w e o v' sh k wr fits (inl h) = stays capacity limit v v' w sh k h.3
+goes_lands capacity limit v w e o v' sh k wr fits (inr h) = happens_lands capacity limit v w e o v' sh k wr fits h.0 h.1
 
 pub opened_lands : (capacity limit : ℕ) → Lands capacity limit (opened capacity limit)
 opened_lands capacity limit =
@@ -86,7 +94,7 @@ opened_lands capacity limit =
 pub runs_land : (capacity limit : ℕ) (v : Session) (events : List (Event × Outcome)) (v' : Session) → Lands capacity limit v → Runs v events v' → Lands capacity limit v'
 runs_land capacity limit v [] v' l r = subst (Lands capacity limit) r l
 runs_land capacity limit v (p ∷ events) v' l r =
-    runs_land capacity limit r.0 events v' (goes_lands capacity limit v l.world p.0 p.1 r.0 l.shows l.keeps r.1 r.2) r.3
+    runs_land capacity limit r.0 events v' (goes_lands capacity limit v l.world p.0 p.1 r.0 l.shows l.keeps r.1 r.3 r.2) r.4
 
 -- ---- neither end refuses
 
@@ -154,6 +162,46 @@ reads_exactly capacity limit v w sh k s b live next =
       in_time = λ le. omega (arith, d.in_time (taken_within v w b.end at.0.end sh shown.ends le), many, shown.required_is);
     }
 
+-- ---- what blocks mean
+
+-- the base of a block that requires an entry is the one that was written; where nothing is required, none counts
+base_known : (capacity : ℕ) (made : History) (sent : List Instruction) (b : SentBlock) (ok : KeepsBlock capacity made sent b)
+    → (base : ℕ) × (base_behind b.block.prefix (required_count b) ≡ Ok base) × (fields_of (whole made) base b.block.lines ≡ Ok b.handed)
+base_known capacity made sent b ok = pick (cases_lt 0 (required_count b))
+  where
+    pick : (0 < required_count b) ⊎ (required_count b ≤ 0) → (base : ℕ) × (base_behind b.block.prefix (required_count b) ≡ Ok base) × (fields_of (whole made) base b.block.lines ≡ Ok b.handed)
+    pick (inl positive) =
+        let a : Agreed capacity ok.at_end = leads_agreed capacity (start capacity) ok.front ok.at_end ok.leads (agreed_start capacity) in
+        let room : 32 ≤ capacity = a.roomy (omega (arith, ok.within, positive)) in
+        let apart : nat_eq (required_count b) 0 ≡ false = ne_eqb (required_count b) 0 (λ e. absurd (omega arith)) in
+        let read : read_base b.block.prefix.sign (required_count b) b.block.prefix.delta ≡ Ok ok.base =
+        subst (λ (p : Prefix). read_base p.sign (required_count b) p.delta ≡ Ok ok.base) (sym ok.written) (base_written capacity (required_count b) ok.base positive (omega arith) (omega (arith, ok.few))) in
+        (ok.base, rw apart read, ok.means)
+    pick (inr none) =
+        let zero_count : required_count b ≡ 0 = omega arith in
+        let is : nat_eq (required_count b) 0 ≡ true = eq-eqb (required_count b) 0 zero_count in
+        let plain : references_of ok.base b.block.lines ≡ [] = tracked_none (references_of ok.base b.block.lines) (ok.references ∙ ok.plain zero_count) in
+        (0, rw is refl, sym (fields_plain (whole made) (whole made) ok.base 0 b.block.lines plain) ∙ ok.means)
+
+-- bytes that are lines are one list of them
+lines_same : (bytes : List ℕ) (ls ms : List Instruction) → Joined SpellsInstruction bytes ls → Joined SpellsInstruction bytes ms → ls ≡ ms
+lines_same bytes ls ms j k =
+    let W = wire instruction_form in
+    (one_reading SpellsInstruction W ls ms bytes bytes [] [] j k (nothing_cut_off SpellsInstruction W) (nothing_cut_off SpellsInstruction W) refl).0
+
+pub means_handed : (capacity limit : ℕ) (v : Session) (w : World) → Shows v w → Invariant capacity limit w → (instructions : List Instruction) (all : History) → Joined SpellsInstruction v.sent instructions → Leads (start capacity) instructions all
+    → (s place : ℕ) (b : KeptBlock) → slice_get (kept_at v.streams s).blocks place ≡ Some b → meaning_over_all all b.bytes b.required ≡ Ok b.handed
+means_handed capacity limit v w sh k instructions all j l s place b there =
+    let found = agrees_get (ShowsBlock v.sent (w.taken ++ w.flying)) (kept_at v.streams s).blocks (stream_at w.streams s).blocks place b (sh.streams_are s).blocks_are there in
+    let ok : KeepsBlock capacity k.made (w.taken ++ w.flying) found.0 = every_get (KeepsBlock capacity k.made (w.taken ++ w.flying)) (stream_at w.streams s).blocks place found.0 found.1 (k.streams s).blocks in
+    let lines : instructions ≡ w.taken ++ w.flying = lines_same v.sent instructions (w.taken ++ w.flying) j (whole_sent v.sent v.sent_taken w.taken w.flying sh.sent_carried) in
+    let made : Leads (start capacity) (w.taken ++ w.flying) k.made = leads_append (start capacity) w.taken w.flying k.received k.made k.taken_leads k.flying_leads in
+    let same : all ≡ k.made = leads_unique (start capacity) (w.taken ++ w.flying) all k.made (subst (λ (x : List Instruction). Leads (start capacity) x all) lines l) made in
+    let base = base_known capacity k.made (w.taken ++ w.flying) found.0 ok in
+    ap (λ (h : History). meaning_over_all h b.bytes b.required) same ∙ ap (λ (x : List ℕ). meaning_over_all k.made x b.required) found.2.bytes_are ∙ ap (meaning_over_all k.made (written_block found.0.block)) found.2.required_is
+    ∙ written_means k.made found.0.block (required_count found.0) base.0 found.0.handed found.2.writable base.1 base.2
+    ∙ ap (λ (fs : List Field). let r : Result (List Field) Fault = Ok fs in r) (sym found.2.handed_are)
+
 -- ---- what a delivery takes
 
 pub delivers_whole : (capacity limit : ℕ) (v : Session) (w : World) (n received : ℕ) (v' : Session) → Shows v w → Invariant capacity limit w → DeliversTo v n (Delivered received) v'
@@ -205,6 +253,7 @@ lands_safe capacity limit v l =
     record {
       no_refusal = λ e fault v' g. never_refused capacity limit v w e fault v' sh k (refused_of v e fault v' g);
       reads = reads_exactly capacity limit v w sh k;
+      meanings = means_handed capacity limit v w sh k;
       delivers = λ n received v' g s place b. delivers_whole capacity limit v w n received v' sh k (delivers_of v n received v' g) s place b;
       blocked = subst (λ (t : Table). length t.waiting ≤ limit) (sym sh.encoder_is) safe.blocked;
       received = omega (arith, safe.received, many, ap (λ (t : Table). t.known) sh.encoder_is);

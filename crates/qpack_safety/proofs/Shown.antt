@@ -2,6 +2,7 @@
 use Rattle.std.proofs.Common.{ℕ, zero, suc, ◌*◌, ◌/◌, ◌%◌, ◌^◌, ◌≤◌, ◌≡◌, Bool, true, false, cond, List, [], ◌∷◌, ◌++◌, length, take, Some, refl, sym, ap, ◌∙◌, subst, arith, lit≤}
 use Rattle.std.specs.List.{AllByRecursion, slice_get, filter}
 use Rattle.std.specs.Prelude.{nat_eq, nat_le, not, ◌||◌}
+use Rattle.std.proofs.Math.Nat.{mod-le}
 use Rattle.std.proofs.lemmas.Bool.{cond_both}
 use Rattle.std.proofs.lemmas.List.{append_assoc}
 use Rattle.qpack_spec.specs.Instruction.{Instruction, Reply, SpellsInstruction, SpellsReply, written_instruction, written_instructions, written_reply, written_replies}
@@ -113,7 +114,7 @@ increments_writable (n ∷ ns) h = (omega (arith, h.0.1), increments_writable ns
 pub prefix_small : (maximum required base : ℕ) → required ≤ 2 ^ 62 → base ≤ 2 ^ 62 → IsWritablePrefix (prefix_for maximum required base)
 unfolding prefix_for
 prefix_small maximum required base r b =
-    let low : required % (2 * (maximum / 32)) ≤ required = Rattle.std.proofs.Math.Nat.mod-le required (2 * (maximum / 32)) in
+    let low : required % (2 * (maximum / 32)) ≤ required = mod-le required (2 * (maximum / 32)) in
     cond_both (nat_eq required 0 || nat_eq maximum 0) _ _ IsWritablePrefix
     (λ _. record { count = lit≤ tt; delta = lit≤ tt })
     (λ _. cond_both (nat_le required base) _ _ IsWritablePrefix

@@ -1,25 +1,27 @@
 -- Events that write: after each, the session in bytes shows a world of which the invariant holds.
-use Rattle.std.proofs.Common.{ℕ, ◌+◌, ◌-◌, ◌^◌, ◌<◌, ◌≤◌, ◌≡◌, Bool, true, false, cond, List, [], ◌∷◌, ◌++◌, length, take, Option, None, Some, Result, Ok, Err, refl, sym, ap, ◌∙◌, subst, arith, inl, inr, ◌⊎◌}
+use Rattle.std.proofs.Common.{length-append, ℕ, ◌+◌, ◌-◌, ◌^◌, ◌<◌, ◌≤◌, ◌≡◌, Bool, true, false, cond, List, [], ◌∷◌, ◌++◌, length, take, Option, None, Some, Result, Ok, Err, refl, sym, ap, ◌∙◌, subst, arith, inl, inr, ◌⊎◌}
 use Rattle.std.specs.List.{AllByRecursion, filter}
 use Rattle.std.specs.Prelude.{nat_eq, nat_le, nat_lt}
-use Rattle.std.proofs.lemmas.Bool.{leb-false}
+use Rattle.std.proofs.lemmas.Bool.{eq-eqb, leb-false}
 use Rattle.std.proofs.lemmas.List.{append-nil, append_assoc}
 use Rattle.qpack_spec.specs.Field.{Field}
 use Rattle.qpack_spec.specs.Instruction.{Instruction, SetCapacity, Acknowledgment, Cancellation, SpellsInstruction, SpellsReply, written_instruction, written_instructions, written_reply}
 use Rattle.qpack_spec.specs.Stream.{Joined, Carried}
 use Rattle.qpack_spec.specs.Window.{agreed_maximum, greatest_capacity, Refusal}
-use Rattle.qpack_spec.specs.Reading.{greatest}
+use Rattle.qpack_spec.specs.Reading.{Block, greatest}
+use Rattle.qpack_spec.specs.Prefix.{written_prefix}
+use Rattle.qpack_spec.specs.Line.{written_lines}
 use Rattle.qpack_spec.specs.BlockReading.{written_block}
 use Rattle.qpack_spec.specs.Table.{Table, count, resized}
 use Rattle.qpack_spec.specs.Rule.{rule, required_of, block_of}
 use Rattle.qpack_spec.specs.World.{SentBlock, is_dynamic, stream_at, World, encoded, abandoned, with_resized, waits_for_acknowledgment}
-use Rattle.qpack_spec.specs.Session.{KeptBlock, KeptStream, kept_at, with_kept, Session, waits, requires_entry, unless_cancelled, with_block, given_up, with_decoded}
-use Rattle.qpack_spec.specs.WrittenLaws.{IsWritableField, IsWritableBlock}
-use Rattle.qpack_spec.proofs.Lists.{every_weaker}
+use Rattle.qpack_spec.specs.Session.{KeptBlock, KeptStream, kept_at, with_kept, Session, FitsMemory, waits, requires_entry, unless_cancelled, with_block, given_up, with_decoded}
+use Rattle.qpack_spec.specs.WrittenLaws.{IsByteField, IsWritableBlock}
+use Rattle.qpack_spec.proofs.Lists.{every_right, every_weaker}
 use Rattle.qpack_spec.proofs.Readings.{greatest_bound}
 use Rattle.qpack_spec.proofs.Drafts.{IsLive, Drafting, count_inserted, rule_drafts}
 use Rattle.qpack_spec.proofs.WrittenForms.{instructions_spelled, replies_spelled}
-use Rattle.qpack_spec.proofs.WrittenDrafts.{WrittenDraft, rule_written}
+use Rattle.qpack_spec.proofs.WrittenDrafts.{WrittenDraft, rule_written, lines_fit, instructions_fit}
 use Rattle.qpack_safety.specs.Shows.{EndsAt, ShowsBlock, ShowsStream, Shows}
 use Rattle.qpack_safety.proofs.Invariant.{Invariant, sound_made}
 use Rattle.qpack_safety.proofs.Encoding.{inv_encoded, inv_abandoned}
@@ -39,7 +41,7 @@ few_insertions capacity limit w k =
     let s = sound_made capacity limit w k in omega (arith, count_inserted w.encoder k.made k.encoder.shares s, s.few)
 
 -- all that is sent is the instructions written
-whole_sent : (sent : List ℕ) (place : ℕ) (taken flying : List Instruction) → Carried Instruction SpellsInstruction sent place taken flying → Joined SpellsInstruction sent (taken ++ flying)
+pub whole_sent : (sent : List ℕ) (place : ℕ) (taken flying : List Instruction) → Carried Instruction SpellsInstruction sent place taken flying → Joined SpellsInstruction sent (taken ++ flying)
 whole_sent sent place taken flying c =
     subst (λ (b : List ℕ). Joined SpellsInstruction b (taken ++ flying)) (sym c.cut) (joined_append SpellsInstruction c.front c.rest taken flying c.front_joined c.rest_joined)
 
@@ -47,29 +49,56 @@ ends_here : (sent : List ℕ) (lines : List Instruction) → Joined SpellsInstru
 ends_here sent lines j =
     record { front = sent; rest = []; cut = sym (append-nil sent); place_is = refl; first = lines; others = []; split = sym (append-nil lines); many_is = refl; joined = j }
 
+lines_short : (b : Block) → length (written_block b) < 2 ^ 63 → length (written_lines b.lines) < 2 ^ 63
+unfolding written_block
+lines_short b h = omega (arith, h, length-append (written_prefix b.prefix) (written_lines b.lines))
+
+instructions_short : (sent : List ℕ) (is : List Instruction) → length (sent ++ written_instructions is) < 2 ^ 63 → length (written_instructions is) < 2 ^ 63
+instructions_short sent is h = omega (arith, h, length-append sent (written_instructions is))
+
 -- the block of the rule can be written
-block_writable : (capacity limit : ℕ) (w : World) (fs : List Field) → Invariant capacity limit w → AllByRecursion IsWritableField fs → IsWritableBlock (block_of w.encoder (rule w.encoder fs))
-block_writable capacity limit w fs k wr =
+block_writable : (capacity limit : ℕ) (w : World) (fs : List Field) → Invariant capacity limit w → AllByRecursion IsByteField fs → length (written_block (block_of w.encoder (rule w.encoder fs))) < 2 ^ 63 → IsWritableBlock (block_of w.encoder (rule w.encoder fs))
+block_writable capacity limit w fs k wr fits =
     let d = rule w.encoder fs in
     let few = few_insertions capacity limit w k in
     let wd : WrittenDraft d = rule_written w.encoder fs few wr in
     let p : Drafting w.encoder k.made fs d = rule_drafts w.encoder k.made fs (sound_made capacity limit w k) k.encoder in
     let required : greatest d.table.named ≤ count d.table =
     greatest_bound (count d.table) d.table.named (every_weaker (IsLive d.table) (λ a. a ≤ count d.table) (λ a q. q.1) d.table.named p.named) in
-    record { prefix = prefix_small (agreed_maximum w.encoder.agreed w.encoder.capacity) (required_of d) (count w.encoder) (omega (arith, required, wd.few)) few; lines = wd.lines }
+    record { prefix = prefix_small (agreed_maximum w.encoder.agreed w.encoder.capacity) (required_of d) (count w.encoder) (omega (arith, required, wd.few)) few; lines = lines_fit d.lines wd.lines (lines_short (block_of w.encoder d) fits) }
 
 -- ---- a block is written
 
-encoded_shown : (capacity limit : ℕ) (v : Session) (w : World) (s : ℕ) (fs : List Field) → Shows v w → Invariant capacity limit w → AllByRecursion IsWritableField fs
-    → Lands capacity limit (with_block (record v { encoder = w.encoder }) s fs)
-encoded_shown capacity limit v w s fs sh k wr =
+-- what an encode writes has fewer than 2^63 bytes
+abbrev EncodeFits : List ℕ → Table → List Field → Type 0
+EncodeFits sent t fs = (length (sent ++ written_instructions (rule t fs).instructions) < 2 ^ 63) × (length (written_block (block_of t (rule t fs))) < 2 ^ 63)
+
+last_fits : (bs : List KeptBlock) (b : KeptBlock) → AllByRecursion (λ (x : KeptBlock). length x.bytes < 2 ^ 63) (bs ++ b ∷ []) → length b.bytes < 2 ^ 63
+last_fits bs b h = (every_right (λ (x : KeptBlock). length x.bytes < 2 ^ 63) bs (b ∷ []) h).0
+
+block_fits : (v : Session) (s : ℕ) (fs : List Field) → FitsMemory (with_block v s fs) → EncodeFits v.sent v.encoder fs
+block_fits v s fs f =
+    let d = rule v.encoder fs in
+    let k = kept_at v.streams s in
+    let b : KeptBlock = record { bytes = written_block (block_of v.encoder d); required = required_of d; end = length (v.sent ++ written_instructions d.instructions); handed = fs } in
+    let all : AllByRecursion (λ (x : KeptBlock). length x.bytes < 2 ^ 63) (kept_at ((s, record k { blocks = k.blocks ++ b ∷ [] }) ∷ v.streams) s).blocks = f.blocks_fit s in
+    (f.sent_fits, last_fits k.blocks b (own (nat_eq s s) (eq-eqb s s refl) all))
+  where
+    own : (t : Bool) → t ≡ true → AllByRecursion (λ (x : KeptBlock). length x.bytes < 2 ^ 63) (cond t (record (kept_at v.streams s) { blocks = (kept_at v.streams s).blocks ++ record { bytes = written_block (block_of v.encoder (rule v.encoder fs)); required = required_of (rule v.encoder fs); end = length (v.sent ++ written_instructions (rule v.encoder fs).instructions); handed = fs } ∷ [] }) (kept_at v.streams s)).blocks
+        → AllByRecursion (λ (x : KeptBlock). length x.bytes < 2 ^ 63) ((kept_at v.streams s).blocks ++ record { bytes = written_block (block_of v.encoder (rule v.encoder fs)); required = required_of (rule v.encoder fs); end = length (v.sent ++ written_instructions (rule v.encoder fs).instructions); handed = fs } ∷ [])
+    own true e h = h
+    own false e h = absurd cc
+
+encoded_shown : (capacity limit : ℕ) (v : Session) (w : World) (s : ℕ) (fs : List Field) → Shows v w → Invariant capacity limit w → AllByRecursion IsByteField fs
+    → EncodeFits v.sent w.encoder fs → Lands capacity limit (with_block (record v { encoder = w.encoder }) s fs)
+encoded_shown capacity limit v w s fs sh k wr fits =
     let d = rule w.encoder fs in
     let wd : WrittenDraft d = rule_written w.encoder fs (few_insertions capacity limit w k) wr in
     let more = written_instructions d.instructions in
     let sent = v.sent ++ more in
     let lines = w.taken ++ (w.flying ++ d.instructions) in
     let regroup : (w.taken ++ w.flying) ++ d.instructions ≡ lines = append_assoc w.taken w.flying d.instructions in
-    let carried = carried_more SpellsInstruction v.sent more v.sent_taken w.taken w.flying d.instructions sh.sent_carried (instructions_joined d.instructions wd.instructions) in
+    let carried = carried_more SpellsInstruction v.sent more v.sent_taken w.taken w.flying d.instructions sh.sent_carried (instructions_joined d.instructions (instructions_fit d.instructions wd.instructions (instructions_short v.sent d.instructions fits.0))) in
     let grown = λ (q : ℕ). subst (λ (l : List Instruction). ShowsStream sent l (kept_at v.streams q) (stream_at w.streams q)) regroup
     (shows_grow v.sent more (w.taken ++ w.flying) d.instructions (kept_at v.streams q) (stream_at w.streams q) (sh.streams_are q)) in
     let kept = kept_at v.streams s in
@@ -78,7 +107,7 @@ encoded_shown capacity limit v w s fs sh k wr =
     let x : SentBlock = record { block = block_of w.encoder d; named = d.table.named; end = length lines; handed = fs } in
     let shown : ShowsBlock sent lines b x = record {
       bytes_are = refl;
-      writable = block_writable capacity limit w fs k wr;
+      writable = block_writable capacity limit w fs k wr fits.1;
       required_is = refl;
       handed_are = refl;
       ends = ends_here sent lines (whole_sent sent v.sent_taken w.taken (w.flying ++ d.instructions) carried);
@@ -106,15 +135,16 @@ encoded_shown capacity limit v w s fs sh k wr =
       keeps = inv_encoded capacity limit w s fs k;
     }
 
-pub lands_encoded : (capacity limit : ℕ) (v : Session) (w : World) (s : ℕ) (fs : List Field) → Shows v w → Invariant capacity limit w → AllByRecursion IsWritableField fs → Lands capacity limit (with_block v s fs)
-lands_encoded capacity limit v w s fs sh k wr =
-    subst (λ (t : Table). Lands capacity limit (with_block (record v { encoder = t }) s fs)) (sym sh.encoder_is) (encoded_shown capacity limit v w s fs sh k wr)
+pub lands_encoded : (capacity limit : ℕ) (v : Session) (w : World) (s : ℕ) (fs : List Field) → Shows v w → Invariant capacity limit w → AllByRecursion IsByteField fs → FitsMemory (with_block v s fs) → Lands capacity limit (with_block v s fs)
+lands_encoded capacity limit v w s fs sh k wr f =
+    let fits : EncodeFits v.sent w.encoder fs = subst (λ (t : Table). EncodeFits v.sent t fs) sh.encoder_is (block_fits v s fs f) in
+    subst (λ (t : Table). Lands capacity limit (with_block (record v { encoder = t }) s fs)) (sym sh.encoder_is) (encoded_shown capacity limit v w s fs sh k wr fits)
 
 -- ---- a block is given up
 
-abandoned_shown : (capacity limit : ℕ) (v : Session) (w : World) (fs : List Field) → Shows v w → Invariant capacity limit w → AllByRecursion IsWritableField fs
-    → Lands capacity limit (given_up (record v { encoder = w.encoder }) fs)
-abandoned_shown capacity limit v w fs sh k wr =
+abandoned_shown : (capacity limit : ℕ) (v : Session) (w : World) (fs : List Field) → Shows v w → Invariant capacity limit w → AllByRecursion IsByteField fs
+    → length (v.sent ++ written_instructions (rule w.encoder fs).instructions) < 2 ^ 63 → Lands capacity limit (given_up (record v { encoder = w.encoder }) fs)
+abandoned_shown capacity limit v w fs sh k wr fits =
     let d = rule w.encoder fs in
     let wd : WrittenDraft d = rule_written w.encoder fs (few_insertions capacity limit w k) wr in
     let more = written_instructions d.instructions in
@@ -125,7 +155,7 @@ abandoned_shown capacity limit v w fs sh k wr =
         encoder_is = refl;
         decoder_is = sh.decoder_is;
         unreported_is = sh.unreported_is;
-        sent_carried = carried_more SpellsInstruction v.sent more v.sent_taken w.taken w.flying d.instructions sh.sent_carried (instructions_joined d.instructions wd.instructions);
+        sent_carried = carried_more SpellsInstruction v.sent more v.sent_taken w.taken w.flying d.instructions sh.sent_carried (instructions_joined d.instructions (instructions_fit d.instructions wd.instructions (instructions_short v.sent d.instructions fits)));
         sent_order = sh.sent_order;
         heard_lines = sh.heard_lines;
         told_carried = sh.told_carried;
@@ -136,9 +166,10 @@ abandoned_shown capacity limit v w fs sh k wr =
       keeps = inv_abandoned capacity limit w fs k;
     }
 
-pub lands_given_up : (capacity limit : ℕ) (v : Session) (w : World) (fs : List Field) → Shows v w → Invariant capacity limit w → AllByRecursion IsWritableField fs → Lands capacity limit (given_up v fs)
-lands_given_up capacity limit v w fs sh k wr =
-    subst (λ (t : Table). Lands capacity limit (given_up (record v { encoder = t }) fs)) (sym sh.encoder_is) (abandoned_shown capacity limit v w fs sh k wr)
+pub lands_given_up : (capacity limit : ℕ) (v : Session) (w : World) (fs : List Field) → Shows v w → Invariant capacity limit w → AllByRecursion IsByteField fs → FitsMemory (given_up v fs) → Lands capacity limit (given_up v fs)
+lands_given_up capacity limit v w fs sh k wr f =
+    let fits : length (v.sent ++ written_instructions (rule w.encoder fs).instructions) < 2 ^ 63 = subst (λ (t : Table). length (v.sent ++ written_instructions (rule t fs).instructions) < 2 ^ 63) sh.encoder_is f.sent_fits in
+    subst (λ (t : Table). Lands capacity limit (given_up (record v { encoder = t }) fs)) (sym sh.encoder_is) (abandoned_shown capacity limit v w fs sh k wr fits)
 
 -- ---- a capacity is set
 

@@ -1,12 +1,12 @@
 -- What holds of a session in bytes at every moment, whatever its events were and wherever memory was refused
 -- (RFC 9204, section 2).
-use Rattle.std.specs.Prelude.{◌≡◌, ℕ, ◌<◌, ◌≤◌, false, nat_lt, List, length, Some, slice_get}
+use Rattle.std.specs.Prelude.{◌≡◌, ℕ, ◌<◌, ◌≤◌, false, nat_lt, List, length, Some, Ok, slice_get}
 use Rattle.qpack_spec.specs.Field.{total_size}
 use Rattle.qpack_spec.specs.Instruction.{Instruction, SpellsInstruction}
-use Rattle.qpack_spec.specs.Stream.{Carried}
+use Rattle.qpack_spec.specs.Stream.{Joined, Carried}
 use Rattle.qpack_spec.specs.History.{History, start, window_of, Leads}
 use Rattle.qpack_spec.specs.Reading.{Fields, Missing}
-use Rattle.qpack_spec.specs.BlockReading.{reading_of_bytes}
+use Rattle.qpack_spec.specs.BlockReading.{reading_of_bytes, meaning_over_all}
 use Rattle.qpack_spec.specs.Table.{table_of, fields_in, window, count}
 use Rattle.qpack_spec.specs.Session.{KeptBlock, kept_at, Session, Event, ToDecoder, Outcome, Delivered, Refused, StreamFault, opened, next_block, Goes, Runs}
 
@@ -24,6 +24,9 @@ pub record SafeSession (capacity limit : ℕ) (v : Session) : Type 0 where
   pub no_refusal : (e : Event) (fault : StreamFault) (v' : Session) → Goes v e (Refused fault) v' → ⊥
   -- the next block of each stream that isn't cancelled is read exactly
   pub reads : (s : ℕ) (b : KeptBlock) → (kept_at v.streams s).cancelled ≡ false → next_block v s ≡ Some b → ReadsExactly v b
+  -- what the lines of every block mean over all insertions ever made, those of the bytes sent, is the fields that were handed
+  pub meanings : (instructions : List Instruction) (all : History) → Joined SpellsInstruction v.sent instructions → Leads (start capacity) instructions all
+      → (s place : ℕ) (b : KeptBlock) → slice_get (kept_at v.streams s).blocks place ≡ Some b → meaning_over_all all b.bytes b.required ≡ Ok b.handed
   -- a delivery that isn't refused memory takes the instructions of each block whose end it reached
   pub delivers : (n received : ℕ) (v' : Session) → Goes v (ToDecoder n) (Delivered received) v'
       → (s place : ℕ) (b : KeptBlock) → slice_get (kept_at v'.streams s).blocks place ≡ Some b → b.end ≤ v'.sent_delivered → b.end ≤ v'.sent_taken

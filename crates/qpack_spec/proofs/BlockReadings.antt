@@ -12,8 +12,9 @@ use Rattle.qpack_spec.specs.WrittenLaws.{IsWritableLine, IsWritablePrefix, IsWri
 use Rattle.qpack_spec.specs.Stream.{Joined}
 use Rattle.qpack_spec.specs.Prefix.{Prefix, PrefixFault, SpellsPrefix, sign_bit, written_prefix, prefix_at, read_prefix}
 use Rattle.qpack_spec.specs.Window.{Window, agreed_maximum, total}
+use Rattle.qpack_spec.specs.History.{History, whole}
 use Rattle.qpack_spec.specs.Reading.{Fault, BadForm, line_field, followed, fields_of, Block, reading_behind, reading}
-use Rattle.qpack_spec.specs.BlockReading.{StopsAt, in_bytes, in_line, ReadsSome, ReadsTo, or_bad_form, fields_at, fields_in_bytes, bytes_behind, reading_of_bytes, written_block}
+use Rattle.qpack_spec.specs.BlockReading.{base_behind, meaning_over_all, StopsAt, in_bytes, in_line, ReadsSome, ReadsTo, or_bad_form, fields_at, fields_in_bytes, bytes_behind, reading_of_bytes, written_block}
 use Rattle.qpack_spec.proofs.Results.{bind_ok, ok_pair}
 use Rattle.qpack_spec.proofs.Readings.{followed_ok}
 use Rattle.qpack_spec.proofs.Integers.{integer_takes}
@@ -242,3 +243,11 @@ written_read w b k =
     behind : (r : Result (ℕ × ℕ) PrefixFault) → bytes_behind w (written_lines b.lines) r ≡ reading_behind w b.lines r
     behind (Err e) = refl
     behind (Ok p) = rw (fields_read (length (written_lines b.lines)) w p.1 (written_lines b.lines) b.lines (joined_written b.lines k.lines) (omega arith)) refl
+
+-- what the lines of a written block mean over all insertions, where its base is the one that was written
+pub written_means : (all : History) (b : Block) (required base : ℕ) (fs : List Field) → IsWritableBlock b → base_behind b.prefix required ≡ Ok base → fields_of (whole all) base b.lines ≡ Ok fs
+    → meaning_over_all all (written_block b) required ≡ Ok fs
+unfolding meaning_over_all written_block
+written_means all b required base fs k e m =
+    rw (prefix_again (written_prefix b.prefix) (written_lines b.lines) b.prefix (prefix_spelled b.prefix k.prefix), e)
+    (fields_read (length (written_lines b.lines)) (whole all) base (written_lines b.lines) b.lines (joined_written b.lines k.lines) (omega arith) ∙ m)

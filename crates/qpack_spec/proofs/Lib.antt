@@ -33,4 +33,8 @@ pub mod TableLaws
 pub mod StatelessPairs
 pub mod StatelessRows
 pub mod Sizes
+pub mod Handles
+pub mod HandleRows
+pub mod AloneRows
+pub mod SessionAnswers
 pub mod StringRows

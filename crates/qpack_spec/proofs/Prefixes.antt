@@ -103,6 +103,14 @@ reads_written received maximum (suc r) base small reach =
     pick in_reach positive (inr le) =
         rw (written_below maximum (suc r) base (omega arith) positive le) (record { reads_count = reads_required received maximum (suc r) (omega arith) in_reach; reads_base = λ _. reads_below (suc r) base le small })
 
+-- the base of a written prefix, behind its required count
+pub base_written : (maximum required base : ℕ) → 0 < required → 0 < maximum → base < 2 ^ 64 → (let p = prefix_for maximum required base in read_base p.sign required p.delta ≡ Ok base)
+base_written maximum required base r m small = pick (cases_lt base required)
+  where
+    pick : (base < required) ⊎ (required ≤ base) → (let p = prefix_for maximum required base in read_base p.sign required p.delta ≡ Ok base)
+    pick (inl lt) = rw (written_above maximum required base r m lt) (reads_above required base lt)
+    pick (inr le) = rw (written_below maximum required base r m le) (reads_below required base le small)
+
 -- the whole prefix
 pub prefix_dynamic : (received maximum required base : ℕ) (p : Prefix) → ReadsAs received maximum required base p → 0 < required → read_prefix received maximum p ≡ Ok (required, base)
 unfolding read_prefix

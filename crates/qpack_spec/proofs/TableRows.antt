@@ -200,6 +200,16 @@ room_for_last : (has_room (record (empty_table 4096 None 1) { dropped = 2 ^ 62 -
 unfolding rows
 room_for_last = refl
 
+-- an entry whose name alone an open block uses is held
+literal_name_held : (counts_of (put_into 64 0 ((field (codes "foo") (codes "bar")) ∷ []) >>= λ t. resized (writes_on (raised t 1) 4 ((field (codes "foo") (codes "quxx")) ∷ [])) 37)) ≡ Err DoesNotFit
+unfolding rows
+literal_name_held = refl
+
+-- which another block does not hold
+literal_name_free : (counts_of (put_into 64 0 ((field (codes "foo") (codes "bar")) ∷ []) >>= λ t. resized (writes_on (raised t 1) 4 ((field (codes ":method") (codes "GET")) ∷ [])) 37)) ≡ Ok (2, 1)
+unfolding rows
+literal_name_free = refl
+
 -- a capacity that an open block stands against
 resize_held : (counts_of (resized (writes_on (empty_table 4096 None 1) 4 ((field (codes "foo") (codes "bar")) ∷ [])) 37)) ≡ Err DoesNotFit
 unfolding rows

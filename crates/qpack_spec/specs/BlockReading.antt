@@ -1,13 +1,14 @@
 -- What the bytes of a field section mean under a window (RFC 9204, sections 2.2.1 and 4.5): in reading order, the first
 -- fault decides.
-use Rattle.std.specs.Prelude.{◌≡◌, ℕ, zero, suc, if◌then◌else◌, nat_lt, List, [], ◌∷◌, ◌++◌, length, Result, Ok, Err}
+use Rattle.std.specs.Prelude.{◌≡◌, ℕ, zero, suc, if◌then◌else◌, nat_lt, nat_eq, List, [], ◌∷◌, ◌++◌, length, Result, Ok, Err}
 use Rattle.qpack_spec.specs.Bytes.{◌>>=◌}
 use Rattle.qpack_spec.specs.Field.{Field}
 use Rattle.qpack_spec.specs.Form.{FormFault, form_at}
 use Rattle.qpack_spec.specs.Line.{Line, line_form, SpellsLine, written_lines}
 use Rattle.qpack_spec.specs.Stream.{Joined}
-use Rattle.qpack_spec.specs.Prefix.{Prefix, PrefixFault, read_prefix, written_prefix, prefix_at}
+use Rattle.qpack_spec.specs.Prefix.{Prefix, PrefixFault, read_base, read_prefix, written_prefix, prefix_at}
 use Rattle.qpack_spec.specs.Window.{Window, agreed_maximum, total}
+use Rattle.qpack_spec.specs.History.{History, whole}
 use Rattle.qpack_spec.specs.Reading.{Fault, BadForm, BadPrefix, line_field, fields_of, Block, Reading, Missing, Faulty, answered}
 
 -- why the next line gives no field: its bytes, or what it names
@@ -69,6 +70,21 @@ section_behind w (Ok p) = bytes_behind w p.1 (read_prefix (total w) (agreed_maxi
 -- what the bytes of a field section mean under a window (section 2.2.1)
 unfoldable pub reading_of_bytes : Window → List ℕ → Reading
 reading_of_bytes w bytes = section_behind w (prefix_at bytes)
+
+-- the base behind a required count that is known; nothing counts from it where nothing is required
+abbrev pub base_behind : Prefix → ℕ → Result ℕ PrefixFault
+base_behind p required = if nat_eq required 0 then Ok 0 else read_base p.sign required p.delta
+
+-- a prefix's fault as a section's
+abbrev pub or_bad_prefix : {A : Type 0} → Result A PrefixFault → Result A Fault
+or_bad_prefix (Ok x) = Ok x
+or_bad_prefix (Err e) = Err (BadPrefix e)
+
+-- what the lines of a section mean over all insertions ever made, its required count being known: absolute index i is the
+-- i-th of them. Capacity, eviction and delivery have no part in it
+unfoldable pub meaning_over_all : History → List ℕ → ℕ → Result (List Field) Fault
+meaning_over_all all bytes required =
+    or_bad_form (prefix_at bytes) >>= λ p. or_bad_prefix (base_behind p.0 required) >>= λ base. fields_in_bytes (whole all) base p.1
 
 -- the bytes that are written of a block
 unfoldable pub written_block : Block → List ℕ

@@ -9,6 +9,7 @@ pub mod Text
 pub mod Form
 pub mod FormLaws
 pub mod Instruction
+pub mod FormAlone
 pub mod Line
 pub mod Window
 pub mod History
@@ -23,8 +24,10 @@ pub mod WrittenLaws
 pub mod Table
 pub mod TableLaws
 pub mod Rule
+pub mod Handle
 pub mod World
 pub mod Session
+pub mod SessionLaws
 pub mod HuffmanLaws
 pub mod TextLaws
 pub mod Stateless

@@ -28,12 +28,12 @@ abbrev pub by_name : Field → ℕ → Option ℕ → Instruction
 by_name f stay (Some i) = InsertDynamicName (stay - 1 - i) f.value
 by_name f stay None = InsertLiteralName f.name f.value
 
--- .. by the least static field of the name, else so
+-- by the least static field of the name, else by the newest entry of it
 abbrev pub by_static_name : Field → List Field → Option ℕ → Instruction
 by_static_name f stay (Some i) = InsertStaticName i f.value
 by_static_name f stay None = by_name f (length stay) (last_place (has_name f.name) stay)
 
--- .. by the newest equal entry, else so
+-- by the newest equal entry, else by its name
 abbrev pub by_equal : Field → List Field → Option ℕ → Instruction
 by_equal f stay (Some i) = Duplicate (length stay - 1 - i)
 by_equal f stay None = by_static_name f stay (static_name_place f.name)

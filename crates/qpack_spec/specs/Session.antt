@@ -1,6 +1,6 @@
 -- A session in bytes: two ends, the two streams between them, the blocks of each request stream, and what each event makes
 -- of it (RFC 9204, section 2).
-use Rattle.std.specs.Prelude.{◌≡◌, ℕ, ◌+◌, ◌-◌, ◌^◌, ◌≤◌, ◌⊎◌, min, Bool, true, false, if◌then◌else◌, not, nat_lt, nat_le, nat_eq, List, [], ◌∷◌, ◌++◌, length, take, drop, Option, None, Some, slice_get, Result, Ok, Err}
+use Rattle.std.specs.Prelude.{◌≡◌, ◌<◌, ℕ, ◌+◌, ◌-◌, ◌^◌, ◌≤◌, ◌⊎◌, min, Bool, true, false, if◌then◌else◌, not, nat_lt, nat_le, nat_eq, List, [], ◌∷◌, ◌++◌, length, take, drop, Option, None, Some, slice_get, Result, Ok, Err}
 use Rattle.std.specs.List.{AllByRecursion, filter}
 use Rattle.qpack_spec.specs.Bytes.{Begins, ◌>>=◌}
 use Rattle.qpack_spec.specs.Field.{Field}
@@ -14,7 +14,7 @@ use Rattle.qpack_spec.specs.BlockReading.{reading_of_bytes, written_block}
 use Rattle.qpack_spec.specs.Table.{Table, empty_table, table_of, window, count, unnamed, applied, heard, resized}
 use Rattle.qpack_spec.specs.Rule.{rule, required_of, block_of, committed}
 use Rattle.qpack_spec.specs.World.{sum_of, increments, is_read}
-use Rattle.qpack_spec.specs.WrittenLaws.{IsWritableField}
+use Rattle.qpack_spec.specs.WrittenLaws.{IsByteField}
 
 -- a block: its bytes, the required count that was answered, how long the encoder's stream was at its end, and the fields
 -- that were handed to the encoder
@@ -279,17 +279,22 @@ abbrev pub Goes : Session → Event → Outcome → Session → Type 0
 Goes v e o v' =
     ((reason : ℕ) × (skip_reason v e ≡ Some reason) × (o ≡ Skipped reason) × (v' ≡ v)) ⊎ ((skip_reason v e ≡ None) × Happens v e o v')
 
--- the fields of an event are byte lists that can be coded in fewer than 2^63 bytes, as every vector of bytes is
-abbrev pub IsWritableEvent : Event → Type 0
-IsWritableEvent (Encode s fs) = AllByRecursion IsWritableField fs
-IsWritableEvent (Decode s) = Unit {0}
-IsWritableEvent (ToDecoder n) = Unit {0}
-IsWritableEvent (ToEncoder n) = Unit {0}
-IsWritableEvent (Acknowledge s) = Unit {0}
-IsWritableEvent (Cancel s) = Unit {0}
-IsWritableEvent (ChangeCapacity n) = Unit {0}
+-- names and values of an event's fields are bytes
+abbrev pub IsByteEvent : Event → Type 0
+IsByteEvent (Encode s fs) = AllByRecursion IsByteField fs
+IsByteEvent (Decode s) = Unit {0}
+IsByteEvent (ToDecoder n) = Unit {0}
+IsByteEvent (ToEncoder n) = Unit {0}
+IsByteEvent (Acknowledge s) = Unit {0}
+IsByteEvent (Cancel s) = Unit {0}
+IsByteEvent (ChangeCapacity n) = Unit {0}
+
+-- what is kept has fewer than 2^63 bytes, as every vector has: what was sent, and each block
+pub record FitsMemory (v : Session) : Type 0 where
+  pub sent_fits : length v.sent < 2 ^ 63
+  pub blocks_fit : (s : ℕ) → AllByRecursion (λ b. length b.bytes < 2 ^ 63) (kept_at v.streams s).blocks
 
 -- events in turn, each with its answer, lead from a session to another
 abbrev pub Runs : Session → List (Event × Outcome) → Session → Type 0
 Runs v [] v' = v ≡ v'
-Runs v (p ∷ ps) v' = (m : Session) × IsWritableEvent p.0 × Goes v p.0 p.1 m × Runs m ps v'
+Runs v (p ∷ ps) v' = (m : Session) × IsByteEvent p.0 × Goes v p.0 p.1 m × FitsMemory m × Runs m ps v'

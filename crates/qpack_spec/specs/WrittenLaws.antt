@@ -48,6 +48,28 @@ IsWritableReply (Acknowledgment stream) = IsSmall stream
 IsWritableReply (Cancellation stream) = IsSmall stream
 IsWritableReply (Increment by) = IsSmall by
 
+-- name and value are bytes
+abbrev pub IsByteField : Field → Type 0
+IsByteField f = AreBytes f.name × AreBytes f.value
+
+-- the numbers of the line are small, its strings bytes
+abbrev pub IsByteLine : Line → Type 0
+IsByteLine (IndexedStatic index) = IsSmall index
+IsByteLine (IndexedDynamic relative) = IsSmall relative
+IsByteLine (IndexedPostBase post_base) = IsSmall post_base
+IsByteLine (NamedStatic index value) = IsSmall index × AreBytes value
+IsByteLine (NamedDynamic relative value) = IsSmall relative × AreBytes value
+IsByteLine (NamedPostBase post_base value) = IsSmall post_base × AreBytes value
+IsByteLine (Literal name value) = AreBytes name × AreBytes value
+
+-- the same of an encoder instruction
+abbrev pub IsByteInstruction : Instruction → Type 0
+IsByteInstruction (InsertStaticName index value) = IsSmall index × AreBytes value
+IsByteInstruction (InsertDynamicName relative value) = IsSmall relative × AreBytes value
+IsByteInstruction (InsertLiteralName name value) = AreBytes name × AreBytes value
+IsByteInstruction (Duplicate relative) = IsSmall relative
+IsByteInstruction (SetCapacity capacity) = IsSmall capacity
+
 -- the prefix can be written
 pub record IsWritablePrefix (p : Prefix) : Type 0 where
   pub count : IsSmall p.count

@@ -7,6 +7,8 @@ pub mod block;
 pub mod form;
 pub mod huffman;
 pub mod integer;
+pub mod rule;
+pub mod session;
 pub mod stateless;
 pub mod static_table;
 pub mod stream;
