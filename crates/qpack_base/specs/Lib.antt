@@ -11,3 +11,4 @@ pub mod BitPlaces
 pub mod Payloads
 pub mod Strings
 pub mod WrittenPayloads
+pub mod ParseErrors

@@ -4,6 +4,7 @@
 
 pub mod coding;
 pub mod field;
+pub mod parse_error;
 pub mod prefix_int;
 pub mod prefix_string;
 pub mod static_;
