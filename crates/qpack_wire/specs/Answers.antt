@@ -1,0 +1,88 @@
+-- What readers of lines and instructions answer, as the definitions of their bytes have it.
+use Rattle.std.specs.Prelude.{◌≡◌, ℕ, ◌⊎◌, List, ◌++◌, Result, Ok, Err, true, false, IfOk}
+use Rattle.qpack_spec.specs.Bytes.{Begins}
+use Rattle.qpack_spec.specs.Text.{EndsEarly, LengthOverflows, BadHuffman}
+use Rattle.qpack_spec.specs.Form.{BadInteger, BadString}
+use Rattle.qpack_base.specs.Cursor.{Reading, MovesPast}
+use Rattle.qpack_base.specs.Integers.{integer_fault_of}
+use Rattle.qpack_base.specs.Payloads.{huffman_fault_of}
+use Rattle.qpack_base.specs.declared.prefix_int.Error.TheVariants as integer
+use Rattle.qpack_base.specs.declared.prefix_string.Error.TheVariants as string
+use Rattle.qpack_base.specs.declared.parse_error.ParseError.{ParseError}
+use Rattle.qpack_base.specs.declared.parse_error.ParseError.TheVariants.{Integer, String, InvalidPrefix, InvalidBase, Memory}
+use Rattle.qpack_wire.specs.Alone.{AloneFault, Unreadable, Foreign, is_cut_alone}
+
+-- the error tells this fault
+abbrev pub Tells : ParseError → AloneFault → Type 0
+Tells (Integer e) fault = fault ≡ Unreadable (BadInteger (integer_fault_of e))
+Tells (String string.UnexpectedEnd) fault = fault ≡ Unreadable (BadString EndsEarly)
+Tells (String (string.Integer integer.Overflow)) fault = fault ≡ Unreadable (BadString LengthOverflows)
+Tells (String (string.Integer integer.UnexpectedEnd)) fault = ⊥
+Tells (String (string.HuffmanDecoding e)) fault = fault ≡ Unreadable (BadString (BadHuffman (huffman_fault_of e)))
+Tells (String string.Memory) fault = ⊥
+Tells (InvalidPrefix bits) fault = fault ≡ Foreign bits
+Tells (InvalidBase base) fault = ⊥
+Tells Memory fault = ⊥
+
+-- the answer is a refusal for this fault
+abbrev pub Fails : {V : Type 0} → Result V ParseError → AloneFault → Type 0
+Fails (Ok v) fault = ⊥
+Fails (Err e) fault = Tells e fault
+
+-- the answer is seen as this value, and what moves moved
+abbrev pub Gives : {V L : Type 0} → (V → L) → Result V ParseError → L → Type 0 → Type 0
+Gives view (Ok v) l moved = (view v ≡ l) × moved
+Gives view (Err e) l moved = ⊥
+
+-- the answer is a refusal because the bytes end early
+abbrev pub FailsEarly : {V : Type 0} → Result V ParseError → Type 0
+FailsEarly r = (fault : AloneFault) × (is_cut_alone fault ≡ true) × Fails r fault
+
+-- ---- the clauses of a reader, for what spells a value and what is refused
+
+-- no front is a spelling or a refusal
+abbrev pub IsTruncated : {L : Type 0} → (List ℕ → L → Type 0) → (List ℕ → AloneFault → Type 0) → List ℕ → Type 0
+IsTruncated {L} spells refuses bytes =
+    (text rest : List ℕ) → bytes ≡ text ++ rest
+    → ((l : L) → spells text l → ⊥) × ((fault : AloneFault) → refuses text fault → ⊥)
+
+-- what is read is spelled so, and the cursor moves past exactly it
+abbrev pub FindsSpelling : {V L : Type 0} → (V → L) → (List ℕ → L → Type 0) → Reading → Reading → Result V ParseError → Type 0
+FindsSpelling view spells old new r = IfOk r (λ v. (text : List ℕ) × spells text (view v) × MovesPast text old new)
+
+-- what is spelled so is read, whatever follows, unless memory is refused
+abbrev pub ReadsSpelling : {V L : Type 0} → (V → L) → (List ℕ → L → Type 0) → Reading → Reading → Result V ParseError → Type 0
+ReadsSpelling {V} {L} view spells old new r =
+    (text rest : List ℕ) (l : L) → spells text l → old.rest ≡ text ++ rest
+    → Gives view r l (MovesPast text old new) ⊎ (r ≡ Err Memory)
+
+-- each refusal exactly where it stands, unless memory is refused
+abbrev pub TellsRefusal : {V : Type 0} → (List ℕ → AloneFault → Type 0) → Reading → Result V ParseError → Type 0
+TellsRefusal refuses old r =
+    (fault : AloneFault)
+    → (is_cut_alone fault ≡ false → Fails r fault → Begins (λ text. refuses text fault) old.rest)
+    × (Begins (λ text. refuses text fault) old.rest → Fails r fault ⊎ (r ≡ Err Memory))
+
+-- an early end exactly where the bytes are truncated, unless memory is refused
+abbrev pub TellsEnd : {V L : Type 0} → (List ℕ → L → Type 0) → (List ℕ → AloneFault → Type 0) → Reading → Result V ParseError → Type 0
+TellsEnd spells refuses old r =
+    (FailsEarly r → IsTruncated spells refuses old.rest) × (IsTruncated spells refuses old.rest → FailsEarly r ⊎ (r ≡ Err Memory))
+
+-- ---- the same, as reading from left to right
+
+-- the error is the fault that was read, or want of memory
+abbrev pub FailsForm : {A : Type 0} → ParseError → Result A AloneFault → Type 0
+FailsForm (Integer e) read = read ≡ Err (Unreadable (BadInteger (integer_fault_of e)))
+FailsForm (String string.UnexpectedEnd) read = read ≡ Err (Unreadable (BadString EndsEarly))
+FailsForm (String (string.Integer integer.Overflow)) read = read ≡ Err (Unreadable (BadString LengthOverflows))
+FailsForm (String (string.Integer integer.UnexpectedEnd)) read = ⊥
+FailsForm (String (string.HuffmanDecoding e)) read = read ≡ Err (Unreadable (BadString (BadHuffman (huffman_fault_of e))))
+FailsForm (String string.Memory) read = ⊥
+FailsForm (InvalidPrefix bits) read = read ≡ Err (Foreign bits)
+FailsForm (InvalidBase base) read = ⊥
+FailsForm Memory read = Unit {0}
+
+-- the answer is what was read, and the cursor stands behind it; or it is the fault
+abbrev pub ReadsForm : {V L : Type 0} → (V → L) → Reading → Reading → Result V ParseError → Result (L × List ℕ) AloneFault → Type 0
+ReadsForm view old new (Ok v) read = (read ≡ Ok (view v, new.rest)) × (new.total ≡ old.total)
+ReadsForm view old new (Err e) read = FailsForm e read

@@ -1,0 +1,7 @@
+//! Encoded field sections: the prefix and the five forms of a line (RFC 9204, section 4.5).
+
+pub mod indexes;
+pub mod literals;
+
+pub use crate::block::indexes::{Indexed, IndexedWithPostBase};
+pub use crate::block::literals::{Literal, LiteralWithNameRef, LiteralWithPostBaseNameRef};
