@@ -78,7 +78,7 @@ foreign_byte named b bs h = rw h refl
 
 -- ---- spellings
 
-readable_ok : {A : Type 0} (r : Result A FormFault) (x : A) → or_unreadable r ≡ Ok x → r ≡ Ok x
+pub readable_ok : {A : Type 0} (r : Result A FormFault) (x : A) → or_unreadable r ≡ Ok x → r ≡ Ok x
 readable_ok (Ok y) x e = cc
 readable_ok (Err f) x e = absurd cc
 
@@ -87,7 +87,7 @@ pub record Unread (A : Type 0) (r : Result A FormFault) (fault : AloneFault) : T
   pub told : fault ≡ Unreadable because
   pub is : r ≡ Err because
 
-readable_err : {A : Type 0} (r : Result A FormFault) (fault : AloneFault) → or_unreadable r ≡ Err fault → Unread A r fault
+pub readable_err : {A : Type 0} (r : Result A FormFault) (fault : AloneFault) → or_unreadable r ≡ Err fault → Unread A r fault
 readable_err (Ok y) fault e = absurd cc
 readable_err (Err f) fault e = record { because = f; told = cc; is = refl }
 

@@ -1,3 +1,4 @@
 pub mod Readers
 pub mod Alones
 pub mod LineForms
+pub mod Prefixes

@@ -2,6 +2,8 @@
 
 pub mod indexes;
 pub mod literals;
+pub mod prefix;
 
 pub use crate::block::indexes::{Indexed, IndexedWithPostBase};
 pub use crate::block::literals::{Literal, LiteralWithNameRef, LiteralWithPostBaseNameRef};
+pub use crate::block::prefix::HeaderPrefix;

@@ -1,7 +1,8 @@
 //! Lines with a value of their own (RFC 9204, sections 4.5.4 to 4.5.6).
 
-ghost use Rattle.std.specs.Prelude.{◌≡◌, ◌+◌, ◌≤◌, ◌++◌, Err, OnOk, OnErr, IsOk, length, vec_len, vec_capacity};
+ghost use Rattle.std.specs.Prelude.{◌≡◌, ◌+◌, ◌≤◌, ◌++◌, IfErr, OnOk, OnErr, IsOk, length, take, vec_len, vec_capacity};
 ghost use Rattle.qpack_spec.specs.Line.{NamedStatic, NamedDynamic, NamedPostBase, Literal as LiteralLine, written_line};
+ghost use Rattle.qpack_base.specs.declared.prefix_string.Error.TheVariants.{Memory as NoRoom};
 ghost use Rattle.qpack_wire.specs.Alone.{SpellsAlone, RefusesAlone, alone_at};
 ghost use Rattle.qpack_wire.specs.Answers.{FindsSpelling, ReadsSpelling, TellsRefusal, TellsEnd, ReadsForm};
 ghost use Rattle.qpack_wire.specs.Lines.{literal_with_name_ref, literal_with_post_base_name_ref, literal, line_of_literal_with_name_ref, line_of_literal_with_post_base_name_ref, line_of_literal};
@@ -57,6 +58,23 @@ impl LiteralWithNameRef {
     {
         read_literal_with_name_ref(alloc, buf)
     }
+
+    /// Appends the written spelling of the line, whose N is 0. Refused, the vector is as before; with
+    /// free room for the spelling it succeeds and takes no memory.
+    pub fn encode<A: Allocator>(&self, buf: &mut Vec<u8, A>) -> Result<(), prefix_string::Error>
+        ensures ok { OnOk result (buf.new.items ≡ buf.old.items ++ written_line (line_of_literal_with_name_ref self.now)) }
+        ensures err { OnErr result (buf.new.items ≡ buf.old.items) }
+        ensures memory { IfErr result (λ e. e ≡ NoRoom) }
+        ensures succeeds { vec_len buf.old + length (written_line (line_of_literal_with_name_ref self.now)) ≤ vec_capacity buf.old → IsOk result }
+        ensures capacity { vec_capacity buf.old ≤ vec_capacity buf.new }
+    {
+        let len = buf.len();
+        let answer = put_literal_with_name_ref(self, buf);
+        if answer.is_err() {
+            buf.truncate(len);
+        }
+        answer
+    }
 }
 
 #[tactic(auto, unfolding(crate::specs::Alone::alone_at, qpack_spec::specs::Form::made_at))]
@@ -76,6 +94,30 @@ fn read_literal_with_name_ref(
         Ok(LiteralWithNameRef::Static { index, value })
     } else {
         Ok(LiteralWithNameRef::Dynamic { index, value })
+    }
+}
+
+/// Appends the line; refused, what stood before is still at the front.
+#[tactic(auto, unfolding(qpack_spec::specs::Line::written_line))]
+fn put_literal_with_name_ref<A: Allocator>(
+    line: &LiteralWithNameRef,
+    buf: &mut Vec<u8, A>,
+) -> Result<(), prefix_string::Error>
+    ensures ok { OnOk result (buf.new.items ≡ buf.old.items ++ written_line (line_of_literal_with_name_ref line.now)) }
+    ensures err { OnErr result (take (vec_len buf.old) buf.new.items ≡ buf.old.items) }
+    ensures memory { IfErr result (λ e. e ≡ NoRoom) }
+    ensures succeeds { vec_len buf.old + length (written_line (line_of_literal_with_name_ref line.now)) ≤ vec_capacity buf.old → IsOk result }
+    ensures capacity { vec_capacity buf.old ≤ vec_capacity buf.new }
+{
+    match line {
+        LiteralWithNameRef::Static { index, value } => {
+            prefix_int::encode(4, 0b0101, *index as u64, buf)?;
+            prefix_string::encode(8, 0, value, buf)
+        }
+        LiteralWithNameRef::Dynamic { index, value } => {
+            prefix_int::encode(4, 0b0100, *index as u64, buf)?;
+            prefix_string::encode(8, 0, value, buf)
+        }
     }
 }
 
@@ -107,6 +149,23 @@ impl LiteralWithPostBaseNameRef {
     {
         read_literal_with_post_base_name_ref(alloc, buf)
     }
+
+    /// Appends the written spelling of the line, whose N is 0. Refused, the vector is as before; with
+    /// free room for the spelling it succeeds and takes no memory.
+    pub fn encode<A: Allocator>(&self, buf: &mut Vec<u8, A>) -> Result<(), prefix_string::Error>
+        ensures ok { OnOk result (buf.new.items ≡ buf.old.items ++ written_line (line_of_literal_with_post_base_name_ref self.now)) }
+        ensures err { OnErr result (buf.new.items ≡ buf.old.items) }
+        ensures memory { IfErr result (λ e. e ≡ NoRoom) }
+        ensures succeeds { vec_len buf.old + length (written_line (line_of_literal_with_post_base_name_ref self.now)) ≤ vec_capacity buf.old → IsOk result }
+        ensures capacity { vec_capacity buf.old ≤ vec_capacity buf.new }
+    {
+        let len = buf.len();
+        let answer = put_literal_with_post_base_name_ref(self, buf);
+        if answer.is_err() {
+            buf.truncate(len);
+        }
+        answer
+    }
 }
 
 #[tactic(auto, unfolding(crate::specs::Alone::alone_at, qpack_spec::specs::Form::made_at))]
@@ -125,6 +184,22 @@ fn read_literal_with_post_base_name_ref(
         index: index as usize,
         value,
     })
+}
+
+/// Appends the line; refused, what stood before is still at the front.
+#[tactic(auto, unfolding(qpack_spec::specs::Line::written_line))]
+fn put_literal_with_post_base_name_ref<A: Allocator>(
+    line: &LiteralWithPostBaseNameRef,
+    buf: &mut Vec<u8, A>,
+) -> Result<(), prefix_string::Error>
+    ensures ok { OnOk result (buf.new.items ≡ buf.old.items ++ written_line (line_of_literal_with_post_base_name_ref line.now)) }
+    ensures err { OnErr result (take (vec_len buf.old) buf.new.items ≡ buf.old.items) }
+    ensures memory { IfErr result (λ e. e ≡ NoRoom) }
+    ensures succeeds { vec_len buf.old + length (written_line (line_of_literal_with_post_base_name_ref line.now)) ≤ vec_capacity buf.old → IsOk result }
+    ensures capacity { vec_capacity buf.old ≤ vec_capacity buf.new }
+{
+    prefix_int::encode(3, 0b00000, line.index as u64, buf)?;
+    prefix_string::encode(8, 0, &line.value, buf)
 }
 
 /// A name and a value.
@@ -156,6 +231,23 @@ impl Literal {
     {
         read_literal(alloc, buf)
     }
+
+    /// Appends the written spelling of the line, whose N is 0. Refused, the vector is as before; with
+    /// free room for the spelling it succeeds and takes no memory.
+    pub fn encode<A: Allocator>(&self, buf: &mut Vec<u8, A>) -> Result<(), prefix_string::Error>
+        ensures ok { OnOk result (buf.new.items ≡ buf.old.items ++ written_line (line_of_literal self.now)) }
+        ensures err { OnErr result (buf.new.items ≡ buf.old.items) }
+        ensures memory { IfErr result (λ e. e ≡ NoRoom) }
+        ensures succeeds { vec_len buf.old + length (written_line (line_of_literal self.now)) ≤ vec_capacity buf.old → IsOk result }
+        ensures capacity { vec_capacity buf.old ≤ vec_capacity buf.new }
+    {
+        let len = buf.len();
+        let answer = put_literal(self, buf);
+        if answer.is_err() {
+            buf.truncate(len);
+        }
+        answer
+    }
 }
 
 #[tactic(auto, unfolding(crate::specs::Alone::alone_at, qpack_spec::specs::Form::made_at))]
@@ -171,4 +263,20 @@ fn read_literal(alloc: Global, buf: &mut Cursor) -> Result<Literal, ParseError>
     let name = prefix_string::decode(alloc, 4, buf)?;
     let value = prefix_string::decode(alloc, 8, buf)?;
     Ok(Literal { name, value })
+}
+
+/// Appends the line; refused, what stood before is still at the front.
+#[tactic(auto, unfolding(qpack_spec::specs::Line::written_line))]
+fn put_literal<A: Allocator>(
+    line: &Literal,
+    buf: &mut Vec<u8, A>,
+) -> Result<(), prefix_string::Error>
+    ensures ok { OnOk result (buf.new.items ≡ buf.old.items ++ written_line (line_of_literal line.now)) }
+    ensures err { OnErr result (take (vec_len buf.old) buf.new.items ≡ buf.old.items) }
+    ensures memory { IfErr result (λ e. e ≡ NoRoom) }
+    ensures succeeds { vec_len buf.old + length (written_line (line_of_literal line.now)) ≤ vec_capacity buf.old → IsOk result }
+    ensures capacity { vec_capacity buf.old ≤ vec_capacity buf.new }
+{
+    prefix_string::encode(4, 0b0010, &line.name, buf)?;
+    prefix_string::encode(8, 0, &line.value, buf)
 }

@@ -1,0 +1,193 @@
+//! The prefix of an encoded field section (RFC 9204, section 4.5.1).
+
+ghost use Rattle.std.specs.Prelude.{◌≡◌, ◌+◌, ◌*◌, ◌^◌, ◌<◌, ◌≤◌, ◌++◌, Err, OnOk, OnErr, IsOk, length, take, vec_len, vec_capacity};
+ghost use Rattle.qpack_spec.specs.Prefix.{SpellsPrefix, prefix_for, required_at, read_required, read_base, read_prefix, written_prefix};
+ghost use Rattle.qpack_base.specs.declared.parse_error.ParseError.TheVariants.{Memory};
+ghost use Rattle.qpack_wire.specs.Answers.{FindsSpelling, ReadsSpelling, TellsRefusal, TellsEnd, ReadsForm};
+ghost use Rattle.qpack_wire.specs.Prefixes.{prefix_of, RefusesPrefix, read_prefix_at, or_prefix_error};
+
+use qpack_base::coding::{Cursor, NoMemory};
+use qpack_base::parse_error::ParseError;
+use qpack_base::prefix_int;
+use std::alloc::Allocator;
+
+/// The encoded required insert count, the sign bit and the delta base.
+#[derive(Debug, PartialEq, Drop)]
+pub struct HeaderPrefix {
+    encoded_insert_count: usize,
+    sign_negative: bool,
+    delta_base: usize,
+}
+
+impl HeaderPrefix {
+    /// The prefix that is written for a required insert count and a base, the table having this
+    /// capacity and so many entries having been inserted.
+    #[tactic(auto, unfolding(qpack_spec::specs::Prefix::prefix_for))]
+    pub fn new(
+        required: usize,
+        base: usize,
+        total_inserted: usize,
+        max_table_size: usize,
+    ) -> HeaderPrefix
+        requires inserted { 0 < max_table_size → 0 < required → required ≤ total_inserted }
+        requires room { 0 < max_table_size → 0 < required → 32 ≤ max_table_size }
+        ensures { prefix_of result ≡ prefix_for max_table_size required base }
+    {
+        if required == 0 || max_table_size == 0 {
+            return HeaderPrefix {
+                encoded_insert_count: 0,
+                sign_negative: false,
+                delta_base: 0,
+            };
+        }
+        let encoded_insert_count = required % (2 * (max_table_size / 32)) + 1;
+        if required <= base {
+            HeaderPrefix {
+                encoded_insert_count,
+                sign_negative: false,
+                delta_base: base - required,
+            }
+        } else {
+            HeaderPrefix {
+                encoded_insert_count,
+                sign_negative: true,
+                delta_base: required - base - 1,
+            }
+        }
+    }
+
+    /// Reads a prefix at the cursor. Takes no memory. Where it is refused, the cursor's place is not
+    /// told.
+    pub fn decode(buf: &mut Cursor) -> Result<HeaderPrefix, ParseError>
+        ensures found { FindsSpelling prefix_of SpellsPrefix buf.old buf.new result }
+        ensures only { ReadsSpelling prefix_of SpellsPrefix buf.old buf.new result }
+        ensures refused { TellsRefusal RefusesPrefix buf.old result }
+        ensures truncated { TellsEnd SpellsPrefix RefusesPrefix buf.old result }
+        ensures no_memory { result ≡ Err Memory → ⊥ }
+        // The same, as reading from left to right.
+        ensures exact { ReadsForm prefix_of buf.old buf.new result (read_prefix_at buf.old.rest) }
+    {
+        read_header_prefix(buf)
+    }
+
+    /// Appends the written spelling of the prefix. Refused, the vector is as before; with free room
+    /// for the spelling it succeeds and takes no memory.
+    #[tactic(auto, unfolding(qpack_spec::specs::Prefix::written_prefix))]
+    pub fn encode<A: Allocator>(&self, buf: &mut Vec<u8, A>) -> Result<(), NoMemory>
+        ensures ok { OnOk result (buf.new.items ≡ buf.old.items ++ written_prefix (prefix_of self.now)) }
+        ensures err { OnErr result (buf.new.items ≡ buf.old.items) }
+        ensures succeeds { vec_len buf.old + length (written_prefix (prefix_of self.now)) ≤ vec_capacity buf.old → IsOk result }
+        ensures capacity { vec_capacity buf.old ≤ vec_capacity buf.new }
+    {
+        let len = buf.len();
+        let answer = put_header_prefix(self, buf);
+        if answer.is_err() {
+            buf.truncate(len);
+        }
+        answer
+    }
+
+    /// The required insert count and the base that the prefix stands for, where the table has this
+    /// capacity and so many entries were inserted.
+    #[tactic(auto, unfolding(qpack_spec::specs::Prefix::read_prefix))]
+    pub fn get(
+        self,
+        total_inserted: usize,
+        max_table_size: usize,
+    ) -> Result<(usize, usize), ParseError>
+        ensures { result ≡ or_prefix_error (read_prefix total_inserted max_table_size (prefix_of self)) }
+    {
+        let required = required_count(self.encoded_insert_count, total_inserted, max_table_size)?;
+        if required == 0 {
+            return Ok((0, 0));
+        }
+        let base = base_behind(self.sign_negative, required, self.delta_base)?;
+        Ok((required, base))
+    }
+}
+
+#[tactic(auto, unfolding(qpack_spec::specs::Prefix::prefix_at))]
+fn read_header_prefix(buf: &mut Cursor) -> Result<HeaderPrefix, ParseError>
+    ensures exact { ReadsForm prefix_of buf.old buf.new result (read_prefix_at buf.old.rest) }
+    ensures no_memory { result ≡ Err Memory → ⊥ }
+{
+    let (_, count) = prefix_int::decode(8, buf)?;
+    let (sign, delta) = prefix_int::decode(7, buf)?;
+    Ok(HeaderPrefix {
+        encoded_insert_count: count as usize,
+        sign_negative: sign == 1,
+        delta_base: delta as usize,
+    })
+}
+
+/// Appends the prefix; refused, what stood before is still at the front.
+#[tactic(auto, unfolding(qpack_spec::specs::Prefix::written_prefix))]
+fn put_header_prefix<A: Allocator>(
+    prefix: &HeaderPrefix,
+    buf: &mut Vec<u8, A>,
+) -> Result<(), NoMemory>
+    ensures ok { OnOk result (buf.new.items ≡ buf.old.items ++ written_prefix (prefix_of prefix.now)) }
+    ensures err { OnErr result (take (vec_len buf.old) buf.new.items ≡ buf.old.items) }
+    ensures succeeds { vec_len buf.old + length (written_prefix (prefix_of prefix.now)) ≤ vec_capacity buf.old → IsOk result }
+    ensures capacity { vec_capacity buf.old ≤ vec_capacity buf.new }
+{
+    prefix_int::encode(8, 0, prefix.encoded_insert_count as u64, buf)?;
+    let sign_bit = if prefix.sign_negative { 1 } else { 0 };
+    prefix_int::encode(7, sign_bit, prefix.delta_base as u64, buf)
+}
+
+/// The required insert count that an encoded one stands for.
+#[tactic(auto, unfolding(qpack_spec::specs::Prefix::read_required))]
+fn required_count(
+    count: usize,
+    total_inserted: usize,
+    max_table_size: usize,
+) -> Result<usize, ParseError>
+    ensures { result ≡ or_prefix_error (read_required total_inserted max_table_size count) }
+{
+    if max_table_size == 0 || count == 0 {
+        return Ok(0);
+    }
+    let max_entries = max_table_size / 32;
+    if max_entries == 0 || count > 2 * max_entries {
+        return Err(ParseError::Integer(prefix_int::Error::Overflow));
+    }
+    let required = number_in_window(count, total_inserted, max_entries);
+    if required == 0 || required > usize::MAX as u128 {
+        return Err(ParseError::Integer(prefix_int::Error::Overflow));
+    }
+    Ok(required as usize)
+}
+
+/// The greatest number of the residue `count - 1` modulo twice the entries that is at most the total
+/// and the entries; 0 if none is above 0.
+#[tactic(auto, using(crate::proofs::Prefixes::window_at))]
+fn number_in_window(count: usize, total_inserted: usize, max_entries: usize) -> u128
+    requires some { 0 < count }
+    requires most { count ≤ 2 * max_entries }
+    requires few { max_entries < 2 ^ 60 }
+    ensures { result ≡ required_at (total_inserted + max_entries) max_entries count }
+{
+    let span = 2 * max_entries;
+    let back = (total_inserted % span + max_entries + span - (count - 1)) % span;
+    let top = total_inserted as u128 + max_entries as u128;
+    top.saturating_sub(back as u128)
+}
+
+/// The base behind a required insert count.
+#[tactic(auto, unfolding(qpack_spec::specs::Prefix::read_base))]
+fn base_behind(sign_negative: bool, required: usize, delta: usize) -> Result<usize, ParseError>
+    ensures { result ≡ or_prefix_error (read_base sign_negative required delta) }
+{
+    if !sign_negative {
+        return match required.checked_add(delta) {
+            Some(base) => Ok(base),
+            None => Err(ParseError::Integer(prefix_int::Error::Overflow)),
+        };
+    }
+    if delta < required {
+        return Ok(required - delta - 1);
+    }
+    let below = (delta - required).min(isize::MAX as usize) as isize;
+    Err(ParseError::InvalidBase(-below - 1))
+}
