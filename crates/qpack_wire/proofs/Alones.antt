@@ -1,11 +1,11 @@
 -- Reading a form alone from left to right is its relation: spellings, refusals, and what is cut off.
-use Rattle.std.proofs.Common.{◌≡◌, ℕ, ◌/◌, ◌^◌, Bool, true, false, List, [], ◌∷◌, ◌++◌, Option, None, Some, Result, Ok, Err, refl, sym, ap, subst, ◌∙◌, inl, inr, ◌⊎◌}
+use Rattle.std.proofs.Common.{◌≡◌, ℕ, ◌/◌, ◌^◌, Bool, true, false, List, [], ◌∷◌, ◌++◌, Option, None, Some, Result, Ok, Err, refl, sym, ap, subst, ◌∙◌, inl, inr}
 use Rattle.qpack_spec.specs.Bytes.{Begins, ◌>>=◌}
 use Rattle.qpack_spec.specs.Integer.{IntegerFault, Overflow, UnexpectedEnd, StandsFor, OverflowsInteger, integer_at}
-use Rattle.qpack_spec.specs.Form.{FormFault, BadInteger, BadString, is_cut, Form, Index, IndexAndValue, NameAndValue, Refuses, RefusesIndex, or_bad_integer, made_at, in_form, form_at}
+use Rattle.qpack_spec.specs.Form.{FormFault, BadInteger, BadString, is_cut, Form, Index, IndexAndValue, NameAndValue, Spells, Refuses, or_bad_integer, made_at, form_at}
 use Rattle.qpack_spec.proofs.Integers.{integer_takes, integer_again, overflow_begins}
 use Rattle.qpack_spec.proofs.Forms.{index_refused, made_again, made_refused}
-use Rattle.qpack_spec.proofs.FormLaws.{TakesSpelling, form_takes, form_refused, form_refusal, reads_form_truncation}
+use Rattle.qpack_spec.proofs.FormLaws.{TakesSpelling, form_takes, form_again, form_refused, form_refusal, reads_form_truncation}
 use Rattle.qpack_wire.specs.Alone.{Alone, ByFlags, ByFirstByte, AloneFault, Unreadable, Foreign, form_named, SpellsAlone, RefusesForeign, RefusesAlone, is_cut_alone, or_unreadable, made_or_foreign, alone_at}
 use Rattle.qpack_wire.proofs.Readers.{Follows}
 
@@ -47,7 +47,7 @@ unfolding alone_at
 alone_own (ByFlags n named) c b bs form h = own_read n named b bs form h (c (b / 2 ^ n) form h) (integer_at n (b ∷ bs)) refl
 alone_own (ByFirstByte named) c b bs form h = rw h refl
 
-form_own : {L : Type 0} (form_of : ℕ → Option (Form L)) (b : ℕ) (bs : List ℕ) (form : Form L) → form_of b ≡ Some form → form_at form_of (b ∷ bs) ≡ made_at form (b ∷ bs)
+pub form_own : {L : Type 0} (form_of : ℕ → Option (Form L)) (b : ℕ) (bs : List ℕ) (form : Form L) → form_of b ≡ Some form → form_at form_of (b ∷ bs) ≡ made_at form (b ∷ bs)
 unfolding form_at
 form_own form_of b bs form h = rw h refl
 
@@ -177,16 +177,18 @@ alone_refusal {L} a c (b ∷ bs) fault e k = go (form_named a b) refl
         subst (λ (g : AloneFault). Begins (λ x. RefusesAlone a x g) (b ∷ bs)) (sym u.told)
         (record { text = w.text; rest = w.rest; parts = w.parts; holds = inl w.holds })
 
-pub whole_text : {L : Type 0} (a : Alone L) → Coherent a → (text : List ℕ) (fault : AloneFault) → RefusesAlone a text fault → is_cut_alone fault ≡ false
-whole_text a c text (Unreadable f) (inl r) =
-    let t = reads_form_truncation (form_named a) text in go (is_cut f) refl
+whole_form : {L : Type 0} (form_of : ℕ → Option (Form L)) (text : List ℕ) (f : FormFault) → Refuses L form_of text f → is_cut f ≡ false
+whole_form form_of text f r = go (is_cut f) refl
   where
     go : (b : Bool) → is_cut f ≡ b → is_cut f ≡ false
     go false q = q
     go true q =
-        let m = form_refused (form_named a) text [] f r in
-        let cut = (reads_form_truncation (form_named a) (text ++ [])).0 (f, q, m) in
+        let m = form_refused form_of text [] f r in
+        let cut = (reads_form_truncation form_of (text ++ [])).0 (f, q, m) in
         absurd ((cut text [] refl).1 f r)
+
+pub whole_text : {L : Type 0} (a : Alone L) → Coherent a → (text : List ℕ) (fault : AloneFault) → RefusesAlone a text fault → is_cut_alone fault ≡ false
+whole_text a c text (Unreadable f) (inl r) = whole_form (form_named a) text f r
 whole_text (ByFlags n named) c [] (Unreadable f) (inr r) = absurd r
 whole_text (ByFlags n named) c (b ∷ bs) (Unreadable (BadInteger Overflow)) (inr r) = refl
 whole_text (ByFlags n named) c (b ∷ bs) (Unreadable (BadInteger UnexpectedEnd)) (inr r) = absurd r.1
@@ -204,3 +206,30 @@ alone_follows a c = record {
   refused = alone_refused a c;
   whole = whole_text a c;
 }
+
+-- ---- and so is the reading of all forms, whatever first bytes name them; no first bits are foreign
+
+pub forms_follow : {L : Type 0} (form_of : ℕ → Option (Form L)) (refuses : List ℕ → AloneFault → Type 0)
+    → ((text : List ℕ) (fault : FormFault) → (refuses text (Unreadable fault) → Refuses L form_of text fault) × (Refuses L form_of text fault → refuses text (Unreadable fault)))
+    → ((text : List ℕ) (bits : ℕ) → refuses text (Foreign bits) → ⊥)
+    → Follows L (λ text l. Spells L form_of text l) refuses (λ bytes. or_unreadable (form_at form_of bytes))
+forms_follow {L} form_of refuses same none = record {
+  takes = λ bytes l rest e. (let t = form_takes form_of bytes l rest (readable_ok (form_at form_of bytes) (l, rest) e) in (t.text, t.parts, t.spells));
+  again = λ text rest l s. ap or_unreadable (form_again form_of text rest l s);
+  refusal = λ bytes fault e k. (
+      let u = readable_err (form_at form_of bytes) fault e in
+      let w = form_refusal form_of bytes u.because u.is (sym (ap is_cut_alone u.told) ∙ k) in
+      subst (λ (g : AloneFault). Begins (λ text. refuses text g) bytes) (sym u.told)
+      (record { text = w.text; rest = w.rest; parts = w.parts; holds = (same w.text u.because).1 w.holds })
+      );
+  refused = told_again;
+  whole = all_whole;
+}
+  where
+    told_again : (text rest : List ℕ) (fault : AloneFault) → refuses text fault → (let r : Result (L × List ℕ) AloneFault = or_unreadable (form_at form_of (text ++ rest)) in r) ≡ Err fault
+    told_again text rest (Unreadable f) r = ap or_unreadable (form_refused form_of text rest f ((same text f).0 r))
+    told_again text rest (Foreign bits) r = absurd (none text bits r)
+
+    all_whole : (text : List ℕ) (fault : AloneFault) → refuses text fault → is_cut_alone fault ≡ false
+    all_whole text (Unreadable f) r = whole_form form_of text f ((same text f).0 r)
+    all_whole text (Foreign bits) r = absurd (none text bits r)

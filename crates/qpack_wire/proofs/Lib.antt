@@ -2,3 +2,5 @@ pub mod Readers
 pub mod Alones
 pub mod LineForms
 pub mod Prefixes
+pub mod BlockLines
+pub mod FiveForms

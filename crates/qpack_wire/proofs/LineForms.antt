@@ -4,8 +4,8 @@ use Rattle.std.specs.Prelude.{nat_eq, nat_lt, if◌then◌else◌}
 use Rattle.std.proofs.lemmas.Option.{same_Some}
 use Rattle.qpack_spec.specs.Form.{Form, Index, IndexAndValue}
 use Rattle.qpack_spec.specs.Line.{Line, IndexedStatic, IndexedDynamic, IndexedPostBase, NamedStatic, NamedDynamic, NamedPostBase}
-use Rattle.qpack_wire.specs.Alone.{Alone, SpellsAlone, RefusesAlone, alone_at}
-use Rattle.qpack_wire.specs.Lines.{indexed_form, indexed, indexed_with_post_base_form, indexed_with_post_base, literal_with_name_ref, literal_with_post_base_name_ref, literal}
+use Rattle.qpack_wire.specs.Alone.{SpellsAlone, RefusesAlone, alone_at}
+use Rattle.qpack_wire.specs.Lines.{indexed, indexed_with_post_base, literal_with_name_ref, literal_with_post_base_name_ref, literal}
 use Rattle.qpack_wire.proofs.Readers.{Follows}
 use Rattle.qpack_wire.proofs.Alones.{HasPrefix, Coherent, alone_follows}
 
@@ -21,18 +21,18 @@ this_prefix n f form h e = subst (λ g. HasPrefix n g) (same_Some f form e) h
 pub none_prefix : {L : Type 0} (n : ℕ) (form : Form L) → None ≡ Some form → HasPrefix n form
 none_prefix n form e = absurd cc
 
-coherent_indexed : Coherent indexed
+pub coherent_indexed : Coherent indexed
 coherent_indexed flags form e =
     chosen_prefix 6 (nat_eq flags 3) (Some (Index 6 IndexedStatic)) (if nat_eq flags 2 then Some (Index 6 IndexedDynamic) else None) form
     (λ f. this_prefix 6 (Index 6 IndexedStatic) f refl)
     (λ f. chosen_prefix 6 (nat_eq flags 2) (Some (Index 6 IndexedDynamic)) None f (λ g. this_prefix 6 (Index 6 IndexedDynamic) g refl) (λ g. none_prefix 6 g))
     e
 
-coherent_post_base : Coherent indexed_with_post_base
+pub coherent_post_base : Coherent indexed_with_post_base
 coherent_post_base flags form e =
     chosen_prefix 4 (nat_eq flags 1) (Some (Index 4 IndexedPostBase)) None form (λ f. this_prefix 4 (Index 4 IndexedPostBase) f refl) (λ f. none_prefix 4 f) e
 
-coherent_name_ref : Coherent literal_with_name_ref
+pub coherent_name_ref : Coherent literal_with_name_ref
 coherent_name_ref flags form e =
     chosen_prefix 4 (nat_eq (flags / 4) 1) (if nat_eq (flags % 2) 1 then Some (IndexAndValue 4 NamedStatic) else Some (IndexAndValue 4 NamedDynamic)) None form
     (λ f. chosen_prefix 4 (nat_eq (flags % 2) 1) (Some (IndexAndValue 4 NamedStatic)) (Some (IndexAndValue 4 NamedDynamic)) f
@@ -40,7 +40,7 @@ coherent_name_ref flags form e =
     (λ f. none_prefix 4 f)
     e
 
-coherent_post_base_name_ref : Coherent literal_with_post_base_name_ref
+pub coherent_post_base_name_ref : Coherent literal_with_post_base_name_ref
 coherent_post_base_name_ref flags form e =
     chosen_prefix 3 (nat_lt flags 2) (Some (IndexAndValue 3 NamedPostBase)) None form (λ f. this_prefix 3 (IndexAndValue 3 NamedPostBase) f refl) (λ f. none_prefix 3 f) e
 

@@ -1,12 +1,12 @@
 -- A prefix is read from left to right as its relation, and its required count by residues.
-use Rattle.std.proofs.Common.{◌≡◌, ℕ, ◌+◌, ◌-◌, ◌*◌, ◌/◌, ◌%◌, ◌<◌, ◌≤◌, Bool, true, false, List, ◌++◌, Result, Ok, Err, refl, sym, ap, subst, ◌∙◌, append_assoc, arith, inl, inr, ◌⊎◌}
+use Rattle.std.proofs.Common.{◌≡◌, ℕ, ◌+◌, ◌-◌, ◌*◌, ◌/◌, ◌%◌, ◌<◌, ◌≤◌, false, List, ◌++◌, Result, Ok, Err, refl, sym, ap, subst, ◌∙◌, append_assoc, arith, inl, inr, ◌⊎◌}
 use Rattle.std.specs.Prelude.{nat_eq}
 use Rattle.std.proofs.Math.Nat.{div-add-mod, add-mul-mod_self_left}
 use Rattle.qpack_spec.specs.Bytes.{Begins, ◌>>=◌}
-use Rattle.qpack_spec.specs.Integer.{IntegerFault, Overflow, UnexpectedEnd, integer_at}
-use Rattle.qpack_spec.specs.Form.{FormFault, BadInteger, BadString, is_cut, HoldsIndex, InTurn, RefusesIndex, or_bad_integer}
+use Rattle.qpack_spec.specs.Integer.{Overflow, UnexpectedEnd, integer_at}
+use Rattle.qpack_spec.specs.Form.{FormFault, BadInteger, BadString, is_cut, RefusesIndex, or_bad_integer}
 use Rattle.qpack_spec.specs.Prefix.{Prefix, SpellsPrefix, required_at, prefix_at}
-use Rattle.qpack_spec.proofs.Forms.{TakesIndex, index_takes, index_again, index_refused, index_refusal}
+use Rattle.qpack_spec.proofs.Forms.{index_takes, index_again, index_refused, index_refusal}
 use Rattle.qpack_spec.proofs.BlockLaws.{reads_prefixes}
 use Rattle.qpack_wire.specs.Alone.{AloneFault, Unreadable, Foreign, is_cut_alone, or_unreadable}
 use Rattle.qpack_wire.specs.Prefixes.{RefusesPrefix, read_prefix_at}

@@ -1,7 +1,7 @@
 -- Readers of one kind of line or instruction: they read its forms and refuse the first bits of all others.
-use Rattle.std.specs.Prelude.{◌≡◌, ℕ, ◌/◌, ◌^◌, ◌⊎◌, Bool, true, false, List, [], ◌∷◌, ◌++◌, Option, None, Some, Result, Ok, Err}
+use Rattle.std.specs.Prelude.{◌≡◌, ℕ, ◌/◌, ◌^◌, ◌⊎◌, Bool, false, List, [], ◌∷◌, Option, None, Some, Result, Ok, Err}
 use Rattle.qpack_spec.specs.Bytes.{◌>>=◌}
-use Rattle.qpack_spec.specs.Integer.{IntegerFault, UnexpectedEnd, SpellsInteger, integer_at}
+use Rattle.qpack_spec.specs.Integer.{UnexpectedEnd, SpellsInteger, integer_at}
 use Rattle.qpack_spec.specs.Form.{FormFault, BadInteger, is_cut, Form, RefusesIndex, Spells, Refuses, or_bad_integer, made_at}
 
 -- how the forms are told from others: by the flags above a first integer with a prefix of n bits, once it is read, or by

@@ -2,3 +2,5 @@ pub mod Alone
 pub mod Answers
 pub mod Lines
 pub mod Prefixes
+pub mod BlockLines
+pub mod LineLaws

@@ -1,6 +1,6 @@
 -- The prefix of an encoded field section, as it is read and what it is read as (RFC 9204, section 4.5.1).
-use Rattle.std.specs.Prelude.{◌≡◌, ℕ, ◌⊎◌, List, Result, Ok, Err}
-use Rattle.qpack_spec.specs.Form.{FormFault, HoldsIndex, InTurn, RefusesIndex}
+use Rattle.std.specs.Prelude.{ℕ, ◌⊎◌, List, Result, Ok, Err}
+use Rattle.qpack_spec.specs.Form.{HoldsIndex, InTurn, RefusesIndex}
 use Rattle.qpack_spec.specs.Prefix.{Prefix, PrefixFault, OutOfRange, BelowZero, prefix_at}
 use Rattle.qpack_base.specs.declared.prefix_int.Error.TheVariants.{Overflow}
 use Rattle.qpack_base.specs.declared.parse_error.ParseError.{ParseError}

@@ -3,3 +3,4 @@
 #![tactic(auto)]
 
 pub mod block;
+pub mod laws;
