@@ -4,3 +4,5 @@ pub mod LineForms
 pub mod Prefixes
 pub mod BlockLines
 pub mod FiveForms
+pub mod StreamReaders
+pub mod InstructionForms

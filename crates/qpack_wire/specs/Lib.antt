@@ -4,3 +4,5 @@ pub mod Lines
 pub mod Prefixes
 pub mod BlockLines
 pub mod LineLaws
+pub mod Instructions
+pub mod StreamAnswers
