@@ -6,3 +6,4 @@ pub mod BlockLines
 pub mod FiveForms
 pub mod StreamReaders
 pub mod InstructionForms
+pub mod StreamForms

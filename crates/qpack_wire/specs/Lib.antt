@@ -6,3 +6,6 @@ pub mod BlockLines
 pub mod LineLaws
 pub mod Instructions
 pub mod StreamAnswers
+pub mod StreamLines
+pub mod WireLaws
+pub mod StreamLineLaws

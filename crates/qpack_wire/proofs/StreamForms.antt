@@ -1,0 +1,202 @@
+-- An instruction is that which its first byte names.
+use Rattle.std.proofs.Common.{◌≡◌, ℕ, ◌/◌, ◌<◌, ◌≤◌, true, false, List, [], ◌∷◌, Option, Some, Result, Err, refl, sym, ap, subst, ◌∙◌, arith, drop, length, inl, inr}
+use Rattle.std.specs.Prelude.{nat_lt}
+use Rattle.std.proofs.lemmas.Bool.{lt-ltb, le-ltb, cases_lt}
+use Rattle.qpack_spec.specs.Integer.{UnexpectedEnd}
+use Rattle.qpack_spec.specs.Form.{BadInteger, Form, Index, IndexAndValue, NameAndValue, form_at}
+use Rattle.qpack_spec.specs.Instruction as instruction
+use Rattle.qpack_spec.specs.Instruction.{Instruction, InsertStaticName, InsertDynamicName, InsertLiteralName, SetCapacity, Reply, Acknowledgment, Cancellation, Increment, instruction_form, reply_form, SpellsInstruction, SpellsReply}
+use Rattle.qpack_wire.specs.Alone.{Alone, AloneFault, Unreadable, form_named, or_unreadable, alone_at}
+use Rattle.qpack_wire.specs.Instructions.{insert_with_name_ref, insert_without_name_ref, duplicate, dynamic_table_size_update, insert_count_increment, header_ack, stream_cancel}
+use Rattle.qpack_wire.specs.StreamLines.{encoder_instruction_of_first, decoder_instruction_of_first, RefusesEncoderLine, RefusesDecoderLine, instruction_at, reply_at}
+use Rattle.qpack_wire.specs.declared.stream.encoder_stream.EncoderInstruction.{EncoderInstruction}
+use Rattle.qpack_wire.specs.declared.stream.encoder_stream.EncoderInstruction.TheVariants as encoder
+use Rattle.qpack_wire.specs.declared.stream.decoder_stream.DecoderInstruction.{DecoderInstruction}
+use Rattle.qpack_wire.specs.declared.stream.decoder_stream.DecoderInstruction.TheVariants as decoder
+use Rattle.qpack_wire.proofs.Readers.{Follows}
+use Rattle.qpack_wire.proofs.Alones.{Coherent, alone_own, form_own, forms_follow}
+use Rattle.qpack_wire.proofs.InstructionForms.{coherent_insert_with_name_ref, coherent_duplicate, coherent_dynamic_table_size_update, coherent_insert_count_increment, coherent_header_ack, coherent_stream_cancel}
+
+below : (b k : ℕ) → b < k → nat_lt b k ≡ true
+below b k h = lt-ltb b k h
+
+above : (b k : ℕ) → k ≤ b → nat_lt b k ≡ false
+above b k h = le-ltb b k h
+
+-- a byte list that begins with this byte
+abbrev BeginsWith : ℕ → List ℕ → Type 0
+BeginsWith b rest = rest ≡ b ∷ drop 1 rest
+
+-- where the form alone and the stream name the same form, it is read as the stream's
+abbrev Shares : {L : Type 0} → (ℕ → Option (Form L)) → Alone L → ℕ → Type 0
+Shares {L} form_of a b = (form : Form L) × (form_named a b ≡ Some form) × (form_of b ≡ Some form)
+
+as_form : {L : Type 0} (form_of : ℕ → Option (Form L)) (a : Alone L) → Coherent a → (b : ℕ) (rest : List ℕ) → BeginsWith b rest → Shares form_of a b → alone_at a rest ≡ or_unreadable (form_at form_of rest)
+as_form form_of a c b rest e s =
+    ap (alone_at a) e ∙ alone_own a c b (drop 1 rest) s.0 s.1
+    ∙ sym (ap or_unreadable (form_own form_of b (drop 1 rest) s.0 s.2))
+    ∙ sym (ap (λ bytes. or_unreadable (form_at form_of bytes)) e)
+
+-- ---- encoder instructions
+
+shares_duplicate : (b : ℕ) → b < 32 → Shares instruction_form duplicate b
+unfolding instruction_form
+shares_duplicate b h = (Index 5 instruction.Duplicate, (let q : b / 32 ≡ 0 = omega arith in rw q refl), rw (below b 32 h) refl)
+
+shares_size_update : (b : ℕ) → 32 ≤ b → b < 64 → Shares instruction_form dynamic_table_size_update b
+unfolding instruction_form
+shares_size_update b low high = (Index 5 SetCapacity, (let q : b / 32 ≡ 1 = omega arith in rw q refl), rw (above b 32 low, below b 64 high) refl)
+
+shares_literal : (b : ℕ) → 64 ≤ b → b < 128 → Shares instruction_form insert_without_name_ref b
+unfolding instruction_form
+shares_literal b low high =
+    (NameAndValue 6 InsertLiteralName, (let q : b / 64 ≡ 1 = omega arith in rw q refl), rw (above b 32 (omega arith), above b 64 low, below b 128 high) refl)
+
+shares_dynamic : (b : ℕ) → 128 ≤ b → b < 192 → Shares instruction_form insert_with_name_ref b
+unfolding instruction_form
+shares_dynamic b low high =
+    (IndexAndValue 6 InsertDynamicName, (let q : b / 64 ≡ 2 = omega arith in rw q refl), rw (above b 32 (omega arith), above b 64 (omega arith), above b 128 low, below b 192 high) refl)
+
+shares_static : (b : ℕ) → 192 ≤ b → b < 256 → Shares instruction_form insert_with_name_ref b
+unfolding instruction_form
+shares_static b low high =
+    (IndexAndValue 6 InsertStaticName, (let q : b / 64 ≡ 3 = omega arith in rw q refl), rw (above b 32 (omega arith), above b 64 (omega arith), above b 128 (omega arith), above b 192 low, below b 256 high) refl)
+
+shares_name : (b : ℕ) → 128 ≤ b → b < 256 → Shares instruction_form insert_with_name_ref b
+shares_name b low high =
+    elim (cases_lt b 192) [
+      | inl h ↦ shares_dynamic b low h
+      | inr h ↦ shares_static b h high
+    ]
+
+-- the first bytes of each encoder instruction
+abbrev ToldEncoder : ℕ → EncoderInstruction → Type 0
+ToldEncoder b encoder.DynamicTableSizeUpdate = (32 ≤ b) × (b < 64)
+ToldEncoder b encoder.InsertWithNameRef = 128 ≤ b
+ToldEncoder b encoder.InsertWithoutNameRef = (64 ≤ b) × (b < 128)
+ToldEncoder b encoder.Duplicate = b < 32
+ToldEncoder b encoder.Unknown = ⊥
+
+told_duplicate : (b : ℕ) → b < 32 → encoder_instruction_of_first b ≡ encoder.Duplicate
+told_duplicate b h = rw (below b 32 h) refl
+
+told_size_update : (b : ℕ) → 32 ≤ b → b < 64 → encoder_instruction_of_first b ≡ encoder.DynamicTableSizeUpdate
+told_size_update b low high = rw (above b 32 low, below b 64 high) refl
+
+told_literal : (b : ℕ) → 64 ≤ b → b < 128 → encoder_instruction_of_first b ≡ encoder.InsertWithoutNameRef
+told_literal b low high = rw (above b 32 (omega arith), above b 64 low, below b 128 high) refl
+
+told_name : (b : ℕ) → 128 ≤ b → encoder_instruction_of_first b ≡ encoder.InsertWithNameRef
+told_name b low = rw (above b 32 (omega arith), above b 64 (omega arith), above b 128 low) refl
+
+told_encoder : (b : ℕ) (i : EncoderInstruction) → encoder_instruction_of_first b ≡ i → ToldEncoder b i
+told_encoder b i e =
+    subst (ToldEncoder b) e
+    (elim (cases_lt b 32) as (λ _. ToldEncoder b (encoder_instruction_of_first b)) [
+      | inl h ↦ subst (ToldEncoder b) (sym (told_duplicate b h)) h
+      | inr h32 ↦
+          elim (cases_lt b 64) as (λ _. ToldEncoder b (encoder_instruction_of_first b)) [
+            | inl h ↦ subst (ToldEncoder b) (sym (told_size_update b h32 h)) (h32, h)
+            | inr h64 ↦
+                elim (cases_lt b 128) as (λ _. ToldEncoder b (encoder_instruction_of_first b)) [
+                  | inl h ↦ subst (ToldEncoder b) (sym (told_literal b h64 h)) (h64, h)
+                  | inr h128 ↦ subst (ToldEncoder b) (sym (told_name b h128)) h128
+                ]
+          ]
+    ])
+
+pub no_unknown_encoder : (b : ℕ) → encoder_instruction_of_first b ≡ encoder.Unknown → ⊥
+no_unknown_encoder b e = told_encoder b encoder.Unknown e
+
+pub as_duplicate : (b : ℕ) (rest : List ℕ) → b < 256 → BeginsWith b rest → encoder_instruction_of_first b ≡ encoder.Duplicate → alone_at duplicate rest ≡ instruction_at rest
+as_duplicate b rest h e f = as_form instruction_form duplicate coherent_duplicate b rest e (shares_duplicate b (told_encoder b encoder.Duplicate f))
+
+pub as_size_update : (b : ℕ) (rest : List ℕ) → b < 256 → BeginsWith b rest → encoder_instruction_of_first b ≡ encoder.DynamicTableSizeUpdate → alone_at dynamic_table_size_update rest ≡ instruction_at rest
+as_size_update b rest h e f =
+    let t = told_encoder b encoder.DynamicTableSizeUpdate f in
+    as_form instruction_form dynamic_table_size_update coherent_dynamic_table_size_update b rest e (shares_size_update b t.0 t.1)
+
+pub as_literal_insert : (b : ℕ) (rest : List ℕ) → b < 256 → BeginsWith b rest → encoder_instruction_of_first b ≡ encoder.InsertWithoutNameRef → alone_at insert_without_name_ref rest ≡ instruction_at rest
+as_literal_insert b rest h e f =
+    let t = told_encoder b encoder.InsertWithoutNameRef f in as_form instruction_form insert_without_name_ref tt b rest e (shares_literal b t.0 t.1)
+
+pub as_name_insert : (b : ℕ) (rest : List ℕ) → b < 256 → BeginsWith b rest → encoder_instruction_of_first b ≡ encoder.InsertWithNameRef → alone_at insert_with_name_ref rest ≡ instruction_at rest
+as_name_insert b rest h e f =
+    as_form instruction_form insert_with_name_ref coherent_insert_with_name_ref b rest e (shares_name b (told_encoder b encoder.InsertWithNameRef f) h)
+
+-- ---- decoder instructions
+
+shares_increment : (b : ℕ) → b < 64 → Shares reply_form insert_count_increment b
+unfolding reply_form
+shares_increment b h = (Index 6 Increment, (let q : b / 64 ≡ 0 = omega arith in rw q refl), rw (below b 64 h) refl)
+
+shares_cancel : (b : ℕ) → 64 ≤ b → b < 128 → Shares reply_form stream_cancel b
+unfolding reply_form
+shares_cancel b low high = (Index 6 Cancellation, (let q : b / 64 ≡ 1 = omega arith in rw q refl), rw (above b 64 low, below b 128 high) refl)
+
+shares_ack : (b : ℕ) → 128 ≤ b → b < 256 → Shares reply_form header_ack b
+unfolding reply_form
+shares_ack b low high =
+    (Index 7 Acknowledgment, (let q : b / 128 ≡ 1 = omega arith in rw q refl), rw (above b 64 (omega arith), above b 128 low, below b 256 high) refl)
+
+-- the first bytes of each decoder instruction
+abbrev ToldDecoder : ℕ → DecoderInstruction → Type 0
+ToldDecoder b decoder.HeaderAck = 128 ≤ b
+ToldDecoder b decoder.StreamCancel = (64 ≤ b) × (b < 128)
+ToldDecoder b decoder.InsertCountIncrement = b < 64
+ToldDecoder b decoder.Unknown = ⊥
+
+told_increment : (b : ℕ) → b < 64 → decoder_instruction_of_first b ≡ decoder.InsertCountIncrement
+told_increment b h = rw (below b 64 h) refl
+
+told_cancel : (b : ℕ) → 64 ≤ b → b < 128 → decoder_instruction_of_first b ≡ decoder.StreamCancel
+told_cancel b low high = rw (above b 64 low, below b 128 high) refl
+
+told_ack : (b : ℕ) → 128 ≤ b → decoder_instruction_of_first b ≡ decoder.HeaderAck
+told_ack b low = rw (above b 64 (omega arith), above b 128 low) refl
+
+told_decoder : (b : ℕ) (i : DecoderInstruction) → decoder_instruction_of_first b ≡ i → ToldDecoder b i
+told_decoder b i e =
+    subst (ToldDecoder b) e
+    (elim (cases_lt b 64) as (λ _. ToldDecoder b (decoder_instruction_of_first b)) [
+      | inl h ↦ subst (ToldDecoder b) (sym (told_increment b h)) h
+      | inr h64 ↦
+          elim (cases_lt b 128) as (λ _. ToldDecoder b (decoder_instruction_of_first b)) [
+            | inl h ↦ subst (ToldDecoder b) (sym (told_cancel b h64 h)) (h64, h)
+            | inr h128 ↦ subst (ToldDecoder b) (sym (told_ack b h128)) h128
+          ]
+    ])
+
+pub no_unknown_decoder : (b : ℕ) → decoder_instruction_of_first b ≡ decoder.Unknown → ⊥
+no_unknown_decoder b e = told_decoder b decoder.Unknown e
+
+pub as_increment : (b : ℕ) (rest : List ℕ) → b < 256 → BeginsWith b rest → decoder_instruction_of_first b ≡ decoder.InsertCountIncrement → alone_at insert_count_increment rest ≡ reply_at rest
+as_increment b rest h e f =
+    as_form reply_form insert_count_increment coherent_insert_count_increment b rest e (shares_increment b (told_decoder b decoder.InsertCountIncrement f))
+
+pub as_cancel : (b : ℕ) (rest : List ℕ) → b < 256 → BeginsWith b rest → decoder_instruction_of_first b ≡ decoder.StreamCancel → alone_at stream_cancel rest ≡ reply_at rest
+as_cancel b rest h e f =
+    let t = told_decoder b decoder.StreamCancel f in as_form reply_form stream_cancel coherent_stream_cancel b rest e (shares_cancel b t.0 t.1)
+
+pub as_ack : (b : ℕ) (rest : List ℕ) → b < 256 → BeginsWith b rest → decoder_instruction_of_first b ≡ decoder.HeaderAck → alone_at header_ack rest ≡ reply_at rest
+as_ack b rest h e f = as_form reply_form header_ack coherent_header_ack b rest e (shares_ack b (told_decoder b decoder.HeaderAck f) h)
+
+-- ---- reading a stream's line is its relation
+
+nothing_at : {L : Type 0} (form_of : ℕ → Option (Form L)) (seen rest : List ℕ) → length seen ≡ 0 → seen ≡ rest
+    → (let r : Result (L × List ℕ) AloneFault = or_unreadable (form_at form_of rest) in r) ≡ Err (Unreadable (BadInteger UnexpectedEnd))
+unfolding form_at
+nothing_at form_of [] rest h e = ap (λ bytes. or_unreadable (form_at form_of bytes)) (sym e)
+nothing_at form_of (x ∷ xs) rest h e = absurd (omega arith)
+
+pub no_instruction : (seen rest : List ℕ) → length seen ≡ 0 → seen ≡ rest → instruction_at rest ≡ Err (Unreadable (BadInteger UnexpectedEnd))
+no_instruction seen rest h e = nothing_at instruction_form seen rest h e
+
+pub no_reply : (seen rest : List ℕ) → length seen ≡ 0 → seen ≡ rest → reply_at rest ≡ Err (Unreadable (BadInteger UnexpectedEnd))
+no_reply seen rest h e = nothing_at reply_form seen rest h e
+
+pub instruction_follows : Follows Instruction SpellsInstruction RefusesEncoderLine instruction_at
+instruction_follows = forms_follow instruction_form RefusesEncoderLine (λ text f. (λ r. r, λ r. r)) (λ text bits r. r)
+
+pub reply_follows : Follows Reply SpellsReply RefusesDecoderLine reply_at
+reply_follows = forms_follow reply_form RefusesDecoderLine (λ text f. (λ r. r, λ r. r)) (λ text bits r. r)

@@ -1,0 +1,129 @@
+//! One decoder instruction, whichever it is (RFC 9204, section 4.4).
+
+ghost use Rattle.std.specs.Prelude.{◌≡◌, ◌∷◌, drop, Err};
+ghost use Rattle.qpack_base.specs.declared.parse_error.ParseError.TheVariants.{Memory};
+ghost use Rattle.qpack_wire.specs.Answers.{ReadsForm};
+ghost use Rattle.qpack_wire.specs.StreamLines.{decoder_instruction_of_first, reply_of, reply_at};
+
+use crate::stream::ends::or_none;
+use crate::stream::lines::Wire;
+use crate::stream::replies::{self, HeaderAck, InsertCountIncrement, StreamCancel};
+use qpack_base::coding::{Cursor, NoMemory};
+use qpack_base::parse_error::ParseError;
+use qpack_base::prefix_int;
+use std::alloc::{Allocator, Global};
+
+/// The decoder instruction that a first byte tells.
+#[derive(Debug, PartialEq, Drop)]
+pub enum DecoderInstruction {
+    /// `1`: an acknowledgment (section 4.4.1).
+    HeaderAck,
+    /// `01`: a cancellation (section 4.4.2).
+    StreamCancel,
+    /// `00`: an increment (section 4.4.3).
+    InsertCountIncrement,
+    /// Kept from the original, and never answered: every byte begins an instruction.
+    Unknown,
+}
+
+impl DecoderInstruction {
+    /// The decoder instruction that begins with this byte.
+    pub fn decode(first: u8) -> DecoderInstruction
+        ensures { result ≡ decoder_instruction_of_first first }
+    {
+        if first >= 0b1000_0000 {
+            DecoderInstruction::HeaderAck
+        } else if first >= 0b0100_0000 {
+            DecoderInstruction::StreamCancel
+        } else {
+            DecoderInstruction::InsertCountIncrement
+        }
+    }
+}
+
+/// A decoder instruction.
+#[derive(Debug, PartialEq, Drop)]
+pub enum DecoderLine {
+    /// An increment.
+    InsertCountIncrement(InsertCountIncrement),
+    /// An acknowledgment.
+    HeaderAck(HeaderAck),
+    /// A cancellation.
+    StreamCancel(StreamCancel),
+}
+
+impl Wire for DecoderLine {
+    ghost use Rattle.qpack_spec.specs.Instruction.{Reply, SpellsReply, written_reply};
+    ghost use Rattle.qpack_spec.specs.WrittenLaws.{IsWritableReply};
+    ghost use Rattle.qpack_wire.specs.StreamLines.{RefusesDecoderLine};
+    ghost use Rattle.qpack_wire.specs.StreamLineLaws.{written_replies_spelled, written_replies_read_back, spellings_have_one_reply, no_reply_begins_another};
+
+    ghost Line = { Reply };
+
+    ghost line_of = { reply_of };
+
+    ghost spells = { SpellsReply };
+
+    ghost refuses = { RefusesDecoderLine };
+
+    ghost read = { reply_at };
+
+    ghost writable = { IsWritableReply };
+
+    ghost written = { written_reply };
+
+    ghost takes_memory = { ⊥ };
+
+    ghost written_is_spelled = { written_replies_spelled };
+
+    ghost written_is_read_back = { written_replies_read_back };
+
+    ghost spellings_have_one_line = { spellings_have_one_reply };
+
+    ghost no_line_begins_another = { no_reply_begins_another };
+
+    fn decode(_alloc: Global, buf: &mut Cursor) -> Result<Option<DecoderLine>, ParseError> {
+        or_none(read_line(buf))
+    }
+
+    fn encode<A: Allocator>(&self, buf: &mut Vec<u8, A>) -> Result<(), NoMemory> {
+        match self {
+            DecoderLine::InsertCountIncrement(line) => line.encode(buf),
+            DecoderLine::HeaderAck(line) => line.encode(buf),
+            DecoderLine::StreamCancel(line) => line.encode(buf),
+        }
+    }
+}
+
+fn read_line(buf: &mut Cursor) -> Result<DecoderLine, ParseError>
+    ensures exact { ReadsForm reply_of buf.old buf.new result (reply_at buf.old.rest) }
+    ensures no_memory { result ≡ Err Memory → ⊥ }
+{
+    let Some((first, _)) = buf.chunk().split_first() else {
+        return Err(ParseError::Integer(prefix_int::Error::UnexpectedEnd));
+    };
+    read_line_of(*first, buf)
+}
+
+/// Reads the instruction, which begins with this byte.
+fn read_line_of(first: u8, buf: &mut Cursor) -> Result<DecoderLine, ParseError>
+    requires { buf.old.rest ≡ first ∷ drop 1 buf.old.rest }
+    ensures exact { ReadsForm reply_of buf.old buf.new result (reply_at buf.old.rest) }
+    ensures no_memory { result ≡ Err Memory → ⊥ }
+{
+    match DecoderInstruction::decode(first) {
+        DecoderInstruction::InsertCountIncrement => {
+            let line = replies::read_insert_count_increment(buf)?;
+            Ok(DecoderLine::InsertCountIncrement(line))
+        }
+        DecoderInstruction::StreamCancel => {
+            let line = replies::read_stream_cancel(buf)?;
+            Ok(DecoderLine::StreamCancel(line))
+        }
+        DecoderInstruction::HeaderAck => {
+            let line = replies::read_header_ack(buf)?;
+            Ok(DecoderLine::HeaderAck(line))
+        }
+        DecoderInstruction::Unknown => Err(ParseError::InvalidPrefix(first)),
+    }
+}

@@ -1,0 +1,93 @@
+//! Reading a stream line by line, however it is cut into pieces.
+
+ghost use Rattle.std.specs.Prelude.{◌≡◌, ℕ, ◌+◌, ◌≤◌, ◌++◌, List, Result, Err, OnOk, OnErr, IsOk, length, vec_len, vec_capacity};
+ghost use Rattle.qpack_base.specs.declared.parse_error.ParseError.TheVariants.{Memory};
+ghost use Rattle.qpack_wire.specs.Alone.{AloneFault};
+ghost use Rattle.qpack_wire.specs.Answers.{TellsRefusal};
+ghost use Rattle.qpack_wire.specs.StreamAnswers.{FindsLine, ReadsLine, TellsNone, StaysUnlessRead, ReadsStream};
+ghost use Rattle.qpack_wire.specs.WireLaws.{WrittenIsSpelled, WrittenIsReadBack, SpellingsHaveOneLine, NoLineBeginsAnother};
+
+use qpack_base::coding::{Cursor, NoMemory};
+use qpack_base::parse_error::ParseError;
+use std::alloc::{Allocator, Global};
+
+/// A line of a stream.
+pub trait Wire: Sized + Drop {
+    /// The lines of the stream, as its definition has them.
+    ghost Line: { Type 0 };
+
+    /// The line that a value stands for.
+    ghost line_of: { Self → Line };
+
+    /// The bytes are a spelling of the line.
+    ghost spells: { List ℕ → Line → Type 0 };
+
+    /// The bytes are refused, for this reason.
+    ghost refuses: { List ℕ → AloneFault → Type 0 };
+
+    /// The line at the front of the bytes, and the bytes behind it.
+    ghost read: { List ℕ → Result (Line × List ℕ) AloneFault };
+
+    /// The line can be written.
+    ghost writable: { Line → Type 0 };
+
+    /// The one spelling that is written.
+    ghost written: { Line → List ℕ };
+
+    /// Whether reading can want memory.
+    ghost takes_memory: { Type 0 };
+
+    /// Reads the line at the cursor, or none of a truncated one. Where none is read, the cursor's
+    /// place is not told.
+    fn decode(alloc: Global, buf: &mut Cursor) -> Result<Option<Self>, ParseError>
+        ensures found { FindsLine line_of spells buf.old buf.new result }
+        ensures only { ReadsLine line_of spells buf.old buf.new result }
+        ensures refused { TellsRefusal refuses buf.old result }
+        ensures truncated { TellsNone spells refuses buf.old result }
+        ensures memory { result ≡ Err Memory → takes_memory }
+        // The same, as reading from left to right.
+        ensures exact { ReadsStream line_of buf.old buf.new result (read buf.old.rest) };
+
+    /// Appends the written spelling of the line. Refused, the vector is as before; with free room for
+    /// the spelling it succeeds and takes no memory.
+    fn encode<A: Allocator>(&self, buf: &mut Vec<u8, A>) -> Result<(), NoMemory>
+        ensures ok { OnOk result (buf.new.items ≡ buf.old.items ++ written (line_of self.now)) }
+        ensures err { OnErr result (buf.new.items ≡ buf.old.items) }
+        ensures succeeds { vec_len buf.old + length (written (line_of self.now)) ≤ vec_capacity buf.old → IsOk result }
+        ensures capacity { vec_capacity buf.old ≤ vec_capacity buf.new };
+
+    /// What is written is a spelling.
+    ghost written_is_spelled: { WrittenIsSpelled spells writable written };
+
+    /// What is written is read back whole, whatever follows.
+    ghost written_is_read_back: { WrittenIsReadBack read writable written };
+
+    /// One spelling is of one line.
+    ghost spellings_have_one_line: { SpellingsHaveOneLine spells };
+
+    /// No spelling or refusal begins another.
+    ghost no_line_begins_another: { NoLineBeginsAnother spells refuses };
+}
+
+/// Reads the line at the cursor and moves past exactly it. Where none is read, of a truncated line or
+/// at a refusal, the cursor stays where it was.
+pub fn next_line<W: Wire>(alloc: Global, cursor: &mut Cursor) -> Result<Option<W>, ParseError>
+    ensures found { FindsLine W.line_of W.spells cursor.old cursor.new result }
+    ensures only { ReadsLine W.line_of W.spells cursor.old cursor.new result }
+    ensures refused { TellsRefusal W.refuses cursor.old result }
+    ensures truncated { TellsNone W.spells W.refuses cursor.old result }
+    ensures stays { StaysUnlessRead cursor.old cursor.new result }
+    ensures memory { result ≡ Err Memory → W.takes_memory }
+    // The same, as reading from left to right.
+    ensures exact { ReadsStream W.line_of cursor.old cursor.new result (W.read cursor.old.rest) }
+{
+    let mut ahead = cursor.fork();
+    match W::decode(alloc, &mut ahead) {
+        Ok(Some(line)) => {
+            *cursor = ahead;
+            Ok(Some(line))
+        }
+        Ok(None) => Ok(None),
+        Err(e) => Err(e),
+    }
+}
