@@ -7,3 +7,4 @@ pub mod FiveForms
 pub mod StreamReaders
 pub mod InstructionForms
 pub mod StreamForms
+pub mod Cuttings

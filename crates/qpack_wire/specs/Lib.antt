@@ -9,3 +9,4 @@ pub mod StreamAnswers
 pub mod StreamLines
 pub mod WireLaws
 pub mod StreamLineLaws
+pub mod Cuttings

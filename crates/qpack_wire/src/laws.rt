@@ -1,8 +1,17 @@
-//! Laws of the forms that are read alone.
+//! Laws of the forms that are read alone, and of streams that come in pieces.
 
+ghost use Rattle.qpack_spec.specs.Instruction.{SpellsInstruction, SpellsReply};
+ghost use Rattle.qpack_wire.specs.Cuttings.{CuttingChangesNothing};
 ghost use Rattle.qpack_wire.specs.LineLaws.{LinesHaveFiveForms};
 
 /// The five forms make up the lines: a spelling of a line is a spelling in one of them.
 pub fn lines_have_five_forms()
     ensures { LinesHaveFiveForms }
+{}
+
+/// The lines that are read of a stream do not depend on how it was cut into pieces, the unread rest
+/// being offered again each time.
+pub fn cutting_changes_nothing()
+    ensures instructions { CuttingChangesNothing SpellsInstruction }
+    ensures replies { CuttingChangesNothing SpellsReply }
 {}
