@@ -1,2 +1,3 @@
-pub mod Lines
-pub mod Blocks
+pub mod WrittenBlocks
+pub mod Faults
+pub mod ReadLines

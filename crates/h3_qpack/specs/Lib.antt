@@ -4,6 +4,5 @@ pub use Rattle.qpack_spec.specs.Field
 pub use Rattle.qpack_spec.specs.StaticTable
 pub use Rattle.qpack_base.specs.Cursor
 pub use Rattle.qpack_base.specs.HeaderFields
-pub mod StaticBlock
-pub mod StaticBlockLaws
+pub mod Errors
 pub mod Stateless

@@ -1,46 +1,66 @@
--- What the stateless calls answer.
-use Rattle.std.specs.Prelude.{◌≡◌, ℕ, List, [], map, Option, Result, Ok, Err, Bool, false}
-use Rattle.std.specs.List.{AllByRecursion}
-use Rattle.std.specs.Borrow.{Bor}
-use Rattle.std.specs.Iterator.{Drains}
+-- What the stateless calls answer, as the definitions of sections read alone have it.
+use Rattle.std.specs.Prelude.{◌≡◌, ℕ, List, ◌∷◌, map, Result, Ok, Err, false, if◌then◌else◌, nat_lt}
+use Rattle.qpack_spec.specs.Bytes.{◌>>=◌}
 use Rattle.qpack_spec.specs.Field.{Field, total_size}
+use Rattle.qpack_spec.specs.Text.{EndsEarly, LengthOverflows, BadHuffman}
+use Rattle.qpack_spec.specs.Form.{BadInteger, BadString, form_at}
+use Rattle.qpack_spec.specs.Line.{line_form}
+use Rattle.qpack_spec.specs.Reading.{BadForm, NotStatic}
+use Rattle.qpack_spec.specs.Stateless.{StatelessFault, BadSection, NamesEntry, TooLong, held_size, field_alone, or_bad_bytes}
 use Rattle.qpack_base.specs.declared.field.HeaderField.{HeaderField}
-use Rattle.qpack_base.specs.HeaderFields.{field_of, fields_behind}
+use Rattle.qpack_base.specs.HeaderFields.{field_of}
 use Rattle.qpack_base.specs.Integers.{integer_fault_of}
+use Rattle.qpack_base.specs.Payloads.{huffman_fault_of}
 use Rattle.qpack_base.specs.Cursor.{Reading}
-use Rattle.qpack_base.specs.declared.static_.Error.{Error}
-use Rattle.qpack_base.specs.declared.static_.Error.TheVariants.{Unknown}
-use Rattle.h3_qpack.specs.StaticBlock.{IsStatic, BlockFault, BadInteger, NoStaticField, ForeignLine, TooLong, held}
+use Rattle.qpack_base.specs.declared.prefix_int.Error.TheVariants as integer
+use Rattle.qpack_base.specs.declared.prefix_string.Error.TheVariants as string
 use Rattle.h3_qpack.specs.declared.decoder.Decoded.{Decoded}
 use Rattle.h3_qpack.specs.declared.decoder.DecoderError.{DecoderError}
-use Rattle.h3_qpack.specs.declared.decoder.DecoderError.TheVariants.{InvalidInteger, InvalidStaticIndex, UnknownPrefix, HeaderTooLong, Memory}
-
--- all that the iterator gives are fields of the static table
-abbrev pub GivesStatic : {S : Type 0} → (S → Option (Bor HeaderField) → S → Type 0) → S → Type 0
-GivesStatic steps it = (fs : List (Bor HeaderField)) → Drains steps it fs → AllByRecursion IsStatic (fields_behind fs)
+use Rattle.h3_qpack.specs.declared.decoder.DecoderError.TheVariants.{MissingRefs, HeaderTooLong, BadBaseIndex, InvalidInteger, InvalidString, InvalidStaticIndex, UnknownPrefix, UnexpectedEnd, BufSize, Memory}
 
 -- the fields that were decoded
 abbrev pub fields_in : List HeaderField → List Field
 fields_in fs = map field_of fs
 
--- an error is the fault that stands in the block, or want of memory
-abbrev pub FailsBlock : {A : Type 0} → DecoderError → Result A BlockFault → Type 0
-FailsBlock (InvalidInteger e) read = read ≡ Err (BadInteger (integer_fault_of e))
-FailsBlock (InvalidStaticIndex i) read = read ≡ Err (NoStaticField i)
-FailsBlock (UnknownPrefix b) read = read ≡ Err (ForeignLine b)
-FailsBlock (HeaderTooLong n) read = read ≡ Err (TooLong n)
-FailsBlock Memory read = Unit {0}
+-- the error tells the fault that was read, or want of memory
+abbrev pub FailsAlone : {A : Type 0} → DecoderError → Result A StatelessFault → Type 0
+FailsAlone (MissingRefs required) read = (required ≡ 0) × (read ≡ Err NamesEntry)
+FailsAlone (HeaderTooLong sum) read = read ≡ Err (TooLong sum)
+FailsAlone (BadBaseIndex base) read = ⊥
+FailsAlone (InvalidInteger e) read = read ≡ Err (BadSection (BadForm (BadInteger (integer_fault_of e))))
+FailsAlone (InvalidString string.UnexpectedEnd) read = read ≡ Err (BadSection (BadForm (BadString EndsEarly)))
+FailsAlone (InvalidString (string.Integer integer.Overflow)) read = read ≡ Err (BadSection (BadForm (BadString LengthOverflows)))
+FailsAlone (InvalidString (string.Integer integer.UnexpectedEnd)) read = ⊥
+FailsAlone (InvalidString (string.HuffmanDecoding e)) read = read ≡ Err (BadSection (BadForm (BadString (BadHuffman (huffman_fault_of e)))))
+FailsAlone (InvalidString (string.HuffmanEncoding e)) read = ⊥
+FailsAlone (InvalidString string.BufSize) read = ⊥
+FailsAlone (InvalidString string.Memory) read = ⊥
+FailsAlone (InvalidStaticIndex index) read = read ≡ Err (BadSection (NotStatic index))
+FailsAlone (UnknownPrefix bits) read = ⊥
+FailsAlone UnexpectedEnd read = ⊥
+FailsAlone BufSize read = ⊥
+FailsAlone Memory read = Unit {0}
 
--- the fields that were read, and their size
-abbrev pub Decodes : Result Decoded DecoderError → Result (List Field) BlockFault → Type 0
-Decodes (Ok d) read = (read ≡ Ok (fields_in d.fields.items)) × (d.mem_size ≡ held (total_size (fields_in d.fields.items))) × (d.dyn_ref ≡ false)
-Decodes (Err e) read = FailsBlock e read
+-- the fields that were read and their size, nothing being required; or why there are none
+abbrev pub Decodes : Result Decoded DecoderError → Result (List Field) StatelessFault → Type 0
+Decodes (Ok d) read =
+    (read ≡ Ok (fields_in d.fields.items)) × (d.mem_size ≡ held_size (total_size (fields_in d.fields.items))) × (d.dyn_ref ≡ false)
+Decodes (Err e) read = FailsAlone e read
+
+-- ---- a line alone
+
+-- the field of the line at the front, and the bytes behind it; a post-base line is told by its first byte
+abbrev pub field_at : ℕ → List ℕ → Result (Field × List ℕ) StatelessFault
+field_at b bytes =
+    if nat_lt b 32 then Err NamesEntry
+    else (or_bad_bytes (form_at line_form (b ∷ bytes)) >>= λ r. field_alone r.0 >>= λ f. Ok (f, r.1))
 
 -- a line that was read, and where the cursor stands
-abbrev pub ReadsLine : Reading → Reading → Result HeaderField DecoderError → Result (Field × List ℕ) BlockFault → Type 0
-ReadsLine old new (Ok f) read = (read ≡ Ok (field_of f, new.rest)) × (new.total ≡ old.total)
-ReadsLine old new (Err e) read = FailsBlock e read
+abbrev pub ReadsFieldAlone : Reading → Reading → Result HeaderField DecoderError → Result (Field × List ℕ) StatelessFault → Type 0
+ReadsFieldAlone old new (Ok f) read = (read ≡ Ok (field_of f, new.rest)) × (new.total ≡ old.total)
+ReadsFieldAlone old new (Err e) read = FailsAlone e read
 
--- what an index past the static table is told as
-abbrev pub error_of_static : Error → DecoderError
-error_of_static (Unknown i) = InvalidStaticIndex i
+-- the field that a line means
+abbrev pub MeansAlone : Result HeaderField DecoderError → Result Field StatelessFault → Type 0
+MeansAlone (Ok f) read = read ≡ Ok (field_of f)
+MeansAlone (Err e) read = FailsAlone e read

@@ -1,15 +1,19 @@
-//! Blocks to fields (RFC 9204, section 2.2).
+//! Blocks to header fields (RFC 9204, section 2.2).
 
 ghost use Rattle.std.specs.Prelude.{◌≡◌, ◌≤◌, ◌∷◌, IfOk, length, drop};
-ghost use Rattle.h3_qpack.specs.StaticBlock.{static_block_at, static_lines_at, static_line_at, SpellsStaticBlock};
-ghost use Rattle.h3_qpack.specs.Stateless.{Decodes, ReadsLine, error_of_static, fields_in};
+ghost use Rattle.qpack_spec.specs.Stateless.{field_alone, stateless_at, stateless_reading};
+ghost use Rattle.qpack_wire.specs.BlockLines.{line_of};
+ghost use Rattle.h3_qpack.specs.Errors.{decoder_error_of_parse, decoder_error_of_static, decoder_error_of_integer, decoder_error_of_string};
+ghost use Rattle.h3_qpack.specs.Stateless.{Decodes, ReadsFieldAlone, MeansAlone, field_at};
 ghost use Rattle.h3_qpack.specs.declared.decoder.DecoderError.TheVariants.{Memory};
 
-use qpack_base::coding::Cursor;
+use qpack_base::coding::{Cursor, NoMemory};
 use qpack_base::field::HeaderField;
-use qpack_base::prefix_int;
+use qpack_base::parse_error::ParseError;
 use qpack_base::static_::{self, StaticTable};
-use std::alloc::{AllocFailed, Global};
+use qpack_base::{prefix_int, prefix_string};
+use qpack_wire::block::{BlockLine, HeaderPrefix, Indexed, Literal, LiteralWithNameRef};
+use std::alloc::{AllocError, AllocFailed, Global};
 use thiserror::Error;
 
 /// The fields of a block.
@@ -29,27 +33,97 @@ pub enum DecoderError {
     /// An integer of the prefix or of a line is too large, or the bytes end within it.
     #[error("invalid integer: {0}")]
     InvalidInteger(prefix_int::Error),
+    /// A string means nothing, or the bytes end within it.
+    #[error("invalid string: {0:?}")]
+    InvalidString(prefix_string::Error),
     /// No field of the static table has this index.
     #[error("unknown static index: {0}")]
     InvalidStaticIndex(usize),
-    /// A line begins with this byte, and is no line of the static table.
+    /// First bits are no line's; kept from the original, and never answered.
     #[error("unknown instruction code: 0x{0}")]
     UnknownPrefix(u8),
+    /// Entries of the dynamic table are named that were not received: so many insertions are required,
+    /// or 0 where none could ever be received.
+    #[error("missing {0} refs to decode bloc")]
+    MissingRefs(usize),
+    /// The base is below 0; it is held at the least number.
+    #[error("out of bounds base index: {0}")]
+    BadBaseIndex(isize),
+    /// Kept from the original, and never answered: a block that is cut ends within an integer or a string.
+    #[error("unexpected end")]
+    UnexpectedEnd,
     /// The sizes of the fields up to one of them sum to this, which passes the limit.
     #[error("header too long")]
     HeaderTooLong(u64),
+    /// Kept from the original, and never answered: no number is narrowed.
+    #[error("number in buffer wrong size")]
+    BufSize,
     /// No memory was left.
     #[error("out of memory")]
     Memory,
 }
 
+impl From<ParseError> for DecoderError {
+    ghost from_gives = { λ e r. r ≡ decoder_error_of_parse e };
+
+    fn from(e: ParseError) -> DecoderError {
+        match e {
+            ParseError::Integer(e) => DecoderError::InvalidInteger(e),
+            ParseError::String(prefix_string::Error::Memory) => DecoderError::Memory,
+            ParseError::String(e) => DecoderError::InvalidString(e),
+            ParseError::InvalidPrefix(bits) => DecoderError::UnknownPrefix(bits),
+            ParseError::InvalidBase(base) => DecoderError::BadBaseIndex(base),
+            ParseError::Memory => DecoderError::Memory,
+        }
+    }
+}
+
 impl From<static_::Error> for DecoderError {
-    ghost from_gives = { λ e r. r ≡ error_of_static e };
+    ghost from_gives = { λ e r. r ≡ decoder_error_of_static e };
 
     fn from(e: static_::Error) -> DecoderError {
         match e {
             static_::Error::Unknown(index) => DecoderError::InvalidStaticIndex(index),
         }
+    }
+}
+
+impl From<prefix_int::Error> for DecoderError {
+    ghost from_gives = { λ e r. r ≡ decoder_error_of_integer e };
+
+    fn from(e: prefix_int::Error) -> DecoderError {
+        match e {
+            prefix_int::Error::UnexpectedEnd => DecoderError::UnexpectedEnd,
+            e => DecoderError::InvalidInteger(e),
+        }
+    }
+}
+
+impl From<prefix_string::Error> for DecoderError {
+    ghost from_gives = { λ e r. r ≡ decoder_error_of_string e };
+
+    fn from(e: prefix_string::Error) -> DecoderError {
+        match e {
+            prefix_string::Error::UnexpectedEnd => DecoderError::UnexpectedEnd,
+            prefix_string::Error::Memory => DecoderError::Memory,
+            e => DecoderError::InvalidString(e),
+        }
+    }
+}
+
+impl From<NoMemory> for DecoderError {
+    ghost from_gives = { λ _ r. r ≡ Memory };
+
+    fn from(_e: NoMemory) -> DecoderError {
+        DecoderError::Memory
+    }
+}
+
+impl From<AllocError> for DecoderError {
+    ghost from_gives = { λ _ r. r ≡ Memory };
+
+    fn from(_e: AllocError) -> DecoderError {
+        DecoderError::Memory
     }
 }
 
@@ -61,38 +135,35 @@ impl<T: Drop> From<AllocFailed<T>> for DecoderError {
     }
 }
 
-/// Decodes the block that the cursor has left, whose lines name fields of the static table alone, up
-/// to a sum of sizes. The block's prefix is read, and means nothing to an empty dynamic table.
+/// Decodes the block that the cursor has left without a dynamic table, up to a sum of sizes. The
+/// block's prefix is read, and means nothing here.
 pub fn decode_stateless(
     alloc: Global,
     buf: &mut Cursor,
     max_size: u64,
 ) -> Result<Decoded, DecoderError>
-    // What is decoded is spelled so, all of it, and its sizes sum to at most the limit.
-    ensures found { IfOk result (λ d. SpellsStaticBlock buf.old.rest (fields_in d.fields.items) × (d.mem_size ≤ max_size)) }
     // The fields, or the first fault in reading order.
-    ensures exact { Decodes result (static_block_at max_size buf.old.rest) }
+    ensures exact { Decodes result (stateless_reading max_size buf.old.rest) }
 {
     read_block(alloc, buf, max_size)
 }
 
-#[tactic(auto, unfolding(crate::specs::StaticBlock::static_block_at))]
+#[tactic(auto, unfolding(qpack_spec::specs::Stateless::stateless_reading))]
 fn read_block(alloc: Global, buf: &mut Cursor, max_size: u64) -> Result<Decoded, DecoderError>
-    ensures { Decodes result (static_block_at max_size buf.old.rest) }
+    ensures { Decodes result (stateless_reading max_size buf.old.rest) }
 {
-    let _count = prefix_int::decode(8, buf).map_err(DecoderError::InvalidInteger)?;
-    let _base = prefix_int::decode(7, buf).map_err(DecoderError::InvalidInteger)?;
+    let _prefix = HeaderPrefix::decode(buf)?;
     read_lines(alloc, buf, max_size)
 }
 
 /// Reads lines to the end of the cursor.
 fn read_lines(alloc: Global, buf: &mut Cursor, max_size: u64) -> Result<Decoded, DecoderError>
-    ensures { Decodes result (static_lines_at (length buf.old.rest) max_size 0 buf.old.rest) }
+    ensures { Decodes result (stateless_at (length buf.old.rest) max_size 0 buf.old.rest) }
 {
     let mut fields = Vec::new(alloc);
     let mut mem_size = 0u64;
     while let Some(byte) = buf.chunk().first() {
-        let field = read_line(*byte, buf)?;
+        let field = read_field(alloc, *byte, buf)?;
         mem_size = mem_size.saturating_add(field.mem_size() as u64);
         if mem_size > max_size {
             return Err(DecoderError::HeaderTooLong(mem_size));
@@ -106,15 +177,32 @@ fn read_lines(alloc: Global, buf: &mut Cursor, max_size: u64) -> Result<Decoded,
     })
 }
 
-/// Reads the line at the cursor, which begins with this byte.
-#[tactic(auto, unfolding(crate::specs::StaticBlock::static_line_at))]
-fn read_line(byte: u8, buf: &mut Cursor) -> Result<HeaderField, DecoderError>
-    requires { buf.old.rest ≡ byte ∷ drop 1 buf.old.rest }
-    ensures { ReadsLine buf.old buf.new result (static_line_at byte (drop 1 buf.old.rest)) }
+/// Reads the line at the cursor, which begins with this byte, and gives its field. A post-base line is
+/// refused by this byte alone.
+fn read_field(alloc: Global, first: u8, buf: &mut Cursor) -> Result<HeaderField, DecoderError>
+    requires { buf.old.rest ≡ first ∷ drop 1 buf.old.rest }
+    ensures { ReadsFieldAlone buf.old buf.new result (field_at first (drop 1 buf.old.rest)) }
 {
-    if byte / 64 != 0b11 {
-        return Err(DecoderError::UnknownPrefix(byte));
+    if first < 0b0010_0000 {
+        return Err(DecoderError::MissingRefs(0));
     }
-    let (_, index) = prefix_int::decode(6, buf).map_err(DecoderError::InvalidInteger)?;
-    Ok(StaticTable::get(index as usize)?)
+    field_of_line(BlockLine::decode(alloc, buf)?)
+}
+
+/// The field that a line means without a dynamic table.
+#[tactic(auto, unfolding(qpack_spec::specs::Reading::static_field))]
+fn field_of_line(line: BlockLine) -> Result<HeaderField, DecoderError>
+    ensures { MeansAlone result (field_alone (line_of line)) }
+{
+    match line {
+        BlockLine::Indexed(Indexed::Static(index)) => Ok(StaticTable::get(index)?),
+        BlockLine::LiteralWithNameRef(LiteralWithNameRef::Static { index, value }) => {
+            Ok(StaticTable::get(index)?.with_value(value)?)
+        }
+        BlockLine::Literal(Literal { name, value }) => Ok(HeaderField::new(name, value)),
+        BlockLine::Indexed(Indexed::Dynamic(_))
+        | BlockLine::LiteralWithNameRef(LiteralWithNameRef::Dynamic { .. })
+        | BlockLine::IndexedWithPostBase(_)
+        | BlockLine::LiteralWithPostBaseNameRef(_) => Err(DecoderError::MissingRefs(0)),
+    }
 }

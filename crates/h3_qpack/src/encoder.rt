@@ -1,51 +1,98 @@
-//! Field lines to blocks (RFC 9204, section 2.1).
+//! Header fields to blocks (RFC 9204, section 2.1).
 
-ghost use Rattle.std.specs.Prelude.{◌≡◌, ◌++◌, ◌≤◌, IfOk, OnOk, OnErr, take, vec_len, vec_capacity};
+ghost use Rattle.std.specs.Prelude.{◌≡◌, ◌++◌, ◌≤◌, IfOk, IfErr, OnOk, OnErr, take, vec_len, vec_capacity};
 ghost use Rattle.std.specs.Iterator.{IsFinite};
 ghost use Rattle.qpack_spec.specs.Field.{total_size};
+ghost use Rattle.qpack_spec.specs.Line.{written_line};
+ghost use Rattle.qpack_spec.specs.BlockReading.{written_block};
+ghost use Rattle.qpack_spec.specs.Stateless.{stateless_line, stateless_block, held_size};
 ghost use Rattle.qpack_base.specs.HeaderFields.{field_of, DrainsFields};
-ghost use Rattle.h3_qpack.specs.StaticBlock.{static_block, static_line, held};
-ghost use Rattle.h3_qpack.specs.Stateless.{GivesStatic};
+ghost use Rattle.qpack_base.specs.declared.prefix_string.Error.TheVariants.{Memory as NoRoom};
+ghost use Rattle.h3_qpack.specs.Errors.{encoder_error_of_string, encoder_error_of_parse};
+ghost use Rattle.h3_qpack.specs.declared.encoder.EncoderError.TheVariants.{Memory};
 
 use qpack_base::coding::NoMemory;
 use qpack_base::field::HeaderField;
-use qpack_base::prefix_int;
+use qpack_base::parse_error::ParseError;
 use qpack_base::static_::StaticTable;
+use qpack_base::{prefix_int, prefix_string};
+use qpack_wire::block::HeaderPrefix;
 use std::alloc::{AllocError, Allocator};
 use thiserror::Error;
 
-/// Why fields were not encoded.
+/// Why fields were not encoded, or an instruction of the decoder was not taken.
 #[derive(Debug, PartialEq, Drop, Error)]
 pub enum EncoderError {
+    /// A string is bad; kept from the original, and never answered.
+    #[error("could not parse string: {0}")]
+    InvalidString(prefix_string::Error),
+    /// An integer of an instruction is too large, or the bytes end within it.
+    #[error("could not parse integer: {0}")]
+    InvalidInteger(prefix_int::Error),
+    /// First bits are no instruction's; kept from the original, and never answered.
+    #[error("got unkown decoder instruction: {0}")]
+    UnknownDecoderInstruction(u8),
     /// No memory was left.
     #[error("out of memory")]
     Memory,
 }
 
+impl From<prefix_string::Error> for EncoderError {
+    ghost from_gives = { λ e r. r ≡ encoder_error_of_string e };
+
+    fn from(e: prefix_string::Error) -> EncoderError {
+        match e {
+            prefix_string::Error::Memory => EncoderError::Memory,
+            e => EncoderError::InvalidString(e),
+        }
+    }
+}
+
+impl From<ParseError> for EncoderError {
+    ghost from_gives = { λ e r. r ≡ encoder_error_of_parse e };
+
+    fn from(e: ParseError) -> EncoderError {
+        match e {
+            ParseError::Integer(e) => EncoderError::InvalidInteger(e),
+            ParseError::String(e) => EncoderError::from(e),
+            ParseError::InvalidPrefix(bits) => EncoderError::UnknownDecoderInstruction(bits),
+            ParseError::InvalidBase(_) => {
+                EncoderError::InvalidInteger(prefix_int::Error::Overflow)
+            }
+            ParseError::Memory => EncoderError::Memory,
+        }
+    }
+}
+
 impl From<NoMemory> for EncoderError {
+    ghost from_gives = { λ _ r. r ≡ Memory };
+
     fn from(_e: NoMemory) -> EncoderError {
         EncoderError::Memory
     }
 }
 
 impl From<AllocError> for EncoderError {
+    ghost from_gives = { λ _ r. r ≡ Memory };
+
     fn from(_e: AllocError) -> EncoderError {
         EncoderError::Memory
     }
 }
 
-/// Appends the block of the fields, each of which stands in the static table, to the vector, and
-/// answers the sum of their sizes, held at the greatest number. Refused, the vector is as before.
+/// Appends the block of the fields that is written without a dynamic table to the vector, and
+/// answers the sum of their sizes, held at the greatest number. Refused, which is for memory alone,
+/// the vector is as before.
 pub fn encode_stateless<'a, A: Allocator, T: Iterator<Item = &'a HeaderField> + Drop>(
     block: &mut Vec<u8, A>,
     fields: T,
 ) -> Result<u64, EncoderError>
     requires can { T.can_next fields }
     requires ends { IsFinite (T.remaining fields) }
-    requires in_table { GivesStatic T.next_gives fields }
     ensures ok { IfOk result (λ size. DrainsFields T.next_gives fields (λ fs.
-        (block.new.items ≡ block.old.items ++ static_block fs) × (size ≡ held (total_size fs)))) }
+        (block.new.items ≡ block.old.items ++ written_block (stateless_block fs)) × (size ≡ held_size (total_size fs)))) }
     ensures err { OnErr result (block.new.items ≡ block.old.items) }
+    ensures memory { IfErr result (λ e. e ≡ Memory) }
     ensures capacity { vec_capacity block.old ≤ vec_capacity block.new }
 {
     let len = block.len();
@@ -64,11 +111,12 @@ fn append_block<'a, A: Allocator, T: Iterator<Item = &'a HeaderField> + Drop>(
     requires can { T.can_next fields }
     requires ends { IsFinite (T.remaining fields) }
     ensures ok { IfOk result (λ size. DrainsFields T.next_gives fields (λ fs.
-        (block.new.items ≡ block.old.items ++ static_block fs) × (size ≡ held (total_size fs)))) }
+        (block.new.items ≡ block.old.items ++ written_block (stateless_block fs)) × (size ≡ held_size (total_size fs)))) }
     ensures err { OnErr result (take (vec_len block.old) block.new.items ≡ block.old.items) }
+    ensures memory { IfErr result (λ e. e ≡ Memory) }
     ensures capacity { vec_capacity block.old ≤ vec_capacity block.new }
 {
-    block.extend_from_slice(&[0, 0])?;
+    HeaderPrefix::new(0, 0, 0, 0).encode(block)?;
     let mut size = 0u64;
     for field in fields {
         append_line(block, field)?;
@@ -77,14 +125,24 @@ fn append_block<'a, A: Allocator, T: Iterator<Item = &'a HeaderField> + Drop>(
     Ok(size)
 }
 
-/// Appends the line of a field of the static table: two ones, and its index (RFC 9204, section 4.5.2).
-fn append_line<A: Allocator>(block: &mut Vec<u8, A>, field: &HeaderField) -> Result<(), NoMemory>
-    ensures ok { OnOk result (block.new.items ≡ block.old.items ++ static_line (field_of field.now)) }
-    ensures err { OnErr result (block.new.items ≡ block.old.items) }
+/// Appends the line of a field: a static index, a static name with the value, or both in full.
+/// Refused, what stood before is still at the front.
+#[tactic(auto, unfolding(qpack_spec::specs::Line::written_line))]
+fn append_line<A: Allocator>(
+    block: &mut Vec<u8, A>,
+    field: &HeaderField,
+) -> Result<(), prefix_string::Error>
+    ensures ok { OnOk result (block.new.items ≡ block.old.items ++ written_line (stateless_line (field_of field.now))) }
+    ensures err { OnErr result (take (vec_len block.old) block.new.items ≡ block.old.items) }
+    ensures memory { IfErr result (λ e. e ≡ NoRoom) }
     ensures capacity { vec_capacity block.old ≤ vec_capacity block.new }
 {
-    match StaticTable::find(field) {
-        Some(index) => prefix_int::encode(6, 0b11, index as u64, block),
-        None => Ok(()),
+    if let Some(index) = StaticTable::find(field) {
+        return Ok(prefix_int::encode(6, 0b11, index as u64, block)?);
     }
+    match StaticTable::find_name(field.name.as_slice()) {
+        Some(index) => prefix_int::encode(4, 0b0101, index as u64, block)?,
+        None => prefix_string::encode(4, 0b0010, field.name.as_slice(), block)?,
+    }
+    prefix_string::encode(8, 0, field.value.as_slice(), block)
 }

@@ -4,9 +4,20 @@
 
 pub mod decoder;
 pub mod encoder;
-pub mod laws;
 
 pub use decoder::{Decoded, DecoderError, decode_stateless};
 pub use encoder::{EncoderError, encode_stateless};
 pub use qpack_base::field::HeaderField;
-pub use qpack_base::{coding, field, prefix_int, static_};
+pub use qpack_base::{coding, field, parse_error, prefix_int, prefix_string, static_};
+pub use qpack_wire::block;
+
+/// Why fields were not encoded or decoded.
+#[derive(Debug, Drop, thiserror::Error)]
+pub enum Error {
+    /// Why they were not encoded.
+    #[error("Encoder {0}")]
+    Encoder(EncoderError),
+    /// Why they were not decoded.
+    #[error("Decoder {0}")]
+    Decoder(DecoderError),
+}

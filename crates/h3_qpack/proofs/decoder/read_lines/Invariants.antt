@@ -1,14 +1,15 @@
 use Rattle.std.proofs.Common.{◌≡◌, ℕ, ◌≤◌, length}
 use Rattle.qpack_spec.specs.Field.{total_size}
-use Rattle.h3_qpack.specs.StaticBlock.{static_lines_at, held}
+use Rattle.qpack_spec.specs.Stateless.{stateless_at, held_size}
 use Rattle.h3_qpack.specs.Stateless.{fields_in}
-use Rattle.h3_qpack.proofs.Lines.{with_front}
+use Rattle.h3_qpack.proofs.ReadLines.{with_front}
 use Rattle.h3_qpack.proofs.decoder.read_lines.Given as goal
 
 abbrev pub invariant-loop-byte : goal.invariant-loop-byte
 invariant-loop-byte l =
-    ((k : ℕ) × (length l.buf.rest ≤ k) × (with_front (fields_in l.fields.items) (static_lines_at k l.max_size l.mem_size l.buf.rest) ≡ static_lines_at (length l.fn.buf.rest) l.max_size 0 l.fn.buf.rest))
-    × (l.mem_size ≡ held (total_size (fields_in l.fields.items)))
+    ((k : ℕ) × (length l.buf.rest ≤ k)
+    × (with_front (fields_in l.fields.items) (stateless_at k l.max_size (total_size (fields_in l.fields.items)) l.buf.rest) ≡ stateless_at (length l.fn.buf.rest) l.max_size 0 l.fn.buf.rest))
+    × (l.mem_size ≡ held_size (total_size (fields_in l.fields.items)))
 
 abbrev pub decreases-loop-byte : goal.decreases-loop-byte
 decreases-loop-byte l = length l.buf.rest

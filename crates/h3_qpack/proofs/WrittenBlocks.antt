@@ -1,0 +1,58 @@
+-- The block of fields, line by line as it is written.
+use Rattle.std.proofs.Common.{◌≡◌, List, ℕ, false, [], ◌∷◌, ◌++◌, map, length, take, drop, refl, sym, ap, ◌∙◌, append_assoc, append-nil}
+use Rattle.std.proofs.lemmas.List.{take-append-drop}
+use Rattle.std.proofs.Math.Seq.{take-append_seam}
+use Rattle.std.specs.Borrow.{Bor}
+use Rattle.qpack_spec.specs.Field.{Field}
+use Rattle.qpack_spec.specs.Line.{Line, written_line, written_lines}
+use Rattle.qpack_spec.specs.Prefix.{written_prefix, prefix_for}
+use Rattle.qpack_spec.specs.BlockReading.{written_block}
+use Rattle.qpack_spec.specs.Stateless.{stateless_line, stateless_block}
+use Rattle.qpack_base.specs.declared.field.HeaderField.{HeaderField}
+use Rattle.qpack_base.specs.HeaderFields.{field_of, fields_behind}
+
+lines_more : (ls : List Line) (l : Line) → written_lines (ls ++ l ∷ []) ≡ written_lines ls ++ written_line l
+unfolding written_lines
+lines_more [] l = append-nil (written_line l)
+lines_more (k ∷ ls) l = ap (λ (t : List ℕ). written_line k ++ t) (lines_more ls l) ∙ sym (append_assoc (written_line k) (written_lines ls) (written_line l))
+
+lines_of_more : (fs : List Field) (f : Field) → map (λ g. stateless_line g) (fs ++ f ∷ []) ≡ map (λ g. stateless_line g) fs ++ stateless_line f ∷ []
+lines_of_more [] f = refl
+lines_of_more (g ∷ fs) f = ap (λ (ls : List Line). stateless_line g ∷ ls) (lines_of_more fs f)
+
+-- of no fields it is the prefix that requires nothing
+pub block_of_none : written_block (stateless_block []) ≡ written_prefix (prefix_for 0 0 0)
+unfolding written_block written_lines prefix_for
+block_of_none = append-nil (written_prefix (record { count = 0; sign = false; delta = 0 }))
+
+-- of a field more it has the field's line more
+pub block_of_more : (fs : List Field) (f : Field) → written_block (stateless_block (fs ++ f ∷ [])) ≡ written_block (stateless_block fs) ++ written_line (stateless_line f)
+unfolding written_block
+block_of_more fs f =
+    let p = written_prefix (record { count = 0; sign = false; delta = 0 }) in
+    ap (λ (t : List ℕ). p ++ t) (ap written_lines (lines_of_more fs f) ∙ lines_more (map (λ g. stateless_line g) fs) (stateless_line f))
+    ∙ sym (append_assoc p (written_lines (map (λ g. stateless_line g) fs)) (written_line (stateless_line f)))
+
+-- ---- a block that grows in a vector
+
+-- the first bytes are the prefix
+pub begun : (before now : List ℕ) → now ≡ before ++ written_prefix (prefix_for 0 0 0) → now ≡ before ++ written_block (stateless_block [])
+begun before now e = e ∙ ap (λ (t : List ℕ). before ++ t) (sym block_of_none)
+
+-- a line more
+pub grown : (before mid now : List ℕ) (fs : List Field) (f : Field) → mid ≡ before ++ written_block (stateless_block fs) → now ≡ mid ++ written_line (stateless_line f)
+    → now ≡ before ++ written_block (stateless_block (fs ++ f ∷ []))
+grown before mid now fs f e h =
+    h ∙ ap (λ (t : List ℕ). t ++ written_line (stateless_line f)) e
+    ∙ append_assoc before (written_block (stateless_block fs)) (written_line (stateless_line f))
+    ∙ ap (λ (t : List ℕ). before ++ t) (sym (block_of_more fs f))
+
+-- what stood before is still at the front, where it is at the front of what was kept
+pub still_front : (before more now : List ℕ) (n k : ℕ) → length before ≡ k → take n now ≡ before ++ more → take k now ≡ before
+still_front before more now n k len h =
+    let all : now ≡ before ++ (more ++ drop n now) = sym (take-append-drop n now) ∙ ap (λ (t : List ℕ). t ++ drop n now) h ∙ append_assoc before more (drop n now) in
+    ap (λ (m : ℕ). take m now) (sym len) ∙ ap (take (length before)) all ∙ take-append_seam before (more ++ drop n now)
+
+pub behind_more : (fs : List (Bor HeaderField)) (f : Bor HeaderField) → fields_behind (fs ++ f ∷ []) ≡ fields_behind fs ++ field_of f.now ∷ []
+behind_more [] f = refl
+behind_more (g ∷ fs) f = ap (λ (xs : List Field). field_of g.now ∷ xs) (behind_more fs f)
