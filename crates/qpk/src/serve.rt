@@ -3,7 +3,7 @@
 ghost use Rattle.std.specs.Prelude.{◌≡◌, ◌≢◌, ◌++◌, ◌∷◌, [], List, ℕ, IfOk, IfErr, IfSome, MatchOption, string_bytes};
 ghost use Rattle.std.specs.Io.KnownBytes.{Appends};
 ghost use Rattle.qpack_spec.specs.Field.{total_size};
-ghost use Rattle.h3_qpack.specs.StaticBlock.{held};
+ghost use Rattle.qpack_spec.specs.Stateless.{held_size};
 ghost use Rattle.h3_qpack.specs.Stateless.{fields_in};
 ghost use Rattle.qpk.specs.declared.serve.Refusal.TheVariants.{Fault as Refused};
 ghost use Rattle.qpk.specs.Serving.{AsksFor, AsksForNothing, Answers, AnswersInput, EndsFor, SaysNumber, shown};
@@ -48,7 +48,7 @@ impl From<Fault> for Refusal {
 impl fmt::Display for Refusal {
     fn fmt<W: fmt::Write>(&self, f: &mut fmt::Formatter<W>) -> fmt::Result {
         match self {
-            Refusal::Usage | Refusal::Fault(Fault::NotStatic(_)) => {
+            Refusal::Usage => {
                 f.write_str("usage: qpk encode | qpk decode LIMIT | qpk run CAPACITY LIMIT")
             }
             Refusal::Input => f.write_str("qpk: refused: input"),
@@ -150,7 +150,7 @@ fn answer(alloc: Global, command: Command, input: &[u8]) -> Result<String, Fault
 
 /// The fields, a line each, and the line of their size.
 fn show(alloc: Global, decoded: &Decoded) -> Result<String, NoMemory>
-    requires { decoded.now.mem_size ≡ held (total_size (fields_in decoded.now.fields.items)) }
+    requires { decoded.now.mem_size ≡ held_size (total_size (fields_in decoded.now.fields.items)) }
     ensures { IfOk result (λ text. string_bytes text ≡ shown (fields_in decoded.now.fields.items)) }
 {
     let mut text = String::new(alloc);

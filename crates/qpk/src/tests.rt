@@ -80,6 +80,14 @@ fn fields_are_encoded(rt: HostRuntime) -> Result<(), Fail> {
         "0000c1ff00\n",
         "",
     )?;
+    runs(
+        &rt,
+        alloc,
+        "encode",
+        b"foo\tbar\nage\t1",
+        "00002a94e7838c767f52810f\n",
+        "",
+    )?;
     Ok(())
 }
 
@@ -129,6 +137,22 @@ fn blocks_are_decoded(rt: HostRuntime) -> Result<(), Fail> {
     runs(
         &rt,
         alloc,
+        "decode 71",
+        b"00002a94e7838c767f52810f\n",
+        "",
+        "qpk: refused: header too long\n",
+    )?;
+    runs(
+        &rt,
+        alloc,
+        "decode 74",
+        b"00002A94E7838C767F52810F",
+        "foo\tbar\nage\t1\nsize 74\n",
+        "",
+    )?;
+    runs(
+        &rt,
+        alloc,
         "decode 18446744073709551615",
         b"0000",
         "size 0\n",
@@ -174,7 +198,15 @@ fn bad_blocks_are_refused(rt: HostRuntime) -> Result<(), Fail> {
         "decode 9",
         b"000010",
         "",
-        "qpk: refused: unknown instruction code: 0x16\n",
+        "qpk: refused: missing 0 refs to decode bloc\n",
+    )?;
+    runs(
+        &rt,
+        alloc,
+        "decode 9",
+        b"00002a94",
+        "",
+        "qpk: refused: invalid string: UnexpectedEnd\n",
     )?;
     runs(&rt, alloc, "decode 9", b"000", "", "qpk: not hexadecimal\n")?;
     runs(
@@ -214,7 +246,6 @@ fn other_words_are_refused(rt: HostRuntime) -> Result<(), Fail> {
     )?;
     runs(&rt, alloc, "decode -1", b"0000", "", usage)?;
     runs(&rt, alloc, "run 4096 1", b"", "", usage)?;
-    runs(&rt, alloc, "encode", b"foo\tbar\n", "", usage)?;
     Ok(())
 }
 

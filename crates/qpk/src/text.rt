@@ -1,18 +1,14 @@
 //! The text calls: lines of fields to hexadecimal, and hexadecimal to fields.
 
-ghost use Rattle.std.specs.Prelude.{◌≡◌, ◌+◌};
+ghost use Rattle.std.specs.Prelude.{◌≡◌};
 ghost use Rattle.hex.specs.Hex.{decode_of};
-ghost use Rattle.h3_qpack.specs.Stateless.{fields_in};
 ghost use Rattle.qpk.specs.FieldText.{lines_of, fields_from};
-ghost use Rattle.qpk.specs.Answers.{encode_answer, EncodesText, ReadsFields, first_not_static, without_feed, DecodesText, fault_of_decoder};
+ghost use Rattle.qpk.specs.Answers.{encode_answer, EncodesText, ReadsFields, without_feed, DecodesText, fault_of_decoder};
 ghost use Rattle.qpk.specs.declared.text.Fault.TheVariants.{Memory};
 
 use crate::lines::{split_field, split_line};
 use h3_qpack::coding::{Cursor, NoMemory};
-use h3_qpack::static_::StaticTable;
-use h3_qpack::{
-    Decoded, DecoderError, EncoderError, HeaderField, decode_stateless, encode_stateless,
-};
+use h3_qpack::{Decoded, DecoderError, HeaderField, decode_stateless, encode_stateless};
 use hex::FromHexError;
 use std::alloc::{AllocError, AllocFailed, Global};
 use thiserror::Error;
@@ -23,9 +19,6 @@ pub enum Fault {
     /// The line of this number, counted from 1, has no TAB.
     #[error("line {0}: no tab")]
     NoTab(usize),
-    /// The field of the line of this number, counted from 1, is not in the static table.
-    #[error("line {0}: not static")]
-    NotStatic(usize),
     /// The text is no hexadecimal.
     #[error("not hexadecimal")]
     NotHexadecimal,
@@ -61,16 +54,6 @@ impl From<NoMemory> for Fault {
     }
 }
 
-impl From<EncoderError> for Fault {
-    ghost from_gives = { λ _ r. r ≡ Memory };
-
-    fn from(e: EncoderError) -> Fault {
-        match e {
-            EncoderError::Memory => Fault::Memory,
-        }
-    }
-}
-
 impl From<DecoderError> for Fault {
     ghost from_gives = { λ e r. r ≡ fault_of_decoder e };
 
@@ -83,16 +66,16 @@ impl From<DecoderError> for Fault {
 }
 
 /// The stateless block of the fields of the text's lines, `name TAB value` each, in lower-case
-/// hexadecimal; or the first line without a TAB, or else the first field that is not static.
+/// hexadecimal; or the first line without a TAB.
 pub fn encode_text(alloc: Global, text: &[u8]) -> Result<String, Fault>
     ensures { EncodesText result (encode_answer text.now) }
 {
     let fields = read_fields(alloc, text)?;
-    if let Some(number) = first_foreign(&fields) {
-        return Err(Fault::NotStatic(number));
-    }
     let mut block = Vec::new(alloc);
-    encode_stateless(&mut block, fields.iter())?;
+    let Ok(_size) = encode_stateless(&mut block, fields.iter()) else {
+        // It is refused for memory alone.
+        return Err(Fault::Memory);
+    };
     Ok(hex::encode(alloc, block.as_slice())?)
 }
 
@@ -113,20 +96,6 @@ fn read_fields(alloc: Global, text: &[u8]) -> Result<Vec<HeaderField>, Fault>
         rest = after;
     }
     Ok(fields)
-}
-
-/// The number of the first field, counted from 1, that is not in the static table.
-fn first_foreign(fields: &[HeaderField]) -> Option<usize>
-    ensures { result ≡ first_not_static 1 (fields_in fields.now) }
-{
-    let mut number = 0usize;
-    for field in fields {
-        number += 1;
-        if StaticTable::find(field).is_none() {
-            return Some(number);
-        }
-    }
-    None
 }
 
 /// The fields of the block that the text stands for in hexadecimal, in either case, with or without
