@@ -31,6 +31,7 @@ pub mod PutTables
 pub mod WindowLaws
 pub mod TableLaws
 pub mod StatelessPairs
+pub mod StatelessMeanings
 pub mod StatelessRows
 pub mod Sizes
 pub mod Handles

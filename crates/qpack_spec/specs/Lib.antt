@@ -31,3 +31,4 @@ pub mod SessionLaws
 pub mod HuffmanLaws
 pub mod TextLaws
 pub mod Stateless
+pub mod StatelessMeaning

@@ -1,6 +1,7 @@
 //! Laws of field sections that name no entry.
 
 ghost use Rattle.qpack_spec.specs.Stateless.{RuleWithoutTable, StatelessPairAgrees};
+ghost use Rattle.qpack_spec.specs.StatelessMeaning.{ReadingAloneIsMeaning};
 
 /// Without a table the rule writes static lines and literals alone.
 pub fn rule_without_table_is_stateless()
@@ -10,4 +11,9 @@ pub fn rule_without_table_is_stateless()
 /// What is written alone is read alone as the fields, or refused at the first one whose sum of sizes passes the limit.
 pub fn stateless_pair_agrees()
     ensures { StatelessPairAgrees }
+{}
+
+/// Reading a section alone from left to right gives its fields, or its first fault in reading order.
+pub fn reading_alone_is_meaning()
+    ensures { ReadingAloneIsMeaning }
 {}

@@ -1,0 +1,59 @@
+-- What a field section means where no table is at hand, up to a limit on the sum of sizes (RFC 9204, sections 2.2.1, 3.2.1
+-- and 4.5): its prefix and its lines, or the first fault in reading order.
+use Rattle.std.specs.Prelude.{◌≡◌, ℕ, ◌+◌, ◌<◌, ◌≤◌, ◌↔◌, List, ◌∷◌, ◌++◌, Result, Ok, Err}
+use Rattle.qpack_spec.specs.Field.{Field, field_size, total_size}
+use Rattle.qpack_spec.specs.Form.{FormFault, form_at}
+use Rattle.qpack_spec.specs.Line.{Line, line_form, SpellsLine}
+use Rattle.qpack_spec.specs.Prefix.{Prefix, SpellsPrefix, prefix_at}
+use Rattle.qpack_spec.specs.Stream.{Joined}
+use Rattle.qpack_spec.specs.Reading.{BadForm}
+use Rattle.qpack_spec.specs.Stateless.{StatelessFault, BadSection, NamesEntry, TooLong, held_size, field_alone, stateless_reading}
+
+-- the bytes are a line that means the field alone
+abbrev pub SpellsFieldAlone : List ℕ → Field → Type 0
+SpellsFieldAlone text f = (l : Line) × SpellsLine text l × (field_alone l ≡ Ok f)
+
+-- the bytes are a prefix, whatever it says, and lines that mean the fields, whose sizes sum to at most the limit
+pub record MeansAlone (limit : ℕ) (bytes : List ℕ) (fields : List Field) : Type 0 where
+  pub head : List ℕ
+  pub lines : List ℕ
+  pub cut : bytes ≡ head ++ lines
+  pub prefix : Prefix
+  pub spells : SpellsPrefix head prefix
+  pub joined : Joined SpellsFieldAlone lines fields
+  pub within : held_size (total_size fields) ≤ limit
+
+-- why the next line gives no field, the sizes so far having this sum: its first byte says that it is a post-base line, its
+-- bytes can't be read, it means nothing alone, or its field passes the limit
+pub data StopsLine (limit sum first : ℕ) (more : List ℕ) (e : StatelessFault) : Type 0 where
+  post_base : first < 32 → e ≡ NamesEntry → StopsLine limit sum first more e
+  in_bytes : 32 ≤ first → (fault : FormFault) → form_at line_form (first ∷ more) ≡ Err fault → e ≡ BadSection (BadForm fault) → StopsLine limit sum first more e
+  in_line : 32 ≤ first → (text rest : List ℕ) (l : Line) → first ∷ more ≡ text ++ rest → SpellsLine text l → field_alone l ≡ Err e → StopsLine limit sum first more e
+  past_limit : (text rest : List ℕ) (f : Field) → first ∷ more ≡ text ++ rest → SpellsFieldAlone text f
+      → limit < held_size (sum + field_size f) → e ≡ TooLong (held_size (sum + field_size f)) → StopsLine limit sum first more e
+
+-- behind lines that mean fields, within the limit, the next line gives none
+pub record StopsBehind (limit sum : ℕ) (lines : List ℕ) (e : StatelessFault) : Type 0 where
+  pub front : List ℕ
+  pub first : ℕ
+  pub more : List ℕ
+  pub cut : lines ≡ front ++ first ∷ more
+  pub so_far : List Field
+  pub joined : Joined SpellsFieldAlone front so_far
+  pub within : held_size (sum + total_size so_far) ≤ limit
+  pub stops : StopsLine limit (sum + total_size so_far) first more e
+
+-- why a section means nothing: its prefix can't be read, or a line stops it
+pub data StopsAlone (limit : ℕ) (bytes : List ℕ) (e : StatelessFault) : Type 0 where
+  in_prefix : (fault : FormFault) → prefix_at bytes ≡ Err fault → e ≡ BadSection (BadForm fault) → StopsAlone limit bytes e
+  in_lines : (head lines : List ℕ) (prefix : Prefix) → bytes ≡ head ++ lines → SpellsPrefix head prefix → StopsBehind limit 0 lines e → StopsAlone limit bytes e
+
+-- what a section gives: its fields, or the first fault
+abbrev pub GivesAlone : ℕ → List ℕ → Result (List Field) StatelessFault → Type 0
+GivesAlone limit bytes (Ok fs) = MeansAlone limit bytes fs
+GivesAlone limit bytes (Err e) = StopsAlone limit bytes e
+
+-- reading from left to right gives exactly that
+abbrev pub ReadingAloneIsMeaning : Type 0
+ReadingAloneIsMeaning =
+    (limit : ℕ) (bytes : List ℕ) (r : Result (List Field) StatelessFault) → (stateless_reading limit bytes ≡ r) ↔ GivesAlone limit bytes r
