@@ -1,5 +1,5 @@
 -- What the stateless calls answer, as the definitions of sections read alone have it.
-use Rattle.std.specs.Prelude.{◌≡◌, ℕ, List, ◌∷◌, map, Result, Ok, Err, false, if◌then◌else◌, nat_lt}
+use Rattle.std.specs.Prelude.{◌≡◌, ◌≢◌, ℕ, List, ◌∷◌, map, Result, Ok, Err, false, if◌then◌else◌, nat_lt}
 use Rattle.qpack_spec.specs.Bytes.{◌>>=◌}
 use Rattle.qpack_spec.specs.Field.{Field, total_size}
 use Rattle.qpack_spec.specs.Text.{EndsEarly, LengthOverflows, BadHuffman}
@@ -7,6 +7,7 @@ use Rattle.qpack_spec.specs.Form.{BadInteger, BadString, form_at}
 use Rattle.qpack_spec.specs.Line.{line_form}
 use Rattle.qpack_spec.specs.Reading.{BadForm, NotStatic}
 use Rattle.qpack_spec.specs.Stateless.{StatelessFault, BadSection, NamesEntry, TooLong, held_size, field_alone, or_bad_bytes}
+use Rattle.qpack_spec.specs.StatelessMeaning.{MeansAlone, StopsAlone}
 use Rattle.qpack_base.specs.declared.field.HeaderField.{HeaderField}
 use Rattle.qpack_base.specs.HeaderFields.{field_of}
 use Rattle.qpack_base.specs.Integers.{integer_fault_of}
@@ -47,6 +48,31 @@ Decodes (Ok d) read =
     (read ≡ Ok (fields_in d.fields.items)) × (d.mem_size ≡ held_size (total_size (fields_in d.fields.items))) × (d.dyn_ref ≡ false)
 Decodes (Err e) read = FailsAlone e read
 
+-- ---- the same by cases
+
+-- the error tells this fault, or want of memory
+abbrev pub Tells : DecoderError → StatelessFault → Type 0
+Tells e fault = FailsAlone {A = List Field} e (Err fault)
+
+-- the answer is these fields, or memory was refused
+abbrev pub GivesFields : Result Decoded DecoderError → List Field → Type 0
+GivesFields (Ok d) fs = fields_in d.fields.items ≡ fs
+GivesFields (Err e) fs = e ≡ Memory
+
+-- the answer is this fault, or memory was refused
+abbrev pub GivesFault : Result Decoded DecoderError → StatelessFault → Type 0
+GivesFault (Ok d) fault = ⊥
+GivesFault (Err e) fault = Tells e fault
+
+-- the answer's fields are what the bytes mean, with their size, and nothing is required
+abbrev pub FindsFields : ℕ → List ℕ → Decoded → Type 0
+FindsFields limit bytes d =
+    MeansAlone limit bytes (fields_in d.fields.items) × (d.mem_size ≡ held_size (total_size (fields_in d.fields.items))) × (d.dyn_ref ≡ false)
+
+-- the error tells why the bytes mean nothing, or memory was refused
+abbrev pub FindsFault : ℕ → List ℕ → DecoderError → Type 0
+FindsFault limit bytes e = (e ≢ Memory) → (fault : StatelessFault) × Tells e fault × StopsAlone limit bytes fault
+
 -- ---- a line alone
 
 -- the field of the line at the front, and the bytes behind it; a post-base line is told by its first byte
@@ -61,6 +87,6 @@ ReadsFieldAlone old new (Ok f) read = (read ≡ Ok (field_of f, new.rest)) × (n
 ReadsFieldAlone old new (Err e) read = FailsAlone e read
 
 -- the field that a line means
-abbrev pub MeansAlone : Result HeaderField DecoderError → Result Field StatelessFault → Type 0
-MeansAlone (Ok f) read = read ≡ Ok (field_of f)
-MeansAlone (Err e) read = FailsAlone e read
+abbrev pub GivesFieldAlone : Result HeaderField DecoderError → Result Field StatelessFault → Type 0
+GivesFieldAlone (Ok f) read = read ≡ Ok (field_of f)
+GivesFieldAlone (Err e) read = FailsAlone e read

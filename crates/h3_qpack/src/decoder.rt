@@ -1,10 +1,12 @@
 //! Blocks to header fields (RFC 9204, section 2.2).
 
-ghost use Rattle.std.specs.Prelude.{◌≡◌, ◌≤◌, ◌∷◌, IfOk, length, drop};
-ghost use Rattle.qpack_spec.specs.Stateless.{field_alone, stateless_at, stateless_reading};
+ghost use Rattle.std.specs.Prelude.{◌≡◌, ◌∷◌, List, IfOk, IfErr, length, drop};
+ghost use Rattle.qpack_spec.specs.Field.{Field};
+ghost use Rattle.qpack_spec.specs.Stateless.{StatelessFault, field_alone, stateless_at, stateless_reading};
+ghost use Rattle.qpack_spec.specs.StatelessMeaning.{MeansAlone, StopsAlone};
 ghost use Rattle.qpack_wire.specs.BlockLines.{line_of};
 ghost use Rattle.h3_qpack.specs.Errors.{decoder_error_of_parse, decoder_error_of_static, decoder_error_of_integer, decoder_error_of_string};
-ghost use Rattle.h3_qpack.specs.Stateless.{Decodes, ReadsFieldAlone, MeansAlone, field_at};
+ghost use Rattle.h3_qpack.specs.Stateless.{Decodes, GivesFields, GivesFault, FindsFields, FindsFault, ReadsFieldAlone, GivesFieldAlone, field_at};
 ghost use Rattle.h3_qpack.specs.declared.decoder.DecoderError.TheVariants.{Memory};
 
 use qpack_base::coding::{Cursor, NoMemory};
@@ -142,7 +144,15 @@ pub fn decode_stateless(
     buf: &mut Cursor,
     max_size: u64,
 ) -> Result<Decoded, DecoderError>
-    // The fields, or the first fault in reading order.
+    // What is answered is what the bytes mean, within the limit.
+    ensures found { IfOk result (FindsFields max_size buf.old.rest) }
+    // What they mean is answered, unless memory is refused.
+    ensures only { (fields : List Field) → MeansAlone max_size buf.old.rest fields → GivesFields result fields }
+    // A refusal tells why they mean nothing: the first fault in reading order.
+    ensures refused { IfErr result (FindsFault max_size buf.old.rest) }
+    // And why they mean nothing is told, unless memory is refused.
+    ensures told { (fault : StatelessFault) → StopsAlone max_size buf.old.rest fault → GivesFault result fault }
+    // The same, as reading from left to right.
     ensures exact { Decodes result (stateless_reading max_size buf.old.rest) }
 {
     read_block(alloc, buf, max_size)
@@ -192,7 +202,7 @@ fn read_field(alloc: Global, first: u8, buf: &mut Cursor) -> Result<HeaderField,
 /// The field that a line means without a dynamic table.
 #[tactic(auto, unfolding(qpack_spec::specs::Reading::static_field))]
 fn field_of_line(line: BlockLine) -> Result<HeaderField, DecoderError>
-    ensures { MeansAlone result (field_alone (line_of line)) }
+    ensures { GivesFieldAlone result (field_alone (line_of line)) }
 {
     match line {
         BlockLine::Indexed(Indexed::Static(index)) => Ok(StaticTable::get(index)?),
