@@ -25,9 +25,9 @@ fn words_again(alloc: Global, line: &str) -> Result<Vec<String>, AllocError> {
     words(alloc, line).or_else(|_| words(alloc, line))
 }
 
-/// Whether a run may have been refused for memory: what it told, or that it could tell nothing.
+/// Whether a run may have been refused for memory: it told so, or its line was cut off.
 fn wants_memory(told: &[u8]) -> bool {
-    told.is_empty() || told == REFUSED_MEMORY.as_bytes() || told == REFUSED_OUTPUT.as_bytes()
+    !told.ends_with(b"\n") || told == REFUSED_MEMORY.as_bytes() || told == REFUSED_OUTPUT.as_bytes()
 }
 
 /// Runs the program, and again where it was refused for memory, which must leave the output as it was.
