@@ -14,3 +14,6 @@ pub use crate::stream::inserts::{InsertWithNameRef, InsertWithoutNameRef};
 pub use crate::stream::lines::{Wire, next_line};
 pub use crate::stream::replies::{HeaderAck, InsertCountIncrement, StreamCancel};
 pub use crate::stream::updates::{Duplicate, DynamicTableSizeUpdate};
+
+#[cfg(test)]
+mod tests;
