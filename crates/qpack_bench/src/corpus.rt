@@ -1,0 +1,67 @@
+//! Header lists, and their blocks as other implementations write them, read from files.
+
+use crate::Problem;
+use h3_qpack::HeaderField;
+use std::alloc::Global;
+use std::mem;
+
+/// A block of another implementation, with the sum of its fields' sizes where it is told.
+#[derive(Drop)]
+pub struct ForeignBlock {
+    pub bytes: Vec<u8>,
+    pub size: Option<u64>,
+}
+
+/// The header lists of a text: a field a line, `name TAB value`; an empty line ends a list.
+pub fn read_lists(alloc: Global, text: &str) -> Result<Vec<Vec<HeaderField>>, Problem> {
+    let mut lists = Vec::new(alloc);
+    let mut list = Vec::new(alloc);
+    for line in text.lines() {
+        match line.split_once('\t') {
+            Some((name, value)) => {
+                list.push(HeaderField::from_pair(alloc, name.as_bytes(), value.as_bytes())?)?;
+            }
+            None => lists.push(mem::replace(&mut list, Vec::new(alloc)))?,
+        }
+    }
+    Ok(lists)
+}
+
+/// The blocks of a text: a block a line, in hexadecimal behind the last TAB, with the sum of sizes
+/// before it in a text that tells sizes.
+pub fn read_blocks(
+    alloc: Global,
+    text: &str,
+    has_sizes: bool,
+) -> Result<Vec<ForeignBlock>, Problem> {
+    let mut blocks = Vec::new(alloc);
+    for line in text.lines() {
+        let (_, rest) = line.split_once('\t').ok_or(Problem::File)?;
+        let (middle, digits) = rest.split_once('\t').ok_or(Problem::File)?;
+        let bytes = hex::decode(alloc, digits).map_err(|_| Problem::File)?;
+        let size = if has_sizes { middle.parse().ok() } else { None };
+        blocks.push(ForeignBlock { bytes, size })?;
+    }
+    Ok(blocks)
+}
+
+/// How many bytes the names and values of the lists have.
+pub fn text_len(lists: &[Vec<HeaderField>]) -> u64 {
+    let mut len = 0u64;
+    for list in lists {
+        for field in list {
+            len = len.saturating_add(field.name.len() as u64);
+            len = len.saturating_add(field.value.len() as u64);
+        }
+    }
+    len
+}
+
+/// How many fields the lists have.
+pub fn fields_len(lists: &[Vec<HeaderField>]) -> u64 {
+    let mut len = 0u64;
+    for list in lists {
+        len = len.saturating_add(list.len() as u64);
+    }
+    len
+}

@@ -1,0 +1,141 @@
+//! Times of many rounds over the lists.
+
+use crate::Problem;
+use crate::corpus::{fields_len, text_len};
+use h3_qpack::coding::Cursor;
+use h3_qpack::prefix_string::{HpackStringDecode, HpackStringEncode};
+use h3_qpack::{HeaderField, decode_stateless, encode_stateless};
+use std::alloc::Global;
+use std::time::Instant;
+
+/// What was timed: how many items, of how many bytes of text.
+#[derive(Clone, Copy)]
+struct Work {
+    items: u64,
+    bytes: u64,
+}
+
+/// Times blocks written and read, and the Huffman code alone, and tells a line for each.
+pub fn time(
+    rt: &HostRuntime,
+    alloc: Global,
+    lists: &[Vec<HeaderField>],
+    rounds: u64,
+) -> Result<(), Problem> {
+    let fields = Work {
+        items: fields_len(lists).saturating_mul(rounds),
+        bytes: text_len(lists).saturating_mul(rounds),
+    };
+    let start = Instant::now(rt)?;
+    let written = encode_rounds(alloc, lists, rounds)?;
+    tell(rt, "encode", fields, start, written)?;
+    let blocks = blocks_of(alloc, lists)?;
+    let start = Instant::now(rt)?;
+    let read = decode_rounds(alloc, &blocks, rounds)?;
+    tell(rt, "decode", fields, start, read)?;
+    time_huffman(rt, alloc, lists, rounds)
+}
+
+/// Times the Huffman code alone, over all names and values.
+fn time_huffman(
+    rt: &HostRuntime,
+    alloc: Global,
+    lists: &[Vec<HeaderField>],
+    rounds: u64,
+) -> Result<(), Problem> {
+    let texts = texts_of(alloc, lists)?;
+    let work = Work {
+        items: (texts.len() as u64).saturating_mul(rounds),
+        bytes: text_len(lists).saturating_mul(rounds),
+    };
+    let start = Instant::now(rt)?;
+    let mut written = 0u64;
+    for _ in 0..rounds {
+        for text in &texts {
+            written = written.saturating_add(text.hpack_encode()?.len() as u64);
+        }
+    }
+    tell(rt, "code", work, start, written)?;
+    let mut payloads = Vec::new(alloc);
+    for text in &texts {
+        payloads.push(text.hpack_encode()?)?;
+    }
+    let start = Instant::now(rt)?;
+    let mut read = 0u64;
+    for _ in 0..rounds {
+        for payload in &payloads {
+            for byte in payload.hpack_decode() {
+                read = read.saturating_add(u64::from(byte.unwrap_or(0)));
+            }
+        }
+    }
+    tell(rt, "decode of the code", work, start, read)
+}
+
+/// Encodes the lists into one vector, again and again; how many bytes were written.
+fn encode_rounds(alloc: Global, lists: &[Vec<HeaderField>], rounds: u64) -> Result<u64, Problem> {
+    let mut block = Vec::new(alloc);
+    let mut written = 0u64;
+    for _ in 0..rounds {
+        for list in lists {
+            block.clear();
+            encode_stateless(&mut block, list.iter())?;
+            written = written.saturating_add(block.len() as u64);
+        }
+    }
+    Ok(written)
+}
+
+/// Decodes the blocks again and again; the sum of the sizes that were read.
+fn decode_rounds(alloc: Global, blocks: &[Vec<u8>], rounds: u64) -> Result<u64, Problem> {
+    let mut read = 0u64;
+    for _ in 0..rounds {
+        for block in blocks {
+            read = read.saturating_add(decoded_size(alloc, block.as_slice())?);
+        }
+    }
+    Ok(read)
+}
+
+/// Decodes a block; the sum of its fields' sizes.
+fn decoded_size(alloc: Global, block: &[u8]) -> Result<u64, Problem> {
+    let decoded = decode_stateless(alloc, &mut Cursor::new(block), u64::MAX)?;
+    Ok(decoded.mem_size)
+}
+
+/// The blocks of the lists.
+fn blocks_of(alloc: Global, lists: &[Vec<HeaderField>]) -> Result<Vec<Vec<u8>>, Problem> {
+    let mut blocks = Vec::new(alloc);
+    for list in lists {
+        let mut block = Vec::new(alloc);
+        encode_stateless(&mut block, list.iter())?;
+        blocks.push(block)?;
+    }
+    Ok(blocks)
+}
+
+/// The names and values of the lists.
+fn texts_of(alloc: Global, lists: &[Vec<HeaderField>]) -> Result<Vec<Vec<u8>>, Problem> {
+    let mut texts = Vec::new(alloc);
+    for list in lists {
+        for field in list {
+            texts.push(Vec::from_slice(alloc, field.name.as_slice())?)?;
+            texts.push(Vec::from_slice(alloc, field.value.as_slice())?)?;
+        }
+    }
+    Ok(texts)
+}
+
+/// Tells the time since the start for each item, in nanoseconds, and the megabytes a second; and a sum
+/// over what was done, so that none of it can be left out.
+fn tell(rt: &HostRuntime, what: &str, work: Work, start: Instant, sum: u64) -> Result<(), Problem> {
+    let nanos = start.elapsed(rt)?.as_nanos().max(1);
+    let tenths = nanos.saturating_mul(10) / u128::from(work.items.max(1));
+    let rate = u128::from(work.bytes).saturating_mul(1000) / nanos;
+    println!(rt;
+        "{what}: {}.{} ns each, {rate} MB a second ({sum})",
+        tenths / 10,
+        tenths % 10
+    )?;
+    Ok(())
+}
