@@ -137,12 +137,13 @@ fn append_line<A: Allocator>(
     ensures memory { IfErr result (λ e. e ≡ NoRoom) }
     ensures capacity { vec_capacity block.old ≤ vec_capacity block.new }
 {
+    let Some(name_index) = StaticTable::find_name(field.name.as_slice()) else {
+        prefix_string::encode(4, 0b0010, field.name.as_slice(), block)?;
+        return prefix_string::encode(8, 0, field.value.as_slice(), block);
+    };
     if let Some(index) = StaticTable::find(field) {
         return Ok(prefix_int::encode(6, 0b11, index as u64, block)?);
     }
-    match StaticTable::find_name(field.name.as_slice()) {
-        Some(index) => prefix_int::encode(4, 0b0101, index as u64, block)?,
-        None => prefix_string::encode(4, 0b0010, field.name.as_slice(), block)?,
-    }
+    prefix_int::encode(4, 0b0101, name_index as u64, block)?;
     prefix_string::encode(8, 0, field.value.as_slice(), block)
 }
