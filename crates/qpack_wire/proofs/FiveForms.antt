@@ -10,7 +10,7 @@ use Rattle.qpack_wire.specs.LineLaws.{LinesHaveFiveForms}
 use Rattle.qpack_wire.proofs.BlockLines.{same_indexed, same_post_base, same_name_ref, same_post_base_name_ref, same_literal}
 
 -- a form is named only where one of the tests holds
-test_holds : {L : Type 0} (test : Bool) (x : Option (Form L)) (form : Form L) → (if test then x else None) ≡ Some form → test ≡ true
+pub test_holds : {L : Type 0} (test : Bool) (x : Option (Form L)) (form : Form L) → (if test then x else None) ≡ Some form → test ≡ true
 test_holds true x form e = refl
 test_holds false x form e = absurd cc
 

@@ -8,3 +8,4 @@ pub mod StreamReaders
 pub mod InstructionForms
 pub mod StreamForms
 pub mod Cuttings
+pub mod StreamKinds

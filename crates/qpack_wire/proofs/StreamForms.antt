@@ -28,7 +28,7 @@ abbrev BeginsWith : ℕ → List ℕ → Type 0
 BeginsWith b rest = rest ≡ b ∷ drop 1 rest
 
 -- where the form alone and the stream name the same form, it is read as the stream's
-abbrev Shares : {L : Type 0} → (ℕ → Option (Form L)) → Alone L → ℕ → Type 0
+abbrev pub Shares : {L : Type 0} → (ℕ → Option (Form L)) → Alone L → ℕ → Type 0
 Shares {L} form_of a b = (form : Form L) × (form_named a b ≡ Some form) × (form_of b ≡ Some form)
 
 as_form : {L : Type 0} (form_of : ℕ → Option (Form L)) (a : Alone L) → Coherent a → (b : ℕ) (rest : List ℕ) → BeginsWith b rest → Shares form_of a b → alone_at a rest ≡ or_unreadable (form_at form_of rest)
@@ -39,30 +39,30 @@ as_form form_of a c b rest e s =
 
 -- ---- encoder instructions
 
-shares_duplicate : (b : ℕ) → b < 32 → Shares instruction_form duplicate b
+pub shares_duplicate : (b : ℕ) → b < 32 → Shares instruction_form duplicate b
 unfolding instruction_form
 shares_duplicate b h = (Index 5 instruction.Duplicate, (let q : b / 32 ≡ 0 = omega arith in rw q refl), rw (below b 32 h) refl)
 
-shares_size_update : (b : ℕ) → 32 ≤ b → b < 64 → Shares instruction_form dynamic_table_size_update b
+pub shares_size_update : (b : ℕ) → 32 ≤ b → b < 64 → Shares instruction_form dynamic_table_size_update b
 unfolding instruction_form
 shares_size_update b low high = (Index 5 SetCapacity, (let q : b / 32 ≡ 1 = omega arith in rw q refl), rw (above b 32 low, below b 64 high) refl)
 
-shares_literal : (b : ℕ) → 64 ≤ b → b < 128 → Shares instruction_form insert_without_name_ref b
+pub shares_literal : (b : ℕ) → 64 ≤ b → b < 128 → Shares instruction_form insert_without_name_ref b
 unfolding instruction_form
 shares_literal b low high =
     (NameAndValue 6 InsertLiteralName, (let q : b / 64 ≡ 1 = omega arith in rw q refl), rw (above b 32 (omega arith), above b 64 low, below b 128 high) refl)
 
-shares_dynamic : (b : ℕ) → 128 ≤ b → b < 192 → Shares instruction_form insert_with_name_ref b
+pub shares_dynamic : (b : ℕ) → 128 ≤ b → b < 192 → Shares instruction_form insert_with_name_ref b
 unfolding instruction_form
 shares_dynamic b low high =
     (IndexAndValue 6 InsertDynamicName, (let q : b / 64 ≡ 2 = omega arith in rw q refl), rw (above b 32 (omega arith), above b 64 (omega arith), above b 128 low, below b 192 high) refl)
 
-shares_static : (b : ℕ) → 192 ≤ b → b < 256 → Shares instruction_form insert_with_name_ref b
+pub shares_static : (b : ℕ) → 192 ≤ b → b < 256 → Shares instruction_form insert_with_name_ref b
 unfolding instruction_form
 shares_static b low high =
     (IndexAndValue 6 InsertStaticName, (let q : b / 64 ≡ 3 = omega arith in rw q refl), rw (above b 32 (omega arith), above b 64 (omega arith), above b 128 (omega arith), above b 192 low, below b 256 high) refl)
 
-shares_name : (b : ℕ) → 128 ≤ b → b < 256 → Shares instruction_form insert_with_name_ref b
+pub shares_name : (b : ℕ) → 128 ≤ b → b < 256 → Shares instruction_form insert_with_name_ref b
 shares_name b low high =
     elim (cases_lt b 192) [
       | inl h ↦ shares_dynamic b low h
@@ -126,15 +126,15 @@ as_name_insert b rest h e f =
 
 -- ---- decoder instructions
 
-shares_increment : (b : ℕ) → b < 64 → Shares reply_form insert_count_increment b
+pub shares_increment : (b : ℕ) → b < 64 → Shares reply_form insert_count_increment b
 unfolding reply_form
 shares_increment b h = (Index 6 Increment, (let q : b / 64 ≡ 0 = omega arith in rw q refl), rw (below b 64 h) refl)
 
-shares_cancel : (b : ℕ) → 64 ≤ b → b < 128 → Shares reply_form stream_cancel b
+pub shares_cancel : (b : ℕ) → 64 ≤ b → b < 128 → Shares reply_form stream_cancel b
 unfolding reply_form
 shares_cancel b low high = (Index 6 Cancellation, (let q : b / 64 ≡ 1 = omega arith in rw q refl), rw (above b 64 low, below b 128 high) refl)
 
-shares_ack : (b : ℕ) → 128 ≤ b → b < 256 → Shares reply_form header_ack b
+pub shares_ack : (b : ℕ) → 128 ≤ b → b < 256 → Shares reply_form header_ack b
 unfolding reply_form
 shares_ack b low high =
     (Index 7 Acknowledgment, (let q : b / 128 ≡ 1 = omega arith in rw q refl), rw (above b 64 (omega arith), above b 128 low, below b 256 high) refl)

@@ -10,3 +10,4 @@ pub mod StreamLines
 pub mod WireLaws
 pub mod StreamLineLaws
 pub mod Cuttings
+pub mod KindLaws

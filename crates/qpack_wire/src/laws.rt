@@ -2,11 +2,19 @@
 
 ghost use Rattle.qpack_spec.specs.Instruction.{SpellsInstruction, SpellsReply};
 ghost use Rattle.qpack_wire.specs.Cuttings.{CuttingChangesNothing};
+ghost use Rattle.qpack_wire.specs.KindLaws.{EncodersHaveFourKinds, DecodersHaveThreeKinds};
 ghost use Rattle.qpack_wire.specs.LineLaws.{LinesHaveFiveForms};
 
 /// The five forms make up the lines: a spelling of a line is a spelling in one of them.
 pub fn lines_have_five_forms()
     ensures { LinesHaveFiveForms }
+{}
+
+/// The four kinds make up the encoder instructions, and the three the decoder instructions: a spelling
+/// of an instruction is a spelling of one of them.
+pub fn instructions_have_their_kinds()
+    ensures encoder { EncodersHaveFourKinds }
+    ensures decoder { DecodersHaveThreeKinds }
 {}
 
 /// The lines that are read of a stream do not depend on how it was cut into pieces, the unread rest
