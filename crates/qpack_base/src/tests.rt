@@ -5,8 +5,9 @@ ghost use Rattle.std.specs.Prelude.{◌≤◌};
 
 use crate::coding::{BufExt, BufMutExt, Cursor, NoMemory, UnexpectedEnd};
 use crate::field::{HeaderField, equal_fields_hash_alike, equality_is_of_bytes};
-use crate::prefix_int;
+use crate::parse_error::ParseError;
 use crate::static_::{self, StaticTable};
+use crate::{prefix_int, prefix_string};
 use linked_list_allocator::LocalHeap;
 use std::alloc::Global;
 use std::borrow::CowSlice;
@@ -157,5 +158,27 @@ fn refusals_say_what_they_are(rt: HostRuntime) -> Result<(), Fail> {
     assert_eq!(rt; text.as_str(), "out of memory");
     let text = again(|| format!(in alloc; "{}", static_::Error::Unknown(99)))?;
     assert_eq!(rt; text.as_str(), "unknown static index 99");
+    Ok(())
+}
+
+#[test]
+fn faults_of_forms_say_what_they_are(rt: HostRuntime) -> Result<(), Fail> {
+    let alloc = rt.alloc();
+    let integer = ParseError::Integer(prefix_int::Error::Overflow);
+    let text = again(|| format!(in alloc; "{integer}"))?;
+    assert_eq!(rt; text.as_str(), "could not parse integer: value overflow");
+    let string = ParseError::String(prefix_string::Error::UnexpectedEnd);
+    let text = again(|| format!(in alloc; "{string}"))?;
+    assert_eq!(rt; text.as_str(), "could not parse string: unexpected end");
+    let text = again(|| format!(in alloc; "{}", ParseError::InvalidPrefix(13)))?;
+    assert_eq!(rt; text.as_str(), "invalid prefix: 13");
+    let text = again(|| format!(in alloc; "{}", ParseError::InvalidBase(-1)))?;
+    assert_eq!(rt; text.as_str(), "invalid base: -1");
+    let text = again(|| format!(in alloc; "{}", ParseError::Memory))?;
+    assert_eq!(rt; text.as_str(), "out of memory");
+    assert_eq!(rt;
+        ParseError::from(prefix_string::Error::Memory),
+        ParseError::Memory
+    );
     Ok(())
 }
