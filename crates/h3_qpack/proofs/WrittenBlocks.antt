@@ -53,9 +53,9 @@ grown before mid now fs f e h =
     ∙ ap (λ (t : List ℕ). before ++ t) (sym (block_of_more fs f))
 
 -- what stood before is still at the front, where it is at the front of what was kept
-pub still_front : (before more now : List ℕ) (n k : ℕ) → length before ≡ k → take n now ≡ before ++ more → take k now ≡ before
-still_front before more now n k len h =
-    let all : now ≡ before ++ (more ++ drop n now) = sym (take-append-drop n now) ∙ ap (λ (t : List ℕ). t ++ drop n now) h ∙ append_assoc before more (drop n now) in
+pub still_front : (before more mid now : List ℕ) (n k : ℕ) → length before ≡ k → take n now ≡ mid → mid ≡ before ++ more → take k now ≡ before
+still_front before more mid now n k len h e =
+    let all : now ≡ before ++ (more ++ drop n now) = sym (take-append-drop n now) ∙ ap (λ (t : List ℕ). t ++ drop n now) (h ∙ e) ∙ append_assoc before more (drop n now) in
     ap (λ (m : ℕ). take m now) (sym len) ∙ ap (take (length before)) all ∙ take-append_seam before (more ++ drop n now)
 
 pub behind_more : (fs : List (Bor HeaderField)) (f : Bor HeaderField) → fields_behind (fs ++ f ∷ []) ≡ fields_behind fs ++ field_of f.now ∷ []

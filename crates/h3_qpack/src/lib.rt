@@ -4,6 +4,8 @@
 
 pub mod decoder;
 pub mod encoder;
+#[cfg(test)]
+mod tests;
 
 pub use decoder::{Decoded, DecoderError, decode_stateless};
 pub use encoder::{EncoderError, encode_stateless};

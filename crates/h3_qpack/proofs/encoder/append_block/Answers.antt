@@ -15,8 +15,9 @@ loop-field-init g c = (begun c.args.block.now.items c.encode.new.buf.items (c.in
 pub returns-in_err-append_line-clause-err : goal.returns-in_err-append_line-clause-err
 returns-in_err-append_line-clause-err g c =
     let p = err_from_is_err_and c.from_residual-in_err-append_line.result c.from_residual-in_err-append_line.ensures.1 in
-    let kept = c.in_err-append_line.ensures.err ∙ c.loop-field.invariant.0 in
-    rw p.1 (still_front c.args.block.now.items (written_block (stateless_block (fields_behind c.loop-field.yielded))) c.append_line.new.block.items _ _ (sym c.args.block.now.ok.0) kept)
+    rw p.1
+    (still_front c.args.block.now.items (written_block (stateless_block (fields_behind c.loop-field.yielded))) c.loop-field.block.items c.append_line.new.block.items _ _ (sym c.args.block.now.ok.0)
+    c.in_err-append_line.ensures.err c.loop-field.invariant.0)
 
 pub loop-field-preserved : goal.loop-field-preserved
 loop-field-preserved g c =
