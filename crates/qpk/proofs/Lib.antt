@@ -1,3 +1,5 @@
 pub mod FieldLines
 pub mod Texts
 pub mod Words
+pub mod Writes
+pub mod Tellings

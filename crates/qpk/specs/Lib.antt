@@ -1,3 +1,4 @@
 pub mod FieldText
 pub mod Answers
+pub mod Refusals
 pub mod Serving

@@ -10,8 +10,9 @@ use Rattle.qpack_spec.specs.Stateless.{held_size, stateless_reading}
 use Rattle.qpk.specs.Answers.{encode_answer, without_feed, FailsText, FailsHexadecimal}
 use Rattle.qpk.specs.declared.serve.Command.{Command}
 use Rattle.qpk.specs.declared.serve.Command.TheVariants.{Encode, Decode}
-use Rattle.qpk.specs.declared.serve.Refusal.{Refusal}
-use Rattle.qpk.specs.declared.serve.Refusal.TheVariants as refusal
+use Rattle.qpk.specs.Refusals.{AppendsFront}
+use Rattle.qpk.specs.declared.refusal.Refusal.{Refusal}
+use Rattle.qpk.specs.declared.refusal.Refusal.TheVariants as refusal
 use Rattle.qpk.specs.declared.text.Fault.{Fault}
 
 -- a decimal number of 64 bits, as std parses it: digits, after a plus or not
@@ -50,9 +51,12 @@ AnswersInput command input (Ok text) = Answers command input (string_bytes text)
 AnswersInput command input (Err fault) = HasFault command input fault
 
 -- why a run ended: other words, or the input could not be read, or it has a fault, and then nothing was written; or its
--- answer could not be written. The input is what the reader gives, where that is known
-abbrev pub EndsFor : {Z : Type 0} → List (String Z) → Option (List ℕ) → Type 0 → Refusal → Type 0
-EndsFor words input quiet refusal.Usage = AsksForNothing words × quiet
-EndsFor words input quiet refusal.Input = (command : Command) × AsksFor words command × quiet
-EndsFor words input quiet refusal.Output = (command : Command) × AsksFor words command × IfSome input (λ bytes. (out : List ℕ) × Answers command bytes out)
-EndsFor words input quiet (refusal.Fault fault) = (command : Command) × AsksFor words command × IfSome input (λ bytes. HasFault command bytes fault) × quiet
+-- answer could not be written, but for a front of it. The input is what the reader gives, where that is known, and the
+-- output what the writer held before and after
+abbrev pub EndsFor : {Z : Type 0} → List (String Z) → Option (List ℕ) → Option (List ℕ) → Option (List ℕ) → Refusal → Type 0
+EndsFor words input old new refusal.Usage = AsksForNothing words × (new ≡ old)
+EndsFor words input old new refusal.Input = (command : Command) × AsksFor words command × (new ≡ old)
+EndsFor words input old new refusal.Output =
+    (command : Command) × AsksFor words command × IfSome input (λ bytes. (out : List ℕ) × Answers command bytes out × AppendsFront old new out)
+EndsFor words input old new (refusal.Fault fault) =
+    (command : Command) × AsksFor words command × IfSome input (λ bytes. HasFault command bytes fault) × (new ≡ old)

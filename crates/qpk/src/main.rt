@@ -2,10 +2,12 @@
 #![tactic(auto)]
 
 mod lines;
+mod refusal;
 mod serve;
 #[cfg(test)]
 mod tests;
 mod text;
+mod writing;
 
 use std::process::ExitCode;
 use std::{env, io};

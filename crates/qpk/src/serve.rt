@@ -5,14 +5,16 @@ ghost use Rattle.std.specs.Io.KnownBytes.{Appends};
 ghost use Rattle.qpack_spec.specs.Field.{total_size};
 ghost use Rattle.qpack_spec.specs.Stateless.{held_size};
 ghost use Rattle.h3_qpack.specs.Stateless.{fields_in};
-ghost use Rattle.qpk.specs.declared.serve.Refusal.TheVariants.{Fault as Refused};
+ghost use Rattle.qpk.specs.Refusals.{AppendsFront, IsLineOf, TellsInPlace};
 ghost use Rattle.qpk.specs.Serving.{AsksFor, AsksForNothing, Answers, AnswersInput, EndsFor, SaysNumber, shown};
 
+use crate::refusal::Refusal;
 use crate::text::{Fault, decode_text, encode_text};
+use crate::writing::write_bytes;
 use h3_qpack::Decoded;
 use h3_qpack::coding::NoMemory;
 use std::alloc::Global;
-use std::fmt;
+use std::borrow::CowStr;
 use std::io::{ErrorKind, Read, Write};
 
 /// What the words ask for.
@@ -22,40 +24,6 @@ pub enum Command {
     Encode,
     /// Decode the block of the input, up to a sum of sizes in bytes.
     Decode(u64),
-}
-
-/// Why nothing was answered.
-#[derive(Debug, Drop)]
-pub enum Refusal {
-    /// The words ask for nothing.
-    Usage,
-    /// The input could not be read.
-    Input,
-    /// The answer could not be written.
-    Output,
-    /// The input has a fault, or no memory was left.
-    Fault(Fault),
-}
-
-impl From<Fault> for Refusal {
-    ghost from_gives = { λ fault r. r ≡ Refused fault };
-
-    fn from(fault: Fault) -> Refusal {
-        Refusal::Fault(fault)
-    }
-}
-
-impl fmt::Display for Refusal {
-    fn fmt<W: fmt::Write>(&self, f: &mut fmt::Formatter<W>) -> fmt::Result {
-        match self {
-            Refusal::Usage => {
-                f.write_str("usage: qpk encode | qpk decode LIMIT | qpk run CAPACITY LIMIT")
-            }
-            Refusal::Input => f.write_str("qpk: refused: input"),
-            Refusal::Output => f.write_str("qpk: refused: output"),
-            Refusal::Fault(fault) => write!(f, "qpk: {fault}"),
-        }
-    }
 }
 
 /// Runs the program on its words, without its name, and its three streams, and gives the exit status:
@@ -71,18 +39,31 @@ pub fn serve<R: Read, W: Write, E: Write>(
     ensures answered { result ≡ 0 → (command : Command) × AsksFor words.now command × IfSome (R.remaining input.old) (λ bytes.
         (out : List ℕ) × Answers command bytes out × Appends (W.contents output.old) (W.contents output.new) out) }
     ensures quiet { result ≡ 0 → E.contents faults.new ≡ E.contents faults.old }
-    // Else why: other words, an input that can't be read or has a fault, an output that can't be written. Nothing is
-    // written there but in the last case.
+    // Else why: other words, an input that can't be read or has a fault, an output that can't be written, which then has
+    // a front of the answer. The line of it is written to the faults, as far as they take it.
     ensures refused { result ≢ 0 → (result ≡ 1) × (refusal : Refusal)
-        × EndsFor words.now (R.remaining input.old) (W.contents output.new ≡ W.contents output.old) refusal }
+        × EndsFor words.now (R.remaining input.old) (W.contents output.old) (W.contents output.new) refusal
+        × (line : List ℕ) × IsLineOf refusal line × AppendsFront (E.contents faults.old) (E.contents faults.new) line }
 {
     match run(alloc, words, input, output) {
         Ok(()) => 0,
         Err(refusal) => {
-            let _ = writeln!(faults, "{refusal}");
+            tell(alloc, &refusal, faults);
             1
         }
     }
+}
+
+/// Writes the line of a refusal, or that of want of memory where none is left to make it. What the writer refuses is
+/// passed over.
+fn tell<E: Write>(alloc: Global, refusal: &Refusal, faults: &mut E)
+    ensures { TellsInPlace refusal.now (E.contents faults.old) (E.contents faults.new) }
+{
+    let line = match refusal.line(alloc) {
+        Ok(line) => line,
+        Err(_) => CowStr::Borrowed("qpk: refused: memory\n"),
+    };
+    let _ = write_bytes(faults, line.as_str().as_bytes());
 }
 
 /// Answers the words and the input at the output.
@@ -94,7 +75,7 @@ fn run<R: Read, W: Write>(
 ) -> Result<(), Refusal>
     ensures answered { IfOk result (λ _. (command : Command) × AsksFor words.now command × IfSome (R.remaining input.old) (λ bytes.
         (out : List ℕ) × Answers command bytes out × Appends (W.contents output.old) (W.contents output.new) out)) }
-    ensures refused { IfErr result (EndsFor words.now (R.remaining input.old) (W.contents output.new ≡ W.contents output.old)) }
+    ensures refused { IfErr result (EndsFor words.now (R.remaining input.old) (W.contents output.old) (W.contents output.new)) }
 {
     let Some(command) = read_command(words) else {
         return Err(Refusal::Usage);
@@ -107,10 +88,7 @@ fn run<R: Read, W: Write>(
         });
     }
     let text = answer(alloc, command, &bytes)?;
-    if output.write_all(text.as_bytes()).is_err() {
-        return Err(Refusal::Output);
-    }
-    Ok(())
+    write_bytes(output, text.as_bytes()).map_err(|_| Refusal::Output)
 }
 
 /// What the words ask for.

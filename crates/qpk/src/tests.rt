@@ -11,6 +11,8 @@ const REFUSED_MEMORY: &str = "qpk: refused: memory\n";
 
 const REFUSED_OUTPUT: &str = "qpk: refused: output\n";
 
+const USAGE: &str = "usage: qpk encode | qpk decode LIMIT | qpk run CAPACITY LIMIT\n";
+
 /// The words of a line.
 fn words(alloc: Global, line: &str) -> Result<Vec<String>, AllocError> {
     let mut words = Vec::new(alloc);
@@ -25,9 +27,9 @@ fn words_again(alloc: Global, line: &str) -> Result<Vec<String>, AllocError> {
     words(alloc, line).or_else(|_| words(alloc, line))
 }
 
-/// Whether a run may have been refused for memory: it told so, or its line was cut off.
+/// Whether a run may have been refused for memory, which the output's vector tells as a write that failed.
 fn wants_memory(told: &[u8]) -> bool {
-    !told.ends_with(b"\n") || told == REFUSED_MEMORY.as_bytes() || told == REFUSED_OUTPUT.as_bytes()
+    told == REFUSED_MEMORY.as_bytes() || told == REFUSED_OUTPUT.as_bytes()
 }
 
 /// Runs the program, and again where it was refused for memory, which must leave the output as it was.
@@ -231,21 +233,20 @@ fn bad_blocks_are_refused(rt: HostRuntime) -> Result<(), Fail> {
 #[test]
 fn other_words_are_refused(rt: HostRuntime) -> Result<(), Fail> {
     let alloc = rt.alloc();
-    let usage = "usage: qpk encode | qpk decode LIMIT | qpk run CAPACITY LIMIT\n";
-    runs(&rt, alloc, "", b"", "", usage)?;
-    runs(&rt, alloc, "encode 1", b"", "", usage)?;
-    runs(&rt, alloc, "decode", b"0000", "", usage)?;
-    runs(&rt, alloc, "decode ten", b"0000", "", usage)?;
+    runs(&rt, alloc, "", b"", "", USAGE)?;
+    runs(&rt, alloc, "encode 1", b"", "", USAGE)?;
+    runs(&rt, alloc, "decode", b"0000", "", USAGE)?;
+    runs(&rt, alloc, "decode ten", b"0000", "", USAGE)?;
     runs(
         &rt,
         alloc,
         "decode 18446744073709551616",
         b"0000",
         "",
-        usage,
+        USAGE,
     )?;
-    runs(&rt, alloc, "decode -1", b"0000", "", usage)?;
-    runs(&rt, alloc, "run 4096 1", b"", "", usage)?;
+    runs(&rt, alloc, "decode -1", b"0000", "", USAGE)?;
+    runs(&rt, alloc, "run 4096 1", b"", "", USAGE)?;
     Ok(())
 }
 
@@ -264,16 +265,44 @@ impl Read for BrokenReader<'_> {
     }
 }
 
-/// A writer that fails after some bytes.
+/// A writer that takes a byte at a time, is interrupted before each, and fails once its room is full.
 #[derive(Drop)]
-struct BrokenWriter(usize);
+struct NarrowWriter {
+    taken: [u8; 64],
+    len: usize,
+    room: usize,
+    interrupted: bool,
+}
 
-impl Write for BrokenWriter {
+impl NarrowWriter {
+    fn new(room: usize) -> NarrowWriter {
+        NarrowWriter {
+            taken: [0; 64],
+            len: 0,
+            room,
+            interrupted: false,
+        }
+    }
+
+    fn taken(&self) -> &[u8] {
+        self.taken.get(..self.len).unwrap_or(&[])
+    }
+}
+
+impl Write for NarrowWriter {
     fn write(&mut self, buf: &[u8]) -> io::Result<usize> {
-        if self.0 == 0 || buf.is_empty() {
+        self.interrupted = !self.interrupted;
+        if self.interrupted {
+            return Err(io::Error::from(ErrorKind::Interrupted));
+        }
+        let (Some(first), Some(slot)) = (buf.first(), self.taken.get_mut(self.len)) else {
+            return Ok(0);
+        };
+        if self.len >= self.room {
             return Err(io::Error::from(ErrorKind::BrokenPipe));
         }
-        self.0 -= 1;
+        *slot = *first;
+        self.len += 1;
         Ok(1)
     }
 
@@ -287,7 +316,7 @@ fn a_reader_that_fails_is_told(rt: HostRuntime) -> Result<(), Fail> {
     let alloc = rt.alloc();
     let words = words_again(alloc, "decode 42")?;
     let mut out = Vec::new(alloc);
-    let mut faults = Vec::new(alloc);
+    let mut faults = NarrowWriter::new(64);
     let status = serve(
         alloc,
         &words,
@@ -297,7 +326,8 @@ fn a_reader_that_fails_is_told(rt: HostRuntime) -> Result<(), Fail> {
     );
     assert_eq!(rt; status, 1);
     assert_eq!(rt; out.len(), 0);
-    assert!(rt; wants_memory(&faults) || faults.as_slice() == b"qpk: refused: input\n".as_slice());
+    let told = faults.taken();
+    assert!(rt; wants_memory(told) || told == b"qpk: refused: input\n".as_slice());
     Ok(())
 }
 
@@ -305,11 +335,15 @@ fn a_reader_that_fails_is_told(rt: HostRuntime) -> Result<(), Fail> {
 fn a_writer_that_fails_is_told(rt: HostRuntime) -> Result<(), Fail> {
     let alloc = rt.alloc();
     let words = words_again(alloc, "decode 42")?;
-    let mut faults = Vec::new(alloc);
+    let mut out = NarrowWriter::new(3);
+    let mut faults = NarrowWriter::new(64);
     let mut input = Cursor::new(b"0000d1".as_slice());
-    let status = serve(alloc, &words, &mut input, &mut BrokenWriter(3), &mut faults);
+    let status = serve(alloc, &words, &mut input, &mut out, &mut faults);
     assert_eq!(rt; status, 1);
-    assert!(rt; wants_memory(&faults));
+    if faults.taken() != REFUSED_MEMORY.as_bytes() {
+        assert_eq!(rt; out.taken(), b":me".as_slice());
+        assert_eq!(rt; faults.taken(), REFUSED_OUTPUT.as_bytes());
+    }
     Ok(())
 }
 
@@ -319,8 +353,12 @@ fn a_writer_of_faults_that_fails_is_passed_over(rt: HostRuntime) -> Result<(), F
     let words = words_again(alloc, "decode")?;
     let mut out = Vec::new(alloc);
     let mut input = Cursor::new(b"0000d1".as_slice());
-    let status = serve(alloc, &words, &mut input, &mut out, &mut BrokenWriter(3));
-    assert_eq!(rt; status, 1);
-    assert_eq!(rt; out.len(), 0);
+    for room in 0..64 {
+        let mut faults = NarrowWriter::new(room);
+        let status = serve(alloc, &words, &mut input, &mut out, &mut faults);
+        assert_eq!(rt; status, 1);
+        assert_eq!(rt; out.len(), 0);
+        assert_eq!(rt; faults.taken(), &USAGE.as_bytes()[..room.min(USAGE.len())]);
+    }
     Ok(())
 }

@@ -4,6 +4,7 @@ ghost use Rattle.std.specs.Prelude.{◌≡◌};
 ghost use Rattle.hex.specs.Hex.{decode_of};
 ghost use Rattle.qpk.specs.FieldText.{lines_of, fields_from};
 ghost use Rattle.qpk.specs.Answers.{encode_answer, EncodesText, ReadsFields, without_feed, DecodesText, fault_of_decoder};
+ghost use Rattle.qpk.specs.Refusals.{fault_text};
 ghost use Rattle.qpk.specs.declared.text.Fault.TheVariants.{Memory};
 
 use crate::lines::{split_field, split_line};
@@ -11,24 +12,36 @@ use h3_qpack::coding::{Cursor, NoMemory};
 use h3_qpack::{Decoded, DecoderError, HeaderField, decode_stateless, encode_stateless};
 use hex::FromHexError;
 use std::alloc::{AllocError, AllocFailed, Global};
-use thiserror::Error;
+use std::error::Error;
+use std::fmt;
 
 /// Why a text was not encoded or decoded.
-#[derive(Debug, PartialEq, Drop, Error)]
+#[derive(Debug, PartialEq, Drop)]
 pub enum Fault {
     /// The line of this number, counted from 1, has no TAB.
-    #[error("line {0}: no tab")]
     NoTab(usize),
     /// The text is no hexadecimal.
-    #[error("not hexadecimal")]
     NotHexadecimal,
     /// The bytes that the text stands for were not decoded.
-    #[error("refused: {0}")]
     Refused(DecoderError),
     /// No memory was left.
-    #[error("refused: memory")]
     Memory,
 }
+
+impl fmt::Display for Fault {
+    ghost output = { fault_text };
+
+    fn fmt<W: fmt::Write>(&self, f: &mut fmt::Formatter<W>) -> fmt::Result {
+        match self {
+            Fault::NoTab(number) => write!(f, "line {number}: no tab"),
+            Fault::NotHexadecimal => f.write_str("not hexadecimal"),
+            Fault::Refused(e) => write!(f, "refused: {e}"),
+            Fault::Memory => f.write_str("refused: memory"),
+        }
+    }
+}
+
+impl Error for Fault {}
 
 impl From<AllocError> for Fault {
     ghost from_gives = { λ _ r. r ≡ Memory };

@@ -1,0 +1,51 @@
+//! Why the program answers nothing, and the line that tells it.
+
+ghost use Rattle.std.specs.Prelude.{◌≡◌, IfOk, OnErr};
+ghost use Rattle.std.specs.Cow.{cow_str_bytes};
+ghost use Rattle.qpk.specs.Refusals.{IsFault, IsLineOf};
+ghost use Rattle.qpk.specs.declared.refusal.Refusal.TheVariants.{Fault as Refused};
+
+use crate::text::Fault;
+use std::alloc::{AllocError, Global};
+use std::borrow::CowStr;
+
+/// Why nothing was answered.
+#[derive(Debug, Drop)]
+pub enum Refusal {
+    /// The words ask for nothing.
+    Usage,
+    /// The input could not be read.
+    Input,
+    /// The answer could not be written.
+    Output,
+    /// The input has a fault, or no memory was left.
+    Fault(Fault),
+}
+
+impl From<Fault> for Refusal {
+    ghost from_gives = { λ fault r. r ≡ Refused fault };
+
+    fn from(fault: Fault) -> Refusal {
+        Refusal::Fault(fault)
+    }
+}
+
+impl Refusal {
+    /// The line that tells it. Memory is asked for only to tell a fault.
+    pub fn line(&self, alloc: Global) -> Result<CowStr<'static, Global>, AllocError>
+        ensures line { IfOk result (λ line. IsLineOf self.now (cow_str_bytes line)) }
+        ensures memory { OnErr result (IsFault self.now) }
+    {
+        Ok(match self {
+            Refusal::Usage => CowStr::Borrowed(
+                "usage: qpk encode | qpk decode LIMIT | qpk run CAPACITY LIMIT\n",
+            ),
+            Refusal::Input => CowStr::Borrowed("qpk: refused: input\n"),
+            Refusal::Output => CowStr::Borrowed("qpk: refused: output\n"),
+            Refusal::Fault(fault) => {
+                let text = fault.to_string(alloc)?;
+                CowStr::Owned(format!(in alloc; "qpk: {text}\n")?)
+            }
+        })
+    }
+}
