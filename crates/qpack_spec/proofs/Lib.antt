@@ -36,6 +36,5 @@ pub mod StatelessRows
 pub mod Sizes
 pub mod Handles
 pub mod HandleRows
-pub mod AloneRows
 pub mod SessionAnswers
 pub mod StringRows

@@ -9,7 +9,6 @@ pub mod Text
 pub mod Form
 pub mod FormLaws
 pub mod Instruction
-pub mod FormAlone
 pub mod Line
 pub mod Window
 pub mod History

@@ -9,3 +9,4 @@ pub mod InstructionForms
 pub mod StreamForms
 pub mod Cuttings
 pub mod StreamKinds
+pub mod AloneRows
