@@ -1,6 +1,7 @@
 pub mod Groups
 pub mod Readers
-pub mod StaticScans
+pub mod StaticNames
+pub mod FirstPlaces
 pub mod WordTables
 pub mod LoadedBits
 pub mod LongWords

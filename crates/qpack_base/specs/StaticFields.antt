@@ -1,8 +1,40 @@
--- The static table as the crate holds it.
-use Rattle.std.specs.Prelude.{ℕ, List, map}
+-- The static table as the crate holds it, and the places of its names.
+use Rattle.std.specs.Prelude.{◌≡◌, ℕ, Bool, false, List, [], Option, Some, None, map, filter, All, Contains, length, slice_get, slice_index_or}
 use Rattle.std.specs.Borrow.{Bor}
-use Rattle.qpack_spec.specs.Field.{Field}
+use Rattle.std.specs.List.{enumerate_from}
+use Rattle.std.specs.Str.{bytes_eq}
+use Rattle.qpack_spec.specs.Field.{Field, has_name}
+use Rattle.qpack_spec.specs.StaticTable.{static_table, IsStaticAt}
 
 -- the fields of pairs of byte slices
 abbrev pub fields_at : List (Bor (List ℕ) × Bor (List ℕ)) → List Field
 fields_at fs = map (λ f. record { name = f.0.now; value = f.1.now }) fs
+
+-- all places of the static table with the name, rising
+unfoldable pub places_with_name : List ℕ → List ℕ
+places_with_name name = map (λ e. e.0) (filter (λ e. has_name name e.1) (enumerate_from 0 static_table))
+
+-- whether a field is there and has the value
+abbrev pub is_value_of : List ℕ → Option Field → Bool
+is_value_of value None = false
+is_value_of value (Some f) = bytes_eq value f.value
+
+-- whether the field at a place of the static table has the value
+abbrev pub has_value_at : List ℕ → ℕ → Bool
+has_value_at value place = is_value_of value (slice_get static_table place)
+
+-- names of one length: each stands with all its places, and no name of that length in the static table is missing
+pub record AreNamesOfLength (n : ℕ) (names : List (List ℕ × List ℕ)) : Type 0 where
+  pub places : All (λ e. e.1 ≡ places_with_name e.0) names
+  pub complete : (k : ℕ) (f : Field) → IsStaticAt k f → length f.name ≡ n → Contains names (f.name, places_with_name f.name)
+
+-- rows of names, those of length 0 first
+pub record AreNamesByLength (rows : List (List (List ℕ × List ℕ))) : Type 0 where
+  pub at : (n : ℕ) → AreNamesOfLength n (slice_index_or rows n [])
+
+-- the names and places behind references
+abbrev pub names_at : List (Bor (List ℕ) × Bor (List ℕ)) → List (List ℕ × List ℕ)
+names_at names = map (λ e. (e.0.now, e.1.now)) names
+
+abbrev pub name_rows_at : List (Bor (List (Bor (List ℕ) × Bor (List ℕ)))) → List (List (List ℕ × List ℕ))
+name_rows_at rows = map (λ row. names_at row.now) rows

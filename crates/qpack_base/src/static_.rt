@@ -1,15 +1,18 @@
 //! The static table (RFC 9204, Appendix A).
 
-ghost use Rattle.std.specs.Prelude.{◌≡◌, ◌≤◌, ◌&&◌, IfOk, IfErr, IfSome, IfNone, position, length};
+ghost use Rattle.std.specs.Prelude.{◌≡◌, ◌≤◌, IfOk, IfErr, IfSome, IfNone, find, length, option_copied};
 ghost use Rattle.std.specs.Str.{bytes_eq};
 ghost use Rattle.qpack_spec.specs.StaticTable.{static_table, static_place, static_name_place, IsStaticAt, IsLeastStatic, NoStatic};
 ghost use Rattle.qpack_base.specs.HeaderFields.{field_of};
-ghost use Rattle.qpack_base.specs.StaticFields.{fields_at};
+ghost use Rattle.qpack_base.specs.StaticFields.{fields_at, names_at, places_with_name, has_value_at, AreNamesOfLength};
 ghost use Rattle.qpack_base.specs.declared.static_.Error.TheVariants.{Unknown};
 
 use crate::field::HeaderField;
+use names::{Name, names_by_length};
 use std::borrow::CowSlice;
 use thiserror::Error as ThisError;
+
+mod names;
 
 /// Why the static table has no field to give.
 #[derive(Debug, PartialEq, Drop, ThisError)]
@@ -43,7 +46,7 @@ impl StaticTable {
         ensures none { IfNone result (NoStatic (λ f. f ≡ field_of field.now)) }
         ensures exact { result ≡ static_place (field_of field.now) }
     {
-        place_of_field(fields(), field.name.as_slice(), field.value.as_slice())
+        place_of_value(places_of(field.name.as_slice()), field.value.as_slice())
     }
 
     /// The least index of a field with the name.
@@ -52,22 +55,53 @@ impl StaticTable {
         ensures none { IfNone result (NoStatic (λ f. f.name ≡ name.now)) }
         ensures exact { result ≡ static_name_place name.now }
     {
-        place_of_name(fields(), name)
+        places_of(name).first().copied()
     }
 }
 
-/// The first place with this name and value.
-fn place_of_field(fields: &[(&[u8], &[u8])], name: &[u8], value: &[u8]) -> Option<usize>
-    ensures { result ≡ position (λ f. bytes_eq name.now f.0.now && bytes_eq value.now f.1.now) fields.now }
+/// All places with this name, rising.
+fn places_of(name: &[u8]) -> &'static [usize]
+    ensures { result.now ≡ places_with_name name.now }
 {
-    fields.iter().position(|f| name == f.0 && value == f.1)
+    let Some(entry) = entry_of(names_of_length(name.len()), name) else {
+        return &[];
+    };
+    entry.1
 }
 
-/// The first place with this name.
-fn place_of_name(fields: &[(&[u8], &[u8])], name: &[u8]) -> Option<usize>
-    ensures { result ≡ position (λ f. bytes_eq name.now f.0.now) fields.now }
+/// The names of this length, each with all its places, rising.
+#[tactic(auto, using(crate::proofs::StaticNames::names_there))]
+fn names_of_length(length: usize) -> &'static [Name]
+    ensures { AreNamesOfLength length (names_at result.now) }
 {
-    fields.iter().position(|f| name == f.0)
+    let Some(names) = names_by_length().get(length) else {
+        return &[];
+    };
+    names
+}
+
+/// The entry with this name.
+fn entry_of(names: &'static [Name], name: &[u8]) -> Option<&'static Name>
+    ensures { option_copied result ≡ find (λ e. bytes_eq name.now e.0.now) names.now }
+{
+    names.iter().find(|entry| name == entry.0)
+}
+
+/// The first of the places whose field has this value.
+fn place_of_value(places: &[usize], value: &[u8]) -> Option<usize>
+    ensures { result ≡ find (λ place. has_value_at value.now place) places.now }
+{
+    places
+        .iter()
+        .copied()
+        .find(|&place| has_value(place, value))
+}
+
+/// Whether the field at the place has this value.
+fn has_value(place: usize, value: &[u8]) -> bool
+    ensures { result ≡ has_value_at value.now place }
+{
+    fields().get(place).is_some_and(|field| value == field.1)
 }
 
 /// All of the table.

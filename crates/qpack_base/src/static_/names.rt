@@ -1,0 +1,126 @@
+//! The names of the static table, each with its places (RFC 9204, Appendix A).
+
+ghost use Rattle.qpack_base.specs.StaticFields.{AreNamesByLength, name_rows_at};
+
+/// A name and all its places in the table, rising.
+pub(super) type Name = (&'static [u8], &'static [usize]);
+
+/// The names of each length, those of length 0 first.
+pub(super) fn names_by_length() -> &'static [&'static [Name]]
+    ensures { AreNamesByLength (name_rows_at result.now) }
+{
+    &NAMES
+}
+
+static NAMES: [&[Name]; 33] = [
+    &[],
+    &[],
+    &[],
+    // 3 bytes
+    &[(b"age", &[2])],
+    // 4 bytes
+    &[
+        (b"date", &[6]),
+        (b"etag", &[7]),
+        (b"link", &[11]),
+        (b"vary", &[59, 60]),
+    ],
+    // 5 bytes
+    &[(b":path", &[1]), (b"range", &[55])],
+    // 6 bytes
+    &[
+        (b"accept", &[29, 30]),
+        (b"cookie", &[5]),
+        (b"origin", &[90]),
+        (b"server", &[92]),
+    ],
+    // 7 bytes
+    &[
+        (b":method", &[15, 16, 17, 18, 19, 20, 21]),
+        (b":scheme", &[22, 23]),
+        (
+            b":status",
+            &[24, 25, 26, 27, 28, 63, 64, 65, 66, 67, 68, 69, 70, 71],
+        ),
+        (b"alt-svc", &[83]),
+        (b"purpose", &[91]),
+        (b"referer", &[13]),
+    ],
+    // 8 bytes
+    &[(b"if-range", &[89]), (b"location", &[12])],
+    // 9 bytes
+    &[(b"expect-ct", &[87]), (b"forwarded", &[88])],
+    // 10 bytes
+    &[
+        (b":authority", &[0]),
+        (b"early-data", &[86]),
+        (b"set-cookie", &[14]),
+        (b"user-agent", &[95]),
+    ],
+    &[],
+    // 12 bytes
+    &[(
+        b"content-type",
+        &[44, 45, 46, 47, 48, 49, 50, 51, 52, 53, 54],
+    )],
+    // 13 bytes
+    &[
+        (b"accept-ranges", &[32]),
+        (b"authorization", &[84]),
+        (b"cache-control", &[36, 37, 38, 39, 40, 41]),
+        (b"if-none-match", &[9]),
+        (b"last-modified", &[10]),
+    ],
+    // 14 bytes
+    &[(b"content-length", &[4])],
+    // 15 bytes
+    &[
+        (b"accept-encoding", &[31]),
+        (b"accept-language", &[72]),
+        (b"x-forwarded-for", &[96]),
+        (b"x-frame-options", &[97, 98]),
+    ],
+    // 16 bytes
+    &[
+        (b"content-encoding", &[42, 43]),
+        (b"x-xss-protection", &[62]),
+    ],
+    // 17 bytes
+    &[(b"if-modified-since", &[8])],
+    &[],
+    // 19 bytes
+    &[
+        (b"content-disposition", &[3]),
+        (b"timing-allow-origin", &[93]),
+    ],
+    &[],
+    &[],
+    // 22 bytes
+    &[(b"x-content-type-options", &[61])],
+    // 23 bytes
+    &[(b"content-security-policy", &[85])],
+    &[],
+    // 25 bytes
+    &[
+        (b"strict-transport-security", &[56, 57, 58]),
+        (b"upgrade-insecure-requests", &[94]),
+    ],
+    &[],
+    // 27 bytes
+    &[(b"access-control-allow-origin", &[35])],
+    // 28 bytes
+    &[
+        (b"access-control-allow-headers", &[33, 34, 75]),
+        (b"access-control-allow-methods", &[76, 77, 78]),
+    ],
+    // 29 bytes
+    &[
+        (b"access-control-expose-headers", &[79]),
+        (b"access-control-request-method", &[81, 82]),
+    ],
+    // 30 bytes
+    &[(b"access-control-request-headers", &[80])],
+    &[],
+    // 32 bytes
+    &[(b"access-control-allow-credentials", &[73, 74])],
+];
