@@ -15,7 +15,7 @@ use std::process::Abort;
 use std::test::Fail;
 
 /// Calls again what was refused: one allocation alone is.
-fn again<T, E: Drop, F: FnMut() -> Result<T, E>>(mut call: F) -> Result<T, E>
+pub(crate) fn again<T, E: Drop, F: FnMut() -> Result<T, E>>(mut call: F) -> Result<T, E>
     requires { F.IsAlwaysCallable call }
 {
     match call() {

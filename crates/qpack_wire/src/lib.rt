@@ -5,3 +5,5 @@
 pub mod block;
 pub mod laws;
 pub mod stream;
+#[cfg(test)]
+mod testing;

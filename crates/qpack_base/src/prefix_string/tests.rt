@@ -12,20 +12,11 @@ use crate::prefix_string::{
     self, BitWindow, Error, HpackStringDecode, HpackStringEncode, HuffmanDecodingError,
     HuffmanEncodingError,
 };
+use crate::tests::again;
 use linked_list_allocator::LocalHeap;
 use std::alloc::Global;
 use std::process::Abort;
 use std::test::Fail;
-
-/// Calls again what was refused for memory: one allocation alone is.
-fn again<T, E: Drop, F: FnMut() -> Result<T, E>>(mut call: F) -> Result<T, E>
-    requires { F.IsAlwaysCallable call }
-{
-    match call() {
-        Ok(value) => Ok(value),
-        Err(_) => call(),
-    }
-}
 
 /// Writes a string, and again after a refusal, which must leave the vector as it was.
 fn put(rt: &impl Abort, size: u8, flags: u8, value: &[u8], out: &mut Vec<u8>) -> Result<(), Error>

@@ -5,6 +5,7 @@ use crate::block::{
     BlockLine, HeaderBlockField, HeaderPrefix, Indexed, IndexedWithPostBase, Literal,
     LiteralWithNameRef, LiteralWithPostBaseNameRef,
 };
+use crate::testing::again;
 use linked_list_allocator::LocalHeap;
 use qpack_base::coding::Cursor;
 use qpack_base::parse_error::ParseError;
@@ -12,16 +13,6 @@ use qpack_base::prefix_int;
 use std::alloc::Global;
 use std::process::Abort;
 use std::test::Fail;
-
-/// Calls again what was refused for memory: one allocation alone is.
-fn again<T, E: Drop, F: FnMut() -> Result<T, E>>(mut call: F) -> Result<T, E>
-    requires { F.IsAlwaysCallable call }
-{
-    match call() {
-        Ok(value) => Ok(value),
-        Err(_) => call(),
-    }
-}
 
 /// Reads the line at the front of the bytes, and again where memory was refused.
 fn line(alloc: Global, bytes: &[u8]) -> Result<BlockLine, ParseError> {

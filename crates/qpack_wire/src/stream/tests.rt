@@ -9,6 +9,7 @@ use crate::stream::{
     EncoderLine, HeaderAck, InsertCountIncrement, InsertWithNameRef, InsertWithoutNameRef,
     StreamCancel, Wire, next_line,
 };
+use crate::testing::again;
 use linked_list_allocator::LocalHeap;
 use qpack_base::coding::Cursor;
 use qpack_base::parse_error::ParseError;
@@ -16,16 +17,6 @@ use qpack_base::prefix_int;
 use std::alloc::Global;
 use std::process::Abort;
 use std::test::Fail;
-
-/// Calls again what was refused for memory: one allocation alone is.
-fn again<T, E: Drop, F: FnMut() -> Result<T, E>>(mut call: F) -> Result<T, E>
-    requires { F.IsAlwaysCallable call }
-{
-    match call() {
-        Ok(value) => Ok(value),
-        Err(_) => call(),
-    }
-}
 
 /// The next line, read again where memory was refused.
 fn next<W: Wire>(alloc: Global, cursor: &mut Cursor) -> Result<Option<W>, ParseError> {
