@@ -7,7 +7,7 @@ use h3_qpack::{HeaderField, decode_stateless, encode_stateless};
 use std::alloc::Global;
 
 /// How many blocks are written alike, and tell the same sum of sizes.
-pub fn written_alike(
+pub(crate) fn written_alike(
     alloc: Global,
     lists: &[Vec<HeaderField>],
     blocks: &[ForeignBlock],
@@ -24,7 +24,7 @@ pub fn written_alike(
 }
 
 /// How many blocks are read as the fields of their lists, with the sum of sizes that is told.
-pub fn read_alike(
+pub(crate) fn read_alike(
     alloc: Global,
     lists: &[Vec<HeaderField>],
     blocks: &[ForeignBlock],

@@ -13,7 +13,7 @@ pub struct ForeignBlock {
 }
 
 /// The header lists of a text: a field a line, `name TAB value`; an empty line ends a list.
-pub fn read_lists(alloc: Global, text: &str) -> Result<Vec<Vec<HeaderField>>, Problem> {
+pub(crate) fn read_lists(alloc: Global, text: &str) -> Result<Vec<Vec<HeaderField>>, Problem> {
     let mut lists = Vec::new(alloc);
     let mut list = Vec::new(alloc);
     for line in text.lines() {
@@ -29,7 +29,7 @@ pub fn read_lists(alloc: Global, text: &str) -> Result<Vec<Vec<HeaderField>>, Pr
 
 /// The blocks of a text: a block a line, in hexadecimal behind the last TAB, with the sum of sizes
 /// before it in a text that tells sizes.
-pub fn read_blocks(
+pub(crate) fn read_blocks(
     alloc: Global,
     text: &str,
     has_sizes: bool,
@@ -46,7 +46,7 @@ pub fn read_blocks(
 }
 
 /// How many bytes the names and values of the lists have.
-pub fn text_len(lists: &[Vec<HeaderField>]) -> u64 {
+pub(crate) fn text_len(lists: &[Vec<HeaderField>]) -> u64 {
     let mut len = 0u64;
     for list in lists {
         for field in list {
@@ -58,7 +58,7 @@ pub fn text_len(lists: &[Vec<HeaderField>]) -> u64 {
 }
 
 /// How many fields the lists have.
-pub fn fields_len(lists: &[Vec<HeaderField>]) -> u64 {
+pub(crate) fn fields_len(lists: &[Vec<HeaderField>]) -> u64 {
     let mut len = 0u64;
     for list in lists {
         len = len.saturating_add(list.len() as u64);

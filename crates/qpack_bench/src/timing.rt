@@ -16,7 +16,7 @@ struct Work {
 }
 
 /// Times blocks written and read, and the Huffman code alone, and tells a line for each.
-pub fn time(
+pub(crate) fn time(
     rt: &HostRuntime,
     alloc: Global,
     lists: &[Vec<HeaderField>],

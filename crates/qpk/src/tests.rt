@@ -27,9 +27,9 @@ fn words_again(alloc: Global, line: &str) -> Result<Vec<String>, AllocError> {
     words(alloc, line).or_else(|_| words(alloc, line))
 }
 
-/// Whether a run may have been refused for memory, which the output's vector tells as a write that failed.
+/// Whether a run may have been refused for memory: it told so, or a vector had no room for the answer, or for the line.
 fn wants_memory(told: &[u8]) -> bool {
-    told == REFUSED_MEMORY.as_bytes() || told == REFUSED_OUTPUT.as_bytes()
+    told.is_empty() || told == REFUSED_MEMORY.as_bytes() || told == REFUSED_OUTPUT.as_bytes()
 }
 
 /// Runs the program, and again where it was refused for memory, which must leave the output as it was.
