@@ -1,0 +1,173 @@
+//! The indexes of the dynamic table (RFC 9204, sections 3.2.4 to 3.2.6). The entries are a list that
+//! grows at one end and is dropped from the other; what is between is live. Here indexes are turned
+//! into places among the live entries, counted from 0 at the oldest. Absolute indexes begin at 1.
+
+ghost use Rattle.std.specs.Prelude.{◌≡◌, ◌+◌, ◌^◌, ◌<◌, ◌≤◌, ◌↔◌, IsTrue, IsOk, IfOk, IfErr, IsSome, IfSome};
+ghost use Rattle.qpack_table.specs.Places.{IsLive, WasDropped, IsPlaceOf, IsNotDropped, live_count, recent_index, relative_index, post_base_index};
+ghost use Rattle.qpack_table.specs.declared.vas.Error.TheVariants.{RelativeIndex as NoRelative, PostbaseIndex as NoPostBase, Index as NoPlace};
+
+use std::marker::Model;
+use thiserror::Error as ThisError;
+
+/// An index counted down from the newest entry, or from a base (RFC 9204, section 3.2.5).
+pub type RelativeIndex = usize;
+
+/// An index counted up from the first entry ever inserted, which has 1 (RFC 9204, section 3.2.4).
+pub type AbsoluteIndex = usize;
+
+/// Why an index names no live entry. Each tells the index as it was handed in.
+#[derive(Debug, PartialEq, Drop, ThisError)]
+pub enum Error {
+    /// The entry of this relative index is dropped, or before the first one, or nothing is live.
+    #[error("no entry at relative index {0}")]
+    RelativeIndex(usize),
+    /// The entry of this post-base index is not live.
+    #[error("no entry at post-base index {0}")]
+    PostbaseIndex(usize),
+    /// No live entry has this place.
+    #[error("no entry at place {0}")]
+    Index(usize),
+}
+
+/// How many entries were ever inserted, and how many of them were dropped, the oldest first.
+#[derive(Debug, Drop)]
+pub struct VirtualAddressSpace {
+    inserted: usize,
+    dropped: usize,
+}
+
+impl Model for VirtualAddressSpace {
+    ghost use Rattle.std.specs.Prelude.{◌^◌, ◌≤◌};
+    ghost use Rattle.qpack_table.specs.Places.{Places};
+
+    ghost Value = { Places };
+
+    ghost view = { λ a. record { total = a.inserted; dropped = a.dropped } };
+
+    ghost invariant = { λ a. (a.dropped ≤ a.inserted) × (a.inserted ≤ 2 ^ 62) };
+}
+
+impl Default for VirtualAddressSpace {
+    ghost use Rattle.std.specs.Prelude.{◌≡◌};
+    ghost use Rattle.qpack_table.specs.Places.{no_places};
+
+    ghost is_default = { λ a. a ≡ no_places };
+
+    /// Nothing was inserted.
+    fn default() -> VirtualAddressSpace {
+        VirtualAddressSpace {
+            inserted: 0,
+            dropped: 0,
+        }
+    }
+}
+
+impl VirtualAddressSpace {
+    /// One entry more is inserted, of which fewer than 2^62 ever were; its absolute index is answered.
+    pub fn add(&mut self) -> AbsoluteIndex
+        requires { self.old.total < 2 ^ 62 }
+        ensures index { result ≡ self.old.total + 1 }
+        ensures added { self.new ≡ record self.old { total = self.old.total + 1 } }
+    {
+        self.inserted += 1;
+        self.inserted
+    }
+
+    /// The oldest live entry is dropped, of which there must be one.
+    pub fn drop(&mut self)
+        requires { self.old.dropped < self.old.total }
+        ensures { self.new ≡ record self.old { dropped = self.old.dropped + 1 } }
+    {
+        self.dropped += 1;
+    }
+
+    /// The place of the entry that an instruction's relative index names, 0 the newest (RFC 9204,
+    /// section 3.2.5).
+    pub fn relative(&self, index: RelativeIndex) -> Result<usize, Error>
+        ensures found { IfOk result (IsPlaceOf self.now (recent_index self.now index)) }
+        ensures live { IsOk result ↔ IsLive self.now (recent_index self.now index) }
+        ensures refused { IfErr result (λ e. e ≡ NoRelative index) }
+    {
+        let absolute = self
+            .inserted
+            .checked_sub(index)
+            .ok_or(Error::RelativeIndex(index))?;
+        self.place(absolute).ok_or(Error::RelativeIndex(index))
+    }
+
+    /// Whether an absolute index is that of an entry that was dropped.
+    pub fn evicted(&self, index: AbsoluteIndex) -> bool
+        ensures { IsTrue result ↔ WasDropped self.now index }
+    {
+        index > 0 && index <= self.dropped
+    }
+
+    /// The place of the entry that a line's relative index names under a base (RFC 9204, section
+    /// 3.2.5). That the base is at most the total is not tested: under a greater one the place may be
+    /// past that of the newest entry.
+    pub fn relative_base(&self, base: usize, index: RelativeIndex) -> Result<usize, Error>
+        ensures found { IfOk result (IsPlaceOf self.now (relative_index base index)) }
+        ensures tested { IsOk result ↔ IsNotDropped self.now base index }
+        // Under a base up to the total it is answered exactly where the entry is live.
+        ensures live { base ≤ self.now.total → (IsOk result ↔ IsLive self.now (relative_index base index)) }
+        ensures refused { IfErr result (λ e. e ≡ NoRelative index) }
+    {
+        if self.largest_ref() == 0 {
+            return Err(Error::RelativeIndex(index));
+        }
+        let absolute = base.checked_sub(index).ok_or(Error::RelativeIndex(index))?;
+        self.place(absolute).ok_or(Error::RelativeIndex(index))
+    }
+
+    /// The place of the entry that a post-base index names (RFC 9204, section 3.2.6). Where the sum
+    /// with the base does not fit it names none.
+    pub fn post_base(&self, base: usize, index: RelativeIndex) -> Result<usize, Error>
+        ensures found { IfOk result (IsPlaceOf self.now (post_base_index base index)) }
+        ensures live { IsOk result ↔ IsLive self.now (post_base_index base index) }
+        ensures refused { IfErr result (λ e. e ≡ NoPostBase index) }
+    {
+        let behind_base = self.inserted.saturating_sub(base);
+        if index >= behind_base {
+            return Err(Error::PostbaseIndex(index));
+        }
+        self.place(base + index + 1)
+            .ok_or(Error::PostbaseIndex(index))
+    }
+
+    /// The absolute index of the live entry at a place.
+    pub fn index(&self, index: usize) -> Result<usize, Error>
+        ensures found { IfOk result (λ absolute. IsLive self.now absolute × IsPlaceOf self.now absolute index) }
+        ensures live { IsOk result ↔ (index < live_count self.now) }
+        ensures refused { IfErr result (λ e. e ≡ NoPlace index) }
+    {
+        if index >= self.largest_ref() {
+            return Err(Error::Index(index));
+        }
+        Ok(self.dropped + index + 1)
+    }
+
+    /// How many entries are live.
+    pub fn largest_ref(&self) -> usize
+        ensures live { result ≡ live_count self.now }
+        ensures parts { self.now.dropped + result ≡ self.now.total }
+    {
+        self.inserted - self.dropped
+    }
+
+    /// How many entries were ever inserted, 2^62 at most.
+    pub fn total_inserted(&self) -> usize
+        ensures total { result ≡ self.now.total }
+        ensures most { result ≤ 2 ^ 62 }
+    {
+        self.inserted
+    }
+
+    /// The place of an absolute index, from 0 at the oldest live entry. Of dropped entries there is
+    /// none.
+    fn place(&self, absolute: AbsoluteIndex) -> Option<usize>
+        ensures found { IfSome result (IsPlaceOf self.now absolute) }
+        ensures above { IsSome result ↔ (self.now.dropped < absolute) }
+    {
+        absolute.checked_sub(self.dropped)?.checked_sub(1)
+    }
+}
