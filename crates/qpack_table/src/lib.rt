@@ -2,6 +2,7 @@
 //! entries, and its errors.
 #![tactic(auto)]
 
+pub mod dynamic;
 pub mod laws;
 #[cfg(test)]
 mod tests;

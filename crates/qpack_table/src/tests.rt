@@ -1,8 +1,10 @@
 //! Worked cases of indexes and the printed texts. Each test also holds where one allocation is refused,
 //! so that each can be in turn.
 
+use crate::dynamic;
 use crate::vas::{self, VirtualAddressSpace};
-use std::alloc::Global;
+use qpack_base::coding::NoMemory;
+use std::alloc::{AllocError, Global};
 use std::fmt;
 use std::process::Abort;
 use std::test::Fail;
@@ -136,5 +138,62 @@ fn errors_of_indexes_are_told(rt: HostRuntime) -> Result<(), Fail> {
     for (error, text) in &errors {
         tells(&rt, rt.alloc(), error, text)?;
     }
+    Ok(())
+}
+
+#[test]
+fn errors_of_the_table_are_told(rt: HostRuntime) -> Result<(), Fail> {
+    let errors = [
+        (
+            dynamic::Error::BadRelativeIndex(7),
+            "no entry at relative index 7",
+        ),
+        (
+            dynamic::Error::BadPostbaseIndex(8),
+            "no entry at post-base index 8",
+        ),
+        (dynamic::Error::BadIndex(9), "no entry at place 9"),
+        (
+            dynamic::Error::MaxTableSizeReached,
+            "no room within the capacity",
+        ),
+        (
+            dynamic::Error::MaximumTableSizeTooLarge,
+            "capacity too large",
+        ),
+        (
+            dynamic::Error::MaxBlockedStreamsTooLarge,
+            "limit of blocked streams too large",
+        ),
+        (dynamic::Error::UnknownStreamId(4), "unknown stream 4"),
+        (dynamic::Error::NoTrackingData, "no tracking data"),
+        (
+            dynamic::Error::InvalidTrackingCount,
+            "invalid tracking count",
+        ),
+        (dynamic::Error::Memory, "out of memory"),
+    ];
+    for (error, text) in &errors {
+        tells(&rt, rt.alloc(), error, text)?;
+    }
+    Ok(())
+}
+
+#[test]
+fn errors_below_are_taken(rt: HostRuntime) -> Result<(), Fail> {
+    let relative = vas::Error::RelativeIndex(7);
+    assert_eq!(rt;
+        dynamic::Error::from(relative),
+        dynamic::Error::BadRelativeIndex(7)
+    );
+    let post_base = vas::Error::PostbaseIndex(8);
+    assert_eq!(rt;
+        dynamic::Error::from(post_base),
+        dynamic::Error::BadPostbaseIndex(8)
+    );
+    let place = vas::Error::Index(9);
+    assert_eq!(rt; dynamic::Error::from(place), dynamic::Error::BadIndex(9));
+    assert_eq!(rt; dynamic::Error::from(NoMemory), dynamic::Error::Memory);
+    assert_eq!(rt; dynamic::Error::from(AllocError), dynamic::Error::Memory);
     Ok(())
 }

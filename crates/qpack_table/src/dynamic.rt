@@ -1,0 +1,84 @@
+//! The errors of the dynamic table (RFC 9204, section 3.2).
+
+ghost use Rattle.std.specs.Prelude.{◌≡◌};
+ghost use Rattle.qpack_table.specs.Errors.{table_error_of_index};
+ghost use Rattle.qpack_table.specs.declared.dynamic.Error.TheVariants.{Memory as NoRoom};
+
+use crate::vas;
+use qpack_base::coding::NoMemory;
+use std::alloc::{AllocError, AllocFailed};
+use thiserror::Error as ThisError;
+
+/// Why the dynamic table did not do what it was asked for.
+#[derive(Debug, PartialEq, Drop, ThisError)]
+pub enum Error {
+    /// No live entry has this relative index: the one that it names is dropped, or before the first one,
+    /// or nothing is live (RFC 9204, section 3.2.5).
+    #[error("no entry at relative index {0}")]
+    BadRelativeIndex(usize),
+    /// No live entry has this post-base index (RFC 9204, section 3.2.6).
+    #[error("no entry at post-base index {0}")]
+    BadPostbaseIndex(usize),
+    /// No live entry has this place, from 0 at the oldest: a base past the total points behind the newest.
+    #[error("no entry at place {0}")]
+    BadIndex(usize),
+    /// A field is larger than a capacity above 0, or an entry that may not go yet stands against a
+    /// smaller capacity (RFC 9204, sections 2.1.1 and 3.2.2).
+    #[error("no room within the capacity")]
+    MaxTableSizeReached,
+    /// A capacity is above the greatest that may be set: the agreed maximum, and never 2^30 bytes or more
+    /// (RFC 9204, section 3.2.3).
+    #[error("capacity too large")]
+    MaximumTableSizeTooLarge,
+    /// A limit of blocked streams is 65,535 or more (RFC 9204, section 2.1.2).
+    #[error("limit of blocked streams too large")]
+    MaxBlockedStreamsTooLarge,
+    /// No block of this stream waits for an acknowledgment (RFC 9204, section 4.4.1).
+    #[error("unknown stream {0}")]
+    UnknownStreamId(u64),
+    /// Kept from the original, and never answered: what is tracked is never missing.
+    #[error("no tracking data")]
+    NoTrackingData,
+    /// Kept from the original, and never answered: entries are not counted down by their references.
+    #[error("invalid tracking count")]
+    InvalidTrackingCount,
+    /// No memory was left.
+    #[error("out of memory")]
+    Memory,
+}
+
+impl From<vas::Error> for Error {
+    ghost from_gives = { λ e r. r ≡ table_error_of_index e };
+
+    fn from(e: vas::Error) -> Error {
+        match e {
+            vas::Error::RelativeIndex(index) => Error::BadRelativeIndex(index),
+            vas::Error::PostbaseIndex(index) => Error::BadPostbaseIndex(index),
+            vas::Error::Index(place) => Error::BadIndex(place),
+        }
+    }
+}
+
+impl From<NoMemory> for Error {
+    ghost from_gives = { λ _ r. r ≡ NoRoom };
+
+    fn from(_e: NoMemory) -> Error {
+        Error::Memory
+    }
+}
+
+impl From<AllocError> for Error {
+    ghost from_gives = { λ _ r. r ≡ NoRoom };
+
+    fn from(_e: AllocError) -> Error {
+        Error::Memory
+    }
+}
+
+impl<T: Drop> From<AllocFailed<T>> for Error {
+    ghost from_gives = { λ _ r. r ≡ NoRoom };
+
+    fn from(_e: AllocFailed<T>) -> Error {
+        Error::Memory
+    }
+}
