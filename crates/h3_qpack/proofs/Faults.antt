@@ -10,7 +10,7 @@ use Rattle.qpack_base.specs.declared.parse_error.ParseError.TheVariants as parse
 use Rattle.qpack_wire.specs.Alone.{Unreadable, Foreign, or_unreadable}
 use Rattle.qpack_wire.specs.Answers.{FailsForm}
 use Rattle.h3_qpack.specs.declared.decoder.DecoderError.{DecoderError}
-use Rattle.h3_qpack.specs.declared.decoder.DecoderError.TheVariants.{MissingRefs, HeaderTooLong, BadBaseIndex, InvalidInteger, InvalidString, InvalidStaticIndex, UnknownPrefix, UnexpectedEnd, BufSize, Memory}
+use Rattle.h3_qpack.specs.declared.decoder.DecoderError.TheVariants.{MissingRefs, HeaderTooLong, BadBaseIndex, InvalidInteger, InvalidString, InvalidIndex, DynamicTable, InvalidStaticIndex, UnknownPrefix, UnexpectedEnd, BufSize, Memory}
 use Rattle.h3_qpack.specs.Errors.{decoder_error_of_parse}
 use Rattle.h3_qpack.specs.Stateless.{FailsAlone}
 
@@ -28,6 +28,8 @@ fails_on (InvalidString (string.HuffmanDecoding e)) read whole h on = on _ h
 fails_on (InvalidString (string.HuffmanEncoding e)) read whole h on = h
 fails_on (InvalidString string.BufSize) read whole h on = h
 fails_on (InvalidString string.Memory) read whole h on = h
+fails_on (InvalidIndex e) read whole h on = h
+fails_on (DynamicTable e) read whole h on = h
 fails_on (InvalidStaticIndex index) read whole h on = on _ h
 fails_on (UnknownPrefix bits) read whole h on = h
 fails_on UnexpectedEnd read whole h on = h

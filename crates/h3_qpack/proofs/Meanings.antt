@@ -10,7 +10,7 @@ use Rattle.qpack_base.specs.declared.prefix_int.Error.TheVariants as integer
 use Rattle.qpack_base.specs.declared.prefix_string.Error.TheVariants as string
 use Rattle.h3_qpack.specs.declared.decoder.Decoded.{Decoded}
 use Rattle.h3_qpack.specs.declared.decoder.DecoderError.{DecoderError}
-use Rattle.h3_qpack.specs.declared.decoder.DecoderError.TheVariants.{MissingRefs, HeaderTooLong, BadBaseIndex, InvalidInteger, InvalidString, InvalidStaticIndex, UnknownPrefix, UnexpectedEnd, BufSize, Memory}
+use Rattle.h3_qpack.specs.declared.decoder.DecoderError.TheVariants.{MissingRefs, HeaderTooLong, BadBaseIndex, InvalidInteger, InvalidString, InvalidIndex, DynamicTable, InvalidStaticIndex, UnknownPrefix, UnexpectedEnd, BufSize, Memory}
 use Rattle.h3_qpack.specs.Stateless.{FailsAlone, Decodes, Tells, GivesFields, GivesFault, FindsFields, FindsFault, fields_in}
 
 abbrev good : List Field → Result (List Field) StatelessFault
@@ -29,6 +29,8 @@ no_fault (InvalidString (string.HuffmanDecoding e)) fs h = absurd cc
 no_fault (InvalidString (string.HuffmanEncoding e)) fs h = absurd h
 no_fault (InvalidString string.BufSize) fs h = absurd h
 no_fault (InvalidString string.Memory) fs h = absurd h
+no_fault (InvalidIndex e) fs h = absurd h
+no_fault (DynamicTable e) fs h = absurd h
 no_fault (InvalidStaticIndex index) fs h = absurd cc
 no_fault (UnknownPrefix bits) fs h = absurd h
 no_fault UnexpectedEnd fs h = absurd h
@@ -48,6 +50,8 @@ fault_told (InvalidString (string.HuffmanDecoding e)) read h other = (_, refl, h
 fault_told (InvalidString (string.HuffmanEncoding e)) read h other = absurd h
 fault_told (InvalidString string.BufSize) read h other = absurd h
 fault_told (InvalidString string.Memory) read h other = absurd h
+fault_told (InvalidIndex e) read h other = absurd h
+fault_told (DynamicTable e) read h other = absurd h
 fault_told (InvalidStaticIndex index) read h other = (_, refl, h)
 fault_told (UnknownPrefix bits) read h other = absurd h
 fault_told UnexpectedEnd read h other = absurd h

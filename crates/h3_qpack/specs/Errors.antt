@@ -7,6 +7,8 @@ use Rattle.qpack_base.specs.declared.static_.Error.{Error as StaticError}
 use Rattle.qpack_base.specs.declared.static_.Error.TheVariants.{Unknown}
 use Rattle.qpack_base.specs.declared.parse_error.ParseError.{ParseError}
 use Rattle.qpack_base.specs.declared.parse_error.ParseError.TheVariants as parse
+use Rattle.qpack_table.specs.declared.dynamic.Error.{Error as TableError}
+use Rattle.qpack_table.specs.declared.dynamic.Error.TheVariants as table
 use Rattle.h3_qpack.specs.declared.decoder.DecoderError.{DecoderError}
 use Rattle.h3_qpack.specs.declared.decoder.DecoderError.TheVariants as decoder
 use Rattle.h3_qpack.specs.declared.encoder.EncoderError.{EncoderError}
@@ -31,6 +33,19 @@ decoder_error_of_parse (parse.InvalidPrefix bits) = decoder.UnknownPrefix bits
 decoder_error_of_parse (parse.InvalidBase base) = decoder.BadBaseIndex base
 decoder_error_of_parse parse.Memory = decoder.Memory
 
+-- a refusal of the dynamic table
+abbrev pub decoder_error_of_table : TableError → DecoderError
+decoder_error_of_table (table.BadRelativeIndex index) = decoder.DynamicTable (table.BadRelativeIndex index)
+decoder_error_of_table (table.BadPostbaseIndex index) = decoder.DynamicTable (table.BadPostbaseIndex index)
+decoder_error_of_table (table.BadIndex place) = decoder.DynamicTable (table.BadIndex place)
+decoder_error_of_table table.MaxTableSizeReached = decoder.DynamicTable table.MaxTableSizeReached
+decoder_error_of_table table.MaximumTableSizeTooLarge = decoder.DynamicTable table.MaximumTableSizeTooLarge
+decoder_error_of_table table.MaxBlockedStreamsTooLarge = decoder.DynamicTable table.MaxBlockedStreamsTooLarge
+decoder_error_of_table (table.UnknownStreamId stream) = decoder.DynamicTable (table.UnknownStreamId stream)
+decoder_error_of_table table.NoTrackingData = decoder.DynamicTable table.NoTrackingData
+decoder_error_of_table table.InvalidTrackingCount = decoder.DynamicTable table.InvalidTrackingCount
+decoder_error_of_table table.Memory = decoder.Memory
+
 -- an index past the static table
 abbrev pub decoder_error_of_static : StaticError → DecoderError
 decoder_error_of_static (Unknown index) = decoder.InvalidStaticIndex index
@@ -49,7 +64,20 @@ decoder_error_of_string (string.HuffmanEncoding e) = decoder.InvalidString (stri
 decoder_error_of_string string.BufSize = decoder.InvalidString string.BufSize
 decoder_error_of_string string.Memory = decoder.Memory
 
--- ---- the encoder's
+-- ---- the encoder's; here too want of memory stays what it is
+
+-- a refusal of the dynamic table
+abbrev pub encoder_error_of_table : TableError → EncoderError
+encoder_error_of_table (table.BadRelativeIndex index) = encoder.Insertion (table.BadRelativeIndex index)
+encoder_error_of_table (table.BadPostbaseIndex index) = encoder.Insertion (table.BadPostbaseIndex index)
+encoder_error_of_table (table.BadIndex place) = encoder.Insertion (table.BadIndex place)
+encoder_error_of_table table.MaxTableSizeReached = encoder.Insertion table.MaxTableSizeReached
+encoder_error_of_table table.MaximumTableSizeTooLarge = encoder.Insertion table.MaximumTableSizeTooLarge
+encoder_error_of_table table.MaxBlockedStreamsTooLarge = encoder.Insertion table.MaxBlockedStreamsTooLarge
+encoder_error_of_table (table.UnknownStreamId stream) = encoder.Insertion (table.UnknownStreamId stream)
+encoder_error_of_table table.NoTrackingData = encoder.Insertion table.NoTrackingData
+encoder_error_of_table table.InvalidTrackingCount = encoder.Insertion table.InvalidTrackingCount
+encoder_error_of_table table.Memory = encoder.Memory
 
 -- a string
 abbrev pub encoder_error_of_string : StringError → EncoderError

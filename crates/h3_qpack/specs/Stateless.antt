@@ -17,7 +17,7 @@ use Rattle.qpack_base.specs.declared.prefix_int.Error.TheVariants as integer
 use Rattle.qpack_base.specs.declared.prefix_string.Error.TheVariants as string
 use Rattle.h3_qpack.specs.declared.decoder.Decoded.{Decoded}
 use Rattle.h3_qpack.specs.declared.decoder.DecoderError.{DecoderError}
-use Rattle.h3_qpack.specs.declared.decoder.DecoderError.TheVariants.{MissingRefs, HeaderTooLong, BadBaseIndex, InvalidInteger, InvalidString, InvalidStaticIndex, UnknownPrefix, UnexpectedEnd, BufSize, Memory}
+use Rattle.h3_qpack.specs.declared.decoder.DecoderError.TheVariants.{MissingRefs, HeaderTooLong, BadBaseIndex, InvalidInteger, InvalidString, InvalidIndex, DynamicTable, InvalidStaticIndex, UnknownPrefix, UnexpectedEnd, BufSize, Memory}
 
 -- the fields that were decoded
 abbrev pub fields_in : List HeaderField → List Field
@@ -36,6 +36,8 @@ FailsAlone (InvalidString (string.HuffmanDecoding e)) read = read ≡ Err (BadSe
 FailsAlone (InvalidString (string.HuffmanEncoding e)) read = ⊥
 FailsAlone (InvalidString string.BufSize) read = ⊥
 FailsAlone (InvalidString string.Memory) read = ⊥
+FailsAlone (InvalidIndex e) read = ⊥
+FailsAlone (DynamicTable e) read = ⊥
 FailsAlone (InvalidStaticIndex index) read = read ≡ Err (BadSection (NotStatic index))
 FailsAlone (UnknownPrefix bits) read = ⊥
 FailsAlone UnexpectedEnd read = ⊥

@@ -5,15 +5,16 @@ ghost use Rattle.qpack_spec.specs.Field.{Field};
 ghost use Rattle.qpack_spec.specs.Stateless.{StatelessFault, field_alone, stateless_at, stateless_reading};
 ghost use Rattle.qpack_spec.specs.StatelessMeaning.{MeansAlone, StopsAlone};
 ghost use Rattle.qpack_wire.specs.BlockLines.{line_of};
-ghost use Rattle.h3_qpack.specs.Errors.{decoder_error_of_parse, decoder_error_of_static, decoder_error_of_integer, decoder_error_of_string};
+ghost use Rattle.h3_qpack.specs.Errors.{decoder_error_of_parse, decoder_error_of_static, decoder_error_of_table, decoder_error_of_integer, decoder_error_of_string};
 ghost use Rattle.h3_qpack.specs.Stateless.{Decodes, GivesFields, GivesFault, FindsFields, FindsFault, ReadsFieldAlone, GivesFieldAlone, field_at};
-ghost use Rattle.h3_qpack.specs.declared.decoder.DecoderError.TheVariants.{Memory};
+ghost use Rattle.h3_qpack.specs.declared.decoder.DecoderError.TheVariants.{InvalidIndex, Memory};
 
 use qpack_base::coding::{Cursor, NoMemory};
 use qpack_base::field::HeaderField;
 use qpack_base::parse_error::ParseError;
 use qpack_base::static_::{self, StaticTable};
 use qpack_base::{prefix_int, prefix_string};
+use qpack_table::{dynamic, vas};
 use qpack_wire::block::{BlockLine, HeaderPrefix, Indexed, Literal, LiteralWithNameRef};
 use std::alloc::{AllocError, AllocFailed, Global};
 use thiserror::Error;
@@ -38,6 +39,12 @@ pub enum DecoderError {
     /// A string means nothing, or the bytes end within it.
     #[error("invalid string: {0:?}")]
     InvalidString(prefix_string::Error),
+    /// An index of the dynamic table names no live entry; kept from the original, and never answered.
+    #[error("invalid dynamic index: {0:?}")]
+    InvalidIndex(vas::Error),
+    /// The dynamic table refused what it was asked for, or has no entry of an index.
+    #[error("dynamic table error: {0:?}")]
+    DynamicTable(dynamic::Error),
     /// No field of the static table has this index.
     #[error("unknown static index: {0}")]
     InvalidStaticIndex(usize),
@@ -77,6 +84,25 @@ impl From<ParseError> for DecoderError {
             ParseError::InvalidBase(base) => DecoderError::BadBaseIndex(base),
             ParseError::Memory => DecoderError::Memory,
         }
+    }
+}
+
+impl From<dynamic::Error> for DecoderError {
+    ghost from_gives = { λ e r. r ≡ decoder_error_of_table e };
+
+    fn from(e: dynamic::Error) -> DecoderError {
+        match e {
+            dynamic::Error::Memory => DecoderError::Memory,
+            e => DecoderError::DynamicTable(e),
+        }
+    }
+}
+
+impl From<vas::Error> for DecoderError {
+    ghost from_gives = { λ e r. r ≡ InvalidIndex e };
+
+    fn from(e: vas::Error) -> DecoderError {
+        DecoderError::InvalidIndex(e)
     }
 }
 

@@ -8,7 +8,7 @@ ghost use Rattle.qpack_spec.specs.BlockReading.{written_block};
 ghost use Rattle.qpack_spec.specs.Stateless.{stateless_line, stateless_block, held_size};
 ghost use Rattle.qpack_base.specs.HeaderFields.{field_of, DrainsFields};
 ghost use Rattle.qpack_base.specs.declared.prefix_string.Error.TheVariants.{Memory as NoRoom};
-ghost use Rattle.h3_qpack.specs.Errors.{encoder_error_of_string, encoder_error_of_parse};
+ghost use Rattle.h3_qpack.specs.Errors.{encoder_error_of_table, encoder_error_of_string, encoder_error_of_parse};
 ghost use Rattle.h3_qpack.specs.declared.encoder.EncoderError.TheVariants.{Memory};
 
 use qpack_base::coding::NoMemory;
@@ -16,6 +16,7 @@ use qpack_base::field::HeaderField;
 use qpack_base::parse_error::ParseError;
 use qpack_base::static_::StaticTable;
 use qpack_base::{prefix_int, prefix_string};
+use qpack_table::dynamic;
 use qpack_wire::block::HeaderPrefix;
 use std::alloc::{AllocError, Allocator};
 use thiserror::Error;
@@ -23,6 +24,9 @@ use thiserror::Error;
 /// Why fields were not encoded, or an instruction of the decoder was not taken.
 #[derive(Debug, PartialEq, Drop, Error)]
 pub enum EncoderError {
+    /// The dynamic table refused what it was asked for.
+    #[error("dynamic table insertion: {0:?}")]
+    Insertion(dynamic::Error),
     /// A string is bad; kept from the original, and never answered.
     #[error("could not parse string: {0}")]
     InvalidString(prefix_string::Error),
@@ -35,6 +39,17 @@ pub enum EncoderError {
     /// No memory was left.
     #[error("out of memory")]
     Memory,
+}
+
+impl From<dynamic::Error> for EncoderError {
+    ghost from_gives = { λ e r. r ≡ encoder_error_of_table e };
+
+    fn from(e: dynamic::Error) -> EncoderError {
+        match e {
+            dynamic::Error::Memory => EncoderError::Memory,
+            e => EncoderError::Insertion(e),
+        }
+    }
 }
 
 impl From<prefix_string::Error> for EncoderError {

@@ -11,6 +11,7 @@ pub use decoder::{Decoded, DecoderError, decode_stateless};
 pub use encoder::{EncoderError, encode_stateless};
 pub use qpack_base::field::HeaderField;
 pub use qpack_base::{coding, field, parse_error, prefix_int, prefix_string, static_};
+pub use qpack_table::{dynamic, vas};
 pub use qpack_wire::{block, stream};
 
 /// Why fields were not encoded or decoded.

@@ -4,8 +4,8 @@
 use crate::coding::{Cursor, NoMemory};
 use crate::parse_error::ParseError;
 use crate::{
-    Decoded, DecoderError, EncoderError, Error, HeaderField, decode_stateless, encode_stateless,
-    prefix_int, prefix_string,
+    Decoded, DecoderError, EncoderError, Error, HeaderField, decode_stateless, dynamic,
+    encode_stateless, prefix_int, prefix_string, vas,
 };
 use linked_list_allocator::LocalHeap;
 use std::alloc::Global;
@@ -51,6 +51,14 @@ fn decoder_errors_are_told(rt: HostRuntime) -> Result<(), Fail> {
             "invalid string: UnexpectedEnd",
         ),
         (
+            DecoderError::InvalidIndex(vas::Error::PostbaseIndex(3)),
+            "invalid dynamic index: PostbaseIndex(3)",
+        ),
+        (
+            DecoderError::DynamicTable(dynamic::Error::BadRelativeIndex(7)),
+            "dynamic table error: BadRelativeIndex(7)",
+        ),
+        (
             DecoderError::InvalidStaticIndex(99),
             "unknown static index: 99",
         ),
@@ -86,6 +94,10 @@ fn decoder_errors_are_told(rt: HostRuntime) -> Result<(), Fail> {
 fn encoder_errors_are_told(rt: HostRuntime) -> Result<(), Fail> {
     let alloc = rt.alloc();
     let errors = [
+        (
+            EncoderError::Insertion(dynamic::Error::UnknownStreamId(4)),
+            "dynamic table insertion: UnknownStreamId(4)",
+        ),
         (
             EncoderError::InvalidString(prefix_string::Error::UnexpectedEnd),
             "could not parse string: unexpected end",
@@ -124,6 +136,24 @@ fn errors_of_the_layers_below_are_taken(rt: HostRuntime) -> Result<(), Fail> {
     let base = ParseError::InvalidBase(-1);
     let overflow = EncoderError::InvalidInteger(prefix_int::Error::Overflow);
     assert_eq!(rt; EncoderError::from(base), overflow);
+    Ok(())
+}
+
+#[test]
+fn errors_of_the_table_are_taken(rt: HostRuntime) -> Result<(), Fail> {
+    let memory = dynamic::Error::Memory;
+    assert_eq!(rt; DecoderError::from(memory), DecoderError::Memory);
+    let memory = dynamic::Error::Memory;
+    assert_eq!(rt; EncoderError::from(memory), EncoderError::Memory);
+    let refused = DecoderError::DynamicTable(dynamic::Error::BadIndex(9));
+    assert_eq!(rt; DecoderError::from(dynamic::Error::BadIndex(9)), refused);
+    let refused = EncoderError::Insertion(dynamic::Error::UnknownStreamId(4));
+    assert_eq!(rt;
+        EncoderError::from(dynamic::Error::UnknownStreamId(4)),
+        refused
+    );
+    let refused = DecoderError::InvalidIndex(vas::Error::Index(9));
+    assert_eq!(rt; DecoderError::from(vas::Error::Index(9)), refused);
     Ok(())
 }
 

@@ -68,6 +68,8 @@ DecodesText (Err e) limit read = FailsHexadecimal e limit read
 abbrev pub fault_of_decoder : DecoderError → Fault
 fault_of_decoder (decoder.InvalidInteger e) = Refused (decoder.InvalidInteger e)
 fault_of_decoder (decoder.InvalidString e) = Refused (decoder.InvalidString e)
+fault_of_decoder (decoder.InvalidIndex e) = Refused (decoder.InvalidIndex e)
+fault_of_decoder (decoder.DynamicTable e) = Refused (decoder.DynamicTable e)
 fault_of_decoder (decoder.InvalidStaticIndex i) = Refused (decoder.InvalidStaticIndex i)
 fault_of_decoder (decoder.UnknownPrefix bits) = Refused (decoder.UnknownPrefix bits)
 fault_of_decoder (decoder.MissingRefs required) = Refused (decoder.MissingRefs required)
