@@ -1,3 +1,4 @@
 pub mod Places
 pub mod PlaceLaws
 pub mod Errors
+pub mod Tables

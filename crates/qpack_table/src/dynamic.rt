@@ -1,4 +1,5 @@
-//! The errors of the dynamic table (RFC 9204, section 3.2).
+//! The dynamic table (RFC 9204, section 3.2): its errors, and the table itself. An encoder's handle, which
+//! names entries and tracks them, is not there yet.
 
 ghost use Rattle.std.specs.Prelude.{◌≡◌};
 ghost use Rattle.qpack_table.specs.Errors.{table_error_of_index};
@@ -8,6 +9,10 @@ use crate::vas;
 use qpack_base::coding::NoMemory;
 use std::alloc::{AllocError, AllocFailed};
 use thiserror::Error as ThisError;
+
+mod table;
+
+pub use crate::dynamic::table::{DynamicTable, DynamicTableDecoder};
 
 /// Why the dynamic table did not do what it was asked for.
 #[derive(Debug, PartialEq, Drop, ThisError)]

@@ -1,9 +1,10 @@
-//! Worked cases of indexes and the printed texts. Each test also holds where one allocation is refused,
+//! Worked cases of indexes and of the table, and the printed texts. Each test also holds where one allocation is refused,
 //! so that each can be in turn.
 
-use crate::dynamic;
+use crate::dynamic::{self, DynamicTable};
 use crate::vas::{self, VirtualAddressSpace};
 use qpack_base::coding::NoMemory;
+use qpack_base::field::HeaderField;
 use std::alloc::{AllocError, Global};
 use std::fmt;
 use std::process::Abort;
@@ -122,6 +123,133 @@ fn an_empty_space_has_no_entry(rt: HostRuntime) -> Result<(), Fail> {
     }
     assert!(rt; !VirtualAddressSpace::default().evicted(1));
     assert!(rt; space(3, 3).evicted(3));
+    Ok(())
+}
+
+/// Calls again what was refused: one allocation alone is.
+fn again<T, E: Drop, F: FnMut() -> Result<T, E>>(mut call: F) -> Result<T, E>
+    requires { F.IsAlwaysCallable call }
+{
+    match call() {
+        Ok(value) => Ok(value),
+        Err(_) => call(),
+    }
+}
+
+/// A field of two texts.
+fn field(alloc: Global, name: &[u8], value: &[u8]) -> Result<HeaderField, NoMemory> {
+    again(|| HeaderField::from_pair(alloc, name, value))
+}
+
+/// Puts a field, and again after a refusal for memory, which must leave the table as it was.
+fn put(
+    rt: &impl Abort,
+    alloc: Global,
+    table: &mut DynamicTable,
+    name: &[u8],
+    value: &[u8],
+) -> Result<(), dynamic::Error> {
+    let total = table.total_inserted();
+    match table.put(field(alloc, name, value)?) {
+        Err(dynamic::Error::Memory) => {
+            assert_eq!(rt; table.total_inserted(), total);
+            table.put(field(alloc, name, value)?)
+        }
+        answer => answer,
+    }
+}
+
+/// Whether what was looked for is the field of two texts.
+fn is_field(found: Result<&HeaderField, dynamic::Error>, name: &[u8], value: &[u8]) -> bool {
+    found.is_ok_and(|field| field.name.as_slice() == name && field.value.as_slice() == value)
+}
+
+#[test]
+fn the_oldest_entries_go_for_the_newest(rt: HostRuntime) -> Result<(), Fail> {
+    let alloc = rt.alloc();
+    let mut table = DynamicTable::new(alloc);
+    assert_eq!(rt; table.set_max_size(68), Ok(()));
+    assert_eq!(rt; table.max_mem_size(), 68);
+    assert_eq!(rt; put(&rt, alloc, &mut table, b"a", b"1"), Ok(()));
+    assert_eq!(rt; put(&rt, alloc, &mut table, b"b", b"2"), Ok(()));
+    assert!(rt; is_field(table.get_relative(0), b"b", b"2"));
+    assert!(rt; is_field(table.get_relative(1), b"a", b"1"));
+    assert_eq!(rt; put(&rt, alloc, &mut table, b"c", b"3"), Ok(()));
+    assert_eq!(rt; table.total_inserted(), 3);
+    assert!(rt; is_field(table.get_relative(0), b"c", b"3"));
+    assert!(rt; is_field(table.get_relative(1), b"b", b"2"));
+    assert!(rt; table.get_relative(2) == Err(dynamic::Error::BadRelativeIndex(2)));
+    assert_eq!(rt; put(&rt, alloc, &mut table, b"dd", &[b'4'; 34]), Ok(()));
+    assert_eq!(rt; table.total_inserted(), 4);
+    assert!(rt; is_field(table.get_relative(0), b"dd", &[b'4'; 34]));
+    assert!(rt; table.get_relative(1) == Err(dynamic::Error::BadRelativeIndex(1)));
+    Ok(())
+}
+
+#[test]
+fn what_does_not_fit_is_refused(rt: HostRuntime) -> Result<(), Fail> {
+    let alloc = rt.alloc();
+    let mut table = DynamicTable::new(alloc);
+    assert_eq!(rt; put(&rt, alloc, &mut table, b"a", b"1"), Ok(()));
+    assert_eq!(rt; table.total_inserted(), 0);
+    assert_eq!(rt; table.set_max_size(33), Ok(()));
+    let refused = Err(dynamic::Error::MaxTableSizeReached);
+    assert_eq!(rt; put(&rt, alloc, &mut table, b"a", b"1"), refused);
+    assert_eq!(rt; table.total_inserted(), 0);
+    assert_eq!(rt; table.set_max_size(34), Ok(()));
+    assert_eq!(rt; put(&rt, alloc, &mut table, b"a", b"1"), Ok(()));
+    assert_eq!(rt; table.total_inserted(), 1);
+    Ok(())
+}
+
+#[test]
+fn a_smaller_capacity_drops_the_oldest(rt: HostRuntime) -> Result<(), Fail> {
+    let alloc = rt.alloc();
+    let mut table = DynamicTable::new(alloc);
+    assert_eq!(rt; table.set_max_size((1 << 30) - 1), Ok(()));
+    assert_eq!(rt;
+        table.set_max_size(1 << 30),
+        Err(dynamic::Error::MaximumTableSizeTooLarge)
+    );
+    assert_eq!(rt; table.max_mem_size(), (1 << 30) - 1);
+    assert_eq!(rt; put(&rt, alloc, &mut table, b"a", b"1"), Ok(()));
+    assert_eq!(rt; put(&rt, alloc, &mut table, b"b", b"2"), Ok(()));
+    assert_eq!(rt; table.set_max_size(67), Ok(()));
+    assert!(rt; is_field(table.get_relative(0), b"b", b"2"));
+    assert!(rt; table.get_relative(1) == Err(dynamic::Error::BadRelativeIndex(1)));
+    assert_eq!(rt; table.set_max_size(0), Ok(()));
+    assert!(rt; table.get_relative(0) == Err(dynamic::Error::BadRelativeIndex(0)));
+    assert_eq!(rt; table.total_inserted(), 2);
+    Ok(())
+}
+
+#[test]
+fn lines_name_entries_under_a_base(rt: HostRuntime) -> Result<(), Fail> {
+    let alloc = rt.alloc();
+    let mut table = DynamicTable::new(alloc);
+    assert_eq!(rt; table.set_max_size(4096), Ok(()));
+    assert_eq!(rt; put(&rt, alloc, &mut table, b"a", b"1"), Ok(()));
+    assert_eq!(rt; put(&rt, alloc, &mut table, b"b", b"2"), Ok(()));
+    let under = table.decoder(1);
+    assert!(rt; is_field(under.get_relative(0), b"a", b"1"));
+    assert!(rt; is_field(under.get_postbase(0), b"b", b"2"));
+    assert!(rt; under.get_relative(1) == Err(dynamic::Error::BadRelativeIndex(1)));
+    assert!(rt; under.get_postbase(1) == Err(dynamic::Error::BadPostbaseIndex(1)));
+    let past = table.decoder(10);
+    assert!(rt; past.get_relative(0) == Err(dynamic::Error::BadIndex(9)));
+    assert!(rt; is_field(past.get_relative(8), b"b", b"2"));
+    assert!(rt; past.get_postbase(0) == Err(dynamic::Error::BadPostbaseIndex(0)));
+    Ok(())
+}
+
+#[test]
+fn the_limit_of_blocked_blocks_is_bounded(rt: HostRuntime) -> Result<(), Fail> {
+    let mut table = DynamicTable::new(rt.alloc());
+    assert_eq!(rt; table.set_max_blocked(65_534), Ok(()));
+    assert_eq!(rt;
+        table.set_max_blocked(65_535),
+        Err(dynamic::Error::MaxBlockedStreamsTooLarge)
+    );
     Ok(())
 }
 

@@ -1,0 +1,53 @@
+-- What is put, and what a capacity changes, by cases.
+use Rattle.std.proofs.Common.{◌≡◌, ℕ, ◌+◌, ◌^◌, ◌<◌, ◌≤◌, true, false, List, [], ◌∷◌, ◌++◌, length, drop, Ok, Err, refl, arith}
+use Rattle.std.specs.Prelude.{nat_eq}
+use Rattle.std.proofs.lemmas.Bool.{lt-ltb, le-ltb, lt-leb, le-leb, ne_eqb}
+use Rattle.std.proofs.lemmas.List.{drop-append-le, length-map}
+use Rattle.qpack_spec.specs.Field.{Field, field_size}
+use Rattle.qpack_spec.specs.Table.{Table, Entry, count, fields_in, can_drop, evicted_for, with_entry, put_entry, put, resized}
+use Rattle.qpack_spec.specs.Window.{DoesNotFit, AboveMaximum, excess, greatest_capacity}
+use Rattle.qpack_spec.proofs.Windows.{excess_push}
+
+not_zero : (n : ℕ) → 0 < n → nat_eq n 0 ≡ false
+not_zero n h = ne_eqb n 0 (λ e. omega (arith, h, e))
+
+pub put_nothing : (t : Table) (f : Field) → t.capacity ≡ 0 → put t f ≡ Ok t
+unfolding put
+put_nothing t f e = rw e refl
+
+pub put_too_large : (t : Table) (f : Field) → 0 < t.capacity → t.capacity < field_size f → put t f ≡ Err DoesNotFit
+unfolding put
+put_too_large t f some large = rw (not_zero t.capacity some, lt-leb (field_size f) t.capacity large) refl
+
+pub put_too_late : (t : Table) (f : Field) → 0 < t.capacity → field_size f ≤ t.capacity → 2 ^ 62 ≤ count t → put t f ≡ Ok t
+unfolding put
+put_too_late t f some fits late = rw (not_zero t.capacity some, le-leb (field_size f) t.capacity fits, le-ltb (count t) (2 ^ 62) late) refl
+
+pub put_against_held : (t : Table) (f : Field) → 0 < t.capacity → field_size f ≤ t.capacity → count t < 2 ^ 62 → can_drop t (evicted_for t f) ≡ false → put t f ≡ Ok t
+unfolding put
+put_against_held t f some fits few held = rw (not_zero t.capacity some, le-leb (field_size f) t.capacity fits, lt-ltb (count t) (2 ^ 62) few, held) refl
+
+pub put_behind : (t new : Table) (f : Field) → 0 < t.capacity → field_size f ≤ t.capacity → count t < 2 ^ 62 → can_drop t (evicted_for t f) ≡ true → new ≡ with_entry t (put_entry f) → put t f ≡ Ok new
+unfolding put
+put_behind t new f some fits few free is = rw (not_zero t.capacity some, le-leb (field_size f) t.capacity fits, lt-ltb (count t) (2 ^ 62) few, free, is) refl
+
+pub resized_above : (t : Table) (n : ℕ) → greatest_capacity t.agreed < n → resized t n ≡ Err AboveMaximum
+unfolding resized
+resized_above t n above = rw (lt-leb n (greatest_capacity t.agreed) above) refl
+
+pub resized_against_held : (t : Table) (n : ℕ) → n ≤ greatest_capacity t.agreed → can_drop t (excess n (fields_in t.live)) ≡ false → resized t n ≡ Err DoesNotFit
+unfolding resized
+resized_against_held t n most held = rw (le-leb n (greatest_capacity t.agreed) most, held) refl
+
+pub resized_to : (t : Table) (n dropped : ℕ) (live : List Entry) → n ≤ greatest_capacity t.agreed → can_drop t (excess n (fields_in t.live)) ≡ true
+    → dropped ≡ t.dropped + excess n (fields_in t.live) → live ≡ drop (excess n (fields_in t.live)) t.live → resized t n ≡ Ok (record t { capacity = n; dropped = dropped; live = live })
+unfolding resized
+resized_to t n dropped live most free d l = rw (le-leb n (greatest_capacity t.agreed) most, free, d, l) refl
+
+-- one entry more, where those that have to go are gone
+pub entered : (t : Table) (e : Entry) (dropped : ℕ) (live : List Entry) → field_size e.field ≤ t.capacity → dropped ≡ t.dropped + evicted_for t e.field
+    → live ≡ drop (evicted_for t e.field) t.live ++ e ∷ [] → record t { dropped = dropped; live = live } ≡ with_entry t e
+unfolding with_entry
+entered t e dropped live fits d l =
+    let few : evicted_for t e.field ≤ length t.live = omega (arith, excess_push t.capacity (fields_in t.live) e.field fits, length-map t.live (λ (x : Entry). x.field)) in
+    rw (d, l, drop-append-le (evicted_for t e.field) t.live (e ∷ []) few) refl

@@ -1,0 +1,336 @@
+//! The table: what it holds, its lookups, what is put into it and its capacity (RFC 9204, section 3.2).
+
+ghost use Rattle.std.specs.Prelude.{◌≡◌, ◌+◌, ◌-◌, ◌^◌, ◌<◌, ◌≤◌, Some, None, IfOk, IfErr, OnOk, OnErr, length, drop, slice_get};
+ghost use Rattle.std.specs.VecDeque.{deque_capacity};
+ghost use Rattle.qpack_base.specs.HeaderFields.{field_of};
+ghost use Rattle.qpack_spec.specs.Field.{field_size, total_size};
+ghost use Rattle.qpack_spec.specs.Table.{empty_table, count, window, fields_in, can_drop, evicted_for, with_entry, put, resized};
+ghost use Rattle.qpack_spec.specs.Reading.{relative_field, post_base_field};
+ghost use Rattle.qpack_spec.specs.Window.{excess, recent, greatest_capacity};
+ghost use Rattle.qpack_table.specs.Tables.{IsHeldAt, LooksUp, entries_of, Changes, ChangesWithMemory};
+ghost use Rattle.qpack_table.specs.declared.dynamic.Error.TheVariants.{BadRelativeIndex, BadIndex, MaxBlockedStreamsTooLarge};
+
+use crate::dynamic::Error;
+use crate::vas::VirtualAddressSpace;
+use qpack_base::field::HeaderField;
+use std::alloc::{AllocError, Global};
+use std::collections::VecDeque;
+use std::marker::Model;
+
+/// No greater capacity may be set, in bytes.
+const GREATEST_CAPACITY: usize = (1 << 30) - 1;
+
+/// The limits of blocked streams that may be set are below this.
+const TOO_MANY_BLOCKED: usize = 65_535;
+
+/// The number of insertions at which no more are made.
+const MOST_INSERTIONS: usize = 1 << 62;
+
+/// A live entry.
+#[derive(Debug, Drop)]
+struct Entry {
+    field: HeaderField,
+    /// Whether an encoder's handle inserted it, and so sent it.
+    sent: bool,
+    /// How many blocks name it: open ones, and the one in progress.
+    uses: usize,
+}
+
+/// A block that waits for its acknowledgment.
+#[derive(Debug, Drop)]
+struct OpenBlock {
+    stream_id: u64,
+    /// The absolute indexes that its lines name.
+    entries: Vec<usize>,
+}
+
+/// The dynamic table of one end.
+#[derive(Debug, Drop)]
+pub struct DynamicTable {
+    /// The live entries, the oldest first.
+    entries: VecDeque<Entry>,
+    vas: VirtualAddressSpace,
+    /// The sum of the live fields' sizes, in bytes.
+    mem_size: usize,
+    max_mem_size: usize,
+    agreed_max: Option<usize>,
+    max_blocked: usize,
+    /// The known received count.
+    known: usize,
+    /// The absolute indexes that the block in progress names.
+    named: Vec<usize>,
+    /// The oldest first.
+    open_blocks: Vec<OpenBlock>,
+    /// The required insert counts above the known received count of committed blocks.
+    waiting: Vec<usize>,
+}
+
+impl Model for DynamicTable {
+    ghost use Rattle.qpack_spec.specs.Table.{Table};
+    ghost use Rattle.qpack_table.specs.Tables.{IsKept, entries_of, blocks_of};
+
+    ghost Value = { Table };
+
+    ghost view = { λ a. record {
+      capacity = a.max_mem_size;
+      agreed = a.agreed_max;
+      limit = a.max_blocked;
+      dropped = a.vas.dropped;
+      live = entries_of a.entries.items;
+      known = a.known;
+      named = a.named.items;
+      opened = blocks_of a.open_blocks.items;
+      waiting = a.waiting.items;
+    } };
+
+    ghost invariant = { λ a. IsKept a.vas a.entries.items a.mem_size a.max_mem_size a.named.items (blocks_of a.open_blocks.items) };
+}
+
+impl DynamicTable {
+    /// An empty table, of capacity 0 and with no block that may be blocked.
+    pub fn new(alloc: Global) -> DynamicTable
+        ensures { result ≡ empty_table 0 None 0 }
+    {
+        DynamicTable {
+            entries: VecDeque::new(alloc),
+            vas: VirtualAddressSpace::default(),
+            mem_size: 0,
+            max_mem_size: 0,
+            agreed_max: None,
+            max_blocked: 0,
+            known: 0,
+            named: Vec::new(alloc),
+            open_blocks: Vec::new(alloc),
+            waiting: Vec::new(alloc),
+        }
+    }
+
+    /// How many insertions were ever made.
+    pub fn total_inserted(&self) -> usize
+        ensures { result ≡ count self.now }
+    {
+        self.vas.total_inserted()
+    }
+
+    /// The capacity in bytes.
+    pub fn max_mem_size(&self) -> usize
+        ensures { result ≡ self.now.capacity }
+    {
+        self.max_mem_size
+    }
+
+    /// The table under the base of a block.
+    pub fn decoder(&self, base: usize) -> DynamicTableDecoder<'_>
+        ensures table { result.table.now ≡ self.now }
+        ensures base { result.base ≡ base }
+    {
+        DynamicTableDecoder { table: self, base }
+    }
+
+    /// Sets how many blocks may be blocked at once, at most 65,534 (RFC 9204, section 2.1.2).
+    pub fn set_max_blocked(&mut self, max: usize) -> Result<(), Error>
+        ensures ok { OnOk result ((max < 65535) × (self.new ≡ record self.old { limit = max })) }
+        ensures err { IfErr result (λ e. (e ≡ MaxBlockedStreamsTooLarge) × (65535 ≤ max) × (self.new ≡ self.old)) }
+    {
+        if max >= TOO_MANY_BLOCKED {
+            return Err(Error::MaxBlockedStreamsTooLarge);
+        }
+        self.max_blocked = max;
+        Ok(())
+    }
+
+    /// The live field of an instruction's relative index, 0 the newest (RFC 9204, section 3.2.5).
+    pub fn get_relative(&self, index: usize) -> Result<&HeaderField, Error>
+        ensures found { IfOk result (λ field. recent (window self.now) index ≡ Some (field_of field.now)) }
+        ensures refused { IfErr result (λ e. (e ≡ BadRelativeIndex index) × (recent (window self.now) index ≡ None)) }
+    {
+        let place = self.vas.relative(index)?;
+        self.field_at(place)
+    }
+
+    /// The live field of a line's relative index under a base (RFC 9204, section 3.2.5).
+    fn get_relative_base(&self, base: usize, index: usize) -> Result<&HeaderField, Error>
+        ensures { LooksUp result (relative_field (window self.now) base index) }
+    {
+        let place = self.vas.relative_base(base, index)?;
+        self.field_at(place)
+    }
+
+    /// The live field of a line's post-base index (RFC 9204, section 3.2.6).
+    fn get_postbase(&self, base: usize, index: usize) -> Result<&HeaderField, Error>
+        ensures { LooksUp result (post_base_field (window self.now) base index) }
+    {
+        let place = self.vas.post_base(base, index)?;
+        self.field_at(place)
+    }
+
+    /// The live field at a place.
+    fn field_at(&self, place: usize) -> Result<&HeaderField, Error>
+        ensures found { IfOk result (λ field. slice_get (fields_in self.now.live) place ≡ Some (field_of field.now)) }
+        ensures refused { IfErr result (λ e. (e ≡ BadIndex place) × (slice_get (fields_in self.now.live) place ≡ None)) }
+    {
+        match self.entries.get(place) {
+            Some(entry) => Ok(&entry.field),
+            None => Err(Error::BadIndex(place)),
+        }
+    }
+
+    /// The least number of oldest entries whose removal lets the rest fit so many bytes.
+    fn excess(&self, room: usize) -> usize
+        ensures { result ≡ excess room (fields_in self.now.live) }
+    {
+        let mut rest = self.mem_size;
+        let mut gone = 0;
+        while gone < self.entries.len() && rest > room {
+            rest -= self.entries[gone].field.mem_size();
+            gone += 1;
+        }
+        gone
+    }
+
+    /// Whether the live entry at a place may not go: a block names it, or it was sent and is not known to be
+    /// received (RFC 9204, section 2.1.1).
+    fn is_held(&self, place: usize) -> bool
+        requires { place < length self.now.live }
+        ensures { IsHeldAt self.now place result }
+    {
+        let entry = &self.entries[place];
+        if entry.uses > 0 {
+            return true;
+        }
+        let dropped = self.total_inserted() - self.entries.len();
+        entry.sent && self.known <= dropped + place
+    }
+
+    /// Whether so many of the oldest entries may go.
+    fn can_drop(&self, gone: usize) -> bool
+        requires { gone ≤ length self.now.live }
+        ensures { result ≡ can_drop self.now gone }
+    {
+        for place in 0..gone {
+            if self.is_held(place) {
+                return false;
+            }
+        }
+        true
+    }
+
+    /// Inserts a field behind the newest one, once so many of the oldest are gone. Refused, which is for
+    /// memory alone, nothing changes.
+    fn insert(&mut self, field: HeaderField, sent: bool, gone: usize) -> Result<(), AllocError>
+        requires few { count self.old < 2 ^ 62 }
+        requires fits { field_size (field_of field) ≤ self.old.capacity }
+        requires gone { gone ≡ evicted_for self.old (field_of field) }
+        ensures ok { OnOk result (self.new ≡ with_entry self.old (record { field = field_of field; sent = sent })) }
+        ensures err { OnErr result (self.new ≡ self.old) }
+    {
+        self.entries.reserve(1)?;
+        let freed = drop_oldest(&mut self.entries, &mut self.vas, gone);
+        self.mem_size = self.mem_size - freed + field.mem_size();
+        self.vas.add();
+        self.entries.push_back_reserved(Entry {
+            field,
+            sent,
+            uses: 0,
+        });
+        Ok(())
+    }
+
+    /// Puts a field, as a decoder does: entries that have to go are gone then (RFC 9204, section 3.2.2). It is
+    /// passed over at capacity 0, behind the 2^62th insertion and where a held entry would have to go, and
+    /// refused if it is larger than the capacity. Refused, nothing changes.
+    pub fn put(&mut self, field: HeaderField) -> Result<(), Error>
+        ensures { ChangesWithMemory result (put self.old (field_of field)) self.old self.new }
+    {
+        if self.max_mem_size == 0 {
+            return Ok(());
+        }
+        let size = field.mem_size();
+        if size > self.max_mem_size {
+            return Err(Error::MaxTableSizeReached);
+        }
+        if self.total_inserted() >= MOST_INSERTIONS {
+            return Ok(());
+        }
+        let gone = self.excess(self.max_mem_size - size);
+        if !self.can_drop(gone) {
+            return Ok(());
+        }
+        Ok(self.insert(field, false, gone)?)
+    }
+
+    /// The greatest capacity that may be set, in bytes.
+    fn greatest_capacity(&self) -> usize
+        ensures agreed { result ≡ greatest_capacity self.now.agreed }
+        ensures most { result < 2 ^ 30 }
+    {
+        match self.agreed_max {
+            None => GREATEST_CAPACITY,
+            Some(most) => most.min(GREATEST_CAPACITY),
+        }
+    }
+
+    /// Sets the capacity in bytes: what doesn't fit goes, the oldest first (RFC 9204, section 3.2.3). It is
+    /// refused above the agreed maximum and from 2^30 on, and where a held entry would have to go. Refused,
+    /// nothing changes.
+    pub fn set_max_size(&mut self, size: usize) -> Result<(), Error>
+        ensures { Changes result (resized self.old size) self.old self.new }
+    {
+        if size > self.greatest_capacity() {
+            return Err(Error::MaximumTableSizeTooLarge);
+        }
+        let gone = self.excess(size);
+        if !self.can_drop(gone) {
+            return Err(Error::MaxTableSizeReached);
+        }
+        let freed = drop_oldest(&mut self.entries, &mut self.vas, gone);
+        self.mem_size -= freed;
+        self.max_mem_size = size;
+        Ok(())
+    }
+}
+
+/// A table under the base of a block, whose lines name its entries.
+#[derive(Debug, Drop)]
+pub struct DynamicTableDecoder<'a> {
+    table: &'a DynamicTable,
+    base: usize,
+}
+
+impl DynamicTableDecoder<'_> {
+    /// The field that a line's relative index names (RFC 9204, section 3.2.5). A base above the total may name
+    /// a place behind the newest entry, which is told as that.
+    pub fn get_relative(&self, index: usize) -> Result<&HeaderField, Error>
+        ensures { LooksUp result (relative_field (window self.now.table.now) self.now.base index) }
+    {
+        self.table.get_relative_base(self.base, index)
+    }
+
+    /// The field that a line's post-base index names (RFC 9204, section 3.2.6).
+    pub fn get_postbase(&self, index: usize) -> Result<&HeaderField, Error>
+        ensures { LooksUp result (post_base_field (window self.now.table.now) self.now.base index) }
+    {
+        self.table.get_postbase(self.base, index)
+    }
+}
+
+/// The oldest entries go; the sum of their sizes is answered.
+fn drop_oldest(entries: &mut VecDeque<Entry>, vas: &mut VirtualAddressSpace, gone: usize) -> usize
+    requires there { gone ≤ length entries.old.items }
+    requires counted { vas.old.total ≡ vas.old.dropped + length entries.old.items }
+    requires small { total_size (fields_in (entries_of entries.old.items)) < 2 ^ 63 }
+    ensures left { entries.new.items ≡ drop gone entries.old.items }
+    ensures capacity { deque_capacity entries.new ≡ deque_capacity entries.old }
+    ensures dropped { vas.new ≡ record vas.old { dropped = vas.old.dropped + gone } }
+    ensures freed { result + total_size (drop gone (fields_in (entries_of entries.old.items))) ≡ total_size (fields_in (entries_of entries.old.items)) }
+{
+    let mut freed = 0;
+    for _ in 0..gone {
+        let Some(entry) = entries.pop_front() else {
+            break;
+        };
+        freed += entry.field.mem_size();
+        vas.drop();
+    }
+    freed
+}
