@@ -8,6 +8,7 @@ pub mod LongWords
 pub mod Items
 pub mod LastItems
 pub mod TextItems
+pub mod WholePayloads
 pub mod StringReaders
 pub mod WrittenWords
 pub mod AddedBits

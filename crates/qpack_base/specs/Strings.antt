@@ -1,5 +1,5 @@
 -- What readers of string literals answer.
-use Rattle.std.specs.Prelude.{◌≡◌, ℕ, ◌%◌, List, Result, Ok, Err, ◌==◌, if◌then◌else◌}
+use Rattle.std.specs.Prelude.{◌≡◌, ◌≢◌, ℕ, ◌%◌, List, [], Result, Ok, Err, ◌==◌, if◌then◌else◌}
 use Rattle.std.specs.Global.{Vec}
 use Rattle.qpack_spec.specs.Huffman.{HuffmanFault, bits_of_bytes, text_of_bits}
 use Rattle.qpack_spec.specs.Text.{StringFault, EndsEarly, LengthOverflows, BadHuffman}
@@ -15,14 +15,14 @@ abbrev pub error_of_integer : IntegerError → Error
 error_of_integer integer.UnexpectedEnd = UnexpectedEnd
 error_of_integer integer.Overflow = Integer integer.Overflow
 
--- a whole payload was offered, so that memory may be asked for
+-- a whole payload that is not empty was offered, so that memory may be asked for
 abbrev pub IsWhole : Result (ℕ × List ℕ × List ℕ) StringFault → Type 0
-IsWhole (Ok x) = Unit {0}
+IsWhole (Ok x) = x.1 ≢ []
 IsWhole (Err EndsEarly) = ⊥
 IsWhole (Err LengthOverflows) = ⊥
 IsWhole (Err (BadHuffman fault)) = Unit {0}
 
--- the error is the fault that was read, or want of memory for a whole payload
+-- the error is the fault that was read, or want of memory for a whole payload that is not empty
 abbrev pub FailsString : Error → Result (ℕ × List ℕ × List ℕ) StringFault → Type 0
 FailsString UnexpectedEnd read = read ≡ Err EndsEarly
 FailsString (Integer integer.Overflow) read = read ≡ Err LengthOverflows
@@ -41,6 +41,11 @@ ReadsString old new (Err e) read = FailsString e read
 abbrev pub meaning : ℕ → List ℕ → Result (List ℕ) HuffmanFault
 meaning flags payload = if flags % 2 == 0 then Ok payload else text_of_bits (bits_of_bytes payload)
 
+-- memory may be asked for: the payload means a text that is not empty, or nothing
+abbrev pub TakesMemory : Result (List ℕ) HuffmanFault → Type 0
+TakesMemory (Ok value) = value ≢ []
+TakesMemory (Err fault) = Unit {0}
+
 -- the same of a payload alone
 abbrev pub ReadsText : Result (Vec ℕ) Error → Result (List ℕ) HuffmanFault → Type 0
 ReadsText (Ok v) read = read ≡ Ok v.items
@@ -49,7 +54,7 @@ ReadsText (Err (Integer e)) read = ⊥
 ReadsText (Err (HuffmanDecoding e)) read = read ≡ Err (huffman_fault_of e)
 ReadsText (Err (HuffmanEncoding e)) read = ⊥
 ReadsText (Err BufSize) read = ⊥
-ReadsText (Err Memory) read = Unit {0}
+ReadsText (Err Memory) read = TakesMemory read
 
 -- ---- the same by cases
 

@@ -118,11 +118,14 @@ pub trait Encode {
     /// The bytes that are written.
     ghost encoding: { Self → List ℕ };
 
-    /// Appends the value's bytes; refused, the vector is as before.
+    /// Appends the value's bytes; refused, the vector is as before. With free room for them it
+    /// succeeds and takes no memory.
     fn encode<A: Allocator>(&self, buf: &mut Vec<u8, A>) -> std::result::Result<(), NoMemory>
         ensures ok { OnOk result (buf.new.items ≡ buf.old.items ++ encoding self.now) }
         ensures err { OnErr result (buf.new.items ≡ buf.old.items) }
         ensures succeeds { vec_len buf.old + length (encoding self.now) ≤ vec_capacity buf.old → IsOk result }
+        ensures still { vec_len buf.old + length (encoding self.now) ≤ vec_capacity buf.old →
+            vec_capacity buf.new ≡ vec_capacity buf.old }
         ensures capacity { vec_capacity buf.old ≤ vec_capacity buf.new };
 }
 
@@ -144,7 +147,8 @@ impl Encode for u8 {
     ghost encoding = { λ byte. byte ∷ [] };
 
     fn encode<A: Allocator>(&self, buf: &mut Vec<u8, A>) -> std::result::Result<(), NoMemory> {
-        buf.push(*self)?;
+        make_room(buf, 1)?;
+        buf.push_reserved(*self);
         Ok(())
     }
 }
@@ -165,7 +169,7 @@ impl BufExt for Cursor<'_> {
 
 /// Writing at the end of a vector.
 pub trait BufMutExt {
-    /// Appends a value's bytes.
+    /// Appends a value's bytes; with free room for them it takes no memory.
     fn write<T: Encode + Drop>(&mut self, value: T) -> std::result::Result<(), NoMemory>;
 }
 
@@ -174,8 +178,29 @@ impl<A: Allocator> BufMutExt for Vec<u8, A> {
         ensures ok { OnOk result (self.new.items ≡ self.old.items ++ T.encoding value) }
         ensures err { OnErr result (self.new.items ≡ self.old.items) }
         ensures succeeds { vec_len self.old + length (T.encoding value) ≤ vec_capacity self.old → IsOk result }
+        ensures still { vec_len self.old + length (T.encoding value) ≤ vec_capacity self.old →
+            vec_capacity self.new ≡ vec_capacity self.old }
         ensures capacity { vec_capacity self.old ≤ vec_capacity self.new }
     {
         value.encode(self)
     }
+}
+
+/// Makes room for so many more bytes. Where it is free already, nothing changes and no memory is taken.
+pub(crate) fn make_room<A: Allocator>(
+    buf: &mut Vec<u8, A>,
+    additional: usize,
+) -> std::result::Result<(), NoMemory>
+    ensures items { buf.new.items ≡ buf.old.items }
+    ensures len { vec_len buf.new ≡ vec_len buf.old }
+    ensures ok { OnOk result (vec_len buf.new + additional ≤ vec_capacity buf.new) }
+    ensures succeeds { vec_len buf.old + additional ≤ vec_capacity buf.old → IsOk result }
+    ensures still { vec_len buf.old + additional ≤ vec_capacity buf.old → vec_capacity buf.new ≡ vec_capacity buf.old }
+    ensures capacity { vec_capacity buf.old ≤ vec_capacity buf.new }
+{
+    if additional <= buf.capacity().saturating_sub(buf.len()) {
+        return Ok(());
+    }
+    buf.reserve(additional)?;
+    Ok(())
 }

@@ -7,7 +7,7 @@ ghost use Rattle.qpack_base.specs.Cursor.{MovesPast};
 ghost use Rattle.qpack_base.specs.Integers.{ReadsInteger, ReadsGroups};
 ghost use Rattle.qpack_base.specs.declared.prefix_int.Error.TheVariants.{Overflow, UnexpectedEnd as Truncated};
 
-use crate::coding::{self, BufExt, Cursor, NoMemory};
+use crate::coding::{self, BufExt, Cursor, NoMemory, make_room};
 use std::alloc::Allocator;
 use thiserror::Error as ThisError;
 
@@ -102,16 +102,19 @@ pub fn encode<A: Allocator>(
     ensures ok { OnOk result (buf.new.items ≡ buf.old.items ++ written_integer size flags value) }
     ensures err { OnErr result (buf.new.items ≡ buf.old.items) }
     ensures succeeds { vec_len buf.old + length (written_integer size flags value) ≤ vec_capacity buf.old → IsOk result }
+    ensures still { vec_len buf.old + length (written_integer size flags value) ≤ vec_capacity buf.old →
+        vec_capacity buf.new ≡ vec_capacity buf.old }
     ensures capacity { vec_capacity buf.old ≤ vec_capacity buf.new }
 {
     let end = power(size);
     let high = u64::from(flags) % power(8 - size) * end;
     if value < end - 1 {
-        buf.push((high + value) as u8)?;
+        make_room(buf, 1)?;
+        buf.push_reserved((high + value) as u8);
         return Ok(());
     }
     let rest = value - (end - 1);
-    buf.reserve(1 + groups_len(rest))?;
+    make_room(buf, 1 + groups_len(rest))?;
     buf.push_reserved((high + (end - 1)) as u8);
     put_groups(rest, buf);
     Ok(())

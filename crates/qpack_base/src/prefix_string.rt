@@ -1,10 +1,10 @@
 //! String literals with a prefix of 2 to 8 bits, plain or Huffman coded (RFC 7541, section 5.2;
 //! RFC 9204, section 4.1.2).
 
-ghost use Rattle.std.specs.Prelude.{◌≡◌, ℕ, ◌≤◌, ◌-◌, ◌++◌, ◌↔◌, List, Err, IfOk, IfErr, OnOk, OnErr, IsOk, ◌+◌, length, vec_len, vec_capacity};
+ghost use Rattle.std.specs.Prelude.{◌≡◌, ◌≢◌, ℕ, ◌≤◌, ◌-◌, ◌++◌, ◌↔◌, List, [], Err, IfOk, IfErr, OnOk, OnErr, IsOk, ◌+◌, length, vec_len, vec_capacity};
 ghost use Rattle.qpack_spec.specs.Bytes.{Begins};
 ghost use Rattle.qpack_spec.specs.Huffman.{HuffmanFault, bits_of_bytes, text_of_bits};
-ghost use Rattle.qpack_spec.specs.Text.{LengthOverflows, BadHuffman, SpellsString, RefusesString, TruncatesString, string_at, written_string};
+ghost use Rattle.qpack_spec.specs.Text.{LengthOverflows, BadHuffman, SpellsString, RefusesString, TruncatesString, HoldsPayload, string_at, written_string};
 ghost use Rattle.qpack_base.specs.Cursor.{MovesPast};
 ghost use Rattle.qpack_base.specs.Payloads.{huffman_fault_of};
 ghost use Rattle.qpack_base.specs.Strings.{error_of_integer, meaning, ReadsString, ReadsText, GivesValue, IsFaulty, GivesFault};
@@ -19,7 +19,7 @@ mod encoding_table;
 #[cfg(test)]
 mod tests;
 
-use crate::coding::{Cursor, NoMemory};
+use crate::coding::{Cursor, NoMemory, make_room};
 use crate::prefix_int;
 pub use crate::prefix_string::bitwin::BitWindow;
 pub use crate::prefix_string::decoding::{DecodeIter, HpackStringDecode, HuffmanDecodingError};
@@ -101,8 +101,9 @@ impl<T: Drop> From<AllocFailed<T>> for Error {
     }
 }
 
-/// Reads the string at the cursor, with a prefix of `size` bits, plain or coded. Asks for no memory
-/// before the whole payload was offered. Where it is refused, the cursor's place is not told.
+/// Reads the string at the cursor, with a prefix of `size` bits, plain or coded. Memory is asked for
+/// only where a payload that is not empty stands whole at the cursor. Where the string is refused,
+/// the cursor's place is not told.
 pub fn decode(alloc: Global, size: u8, buf: &mut Cursor) -> Result<Vec<u8>, Error>
     requires least { 2 ≤ size }
     requires most { size ≤ 8 }
@@ -116,6 +117,8 @@ pub fn decode(alloc: Global, size: u8, buf: &mut Cursor) -> Result<Vec<u8>, Erro
     // A coded payload that means nothing is refused for its fault, unless memory is refused.
     ensures faulty { (fault : HuffmanFault) → IsFaulty result fault → Begins (λ text. RefusesString size text (BadHuffman fault)) buf.old.rest }
     ensures refused { (fault : HuffmanFault) → Begins (λ text. RefusesString size text (BadHuffman fault)) buf.old.rest → GivesFault result fault }
+    // Memory is refused only to a whole payload.
+    ensures memory { result ≡ Err NoRoom → Begins (HoldsPayload size) buf.old.rest }
     // The same, as reading from left to right.
     ensures exact { ReadsString buf.old buf.new result (string_at size buf.old.rest) }
 {
@@ -138,11 +141,13 @@ pub fn encode<A: Allocator>(
     ensures err { OnErr result (buf.new.items ≡ buf.old.items) }
     ensures memory { IfErr result (λ e. e ≡ NoRoom) }
     ensures succeeds { vec_len buf.old + length (written_string size flags value.now) ≤ vec_capacity buf.old → IsOk result }
+    ensures still { vec_len buf.old + length (written_string size flags value.now) ≤ vec_capacity buf.old →
+        vec_capacity buf.new ≡ vec_capacity buf.old }
     ensures capacity { vec_capacity buf.old ≤ vec_capacity buf.new }
 {
     let len = encoding::payload_len(value);
     let head = prefix_int::encoded_len(size - 1, len as u64);
-    buf.reserve(len.saturating_add(head))?;
+    make_room(buf, len.saturating_add(head))?;
     prefix_int::encode(size - 1, flags % 0x80 * 2 + 1, len as u64, buf)?;
     encoding::put_payload(value, buf);
     Ok(())
@@ -165,10 +170,13 @@ fn read(alloc: Global, size: u8, buf: &mut Cursor) -> Result<Vec<u8>, Error>
     Ok(value)
 }
 
-/// The value of a payload, which the lowest flag says to be plain or coded.
+/// The value of a payload, which the lowest flag says to be plain or coded. An empty one takes no memory.
 fn read_payload(alloc: Global, flags: u8, payload: &[u8]) -> Result<Vec<u8>, Error>
     ensures { ReadsText result (meaning flags payload.now) }
 {
+    if payload.is_empty() {
+        return Ok(Vec::new(alloc));
+    }
     if flags % 2 == 0 {
         return Ok(Vec::from_slice(alloc, payload)?);
     }
@@ -177,6 +185,7 @@ fn read_payload(alloc: Global, flags: u8, payload: &[u8]) -> Result<Vec<u8>, Err
 
 /// The text that a coded payload means.
 fn read_text(alloc: Global, payload: &[u8]) -> Result<Vec<u8>, Error>
+    requires { payload.now ≢ [] }
     ensures { ReadsText result (text_of_bits (bits_of_bytes payload.now)) }
 {
     let mut text = Vec::with_capacity(alloc, payload.len() + payload.len() / 2)?;

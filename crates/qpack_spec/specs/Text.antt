@@ -1,6 +1,6 @@
 -- String literals with a prefix of n bits, n from 2 to 8: a flag, a length, and so many bytes, plain or coded
 -- (RFC 7541, section 5.2; RFC 9204, section 4.1.2).
-use Rattle.std.specs.Prelude.{◌≡◌, ℕ, ◌+◌, ◌-◌, ◌*◌, ◌/◌, ◌%◌, ◌⊎◌, List, ◌++◌, length, take, drop, Result, Ok, Err, nat_lt, ◌==◌, if◌then◌else◌}
+use Rattle.std.specs.Prelude.{◌≡◌, ◌≢◌, ◌<◌, ℕ, ◌+◌, ◌-◌, ◌*◌, ◌/◌, ◌%◌, ◌⊎◌, List, ◌++◌, length, take, drop, Result, Ok, Err, [], nat_lt, ◌==◌, if◌then◌else◌}
 use Rattle.qpack_spec.specs.Integer.{IntegerFault, Overflow, UnexpectedEnd, SpellsInteger, OverflowsInteger, integer_at, written_integer}
 use Rattle.qpack_spec.specs.Huffman.{HuffmanFault, bits_of_bytes, PayloadMeans, PayloadMeansNothing, text_of_bits, payload_of}
 
@@ -16,6 +16,15 @@ pub record IsLiteral (n : ℕ) (text : List ℕ) (flags huffman : ℕ) (payload 
   pub head : List ℕ
   pub parts : text ≡ head ++ payload
   pub spells : SpellsInteger (n - 1) head (2 * flags + huffman) (length payload)
+
+-- a literal, plain or coded, of a payload that is not empty (RFC 9204, section 4.1.2)
+pub record HoldsPayload (n : ℕ) (text : List ℕ) : Type 0 where
+  pub flags : ℕ
+  pub huffman : ℕ
+  pub payload : List ℕ
+  pub literal : IsLiteral n text flags huffman payload
+  pub coding : huffman < 2
+  pub some : payload ≢ []
 
 -- the bytes are a literal of the value, plain or coded
 abbrev pub SpellsString : ℕ → List ℕ → ℕ → List ℕ → Type 0

@@ -1,6 +1,6 @@
 //! Writing Huffman coded payloads (RFC 7541, section 5.2 and Appendix B).
 
-ghost use Rattle.std.specs.Prelude.{◌≡◌, ◌+◌, ◌*◌, ◌%◌, ◌/◌, ◌-◌, ◌^◌, ◌<◌, ◌≤◌, ◌++◌, List, ℕ, IfOk, length, min, vec_len, vec_capacity};
+ghost use Rattle.std.specs.Prelude.{◌≡◌, ◌≢◌, ◌+◌, ◌*◌, ◌%◌, ◌/◌, ◌-◌, ◌^◌, ◌<◌, ◌≤◌, ◌++◌, List, [], ℕ, IfOk, OnErr, length, min, vec_len, vec_capacity};
 ghost use Rattle.qpack_spec.specs.Huffman.{payload_of};
 ghost use Rattle.qpack_base.specs.WrittenPayloads.{AddsBits, AddsLastBits};
 
@@ -107,9 +107,10 @@ pub trait HpackStringEncode {
     /// The bytes of the text.
     ghost text: { Self → List ℕ };
 
-    /// The payload of the text.
+    /// The payload of the text; an empty one takes no memory.
     fn hpack_encode(&self) -> Result<Vec<u8>, HuffmanEncodingError>
-        ensures { IfOk result (λ v. v.items ≡ payload_of (text self.now)) };
+        ensures ok { IfOk result (λ v. v.items ≡ payload_of (text self.now)) }
+        ensures memory { OnErr result (text self.now ≢ []) };
 }
 
 impl HpackStringEncode for Vec<u8> {

@@ -1,4 +1,5 @@
 use Rattle.qpack_base.proofs.StringReaders.{string_found, string_only, string_overflows, string_truncates, string_faulty, string_refused}
+use Rattle.qpack_base.proofs.WholePayloads.{string_memory}
 use Rattle.qpack_base.proofs.prefix_string.decode.Goals as goal
 
 pub returns-clause-found : goal.returns-clause-found
@@ -18,3 +19,6 @@ returns-clause-faulty c = string_faulty c.args.size c.args.buf.now c.read.new.bu
 
 pub returns-clause-refused : goal.returns-clause-refused
 returns-clause-refused c = string_refused c.args.size c.args.buf.now c.read.new.buf c.read.result c.read.ensures
+
+pub returns-clause-memory : goal.returns-clause-memory
+returns-clause-memory c = string_memory c.args.size c.args.buf.now c.read.new.buf c.read.result c.read.ensures

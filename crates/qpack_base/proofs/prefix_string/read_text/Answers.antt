@@ -1,5 +1,6 @@
 use Rattle.std.proofs.lemmas.Result.{err_from_is_err_and}
 use Rattle.qpack_spec.specs.Huffman.{text_of_bits}
+use Rattle.qpack_base.proofs.WholePayloads.{takes_memory}
 use Rattle.qpack_base.proofs.TextItems.{at_end, at_fault, at_byte}
 use Rattle.qpack_base.proofs.prefix_string.read_text.Goals as goal
 
@@ -16,3 +17,13 @@ loop-byte-preserved c =
 
 pub returns : goal.returns
 returns c = at_end c.loop-byte.byte-iterator c.next.new.self c.loop-byte.text.items (text_of_bits _) c.in-None.ensures.steps c.loop-byte.invariant
+
+pub returns-in_err-text : goal.returns-in_err-text
+returns-in_err-text c =
+    let p = err_from_is_err_and c.from_residual.result c.from_residual.ensures.1 in
+    rw (p.1, p.2) (takes_memory c.args.payload.now c.requires)
+
+pub returns-in_err-push : goal.returns-in_err-push
+returns-in_err-push c =
+    let p = err_from_is_err_and c.from_residual-in_err-push.result c.from_residual-in_err-push.ensures.1 in
+    rw (p.1, p.2) (takes_memory c.args.payload.now c.requires)

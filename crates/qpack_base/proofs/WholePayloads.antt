@@ -1,0 +1,116 @@
+-- Which payloads memory is asked for: those that are not empty.
+use Rattle.std.proofs.Common.{◌≡◌, ◌≢◌, ℕ, ◌%◌, Bool, true, false, cond}
+use Rattle.std.proofs.Common.{List, [], ◌∷◌, length, Result, Ok, Err, rules, arith, refl, sym, ap, subst, ◌∙◌, inl, inr}
+use Rattle.std.proofs.lemmas.Bool.{eqb-true}
+use Rattle.std.specs.Prelude.{◌==◌}
+use Rattle.std.specs.Global.{Vec}
+use Rattle.qpack_spec.specs.Bytes.{Begins}
+use Rattle.qpack_spec.specs.Huffman.{HuffmanFault, bits_of_bytes, ones, PayloadMeans, PayloadMeansNothing, text_of_bits}
+use Rattle.qpack_spec.specs.Text.{StringFault, EndsEarly, LengthOverflows, BadHuffman, HoldsPayload}
+use Rattle.qpack_spec.specs.Text.{SpellsString, RefusesString, string_at}
+use Rattle.qpack_spec.proofs.Bits.{bytes_bits, bytes_length, ones_length}
+use Rattle.qpack_spec.proofs.Payloads.{text_means, text_again}
+use Rattle.qpack_spec.proofs.PayloadFaults.{fault_again}
+use Rattle.qpack_spec.proofs.Texts.{string_takes, reads_refusals}
+use Rattle.qpack_base.specs.declared.prefix_string.Error.{Error}
+use Rattle.qpack_base.specs.declared.prefix_string.Error.TheVariants.{Memory}
+use Rattle.qpack_base.specs.Cursor.{Reading}
+use Rattle.qpack_base.specs.Strings.{IsWhole, TakesMemory, ReadsString, meaning}
+
+-- no bits mean the empty text
+text_of_no_bits : text_of_bits (bits_of_bytes []) ≡ Ok []
+unfolding ones
+text_of_no_bits = text_again [] [] (record { bytes = tt; padding = 0; few = omega arith; parts = search rules })
+
+-- an empty payload means the empty text, plain or coded
+pub meaning_of_no_payload : (flags : ℕ) (payload : List ℕ) → (length payload == 0) ≡ true
+    → meaning flags payload ≡ Ok []
+meaning_of_no_payload flags [] e = go (flags % 2 == 0)
+  where
+    go : (plain : Bool) → cond plain (Ok []) (text_of_bits (bits_of_bytes [])) ≡ Ok []
+    go true = refl
+    go false = text_of_no_bits
+meaning_of_no_payload flags (b ∷ payload) e = absurd (let z = eqb-true _ _ e in omega arith)
+
+-- a payload that means the empty text is empty
+payload_of_no_text : (payload : List ℕ) → PayloadMeans payload [] → payload ≡ []
+payload_of_no_text [] m = refl
+payload_of_no_text (b ∷ payload) m =
+    let parts : length (bits_of_bytes (b ∷ payload)) ≡ length (ones m.padding) =
+    ap (λ (l : List ℕ). length l) m.parts in
+    absurd (omega (arith, parts, bytes_length (b ∷ payload), ones_length m.padding, m.few))
+
+-- a payload that is not empty may ask for memory
+pub takes_memory : (payload : List ℕ) → payload ≢ [] → TakesMemory (text_of_bits (bits_of_bytes payload))
+takes_memory payload some = go (text_of_bits (bits_of_bytes payload)) refl
+  where
+    go : (r : Result (List ℕ) HuffmanFault) → text_of_bits (bits_of_bytes payload) ≡ r → TakesMemory r
+    go (Ok text) e = λ z.
+        let means = text_means (bits_of_bytes payload) text (bytes_bits payload) e in
+        some (payload_of_no_text payload (subst (PayloadMeans payload) z means))
+    go (Err fault) e = tt
+
+-- an empty payload means the empty text alone
+no_text : (payload value : List ℕ) → payload ≡ [] → PayloadMeans payload value → value ≡ []
+no_text payload value e m =
+    let again = text_again [] value (subst (λ (p : List ℕ). PayloadMeans p value) e m) in
+    let q = sym again ∙ text_of_no_bits in cc
+
+-- a payload that has a fault is not empty
+no_fault : (payload : List ℕ) (fault : HuffmanFault) → PayloadMeansNothing payload fault → payload ≢ []
+no_fault payload fault m e =
+    let f = fault_again (bits_of_bytes payload) fault (bytes_bits payload) m in
+    let g = subst (λ (p : List ℕ). text_of_bits (bits_of_bytes p) ≡ Err fault) e f in
+    absurd (let q = sym g ∙ text_of_no_bits in cc)
+
+some_payload : (n flags : ℕ) (text value : List ℕ) → SpellsString n text flags value → value ≢ []
+    → HoldsPayload n text
+some_payload n flags text value (inl plain) some = record {
+  flags = flags;
+  huffman = 0;
+  payload = value;
+  literal = plain;
+  coding = omega arith;
+  some = some;
+}
+some_payload n flags text value (inr coded) some = record {
+  flags = flags;
+  huffman = 1;
+  payload = coded.0;
+  literal = coded.1;
+  coding = omega arith;
+  some = λ z. some (no_text coded.0 value z coded.2);
+}
+
+faulty_payload : (n : ℕ) (fault : HuffmanFault) (text : List ℕ) → RefusesString n text (BadHuffman fault)
+    → HoldsPayload n text
+faulty_payload n fault text r = record {
+  flags = r.0;
+  huffman = 1;
+  payload = r.1;
+  literal = r.2;
+  coding = omega arith;
+  some = no_fault r.1 fault r.3;
+}
+
+-- where the reading may ask for memory, a whole payload stands at the front
+whole_payload : (n : ℕ) (bytes : List ℕ) → IsWhole (string_at n bytes) → Begins (HoldsPayload n) bytes
+whole_payload n bytes h = go (string_at n bytes) refl h
+  where
+    go : (r : Result (ℕ × List ℕ × List ℕ) StringFault) → string_at n bytes ≡ r → IsWhole r
+        → Begins (HoldsPayload n) bytes
+    go (Ok x) e some =
+        let t = string_takes n bytes x.0 x.1 x.2 e in
+        record { text = t.text; rest = x.2; parts = t.parts; holds = some_payload n x.0 t.text x.1 t.spells some }
+    go (Err EndsEarly) e some = absurd some
+    go (Err LengthOverflows) e some = absurd some
+    go (Err (BadHuffman fault)) e some =
+        let b = ((reads_refusals n bytes).1 fault).0 e in
+        record { text = b.text; rest = b.rest; parts = b.parts; holds = faulty_payload n fault b.text b.holds }
+
+-- memory is refused only to a whole payload
+pub string_memory : (n : ℕ) (old new : Reading) (r : Result (Vec ℕ) Error)
+    → ReadsString old new r (string_at n old.rest)
+    → r ≡ Err Memory → Begins (HoldsPayload n) old.rest
+string_memory n old new r h e =
+    whole_payload n old.rest (subst (λ (q : Result (Vec ℕ) Error). ReadsString old new q (string_at n old.rest)) e h)
