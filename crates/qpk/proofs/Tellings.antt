@@ -14,7 +14,7 @@ told_as r old new line written e said wrote = (r, inl refl, line, said, subst (A
 
 pub told_of_memory : (r : Refusal) (old new : Option (List ℕ)) (written : List ℕ) → written ≡ codes "qpk: refused: memory" ++ 10 ∷ [] → IsFault r → AppendsFront old new written
     → TellsInPlace r old new
-told_of_memory r old new written e fault wrote = (refusal.Fault Memory, inr (fault, refl), written, (codes "refused: memory", refl, e), wrote)
+told_of_memory r old new written e fault wrote = (refusal.Fault Memory, inr (fault, refl), written, e, wrote)
 
 memory_has : (command : Command) (bytes : List ℕ) → HasFault command bytes Memory
 memory_has Encode bytes = tt

@@ -14,12 +14,19 @@ fault_text NotHexadecimal = Some (codes "not hexadecimal")
 fault_text (Refused e) = None
 fault_text Memory = Some (codes "refused: memory")
 
+-- the line that tells a fault, with its line feed: of a refused block its words are the decoder's
+abbrev pub IsFaultLine : Fault → List ℕ → Type 0
+IsFaultLine (NoTab n) line = line ≡ codes "qpk: line " ++ decimal n ++ (codes ": no tab" ++ 10 ∷ [])
+IsFaultLine NotHexadecimal line = line ≡ codes "qpk: not hexadecimal" ++ 10 ∷ []
+IsFaultLine (Refused e) line = (words : List ℕ) × (line ≡ codes "qpk: refused: " ++ words ++ 10 ∷ [])
+IsFaultLine Memory line = line ≡ codes "qpk: refused: memory" ++ 10 ∷ []
+
 -- the line that tells a refusal, with its line feed
 abbrev pub IsLineOf : Refusal → List ℕ → Type 0
 IsLineOf refusal.Usage line = line ≡ codes "usage: qpk encode | qpk decode LIMIT | qpk run CAPACITY LIMIT" ++ 10 ∷ []
 IsLineOf refusal.Input line = line ≡ codes "qpk: refused: input" ++ 10 ∷ []
 IsLineOf refusal.Output line = line ≡ codes "qpk: refused: output" ++ 10 ∷ []
-IsLineOf (refusal.Fault fault) line = (text : List ℕ) × IfSome (fault_text fault) (λ known. text ≡ known) × (line ≡ codes "qpk: " ++ text ++ 10 ∷ [])
+IsLineOf (refusal.Fault fault) line = IsFaultLine fault line
 
 -- it is a fault of the input, or want of memory
 abbrev pub IsFault : Refusal → Type 0

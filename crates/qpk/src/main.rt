@@ -9,21 +9,35 @@ mod tests;
 mod text;
 mod writing;
 
+use refusal::Refusal;
+use std::env;
+use std::io::ErrorKind;
 use std::process::ExitCode;
-use std::{env, io};
+use text::Fault;
 
-fn main(rt: HostRuntime) -> io::Result<ExitCode> {
-    let alloc = rt.alloc();
-    let mut words = Vec::new(alloc);
-    for word in env::args(&rt)?.skip(1) {
-        words.push(word)?;
+fn main(rt: HostRuntime) -> ExitCode {
+    let status = match read_words(&rt) {
+        Ok(words) => serve::serve(
+            rt.alloc(),
+            &words,
+            &mut rt.reader(),
+            &mut rt.stdout(),
+            &mut rt.stderr(),
+        ),
+        Err(refusal) => serve::refuse(rt.alloc(), &refusal, &mut rt.stderr()),
+    };
+    ExitCode::from(status)
+}
+
+/// The words that the program was given, without its name.
+fn read_words(rt: &HostRuntime) -> Result<Vec<String>, Refusal> {
+    let mut words = Vec::new(rt.alloc());
+    let all = env::args(rt).map_err(|e| match e.kind() {
+        ErrorKind::OutOfMemory => Refusal::Fault(Fault::Memory),
+        _ => Refusal::Usage,
+    })?;
+    for word in all.skip(1) {
+        words.push(word).map_err(|_| Refusal::Fault(Fault::Memory))?;
     }
-    let status = serve::serve(
-        alloc,
-        &words,
-        &mut rt.reader(),
-        &mut rt.stdout(),
-        &mut rt.stderr(),
-    );
-    Ok(ExitCode::from(status))
+    Ok(words)
 }

@@ -2,7 +2,7 @@
 
 ghost use Rattle.std.specs.Prelude.{◌≡◌, IfOk, OnErr};
 ghost use Rattle.std.specs.Cow.{cow_str_bytes};
-ghost use Rattle.qpk.specs.Refusals.{IsFault, IsLineOf};
+ghost use Rattle.qpk.specs.Refusals.{IsFault, IsFaultLine, IsLineOf};
 ghost use Rattle.qpk.specs.declared.refusal.Refusal.TheVariants.{Fault as Refused};
 
 use crate::text::Fault;
@@ -31,21 +31,35 @@ impl From<Fault> for Refusal {
 }
 
 impl Refusal {
-    /// The line that tells it. Memory is asked for only to tell a fault.
+    /// The line that tells it. Memory is asked for only to tell a line without a TAB or a refused block.
     pub fn line(&self, alloc: Global) -> Result<CowStr<'static, Global>, AllocError>
         ensures line { IfOk result (λ line. IsLineOf self.now (cow_str_bytes line)) }
         ensures memory { OnErr result (IsFault self.now) }
     {
-        Ok(match self {
-            Refusal::Usage => CowStr::Borrowed(
+        match self {
+            Refusal::Usage => Ok(CowStr::Borrowed(
                 "usage: qpk encode | qpk decode LIMIT | qpk run CAPACITY LIMIT\n",
-            ),
-            Refusal::Input => CowStr::Borrowed("qpk: refused: input\n"),
-            Refusal::Output => CowStr::Borrowed("qpk: refused: output\n"),
-            Refusal::Fault(fault) => {
-                let text = fault.to_string(alloc)?;
-                CowStr::Owned(format!(in alloc; "qpk: {text}\n")?)
-            }
-        })
+            )),
+            Refusal::Input => Ok(CowStr::Borrowed("qpk: refused: input\n")),
+            Refusal::Output => Ok(CowStr::Borrowed("qpk: refused: output\n")),
+            Refusal::Fault(fault) => fault_line(alloc, fault),
+        }
+    }
+}
+
+/// The line that tells a fault.
+fn fault_line(alloc: Global, fault: &Fault) -> Result<CowStr<'static, Global>, AllocError>
+    ensures { IfOk result (λ line. IsFaultLine fault.now (cow_str_bytes line)) }
+{
+    match fault {
+        Fault::NoTab(number) => Ok(CowStr::Owned(format!(in alloc;
+            "qpk: line {number}: no tab\n"
+        )?)),
+        Fault::NotHexadecimal => Ok(CowStr::Borrowed("qpk: not hexadecimal\n")),
+        Fault::Refused(e) => {
+            let words = e.to_string(alloc)?;
+            Ok(CowStr::Owned(format!(in alloc; "qpk: refused: {words}\n")?))
+        }
+        Fault::Memory => Ok(CowStr::Borrowed("qpk: refused: memory\n")),
     }
 }

@@ -47,11 +47,17 @@ pub fn serve<R: Read, W: Write, E: Write>(
 {
     match run(alloc, words, input, output) {
         Ok(()) => 0,
-        Err(refusal) => {
-            tell(alloc, &refusal, faults);
-            1
-        }
+        Err(refusal) => refuse(alloc, &refusal, faults),
     }
+}
+
+/// Ends with status 1 for a refusal, whose line is written to the faults.
+pub fn refuse<E: Write>(alloc: Global, refusal: &Refusal, faults: &mut E) -> u8
+    ensures status { result ≡ 1 }
+    ensures told { TellsInPlace refusal.now (E.contents faults.old) (E.contents faults.new) }
+{
+    tell(alloc, refusal, faults);
+    1
 }
 
 /// Writes the line of a refusal, or that of want of memory where none is left to make it. What the writer refuses is
