@@ -1,5 +1,6 @@
 -- Bytes that were appended, and the bits that are still to be.
-use Rattle.std.proofs.Common.{◌≡◌, ℕ, ◌+◌, ◌-◌, ◌*◌, ◌/◌, ◌%◌, ◌^◌, ◌<◌, List, [], ◌∷◌, ◌++◌, refl, sym, ap, ◌∙◌, arith, append_assoc, append-nil, pow-add}
+use Rattle.std.proofs.Common.{◌≡◌, ℕ, ◌+◌, ◌-◌, ◌*◌, ◌/◌, ◌%◌, ◌^◌, ◌<◌, List, [], ◌∷◌, ◌++◌, refl, sym, ap, ◌∙◌}
+use Rattle.std.proofs.Common.{arith, append_assoc, append-nil, pow-add}
 use Rattle.std.specs.Prelude.{slice_index}
 use Rattle.std.proofs.lemmas.List.Concat.{flat_map-cons}
 use Rattle.std.proofs.lemmas.Grind.{flat_map-append}
@@ -20,9 +21,6 @@ no_bits : (n : ℕ) → bits_of 0 n ≡ []
 unfolding bits_of
 no_bits n = refl
 
-pub added_none : (left number : ℕ) (old : List ℕ) → HasAdded (bits_of left number) left number old old
-added_none left number old = record { bytes = []; are = tt; items = sym (append-nil old); bits = refl }
-
 pub nothing_added : (old : List ℕ) → HasAdded [] 0 0 old old
 nothing_added old = record { bytes = []; are = tt; items = sym (append-nil old); bits = no_bits 0 }
 
@@ -31,7 +29,8 @@ bytes_join [] b p q = q
 bytes_join (x ∷ a) b p q = (p.0, bytes_join a b p.1 q)
 
 -- the number grows by bits behind it
-pub added_word : (whole : List ℕ) (left number n word : ℕ) (old new : List ℕ) → HasAdded whole left number old new → word < 2 ^ n → HasAdded (whole ++ bits_of n word) (left + n) (number * 2 ^ n + word) old new
+pub added_word : (whole : List ℕ) (left number n word : ℕ) (old new : List ℕ) → HasAdded whole left number old new
+    → word < 2 ^ n → HasAdded (whole ++ bits_of n word) (left + n) (number * 2 ^ n + word) old new
 added_word whole left number n word old new a h = record {
   bytes = a.bytes;
   are = a.are;
@@ -42,7 +41,9 @@ added_word whole left number n word old new a h = record {
 }
 
 -- its highest bits are appended
-pub added_more : (whole : List ℕ) (k m number high : ℕ) (old new more : List ℕ) → HasAdded whole (k + m) number old new → high ≡ number / 2 ^ m → AddsBits k high new more → HasAdded whole m number old more
+pub added_more : (whole : List ℕ) (k m number high : ℕ) (old new more : List ℕ)
+    → HasAdded whole (k + m) number old new → high ≡ number / 2 ^ m → AddsBits k high new more
+    → HasAdded whole m number old more
 added_more whole k m number high old new more a e b = record {
   bytes = a.bytes ++ b.bytes;
   are = bytes_join a.bytes b.bytes a.are b.are;
@@ -55,7 +56,8 @@ added_more whole k m number high old new more a e b = record {
 }
 
 -- the appended bits are forgotten
-pub added_cut : (whole : List ℕ) (m number : ℕ) (old new : List ℕ) → HasAdded whole m number old new → HasAdded whole m (number % 2 ^ m) old new
+pub added_cut : (whole : List ℕ) (m number : ℕ) (old new : List ℕ) → HasAdded whole m number old new
+    → HasAdded whole m (number % 2 ^ m) old new
 added_cut whole m number old new a = record {
   bytes = a.bytes;
   are = a.are;
@@ -69,37 +71,58 @@ one_bits : (b : ℕ) → bits_of_bytes (b ∷ []) ≡ bits_of 8 b
 one_bits b = flat_map-cons (bits_of 8) b [] ∙ append-nil (bits_of 8 b)
 
 pub adds_byte : (x b : ℕ) (old new : List ℕ) → b ≡ x % 256 → new ≡ old ++ b ∷ [] → AddsBits 8 x old new
-adds_byte x b old new e items = record { bytes = b ∷ []; are = (omega arith, tt); items = items; bits = one_bits b ∙ ap (bits_of 8) e ∙ bits_cut 8 x }
+adds_byte x b old new e items = record {
+  bytes = b ∷ [];
+  are = (omega arith, tt);
+  items = items;
+  bits = one_bits b ∙ ap (bits_of 8) e ∙ bits_cut 8 x;
+}
 
-pub adds_four : (four : ℕ) (bytes old new : List ℕ) → AreBytes bytes → IsFour bytes four → new ≡ old ++ bytes → AddsBits 32 four old new
+adds_four : (four : ℕ) (bytes old new : List ℕ) → AreBytes bytes → IsFour bytes four → new ≡ old ++ bytes
+    → AddsBits 32 four old new
 adds_four four bytes old new are is items =
     let z : four ≡ 0 * 4294967296 + four = omega arith in
     record {
       bytes = bytes;
       are = are;
       items = items;
-      bits = ap (λ (l : List ℕ). bits_of_bytes l) (sym (append-nil bytes)) ∙ ap (λ (l : List ℕ). l ++ bits_of_bytes (bytes ++ [])) (sym (no_bits 0))
-          ∙ sym (load_four 0 0 four bytes [] is) ∙ append-nil (bits_of (0 + 32) (0 * 4294967296 + four)) ∙ ap (bits_of 32) (sym z);
+      bits = ap (λ (l : List ℕ). bits_of_bytes l) (sym (append-nil bytes))
+          ∙ ap (λ (l : List ℕ). l ++ bits_of_bytes (bytes ++ [])) (sym (no_bits 0))
+          ∙ sym (load_four 0 0 four bytes [] is) ∙ append-nil (bits_of (0 + 32) (0 * 4294967296 + four))
+          ∙ ap (bits_of 32) (sym z);
     }
 
 -- four bytes, pushed one after the other
-pub pushed_four : (four : ℕ) (bytes old one two three new : List ℕ) → four < 2 ^ 32 → bytes ≡ four / 16777216 % 256 ∷ four / 65536 % 256 ∷ four / 256 % 256 ∷ four % 256 ∷ []
-    → one ≡ old ++ slice_index bytes 0 ∷ [] → two ≡ one ++ slice_index bytes 1 ∷ [] → three ≡ two ++ slice_index bytes 2 ∷ [] → new ≡ three ++ slice_index bytes 3 ∷ []
+pub pushed_four : (four : ℕ) (bytes old one two three new : List ℕ) → four < 2 ^ 32
+    → bytes ≡ four / 16777216 % 256 ∷ four / 65536 % 256 ∷ four / 256 % 256 ∷ four % 256 ∷ []
+    → one ≡ old ++ slice_index bytes 0 ∷ [] → two ≡ one ++ slice_index bytes 1 ∷ []
+    → three ≡ two ++ slice_index bytes 2 ∷ [] → new ≡ three ++ slice_index bytes 3 ∷ []
     → AddsBits 32 four old new
 pushed_four four bytes old one two three new fits e a b c d =
     let a' = a ∙ ap (λ (l : List ℕ). old ++ slice_index l 0 ∷ []) e in
     let b' = b ∙ ap (λ (l : List ℕ). one ++ slice_index l 1 ∷ []) e in
     let c' = c ∙ ap (λ (l : List ℕ). two ++ slice_index l 2 ∷ []) e in
     let d' = d ∙ ap (λ (l : List ℕ). three ++ slice_index l 3 ∷ []) e in
-    let items = d' ∙ ap (λ (l : List ℕ). l ++ four % 256 ∷ []) (c' ∙ ap (λ (l : List ℕ). l ++ four / 256 % 256 ∷ []) (b' ∙ ap (λ (l : List ℕ). l ++ four / 65536 % 256 ∷ []) a')) in
+    let items = d' ∙ ap (λ (l : List ℕ). l ++ four % 256 ∷ []) (c'
+    ∙ ap (λ (l : List ℕ). l ++ four / 256 % 256 ∷ []) (b'
+    ∙ ap (λ (l : List ℕ). l ++ four / 65536 % 256 ∷ []) a')) in
     let is : IsFour (four / 16777216 % 256 ∷ four / 65536 % 256 ∷ four / 256 % 256 ∷ four % 256 ∷ []) four =
-    record { four = refl; first = omega arith; second = omega arith; third = omega arith; fourth = omega arith; is = omega arith } in
-    adds_four four (four / 16777216 % 256 ∷ four / 65536 % 256 ∷ four / 256 % 256 ∷ four % 256 ∷ []) old new (is.first, (is.second, (is.third, (is.fourth, tt)))) is
+    record {
+      four = refl;
+      first = omega arith;
+      second = omega arith;
+      third = omega arith;
+      fourth = omega arith;
+      is = omega arith;
+    } in
+    adds_four four (four / 16777216 % 256 ∷ four / 65536 % 256 ∷ four / 256 % 256 ∷ four % 256 ∷ []) old new
+    (is.first, (is.second, (is.third, (is.fourth, tt)))) is
     (items ∙ simp append_assoc)
 
 -- ---- the end
 
-pub adds_last : (count loaded k filled : ℕ) (old new : List ℕ) → k < 8 → filled ≡ loaded * 2 ^ k + (2 ^ k - 1) → HasAdded (bits_of (count + k) filled) 0 filled old new → AddsLastBits count loaded old new
+pub adds_last : (count loaded k filled : ℕ) (old new : List ℕ) → k < 8 → filled ≡ loaded * 2 ^ k + (2 ^ k - 1)
+    → HasAdded (bits_of (count + k) filled) 0 filled old new → AddsLastBits count loaded old new
 adds_last count loaded k filled old new few e a =
     let pos = pow_pos k in
     let top : 2 ^ k - 1 < 2 ^ k = omega arith in
@@ -109,10 +132,13 @@ adds_last count loaded k filled old new few e a =
       are = a.are;
       items = a.items;
       few = few;
-      bits = sym (append-nil (bits_of_bytes a.bytes)) ∙ ap (λ (l : List ℕ). bits_of_bytes a.bytes ++ l) (sym (no_bits filled)) ∙ a.bits
-          ∙ ap (bits_of (count + k)) e ∙ bits_push count k loaded (2 ^ k - 1) top ∙ ap (λ (l : List ℕ). bits_of count loaded ++ l) (ones_number k (2 ^ k - 1) (omega arith));
+      bits = sym (append-nil (bits_of_bytes a.bytes))
+          ∙ ap (λ (l : List ℕ). bits_of_bytes a.bytes ++ l) (sym (no_bits filled)) ∙ a.bits
+          ∙ ap (bits_of (count + k)) e ∙ bits_push count k loaded (2 ^ k - 1) top
+          ∙ ap (λ (l : List ℕ). bits_of count loaded ++ l) (ones_number k (2 ^ k - 1) (omega arith));
     }
 
 -- a number of bits behind another fits
 pub pushed_fits : (p q hi lo : ℕ) → hi < 2 ^ p → lo < 2 ^ q → hi * 2 ^ q + lo < 2 ^ (p + q)
-pushed_fits p q hi lo h l = let e = pow-add 2 p q in let m = mul-add-lt hi (2 ^ q) lo (2 ^ p) h l in rw e (omega (arith, m))
+pushed_fits p q hi lo h l = let e = pow-add 2 p q in let m = mul-add-lt hi (2 ^ q) lo (2 ^ p) h l in
+    rw e (omega (arith, m))

@@ -15,7 +15,8 @@ behind_are [] = refl
 behind_are (f ∷ fs) = ap (λ (xs : List Field). field_of f.now ∷ xs) (behind_are fs)
 
 -- they are the slice's, in order
-pub fields_from_slice : (s : Iter HeaderField) (xs : List HeaderField) (fs : List (Bor HeaderField)) → iter_rest s ≡ xs → Drains fronts s fs → fields_behind fs ≡ map field_of xs
+pub fields_from_slice : (s : Iter HeaderField) (xs : List HeaderField) (fs : List (Bor HeaderField))
+    → iter_rest s ≡ xs → Drains fronts s fs → fields_behind fs ≡ map field_of xs
 fields_from_slice s xs fs e d =
     let items = items_from_drains fs (d.1.0, d.1.1, λ _. (d.0, d.1.2)) (YieldsList-from_slice xs e) in
     behind_are fs ∙ ap (map field_of) items

@@ -21,10 +21,14 @@ pub field_missing : (f : Field) (r : Option ℕ) → r ≡ static_place f → If
 field_missing f r e =
     rw e (none_part (static_place f) (NoStatic (λ g. g ≡ f)) (IsLeastStatic (λ g. g ≡ f)) (place_is_least f))
 
-pub name_found : (name : List ℕ) (r : Option ℕ) → r ≡ static_name_place name → IfSome r (IsLeastStatic (λ g. g.name ≡ name))
+pub name_found : (name : List ℕ) (r : Option ℕ) → r ≡ static_name_place name
+    → IfSome r (IsLeastStatic (λ g. g.name ≡ name))
 name_found name r e =
-    rw e (some_part (static_name_place name) (NoStatic (λ g. g.name ≡ name)) (IsLeastStatic (λ g. g.name ≡ name)) (name_place_is_least name))
+    rw e (some_part (static_name_place name) (NoStatic (λ g. g.name ≡ name)) (IsLeastStatic (λ g. g.name ≡ name))
+    (name_place_is_least name))
 
-pub name_missing : (name : List ℕ) (r : Option ℕ) → r ≡ static_name_place name → IfNone r (NoStatic (λ g. g.name ≡ name))
+pub name_missing : (name : List ℕ) (r : Option ℕ) → r ≡ static_name_place name
+    → IfNone r (NoStatic (λ g. g.name ≡ name))
 name_missing name r e =
-    rw e (none_part (static_name_place name) (NoStatic (λ g. g.name ≡ name)) (IsLeastStatic (λ g. g.name ≡ name)) (name_place_is_least name))
+    rw e (none_part (static_name_place name) (NoStatic (λ g. g.name ≡ name)) (IsLeastStatic (λ g. g.name ≡ name))
+    (name_place_is_least name))

@@ -1,10 +1,12 @@
 -- What comes next of the last bits, which are fewer than eight, filled up with ones.
-use Rattle.std.proofs.Common.{◌≡◌, ℕ, zero, suc, ◌+◌, ◌-◌, ◌*◌, ◌/◌, ◌%◌, ◌^◌, ◌<◌, ◌≤◌, Bool, true, false, List, [], ◌∷◌, ◌++◌, length, Some, None, Ok, Err, refl, sym, ap, ◌∙◌, arith, append-nil, inl, inr}
+use Rattle.std.proofs.Common.{◌≡◌, ℕ, zero, suc, ◌+◌, ◌-◌, ◌*◌, ◌/◌, ◌%◌, ◌^◌, ◌<◌, ◌≤◌, Bool, true, false, List, []}
+use Rattle.std.proofs.Common.{◌∷◌, ◌++◌, length, Some, None, Ok, Err, refl, sym, ap, ◌∙◌, arith, append-nil, inl, inr}
 use Rattle.std.specs.Prelude.{nat_lt, slice_index}
 use Rattle.std.proofs.Math.Nat.{mod-eq_of_lt}
 use Rattle.std.proofs.lemmas.Nat.{shr-shr, div-mul-add, pow_pos}
 use Rattle.std.proofs.lemmas.List.{length-append}
-use Rattle.qpack_spec.specs.Huffman.{HuffmanFault, MissingBits, bits_of, bits_of_bytes, ones, word_of, bytes_by_length, word_at, is_padding, number_from}
+use Rattle.qpack_spec.specs.Huffman.{HuffmanFault, MissingBits, bits_of, bits_of_bytes, ones, word_of}
+use Rattle.qpack_spec.specs.Huffman.{bytes_by_length, word_at, is_padding, number_from}
 use Rattle.qpack_spec.proofs.Results.{chosen, ok_pair}
 use Rattle.qpack_spec.proofs.Bits.{bits_append, bits_length, ones_length, ones_number, number_bits}
 use Rattle.qpack_spec.proofs.Words.{word_read}
@@ -42,7 +44,8 @@ ones_fill (suc (suc (suc (suc (suc (suc zero)))))) loaded h e = omega arith
 ones_fill (suc (suc (suc (suc (suc (suc (suc zero))))))) loaded h e = omega arith
 ones_fill (suc (suc (suc (suc (suc (suc (suc (suc n)))))))) loaded h e = absurd (omega arith)
 
-pub filled_short : (count loaded : ℕ) → count < 8 → loaded < 2 ^ count → (filled count loaded ≡ 255 → ⊥) → filled count loaded < 254
+pub filled_short : (count loaded : ℕ) → count < 8 → loaded < 2 ^ count → (filled count loaded ≡ 255 → ⊥)
+    → filled count loaded < 254
 filled_short zero loaded h f n = absurd (n (omega arith))
 filled_short (suc zero) loaded h f n = omega arith
 filled_short (suc (suc zero)) loaded h f n = omega arith
@@ -55,16 +58,19 @@ filled_short (suc (suc (suc (suc (suc (suc (suc (suc n')))))))) loaded h f n = a
 
 -- ---- the bits themselves
 
-pub bits_alone : (b : Bits) → b.rest.now ≡ [] → bits_left b ≡ bits_of b.count b.loaded
-bits_alone b e = ap (λ (l : List ℕ). bits_of b.count b.loaded ++ bits_of_bytes l) e ∙ append-nil (bits_of b.count b.loaded)
+bits_alone : (b : Bits) → b.rest.now ≡ [] → bits_left b ≡ bits_of b.count b.loaded
+bits_alone b e = ap (λ (l : List ℕ). bits_of b.count b.loaded ++ bits_of_bytes l) e
+    ∙ append-nil (bits_of b.count b.loaded)
 
-pub last_end : (old new : Bits) → old.count < 8 → old.rest.now ≡ [] → filled old.count old.loaded ≡ 255 → bits_left new ≡ [] → GivesItem (bits_left old) None (bits_left new)
+pub last_end : (old new : Bits) → old.count < 8 → old.rest.now ≡ [] → filled old.count old.loaded ≡ 255
+    → bits_left new ≡ [] → GivesItem (bits_left old) None (bits_left new)
 last_end old new few none e stop =
     let is = bits_alone old none ∙ ones_number old.count old.loaded (all_ones old.count old.loaded few e) in
     item_end (bits_left old) (bits_left new) (ap (is_padding 8) is ∙ ones_end old.count few) stop
 
 -- bits that are no ones don't end a text
-no_end : (count loaded : ℕ) → count < 8 → loaded < 2 ^ count → (filled count loaded ≡ 255 → ⊥) → is_padding 8 (bits_of count loaded) ≡ false
+no_end : (count loaded : ℕ) → count < 8 → loaded < 2 ^ count → (filled count loaded ≡ 255 → ⊥)
+    → is_padding 8 (bits_of count loaded) ≡ false
 no_end count loaded few fits n = go (is_padding 8 (bits_of count loaded)) refl
   where
     go : (p : Bool) → is_padding 8 (bits_of count loaded) ≡ p → p ≡ false
@@ -72,12 +78,14 @@ no_end count loaded few fits n = go (is_padding 8 (bits_of count loaded)) refl
         let q = end_is (bits_of count loaded) e in
         let k : q.count ≡ count = omega (arith, ap length q.is, ones_length q.count, bits_length count loaded) in
         let pos = pow_pos count in
-        let all : bits_of count loaded ≡ bits_of count (2 ^ count - 1) = q.is ∙ ap ones k ∙ sym (ones_number count (2 ^ count - 1) (omega arith)) in
+        let all : bits_of count loaded ≡ bits_of count (2 ^ count - 1) = q.is ∙ ap ones k
+        ∙ sym (ones_number count (2 ^ count - 1) (omega arith)) in
         let low = number_bits count 0 loaded in
         let high = number_bits count 0 (2 ^ count - 1) in
         let same = ap (number_from 0) all in
         let small : loaded % 2 ^ count ≡ loaded = mod-eq_of_lt fits in
-        let big : (2 ^ count - 1) % 2 ^ count ≡ 2 ^ count - 1 = let lt : 2 ^ count - 1 < 2 ^ count = omega arith in mod-eq_of_lt lt in
+        let big : (2 ^ count - 1) % 2 ^ count ≡ 2 ^ count - 1 = let lt : 2 ^ count - 1 < 2 ^ count = omega arith in
+        mod-eq_of_lt lt in
         absurd (n (ones_fill count loaded few (omega arith)))
     go false e = refl
 
@@ -89,30 +97,39 @@ highest count loaded n le few =
     ap (λ (k : ℕ). filled count loaded / 2 ^ k) e ∙ sym (shr-shr (filled count loaded) (8 - count) (count - n))
     ∙ ap (λ (k : ℕ). k / 2 ^ (count - n)) (div-mul-add loaded (2 ^ (8 - count)) (2 ^ (8 - count) - 1) (omega arith))
 
-pub last_word : (old new : Bits) (entry : ℕ × ℕ) (n : ℕ) → old.count < 8 → BeginsWithWord (filled old.count old.loaded) entry → n ≡ entry.1 → n ≤ old.count → KeepsRest n old new
+pub last_word : (old new : Bits) (entry : ℕ × ℕ) (n : ℕ) → old.count < 8
+    → BeginsWithWord (filled old.count old.loaded) entry → n ≡ entry.1 → n ≤ old.count → KeepsRest n old new
     → GivesItem (bits_left old) (Some (Ok entry.0)) (bits_left new)
 last_word old new entry n few w e le k =
     let n' : n ≡ entry.1 = e in
     let is : word_of entry.0 ≡ bits_of n (old.loaded / 2 ^ (old.count - n)) =
-    w.is ∙ ap (λ (m : ℕ). bits_of m (filled old.count old.loaded / 2 ^ (8 - m))) (sym e) ∙ ap (bits_of n) (highest old.count old.loaded n le few) in
+    w.is ∙ ap (λ (m : ℕ). bits_of m (filled old.count old.loaded / 2 ^ (8 - m))) (sym e)
+    ∙ ap (bits_of n) (highest old.count old.loaded n le few) in
     item_word (bits_left old) (bits_left new) entry.0 w.byte
-    (begins_with old.count old.loaded n entry.0 (bits_of_bytes old.rest.now) le is ∙ ap (λ (l : List ℕ). word_of entry.0 ++ l) (sym (kept n old new k)))
+    (begins_with old.count old.loaded n entry.0 (bits_of_bytes old.rest.now) le is
+    ∙ ap (λ (l : List ℕ). word_of entry.0 ++ l) (sym (kept n old new k)))
 
 -- a word that is cut is missing bits
-cut_missing : (rs : List (List ℕ)) (number next b : ℕ) (bits tail : List ℕ) → word_at rs number next (bits ++ tail) ≡ Ok (b, []) → 0 < length tail → word_at rs number next bits ≡ Err MissingBits
+cut_missing : (rs : List (List ℕ)) (number next b : ℕ) (bits tail : List ℕ)
+    → word_at rs number next (bits ++ tail) ≡ Ok (b, []) → 0 < length tail
+    → word_at rs number next bits ≡ Err MissingBits
 unfolding word_at
 cut_missing [] number next b bits tail e h = absurd cc
 cut_missing (r ∷ rs) number next b [] tail e h = refl
 cut_missing (r ∷ rs) number next b (bit ∷ bits) tail e h =
-    elim (chosen (nat_lt (2 * number + bit) (2 * next + length r)) (Ok (slice_index r (2 * number + bit - 2 * next), bits ++ tail)) (word_at rs (2 * number + bit) (2 * next + length r) (bits ++ tail)) (Ok (b, [])) e) [
+    elim (chosen (nat_lt (2 * number + bit) (2 * next + length r))
+    (Ok (slice_index r (2 * number + bit - 2 * next), bits ++ tail))
+    (word_at rs (2 * number + bit) (2 * next + length r) (bits ++ tail)) (Ok (b, [])) e) [
       | inl t ↦
           let p = ok_pair (slice_index r (2 * number + bit - 2 * next)) b (bits ++ tail) [] t.1 in
           absurd (omega (arith, length-append bits tail, ap length p.1))
       | inr t ↦ rw t.0 (cut_missing rs (2 * number + bit) (2 * next + length r) b bits tail t.1 h)
     ]
 
-pub last_cut : (old new : Bits) (entry : ℕ × ℕ) (n : ℕ) (window : BitWindow) (error : HuffmanDecodingError) → old.count < 8 → old.loaded < 2 ^ old.count → old.rest.now ≡ [] → (filled old.count old.loaded ≡ 255 → ⊥)
-    → BeginsWithWord (filled old.count old.loaded) entry → n ≡ entry.1 → old.count < n → huffman_fault_of error ≡ MissingBits → bits_left new ≡ []
+pub last_cut : (old new : Bits) (entry : ℕ × ℕ) (n : ℕ) (window : BitWindow) (error : HuffmanDecodingError)
+    → old.count < 8 → old.loaded < 2 ^ old.count → old.rest.now ≡ [] → (filled old.count old.loaded ≡ 255 → ⊥)
+    → BeginsWithWord (filled old.count old.loaded) entry → n ≡ entry.1 → old.count < n
+    → huffman_fault_of error ≡ MissingBits → bits_left new ≡ []
     → GivesItem (bits_left old) (Some (Err error)) (bits_left new)
 last_cut old new entry n window error few fits none not_all w e lt is stop =
     let count = old.count in
@@ -122,10 +139,13 @@ last_cut old new entry n window error few fits none not_all w e lt is stop =
     let k : 8 - entry.1 + m ≡ 8 - count = omega (arith, w.most) in
     let pos = pow_pos (8 - count) in
     let head : x / 2 ^ m ≡ loaded =
-    shr-shr (filled count loaded) (8 - entry.1) m ∙ ap (λ (j : ℕ). filled count loaded / 2 ^ j) k ∙ div-mul-add loaded (2 ^ (8 - count)) (2 ^ (8 - count) - 1) (omega arith) in
-    let parts : word_of entry.0 ≡ bits_of count loaded ++ bits_of m x = w.is ∙ bits_append count m entry.1 x (omega arith) ∙ ap (λ (j : ℕ). bits_of count j ++ bits_of m x) head in
+    shr-shr (filled count loaded) (8 - entry.1) m ∙ ap (λ (j : ℕ). filled count loaded / 2 ^ j) k
+    ∙ div-mul-add loaded (2 ^ (8 - count)) (2 ^ (8 - count) - 1) (omega arith) in
+    let parts : word_of entry.0 ≡ bits_of count loaded ++ bits_of m x = w.is
+    ∙ bits_append count m entry.1 x (omega arith) ∙ ap (λ (j : ℕ). bits_of count j ++ bits_of m x) head in
     let read = ap (word_at bytes_by_length 0 0) (sym parts) ∙ word_read entry.0 w.byte in
-    let missing = cut_missing bytes_by_length 0 0 entry.0 (bits_of count loaded) (bits_of m x) read (omega (arith, bits_length m x)) in
+    let missing = cut_missing bytes_by_length 0 0 entry.0 (bits_of count loaded) (bits_of m x) read
+    (omega (arith, bits_length m x)) in
     let alone = bits_alone old none in
     item_fault (bits_left old) (bits_left new) error (ap (is_padding 8) alone ∙ no_end count loaded few fits not_all)
     (ap (word_at bytes_by_length 0 0) alone ∙ missing ∙ ap (λ (f : HuffmanFault). Err f) (sym is)) stop

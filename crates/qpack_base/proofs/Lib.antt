@@ -1,7 +1,9 @@
 pub mod Groups
+pub mod WrittenGroups
 pub mod Readers
 pub mod StaticNames
 pub mod FirstPlaces
+pub mod StaticRows
 pub mod WordTables
 pub mod LoadedBits
 pub mod LongWords

@@ -1,5 +1,6 @@
 -- Loading bytes keeps the bits that are left.
-use Rattle.std.proofs.Common.{◌≡◌, ℕ, ◌+◌, ◌*◌, ◌^◌, ◌<◌, ◌≤◌, List, [], ◌∷◌, ◌++◌, length, refl, sym, ap, ◌∙◌, arith, append_assoc, pow-add}
+use Rattle.std.proofs.Common.{◌≡◌, ℕ, ◌+◌, ◌*◌, ◌^◌, ◌<◌, ◌≤◌, List, [], ◌∷◌, ◌++◌, length, refl, sym, ap, ◌∙◌, arith}
+use Rattle.std.proofs.Common.{append_assoc, pow-add}
 use Rattle.std.specs.Prelude.{slice_index}
 use Rattle.std.proofs.Math.Pow.{pow_mono}
 use Rattle.std.proofs.lemmas.List.Concat.{flat_map-cons}
@@ -11,7 +12,9 @@ unfolding bits_of
 none_loaded bytes = refl
 
 -- one byte more
-pub load_one : (count loaded first : ℕ) (rest : List ℕ) → first < 256 → bits_of (count + 8) (loaded * 256 + first) ++ bits_of_bytes rest ≡ bits_of count loaded ++ bits_of_bytes (first ∷ rest)
+pub load_one : (count loaded first : ℕ) (rest : List ℕ) → first < 256
+    → bits_of (count + 8) (loaded * 256 + first) ++ bits_of_bytes rest
+    ≡ bits_of count loaded ++ bits_of_bytes (first ∷ rest)
 load_one count loaded first rest h =
     ap (λ (l : List ℕ). l ++ bits_of_bytes rest) (bits_push count 8 loaded first h)
     ∙ append_assoc (bits_of count loaded) (bits_of 8 first) (bits_of_bytes rest)
@@ -38,10 +41,12 @@ pub record IsFour (bytes : List ℕ) (word : ℕ) : Type 0 where
   pub second : slice_index bytes 1 < 256
   pub third : slice_index bytes 2 < 256
   pub fourth : slice_index bytes 3 < 256
-  pub is : word ≡ slice_index bytes 0 * 16777216 + slice_index bytes 1 * 65536 + slice_index bytes 2 * 256 + slice_index bytes 3
+  pub is : word ≡ slice_index bytes 0 * 16777216 + slice_index bytes 1 * 65536 + slice_index bytes 2 * 256 +
+      slice_index bytes 3
 
 together : (count loaded a b c d : ℕ) (rest : List ℕ) → a < 256 → b < 256 → c < 256 → d < 256
-    → bits_of (count + 8 + 8 + 8 + 8) ((((loaded * 256 + a) * 256 + b) * 256 + c) * 256 + d) ++ bits_of_bytes rest ≡ bits_of count loaded ++ bits_of_bytes (a ∷ b ∷ c ∷ d ∷ rest)
+    → bits_of (count + 8 + 8 + 8 + 8) ((((loaded * 256 + a) * 256 + b) * 256 + c) * 256 + d) ++ bits_of_bytes rest
+    ≡ bits_of count loaded ++ bits_of_bytes (a ∷ b ∷ c ∷ d ∷ rest)
 together count loaded a b c d rest ha hb hc hd =
     load_one (count + 8 + 8 + 8) (((loaded * 256 + a) * 256 + b) * 256 + c) d rest hd
     ∙ load_one (count + 8 + 8) ((loaded * 256 + a) * 256 + b) c (d ∷ rest) hc
@@ -49,7 +54,8 @@ together count loaded a b c d rest ha hb hc hd =
     ∙ load_one count loaded a (b ∷ c ∷ d ∷ rest) ha
 
 pub load_four : (count loaded word : ℕ) (bytes rest : List ℕ) → IsFour bytes word
-    → bits_of (count + 32) (loaded * 4294967296 + word) ++ bits_of_bytes rest ≡ bits_of count loaded ++ bits_of_bytes (bytes ++ rest)
+    → bits_of (count + 32) (loaded * 4294967296 + word) ++ bits_of_bytes rest
+    ≡ bits_of count loaded ++ bits_of_bytes (bytes ++ rest)
 load_four count loaded word [] rest h = absurd (omega (arith, h.four))
 load_four count loaded word (a ∷ []) rest h = absurd (omega (arith, h.four))
 load_four count loaded word (a ∷ b ∷ []) rest h = absurd (omega (arith, h.four))
@@ -60,5 +66,6 @@ load_four count loaded word (a ∷ b ∷ c ∷ d ∷ []) rest h =
     rw (n, e) (together count loaded a b c d rest h.first h.second h.third h.fourth)
 load_four count loaded word (a ∷ b ∷ c ∷ d ∷ x ∷ bytes) rest h = absurd (omega (arith, h.four))
 
-pub four_fit : (count loaded word : ℕ) → loaded < 2 ^ count → word < 4294967296 → loaded * 4294967296 + word < 2 ^ (count + 32)
+pub four_fit : (count loaded word : ℕ) → loaded < 2 ^ count → word < 4294967296
+    → loaded * 4294967296 + word < 2 ^ (count + 32)
 four_fit count loaded word h f = let p = pow-add 2 count 32 in rw p (word_times loaded word (2 ^ count) h f)

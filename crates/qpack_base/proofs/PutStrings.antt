@@ -1,5 +1,6 @@
 -- A literal is its length and its payload, one after the other.
-use Rattle.std.proofs.Common.{◌≡◌, ℕ, ◌+◌, ◌-◌, ◌*◌, ◌%◌, ◌^◌, ◌≤◌, List, ◌++◌, length, sym, ap, ◌∙◌, arith, append_assoc, refl}
+use Rattle.std.proofs.Common.{◌≡◌, ℕ, ◌+◌, ◌-◌, ◌*◌, ◌%◌, ◌^◌, ◌≤◌, List, ◌++◌, length, sym, ap, ◌∙◌, arith}
+use Rattle.std.proofs.Common.{append_assoc, refl}
 use Rattle.std.proofs.Math.Pow.{mod-mod-pow}
 use Rattle.qpack_spec.specs.Integer.{written_integer}
 use Rattle.qpack_spec.specs.Huffman.{payload_of}
@@ -17,9 +18,13 @@ flags_same : (n f g value : ℕ) → f % 256 ≡ g % 256 → written_integer n f
 unfolding written_integer
 flags_same n f g value e = let c = cut_same (8 - n) f g (omega arith) e in rw c refl
 
-pub literal_put : (n flags len : ℕ) (value old head new : List ℕ) → len ≡ length (payload_of value) → head ≡ old ++ written_integer (n - 1) (flags % 128 * 2 + 1) len → new ≡ head ++ payload_of value
+pub literal_put : (n flags len : ℕ) (value old head new : List ℕ) → len ≡ length (payload_of value)
+    → head ≡ old ++ written_integer (n - 1) (flags % 128 * 2 + 1) len → new ≡ head ++ payload_of value
     → new ≡ old ++ written_string n flags value
 unfolding written_string
 literal_put n flags len value old head new l h p =
-    p ∙ ap (λ (a : List ℕ). a ++ payload_of value) h ∙ append_assoc old (written_integer (n - 1) (flags % 128 * 2 + 1) len) (payload_of value)
-    ∙ ap (λ (a : List ℕ). old ++ (a ++ payload_of value)) (flags_same (n - 1) (flags % 128 * 2 + 1) (2 * flags + 1) len (omega arith) ∙ ap (written_integer (n - 1) (2 * flags + 1)) l)
+    p ∙ ap (λ (a : List ℕ). a ++ payload_of value) h
+    ∙ append_assoc old (written_integer (n - 1) (flags % 128 * 2 + 1) len) (payload_of value)
+    ∙ ap (λ (a : List ℕ). old ++ (a ++ payload_of value))
+    (flags_same (n - 1) (flags % 128 * 2 + 1) (2 * flags + 1) len (omega arith)
+    ∙ ap (written_integer (n - 1) (2 * flags + 1)) l)

@@ -1,10 +1,12 @@
 -- Writing the words of a text, one after the other.
-use Rattle.std.proofs.Common.{◌≡◌, ℕ, suc, ◌+◌, ◌*◌, ◌/◌, ◌%◌, ◌^◌, ◌<◌, ◌≤◌, List, [], ◌∷◌, ◌++◌, length, take, get_or, sym, ap, subst, ◌∙◌, arith, append_assoc}
+use Rattle.std.proofs.Common.{◌≡◌, ℕ, suc, ◌+◌, ◌*◌, ◌/◌, ◌%◌, ◌^◌, ◌<◌, ◌≤◌, List, [], ◌∷◌, ◌++◌, length, take}
+use Rattle.std.proofs.Common.{get_or, sym, ap, subst, ◌∙◌, arith, append_assoc}
 use Rattle.std.proofs.lemmas.List.{take_all, length-append}
 use Rattle.std.proofs.lemmas.List.Folds.{length-flat_map-take}
 use Rattle.std.proofs.lemmas.Nat.{pow_pos, mod_below}
 use Rattle.std.proofs.Math.Pow.{shr_lt}
-use Rattle.qpack_spec.specs.Huffman.{bits_of, bits_of_bytes, ones, word_of, AreBytes, bits_of_text, payload_of, PayloadMeans}
+use Rattle.qpack_spec.specs.Huffman.{bits_of, bits_of_bytes, ones, word_of, AreBytes, bits_of_text, payload_of}
+use Rattle.qpack_spec.specs.Huffman.{PayloadMeans}
 use Rattle.std.proofs.lemmas.Grind.{flat_map-append}
 use Rattle.qpack_spec.proofs.Bits.{bits_length}
 use Rattle.qpack_spec.proofs.WrittenPayloads.{payload_is}
@@ -22,7 +24,9 @@ pub record IsNext (text : List ℕ) (i bits power word : ℕ) : Type 0 where
   pub is : word_of (get_or text i 0) ≡ bits_of bits word
   pub power_is : power ≡ 2 ^ bits
 
-pub next_word : (text : List ℕ) (i bits power word : ℕ) (entry : ℕ × ℕ) → i < length text → IsWordOf (get_or text i 0) entry → bits ≡ entry.0 → word ≡ entry.1 → power ≡ 2 ^ bits → IsNext text i bits power word
+pub next_word : (text : List ℕ) (i bits power word : ℕ) (entry : ℕ × ℕ) → i < length text
+    → IsWordOf (get_or text i 0) entry → bits ≡ entry.0 → word ≡ entry.1 → power ≡ 2 ^ bits
+    → IsNext text i bits power word
 next_word text i bits power word entry h w b e p = record {
   within = h;
   least = omega (arith, w.least);
@@ -35,32 +39,53 @@ next_word text i bits power word entry h w b e p = record {
 abbrev so_far : List ℕ → ℕ → List ℕ
 so_far text i = bits_of_text (take i text)
 
-pub word_added : (text : List ℕ) (i bits power word count loaded : ℕ) (old new : List ℕ) → IsNext text i bits power word → HasAdded (so_far text i) count loaded old new
+pub word_added : (text : List ℕ) (i bits power word count loaded : ℕ) (old new : List ℕ)
+    → IsNext text i bits power word → HasAdded (so_far text i) count loaded old new
     → HasAdded (so_far text (i + 1)) (count + bits) (loaded * power + word) old new
 word_added text i bits power word count loaded old new n a =
-    let whole : so_far text i ++ bits_of bits word ≡ so_far text (i + 1) = ap (λ (l : List ℕ). so_far text i ++ l) (sym n.is) ∙ sym (text_more text i n.within) in
+    let whole : so_far text i ++ bits_of bits word ≡ so_far text (i + 1) =
+    ap (λ (l : List ℕ). so_far text i ++ l) (sym n.is) ∙ sym (text_more text i n.within) in
     let b = added_word (so_far text i) count loaded bits word old new a n.fits in
     subst (λ (l : List ℕ). HasAdded l (count + bits) (loaded * power + word) old new) whole
-    (subst (λ (p : ℕ). HasAdded (so_far text i ++ bits_of bits word) (count + bits) (loaded * p + word) old new) (sym n.power_is) b)
+    (subst (λ (p : ℕ). HasAdded (so_far text i ++ bits_of bits word) (count + bits) (loaded * p + word) old new)
+    (sym n.power_is) b)
 
-pub word_fits : (text : List ℕ) (i bits power word count loaded : ℕ) → IsNext text i bits power word → loaded < 2 ^ count → loaded * power + word < 2 ^ (count + bits)
-word_fits text i bits power word count loaded n h = let e = n.power_is in rw e (pushed_fits count bits loaded word h n.fits)
+pub word_fits : (text : List ℕ) (i bits power word count loaded : ℕ) → IsNext text i bits power word
+    → loaded < 2 ^ count → loaded * power + word < 2 ^ (count + bits)
+word_fits text i bits power word count loaded n h = let e = n.power_is in
+    rw e (pushed_fits count bits loaded word h n.fits)
 
-pub word_counted : (text : List ℕ) (i bits power word : ℕ) → IsNext text i bits power word → length (so_far text (i + 1)) ≡ length (so_far text i) + bits
+pub word_counted : (text : List ℕ) (i bits power word : ℕ) → IsNext text i bits power word
+    → length (so_far text (i + 1)) ≡ length (so_far text i) + bits
 word_counted text i bits power word n =
-    omega (arith, ap (λ (l : List ℕ). length l) (text_more text i n.within), length-append (so_far text i) (word_of (get_or text i 0)), ap (λ (l : List ℕ). length l) n.is, bits_length bits word)
+    omega (
+      arith,
+      ap (λ (l : List ℕ). length l) (text_more text i n.within),
+      length-append (so_far text i) (word_of (get_or text i 0)),
+      ap (λ (l : List ℕ). length l) n.is,
+      bits_length bits word,
+    )
 
 -- the bits so far and the next word are no more than all
-pub word_room : (text : List ℕ) (i bits power word : ℕ) → IsNext text i bits power word → length (so_far text i) + bits ≤ length (bits_of_text text)
+pub word_room : (text : List ℕ) (i bits power word : ℕ) → IsNext text i bits power word
+    → length (so_far text i) + bits ≤ length (bits_of_text text)
 word_room text i bits power word n =
-    omega (arith, length-flat_map-take word_of text i 0 n.within, ap (λ (l : List ℕ). length l) n.is, bits_length bits word)
+    omega (
+      arith,
+      length-flat_map-take word_of text i 0 n.within,
+      ap (λ (l : List ℕ). length l) n.is,
+      bits_length bits word,
+    )
 
 -- ---- four bytes of them
 
-pub four_fit : (count number m power : ℕ) → number < 2 ^ count → count ≡ 32 + m → power ≡ 2 ^ m → number / power < 2 ^ 32
+pub four_fit : (count number m power : ℕ) → number < 2 ^ count → count ≡ 32 + m → power ≡ 2 ^ m
+    → number / power < 2 ^ 32
 four_fit count number m power h e p = let q = subst (λ (n : ℕ). number < 2 ^ n) e h in rw p (shr_lt 32 m q)
 
-pub four_added : (whole : List ℕ) (count number m power left : ℕ) (old new more : List ℕ) → HasAdded whole count number old new → count ≡ 32 + m → power ≡ 2 ^ m → left ≡ number % 2 ^ m → AddsBits 32 (number / power) new more
+pub four_added : (whole : List ℕ) (count number m power left : ℕ) (old new more : List ℕ)
+    → HasAdded whole count number old new → count ≡ 32 + m → power ≡ 2 ^ m → left ≡ number % 2 ^ m
+    → AddsBits 32 (number / power) new more
     → HasAdded whole m left old more
 four_added whole count number m power left old new more a e p l b =
     let c = subst (λ (n : ℕ). HasAdded whole n number old new) e a in
@@ -72,7 +97,8 @@ cut_fits number m left e = rw e (mod_below number (2 ^ m) (pow_pos m))
 
 -- ---- the end
 
-pub all_put : (text : List ℕ) (i count loaded : ℕ) (old now new : List ℕ) → AreBytes text → length text ≤ i → HasAdded (so_far text i) count loaded old now → AddsLastBits count loaded now new → new ≡ old ++ payload_of text
+pub all_put : (text : List ℕ) (i count loaded : ℕ) (old now new : List ℕ) → AreBytes text → length text ≤ i
+    → HasAdded (so_far text i) count loaded old now → AddsLastBits count loaded now new → new ≡ old ++ payload_of text
 all_put text i count loaded old now new ok h a b =
     let whole : so_far text i ≡ bits_of_text text = ap (λ (l : List ℕ). bits_of_text l) (take_all i text h) in
     let m : PayloadMeans (a.bytes ++ b.bytes) text = record {
@@ -80,7 +106,8 @@ all_put text i count loaded old now new ok h a b =
       padding = b.padding;
       few = b.few;
       parts = flat_map-append (bits_of 8) a.bytes b.bytes ∙ ap (λ (l : List ℕ). bits_of_bytes a.bytes ++ l) b.bits
-          ∙ sym (append_assoc (bits_of_bytes a.bytes) (bits_of count loaded) (ones b.padding)) ∙ ap (λ (l : List ℕ). l ++ ones b.padding) (a.bits ∙ whole);
+          ∙ sym (append_assoc (bits_of_bytes a.bytes) (bits_of count loaded) (ones b.padding))
+          ∙ ap (λ (l : List ℕ). l ++ ones b.padding) (a.bits ∙ whole);
     } in
     b.items ∙ ap (λ (l : List ℕ). l ++ b.bytes) a.items ∙ append_assoc old a.bytes b.bytes
     ∙ ap (λ (l : List ℕ). old ++ l) (payload_is (a.bytes ++ b.bytes) text (bytes_join a.bytes b.bytes a.are b.are) m)

@@ -1,5 +1,6 @@
 -- A look by a name's length finds all places of the name, and a look at those finds the first.
-use Rattle.std.proofs.Common.{◌≡◌, ℕ, zero, suc, ◌+◌, ◌<◌, ◌≤◌, Bool, true, false, not, cond, ◌&&◌, ◌||◌, List, [], ◌∷◌, length, map, Option, Some, None, refl, sym, ap, subst, ◌∙◌, arith, inl, inr}
+use Rattle.std.proofs.Common.{◌≡◌, ℕ, zero, suc, ◌+◌, ◌-◌, ◌<◌, ◌≤◌, Bool, true, false, not, cond, ◌&&◌, ◌||◌, List}
+use Rattle.std.proofs.Common.{[], ◌∷◌, length, map, Option, Some, None, refl, sym, ap, subst, ◌∙◌, arith, inl, inr}
 use Rattle.std.specs.Prelude.{All, Contains, filter, find, position, slice_get, slice_index_or, nat_lt, option_map}
 use Rattle.std.specs.Borrow.{Bor}
 use Rattle.std.specs.List.{enumerate_from, list_all, list_any, position_or_len}
@@ -12,7 +13,8 @@ use Rattle.std.proofs.lemmas.List.Sums.{AllPass-from_list_all}
 use Rattle.std.proofs.lemmas.Slice.Eq.{bytes_eq-Decides}
 use Rattle.qpack_spec.specs.Field.{Field, has_name, is_field}
 use Rattle.qpack_spec.specs.StaticTable.{static_table, static_place, static_name_place}
-use Rattle.qpack_base.specs.StaticFields.{places_with_name, has_value_at, is_value_of, names_at, name_rows_at, AreNamesOfLength, AreNamesByLength}
+use Rattle.qpack_base.specs.StaticFields.{places_with_name, has_value_at, is_value_of, names_at, name_rows_at}
+use Rattle.qpack_base.specs.StaticFields.{AreNamesOfLength, AreNamesBetween}
 
 -- a name and its places
 abbrev Entry : Type 0
@@ -21,79 +23,110 @@ Entry = List ℕ × List ℕ
 -- ---- the table of names, tested entry by entry
 
 -- whether the entry has its places
-abbrev pub entry_test : Entry → Bool
+abbrev entry_test : Entry → Bool
 entry_test e = bytes_eq e.1 (places_with_name e.0)
 
--- whether the field's name stands in the row of its length
-abbrev pub field_test : List (List Entry) → Field → Bool
-field_test rows f = list_any (λ e. bytes_eq e.0 f.name) (slice_index_or rows (length f.name) [])
+-- whether the field's name stands in the row of its length, if that is one of the part
+abbrev field_test : ℕ → ℕ → List (List Entry) → Field → Bool
+field_test first limit rows f =
+    (nat_lt (length f.name) first || not (nat_lt (length f.name) limit))
+    || list_any (λ e. bytes_eq e.0 f.name) (slice_index_or rows (length f.name - first) [])
 
 -- whether the rows are those of the static table
-abbrev pub rows_test : List (List Entry) → Bool
-rows_test rows = list_all (list_all entry_test) rows && list_all (field_test rows) static_table
+abbrev rows_test : ℕ → ℕ → List (List Entry) → Bool
+rows_test first limit rows =
+    list_all (list_all entry_test) rows && list_all (field_test first limit rows) static_table
 
-row_passes : (test : List Entry → Bool) (rows : List (List Entry)) (n : ℕ) → test [] ≡ true → list_all test rows ≡ true → test (slice_index_or rows n []) ≡ true
+row_passes : (test : List Entry → Bool) (rows : List (List Entry)) (n : ℕ) → test [] ≡ true
+    → list_all test rows ≡ true → test (slice_index_or rows n []) ≡ true
 row_passes test [] n e t = e
 row_passes test (r ∷ rows) zero e t = (and_parts _ _ t).0
 row_passes test (r ∷ rows) (suc n) e t = row_passes test rows n e (and_parts _ _ t).1
 
-passes_at : {X : Type 0} (test : X → Bool) (xs : List X) (k : ℕ) (x : X) → list_all test xs ≡ true → slice_get xs k ≡ Some x → test x ≡ true
+passes_at : {X : Type 0} (test : X → Bool) (xs : List X) (k : ℕ) (x : X) → list_all test xs ≡ true
+    → slice_get xs k ≡ Some x → test x ≡ true
 passes_at test [] k x t e = absurd cc
 passes_at test (y ∷ ys) zero x t e = let s : y ≡ x = cc in subst (λ z. test z ≡ true) s (and_parts _ _ t).0
 passes_at test (y ∷ ys) (suc k) x t e = passes_at test ys k x (and_parts _ _ t).1 e
 
-some_first : {X : Type 0} (test : X → Bool) (y : X) (ys : List X) (b : Bool) → test y ≡ b → (b || list_any test ys) ≡ true
-    → (list_any test ys ≡ true → (x : X) × Contains ys x × (test x ≡ true)) → (x : X) × Contains (y ∷ ys) x × (test x ≡ true)
+some_first : {X : Type 0} (test : X → Bool) (y : X) (ys : List X) (b : Bool) → test y ≡ b
+    → (b || list_any test ys) ≡ true
+    → (list_any test ys ≡ true → (x : X) × Contains ys x × (test x ≡ true)) → (x : X) × Contains (y ∷ ys) x
+    × (test x ≡ true)
 some_first test y ys true is t rest = (y, (0, omega arith, refl), is)
 some_first test y ys false is t rest = let r = rest t in (r.0, (suc r.1.0, omega (arith, r.1.1), r.1.2), r.2)
 
 -- some element that passes
-some_passes : {X : Type 0} (test : X → Bool) (xs : List X) → list_any test xs ≡ true → (x : X) × Contains xs x × (test x ≡ true)
+some_passes : {X : Type 0} (test : X → Bool) (xs : List X) → list_any test xs ≡ true → (x : X) × Contains xs x
+    × (test x ≡ true)
 some_passes test [] t = absurd cc
 some_passes test (y ∷ ys) t = some_first test y ys (test y) refl t (some_passes test ys)
 
 entries_agree : (row : List Entry) → list_all entry_test row ≡ true → All (λ e. e.1 ≡ places_with_name e.0) row
 entries_agree row t =
-    All-weaker (λ e. entry_test e ≡ true) (λ e. e.1 ≡ places_with_name e.0) (λ e h. (bytes_eq-Decides e.1 (places_with_name e.0)).0 h) row (AllPass-from_list_all entry_test row t)
+    All-weaker (λ e. entry_test e ≡ true) (λ e. e.1 ≡ places_with_name e.0)
+    (λ e h. (bytes_eq-Decides e.1 (places_with_name e.0)).0 h) row (AllPass-from_list_all entry_test row t)
 
 entry_is : (n m : List ℕ) (p q : List ℕ) → n ≡ m → p ≡ q → (let e : Entry = (n, p) in let f : Entry = (m, q) in e ≡ f)
 entry_is n m p q same_name same_places = cc
 
 -- an entry of the name, where entries have their places
-entry_there : (row : List Entry) (name : List ℕ) → All (λ e. e.1 ≡ places_with_name e.0) row → list_any (λ e. bytes_eq e.0 name) row ≡ true → Contains row (name, places_with_name name)
+entry_there : (row : List Entry) (name : List ℕ) → All (λ e. e.1 ≡ places_with_name e.0) row
+    → list_any (λ e. bytes_eq e.0 name) row ≡ true → Contains row (name, places_with_name name)
 entry_there row name places t =
     let some = some_passes (λ e. bytes_eq e.0 name) row t in
     let is_name : some.0.0 ≡ name = (bytes_eq-Decides some.0.0 name).0 some.2 in
-    let has_places : some.0.1 ≡ places_with_name some.0.0 = All-contains (λ e. e.1 ≡ places_with_name e.0) row some.0 places some.1 in
-    let is = entry_is some.0.0 name some.0.1 (places_with_name name) is_name (has_places ∙ ap (λ (n : List ℕ). places_with_name n) is_name) in
+    let has_places : some.0.1 ≡ places_with_name some.0.0 =
+    All-contains (λ e. e.1 ≡ places_with_name e.0) row some.0 places some.1 in
+    let is = entry_is some.0.0 name some.0.1 (places_with_name name) is_name (has_places
+    ∙ ap (λ (n : List ℕ). places_with_name n) is_name) in
     subst (λ (e : Entry). Contains row e) is some.1
 
-pub names_agree : (rows : List (List Entry)) → rows_test rows ≡ true → AreNamesByLength rows
-names_agree rows t = record { at = agree }
+-- what is tested of a field whose length is one of the part
+in_part : (first limit : ℕ) (rows : List (List Entry)) (f : Field) → first ≤ length f.name → length f.name < limit
+    → field_test first limit rows f ≡ true
+    → list_any (λ e. bytes_eq e.0 f.name) (slice_index_or rows (length f.name - first) []) ≡ true
+in_part first limit rows f least most t =
+    let behind = le-ltb (length f.name) first least in
+    let before = lt-ltb (length f.name) limit most in
+    rw (behind, before) at t
+
+pub names_agree : (first limit : ℕ) (rows : List (List Entry)) → rows_test first limit rows ≡ true
+    → AreNamesBetween first limit rows
+names_agree first limit rows t = record { at = agree }
   where
-    agree : (n : ℕ) → AreNamesOfLength n (slice_index_or rows n [])
-    agree n =
-        let both = and_parts (list_all (list_all entry_test) rows) (list_all (field_test rows) static_table) t in
-        let places = entries_agree (slice_index_or rows n []) (row_passes (list_all entry_test) rows n refl both.0) in
+    agree : (n : ℕ) → first ≤ n → n < limit → AreNamesOfLength n (slice_index_or rows (n - first) [])
+    agree n least most =
+        let both = and_parts (list_all (list_all entry_test) rows)
+        (list_all (field_test first limit rows) static_table) t in
+        let row = slice_index_or rows (n - first) [] in
+        let places = entries_agree row (row_passes (list_all entry_test) rows (n - first) refl both.0) in
         record {
           places = places;
           complete = λ k f at is.
-              entry_there (slice_index_or rows n []) f.name places
-              (subst (λ (m : ℕ). list_any (λ e. bytes_eq e.0 f.name) (slice_index_or rows m []) ≡ true) is (passes_at (field_test rows) static_table k f both.1 at));
+              let passes = passes_at (field_test first limit rows) static_table k f both.1 at in
+              let there = in_part first limit rows f (omega (arith, least, is)) (omega (arith, most, is)) passes in
+              entry_there row f.name places
+              (subst (λ (m : ℕ). list_any (λ e. bytes_eq e.0 f.name) (slice_index_or rows (m - first) [])
+              ≡ true) is there);
         }
 
 -- ---- a look into the names of a length
 
-found_first : {X : Type 0} (P : X → Type 0) (test : X → Bool) (y : X) (ys : List X) (x : X) (b : Bool) → test y ≡ b → P y → cond b (Some y) (find test ys) ≡ Some x
+found_first : {X : Type 0} (P : X → Type 0) (test : X → Bool) (y : X) (ys : List X) (x : X) (b : Bool) → test y ≡ b
+    → P y → cond b (Some y) (find test ys) ≡ Some x
     → (find test ys ≡ Some x → P x × (test x ≡ true)) → P x × (test x ≡ true)
 found_first P test y ys x true is h e rest = let s : y ≡ x = cc in subst (λ z. P z × (test z ≡ true)) s (h, is)
 found_first P test y ys x false is h e rest = rest e
 
-found : {X : Type 0} (P : X → Type 0) (test : X → Bool) (xs : List X) (x : X) → All P xs → find test xs ≡ Some x → P x × (test x ≡ true)
+found : {X : Type 0} (P : X → Type 0) (test : X → Bool) (xs : List X) (x : X) → All P xs → find test xs ≡ Some x
+    → P x × (test x ≡ true)
 found P test [] x a e = absurd cc
-found P test (y ∷ ys) x a e = found_first P test y ys x (test y) refl (All-head P y ys a) e (found P test ys x (All-tail P y ys a))
+found P test (y ∷ ys) x a e = found_first P test y ys x (test y) refl (All-head P y ys a) e
+    (found P test ys x (All-tail P y ys a))
 
-missing_first : {X : Type 0} (test : X → Bool) (y : X) (ys : List X) (b : Bool) → test y ≡ b → cond b (Some y) (find test ys) ≡ None
+missing_first : {X : Type 0} (test : X → Bool) (y : X) (ys : List X) (b : Bool) → test y ≡ b
+    → cond b (Some y) (find test ys) ≡ None
     → (find test ys ≡ None → All (λ x. test x ≡ false) ys) → All (λ x. test x ≡ false) (y ∷ ys)
 missing_first test y ys true is e rest = absurd cc
 missing_first test y ys false is e rest = All-cons (λ x. test x ≡ false) y ys is (rest e)
@@ -102,7 +135,8 @@ missing : {X : Type 0} (test : X → Bool) (xs : List X) → find test xs ≡ No
 missing test [] e = All-nil (λ x. test x ≡ false)
 missing test (y ∷ ys) e = missing_first test y ys (test y) refl e (missing test ys)
 
-find-map : {X Y : Type 0} (test : Y → Bool) (g : X → Y) (xs : List X) → find test (map g xs) ≡ option_map g (find (λ x. test (g x)) xs)
+find-map : {X Y : Type 0} (test : Y → Bool) (g : X → Y) (xs : List X)
+    → find test (map g xs) ≡ option_map g (find (λ x. test (g x)) xs)
 find-map test g [] = refl
 find-map test g (x ∷ xs) = first (test (g x)) (find-map test g xs)
   where
@@ -122,7 +156,8 @@ abbrev first_from : (Field → Bool) → ℕ → List Field → Option ℕ
 first_from test i [] = None
 first_from test i (f ∷ fs) = cond (test f) (Some i) (first_from test (i + 1) fs)
 
-no_places : (test : Field → Bool) (i : ℕ) (fs : List Field) → ((k : ℕ) (f : Field) → slice_get fs k ≡ Some f → test f ≡ false) → places_from test i fs ≡ []
+no_places : (test : Field → Bool) (i : ℕ) (fs : List Field)
+    → ((k : ℕ) (f : Field) → slice_get fs k ≡ Some f → test f ≡ false) → places_from test i fs ≡ []
 no_places test i [] h = refl
 no_places test i (f ∷ fs) h = let e : test f ≡ false = h 0 f refl in rw e (no_places test (i + 1) fs (λ k. h (suc k)))
 
@@ -131,40 +166,51 @@ no_places test i (f ∷ fs) h = let e : test f ≡ false = h 0 f refl in rw e (n
 entry_at : Bor (List ℕ) × Bor (List ℕ) → Entry
 entry_at e = (e.0.now, e.1.now)
 
-pub places_found : (name : List ℕ) (names : List (Bor (List ℕ) × Bor (List ℕ))) (e : Bor (List ℕ) × Bor (List ℕ)) → AreNamesOfLength (length name) (names_at names)
+pub places_found : (name : List ℕ) (names : List (Bor (List ℕ) × Bor (List ℕ))) (e : Bor (List ℕ) × Bor (List ℕ))
+    → AreNamesOfLength (length name) (names_at names)
     → Some e ≡ find (λ e. bytes_eq name e.0.now) names → e.1.now ≡ places_with_name name
 unfolding entry_at
 places_found name names e are h =
     let test = λ (e : Entry). bytes_eq name e.0 in
-    let at : find test (names_at names) ≡ Some (entry_at e) = find-map test entry_at names ∙ ap (λ (o : Option (Bor (List ℕ) × Bor (List ℕ))). option_map entry_at o) (sym h) in
+    let at : find test (names_at names) ≡ Some (entry_at e) = find-map test entry_at names
+    ∙ ap (λ (o : Option (Bor (List ℕ) × Bor (List ℕ))). option_map entry_at o) (sym h) in
     let r = found (λ (e : Entry). e.1 ≡ places_with_name e.0) test (names_at names) (entry_at e) are.places at in
     r.0 ∙ ap (λ (n : List ℕ). places_with_name n) (sym ((bytes_eq-Decides name e.0.now).0 r.1))
 
-pub places_missing : (name : List ℕ) (names : List (Bor (List ℕ) × Bor (List ℕ))) → AreNamesOfLength (length name) (names_at names)
+pub places_missing : (name : List ℕ) (names : List (Bor (List ℕ) × Bor (List ℕ)))
+    → AreNamesOfLength (length name) (names_at names)
     → None ≡ find (λ e. bytes_eq name e.0.now) names → [] ≡ places_with_name name
 unfolding entry_at places_with_name
 places_missing name names are h =
     let test = λ (e : Entry). bytes_eq name e.0 in
-    let at : find test (names_at names) ≡ None = find-map test entry_at names ∙ ap (λ (o : Option (Bor (List ℕ) × Bor (List ℕ))). option_map entry_at o) (sym h) in
+    let at : find test (names_at names) ≡ None = find-map test entry_at names
+    ∙ ap (λ (o : Option (Bor (List ℕ) × Bor (List ℕ))). option_map entry_at o) (sym h) in
     sym (no_places (has_name name) 0 static_table (λ k f is. false_from_ne_true (has_name name f) (λ same.
     let same_name : name ≡ f.name = (bytes_eq-Decides name f.name).0 same in
     let there = are.complete k f is (ap (λ (n : List ℕ). length n) (sym same_name)) in
-    both_ways (test (f.name, places_with_name f.name)) (All-contains (λ e. test e ≡ false) (names_at names) (f.name, places_with_name f.name) (missing test (names_at names) at) there) same)))
+    both_ways (test (f.name, places_with_name f.name))
+    (All-contains (λ e. test e ≡ false) (names_at names) (
+      f.name,
+      places_with_name f.name,
+    ) (missing test (names_at names) at) there) same)))
 
 -- ---- the first place
 
-first_place : (test : Field → Bool) (i : ℕ) (fs : List Field) → slice_get (places_from test i fs) 0 ≡ first_from test i fs
+first_place : (test : Field → Bool) (i : ℕ) (fs : List Field)
+    → slice_get (places_from test i fs) 0 ≡ first_from test i fs
 first_place test i [] = refl
 first_place test i (f ∷ fs) = first (test f) (first_place test (i + 1) fs)
   where
     first : (b : Bool) → slice_get (places_from test (i + 1) fs) 0 ≡ first_from test (i + 1) fs
-        → slice_get (map (λ e. e.0) (cond b ((i, f) ∷ filter (λ e. test e.1) (enumerate_from (i + 1) fs)) (filter (λ e. test e.1) (enumerate_from (i + 1) fs)))) 0
+        → slice_get (map (λ e. e.0) (cond b ((i, f) ∷ filter (λ e. test e.1) (enumerate_from (i + 1) fs))
+        (filter (λ e. test e.1) (enumerate_from (i + 1) fs)))) 0
         ≡ cond b (Some i) (first_from test (i + 1) fs)
     first true rest = refl
     first false rest = rest
 
 -- a look at the places of those that pass, by a test of what stands there
-first_of_both : (test more : Field → Bool) (look : ℕ → Bool) (i : ℕ) (fs : List Field) → ((k : ℕ) (f : Field) → slice_get fs k ≡ Some f → look (i + k) ≡ more f)
+first_of_both : (test more : Field → Bool) (look : ℕ → Bool) (i : ℕ) (fs : List Field)
+    → ((k : ℕ) (f : Field) → slice_get fs k ≡ Some f → look (i + k) ≡ more f)
     → find look (places_from test i fs) ≡ first_from (λ f. test f && more f) i fs
 first_of_both test more look i [] h = refl
 first_of_both test more look i (f ∷ fs) h =
@@ -172,10 +218,13 @@ first_of_both test more look i (f ∷ fs) h =
     let here : look i ≡ more f = subst (λ (n : ℕ). look n ≡ more f) zero_is (h 0 f refl) in
     first (test f) (more f) here
     (first_of_both test more look (i + 1) fs
-    (λ k g is. let next : i + suc k ≡ i + 1 + k = omega arith in subst (λ (n : ℕ). look n ≡ more g) next (h (suc k) g is)))
+    (λ k g is. let next : i + suc k ≡ i + 1 + k = omega arith in
+    subst (λ (n : ℕ). look n ≡ more g) next (h (suc k) g is)))
   where
-    first : (b c : Bool) → look i ≡ c → find look (places_from test (i + 1) fs) ≡ first_from (λ f. test f && more f) (i + 1) fs
-        → find look (map (λ e. e.0) (cond b ((i, f) ∷ filter (λ e. test e.1) (enumerate_from (i + 1) fs)) (filter (λ e. test e.1) (enumerate_from (i + 1) fs))))
+    first : (b c : Bool) → look i ≡ c → find look (places_from test (i + 1) fs)
+        ≡ first_from (λ f. test f && more f) (i + 1) fs
+        → find look (map (λ e. e.0) (cond b ((i, f) ∷ filter (λ e. test e.1) (enumerate_from (i + 1) fs))
+        (filter (λ e. test e.1) (enumerate_from (i + 1) fs))))
         ≡ cond (b && c) (Some i) (first_from (λ f. test f && more f) (i + 1) fs)
     first true true is rest = rw is refl
     first true false is rest = rw is rest
@@ -183,7 +232,8 @@ first_of_both test more look i (f ∷ fs) h =
 
 -- a position counts from the front
 position_step : (b : Bool) (n m : ℕ)
-    → cond (nat_lt (cond (not b) (1 + n) 0) (suc m)) (Some (cond (not b) (1 + n) 0)) None ≡ cond b (Some 0) (option_map (λ k. 1 + k) (cond (nat_lt n m) (Some n) None))
+    → cond (nat_lt (cond (not b) (1 + n) 0) (suc m)) (Some (cond (not b) (1 + n) 0)) None
+    ≡ cond b (Some 0) (option_map (λ k. 1 + k) (cond (nat_lt n m) (Some n) None))
 position_step true n m = rw (lt-ltb 0 (suc m) (omega arith)) refl
 position_step false n m =
     elim (cases_lt n m) [
@@ -195,14 +245,17 @@ further : (i : ℕ) (o : Option ℕ) → option_map (λ n. i + 1 + n) o ≡ opti
 further i None = refl
 further i (Some n) = let e : i + 1 + n ≡ i + (1 + n) = omega arith in rw e refl
 
-first_from_position : (test : Field → Bool) (i : ℕ) (fs : List Field) → first_from test i fs ≡ option_map (λ n. i + n) (position test fs)
+first_from_position : (test : Field → Bool) (i : ℕ) (fs : List Field)
+    → first_from test i fs ≡ option_map (λ n. i + n) (position test fs)
 first_from_position test i [] = refl
 first_from_position test i (f ∷ fs) =
     first (test f) (first_from_position test (i + 1) fs)
-    ∙ ap (λ (o : Option ℕ). option_map (λ n. i + n) o) (sym (position_step (test f) (position_or_len test fs) (length fs)))
+    ∙ ap (λ (o : Option ℕ). option_map (λ n. i + n) o)
+    (sym (position_step (test f) (position_or_len test fs) (length fs)))
   where
     first : (b : Bool) → first_from test (i + 1) fs ≡ option_map (λ n. i + 1 + n) (position test fs)
-        → cond b (Some i) (first_from test (i + 1) fs) ≡ option_map (λ n. i + n) (cond b (Some 0) (option_map (λ k. 1 + k) (position test fs)))
+        → cond b (Some i) (first_from test (i + 1) fs)
+        ≡ option_map (λ n. i + n) (cond b (Some 0) (option_map (λ k. 1 + k) (position test fs)))
     first true rest = let e : i + 0 ≡ i = omega arith in rw e refl
     first false rest = rest ∙ further i (position test fs)
 
@@ -213,20 +266,24 @@ from_front (Some n) = let e : 0 + n ≡ n = omega arith in rw e refl
 pub first_is_name_place : (name : List ℕ) → slice_get (places_with_name name) 0 ≡ static_name_place name
 unfolding places_with_name static_name_place
 first_is_name_place name =
-    first_place (has_name name) 0 static_table ∙ first_from_position (has_name name) 0 static_table ∙ from_front (position (has_name name) static_table)
+    first_place (has_name name) 0 static_table ∙ first_from_position (has_name name) 0 static_table
+    ∙ from_front (position (has_name name) static_table)
 
-value_there : (f : Field) (k : ℕ) (g : Field) → slice_get static_table k ≡ Some g → has_value_at f.value (0 + k) ≡ bytes_eq f.value g.value
+value_there : (f : Field) (k : ℕ) (g : Field) → slice_get static_table k ≡ Some g
+    → has_value_at f.value (0 + k) ≡ bytes_eq f.value g.value
 value_there f k g is = let e : 0 + k ≡ k = omega arith in rw e (ap (λ (o : Option Field). is_value_of f.value o) is)
 
 found_is_place : (f : Field) → find (has_value_at f.value) (places_with_name f.name) ≡ static_place f
 unfolding places_with_name static_place
 found_is_place f =
-    first_of_both (has_name f.name) (λ g. bytes_eq f.value g.value) (has_value_at f.value) 0 static_table (value_there f)
+    first_of_both (has_name f.name) (λ g. bytes_eq f.value g.value) (has_value_at f.value) 0 static_table
+    (value_there f)
     ∙ first_from_position (is_field f) 0 static_table
     ∙ from_front (position (is_field f) static_table)
 
 -- where the names and values are handed over apart
-pub place_is_first : (f : Field) (name value : List ℕ) (places : List ℕ) (r : Option ℕ) → name ≡ f.name → value ≡ f.value → places ≡ places_with_name name → r ≡ find (has_value_at value) places
+pub place_is_first : (f : Field) (name value : List ℕ) (places : List ℕ) (r : Option ℕ) → name ≡ f.name
+    → value ≡ f.value → places ≡ places_with_name name → r ≡ find (has_value_at value) places
     → r ≡ static_place f
 place_is_first f name value places r n v p is = rw (is, p, n, v) (found_is_place f)
 
@@ -236,17 +293,20 @@ rows-length : (rows : List (Bor (List (Bor (List ℕ) × Bor (List ℕ))))) → 
 rows-length [] = refl
 rows-length (r ∷ rows) = ap (λ (n : ℕ). suc n) (rows-length rows)
 
-pub no_names_past : (rows : List (Bor (List (Bor (List ℕ) × Bor (List ℕ))))) (n : ℕ) → AreNamesByLength (name_rows_at rows) → IsItemAt rows n None → AreNamesOfLength n []
-no_names_past rows n are past =
-    let l : length (name_rows_at rows) ≤ n = omega (arith, rows-length rows) in
-    subst (λ row. AreNamesOfLength n row) (get_or_past (name_rows_at rows) n [] l) (are.at n)
+pub no_names_past : (rows : List (Bor (List (Bor (List ℕ) × Bor (List ℕ))))) (n place : ℕ)
+    → AreNamesOfLength n (slice_index_or (name_rows_at rows) place []) → IsItemAt rows place None
+    → AreNamesOfLength n []
+no_names_past rows n place are past =
+    let l : length (name_rows_at rows) ≤ place = omega (arith, rows-length rows) in
+    subst (λ row. AreNamesOfLength n row) (get_or_past (name_rows_at rows) place [] l) are
 
-row_at : (rows : List (Bor (List (Bor (List ℕ) × Bor (List ℕ))))) (n : ℕ) (r : Bor (List (Bor (List ℕ) × Bor (List ℕ)))) → n < length rows → slice_index_or rows n r ≡ r
-    → slice_index_or (name_rows_at rows) n [] ≡ names_at r.now
+row_at : (rows : List (Bor (List (Bor (List ℕ) × Bor (List ℕ))))) (n : ℕ) (r : Bor (List (Bor (List ℕ) × Bor (List ℕ))))
+    → n < length rows → slice_index_or rows n r ≡ r → slice_index_or (name_rows_at rows) n [] ≡ names_at r.now
 row_at [] n r h e = absurd (omega arith)
 row_at (s ∷ rows) zero r h e = ap (λ (x : Bor (List (Bor (List ℕ) × Bor (List ℕ)))). names_at x.now) e
 row_at (s ∷ rows) (suc n) r h e = row_at rows n r (omega arith) e
 
-pub names_there : (rows : List (Bor (List (Bor (List ℕ) × Bor (List ℕ))))) (n : ℕ) (r : Bor (List (Bor (List ℕ) × Bor (List ℕ)))) → AreNamesByLength (name_rows_at rows)
-    → n < length rows → slice_index_or rows n r ≡ r → AreNamesOfLength n (names_at r.now)
-names_there rows n r are h e = subst (λ row. AreNamesOfLength n row) (row_at rows n r h e) (are.at n)
+pub names_there : (rows : List (Bor (List (Bor (List ℕ) × Bor (List ℕ))))) (n place : ℕ)
+    (r : Bor (List (Bor (List ℕ) × Bor (List ℕ)))) → AreNamesOfLength n (slice_index_or (name_rows_at rows) place [])
+    → place < length rows → slice_index_or rows place r ≡ r → AreNamesOfLength n (names_at r.now)
+names_there rows n place r are h e = subst (λ row. AreNamesOfLength n row) (row_at rows place r h e) are

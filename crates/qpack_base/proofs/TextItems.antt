@@ -1,11 +1,13 @@
 -- The text of a payload, item by item.
-use Rattle.std.proofs.Common.{◌≡◌, ℕ, zero, suc, ◌<◌, List, [], ◌∷◌, ◌++◌, length, Option, Some, None, Result, Ok, Err, refl, sym, ap, ◌∙◌, arith, append_assoc, append-nil}
+use Rattle.std.proofs.Common.{◌≡◌, ℕ, zero, suc, ◌<◌, List, [], ◌∷◌, ◌++◌, length, Option, Some, None, Result, Ok}
+use Rattle.std.proofs.Common.{Err, refl, sym, ap, ◌∙◌, arith, append_assoc, append-nil}
 use Rattle.qpack_spec.specs.Huffman.{HuffmanFault, item_at, with_front, text_after, text_at, text_of_bits}
 use Rattle.qpack_base.specs.declared.prefix_string.decoding.HuffmanDecodingError.{HuffmanDecodingError}
 use Rattle.qpack_base.specs.Payloads.{huffman_fault_of, item_of, GivesItem}
 use Rattle.qpack_base.proofs.Items.{item_shorter}
 
-same_after : (o : Option (Result ℕ HuffmanFault)) (m n : Result (List ℕ) HuffmanFault) → ((x : Result ℕ HuffmanFault) → o ≡ Some x → m ≡ n) → text_after o m ≡ text_after o n
+same_after : (o : Option (Result ℕ HuffmanFault)) (m n : Result (List ℕ) HuffmanFault)
+    → ((x : Result ℕ HuffmanFault) → o ≡ Some x → m ≡ n) → text_after o m ≡ text_after o n
 same_after None m n h = refl
 same_after (Some (Ok b)) m n h = ap (with_front (b ∷ [])) (h (Ok b) refl)
 same_after (Some (Err f)) m n h = refl
@@ -19,14 +21,18 @@ fuel (suc j) (suc k) bits a b =
     same_after (item_at bits).0 (text_at j (item_at bits).1) (text_at k (item_at bits).1)
     (λ x e. let s = item_shorter bits x e in fuel j k (item_at bits).1 (omega arith) (omega arith))
 
-text_step : (old new : List ℕ) (r : Option (Result ℕ HuffmanDecodingError)) → GivesItem old r new → text_of_bits old ≡ text_after (item_of r) (text_of_bits new)
+text_step : (old new : List ℕ) (r : Option (Result ℕ HuffmanDecodingError)) → GivesItem old r new
+    → text_of_bits old ≡ text_after (item_of r) (text_of_bits new)
 unfolding text_of_bits text_at
 text_step old new r g =
     rw (g.is, g.left)
-    (same_after (item_at old).0 (text_at (length old) (item_at old).1) (text_at (suc (length (item_at old).1)) (item_at old).1)
-    (λ x e. let s = item_shorter old x e in fuel (length old) (suc (length (item_at old).1)) (item_at old).1 s (omega arith)))
+    (same_after (item_at old).0 (text_at (length old) (item_at old).1)
+    (text_at (suc (length (item_at old).1)) (item_at old).1)
+    (λ x e. let s = item_shorter old x e in fuel (length old) (suc (length (item_at old).1)) (item_at old).1 s
+    (omega arith)))
 
-front_more : (out : List ℕ) (b : ℕ) (m : Result (List ℕ) HuffmanFault) → with_front out (with_front (b ∷ []) m) ≡ with_front (out ++ b ∷ []) m
+front_more : (out : List ℕ) (b : ℕ) (m : Result (List ℕ) HuffmanFault)
+    → with_front out (with_front (b ∷ []) m) ≡ with_front (out ++ b ∷ []) m
 front_more out b (Ok t) = ap (λ (l : List ℕ). Ok l) (sym (append_assoc out (b ∷ []) t))
 front_more out b (Err f) = refl
 
@@ -34,11 +40,16 @@ pub front_none : (m : Result (List ℕ) HuffmanFault) → with_front [] m ≡ m
 front_none (Ok t) = refl
 front_none (Err f) = refl
 
-pub at_end : (old new out : List ℕ) (whole : Result (List ℕ) HuffmanFault) → GivesItem old None new → with_front out (text_of_bits old) ≡ whole → whole ≡ Ok out
-at_end old new out whole g inv = sym inv ∙ ap (with_front out) (text_step old new None g) ∙ ap (λ (l : List ℕ). Ok l) (append-nil out)
+pub at_end : (old new out : List ℕ) (whole : Result (List ℕ) HuffmanFault) → GivesItem old None new
+    → with_front out (text_of_bits old) ≡ whole → whole ≡ Ok out
+at_end old new out whole g inv = sym inv ∙ ap (with_front out) (text_step old new None g)
+    ∙ ap (λ (l : List ℕ). Ok l) (append-nil out)
 
-pub at_fault : (old new out : List ℕ) (e : HuffmanDecodingError) (whole : Result (List ℕ) HuffmanFault) → GivesItem old (Some (Err e)) new → with_front out (text_of_bits old) ≡ whole → whole ≡ Err (huffman_fault_of e)
+pub at_fault : (old new out : List ℕ) (e : HuffmanDecodingError) (whole : Result (List ℕ) HuffmanFault)
+    → GivesItem old (Some (Err e)) new → with_front out (text_of_bits old) ≡ whole → whole ≡ Err (huffman_fault_of e)
 at_fault old new out e whole g inv = sym inv ∙ ap (with_front out) (text_step old new (Some (Err e)) g)
 
-pub at_byte : (old new out : List ℕ) (b : ℕ) (whole : Result (List ℕ) HuffmanFault) → GivesItem old (Some (Ok b)) new → with_front out (text_of_bits old) ≡ whole → with_front (out ++ b ∷ []) (text_of_bits new) ≡ whole
-at_byte old new out b whole g inv = sym (front_more out b (text_of_bits new)) ∙ sym (ap (with_front out) (text_step old new (Some (Ok b)) g)) ∙ inv
+pub at_byte : (old new out : List ℕ) (b : ℕ) (whole : Result (List ℕ) HuffmanFault) → GivesItem old (Some (Ok b)) new
+    → with_front out (text_of_bits old) ≡ whole → with_front (out ++ b ∷ []) (text_of_bits new) ≡ whole
+at_byte old new out b whole g inv = sym (front_more out b (text_of_bits new))
+    ∙ sym (ap (with_front out) (text_step old new (Some (Ok b)) g)) ∙ inv

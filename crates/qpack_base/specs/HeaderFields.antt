@@ -18,7 +18,8 @@ abbrev pub fields_behind : List (Bor HeaderField) → List Field
 fields_behind fs = map (λ f. field_of f.now) fs
 
 -- the iterator gives so many fields and ends, and P holds of their list
-abbrev pub DrainsFields : {S : Type 0} → (S → Option (Bor HeaderField) → S → Type 0) → S → (List Field → Type 0) → Type 0
+abbrev pub DrainsFields : {S : Type 0} → (S → Option (Bor HeaderField) → S → Type 0) → S → (List Field → Type 0)
+    → Type 0
 DrainsFields steps it P = (fs : List (Bor HeaderField)) × Drains steps it fs × P (fields_behind fs)
 
 -- the name, a TAB and the value, with U+FFFD for what is no UTF-8

@@ -1,36 +1,41 @@
 -- What readers of string literals answer.
-use Rattle.std.specs.Prelude.{◌≡◌, ◌≢◌, ℕ, ◌%◌, List, [], Result, Ok, Err, ◌==◌, if◌then◌else◌}
+use Rattle.std.specs.Prelude.{◌≡◌, ◌≢◌, ℕ, ◌%◌, List, [], Option, Some, None, Result, Ok, Err, ◌==◌, if◌then◌else◌}
 use Rattle.std.specs.Global.{Vec}
 use Rattle.qpack_spec.specs.Huffman.{HuffmanFault, bits_of_bytes, text_of_bits}
 use Rattle.qpack_spec.specs.Text.{StringFault, EndsEarly, LengthOverflows, BadHuffman}
 use Rattle.qpack_base.specs.declared.prefix_int.Error.{Error as IntegerError}
 use Rattle.qpack_base.specs.declared.prefix_int.Error.TheVariants as integer
 use Rattle.qpack_base.specs.declared.prefix_string.Error.{Error}
-use Rattle.qpack_base.specs.declared.prefix_string.Error.TheVariants.{UnexpectedEnd, Integer, HuffmanDecoding, HuffmanEncoding, BufSize, Memory}
+use Rattle.qpack_base.specs.declared.prefix_string.Error.TheVariants.{UnexpectedEnd, Integer, HuffmanDecoding}
+use Rattle.qpack_base.specs.declared.prefix_string.Error.TheVariants.{Memory}
 use Rattle.qpack_base.specs.Cursor.{Reading}
 use Rattle.qpack_base.specs.Payloads.{huffman_fault_of}
+use Rattle.qpack_base.specs.Refusals.{IsRefusedFor}
 
 -- the error of a string whose length has this one
 abbrev pub error_of_integer : IntegerError → Error
 error_of_integer integer.UnexpectedEnd = UnexpectedEnd
 error_of_integer integer.Overflow = Integer integer.Overflow
 
--- a whole payload that is not empty was offered, so that memory may be asked for
+-- a whole payload that is not empty was offered, so that memory may be asked for (RFC 9204, section 4.1.2)
 abbrev pub IsWhole : Result (ℕ × List ℕ × List ℕ) StringFault → Type 0
 IsWhole (Ok x) = x.1 ≢ []
 IsWhole (Err EndsEarly) = ⊥
 IsWhole (Err LengthOverflows) = ⊥
 IsWhole (Err (BadHuffman fault)) = Unit {0}
 
+-- the fault of a string that an error stands for; none for want of memory and for what is never answered (RFC 9204,
+-- section 4.1.2)
+abbrev pub string_fault_of : Error → Option StringFault
+string_fault_of UnexpectedEnd = Some EndsEarly
+string_fault_of (Integer integer.Overflow) = Some LengthOverflows
+string_fault_of (HuffmanDecoding e) = Some (BadHuffman (huffman_fault_of e))
+string_fault_of e = None
+
 -- the error is the fault that was read, or want of memory for a whole payload that is not empty
 abbrev pub FailsString : Error → Result (ℕ × List ℕ × List ℕ) StringFault → Type 0
-FailsString UnexpectedEnd read = read ≡ Err EndsEarly
-FailsString (Integer integer.Overflow) read = read ≡ Err LengthOverflows
-FailsString (Integer integer.UnexpectedEnd) read = ⊥
-FailsString (HuffmanDecoding e) read = read ≡ Err (BadHuffman (huffman_fault_of e))
-FailsString (HuffmanEncoding e) read = ⊥
-FailsString BufSize read = ⊥
 FailsString Memory read = IsWhole read
+FailsString e read = IsRefusedFor read (string_fault_of e)
 
 -- the answer is the value that was read, under some flags, and the cursor stands behind it; or it is the fault
 abbrev pub ReadsString : Reading → Reading → Result (Vec ℕ) Error → Result (ℕ × List ℕ × List ℕ) StringFault → Type 0
@@ -41,7 +46,7 @@ ReadsString old new (Err e) read = FailsString e read
 abbrev pub meaning : ℕ → List ℕ → Result (List ℕ) HuffmanFault
 meaning flags payload = if flags % 2 == 0 then Ok payload else text_of_bits (bits_of_bytes payload)
 
--- memory may be asked for: the payload means a text that is not empty, or nothing
+-- memory may be asked for: the payload means a text that is not empty, or nothing (RFC 7541, section 5.2)
 abbrev pub TakesMemory : Result (List ℕ) HuffmanFault → Type 0
 TakesMemory (Ok value) = value ≢ []
 TakesMemory (Err fault) = Unit {0}
@@ -49,41 +54,24 @@ TakesMemory (Err fault) = Unit {0}
 -- the same of a payload alone
 abbrev pub ReadsText : Result (Vec ℕ) Error → Result (List ℕ) HuffmanFault → Type 0
 ReadsText (Ok v) read = read ≡ Ok v.items
-ReadsText (Err UnexpectedEnd) read = ⊥
-ReadsText (Err (Integer e)) read = ⊥
 ReadsText (Err (HuffmanDecoding e)) read = read ≡ Err (huffman_fault_of e)
-ReadsText (Err (HuffmanEncoding e)) read = ⊥
-ReadsText (Err BufSize) read = ⊥
 ReadsText (Err Memory) read = TakesMemory read
+ReadsText (Err e) read = ⊥
 
 -- ---- the same by cases
 
 -- the answer is the value, and what moves moved; or memory was refused
 abbrev pub GivesValue : Result (Vec ℕ) Error → List ℕ → Type 0 → Type 0
 GivesValue (Ok v) value moved = (v.items ≡ value) × moved
-GivesValue (Err UnexpectedEnd) value moved = ⊥
-GivesValue (Err (Integer e)) value moved = ⊥
-GivesValue (Err (HuffmanDecoding e)) value moved = ⊥
-GivesValue (Err (HuffmanEncoding e)) value moved = ⊥
-GivesValue (Err BufSize) value moved = ⊥
 GivesValue (Err Memory) value moved = Unit {0}
+GivesValue (Err e) value moved = ⊥
 
 -- the answer is that the payload means nothing, for this fault
 abbrev pub IsFaulty : Result (Vec ℕ) Error → HuffmanFault → Type 0
-IsFaulty (Ok v) fault = ⊥
-IsFaulty (Err UnexpectedEnd) fault = ⊥
-IsFaulty (Err (Integer e)) fault = ⊥
 IsFaulty (Err (HuffmanDecoding e)) fault = huffman_fault_of e ≡ fault
-IsFaulty (Err (HuffmanEncoding e)) fault = ⊥
-IsFaulty (Err BufSize) fault = ⊥
-IsFaulty (Err Memory) fault = ⊥
+IsFaulty result fault = ⊥
 
 -- the same; or memory was refused
 abbrev pub GivesFault : Result (Vec ℕ) Error → HuffmanFault → Type 0
-GivesFault (Ok v) fault = ⊥
-GivesFault (Err UnexpectedEnd) fault = ⊥
-GivesFault (Err (Integer e)) fault = ⊥
-GivesFault (Err (HuffmanDecoding e)) fault = huffman_fault_of e ≡ fault
-GivesFault (Err (HuffmanEncoding e)) fault = ⊥
-GivesFault (Err BufSize) fault = ⊥
 GivesFault (Err Memory) fault = Unit {0}
+GivesFault result fault = IsFaulty result fault

@@ -1,7 +1,6 @@
 //! Header fields: a name and a value (RFC 9204, section 1.1).
 
 ghost use Rattle.std.specs.Prelude.{◌≡◌, ◌+◌, ◌-◌, ◌^◌, ◌↔◌, min, fold, IfOk, IsTrue, string_bytes};
-ghost use Rattle.std.specs.Hash.DefaultHasher as sip;
 ghost use Rattle.qpack_spec.specs.Field.{field_size};
 ghost use Rattle.qpack_base.specs.HeaderFields.{field_of, text_of, hash_input_of};
 
@@ -10,7 +9,7 @@ use bstr::ByteSlice;
 use std::alloc::Global;
 use std::borrow::CowSlice;
 use std::fmt;
-use std::hash::{DefaultHasher, Hash, Hasher};
+use std::hash::{Hash, Hasher};
 
 /// What a table counts for an entry besides its name and its value, in bytes (RFC 9204, section 3.2.1).
 pub const ESTIMATED_OVERHEAD_BYTES: usize = 32;
@@ -55,7 +54,11 @@ impl HeaderField {
 
     /// The field with another value.
     pub fn with_value(&self, value: Vec<u8>) -> Result<HeaderField, NoMemory>
-        ensures { IfOk result (λ field. field_of field ≡ record { name = (field_of self.now).name; value = value.items }) }
+        ensures { IfOk result (λ field. field_of field ≡ record {
+          name = (field_of self.now).name;
+          value =
+              value.items;
+        }) }
     {
         Ok(HeaderField {
             name: self.name.clone()?,
@@ -92,23 +95,29 @@ impl fmt::Display for HeaderField {
 
 /// What `==` answers: whether the two names and the two values are the same bytes, however each is held.
 pub fn equality_is_of_bytes(field: &HeaderField, other: &HeaderField) -> bool
-    ensures { IsTrue result ↔ (field_of field.now ≡ field_of other.now) }
+    ensures operator { result ≡ ⟦<HeaderField as PartialEq>⟧.eq field.now other.now }
+    ensures bytes { IsTrue result ↔ (field_of field.now ≡ field_of other.now) }
 {
     field == other
 }
 
-/// Whether two fields hash alike, as fields of the same bytes do, however each is held.
-pub fn equal_fields_hash_alike(field: &HeaderField, other: &HeaderField) -> bool
-    ensures { field_of field.now ≡ field_of other.now → IsTrue result }
+/// Feeds a field to a hasher and another to a second one, whatever hashers they are, and answers whether the
+/// fields are equal. A hasher is fed the bytes of the name and of the value, each behind their number, however
+/// they are held: so equal fields hash alike.
+pub fn equal_fields_hash_alike<H: Hasher>(
+    field: &HeaderField,
+    other: &HeaderField,
+    first: &mut H,
+    second: &mut H,
+) -> bool
+    ensures equal { IsTrue result ↔ (field_of field.now ≡ field_of other.now) }
+    ensures first { first.new ≡ fold H.write first.old (hash_input_of (field_of field.now)) }
+    ensures second { second.new ≡ fold H.write second.old (hash_input_of (field_of other.now)) }
+    // What `Hash` feeds any hasher.
+    ensures input { ⟦<HeaderField as Hash>⟧.hash_input field.now ≡ hash_input_of (field_of field.now) }
+    ensures alike { IsTrue result → first.old ≡ second.old → first.new ≡ second.new }
 {
-    hash_of(field) == hash_of(other)
-}
-
-/// A field's hash by std's hasher.
-fn hash_of(field: &HeaderField) -> u64
-    ensures { result ≡ sip.finish (fold sip.write sip.initial (hash_input_of (field_of field.now))) }
-{
-    let mut state = DefaultHasher::new();
-    field.hash(&mut state);
-    state.finish()
+    field.hash(first);
+    other.hash(second);
+    equality_is_of_bytes(field, other)
 }

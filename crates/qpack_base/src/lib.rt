@@ -8,5 +8,3 @@ pub mod parse_error;
 pub mod prefix_int;
 pub mod prefix_string;
 pub mod static_;
-#[cfg(test)]
-mod tests;

@@ -1,8 +1,10 @@
 //! Integers with a prefix of 1 to 8 bits (RFC 7541, section 5.1; RFC 9204, section 4.1.1).
 
-ghost use Rattle.std.specs.Prelude.{◌≡◌, ℕ, ◌+◌, ◌*◌, ◌^◌, ◌<◌, ◌≤◌, ◌-◌, ◌++◌, ◌↔◌, List, IfOk, OnOk, OnErr, IsOk, vec_len, vec_capacity, length};
+ghost use Rattle.std.specs.Prelude.{◌≡◌, ℕ, ◌+◌, ◌*◌, ◌^◌, ◌<◌, ◌≤◌, ◌-◌, ◌++◌, ◌↔◌, List, IfOk, OnOk, OnErr, IsOk};
+ghost use Rattle.std.specs.Prelude.{vec_len, vec_capacity, length};
 ghost use Rattle.qpack_spec.specs.Bytes.{Begins};
-ghost use Rattle.qpack_spec.specs.Integer.{integer_at, groups_at, SpellsInteger, OverflowsInteger, TruncatesInteger, written_integer, written_groups};
+ghost use Rattle.qpack_spec.specs.Integer.{integer_at, groups_at, SpellsInteger, OverflowsInteger, TruncatesInteger};
+ghost use Rattle.qpack_spec.specs.Integer.{written_integer, written_groups};
 ghost use Rattle.qpack_base.specs.Cursor.{MovesPast};
 ghost use Rattle.qpack_base.specs.Integers.{ReadsInteger, ReadsGroups};
 ghost use Rattle.qpack_base.specs.declared.prefix_int.Error.TheVariants.{Overflow, UnexpectedEnd as Truncated};
@@ -40,9 +42,11 @@ pub fn decode(size: u8, buf: &mut Cursor) -> Result<(u8, u64), Error>
     requires least { 1 ≤ size }
     requires most { size ≤ 8 }
     // What is read is spelled so, and the cursor moves past exactly it.
-    ensures found { IfOk result (λ x. (text : List ℕ) × SpellsInteger size text x.0 x.1 × MovesPast text buf.old buf.new) }
+    ensures found { IfOk result (λ x. (text : List ℕ) × SpellsInteger size text x.0 x.1
+        × MovesPast text buf.old buf.new) }
     // What is spelled so is read, whatever follows.
-    ensures only { (text rest : List ℕ) (flags value : ℕ) → SpellsInteger size text flags value → buf.old.rest ≡ text ++ rest →
+    ensures only { (text rest : List ℕ) (flags value : ℕ) → SpellsInteger size text flags value
+        → buf.old.rest ≡ text ++ rest →
         (result ≡ Ok (flags, value)) × MovesPast text buf.old buf.new }
     ensures overflow { (result ≡ Err Overflow) ↔ Begins (OverflowsInteger size) buf.old.rest }
     ensures truncated { (result ≡ Err Truncated) ↔ TruncatesInteger size buf.old.rest }
@@ -101,7 +105,8 @@ pub fn encode<A: Allocator>(
     requires most { size ≤ 8 }
     ensures ok { OnOk result (buf.new.items ≡ buf.old.items ++ written_integer size flags value) }
     ensures err { OnErr result (buf.new.items ≡ buf.old.items) }
-    ensures succeeds { vec_len buf.old + length (written_integer size flags value) ≤ vec_capacity buf.old → IsOk result }
+    ensures succeeds { vec_len buf.old + length (written_integer size flags value) ≤ vec_capacity buf.old
+        → IsOk result }
     ensures still { vec_len buf.old + length (written_integer size flags value) ≤ vec_capacity buf.old →
         vec_capacity buf.new ≡ vec_capacity buf.old }
     ensures capacity { vec_capacity buf.old ≤ vec_capacity buf.new }
@@ -144,7 +149,7 @@ fn power(bits: u8) -> u64
 }
 
 /// How many groups of seven bits the value takes.
-#[tactic(auto, using(qpack_spec::proofs::WrittenIntegers::groups_last, qpack_spec::proofs::WrittenIntegers::groups_more))]
+#[tactic(auto, using(crate::proofs::WrittenGroups::written_steps))]
 fn groups_len(value: u64) -> usize
     ensures len { result ≡ length (written_groups 9 value) }
     ensures few { result ≤ 10 }
@@ -159,7 +164,7 @@ fn groups_len(value: u64) -> usize
 }
 
 /// Appends the value in groups of seven bits, the least first, into the free room.
-#[tactic(auto, using(qpack_spec::proofs::WrittenIntegers::groups_last, qpack_spec::proofs::WrittenIntegers::groups_more))]
+#[tactic(auto, using(crate::proofs::WrittenGroups::written_steps))]
 fn put_groups<A: Allocator>(value: u64, buf: &mut Vec<u8, A>)
     requires { vec_len buf.old + length (written_groups 9 value) ≤ vec_capacity buf.old }
     ensures items { buf.new.items ≡ buf.old.items ++ written_groups 9 value }

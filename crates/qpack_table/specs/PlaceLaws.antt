@@ -2,7 +2,8 @@
 use Rattle.std.specs.Prelude.{◌≡◌, ℕ, ◌↔◌, slice_get, IsSome, Err}
 use Rattle.qpack_spec.specs.Window.{Window, entry, recent}
 use Rattle.qpack_spec.specs.Reading.{BelowWindow, AboveWindow, BehindBase, or_fault, relative_field, post_base_field}
-use Rattle.qpack_table.specs.Places.{places_of, IsLive, IsPlaceOf, IsNotDropped, recent_index, relative_index, post_base_index}
+use Rattle.qpack_table.specs.Places.{places_of, IsLive, IsPlaceOf, IsNotDropped, recent_index, relative_index}
+use Rattle.qpack_table.specs.Places.{post_base_index}
 
 -- an absolute index has an entry exactly where it is live, and the entry stands at its place (RFC 9204, section 3.2.4)
 abbrev pub EntriesStandAtPlaces : Type 0
@@ -19,7 +20,8 @@ RecentEntriesAreNamed = (w : Window) (relative : ℕ) → recent w relative ≡ 
 abbrev pub RelativeFieldsAreNamed : Type 0
 RelativeFieldsAreNamed =
     (w : Window) (base relative : ℕ)
-    → ((place : ℕ) → IsNotDropped (places_of w) base relative → IsPlaceOf (places_of w) (relative_index base relative) place
+    → ((place : ℕ) → IsNotDropped (places_of w) base relative
+    → IsPlaceOf (places_of w) (relative_index base relative) place
     → relative_field w base relative ≡ or_fault (slice_get w.live place) (AboveWindow place))
     × (¬ IsNotDropped (places_of w) base relative → relative_field w base relative ≡ Err (BelowWindow relative))
 

@@ -45,7 +45,8 @@ relative_index base relative = base - relative
 abbrev pub post_base_index : ℕ → ℕ → ℕ
 post_base_index base post_base = base + post_base + 1
 
--- what is tested of a relative index under a base: something is live, the index is at most the base, and the entry that it
+-- what is tested of a relative index under a base: something is live, the index is at most the base, and the entry
+-- that it
 -- names is not dropped. That the base is at most the total is not tested, so under a greater one it may name none
 -- (section 3.2.5)
 abbrev pub IsNotDropped : Places → ℕ → ℕ → Type 0

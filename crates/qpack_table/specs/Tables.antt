@@ -1,7 +1,9 @@
 -- The dynamic table as the code holds it.
-use Rattle.std.specs.Prelude.{◌≡◌, ℕ, ◌+◌, ◌≤◌, ◌<◌, ◌^◌, ◌⊎◌, ⊤, Bool, if◌then◌else◌, List, map, filter, length, Some, IfSome, slice_get, Result, Ok, Err}
+use Rattle.std.specs.Prelude.{◌≡◌, ℕ, ◌+◌, ◌≤◌, ◌<◌, ◌^◌, ⊤, Bool, IsTrue, if◌then◌else◌, List, map, filter, length}
+use Rattle.std.specs.Prelude.{Option, Some, None, IfSome, slice_get, Result, Ok, Err}
 use Rattle.std.specs.Borrow.{Bor}
 use Rattle.qpack_base.specs.HeaderFields.{field_of}
+use Rattle.qpack_base.specs.Refusals.{IsRefusedFor}
 use Rattle.qpack_base.specs.declared.field.HeaderField.{HeaderField}
 use Rattle.qpack_spec.specs.Field.{Field, total_size}
 use Rattle.qpack_spec.specs.Table as table
@@ -10,7 +12,8 @@ use Rattle.qpack_spec.specs.Window.{Refusal, DoesNotFit, AboveMaximum}
 use Rattle.qpack_spec.specs.Reading.{Fault, BelowWindow, AboveWindow, BehindBase}
 use Rattle.qpack_table.specs.Places.{Places}
 use Rattle.qpack_table.specs.declared.dynamic.Error.{Error}
-use Rattle.qpack_table.specs.declared.dynamic.Error.TheVariants.{BadRelativeIndex, BadPostbaseIndex, BadIndex, MaxTableSizeReached, MaximumTableSizeTooLarge, MaxBlockedStreamsTooLarge, UnknownStreamId, NoTrackingData, InvalidTrackingCount, Memory}
+use Rattle.qpack_table.specs.declared.dynamic.Error.TheVariants.{BadRelativeIndex, BadPostbaseIndex, BadIndex}
+use Rattle.qpack_table.specs.declared.dynamic.Error.TheVariants.{MaxTableSizeReached, MaximumTableSizeTooLarge, Memory}
 use Rattle.qpack_table.specs.declared.dynamic.table.Entry.{Entry}
 use Rattle.qpack_table.specs.declared.dynamic.table.OpenBlock.{OpenBlock}
 
@@ -30,16 +33,19 @@ blocks_of bs = map (λ b. block_of b) bs
 
 -- how many blocks name an entry: the one in progress and the open ones
 abbrev pub uses : List ℕ → List table.OpenBlock → ℕ → ℕ
-uses named opened absolute = (if has_number absolute named then 1 else 0) + length (filter (λ b. has_number absolute b.entries) opened)
+uses named opened absolute = (if has_number absolute named then 1 else 0) + length
+    (filter (λ b. has_number absolute b.entries) opened)
 
 -- what the table keeps: its places are those of its entries, whose sizes are added up and fit the capacity, and each is
 -- counted by how many blocks name it; none names an entry that was never inserted
-pub record IsKept (places : Places) (live : List Entry) (size capacity : ℕ) (named : List ℕ) (opened : List table.OpenBlock) : Type 0 where
+pub record IsKept (places : Places) (live : List Entry) (size capacity : ℕ) (named : List ℕ)
+    (opened : List table.OpenBlock) : Type 0 where
   pub counted : places.total ≡ places.dropped + length live
   pub sum : size ≡ total_size (fields_in (entries_of live))
   pub fits : size ≤ capacity
   pub small : capacity < 2 ^ 30
-  pub used : (place : ℕ) (e : Entry) → slice_get live place ≡ Some e → e.uses ≡ uses named opened (places.dropped + place + 1)
+  pub used : (place : ℕ) (e : Entry) → slice_get live place ≡ Some e
+      → e.uses ≡ uses named opened (places.dropped + place + 1)
   pub behind : (absolute : ℕ) → places.total < absolute → uses named opened absolute ≡ 0
 
 -- whether the live entry at a place may not go
@@ -48,39 +54,35 @@ IsHeldAt t place held = IfSome (slice_get t.live place) (λ e. held ≡ is_held 
 
 -- ---- what the calls answer
 
+-- the fault of a lookup that an error stands for (section 3.2)
+abbrev pub lookup_fault_of : Error → Option Fault
+lookup_fault_of (BadRelativeIndex index) = Some (BelowWindow index)
+lookup_fault_of (BadPostbaseIndex index) = Some (BehindBase index)
+lookup_fault_of (BadIndex place) = Some (AboveWindow place)
+lookup_fault_of e = None
+
+-- the refusal of a change that an error stands for (sections 3.2.2 and 3.2.3)
+abbrev pub refusal_of : Error → Option Refusal
+refusal_of MaxTableSizeReached = Some DoesNotFit
+refusal_of MaximumTableSizeTooLarge = Some AboveMaximum
+refusal_of e = None
+
 -- a field that was looked for, or the refusal of the index
 abbrev pub LooksUp : Result (Bor HeaderField) Error → Result Field Fault → Type 0
 LooksUp (Ok field) read = read ≡ Ok (field_of field.now)
-LooksUp (Err (BadRelativeIndex index)) read = read ≡ Err (BelowWindow index)
-LooksUp (Err (BadPostbaseIndex index)) read = read ≡ Err (BehindBase index)
-LooksUp (Err (BadIndex place)) read = read ≡ Err (AboveWindow place)
-LooksUp (Err MaxTableSizeReached) read = ⊥
-LooksUp (Err MaximumTableSizeTooLarge) read = ⊥
-LooksUp (Err MaxBlockedStreamsTooLarge) read = ⊥
-LooksUp (Err (UnknownStreamId stream)) read = ⊥
-LooksUp (Err NoTrackingData) read = ⊥
-LooksUp (Err InvalidTrackingCount) read = ⊥
-LooksUp (Err Memory) read = ⊥
-
--- why a table refused a change, which then was none
-abbrev pub RefusesChange : Error → Result table.Table Refusal → Type 0
-RefusesChange (BadRelativeIndex index) read = ⊥
-RefusesChange (BadPostbaseIndex index) read = ⊥
-RefusesChange (BadIndex place) read = ⊥
-RefusesChange MaxTableSizeReached read = read ≡ Err DoesNotFit
-RefusesChange MaximumTableSizeTooLarge read = read ≡ Err AboveMaximum
-RefusesChange MaxBlockedStreamsTooLarge read = ⊥
-RefusesChange (UnknownStreamId stream) read = ⊥
-RefusesChange NoTrackingData read = ⊥
-RefusesChange InvalidTrackingCount read = ⊥
-RefusesChange Memory read = ⊥
+LooksUp (Err e) read = IsRefusedFor read (lookup_fault_of e)
 
 -- the table is what the definition makes of it, or as before where that is refused
 abbrev pub Changes : Result ⊤ Error → Result table.Table Refusal → table.Table → table.Table → Type 0
 Changes (Ok done) read old new = read ≡ Ok new
-Changes (Err e) read old new = RefusesChange e read × (new ≡ old)
+Changes (Err e) read old new = IsRefusedFor read (refusal_of e) × (new ≡ old)
 
--- the same of a change that takes memory
-abbrev pub ChangesWithMemory : Result ⊤ Error → Result table.Table Refusal → table.Table → table.Table → Type 0
-ChangesWithMemory (Ok done) read old new = read ≡ Ok new
-ChangesWithMemory (Err e) read old new = ((e ≡ Memory) ⊎ RefusesChange e read) × (new ≡ old)
+-- the same of a change that asks for memory where `asks` holds; refused that, the table is as before too
+abbrev pub ChangesWithMemory : Type 0 → Result ⊤ Error → Result table.Table Refusal → table.Table → table.Table → Type 0
+ChangesWithMemory asks (Err Memory) read old new = asks × (new ≡ old)
+ChangesWithMemory asks result read old new = Changes result read old new
+
+-- a field that is put would be inserted: the capacity is above 0, and there is room for the field (sections 2.1.1 and
+-- 3.2.2)
+abbrev pub IsInserted : table.Table → Field → Type 0
+IsInserted t f = (0 < t.capacity) × IsTrue (table.has_room t f)

@@ -1,6 +1,7 @@
 //! Laws of the indexes: they name the entries of the window that both ends share (RFC 9204, section 3.2).
 
-ghost use Rattle.qpack_table.specs.PlaceLaws.{EntriesStandAtPlaces, RecentEntriesAreNamed, RelativeFieldsAreNamed, PostBaseFieldsAreNamed};
+ghost use Rattle.qpack_table.specs.PlaceLaws.{EntriesStandAtPlaces, RecentEntriesAreNamed, RelativeFieldsAreNamed};
+ghost use Rattle.qpack_table.specs.PlaceLaws.{PostBaseFieldsAreNamed};
 
 /// An absolute index has an entry exactly where it is live, which stands at its place; and the indexes
 /// of instructions and of lines name the entries that a window gives for them.

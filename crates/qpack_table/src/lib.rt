@@ -4,6 +4,4 @@
 
 pub mod dynamic;
 pub mod laws;
-#[cfg(test)]
-mod tests;
 pub mod vas;

@@ -1,10 +1,23 @@
 //! The indexes of the dynamic table (RFC 9204, sections 3.2.4 to 3.2.6). The entries are a list that
 //! grows at one end and is dropped from the other; what is between is live. Here indexes are turned
 //! into places among the live entries, counted from 0 at the oldest. Absolute indexes begin at 1.
+//!
+//! After ten insertions, of which the first four are dropped, and under a base of 8:
+//!
+//! ```text
+//!                           |      dropped      |            live             |
+//! absolute index            |  1    2    3    4 |  5    6    7    8    9   10 |
+//! place                     |                   |  0    1    2    3    4    5 |
+//! relative, instruction     |                   |  5    4    3    2    1    0 |
+//! relative, line            |                   |  3    2    1    0           |
+//! post-base, line           |                   |                      0    1 |
+//! ```
 
 ghost use Rattle.std.specs.Prelude.{◌≡◌, ◌+◌, ◌^◌, ◌<◌, ◌≤◌, ◌↔◌, IsTrue, IsOk, IfOk, IfErr, IsSome, IfSome};
-ghost use Rattle.qpack_table.specs.Places.{IsLive, WasDropped, IsPlaceOf, IsNotDropped, live_count, recent_index, relative_index, post_base_index};
-ghost use Rattle.qpack_table.specs.declared.vas.Error.TheVariants.{RelativeIndex as NoRelative, PostbaseIndex as NoPostBase, Index as NoPlace};
+ghost use Rattle.qpack_table.specs.Places.{IsLive, WasDropped, IsPlaceOf, IsNotDropped, live_count, recent_index};
+ghost use Rattle.qpack_table.specs.Places.{relative_index, post_base_index};
+ghost use Rattle.qpack_table.specs.declared.vas.Error.TheVariants.{RelativeIndex as NoRelative};
+ghost use Rattle.qpack_table.specs.declared.vas.Error.TheVariants.{PostbaseIndex as NoPostBase, Index as NoPlace};
 
 use std::marker::Model;
 use thiserror::Error as ThisError;

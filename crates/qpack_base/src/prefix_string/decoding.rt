@@ -1,6 +1,7 @@
 //! Reading Huffman coded payloads (RFC 7541, section 5.2 and Appendix B).
 
-ghost use Rattle.std.specs.Prelude.{◌≡◌, ℕ, ◌+◌, ◌*◌, ◌/◌, ◌%◌, ◌^◌, ◌<◌, ◌≤◌, ◌-◌, List, [], length, slice_index, MatchOption};
+ghost use Rattle.std.specs.Prelude.{◌≡◌, ℕ, ◌+◌, ◌*◌, ◌/◌, ◌%◌, ◌^◌, ◌<◌, ◌≤◌, ◌-◌, List, [], length, slice_index};
+ghost use Rattle.std.specs.Prelude.{MatchOption};
 ghost use Rattle.std.specs.Iterator.{at_most};
 ghost use Rattle.qpack_spec.specs.Huffman.{bits_of_bytes, bytes_by_length, word_at};
 ghost use Rattle.qpack_base.specs.Payloads.{GivesItem, ReadsWord, bits_left, IsLoaded, IsFull, KeepsRest};
@@ -138,7 +139,8 @@ impl<'a> Bits<'a> {
         requires full { IsFull self.old }
         requires eight { 8 ≤ self.old.count }
         requires long { 254 ≤ self.old.loaded / 2 ^ (self.old.count - 8) }
-        ensures gives { ReadsWord (bits_left self.old) (bits_left self.new) result (word_at bytes_by_length 0 0 (bits_left self.old)) }
+        ensures gives { ReadsWord (bits_left self.old) (bits_left self.new) result
+            (word_at bytes_by_length 0 0 (bits_left self.old)) }
         ensures loaded { IsLoaded self.new }
     {
         let rows = long_words();

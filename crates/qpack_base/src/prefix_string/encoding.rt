@@ -1,6 +1,7 @@
 //! Writing Huffman coded payloads (RFC 7541, section 5.2 and Appendix B).
 
-ghost use Rattle.std.specs.Prelude.{◌≡◌, ◌≢◌, ◌+◌, ◌*◌, ◌%◌, ◌/◌, ◌-◌, ◌^◌, ◌<◌, ◌≤◌, ◌++◌, List, [], ℕ, IfOk, OnErr, length, min, vec_len, vec_capacity};
+ghost use Rattle.std.specs.Prelude.{◌≡◌, ◌≢◌, ◌+◌, ◌*◌, ◌%◌, ◌/◌, ◌-◌, ◌^◌, ◌<◌, ◌≤◌, ◌++◌, List, [], ℕ, IfOk, OnErr};
+ghost use Rattle.std.specs.Prelude.{length, min, vec_len, vec_capacity};
 ghost use Rattle.qpack_spec.specs.Huffman.{payload_of};
 ghost use Rattle.qpack_base.specs.WrittenPayloads.{AddsBits, AddsLastBits};
 

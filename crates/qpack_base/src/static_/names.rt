@@ -1,20 +1,65 @@
-//! The names of the static table, each with its places (RFC 9204, Appendix A).
+//! The names of the static table, each with its places (RFC 9204, Appendix A). They stand in three parts, since
+//! what a check takes grows faster than the references of a function.
 
-ghost use Rattle.qpack_base.specs.StaticFields.{AreNamesByLength, name_rows_at};
+ghost use Rattle.std.specs.Prelude.{◌-◌, ◌^◌, ◌≤◌, [], slice_index_or};
+ghost use Rattle.qpack_base.specs.StaticFields.{AreNamesOfLength, AreNamesBetween, names_at, name_rows_at};
 
 /// A name and all its places in the table, rising.
 pub(super) type Name = (&'static [u8], &'static [usize]);
 
-/// The names of each length, those of length 0 first.
-pub(super) fn names_by_length() -> &'static [&'static [Name]]
-    ensures { AreNamesByLength (name_rows_at result.now) }
+/// The names of this length, each with all its places, rising.
+#[tactic(auto, using(crate::proofs::StaticNames::names_there, crate::proofs::StaticNames::no_names_past))]
+pub(super) fn names_of_length(length: usize) -> &'static [Name]
+    ensures { AreNamesOfLength length (names_at result.now) }
 {
-    &NAMES
+    let (first, rows) = rows_with(length);
+    let Some(names) = rows.get(length - first) else {
+        return &[];
+    };
+    names
 }
 
-static NAMES: [&[Name]; 33] = [
+/// The part of the names in which those of this length stand, and the length of its first row.
+fn rows_with(length: usize) -> (usize, &'static [&'static [Name]])
+    ensures first { result.0 ≤ length }
+    ensures names { AreNamesOfLength length (slice_index_or (name_rows_at result.1.now) (length - result.0) []) }
+{
+    if length < 9 {
+        return (0, short_names());
+    }
+    if length < 16 {
+        return (9, middle_names());
+    }
+    (16, long_names())
+}
+
+/// The names of fewer than 9 bytes, those of each length in a row.
+fn short_names() -> &'static [&'static [Name]]
+    ensures { AreNamesBetween 0 9 (name_rows_at result.now) }
+{
+    &SHORT
+}
+
+/// The names of 9 to 15 bytes, those of each length in a row.
+fn middle_names() -> &'static [&'static [Name]]
+    ensures { AreNamesBetween 9 16 (name_rows_at result.now) }
+{
+    &MIDDLE
+}
+
+/// The names of 16 bytes and more, those of each length in a row.
+fn long_names() -> &'static [&'static [Name]]
+    ensures { AreNamesBetween 16 (2 ^ 64) (name_rows_at result.now) }
+{
+    &LONG
+}
+
+static SHORT: [&[Name]; 9] = [
+    // 0 bytes
     &[],
+    // 1 bytes
     &[],
+    // 2 bytes
     &[],
     // 3 bytes
     &[(b"age", &[2])],
@@ -48,6 +93,9 @@ static NAMES: [&[Name]; 33] = [
     ],
     // 8 bytes
     &[(b"if-range", &[89]), (b"location", &[12])],
+];
+
+static MIDDLE: [&[Name]; 7] = [
     // 9 bytes
     &[(b"expect-ct", &[87]), (b"forwarded", &[88])],
     // 10 bytes
@@ -57,6 +105,7 @@ static NAMES: [&[Name]; 33] = [
         (b"set-cookie", &[14]),
         (b"user-agent", &[95]),
     ],
+    // 11 bytes
     &[],
     // 12 bytes
     &[(
@@ -80,6 +129,9 @@ static NAMES: [&[Name]; 33] = [
         (b"x-forwarded-for", &[96]),
         (b"x-frame-options", &[97, 98]),
     ],
+];
+
+static LONG: [&[Name]; 17] = [
     // 16 bytes
     &[
         (b"content-encoding", &[42, 43]),
@@ -87,24 +139,29 @@ static NAMES: [&[Name]; 33] = [
     ],
     // 17 bytes
     &[(b"if-modified-since", &[8])],
+    // 18 bytes
     &[],
     // 19 bytes
     &[
         (b"content-disposition", &[3]),
         (b"timing-allow-origin", &[93]),
     ],
+    // 20 bytes
     &[],
+    // 21 bytes
     &[],
     // 22 bytes
     &[(b"x-content-type-options", &[61])],
     // 23 bytes
     &[(b"content-security-policy", &[85])],
+    // 24 bytes
     &[],
     // 25 bytes
     &[
         (b"strict-transport-security", &[56, 57, 58]),
         (b"upgrade-insecure-requests", &[94]),
     ],
+    // 26 bytes
     &[],
     // 27 bytes
     &[(b"access-control-allow-origin", &[35])],
@@ -120,6 +177,7 @@ static NAMES: [&[Name]; 33] = [
     ],
     // 30 bytes
     &[(b"access-control-request-headers", &[80])],
+    // 31 bytes
     &[],
     // 32 bytes
     &[(b"access-control-allow-credentials", &[73, 74])],

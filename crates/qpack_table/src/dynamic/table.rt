@@ -1,14 +1,18 @@
 //! The table: what it holds, its lookups, what is put into it and its capacity (RFC 9204, section 3.2).
 
-ghost use Rattle.std.specs.Prelude.{◌≡◌, ◌+◌, ◌-◌, ◌^◌, ◌<◌, ◌≤◌, Some, None, IfOk, IfErr, OnOk, OnErr, length, drop, slice_get};
+ghost use Rattle.std.specs.Prelude.{◌≡◌, ◌+◌, ◌-◌, ◌^◌, ◌<◌, ◌≤◌, Some, None, IfOk, IfErr, OnOk, OnErr, length, drop};
+ghost use Rattle.std.specs.Prelude.{slice_get};
 ghost use Rattle.std.specs.VecDeque.{deque_capacity};
 ghost use Rattle.qpack_base.specs.HeaderFields.{field_of};
-ghost use Rattle.qpack_spec.specs.Field.{field_size, total_size};
-ghost use Rattle.qpack_spec.specs.Table.{empty_table, count, window, fields_in, can_drop, evicted_for, with_entry, put, resized};
+ghost use Rattle.qpack_spec.specs.Field.{Field, field_size, total_size};
+ghost use Rattle.qpack_spec.specs.Table.{empty_table, count, window, fields_in, can_drop, evicted_for, with_entry};
+ghost use Rattle.qpack_spec.specs.Table.{put, resized};
 ghost use Rattle.qpack_spec.specs.Reading.{relative_field, post_base_field};
 ghost use Rattle.qpack_spec.specs.Window.{excess, recent, greatest_capacity};
-ghost use Rattle.qpack_table.specs.Tables.{IsHeldAt, LooksUp, entries_of, Changes, ChangesWithMemory};
-ghost use Rattle.qpack_table.specs.declared.dynamic.Error.TheVariants.{BadRelativeIndex, BadIndex, MaxBlockedStreamsTooLarge};
+ghost use Rattle.qpack_table.specs.Places.{places_of};
+ghost use Rattle.qpack_table.specs.Tables.{IsHeldAt, LooksUp, IsInserted, entries_of, Changes, ChangesWithMemory};
+ghost use Rattle.qpack_table.specs.declared.dynamic.Error.TheVariants.{BadRelativeIndex, BadIndex};
+ghost use Rattle.qpack_table.specs.declared.dynamic.Error.TheVariants.{MaxBlockedStreamsTooLarge};
 
 use crate::dynamic::Error;
 use crate::vas::VirtualAddressSpace;
@@ -83,7 +87,8 @@ impl Model for DynamicTable {
       waiting = a.waiting.items;
     } };
 
-    ghost invariant = { λ a. IsKept a.vas a.entries.items a.mem_size a.max_mem_size a.named.items (blocks_of a.open_blocks.items) };
+    ghost invariant = { λ a. IsKept a.vas a.entries.items a.mem_size a.max_mem_size a.named.items
+        (blocks_of a.open_blocks.items) };
 }
 
 impl DynamicTable {
@@ -112,9 +117,10 @@ impl DynamicTable {
         self.vas.total_inserted()
     }
 
-    /// The capacity in bytes.
+    /// The capacity in bytes, which is below 2^30.
     pub fn max_mem_size(&self) -> usize
-        ensures { result ≡ self.now.capacity }
+        ensures exact { result ≡ self.now.capacity }
+        ensures most { result < 2 ^ 30 }
     {
         self.max_mem_size
     }
@@ -144,7 +150,7 @@ impl DynamicTable {
         ensures found { IfOk result (λ field. recent (window self.now) index ≡ Some (field_of field.now)) }
         ensures refused { IfErr result (λ e. (e ≡ BadRelativeIndex index) × (recent (window self.now) index ≡ None)) }
     {
-        let place = self.vas.relative(index)?;
+        let place = self.places().relative(index)?;
         self.field_at(place)
     }
 
@@ -152,7 +158,7 @@ impl DynamicTable {
     fn get_relative_base(&self, base: usize, index: usize) -> Result<&HeaderField, Error>
         ensures { LooksUp result (relative_field (window self.now) base index) }
     {
-        let place = self.vas.relative_base(base, index)?;
+        let place = self.places().relative_base(base, index)?;
         self.field_at(place)
     }
 
@@ -160,14 +166,22 @@ impl DynamicTable {
     fn get_postbase(&self, base: usize, index: usize) -> Result<&HeaderField, Error>
         ensures { LooksUp result (post_base_field (window self.now) base index) }
     {
-        let place = self.vas.post_base(base, index)?;
+        let place = self.places().post_base(base, index)?;
         self.field_at(place)
+    }
+
+    /// The address space, which is that of what both ends share.
+    fn places(&self) -> &VirtualAddressSpace
+        ensures { result.now ≡ places_of (window self.now) }
+    {
+        &self.vas
     }
 
     /// The live field at a place.
     fn field_at(&self, place: usize) -> Result<&HeaderField, Error>
         ensures found { IfOk result (λ field. slice_get (fields_in self.now.live) place ≡ Some (field_of field.now)) }
-        ensures refused { IfErr result (λ e. (e ≡ BadIndex place) × (slice_get (fields_in self.now.live) place ≡ None)) }
+        ensures refused { IfErr result (λ e. (e ≡ BadIndex place)
+            × (slice_get (fields_in self.now.live) place ≡ None)) }
     {
         match self.entries.get(place) {
             Some(entry) => Ok(&entry.field),
@@ -186,6 +200,15 @@ impl DynamicTable {
             gone += 1;
         }
         gone
+    }
+
+    /// How many of the oldest entries go before a field of so many bytes stands (RFC 9204, section 3.2.2).
+    fn evicted_for(&self, size: usize) -> usize
+        requires fits { size ≤ self.now.capacity }
+        ensures exact { (field : Field) → field_size field ≡ size → result ≡ evicted_for self.now field }
+        ensures within { result ≤ length self.now.live }
+    {
+        self.excess(self.max_mem_size() - size)
     }
 
     /// Whether the live entry at a place may not go: a block names it, or it was sent and is not known to be
@@ -238,21 +261,25 @@ impl DynamicTable {
 
     /// Puts a field, as a decoder does: entries that have to go are gone then (RFC 9204, section 3.2.2). It is
     /// passed over at capacity 0, behind the 2^62th insertion and where a held entry would have to go, and
-    /// refused if it is larger than the capacity. Refused, nothing changes.
+    /// refused if it is larger than the capacity. Only a field that is inserted takes memory. Refused, nothing
+    /// changes.
+    #[tactic(auto, using(crate::proofs::Changes::put_without_entry))]
     pub fn put(&mut self, field: HeaderField) -> Result<(), Error>
-        ensures { ChangesWithMemory result (put self.old (field_of field)) self.old self.new }
+        ensures { ChangesWithMemory (IsInserted self.old (field_of field)) result
+            (put self.old (field_of field)) self.old self.new }
     {
-        if self.max_mem_size == 0 {
+        let capacity = self.max_mem_size();
+        if capacity == 0 {
             return Ok(());
         }
         let size = field.mem_size();
-        if size > self.max_mem_size {
+        if size > capacity {
             return Err(Error::MaxTableSizeReached);
         }
         if self.total_inserted() >= MOST_INSERTIONS {
             return Ok(());
         }
-        let gone = self.excess(self.max_mem_size - size);
+        let gone = self.evicted_for(size);
         if !self.can_drop(gone) {
             return Ok(());
         }
@@ -322,7 +349,8 @@ fn drop_oldest(entries: &mut VecDeque<Entry>, vas: &mut VirtualAddressSpace, gon
     ensures left { entries.new.items ≡ drop gone entries.old.items }
     ensures capacity { deque_capacity entries.new ≡ deque_capacity entries.old }
     ensures dropped { vas.new ≡ record vas.old { dropped = vas.old.dropped + gone } }
-    ensures freed { result + total_size (drop gone (fields_in (entries_of entries.old.items))) ≡ total_size (fields_in (entries_of entries.old.items)) }
+    ensures freed { result + total_size (drop gone (fields_in (entries_of entries.old.items)))
+        ≡ total_size (fields_in (entries_of entries.old.items)) }
 {
     let mut freed = 0;
     for _ in 0..gone {

@@ -5,8 +5,14 @@ use Rattle.qpack_base.proofs.prefix_int.encode.Goals as goal
 
 pub overflow_cast-high : goal.overflow_cast-high
 overflow_cast-high g c =
-    rw (c.power.ensures, c.power-end.ensures) (omega (arith, byte_fits c.args.size c.from.result c.args.value (omega arith) (omega (arith, c.power-end.ensures))))
+    rw (c.power.ensures, c.power-end.ensures) (omega (
+      arith,
+      byte_fits c.args.size c.from.result c.args.value (omega arith) (omega (arith, c.power-end.ensures)),
+    ))
 
 pub overflow_cast-high-2 : goal.overflow_cast-high-2
 overflow_cast-high-2 g c =
-    rw (c.power.ensures, c.power-end.ensures) (omega (arith, byte_fits c.args.size c.from.result (2 ^ c.args.size - 1) (omega arith) (omega (arith, pow_pos c.args.size))))
+    rw (c.power.ensures, c.power-end.ensures) (omega (
+      arith,
+      byte_fits c.args.size c.from.result (2 ^ c.args.size - 1) (omega arith) (omega (arith, pow_pos c.args.size)),
+    ))

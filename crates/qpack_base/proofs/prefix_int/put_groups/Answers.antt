@@ -8,11 +8,11 @@ loop-left-preserved g c =
     let left = c.loop-left.left in
     let more = groups_more left (omega (arith, c.loop-left.auto.left-fits)) c.loop-left-test.true in
     let pushed = c.push_reserved.ensures in
-    let group : List ℕ = (128 + left % 128) ∷ [] in (
-      ap (λ (l : List ℕ). l ++ written_groups 9 (left / 128)) pushed.items
+    let group : List ℕ = (128 + left % 128) ∷ [] in record {
+      items = ap (λ (l : List ℕ). l ++ written_groups 9 (left / 128)) pushed.items
           ∙ append_assoc c.loop-left.buf.items group (written_groups 9 (left / 128))
           ∙ ap (λ (l : List ℕ). c.loop-left.buf.items ++ l) (sym more)
-          ∙ c.loop-left.invariant.0,
-      omega (arith, c.loop-left.invariant.1, ap length more, pushed.len, pushed.capacity),
-      pushed.capacity ∙ c.loop-left.invariant.2,
-    )
+          ∙ c.loop-left.invariant.items;
+      room = omega (arith, c.loop-left.invariant.room, ap length more, pushed.len, pushed.capacity);
+      capacity = pushed.capacity ∙ c.loop-left.invariant.capacity;
+    }

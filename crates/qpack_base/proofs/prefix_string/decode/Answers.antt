@@ -1,4 +1,5 @@
-use Rattle.qpack_base.proofs.StringReaders.{string_found, string_only, string_overflows, string_truncates, string_faulty, string_refused}
+use Rattle.qpack_base.proofs.StringReaders.{string_found, string_only, string_overflows, string_truncates}
+use Rattle.qpack_base.proofs.StringReaders.{string_faulty, string_refused}
 use Rattle.qpack_base.proofs.WholePayloads.{string_memory}
 use Rattle.qpack_base.proofs.prefix_string.decode.Goals as goal
 

@@ -1,4 +1,5 @@
-use Rattle.qpack_table.proofs.Entries.{live_is_there, there_is_live, at_place, recent_is_entry, relative_at_place, relative_dropped, post_base_is_entry}
+use Rattle.qpack_table.proofs.Entries.{live_is_there, there_is_live, at_place, recent_is_entry, relative_at_place}
+use Rattle.qpack_table.proofs.Entries.{relative_dropped, post_base_is_entry}
 use Rattle.qpack_table.proofs.laws.indexes_name_entries.Goals as goal
 
 pub returns-clause-places : goal.returns-clause-places

@@ -10,13 +10,20 @@ loop-byte-preserved c =
     let byte : get_or text i 0 < 256 = omega (arith, c.from.ensures) in
     let entry = c.words-words.ensures.at (get_or text i 0) byte in
     let bits = c.from-bits.ensures ∙ ap (λ (b : ℕ). (get_or c.words-words.result.now b (0, 0)).0) c.from.ensures in
-    let counted = count_more text i loop.bytes loop.bits c.from-bits.result _ c.loop-byte-test.true loop.invariant.1 entry bits in
-    (c.words-words.ensures, subst (λ (n : ℕ). IsCounted text (i + 1) n ((loop.bits + c.from-bits.result) % 8)) (sym c.saturating_add-bytes.ensures) counted)
+    let counted =
+    count_more text i loop.bytes loop.bits c.from-bits.result _ c.loop-byte-test.true loop.invariant.1 entry bits in (
+      c.words-words.ensures,
+      subst (λ (n : ℕ). IsCounted text (i + 1) n ((loop.bits + c.from-bits.result) % 8))
+          (sym c.saturating_add-bytes.ensures) counted,
+    )
 
 pub returns-then-bits-eq0 : goal.returns-then-bits-eq0
-returns-then-bits-eq0 c = count_even c.args.text.now c.loop-byte.byte-index c.loop-byte.bytes c.loop-byte.bits c.loop-byte-test.false c.loop-byte.invariant.1 c.if-bits-eq0.true
+returns-then-bits-eq0 c =
+    count_even c.args.text.now c.loop-byte.byte-index c.loop-byte.bytes c.loop-byte.bits c.loop-byte-test.false
+    c.loop-byte.invariant.1 c.if-bits-eq0.true
 
 pub returns : goal.returns
 returns c =
     c.saturating_add.ensures
-    ∙ count_odd c.args.text.now c.loop-byte.byte-index c.loop-byte.bytes c.loop-byte.bits c.loop-byte-test.false c.loop-byte.invariant.1 c.if-bits-eq0.false
+    ∙ count_odd c.args.text.now c.loop-byte.byte-index c.loop-byte.bytes c.loop-byte.bits c.loop-byte-test.false
+    c.loop-byte.invariant.1 c.if-bits-eq0.false

@@ -4,12 +4,13 @@ use Rattle.qpack_base.proofs.AddedBits.{HasAdded}
 use Rattle.qpack_base.proofs.prefix_string.encoding.put_last.Given as goal
 
 abbrev pub invariant-loop-left : goal.invariant-loop-left
-invariant-loop-left g l =
-    HasAdded (bits_of (l.count + l.ones) l.filled) l.left l.filled l.initial.buf.items l.buf.items
-    × (l.left % 8 ≡ 0)
-    × (l.left ≤ l.count + l.ones)
-    × (vec_len l.buf + l.left / 8 ≤ vec_capacity l.buf)
-    × (vec_capacity l.buf ≡ vec_capacity l.initial.buf)
+invariant-loop-left g l = record {
+  added : HasAdded (bits_of (l.count + l.ones) l.filled) l.left l.filled l.initial.buf.items l.buf.items;
+  whole : l.left % 8 ≡ 0;
+  most : l.left ≤ l.count + l.ones;
+  room : vec_len l.buf + l.left / 8 ≤ vec_capacity l.buf;
+  capacity : vec_capacity l.buf ≡ vec_capacity l.initial.buf;
+}
 
 abbrev pub decreases-loop-left : goal.decreases-loop-left
 decreases-loop-left g l = l.left

@@ -2,12 +2,20 @@ use Rattle.std.proofs.Common.{◌≡◌, ℕ, ◌+◌, ◌-◌, ◌*◌, ◌%◌
 use Rattle.std.proofs.Math.Pow.{pow_mono}
 use Rattle.qpack_spec.proofs.WrittenPayloads.{payload_length}
 use Rattle.qpack_base.proofs.AddedBits.{nothing_added}
-use Rattle.qpack_base.proofs.PutWords.{next_word, word_added, word_fits, word_counted, word_room, four_fit, four_added, cut_fits, all_put, all_bits, bytes_from}
+use Rattle.qpack_base.proofs.PutWords.{next_word, word_added, word_fits, word_counted, word_room, four_fit}
+use Rattle.qpack_base.proofs.PutWords.{four_added, cut_fits, all_put, all_bits, bytes_from}
 use Rattle.qpack_base.proofs.prefix_string.encoding.put_payload.Goals as goal
 use Rattle.qpack_base.proofs.prefix_string.encoding.put_payload.Goals.{then-count-ge32, else-count-ge32}
 
 pub loop-byte-init : goal.loop-byte-init
-loop-byte-init g c = (nothing_added c.args.buf.now.items, c.words-words.ensures, omega arith, omega arith, refl, refl)
+loop-byte-init g c = record {
+  added = nothing_added c.args.buf.now.items;
+  words = c.words-words.ensures;
+  fits = omega arith;
+  few = omega arith;
+  counted = refl;
+  capacity = refl;
+}
 
 pub overflow_mul-loaded : goal.overflow_mul-loaded
 overflow_mul-loaded g c =
@@ -18,9 +26,15 @@ overflow_mul-loaded g c =
     let entry = c.words-words.ensures.at (get_or text i 0) byte in
     let bits = c.from-bits.ensures ∙ ap (λ (b : ℕ). (get_or c.words-words.result.now b (0, 0)).0) c.from.ensures in
     let word = (get_or c.words-words.result.now (get_or text i 0) (0, 0)).1 in
-    let next = next_word text i c.from-bits.result c.power.result word _ c.loop-byte-test.true entry bits refl c.power.ensures in
-    let few : loop.count + c.from-bits.result ≤ 61 = omega (arith, next.most, loop.invariant.3) in
-    omega (arith, word_fits text i c.from-bits.result c.power.result word loop.count loop.loaded next loop.invariant.2, pow_mono few)
+    let next =
+    next_word text i c.from-bits.result c.power.result word _ c.loop-byte-test.true entry bits refl
+    c.power.ensures in
+    let few : loop.count + c.from-bits.result ≤ 61 = omega (arith, next.most, loop.invariant.few) in
+    omega (
+      arith,
+      word_fits text i c.from-bits.result c.power.result word loop.count loop.loaded next loop.invariant.fits,
+      pow_mono few,
+    )
 
 pub put_four-requires-clause-fits : goal.put_four-requires-clause-fits
 put_four-requires-clause-fits g c =
@@ -30,11 +44,16 @@ put_four-requires-clause-fits g c =
     let byte : get_or text i 0 < 256 = omega (arith, c.from.ensures) in
     let entry = c.words-words.ensures.at (get_or text i 0) byte in
     let bits = c.from-bits.ensures ∙ ap (λ (b : ℕ). (get_or c.words-words.result.now b (0, 0)).0) c.from.ensures in
-    let word = c.from-in-loop-byte.ensures ∙ ap (λ (b : ℕ). (get_or c.words-words.result.now b (0, 0)).1) c.from.ensures in
-    let next = next_word text i c.from-bits.result c.power.result c.from-in-loop-byte.result _ c.loop-byte-test.true entry bits word c.power.ensures in
+    let word = c.from-in-loop-byte.ensures ∙ ap (λ (b : ℕ).
+    (get_or c.words-words.result.now b (0, 0)).1) c.from.ensures in
+    let next =
+    next_word text i c.from-bits.result c.power.result c.from-in-loop-byte.result _ c.loop-byte-test.true entry
+    bits word c.power.ensures in
     let count = loop.count + c.from-bits.result in
     let m : count ≡ 32 + (count - 32) = omega (arith, c.if-count-ge32.true) in
-    four_fit count _ (count - 32) c.power-then-count-ge32.result (word_fits text i c.from-bits.result c.power.result c.from-in-loop-byte.result loop.count loop.loaded next loop.invariant.2) m c.power-then-count-ge32.ensures
+    four_fit count _ (count - 32) c.power-then-count-ge32.result
+    (word_fits text i c.from-bits.result c.power.result c.from-in-loop-byte.result loop.count loop.loaded next
+    loop.invariant.fits) m c.power-then-count-ge32.ensures
 
 pub put_four-requires-clause-room : goal.put_four-requires-clause-room
 put_four-requires-clause-room g c =
@@ -44,9 +63,20 @@ put_four-requires-clause-room g c =
     let byte : get_or text i 0 < 256 = omega (arith, c.from.ensures) in
     let entry = c.words-words.ensures.at (get_or text i 0) byte in
     let bits = c.from-bits.ensures ∙ ap (λ (b : ℕ). (get_or c.words-words.result.now b (0, 0)).0) c.from.ensures in
-    let word = c.from-in-loop-byte.ensures ∙ ap (λ (b : ℕ). (get_or c.words-words.result.now b (0, 0)).1) c.from.ensures in
-    let next = next_word text i c.from-bits.result c.power.result c.from-in-loop-byte.result _ c.loop-byte-test.true entry bits word c.power.ensures in
-    omega (arith, word_room text i c.from-bits.result c.power.result c.from-in-loop-byte.result next, loop.invariant.4, loop.invariant.5, c.if-count-ge32.true, c.requires, payload_length text)
+    let word = c.from-in-loop-byte.ensures ∙ ap (λ (b : ℕ).
+    (get_or c.words-words.result.now b (0, 0)).1) c.from.ensures in
+    let next =
+    next_word text i c.from-bits.result c.power.result c.from-in-loop-byte.result _ c.loop-byte-test.true entry
+    bits word c.power.ensures in
+    omega (
+      arith,
+      word_room text i c.from-bits.result c.power.result c.from-in-loop-byte.result next,
+      loop.invariant.counted,
+      loop.invariant.capacity,
+      c.if-count-ge32.true,
+      c.requires,
+      payload_length text,
+    )
 
 pub loop-byte-preserved : goal.loop-byte-preserved
 loop-byte-preserved g c =
@@ -57,35 +87,53 @@ loop-byte-preserved g c =
     let byte : get_or text i 0 < 256 = omega (arith, c.from.ensures) in
     let entry = c.words-words.ensures.at (get_or text i 0) byte in
     let bits = c.from-bits.ensures ∙ ap (λ (b : ℕ). (get_or c.words-words.result.now b (0, 0)).0) c.from.ensures in
-    let word = c.from-in-loop-byte.ensures ∙ ap (λ (b : ℕ). (get_or c.words-words.result.now b (0, 0)).1) c.from.ensures in
-    let next = next_word text i c.from-bits.result c.power.result c.from-in-loop-byte.result _ c.loop-byte-test.true entry bits word c.power.ensures in
-    let added = word_added text i c.from-bits.result c.power.result c.from-in-loop-byte.result loop.count loop.loaded old loop.buf.items next loop.invariant.0 in
-    let fits = word_fits text i c.from-bits.result c.power.result c.from-in-loop-byte.result loop.count loop.loaded next loop.invariant.2 in
+    let word = c.from-in-loop-byte.ensures ∙ ap (λ (b : ℕ).
+    (get_or c.words-words.result.now b (0, 0)).1) c.from.ensures in
+    let next =
+    next_word text i c.from-bits.result c.power.result c.from-in-loop-byte.result _ c.loop-byte-test.true entry
+    bits word c.power.ensures in
+    let added =
+    word_added text i c.from-bits.result c.power.result c.from-in-loop-byte.result loop.count loop.loaded old
+    loop.buf.items next loop.invariant.added in
+    let fits =
+    word_fits text i c.from-bits.result c.power.result c.from-in-loop-byte.result loop.count loop.loaded next
+    loop.invariant.fits in
     let counted = word_counted text i c.from-bits.result c.power.result c.from-in-loop-byte.result next in
     elim c.if-count-ge32.branch [
       | then-count-ge32 w ↦
           let count = loop.count + c.from-bits.result in
           let m : count ≡ 32 + (count - 32) = omega (arith, w.if-count-ge32.true) in
-          let left = ap (λ (p : ℕ). (loop.loaded * c.power.result + c.from-in-loop-byte.result) % p) w.power-loaded.ensures in
-          rw (w.buf-is, w.loaded-is, w.count-is) (
-            four_added _ count _ (count - 32) w.power-then-count-ge32.result _ old loop.buf.items w.put_four.new.buf.items added m w.power-then-count-ge32.ensures left w.put_four.ensures.items,
-            c.words-words.ensures,
-            cut_fits _ (count - 32) _ left,
-            omega (arith, loop.invariant.3, next.most),
-            omega (arith, loop.invariant.4, counted, w.put_four.ensures.len, w.if-count-ge32.true),
-            w.put_four.ensures.capacity ∙ loop.invariant.5,
-          )
+          let left =
+          ap (λ (p : ℕ). (loop.loaded * c.power.result + c.from-in-loop-byte.result) % p) w.power-loaded.ensures in
+          rw (w.buf-is, w.loaded-is, w.count-is) (record {
+            added = four_added _ count _ (count - 32) w.power-then-count-ge32.result _ old loop.buf.items
+                w.put_four.new.buf.items added m w.power-then-count-ge32.ensures left w.put_four.ensures.items;
+            words = c.words-words.ensures;
+            fits = cut_fits _ (count - 32) _ left;
+            few = omega (arith, loop.invariant.few, next.most);
+            counted = omega (arith, loop.invariant.counted, counted, w.put_four.ensures.len, w.if-count-ge32.true);
+            capacity = w.put_four.ensures.capacity ∙ loop.invariant.capacity;
+          })
       | else-count-ge32 w ↦
-          rw (w.buf-is, w.loaded-is, w.count-is) (added, c.words-words.ensures, fits, omega (arith, w.if-count-ge32.false), omega (arith, loop.invariant.4, counted), loop.invariant.5)
+          rw (w.buf-is, w.loaded-is, w.count-is) (record {
+            added = added;
+            words = c.words-words.ensures;
+            fits = fits;
+            few = omega (arith, w.if-count-ge32.false);
+            counted = omega (arith, loop.invariant.counted, counted);
+            capacity = loop.invariant.capacity;
+          })
     ]
 
 pub put_last-requires-clause-room : goal.put_last-requires-clause-room
 put_last-requires-clause-room g c =
     let loop = c.loop-byte in
     let all = all_bits c.args.text.now loop.byte-index c.loop-byte-test.false in
-    omega (arith, all, loop.invariant.4, loop.invariant.5, c.requires, payload_length c.args.text.now)
+    omega (arith, all, loop.invariant.counted, loop.invariant.capacity, c.requires, payload_length c.args.text.now)
 
 pub returns-clause-items : goal.returns-clause-items
 returns-clause-items g c =
     let loop = c.loop-byte in
-    all_put c.args.text.now loop.byte-index loop.count loop.loaded c.args.buf.now.items loop.buf.items c.put_last.new.buf.items (bytes_from c.args.text.now (λ i. omega (arith, c.type_inv.text i))) c.loop-byte-test.false loop.invariant.0 c.put_last.ensures.items
+    all_put c.args.text.now loop.byte-index loop.count loop.loaded c.args.buf.now.items loop.buf.items
+    c.put_last.new.buf.items (bytes_from c.args.text.now
+    (λ i. omega (arith, c.type_inv.text i))) c.loop-byte-test.false loop.invariant.added c.put_last.ensures.items

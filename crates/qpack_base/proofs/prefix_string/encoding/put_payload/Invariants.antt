@@ -5,10 +5,12 @@ use Rattle.qpack_base.proofs.AddedBits.{HasAdded}
 use Rattle.qpack_base.proofs.prefix_string.encoding.put_payload.Given as goal
 
 abbrev pub invariant-loop-byte : goal.invariant-loop-byte
-invariant-loop-byte g l =
-    HasAdded (bits_of_text (take l.byte-index l.text)) l.count l.loaded l.initial.buf.items l.buf.items
-    × AreWords l.words
-    × (l.loaded < 2 ^ l.count)
-    × (l.count < 32)
-    × (8 * vec_len l.buf + l.count ≡ 8 * vec_len l.initial.buf + length (bits_of_text (take l.byte-index l.text)))
-    × (vec_capacity l.buf ≡ vec_capacity l.initial.buf)
+invariant-loop-byte g l = record {
+  added : HasAdded (bits_of_text (take l.byte-index l.text)) l.count l.loaded l.initial.buf.items l.buf.items;
+  words : AreWords l.words;
+  fits : l.loaded < 2 ^ l.count;
+  few : l.count < 32;
+  counted : 8 * vec_len l.buf + l.count
+      ≡ 8 * vec_len l.initial.buf + length (bits_of_text (take l.byte-index l.text));
+  capacity : vec_capacity l.buf ≡ vec_capacity l.initial.buf;
+}

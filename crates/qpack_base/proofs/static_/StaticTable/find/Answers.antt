@@ -8,7 +8,9 @@ pub returns-clause-exact : goal.returns-clause-exact
 returns-clause-exact c = search (rules, place_is_first)
 
 pub returns-clause-found : goal.returns-clause-found
-returns-clause-found c = field_found (field_of c.args.field.now) c.place_of_value.result (search (rules, place_is_first))
+returns-clause-found c = field_found (field_of c.args.field.now) c.place_of_value.result
+    (search (rules, place_is_first))
 
 pub returns-clause-none : goal.returns-clause-none
-returns-clause-none c = field_missing (field_of c.args.field.now) c.place_of_value.result (search (rules, place_is_first))
+returns-clause-none c = field_missing (field_of c.args.field.now) c.place_of_value.result
+    (search (rules, place_is_first))

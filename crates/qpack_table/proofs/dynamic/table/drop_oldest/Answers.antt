@@ -7,14 +7,19 @@ use Rattle.qpack_table.proofs.dynamic.table.drop_oldest.Goals as goal
 
 pub overflow_add-freed : goal.overflow_add-freed
 overflow_add-freed c =
-    let one = shed c.args.entries.now.items c.loop.entries.items c.loop.counter _ (field_size (field_of c.in-Some.entry.field)) c.in-Some.entry c.pop_front.new.self.items c.loop.invariant.items refl c.in-Some.ensures.items refl in
+    let one = shed c.args.entries.now.items c.loop.entries.items c.loop.counter _
+    (field_size (field_of c.in-Some.entry.field)) c.in-Some.entry c.pop_front.new.self.items
+    c.loop.invariant.items refl c.in-Some.ensures.items refl in
     omega (arith, one.fits, c.loop.invariant.freed, c.requires.small)
 
 pub loop-preserved : goal.loop-preserved
 loop-preserved c =
     let i = c.loop.invariant in
-    let one = shed c.args.entries.now.items c.loop.entries.items c.loop.counter _ (field_size (field_of c.in-Some.entry.field)) c.in-Some.entry c.pop_front.new.self.items i.items refl c.in-Some.ensures.items refl in
-    let exact : c.mem_size-freed.result ≡ field_size (field_of c.in-Some.entry.field) = omega (arith, one.fits, i.freed, c.requires.small) in
+    let one = shed c.args.entries.now.items c.loop.entries.items c.loop.counter _
+    (field_size (field_of c.in-Some.entry.field)) c.in-Some.entry c.pop_front.new.self.items i.items refl
+    c.in-Some.ensures.items refl in
+    let exact : c.mem_size-freed.result ≡ field_size (field_of c.in-Some.entry.field) =
+    omega (arith, one.fits, i.freed, c.requires.small) in
     record {
       few = one.few;
       items = one.items;

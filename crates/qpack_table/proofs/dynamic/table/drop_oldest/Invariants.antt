@@ -9,7 +9,8 @@ invariant-loop l = let then = l.initial.entries in record {
   few : l.counter ≤ length then.items;
   items : l.entries.items ≡ drop l.counter then.items;
   capacity : deque_capacity l.entries ≡ deque_capacity then;
-  freed : l.freed + total_size (drop l.counter (fields_in (entries_of then.items))) ≡ total_size (fields_in (entries_of then.items));
+  freed : l.freed + total_size (drop l.counter (fields_in (entries_of then.items)))
+      ≡ total_size (fields_in (entries_of then.items));
   dropped : l.vas.dropped ≡ l.initial.vas.dropped + l.counter;
   total : l.vas.total ≡ l.initial.vas.total;
 }

@@ -7,4 +7,5 @@ returns-then-window-ge-LONG-clause-gives c =
 
 pub returns-clause-gives : goal.returns-clause-gives
 returns-clause-gives c =
-    short_item_of c.args.self.now c.pass.new.self _ c.from.result c.if-self-lt8.false (c.short_words.ensures.at _ c.if-window-ge-LONG.false) c.from.ensures c.pass.ensures.rest
+    short_item_of c.args.self.now c.pass.new.self _ c.from.result c.if-self-lt8.false
+    (c.short_words.ensures.at _ c.if-window-ge-LONG.false) c.from.ensures c.pass.ensures.rest

@@ -13,13 +13,23 @@ pub bounds-short_words-window : goal.bounds-short_words-window
 bounds-short_words-window c =
     let old = c.args.self.now in
     let window = ap (λ (p : ℕ). old.loaded * p + (p - 1)) c.power-places.ensures in
-    omega (arith, window, filled_short old.count old.loaded c.requires.few c.requires.loaded.fits (λ e. c.if-window-eq255.false (window ∙ e)))
+    omega (
+      arith,
+      window,
+      filled_short old.count old.loaded c.requires.few c.requires.loaded.fits
+          (λ e. c.if-window-eq255.false (window ∙ e)),
+    )
 
 pub bounds-short_words-window-2 : goal.bounds-short_words-window-2
 bounds-short_words-window-2 c =
     let old = c.args.self.now in
     let window = ap (λ (p : ℕ). old.loaded * p + (p - 1)) c.power-places.ensures in
-    omega (arith, window, filled_short old.count old.loaded c.requires.few c.requires.loaded.fits (λ e. c.if-window-eq255.false (window ∙ e)))
+    omega (
+      arith,
+      window,
+      filled_short old.count old.loaded c.requires.few c.requires.loaded.fits
+          (λ e. c.if-window-eq255.false (window ∙ e)),
+    )
 
 pub returns-then-bits-self-clause-gives : goal.returns-then-bits-self-clause-gives
 returns-then-bits-self-clause-gives c =
@@ -27,9 +37,13 @@ returns-then-bits-self-clause-gives c =
     let window = ap (λ (p : ℕ). old.loaded * p + (p - 1)) c.power-places.ensures in
     let not_all : filled old.count old.loaded ≡ 255 → ⊥ = λ e. c.if-window-eq255.false (window ∙ e) in
     let short = filled_short old.count old.loaded c.requires.few c.requires.loaded.fits not_all in
-    let entry = subst (λ (w : ℕ). BeginsWithWord w (slice_index_or c.short_words.result.now (old.loaded * c.power-places.result + (c.power-places.result - 1)) (0, 0))) window
+    let entry =
+    subst (λ (w : ℕ). BeginsWithWord w (slice_index_or c.short_words.result.now
+    (old.loaded * c.power-places.result + (c.power-places.result - 1)) (0, 0))) window
     (c.short_words.ensures.at _ (omega (arith, window, short))) in
-    last_cut old c.stop-then-bits-self.new.self _ c.from-bits.result c.window-window.result _ c.requires.few c.requires.loaded.fits c.requires.all not_all entry c.from-bits.ensures c.if-bits-self.true refl c.stop-then-bits-self.ensures.left
+    last_cut old c.stop-then-bits-self.new.self _ c.from-bits.result c.window-window.result _ c.requires.few
+    c.requires.loaded.fits c.requires.all not_all entry c.from-bits.ensures c.if-bits-self.true refl
+    c.stop-then-bits-self.ensures.left
 
 pub returns-clause-gives : goal.returns-clause-gives
 returns-clause-gives c =
@@ -37,6 +51,9 @@ returns-clause-gives c =
     let window = ap (λ (p : ℕ). old.loaded * p + (p - 1)) c.power-places.ensures in
     let not_all : filled old.count old.loaded ≡ 255 → ⊥ = λ e. c.if-window-eq255.false (window ∙ e) in
     let short = filled_short old.count old.loaded c.requires.few c.requires.loaded.fits not_all in
-    let entry = subst (λ (w : ℕ). BeginsWithWord w (slice_index_or c.short_words.result.now (old.loaded * c.power-places.result + (c.power-places.result - 1)) (0, 0))) window
+    let entry =
+    subst (λ (w : ℕ). BeginsWithWord w (slice_index_or c.short_words.result.now
+    (old.loaded * c.power-places.result + (c.power-places.result - 1)) (0, 0))) window
     (c.short_words.ensures.at _ (omega (arith, window, short))) in
-    last_word old c.pass.new.self _ c.from-bits.result c.requires.few entry c.from-bits.ensures c.if-bits-self.false c.pass.ensures.rest
+    last_word old c.pass.new.self _ c.from-bits.result c.requires.few entry c.from-bits.ensures c.if-bits-self.false
+    c.pass.ensures.rest

@@ -6,7 +6,9 @@ use Rattle.qpack_base.proofs.LongWords.{row_word}
 use Rattle.qpack_base.proofs.prefix_string.decoding.Bits.long_word.Given as goal
 
 abbrev pub invariant-loop-row : goal.invariant-loop-row
-invariant-loop-row l =
-    (rows_at l.rows ≡ long_rows)
-    × IsLoaded l.self
-    × (row_word (drop l.row-index long_rows) l.self.count l.self.loaded (bits_of_bytes l.self.rest.now) ≡ word_at bytes_by_length 0 0 (bits_left l.fn.self))
+invariant-loop-row l = record {
+  rows : rows_at l.rows ≡ long_rows;
+  loaded : IsLoaded l.self;
+  word : row_word (drop l.row-index long_rows) l.self.count l.self.loaded (bits_of_bytes l.self.rest.now)
+      ≡ word_at bytes_by_length 0 0 (bits_left l.fn.self);
+}

@@ -14,7 +14,8 @@ loop-gone-preserved c =
     let within : c.loop-gone.gone < length c.self.inside.entries.items = omega arith in
     let first = first_size _ _ _ _ c.index.result.now within c.index.ensures c.loop-gone.invariant in
     let bound = gone_bound _ _ _ _ _ c.self.invariant.sum c.loop-gone.invariant in
-    let exact : c.mem_size-rest.result ≡ field_size (field_of c.index.result.now.field) = omega (arith, first, bound, c.self.invariant.fits, c.self.invariant.small) in
+    let exact : c.mem_size-rest.result ≡ field_size (field_of c.index.result.now.field) =
+    omega (arith, first, bound, c.self.invariant.fits, c.self.invariant.small) in
     gone_more _ _ _ _ _ c.index.result.now within (omega arith) c.index.ensures exact c.loop-gone.invariant
 
 pub returns-else-rest-room : goal.returns-else-rest-room

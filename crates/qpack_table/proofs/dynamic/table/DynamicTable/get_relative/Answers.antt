@@ -1,21 +1,22 @@
-use Rattle.std.proofs.Common.{refl, ap, sym, ◌∙◌}
-use Rattle.qpack_spec.specs.Table.{Table}
+use Rattle.std.proofs.Common.{refl, ap, ◌∙◌}
 use Rattle.qpack_table.specs.Errors.{table_error_of_index}
-use Rattle.qpack_table.proofs.Lookups.{kept_places, recent_missing, recent_there, recent_live, never_refused, refused_as}
+use Rattle.qpack_table.proofs.Lookups.{recent_missing, recent_there, recent_live, never_refused, refused_as}
 use Rattle.qpack_table.proofs.dynamic.table.DynamicTable.get_relative.Goals as goal
 
 pub returns-in_err-place-clause-refused : goal.returns-in_err-place-clause-refused
 returns-in_err-place-clause-refused c =
-    let places = kept_places c.self.inside.vas c.args.self.now c.self.inside.entries.items c.self.invariant.counted (ap (λ (t : Table). t.live) (sym c.self.view_is)) (ap (λ (t : Table). t.dropped) (sym c.self.view_is)) in
-    let missing = recent_missing c.self.inside.vas c.args.self.now c.args.index places (λ live. let there = c.in_err-place.ensures.live.1 live in cc) in
-    refused_as c.from_residual.result _ _ c.from_residual.ensures (λ e given. (given ∙ ap table_error_of_index c.in_err-place.ensures.refused, missing))
+    let missing = recent_missing c.places.result.now c.args.self.now c.args.index c.places.ensures
+    (λ live. let there = c.in_err-place.ensures.live.1 live in cc) in
+    refused_as c.from_residual.result _ _ c.from_residual.ensures
+    (λ e given. (given ∙ ap table_error_of_index c.in_err-place.ensures.refused, missing))
 
 pub returns-clause-found : goal.returns-clause-found
 returns-clause-found c =
-    let places = kept_places c.self.inside.vas c.args.self.now c.self.inside.entries.items c.self.invariant.counted (ap (λ (t : Table). t.live) (sym c.self.view_is)) (ap (λ (t : Table). t.dropped) (sym c.self.view_is)) in
-    rw (recent_there c.self.inside.vas c.args.self.now c.args.index c.in_ok-place.place places c.in_ok-place.ensures.found) c.field_at.ensures.found
+    rw (recent_there c.places.result.now c.args.self.now c.args.index c.in_ok-place.place c.places.ensures
+    c.in_ok-place.ensures.found) c.field_at.ensures.found
 
 pub returns-clause-refused : goal.returns-clause-refused
 returns-clause-refused c =
-    let places = kept_places c.self.inside.vas c.args.self.now c.self.inside.entries.items c.self.invariant.counted (ap (λ (t : Table). t.live) (sym c.self.view_is)) (ap (λ (t : Table). t.dropped) (sym c.self.view_is)) in
-    never_refused c.field_at.result _ _ _ c.field_at.ensures.refused (recent_live c.self.inside.vas c.args.self.now c.args.index c.in_ok-place.place places (c.in_ok-place.ensures.live.0 refl) c.in_ok-place.ensures.found)
+    never_refused c.field_at.result _ _ _ c.field_at.ensures.refused
+    (recent_live c.places.result.now c.args.self.now c.args.index c.in_ok-place.place c.places.ensures
+    (c.in_ok-place.ensures.live.0 refl) c.in_ok-place.ensures.found)

@@ -11,14 +11,24 @@ use Rattle.qpack_table.proofs.Evictions.{kept_resized, live_less}
 use Rattle.qpack_table.proofs.dynamic.table.DynamicTable.set_max_size.Goals as goal
 
 pub returns-then-size-greatest_capacity : goal.returns-then-size-greatest_capacity
-returns-then-size-greatest_capacity c = (resized_above c.args.self.now c.args.size (omega (arith, c.greatest_capacity.ensures.agreed)), refl)
+returns-then-size-greatest_capacity c =
+    (resized_above c.args.self.now c.args.size (omega (arith, c.greatest_capacity.ensures.agreed)), refl)
 
 pub can_drop-requires : goal.can_drop-requires
-can_drop-requires c = omega (arith, c.excess-gone.ensures, excess_bound c.args.size (fields_in c.args.self.now.live), length-map c.args.self.now.live (λ (e : table.Entry). e.field))
+can_drop-requires c = omega (
+  arith,
+  c.excess-gone.ensures,
+  excess_bound c.args.size (fields_in c.args.self.now.live),
+  length-map c.args.self.now.live (λ (e : table.Entry). e.field),
+)
 
 pub returns-then-not-can_drop : goal.returns-then-not-can_drop
-returns-then-not-can_drop c =
-    (resized_against_held c.args.self.now c.args.size (omega (arith, c.greatest_capacity.ensures.agreed)) (ap (λ (n : ℕ). can_drop c.args.self.now n) (sym c.excess-gone.ensures) ∙ sym c.can_drop.ensures ∙ c.if-not-can_drop.true), refl)
+returns-then-not-can_drop c = (
+  resized_against_held c.args.self.now c.args.size (omega (arith, c.greatest_capacity.ensures.agreed))
+      (ap (λ (n : ℕ). can_drop c.args.self.now n) (sym c.excess-gone.ensures) ∙ sym c.can_drop.ensures
+      ∙ c.if-not-can_drop.true),
+  refl,
+)
 
 pub drop_oldest-freed-requires-clause-there : goal.drop_oldest-freed-requires-clause-there
 drop_oldest-freed-requires-clause-there c =
@@ -33,16 +43,26 @@ drop_oldest-freed-requires-clause-there c =
 
 pub invariant_of-self : goal.invariant_of-self
 invariant_of-self c =
-    let gone : c.excess-gone.result ≡ excess c.args.size (fields_in (entries_of c.self.inside.entries.items)) = c.excess-gone.ensures ∙ ap (λ (t : Table). excess c.args.size (fields_in t.live)) (sym c.self.view_is) in
-    kept_resized c.self.inside.vas c.drop_oldest-freed.new.vas c.self.inside.entries.items c.drop_oldest-freed.new.entries.items _ _ _ c.args.size _ _ c.excess-gone.result c.drop_oldest-freed.result c.self.invariant
-    gone (omega (arith, c.greatest_capacity.ensures.most)) c.drop_oldest-freed.ensures.left c.drop_oldest-freed.ensures.freed refl
-    (ap (λ (p : Places). p.dropped) c.drop_oldest-freed.ensures.dropped) (ap (λ (p : Places). p.total) c.drop_oldest-freed.ensures.dropped)
+    let gone : c.excess-gone.result ≡ excess c.args.size (fields_in (entries_of c.self.inside.entries.items)) =
+    c.excess-gone.ensures ∙ ap (λ (t : Table). excess c.args.size (fields_in t.live)) (sym c.self.view_is) in
+    kept_resized c.self.inside.vas c.drop_oldest-freed.new.vas c.self.inside.entries.items
+    c.drop_oldest-freed.new.entries.items _ _ _ c.args.size _ _ c.excess-gone.result c.drop_oldest-freed.result
+    c.self.invariant
+    gone (omega (arith, c.greatest_capacity.ensures.most)) c.drop_oldest-freed.ensures.left
+    c.drop_oldest-freed.ensures.freed refl
+    (ap (λ (p : Places). p.dropped) c.drop_oldest-freed.ensures.dropped)
+    (ap (λ (p : Places). p.total) c.drop_oldest-freed.ensures.dropped)
 
 pub returns : goal.returns
 returns c =
-    let gone : c.excess-gone.result ≡ excess c.args.size (fields_in (entries_of c.self.inside.entries.items)) = c.excess-gone.ensures ∙ ap (λ (t : Table). excess c.args.size (fields_in t.live)) (sym c.self.view_is) in
-    rw (← c.self.view_is) (resized_to _ c.args.size c.drop_oldest-freed.new.vas.dropped (entries_of c.drop_oldest-freed.new.entries.items)
+    let gone : c.excess-gone.result ≡ excess c.args.size (fields_in (entries_of c.self.inside.entries.items)) =
+    c.excess-gone.ensures ∙ ap (λ (t : Table). excess c.args.size (fields_in t.live)) (sym c.self.view_is) in
+    rw (← c.self.view_is) (resized_to _ c.args.size c.drop_oldest-freed.new.vas.dropped
+    (entries_of c.drop_oldest-freed.new.entries.items)
     (omega (arith, c.greatest_capacity.ensures.agreed, ap (λ (t : Table). greatest_capacity t.agreed) c.self.view_is))
-    (ap (λ (t : Table). can_drop t (excess c.args.size (fields_in t.live))) c.self.view_is ∙ ap (λ (n : ℕ). can_drop c.args.self.now n) (sym c.excess-gone.ensures) ∙ sym c.can_drop.ensures ∙ c.if-not-can_drop.false)
+    (ap (λ (t : Table). can_drop t (excess c.args.size (fields_in t.live))) c.self.view_is
+    ∙ ap (λ (n : ℕ). can_drop c.args.self.now n) (sym c.excess-gone.ensures) ∙ sym c.can_drop.ensures
+    ∙ c.if-not-can_drop.false)
     (omega (arith, gone, ap (λ (p : Places). p.dropped) c.drop_oldest-freed.ensures.dropped))
-    (live_less c.self.inside.entries.items c.drop_oldest-freed.new.entries.items c.excess-gone.result c.drop_oldest-freed.ensures.left ∙ ap (λ (n : ℕ). drop n (entries_of c.self.inside.entries.items)) gone))
+    (live_less c.self.inside.entries.items c.drop_oldest-freed.new.entries.items c.excess-gone.result
+    c.drop_oldest-freed.ensures.left ∙ ap (λ (n : ℕ). drop n (entries_of c.self.inside.entries.items)) gone))

@@ -1,0 +1,60 @@
+-- A row of a part of the static table stands in the table, and what a look for a field finds.
+use Rattle.std.proofs.Common.{◌≡◌, ℕ, zero, suc, ◌+◌, ◌<◌, ◌≤◌, List, [], ◌∷◌, length, take, drop, get_or}
+use Rattle.std.proofs.Common.{Option, Some, None, refl, sym, ap, ◌∙◌, arith}
+use Rattle.std.proofs.lemmas.List.{length-map, length-take-le, length-drop}
+use Rattle.std.proofs.lemmas.Option.{slice_get-map, slice_get-get_or, slice_get_past}
+use Rattle.std.specs.Prelude.{slice_get}
+use Rattle.std.specs.Option.{option_map}
+use Rattle.std.specs.Borrow.{Bor}
+use Rattle.qpack_spec.specs.Field.{Field}
+use Rattle.qpack_spec.specs.StaticTable.{static_table, static_place, static_name_place}
+use Rattle.qpack_spec.proofs.Lists.{get_drop}
+use Rattle.qpack_base.specs.StaticFields.{field_at, fields_at, match_of}
+use Rattle.qpack_base.specs.declared.static_.StaticMatch.TheVariants as found
+
+get_take : {X : Type 0} (n : ℕ) (xs : List X) (i : ℕ) → i < n → slice_get (take n xs) i ≡ slice_get xs i
+get_take zero xs i h = absurd (omega arith)
+get_take (suc n) [] i h = refl
+get_take (suc n) (x ∷ xs) zero h = refl
+get_take (suc n) (x ∷ xs) (suc i) h = get_take n xs i (omega arith)
+
+static-length : length static_table ≡ 99
+unfolding static_table
+static-length = refl
+
+-- a row of the part of so many rows from `first` on
+pub row_there : (rows : List (Bor (List ℕ) × Bor (List ℕ))) (n first place index : ℕ) (d : Bor (List ℕ) × Bor (List ℕ))
+    → fields_at rows ≡ take n (drop first static_table) → first + place ≡ index → place < n → first + n ≤ 99
+    → Some (field_at (get_or rows place d)) ≡ slice_get static_table index
+row_there rows n first place index d are is within fits =
+    let some : n ≤ length (drop first static_table) = omega (arith, static-length, length-drop first static_table) in
+    let all : length rows ≡ n =
+    sym (length-map rows field_at) ∙ ap (λ (l : List Field). length l) are
+    ∙ length-take-le n (drop first static_table) some in
+    let there : slice_get rows place ≡ Some (get_or rows place d) =
+    slice_get-get_or rows place d (omega (arith, all)) in
+    sym (slice_get-map field_at rows place ∙ ap (option_map field_at) there)
+    ∙ ap (λ (l : List Field). slice_get l place) are
+    ∙ get_take n (drop first static_table) place within
+    ∙ get_drop first static_table place
+    ∙ ap (slice_get static_table) is
+
+pub no_row : (index : ℕ) → 99 ≤ index → None ≡ slice_get static_table index
+no_row index past = sym (slice_get_past static_table index (omega (arith, static-length)))
+
+-- ---- what a look for a field finds
+
+pub match_field : (f : Field) (r : Option ℕ) (i : ℕ) → r ≡ static_place f → r ≡ Some i
+    → Some (found.Field i) ≡ match_of (static_place f) (static_name_place f.name)
+match_field f r i is some =
+    ap (λ (o : Option ℕ). match_of o (static_name_place f.name)) (sym some ∙ is)
+
+pub match_name : (f : Field) (r first : Option ℕ) → r ≡ static_place f → r ≡ None → first ≡ static_name_place f.name
+    → option_map (λ i. found.Name i) first ≡ match_of (static_place f) (static_name_place f.name)
+match_name f r first is none name =
+    let place : static_place f ≡ None = sym is ∙ none in
+    rw (place, sym name) (names first)
+  where
+    names : (o : Option ℕ) → option_map (λ i. found.Name i) o ≡ match_of None o
+    names None = refl
+    names (Some i) = refl

@@ -1,0 +1,9 @@
+//! Worked cases of the indexes and of the dynamic table, through public calls, and printed texts.
+#![tactic(auto)]
+
+#[cfg(test)]
+mod indexes;
+#[cfg(test)]
+mod table;
+#[cfg(test)]
+mod texts;

@@ -1,0 +1,118 @@
+//! The dynamic table as a decoder uses it (RFC 9204, section 3.2).
+
+use qpack_base::field::HeaderField;
+use qpack_table::dynamic::{DynamicTable, Error};
+use qpack_testing::{field, same};
+use std::alloc::Global;
+use std::test::Fail;
+
+/// An empty table of this capacity.
+fn table(alloc: Global, capacity: usize) -> Result<DynamicTable, Fail> {
+    let mut table = DynamicTable::new(alloc);
+    table.set_max_size(capacity)?;
+    Ok(table)
+}
+
+/// Puts a field, and again after a refusal for memory, which must leave the table as it was.
+fn put(
+    alloc: Global,
+    table: &mut DynamicTable,
+    name: &[u8],
+    value: &[u8],
+) -> Result<Result<(), Error>, Fail> {
+    let total = table.total_inserted();
+    match table.put(field(alloc, name, value)?) {
+        Err(Error::Memory) => {
+            same(table.total_inserted(), total)?;
+            Ok(table.put(field(alloc, name, value)?))
+        }
+        answer => Ok(answer),
+    }
+}
+
+/// A table of this capacity in which two fields were put.
+fn table_of_two(alloc: Global, capacity: usize) -> Result<DynamicTable, Fail> {
+    let mut table = table(alloc, capacity)?;
+    put(alloc, &mut table, b"foo", b"bar")??;
+    put(alloc, &mut table, b"baz", b"bar")??;
+    Ok(table)
+}
+
+/// What was looked for is the field of two byte strings.
+fn finds(found: Result<&HeaderField, Error>, name: &[u8], value: &[u8]) -> Result<(), Fail> {
+    let found = found?;
+    same(
+        (found.name.as_slice(), found.value.as_slice()),
+        (name, value),
+    )
+}
+
+/// What was looked for is not there, for this reason.
+fn misses(found: Result<&HeaderField, Error>, reason: Error) -> Result<(), Fail> {
+    same(found.err(), Some(reason))
+}
+
+#[test]
+fn the_oldest_entries_go_for_the_newest(rt: HostRuntime) -> Result<(), Fail> {
+    let mut table = table_of_two(rt.alloc(), 76)?;
+    finds(table.get_relative(1), b"foo", b"bar")?;
+    put(rt.alloc(), &mut table, b"foo", b"quxx")??;
+    same(table.total_inserted(), 3)?;
+    finds(table.get_relative(0), b"foo", b"quxx")?;
+    misses(table.get_relative(1), Error::BadRelativeIndex(1))?;
+    finds(table.decoder(2).get_postbase(0), b"foo", b"quxx")?;
+    misses(table.decoder(1).get_postbase(0), Error::BadPostbaseIndex(0))
+}
+
+#[test]
+fn a_field_is_put_only_within_the_capacity(rt: HostRuntime) -> Result<(), Fail> {
+    let mut table = DynamicTable::new(rt.alloc());
+    same(put(rt.alloc(), &mut table, b"foo", b"bar")?, Ok(()))?;
+    table.set_max_size(33)?;
+    let refused = Err(Error::MaxTableSizeReached);
+    same(put(rt.alloc(), &mut table, b"foo", b"bar")?, refused)?;
+    same(table.total_inserted(), 0)?;
+    table.set_max_size(38)?;
+    same(put(rt.alloc(), &mut table, b"foo", b"bar")?, Ok(()))?;
+    same(table.total_inserted(), 1)
+}
+
+#[test]
+fn a_smaller_capacity_drops_the_oldest(rt: HostRuntime) -> Result<(), Fail> {
+    let mut table = table_of_two(rt.alloc(), 4096)?;
+    same(table.set_max_size(38), Ok(()))?;
+    finds(table.get_relative(0), b"baz", b"bar")?;
+    misses(table.get_relative(1), Error::BadRelativeIndex(1))?;
+    same(table.set_max_size(0), Ok(()))?;
+    misses(table.get_relative(0), Error::BadRelativeIndex(0))?;
+    same(table.total_inserted(), 2)
+}
+
+#[test]
+fn the_greatest_capacity_is_below_2_to_the_30(rt: HostRuntime) -> Result<(), Fail> {
+    let mut table = table(rt.alloc(), 1_073_741_823)?;
+    let refused = Err(Error::MaximumTableSizeTooLarge);
+    same(table.set_max_size(1_073_741_824), refused)?;
+    same(table.max_mem_size(), 1_073_741_823)
+}
+
+#[test]
+fn lines_name_entries_under_a_base(rt: HostRuntime) -> Result<(), Fail> {
+    let table = table_of_two(rt.alloc(), 4096)?;
+    let under = table.decoder(1);
+    finds(under.get_relative(0), b"foo", b"bar")?;
+    finds(under.get_postbase(0), b"baz", b"bar")?;
+    misses(under.get_relative(1), Error::BadRelativeIndex(1))?;
+    misses(under.get_postbase(1), Error::BadPostbaseIndex(1))?;
+    // A base past the newest entry.
+    misses(table.decoder(10).get_relative(0), Error::BadIndex(9))?;
+    finds(table.decoder(10).get_relative(8), b"baz", b"bar")
+}
+
+#[test]
+fn the_limit_of_blocked_blocks_is_bounded(rt: HostRuntime) -> Result<(), Fail> {
+    let mut table = DynamicTable::new(rt.alloc());
+    same(table.set_max_blocked(65_534), Ok(()))?;
+    let refused = Err(Error::MaxBlockedStreamsTooLarge);
+    same(table.set_max_blocked(65_535), refused)
+}
