@@ -1,5 +1,6 @@
 -- The encoder hears a reply.
-use Rattle.std.proofs.Common.{ℕ, suc, ◌+◌, ◌-◌, ◌^◌, ◌<◌, ◌≤◌, ◌≡◌, false, List, [], ◌∷◌, ◌++◌, length, drop, min, Option, Some, Ok, refl, sym, ap, ◌∙◌, subst, inl, inr, ◌⊎◌, arith, length-drop}
+use Rattle.std.proofs.Common.{ℕ, suc, ◌+◌, ◌-◌, ◌^◌, ◌<◌, ◌≤◌, ◌≡◌, false, List, [], ◌∷◌, ◌++◌, length, drop, min}
+use Rattle.std.proofs.Common.{Option, Some, Ok, refl, sym, ap, ◌∙◌, subst, inl, inr, ◌⊎◌, arith, length-drop}
 use Rattle.std.specs.List.{AllByRecursion}
 use Rattle.std.specs.Prelude.{nat_lt, MatchBool}
 use Rattle.std.proofs.lemmas.Bool.{eq-eqb, ne_eqb, cases_eq}
@@ -9,18 +10,28 @@ use Rattle.qpack_spec.specs.Instruction.{Instruction, Reply, Acknowledgment, Can
 use Rattle.qpack_spec.specs.Window.{UnknownStream, or_refused}
 use Rattle.qpack_spec.specs.History.{History}
 use Rattle.qpack_spec.specs.Table.{OpenBlock, Table, window, without_oldest, without_stream, raised, heard}
-use Rattle.qpack_spec.specs.World.{Stream, stream_at, World, listened, hears}
+use Rattle.qpack_spec.specs.Session.{increment_sum, stream_at}
+use Rattle.qpack_safety.specs.AbstractSession.{AbstractStream, AbstractSession, after_hear, hear_next}
 use Rattle.qpack_spec.proofs.Drafts.{IsLive, KeepsTable}
 use Rattle.qpack_safety.proofs.OpenBlocks.{open_of, Released, release_some, ReleasedAll, releases_stream}
-use Rattle.qpack_safety.proofs.Replies.{acks_in, cancels_in, AcksFit, increments_in}
+use Rattle.qpack_safety.proofs.Replies.{acks_in, cancels_in, AcksFit}
 use Rattle.qpack_safety.proofs.Fronts.{length_filter}
 use Rattle.qpack_safety.proofs.Invariant.{KeepsStream, Invariant, sound_received}
 
-released_kept : (h : History) (t : Table) (s : ℕ) (bs : List OpenBlock) → Released s t.opened bs → KeepsTable h t → KeepsTable h (record t { opened = bs })
+released_kept : (h : History) (t : Table) (s : ℕ) (bs : List OpenBlock) → Released s t.opened bs → KeepsTable h t
+    → KeepsTable h (record t { opened = bs })
 unfolding window
-released_kept h t s bs r k = record { shares = k.shares; marked = k.marked; behind = k.behind; held = r.every (λ (b : OpenBlock). AllByRecursion (IsLive t) b.entries) k.held }
+released_kept h t s bs r k =
+    record {
+      shares = k.shares;
+      marked = k.marked;
+      behind = k.behind;
+      held = r.every (λ (b : OpenBlock). AllByRecursion (IsLive t) b.entries) k.held;
+    }
 
-kept_opened : (h : History) (t : Table) (bs : List OpenBlock) → AllByRecursion (λ (b : OpenBlock). AllByRecursion (IsLive t) b.entries) bs → KeepsTable h t → KeepsTable h (record t { opened = bs })
+kept_opened : (h : History) (t : Table) (bs : List OpenBlock)
+    → AllByRecursion (λ (b : OpenBlock). AllByRecursion (IsLive t) b.entries) bs → KeepsTable h t
+    → KeepsTable h (record t { opened = bs })
 unfolding window
 kept_opened h t bs held k = record { shares = k.shares; marked = k.marked; behind = k.behind; held = held }
 
@@ -28,15 +39,18 @@ fits_ack_own : (s : ℕ) (rs : List Reply) (n : ℕ) → AcksFit s (Acknowledgme
 unfolding AcksFit
 fits_ack_own s rs n h = subst (λ b. MatchBool b ((0 < n) × AcksFit s rs (n - 1)) (AcksFit s rs n)) (eq-eqb s s refl) h
 
-fits_ack_other : (s q : ℕ) (rs : List Reply) (n : ℕ) → (s ≡ q → ⊥) → AcksFit q (Acknowledgment s ∷ rs) n → AcksFit q rs n
+fits_ack_other : (s q : ℕ) (rs : List Reply) (n : ℕ) → (s ≡ q → ⊥) → AcksFit q (Acknowledgment s ∷ rs) n
+    → AcksFit q rs n
 unfolding AcksFit
-fits_ack_other s q rs n d h = subst (λ b. MatchBool b ((0 < n) × AcksFit q rs (n - 1)) (AcksFit q rs n)) (ne_eqb s q d) h
+fits_ack_other s q rs n d h =
+    subst (λ b. MatchBool b ((0 < n) × AcksFit q rs (n - 1)) (AcksFit q rs n)) (ne_eqb s q d) h
 
 fits_cancel_own : (s : ℕ) (rs : List Reply) (n : ℕ) → AcksFit s (Cancellation s ∷ rs) n → AcksFit s rs 0
 unfolding AcksFit
 fits_cancel_own s rs n h = subst (λ b. MatchBool b (AcksFit s rs 0) (AcksFit s rs n)) (eq-eqb s s refl) h
 
-fits_cancel_other : (s q : ℕ) (rs : List Reply) (n : ℕ) → (s ≡ q → ⊥) → AcksFit q (Cancellation s ∷ rs) n → AcksFit q rs n
+fits_cancel_other : (s q : ℕ) (rs : List Reply) (n : ℕ) → (s ≡ q → ⊥) → AcksFit q (Cancellation s ∷ rs) n
+    → AcksFit q rs n
 unfolding AcksFit
 fits_cancel_other s q rs n d h = subst (λ b. MatchBool b (AcksFit q rs 0) (AcksFit q rs n)) (ne_eqb s q d) h
 
@@ -76,36 +90,43 @@ cancels_cons_other : (s q : ℕ) (rs : List Reply) → (s ≡ q → ⊥) → can
 unfolding cancels_in
 cancels_cons_other s q rs d = rw (ne_eqb s q d) refl
 
-pub increments_cons_ack : (s : ℕ) (rs : List Reply) → increments_in (Acknowledgment s ∷ rs) ≡ increments_in rs
-unfolding increments_in
+pub increments_cons_ack : (s : ℕ) (rs : List Reply) → increment_sum (Acknowledgment s ∷ rs) ≡ increment_sum rs
+unfolding increment_sum
 increments_cons_ack s rs = refl
 
-pub increments_cons_cancel : (s : ℕ) (rs : List Reply) → increments_in (Cancellation s ∷ rs) ≡ increments_in rs
-unfolding increments_in
+pub increments_cons_cancel : (s : ℕ) (rs : List Reply) → increment_sum (Cancellation s ∷ rs) ≡ increment_sum rs
+unfolding increment_sum
 increments_cons_cancel s rs = refl
 
-pub increments_cons : (n : ℕ) (rs : List Reply) → increments_in (Increment n ∷ rs) ≡ n + increments_in rs
-unfolding increments_in
+increments_cons : (n : ℕ) (rs : List Reply) → increment_sum (Increment n ∷ rs) ≡ n + increment_sum rs
+unfolding increment_sum
 increments_cons n rs = refl
 
 length_one_less : {X : Type 0} (xs ys : List X) → xs ≡ drop 1 ys → length xs ≡ length ys - 1
 length_one_less xs ys e = ap length e ∙ length-drop 1 ys
 
 -- the streams after an acknowledgement was heard
-ack_heard : (capacity : ℕ) (h : History) (sent : List Instruction) (opened bs : List OpenBlock) (rs : List Reply) (s : ℕ) → Released s opened bs
-    → (q : ℕ) (st : Stream) → KeepsStream capacity h sent opened (Acknowledgment s ∷ rs) q st → KeepsStream capacity h sent bs rs q st
+ack_heard : (capacity : ℕ) (h : History) (sent : List Instruction) (opened bs : List OpenBlock) (rs : List Reply)
+    (s : ℕ) → Released s opened bs
+    → (q : ℕ) (st : AbstractStream) → KeepsStream capacity h sent opened (Acknowledgment s ∷ rs) q st
+    → KeepsStream capacity h sent bs rs q st
 ack_heard capacity h sent opened bs rs s r q st k = pick (cases_eq s q)
   where
     pick : (s ≡ q) ⊎ (s ≡ q → ⊥) → KeepsStream capacity h sent bs rs q st
     pick (inl e) =
-        let own : open_of q bs ≡ drop 1 (open_of q opened) = subst (λ (x : ℕ). open_of x bs ≡ drop 1 (open_of x opened)) e r.own in
-        let f : AcksFit q (Acknowledgment q ∷ rs) (length (open_of q opened)) = subst (λ (x : ℕ). AcksFit q (Acknowledgment x ∷ rs) (length (open_of q opened))) e k.fits in
+        let own : open_of q bs ≡ drop 1 (open_of q opened) =
+        subst (λ (x : ℕ). open_of x bs ≡ drop 1 (open_of x opened)) e r.own in
+        let f : AcksFit q (Acknowledgment q ∷ rs) (length (open_of q opened)) =
+        subst (λ (x : ℕ). AcksFit q (Acknowledgment x ∷ rs) (length (open_of q opened))) e k.fits in
         record {
           acknowledged = k.acknowledged;
-          fits = rw (length_one_less (open_of q bs) (open_of q opened) own) (fits_ack_own q rs (length (open_of q opened)) f).1;
+          fits = rw (length_one_less (open_of q bs) (open_of q opened) own)
+              (fits_ack_own q rs (length (open_of q opened)) f).1;
           stays_open = λ c.
               ap (drop (acks_in q rs)) own ∙ drop-drop (acks_in q rs) 1 (open_of q opened)
-              ∙ ap (λ (n : ℕ). drop n (open_of q opened)) (let n : 1 + acks_in q rs ≡ suc (acks_in q rs) = omega arith in n ∙ sym (acks_cons_own q rs) ∙ ap (λ (x : ℕ). acks_in q (Acknowledgment x ∷ rs)) (sym e))
+              ∙ ap (λ (n : ℕ). drop n (open_of q opened)) (let n : 1 + acks_in q rs
+              ≡ suc (acks_in q rs) = omega arith in n ∙ sym (acks_cons_own q rs)
+              ∙ ap (λ (x : ℕ). acks_in q (Acknowledgment x ∷ rs)) (sym e))
               ∙ k.stays_open c;
           quiet = λ c. sym (cancels_cons_ack s q rs) ∙ k.quiet c;
           blocks = k.blocks;
@@ -119,15 +140,21 @@ ack_heard capacity h sent opened bs rs s r q st k = pick (cases_eq s q)
           blocks = k.blocks;
         }
 
-cancel_heard : (capacity : ℕ) (h : History) (sent : List Instruction) (opened cs : List OpenBlock) (rs : List Reply) (s : ℕ) → ReleasedAll s opened cs
-    → (q : ℕ) (st : Stream) → KeepsStream capacity h sent opened (Cancellation s ∷ rs) q st → KeepsStream capacity h sent cs rs q st
+cancel_heard : (capacity : ℕ) (h : History) (sent : List Instruction) (opened cs : List OpenBlock) (rs : List Reply)
+    (s : ℕ) → ReleasedAll s opened cs
+    → (q : ℕ) (st : AbstractStream) → KeepsStream capacity h sent opened (Cancellation s ∷ rs) q st
+    → KeepsStream capacity h sent cs rs q st
 cancel_heard capacity h sent opened cs rs s r q st k = pick (cases_eq s q)
   where
     pick : (s ≡ q) ⊎ (s ≡ q → ⊥) → KeepsStream capacity h sent cs rs q st
     pick (inl e) =
         let own : open_of q cs ≡ [] = subst (λ (x : ℕ). open_of x cs ≡ []) e r.none_left in
-        let f : AcksFit q (Cancellation q ∷ rs) (length (open_of q opened)) = subst (λ (x : ℕ). AcksFit q (Cancellation x ∷ rs) (length (open_of q opened))) e k.fits in
-        let never : st.cancelled ≡ false → ⊥ = λ c. (let z : cancels_in q (Cancellation q ∷ rs) ≡ 0 = subst (λ (x : ℕ). cancels_in q (Cancellation x ∷ rs) ≡ 0) e (k.quiet c) in omega (arith, z, cancels_cons_own q rs)) in
+        let f : AcksFit q (Cancellation q ∷ rs) (length (open_of q opened)) =
+        subst (λ (x : ℕ). AcksFit q (Cancellation x ∷ rs) (length (open_of q opened))) e k.fits in
+        let never : st.cancelled ≡ false → ⊥ =
+        λ c. (let z : cancels_in q (Cancellation q ∷ rs)
+        ≡ 0 = subst (λ (x : ℕ). cancels_in q (Cancellation x ∷ rs) ≡ 0) e (k.quiet c) in
+        omega (arith, z, cancels_cons_own q rs)) in
         record {
           acknowledged = k.acknowledged;
           fits = rw own (fits_cancel_own q rs (length (open_of q opened)) f);
@@ -145,7 +172,8 @@ cancel_heard capacity h sent opened cs rs s r q st k = pick (cases_eq s q)
           blocks = k.blocks;
         }
 
-increment_heard : (capacity : ℕ) (h : History) (sent : List Instruction) (opened : List OpenBlock) (rs : List Reply) (n q : ℕ) (st : Stream)
+increment_heard : (capacity : ℕ) (h : History) (sent : List Instruction) (opened : List OpenBlock) (rs : List Reply)
+    (n q : ℕ) (st : AbstractStream)
     → KeepsStream capacity h sent opened (Increment n ∷ rs) q st → KeepsStream capacity h sent opened rs q st
 increment_heard capacity h sent opened rs n q st k =
     record {
@@ -157,10 +185,12 @@ increment_heard capacity h sent opened rs n q st k =
     }
 
 -- the first acknowledgement finds an open block
-pub ack_finds : (capacity limit : ℕ) (w : World) (s : ℕ) (rest : List Reply) → Invariant capacity limit w → w.replies ≡ Acknowledgment s ∷ rest
+pub ack_finds : (capacity limit : ℕ) (w : AbstractSession) (s : ℕ) (rest : List Reply) → Invariant capacity limit w
+    → w.decoder_in_flight ≡ Acknowledgment s ∷ rest
     → (bs : List OpenBlock) × (without_oldest s w.encoder.opened ≡ Some bs) × Released s w.encoder.opened bs
 ack_finds capacity limit w s rest k e =
-    let f : AcksFit s (Acknowledgment s ∷ rest) (length (open_of s w.encoder.opened)) = subst (λ (l : List Reply). AcksFit s l (length (open_of s w.encoder.opened))) e (k.streams s).fits in
+    let f : AcksFit s (Acknowledgment s ∷ rest) (length (open_of s w.encoder.opened)) =
+    subst (λ (l : List Reply). AcksFit s l (length (open_of s w.encoder.opened))) e (k.streams s).fits in
     release_some s w.encoder.opened (fits_ack_own s rest (length (open_of s w.encoder.opened)) f).0
 
 -- what an increment changes
@@ -173,59 +203,81 @@ record SameRaised (t t' : Table) (n : ℕ) : Type 0 where
 same_raised : (t : Table) (n : ℕ) → t.known + n ≤ 2 ^ 62 → SameRaised t (raised t n) n
 unfolding raised
 same_raised t n h =
-    record { r_known = omega arith; r_limit = refl; r_opened = refl; r_waiting = length_filter (λ r. nat_lt (min (t.known + n) (2 ^ 64 - 1)) r) t.waiting }
+    record {
+      r_known = omega arith;
+      r_limit = refl;
+      r_opened = refl;
+      r_waiting = length_filter (λ r. nat_lt (min (t.known + n) (2 ^ 64 - 1)) r) t.waiting;
+    }
 
 kept_raised : (h : History) (t : Table) (n : ℕ) → t.known + n ≤ 2 ^ 62 → KeepsTable h t → KeepsTable h (raised t n)
 unfolding raised window
-kept_raised h t n le k = record { shares = k.shares; marked = k.marked; behind = omega (arith, k.behind); held = k.held }
+kept_raised h t n le k =
+    record { shares = k.shares; marked = k.marked; behind = omega (arith, k.behind); held = k.held }
 
-inv_heard : (capacity limit : ℕ) (w : World) (r : Reply) (rest : List Reply) → w.replies ≡ r ∷ rest → Invariant capacity limit w → Invariant capacity limit (listened w rest (heard w.encoder r))
+inv_heard : (capacity limit : ℕ) (w : AbstractSession) (r : Reply) (rest : List Reply) → w.decoder_in_flight ≡ r ∷ rest
+    → Invariant capacity limit w → Invariant capacity limit (after_hear w rest (heard w.encoder r))
 unfolding heard
 inv_heard capacity limit w (Acknowledgment s) rest e k =
     let f = ack_finds capacity limit w s rest k e in
-    let next : Invariant capacity limit (record w { encoder = record w.encoder { opened = f.0 }; replies = rest }) = record {
+    let next : Invariant capacity limit (record w {
+      encoder = record w.encoder { opened = f.0 };
+      decoder_in_flight = rest;
+    }) = record {
       received = k.received;
       made = k.made;
       taken_leads = k.taken_leads;
-      flying_leads = k.flying_leads;
+      in_flight_leads = k.in_flight_leads;
       decoder = k.decoder;
       encoder = released_kept k.made w.encoder s f.0 f.2 k.encoder;
       same_limit = k.same_limit;
-      known = omega (arith, k.known, ap increments_in e, increments_cons_ack s rest);
+      known = omega (arith, k.known, ap increment_sum e, increments_cons_ack s rest);
       blocked = k.blocked;
-      streams = λ q. ack_heard capacity k.made (w.taken ++ w.flying) w.encoder.opened f.0 rest s f.2 q (stream_at w.streams q) (rw (← e) (k.streams q));
+      streams =
+          λ q. ack_heard capacity k.made (w.taken ++ w.in_flight) w.encoder.opened f.0 rest s f.2 q
+          (stream_at w.streams q) (rw (← e) (k.streams q));
     } in
-    subst (λ (o : Option (List OpenBlock)). Invariant capacity limit (listened w rest (or_refused o (UnknownStream s) >>= λ bs. Ok (record w.encoder { opened = bs })))) (sym f.1) next
+    subst (λ (o : Option (List OpenBlock)). Invariant capacity limit
+    (after_hear w rest (or_refused o (UnknownStream s) >>= λ bs. Ok (record w.encoder { opened = bs })))) (sym f.1)
+    next
 inv_heard capacity limit w (Cancellation s) rest e k =
     let all = releases_stream s w.encoder.opened in
     record {
       received = k.received;
       made = k.made;
       taken_leads = k.taken_leads;
-      flying_leads = k.flying_leads;
+      in_flight_leads = k.in_flight_leads;
       decoder = k.decoder;
-      encoder = kept_opened k.made w.encoder (without_stream s w.encoder.opened) (all.all_stay (λ (b : OpenBlock). AllByRecursion (IsLive w.encoder) b.entries) k.encoder.held) k.encoder;
+      encoder =
+          kept_opened k.made w.encoder (without_stream s w.encoder.opened)
+          (all.all_stay (λ (b : OpenBlock). AllByRecursion (IsLive w.encoder) b.entries) k.encoder.held) k.encoder;
       same_limit = k.same_limit;
-      known = omega (arith, k.known, ap increments_in e, increments_cons_cancel s rest);
+      known = omega (arith, k.known, ap increment_sum e, increments_cons_cancel s rest);
       blocked = k.blocked;
-      streams = λ q. cancel_heard capacity k.made (w.taken ++ w.flying) w.encoder.opened (without_stream s w.encoder.opened) rest s all q (stream_at w.streams q) (rw (← e) (k.streams q));
+      streams =
+          λ q. cancel_heard capacity k.made (w.taken ++ w.in_flight) w.encoder.opened
+          (without_stream s w.encoder.opened) rest s all q (stream_at w.streams q) (rw (← e) (k.streams q));
     }
 inv_heard capacity limit w (Increment n) rest e k =
-    let small : w.encoder.known + n ≤ 2 ^ 62 = omega (arith, k.known, ap increments_in e, increments_cons n rest, (sound_received capacity limit w k).few) in
+    let small : w.encoder.known + n ≤ 2 ^ 62 =
+    omega (arith, k.known, ap increment_sum e, increments_cons n rest, (sound_received capacity limit w k).few) in
     let same = same_raised w.encoder n small in
     record {
       received = k.received;
       made = k.made;
       taken_leads = k.taken_leads;
-      flying_leads = k.flying_leads;
+      in_flight_leads = k.in_flight_leads;
       decoder = k.decoder;
       encoder = kept_raised k.made w.encoder n small k.encoder;
       same_limit = same.r_limit ∙ k.same_limit;
-      known = omega (arith, k.known, ap increments_in e, increments_cons n rest, same.r_known);
+      known = omega (arith, k.known, ap increment_sum e, increments_cons n rest, same.r_known);
       blocked = omega (arith, k.blocked, same.r_waiting);
-      streams = λ q. rw same.r_opened (increment_heard capacity k.made (w.taken ++ w.flying) w.encoder.opened rest n q (stream_at w.streams q) (rw (← e) (k.streams q)));
+      streams =
+          λ q. rw same.r_opened (increment_heard capacity k.made (w.taken ++ w.in_flight) w.encoder.opened rest n q
+          (stream_at w.streams q) (rw (← e) (k.streams q)));
     }
 
-pub inv_hears : (capacity limit : ℕ) (w : World) (rs : List Reply) → w.replies ≡ rs → Invariant capacity limit w → Invariant capacity limit (hears w rs)
+pub inv_hears : (capacity limit : ℕ) (w : AbstractSession) (rs : List Reply) → w.decoder_in_flight ≡ rs
+    → Invariant capacity limit w → Invariant capacity limit (hear_next w rs)
 inv_hears capacity limit w [] e k = k
 inv_hears capacity limit w (r ∷ rest) e k = inv_heard capacity limit w r rest e k

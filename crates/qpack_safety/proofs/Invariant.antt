@@ -1,5 +1,6 @@
 -- The invariant of a session.
-use Rattle.std.proofs.Common.{ℕ, ◌+◌, ◌^◌, ◌≤◌, ◌≡◌, false, List, [], ◌∷◌, ◌++◌, length, drop, take, map, Ok, refl, sym, ap, ◌∙◌, subst, arith, length-drop}
+use Rattle.std.proofs.Common.{ℕ, ◌+◌, ◌^◌, ◌≤◌, ◌≡◌, false, List, [], ◌∷◌, ◌++◌, length, drop, take, map, Ok, refl, sym}
+use Rattle.std.proofs.Common.{ap, ◌∙◌, subst, arith, length-drop}
 use Rattle.std.specs.List.{AllByRecursion, filter}
 use Rattle.std.specs.Prelude.{nat_eq}
 use Rattle.std.proofs.lemmas.Bool.{cond_both, eqb-true, eqb-false}
@@ -10,16 +11,19 @@ use Rattle.qpack_spec.specs.History.{History, window_of, whole, start, Leads}
 use Rattle.qpack_spec.specs.Prefix.{prefix_for}
 use Rattle.qpack_spec.specs.Reading.{fields_of, references_of, greatest}
 use Rattle.qpack_spec.specs.Table.{OpenBlock, window, tracked}
-use Rattle.qpack_spec.specs.World.{SentBlock, is_dynamic, Stream, stream_at, with_stream, World, started}
+use Rattle.qpack_spec.specs.Session.{with_stream, increment_sum, stream_at}
+use Rattle.qpack_safety.specs.AbstractSession.{AbstractBlock, is_dynamic, AbstractStream, AbstractSession}
+use Rattle.qpack_safety.specs.AbstractSession.{abstract_start}
 use Rattle.qpack_spec.proofs.Lists.{every_weaker}
-use Rattle.qpack_spec.proofs.Windows.{Sound, Agreed, sound_start, agreed_start, leads_sound, leads_agreed, Grows, Kept, kept_growing}
+use Rattle.qpack_spec.proofs.Windows.{Sound, Agreed, sound_start, agreed_start, leads_sound, leads_agreed, Grows, Kept}
+use Rattle.qpack_spec.proofs.Windows.{kept_growing}
 use Rattle.qpack_spec.proofs.Readings.{fields_kept}
 use Rattle.qpack_spec.proofs.Drafts.{KeepsTable}
 use Rattle.qpack_safety.proofs.OpenBlocks.{open_of}
-use Rattle.qpack_safety.proofs.Replies.{acks_in, cancels_in, AcksFit, increments_in}
+use Rattle.qpack_safety.proofs.Replies.{acks_in, cancels_in, AcksFit}
 
 -- a block: its prefix and lines are written, it means what was handed, and its count is among the insertions by its end
-pub record KeepsBlock (capacity : ℕ) (h : History) (sent : List Instruction) (b : SentBlock) : Type 0 where
+pub record KeepsBlock (capacity : ℕ) (h : History) (sent : List Instruction) (b : AbstractBlock) : Type 0 where
   pub base : ℕ
   pub few : base ≤ 2 ^ 62
   pub written : b.block.prefix ≡ prefix_for capacity (greatest b.named) base
@@ -38,13 +42,16 @@ every_all : {X : Type 0} (P : X → Type 0) → ((x : X) → P x) → (xs : List
 every_all P f [] = tt
 every_all P f (x ∷ xs) = (f x, every_all P f xs)
 
-pub block_grows : (capacity : ℕ) (h h' : History) (sent more : List Instruction) (b : SentBlock) → Grows h h' → KeepsBlock capacity h sent b → KeepsBlock capacity h' (sent ++ more) b
+block_grows : (capacity : ℕ) (h h' : History) (sent more : List Instruction) (b : AbstractBlock) → Grows h h'
+    → KeepsBlock capacity h sent b → KeepsBlock capacity h' (sent ++ more) b
 block_grows capacity h h' sent more b g k =
     record {
       base = k.base;
       few = k.few;
       written = k.written;
-      means = fields_kept (whole h) (whole h') k.base b.block.lines b.handed (every_all (Kept (whole h) (whole h')) (λ a. kept_growing h h' a g) (references_of k.base b.block.lines)) k.means;
+      means = fields_kept (whole h) (whole h') k.base b.block.lines b.handed
+          (every_all (Kept (whole h) (whole h')) (λ a. kept_growing h h' a g) (references_of k.base b.block.lines))
+          k.means;
       references = k.references;
       plain = k.plain;
       front = k.front;
@@ -57,75 +64,97 @@ block_grows capacity h h' sent more b g k =
     }
 
 -- a stream: acknowledgements never outrun decodes, and what wasn't acknowledged is open
-pub record KeepsStream (capacity : ℕ) (h : History) (sent : List Instruction) (opened : List OpenBlock) (replies : List Reply) (s : ℕ) (st : Stream) : Type 0 where
+pub record KeepsStream (capacity : ℕ) (h : History) (sent : List Instruction) (opened : List OpenBlock)
+    (decoder_in_flight : List Reply) (s : ℕ) (st : AbstractStream) : Type 0 where
   pub acknowledged : st.acknowledged ≤ length (filter is_dynamic (take st.decoded st.blocks))
-  pub fits : AcksFit s replies (length (open_of s opened))
-  pub stays_open : st.cancelled ≡ false → drop (acks_in s replies) (open_of s opened) ≡ map (λ (b : SentBlock). b.named) (drop st.acknowledged (filter is_dynamic st.blocks))
-  pub quiet : st.cancelled ≡ false → cancels_in s replies ≡ 0
+  pub fits : AcksFit s decoder_in_flight (length (open_of s opened))
+  pub stays_open : st.cancelled ≡ false → drop (acks_in s decoder_in_flight) (open_of s opened)
+      ≡ map (λ (b : AbstractBlock). b.named) (drop st.acknowledged (filter is_dynamic st.blocks))
+  pub quiet : st.cancelled ≡ false → cancels_in s decoder_in_flight ≡ 0
   pub blocks : AllByRecursion (KeepsBlock capacity h sent) st.blocks
 
-pub stream_grows : (capacity : ℕ) (h h' : History) (sent more : List Instruction) (opened : List OpenBlock) (replies : List Reply) (s : ℕ) (st : Stream)
-    → Grows h h' → KeepsStream capacity h sent opened replies s st → KeepsStream capacity h' (sent ++ more) opened replies s st
-stream_grows capacity h h' sent more opened replies s st g k =
+pub stream_grows : (capacity : ℕ) (h h' : History) (sent more : List Instruction) (opened : List OpenBlock)
+    (decoder_in_flight : List Reply) (s : ℕ) (st : AbstractStream)
+    → Grows h h' → KeepsStream capacity h sent opened decoder_in_flight s st
+    → KeepsStream capacity h' (sent ++ more) opened decoder_in_flight s st
+stream_grows capacity h h' sent more opened decoder_in_flight s st g k =
     record {
       acknowledged = k.acknowledged;
       fits = k.fits;
       stays_open = k.stays_open;
       quiet = k.quiet;
-      blocks = every_weaker (KeepsBlock capacity h sent) (KeepsBlock capacity h' (sent ++ more)) (λ b. block_grows capacity h h' sent more b g) st.blocks k.blocks;
+      blocks =
+          every_weaker (KeepsBlock capacity h sent) (KeepsBlock capacity h' (sent ++ more))
+          (λ b. block_grows capacity h h' sent more b g) st.blocks k.blocks;
     }
 
 -- the same where the open blocks of the stream are the same
-pub stream_opened : (capacity : ℕ) (h : History) (sent : List Instruction) (opened opened' : List OpenBlock) (replies : List Reply) (s : ℕ) (st : Stream)
-    → open_of s opened' ≡ open_of s opened → KeepsStream capacity h sent opened replies s st → KeepsStream capacity h sent opened' replies s st
-stream_opened capacity h sent opened opened' replies s st e k =
-    record { acknowledged = k.acknowledged; fits = rw e k.fits; stays_open = λ c. rw e (k.stays_open c); quiet = k.quiet; blocks = k.blocks }
+pub stream_opened : (capacity : ℕ) (h : History) (sent : List Instruction) (opened opened' : List OpenBlock)
+    (decoder_in_flight : List Reply) (s : ℕ) (st : AbstractStream)
+    → open_of s opened' ≡ open_of s opened → KeepsStream capacity h sent opened decoder_in_flight s st
+    → KeepsStream capacity h sent opened' decoder_in_flight s st
+stream_opened capacity h sent opened opened' decoder_in_flight s st e k =
+    record {
+      acknowledged = k.acknowledged;
+      fits = rw e k.fits;
+      stays_open = λ c. rw e (k.stays_open c);
+      quiet = k.quiet;
+      blocks = k.blocks;
+    }
 
-pub record Invariant (capacity limit : ℕ) (w : World) : Type 0 where
+pub record Invariant (capacity limit : ℕ) (w : AbstractSession) : Type 0 where
   pub received : History
   pub made : History
   pub taken_leads : Leads (start capacity) w.taken received
-  pub flying_leads : Leads received w.flying made
+  pub in_flight_leads : Leads received w.in_flight made
   pub decoder : w.decoder ≡ window_of received
   pub encoder : KeepsTable made w.encoder
   pub same_limit : w.encoder.limit ≡ limit
-  pub known : w.encoder.known + increments_in w.replies + w.unreported ≡ length received.inserted
+  pub known : w.encoder.known + increment_sum w.decoder_in_flight + w.unreported ≡ length received.inserted
   pub blocked : length w.encoder.waiting ≤ limit
-  pub streams : (s : ℕ) → KeepsStream capacity made (w.taken ++ w.flying) w.encoder.opened w.replies s (stream_at w.streams s)
+  pub streams : (s : ℕ) → KeepsStream capacity made (w.taken ++ w.in_flight) w.encoder.opened w.decoder_in_flight s
+      (stream_at w.streams s)
 
-pub sound_received : (capacity limit : ℕ) (w : World) (k : Invariant capacity limit w) → Sound k.received
+pub sound_received : (capacity limit : ℕ) (w : AbstractSession) (k : Invariant capacity limit w) → Sound k.received
 sound_received capacity limit w k = leads_sound (start capacity) w.taken k.received k.taken_leads (sound_start capacity)
 
-pub sound_made : (capacity limit : ℕ) (w : World) (k : Invariant capacity limit w) → Sound k.made
-sound_made capacity limit w k = leads_sound k.received w.flying k.made k.flying_leads (sound_received capacity limit w k)
+pub sound_made : (capacity limit : ℕ) (w : AbstractSession) (k : Invariant capacity limit w) → Sound k.made
+sound_made capacity limit w k =
+    leads_sound k.received w.in_flight k.made k.in_flight_leads (sound_received capacity limit w k)
 
-pub agreed_received : (capacity limit : ℕ) (w : World) (k : Invariant capacity limit w) → Agreed capacity k.received
-agreed_received capacity limit w k = leads_agreed capacity (start capacity) w.taken k.received k.taken_leads (agreed_start capacity)
+pub agreed_received : (capacity limit : ℕ) (w : AbstractSession) (k : Invariant capacity limit w)
+    → Agreed capacity k.received
+agreed_received capacity limit w k =
+    leads_agreed capacity (start capacity) w.taken k.received k.taken_leads (agreed_start capacity)
 
-pub agreed_made : (capacity limit : ℕ) (w : World) (k : Invariant capacity limit w) → Agreed capacity k.made
-agreed_made capacity limit w k = leads_agreed capacity k.received w.flying k.made k.flying_leads (agreed_received capacity limit w k)
+pub agreed_made : (capacity limit : ℕ) (w : AbstractSession) (k : Invariant capacity limit w) → Agreed capacity k.made
+agreed_made capacity limit w k =
+    leads_agreed capacity k.received w.in_flight k.made k.in_flight_leads (agreed_received capacity limit w k)
 
 pub total_window : (h : History) → Sound h → total (window_of h) ≡ length h.inserted
 unfolding window_of
 total_window h s = omega (arith, length-drop h.dropped h.inserted, s.in_range)
 
-pub inv_started : (capacity limit : ℕ) → Invariant capacity limit (started capacity limit)
-unfolding window window_of AcksFit acks_in cancels_in open_of increments_in
+pub inv_started : (capacity limit : ℕ) → Invariant capacity limit (abstract_start capacity limit)
+unfolding window window_of AcksFit acks_in cancels_in open_of increment_sum
 inv_started capacity limit =
     record {
       received = start capacity;
       made = start capacity;
       taken_leads = refl;
-      flying_leads = refl;
+      in_flight_leads = refl;
       decoder = refl;
       encoder = record { shares = refl; marked = tt; behind = omega arith; held = tt };
       same_limit = refl;
       known = refl;
       blocked = omega arith;
-      streams = λ s. record { acknowledged = omega arith; fits = tt; stays_open = λ _. refl; quiet = λ _. refl; blocks = tt };
+      streams =
+          λ s. record { acknowledged = omega arith; fits = tt; stays_open = λ _. refl; quiet = λ _. refl; blocks = tt };
     }
 
 -- a change of one stream
-pub streams_update : (P : ℕ → Stream → Type 0) (ps : List (ℕ × Stream)) (s : ℕ) (v : Stream) → P s v → ((q : ℕ) → (s ≡ q → ⊥) → P q (stream_at ps q)) → (q : ℕ) → P q (stream_at (with_stream ps s v) q)
+pub streams_update : (P : ℕ → AbstractStream → Type 0) (ps : List (ℕ × AbstractStream)) (s : ℕ) (v : AbstractStream)
+    → P s v → ((q : ℕ) → (s ≡ q → ⊥) → P q (stream_at ps q)) → (q : ℕ) → P q (stream_at (with_stream ps s v) q)
 streams_update P ps s v h k q =
-    cond_both (nat_eq s q) v (stream_at ps q) (P q) (λ t. subst (λ (x : ℕ). P x v) (eqb-true s q t) h) (λ f. k q (eqb-false s q f))
+    cond_both (nat_eq s q) v (stream_at ps q) (P q) (λ t. subst (λ (x : ℕ). P x v) (eqb-true s q t) h)
+    (λ f. k q (eqb-false s q f))

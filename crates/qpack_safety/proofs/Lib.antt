@@ -14,3 +14,10 @@ pub mod Shown
 pub mod WritingEvents
 pub mod DeliveryEvents
 pub mod SessionSafely
+pub mod AbstractRows
+pub mod BlockedBlocks
+pub mod CountedEvents
+pub mod EventHistory
+pub mod EventOrder
+pub mod FourParts
+pub mod HistoryRows

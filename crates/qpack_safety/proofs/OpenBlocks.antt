@@ -1,5 +1,6 @@
 -- The open blocks of each stream.
-use Rattle.std.proofs.Common.{ℕ, ◌<◌, ◌≡◌, Bool, true, false, cond, List, [], ◌∷◌, ◌++◌, length, drop, Some, refl, sym, ap, ◌∙◌, arith}
+use Rattle.std.proofs.Common.{ℕ, ◌<◌, ◌≡◌, Bool, true, false, cond, List, [], ◌∷◌, ◌++◌, length, drop, Some, refl, sym}
+use Rattle.std.proofs.Common.{ap, ◌∙◌, arith}
 use Rattle.std.specs.List.{AllByRecursion}
 use Rattle.std.specs.Prelude.{not, nat_eq}
 use Rattle.std.proofs.lemmas.Bool.{ne_eqb, eqb-true}
@@ -15,24 +16,28 @@ pub record Released (s : ℕ) (bs rest : List OpenBlock) : Type 1 where
   pub others : (q : ℕ) → (s ≡ q → ⊥) → open_of q rest ≡ open_of q bs
   pub every : (P : OpenBlock → Type 0) → AllByRecursion P bs → AllByRecursion P rest
 
-pub release_some : (s : ℕ) (bs : List OpenBlock) → 0 < length (open_of s bs) → (rest : List OpenBlock) × (without_oldest s bs ≡ Some rest) × Released s bs rest
+pub release_some : (s : ℕ) (bs : List OpenBlock) → 0 < length (open_of s bs)
+    → (rest : List OpenBlock) × (without_oldest s bs ≡ Some rest) × Released s bs rest
 unfolding open_of without_oldest
 release_some s [] h = absurd (omega arith)
 release_some s (b ∷ bs) h = pick (nat_eq b.stream s) refl (release_some s bs)
   where
-    pick : (t : Bool) → nat_eq b.stream s ≡ t → (0 < length (open_of s bs) → (rest : List OpenBlock) × (without_oldest s bs ≡ Some rest) × Released s bs rest)
+    pick : (t : Bool) → nat_eq b.stream s ≡ t
+        → (0 < length (open_of s bs) → (rest : List OpenBlock) × (without_oldest s bs ≡ Some rest) × Released s bs rest)
         → (rest : List OpenBlock) × (without_oldest s (b ∷ bs) ≡ Some rest) × Released s (b ∷ bs) rest
     pick true t r = (
       bs,
       rw t refl,
       record {
         own = rw t refl;
-        others = λ q d. let apart : nat_eq b.stream q ≡ false = ne_eqb b.stream q (λ e. d (sym (eqb-true b.stream s t) ∙ e)) in rw apart refl;
+        others = λ q d. let apart : nat_eq b.stream q ≡ false =
+            ne_eqb b.stream q (λ e. d (sym (eqb-true b.stream s t) ∙ e)) in rw apart refl;
         every = λ P k. k.1;
       },
     )
     pick false t r =
-        let p : 0 < length (open_of s bs) = let x : 0 < length (cond (nat_eq b.stream s) (b.entries ∷ open_of s bs) (open_of s bs)) = h in rw t at x in
+        let p : 0 < length (open_of s bs) =
+        let x : 0 < length (cond (nat_eq b.stream s) (b.entries ∷ open_of s bs) (open_of s bs)) = h in rw t at x in
         let q = r p in (
           b ∷ q.0,
           rw (t, q.1) refl,
@@ -53,10 +58,13 @@ unfolding open_of without_stream
 releases_stream s [] = record { none_left = refl; others_stay = λ q d. refl; all_stay = λ P k. k }
 releases_stream s (b ∷ bs) = pick (nat_eq b.stream s) refl (releases_stream s bs)
   where
-    pick : (t : Bool) → nat_eq b.stream s ≡ t → ReleasedAll s bs (without_stream s bs) → ReleasedAll s (b ∷ bs) (cond (not t) (b ∷ without_stream s bs) (without_stream s bs))
+    pick : (t : Bool) → nat_eq b.stream s ≡ t → ReleasedAll s bs (without_stream s bs)
+        → ReleasedAll s (b ∷ bs) (cond (not t) (b ∷ without_stream s bs) (without_stream s bs))
     pick true t r = record {
       none_left = r.none_left;
-      others_stay = λ q d. (let apart : nat_eq b.stream q ≡ false = ne_eqb b.stream q (λ e. d (sym (eqb-true b.stream s t) ∙ e)) in rw apart (r.others_stay q d));
+      others_stay =
+          λ q d. (let apart : nat_eq b.stream q ≡ false = ne_eqb b.stream q
+          (λ e. d (sym (eqb-true b.stream s t) ∙ e)) in rw apart (r.others_stay q d));
       all_stay = λ P k. r.all_stay P k.1;
     }
     pick false t r = record {
@@ -66,15 +74,22 @@ releases_stream s (b ∷ bs) = pick (nat_eq b.stream s) refl (releases_stream s 
     }
 
 -- the open blocks of a stream after one more
-pub open_push : (s q : ℕ) (named : List ℕ) (bs : List OpenBlock) → open_of q (bs ++ record { stream = s; entries = named } ∷ []) ≡ open_of q bs ++ cond (nat_eq s q) (named ∷ []) []
+pub open_push : (s q : ℕ) (named : List ℕ) (bs : List OpenBlock)
+    → open_of q (bs ++ record { stream = s; entries = named } ∷ []) ≡ open_of q bs ++ cond (nat_eq s q) (named ∷ []) []
 unfolding open_of
-open_push s q named [] = elim (nat_eq s q) as (λ b. cond b (named ∷ []) [] ≡ cond b (named ∷ []) []) [ true ↦ refl | false ↦ refl ]
+open_push s q named [] =
+    elim (nat_eq s q) as (λ b. cond b (named ∷ []) [] ≡ cond b (named ∷ []) []) [ true ↦ refl | false ↦ refl ]
 open_push s q named (b ∷ bs) =
-    rw (open_push s q named bs) (elim (nat_eq b.stream q) as (λ t. cond t (b.entries ∷ (open_of q bs ++ cond (nat_eq s q) (named ∷ []) [])) (open_of q bs ++ cond (nat_eq s q) (named ∷ []) [])
-    ≡ cond t (b.entries ∷ open_of q bs) (open_of q bs) ++ cond (nat_eq s q) (named ∷ []) []) [ true ↦ refl | false ↦ refl ])
+    rw (open_push s q named bs) (elim (nat_eq b.stream q) as
+    (λ t. cond t (b.entries ∷ (open_of q bs ++ cond (nat_eq s q) (named ∷ []) []))
+    (open_of q bs ++ cond (nat_eq s q) (named ∷ []) [])
+    ≡ cond t (b.entries ∷ open_of q bs) (open_of q bs) ++ cond (nat_eq s q) (named ∷ []) [])
+    [ true ↦ refl | false ↦ refl ])
 
-pub every_open : (P : List ℕ → Type 0) (s : ℕ) (bs : List OpenBlock) → AllByRecursion (λ (b : OpenBlock). P b.entries) bs → AllByRecursion P (open_of s bs)
+pub every_open : (P : List ℕ → Type 0) (s : ℕ) (bs : List OpenBlock)
+    → AllByRecursion (λ (b : OpenBlock). P b.entries) bs → AllByRecursion P (open_of s bs)
 unfolding open_of
 every_open P s [] h = tt
 every_open P s (b ∷ bs) h = let rest = every_open P s bs h.1 in
-    elim (nat_eq b.stream s) as (λ t. AllByRecursion P (cond t (b.entries ∷ open_of s bs) (open_of s bs))) [ true ↦ (h.0, rest) | false ↦ rest ]
+    elim (nat_eq b.stream s) as (λ t. AllByRecursion P (cond t (b.entries ∷ open_of s bs) (open_of s bs)))
+    [ true ↦ (h.0, rest) | false ↦ rest ]

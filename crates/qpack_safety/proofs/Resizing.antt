@@ -1,15 +1,18 @@
 -- The encoder sets a capacity.
-use Rattle.std.proofs.Common.{ℕ, ◌+◌, ◌<◌, ◌≤◌, ◌≡◌, true, cond, List, [], ◌∷◌, ◌++◌, length, drop, Option, Result, Ok, Err, refl, sym, ap, ◌∙◌, subst, inl, inr, ◌⊎◌, arith, length-drop}
+use Rattle.std.proofs.Common.{ℕ, ◌+◌, ◌<◌, ◌≤◌, ◌≡◌, true, cond, List, [], ◌∷◌, ◌++◌, length, drop, Option, Result, Ok}
+use Rattle.std.proofs.Common.{Err, refl, sym, ap, ◌∙◌, subst, inl, inr, ◌⊎◌, arith, length-drop}
 use Rattle.std.specs.List.{AllByRecursion}
 use Rattle.std.specs.Prelude.{nat_le}
 use Rattle.std.proofs.lemmas.Bool.{cond_both, le-leb, leb-true}
 use Rattle.std.proofs.lemmas.List.{append_assoc, length-map, drop-map}
 use Rattle.qpack_spec.specs.Field.{Field}
 use Rattle.qpack_spec.specs.Instruction.{SetCapacity}
-use Rattle.qpack_spec.specs.Window.{Window, greatest_capacity, excess, Refusal, DoesNotFit, AboveMaximum, Resizes, effect, after}
+use Rattle.qpack_spec.specs.Window.{Window, greatest_capacity, excess, Refusal, DoesNotFit, AboveMaximum, Resizes}
+use Rattle.qpack_spec.specs.Window.{effect, after}
 use Rattle.qpack_spec.specs.History.{History, window_of, grown}
 use Rattle.qpack_spec.specs.Table.{Entry, OpenBlock, Table, fields_in, window, count, can_drop, resized}
-use Rattle.qpack_spec.specs.World.{stream_at, World, with_resized}
+use Rattle.qpack_spec.specs.Session.{stream_at}
+use Rattle.qpack_safety.specs.AbstractSession.{AbstractSession, after_resize}
 use Rattle.qpack_spec.proofs.Lists.{every_drop, every_weaker}
 use Rattle.qpack_spec.proofs.Windows.{Sound, leads_append, window_grown, grows_one, excess_bound}
 use Rattle.qpack_spec.proofs.Places.{NotHeld, dropped_not_held, opened_above, drops_received}
@@ -21,16 +24,24 @@ pub record CanResize (t : Table) (n : ℕ) : Type 0 where
   pub drops : can_drop t (excess n (fields_in t.live)) ≡ true
 
 pub resized_table : Table → ℕ → Table
-resized_table t n = record t { capacity = n; dropped = t.dropped + excess n (fields_in t.live); live = drop (excess n (fields_in t.live)) t.live }
+resized_table t n =
+    record t {
+      capacity = n;
+      dropped = t.dropped + excess n (fields_in t.live);
+      live = drop (excess n (fields_in t.live)) t.live;
+    }
 
 -- a capacity is taken, or refused for the one reason or the other
-pub resized_cases : (t : Table) (n : ℕ) → (CanResize t n × (resized t n ≡ Ok (resized_table t n))) ⊎ ((e : Refusal) × (resized t n ≡ Err e))
+pub resized_cases : (t : Table) (n : ℕ) → (CanResize t n × (resized t n ≡ Ok (resized_table t n)))
+    ⊎ ((e : Refusal) × (resized t n ≡ Err e))
 unfolding resized resized_table
 resized_cases t n =
     let gone = excess n (fields_in t.live) in
     let drops = cond (can_drop t gone) (Ok (resized_table t n)) (Err DoesNotFit) in
-    cond_both (nat_le n (greatest_capacity t.agreed)) drops (Err AboveMaximum) (λ r. (CanResize t n × (r ≡ Ok (resized_table t n))) ⊎ ((e : Refusal) × (r ≡ Err e)))
-    (λ t1. cond_both (can_drop t gone) (Ok (resized_table t n)) (Err DoesNotFit) (λ r. (CanResize t n × (r ≡ Ok (resized_table t n))) ⊎ ((e : Refusal) × (r ≡ Err e)))
+    cond_both (nat_le n (greatest_capacity t.agreed)) drops (Err AboveMaximum)
+    (λ r. (CanResize t n × (r ≡ Ok (resized_table t n))) ⊎ ((e : Refusal) × (r ≡ Err e)))
+    (λ t1. cond_both (can_drop t gone) (Ok (resized_table t n)) (Err DoesNotFit)
+    (λ r. (CanResize t n × (r ≡ Ok (resized_table t n))) ⊎ ((e : Refusal) × (r ≡ Err e)))
     (λ t2. inl (record { within = leb-true _ _ t1; drops = t2 }, refl))
     (λ _. inr (DoesNotFit, refl)))
     (λ _. inr (AboveMaximum, refl))
@@ -43,13 +54,18 @@ window_resized : (t : Table) (n : ℕ) → window (resized_table t n) ≡ after 
 unfolding window resized_table after
 window_resized t n =
     let k = excess n (fields_in t.live) in
-    ap (λ (l : List Field). let w : Window = record { capacity = n; agreed = t.agreed; dropped = t.dropped + k; live = l } in w) (sym (drop-map (λ (x : Entry). x.field) k t.live))
+    ap (λ (l : List Field). let w : Window = record {
+      capacity = n;
+      agreed = t.agreed;
+      dropped = t.dropped + k;
+      live = l;
+    } in w) (sym (drop-map (λ (x : Entry). x.field) k t.live))
 
 excess_live : (t : Table) (n : ℕ) → excess n (fields_in t.live) ≤ length t.live
 excess_live t n = omega (arith, excess_bound n (fields_in t.live), length-map t.live (λ (x : Entry). x.field))
 
 -- the parts of a resized table
-record SameResized (t t' : Table) (k : ℕ) : Type 0 where
+pub record SameResized (t t' : Table) (k : ℕ) : Type 0 where
   pub z_known : t'.known ≡ t.known
   pub z_limit : t'.limit ≡ t.limit
   pub z_opened : t'.opened ≡ t.opened
@@ -57,50 +73,82 @@ record SameResized (t t' : Table) (k : ℕ) : Type 0 where
   pub z_dropped : t'.dropped ≡ t.dropped + k
   pub z_live : t'.live ≡ drop k t.live
 
-same_resized : (t : Table) (n : ℕ) → SameResized t (resized_table t n) (excess n (fields_in t.live))
+pub same_resized : (t : Table) (n : ℕ) → SameResized t (resized_table t n) (excess n (fields_in t.live))
 unfolding resized_table
-same_resized t n = record { z_known = refl; z_limit = refl; z_opened = refl; z_waiting = refl; z_dropped = refl; z_live = refl }
+same_resized t n =
+    record { z_known = refl; z_limit = refl; z_opened = refl; z_waiting = refl; z_dropped = refl; z_live = refl }
 
-kept_resized : (h : History) (t : Table) (n : ℕ) → Sound h → KeepsTable h t → CanResize t n → KeepsTable (grown h (Resizes n)) (resized_table t n)
+kept_resized : (h : History) (t : Table) (n : ℕ) → Sound h → KeepsTable h t → CanResize t n
+    → KeepsTable (grown h (Resizes n)) (resized_table t n)
 kept_resized h t n s k c =
     let gone = excess n (fields_in t.live) in
     let b : gone ≤ length t.live = excess_live t n in
-    let none : (x : ℕ) → t.dropped < x → x ≤ t.dropped + gone → NotHeld t x = dropped_not_held t gone c.drops b k.marked in
+    let none : (x : ℕ) → t.dropped < x → x ≤ t.dropped + gone → NotHeld t x =
+    dropped_not_held t gone c.drops b k.marked in
     let z = same_resized t n in
     record {
-      shares = window_resized t n ∙ ap (λ (w : Window). after w (Resizes n)) k.shares ∙ sym (window_grown h (Resizes n) s.in_range);
+      shares =
+          window_resized t n ∙ ap (λ (w : Window). after w (Resizes n)) k.shares
+          ∙ sym (window_grown h (Resizes n) s.in_range);
       marked = rw z.z_live (every_drop IsSent gone t.live k.marked);
       behind = rw (z.z_dropped, z.z_known) (drops_received t gone k.behind none);
-      held = rw z.z_opened (every_weaker (λ (x : OpenBlock). AllByRecursion (λ a. (t.dropped + gone < a) × (a ≤ count t)) x.entries) (λ (x : OpenBlock). AllByRecursion (IsLive (resized_table t n)) x.entries)
-          (λ x r. every_weaker (λ a. (t.dropped + gone < a) × (a ≤ count t)) (IsLive (resized_table t n)) (λ a q. (rw z.z_dropped q.0, omega (arith, q.1, z.z_dropped, ap length z.z_live, length-drop gone t.live))) x.entries r)
+      held = rw z.z_opened (every_weaker (λ (x : OpenBlock). AllByRecursion (λ a. (t.dropped + gone < a)
+          × (a ≤ count t)) x.entries) (λ (x : OpenBlock). AllByRecursion (IsLive (resized_table t n)) x.entries)
+          (λ x r. every_weaker (λ a. (t.dropped + gone < a) × (a ≤ count t)) (IsLive (resized_table t n))
+          (λ a q. (
+            rw z.z_dropped q.0,
+            omega (
+              arith,
+              q.1,
+              z.z_dropped,
+              ap length z.z_live,
+              length-drop gone t.live,
+            ),
+          )) x.entries r)
           t.opened (opened_above t.dropped (count t) gone t.opened (λ x low high. (none x low high).unopened) k.held));
     }
 
-bound_same : (t : Table) (h : History) (n : ℕ) → window t ≡ window_of h → n ≤ greatest_capacity t.agreed → n ≤ greatest_capacity (window_of h).agreed
+bound_same : (t : Table) (h : History) (n : ℕ) → window t ≡ window_of h → n ≤ greatest_capacity t.agreed
+    → n ≤ greatest_capacity (window_of h).agreed
 unfolding window window_of
 bound_same t h n e le = subst (λ (o : Option ℕ). n ≤ greatest_capacity o) (ap (λ (w : Window). w.agreed) e) le
 
-inv_resized : (capacity limit : ℕ) (w : World) (n : ℕ) → CanResize w.encoder n → Invariant capacity limit w → Invariant capacity limit (record w { encoder = resized_table w.encoder n; flying = w.flying ++ SetCapacity n ∷ [] })
+inv_resized : (capacity limit : ℕ) (w : AbstractSession) (n : ℕ) → CanResize w.encoder n → Invariant capacity limit w
+    → Invariant capacity limit (record w {
+      encoder = resized_table w.encoder n;
+      in_flight = w.in_flight ++ SetCapacity n ∷ [];
+    })
 inv_resized capacity limit w n c k =
     let s : Sound k.made = sound_made capacity limit w k in
     let z = same_resized w.encoder n in
-    let one : effect (window_of k.made) (SetCapacity n) ≡ Ok (Resizes n) = resize_effect (window_of k.made) n (bound_same w.encoder k.made n k.encoder.shares c.within) in
+    let one : effect (window_of k.made) (SetCapacity n) ≡ Ok (Resizes n) =
+    resize_effect (window_of k.made) n (bound_same w.encoder k.made n k.encoder.shares c.within) in
     record {
       received = k.received;
       made = grown k.made (Resizes n);
       taken_leads = k.taken_leads;
-      flying_leads = leads_append k.received w.flying (SetCapacity n ∷ []) k.made (grown k.made (Resizes n)) k.flying_leads (Resizes n, one, refl);
+      in_flight_leads =
+          leads_append k.received w.in_flight (SetCapacity n ∷ []) k.made (grown k.made (Resizes n)) k.in_flight_leads
+          (Resizes n, one, refl);
       decoder = k.decoder;
       encoder = kept_resized k.made w.encoder n s k.encoder c;
       same_limit = z.z_limit ∙ k.same_limit;
       known = omega (arith, k.known, z.z_known);
       blocked = rw z.z_waiting k.blocked;
-      streams = λ q. rw (z.z_opened, ← append_assoc) (stream_grows capacity k.made (grown k.made (Resizes n)) (w.taken ++ w.flying) (SetCapacity n ∷ []) w.encoder.opened w.replies q (stream_at w.streams q) (grows_one k.made (Resizes n)) (k.streams q));
+      streams =
+          λ q. rw (z.z_opened, ← append_assoc) (stream_grows capacity k.made (grown k.made (Resizes n))
+          (w.taken ++ w.in_flight) (SetCapacity n ∷ []) w.encoder.opened w.decoder_in_flight q (stream_at w.streams q)
+          (grows_one k.made (Resizes n)) (k.streams q));
     }
 
-pub inv_with_resized : (capacity limit : ℕ) (w : World) (n : ℕ) → Invariant capacity limit w → Invariant capacity limit (with_resized w n (resized w.encoder n))
+pub inv_with_resized : (capacity limit : ℕ) (w : AbstractSession) (n : ℕ) → Invariant capacity limit w
+    → Invariant capacity limit (after_resize w n (resized w.encoder n))
 inv_with_resized capacity limit w n k = pick (resized_cases w.encoder n)
   where
-    pick : (CanResize w.encoder n × (resized w.encoder n ≡ Ok (resized_table w.encoder n))) ⊎ ((e : Refusal) × (resized w.encoder n ≡ Err e)) → Invariant capacity limit (with_resized w n (resized w.encoder n))
-    pick (inl p) = subst (λ (r : Result Table Refusal). Invariant capacity limit (with_resized w n r)) (sym p.1) (inv_resized capacity limit w n p.0 k)
-    pick (inr e) = subst (λ (r : Result Table Refusal). Invariant capacity limit (with_resized w n r)) (sym e.1) k
+    pick : (CanResize w.encoder n × (resized w.encoder n ≡ Ok (resized_table w.encoder n)))
+        ⊎ ((e : Refusal) × (resized w.encoder n ≡ Err e))
+        → Invariant capacity limit (after_resize w n (resized w.encoder n))
+    pick (inl p) =
+        subst (λ (r : Result Table Refusal). Invariant capacity limit (after_resize w n r)) (sym p.1)
+        (inv_resized capacity limit w n p.0 k)
+    pick (inr e) = subst (λ (r : Result Table Refusal). Invariant capacity limit (after_resize w n r)) (sym e.1) k

@@ -1,20 +1,26 @@
 -- A session in bytes is safe at every moment.
-use Rattle.std.proofs.Common.{ℕ, ◌+◌, ◌<◌, ◌≤◌, ◌≡◌, Bool, true, false, cond, List, [], ◌∷◌, ◌++◌, length, take, min, None, Some, Result, Ok, refl, sym, ap, ◌∙◌, subst, arith, lit≤, inl, inr, ◌⊎◌, length-append}
+use Rattle.std.proofs.Common.{ℕ, ◌+◌, ◌<◌, ◌≤◌, ◌≡◌, Bool, true, false, cond, List, [], ◌∷◌, ◌++◌, length, take, min}
+use Rattle.std.proofs.Common.{None, Some, Result, Ok, refl, sym, ap, ◌∙◌, subst, arith, lit≤, inl, inr, ◌⊎◌}
+use Rattle.std.proofs.Common.{length-append}
 use Rattle.std.specs.List.{slice_get}
 use Rattle.std.specs.Prelude.{nat_lt, nat_eq}
 use Rattle.std.proofs.lemmas.Bool.{cases_lt, eq-eqb, ne_eqb}
 use Rattle.std.proofs.lemmas.List.{append_assoc, append_cancel_left}
-use Rattle.qpack_spec.specs.Field.{Field, total_size}
+use Rattle.qpack_spec.specs.Field.{Field}
 use Rattle.qpack_spec.specs.Form.{Truncates}
 use Rattle.qpack_spec.specs.Instruction.{Instruction, instruction_form, SpellsInstruction}
 use Rattle.qpack_spec.specs.Stream.{Joined, IsCutOff}
 use Rattle.qpack_spec.specs.Window.{Window, total}
-use Rattle.qpack_spec.specs.Reading.{Fault, Fields, Missing, reading, fields_of, references_of}
+use Rattle.qpack_spec.specs.Reading.{Fault, Reading, Faulty, Fields, Missing, reading, fields_of, references_of}
 use Rattle.qpack_spec.specs.History.{History, whole, start, Leads}
 use Rattle.qpack_spec.specs.BlockReading.{reading_of_bytes, base_behind, meaning_over_all, written_block}
-use Rattle.qpack_spec.specs.Table.{Table, table_of, fields_in, window, count}
-use Rattle.qpack_spec.specs.World.{SentBlock, required_count, stream_at, World, started, is_read}
-use Rattle.qpack_spec.specs.Session.{KeptBlock, kept_at, Session, Event, Encode, Decode, ToDecoder, ToEncoder, Acknowledge, Cancel, ChangeCapacity, Outcome, Delivered, Refused, StreamFault, opened, next_block, waits, skip_reason, with_block, given_up, with_decoded, DeliveryEnds, takes_all, no_memory, bad_bytes, bad_instruction, DeliversTo, Happens, Goes, IsByteEvent, FitsMemory, Runs}
+use Rattle.qpack_spec.specs.Table.{Table, window, count}
+use Rattle.qpack_safety.specs.AbstractSession.{AbstractBlock, required_count, AbstractSession, abstract_start}
+use Rattle.qpack_spec.specs.Session.{KeptBlock, stream_at, Session, Event, Encode, Decode, ToDecoder, ToEncoder}
+use Rattle.qpack_spec.specs.Session.{Acknowledge, Cancel, ChangeCapacity, Outcome, decode_outcome, Delivered, Refused}
+use Rattle.qpack_spec.specs.Session.{StreamFault, opened, next_block, requires_entry, waits, skip_reason, with_block}
+use Rattle.qpack_spec.specs.Session.{given_up, with_decoded, DeliveryEnds, takes_all, no_memory, bad_bytes}
+use Rattle.qpack_spec.specs.Session.{bad_instruction, DeliversTo, Happens, Goes, IsByteEvent, FitsMemory, is_read}
 use Rattle.qpack_spec.specs.WrittenLaws.{IsByteField}
 use Rattle.qpack_spec.proofs.Places.{every_take}
 use Rattle.qpack_spec.proofs.BlockReadings.{written_read, written_means}
@@ -25,85 +31,109 @@ use Rattle.qpack_spec.proofs.Windows.{Agreed, agreed_start, leads_agreed, leads_
 use Rattle.qpack_spec.proofs.Readings.{fields_plain}
 use Rattle.qpack_spec.proofs.Places.{tracked_none}
 use Rattle.qpack_spec.proofs.Prefixes.{base_written}
-use Rattle.qpack_safety.specs.Safety.{DecodesExactly, Safe}
-use Rattle.qpack_safety.specs.SessionSafety.{ReadsExactly, SafeSession, SessionsAreSafe}
-use Rattle.qpack_safety.specs.Shows.{EndsAt, ShowsBlock, Shows}
+use Rattle.qpack_safety.specs.AbstractSafety.{DecodesExactly}
+use Rattle.qpack_safety.specs.SessionSafety.{Extends}
+use Rattle.qpack_safety.specs.Refines.{EndsAt, RefinesBlock, Refines}
 use Rattle.qpack_safety.proofs.Invariant.{KeepsBlock, Invariant, inv_started}
 use Rattle.qpack_safety.proofs.Safely.{inv_safe}
 use Rattle.qpack_spec.proofs.Cuttings.{Wire, wire, reads_delivered, one_reading}
 use Rattle.qpack_safety.proofs.Shown.{agrees_get}
-use Rattle.qpack_safety.proofs.WritingEvents.{Lands, whole_sent, lands_encoded, lands_given_up, lands_resized, lands_decoded, lawful_on, lands_acknowledged, lands_cancelled}
-use Rattle.qpack_safety.proofs.DeliveryEvents.{Moved, moved, lands_delivered, delivered_lawful, lands_heard, heard_lawful}
+use Rattle.qpack_safety.proofs.WritingEvents.{RefinesSome, whole_sent, lands_encoded, lands_given_up, lands_resized}
+use Rattle.qpack_safety.proofs.WritingEvents.{lands_decoded, lawful_on, lands_acknowledged, lands_cancelled}
+use Rattle.qpack_safety.proofs.DeliveryEvents.{Moved, moved, lands_delivered, delivered_lawful, lands_heard}
+use Rattle.qpack_safety.proofs.DeliveryEvents.{heard_lawful}
 
 -- ---- every event
 
-stays : (capacity limit : ℕ) (v v' : Session) (w : World) → Shows v w → Invariant capacity limit w → v' ≡ v → Lands capacity limit v'
-stays capacity limit v v' w sh k e = subst (Lands capacity limit) (sym e) (record { world = w; shows = sh; keeps = k })
+stays : (capacity limit : ℕ) (v v' : Session) (w : AbstractSession) → Refines v w → Invariant capacity limit w → v' ≡ v
+    → RefinesSome capacity limit v'
+stays capacity limit v v' w sh k e =
+    subst (RefinesSome capacity limit) (sym e) (record { abstract = w; refines = sh; keeps = k })
 
-moves : (capacity limit : ℕ) (v' u : Session) → v' ≡ u → Lands capacity limit u → Lands capacity limit v'
-moves capacity limit v' u e l = subst (Lands capacity limit) (sym e) l
+moves : (capacity limit : ℕ) (v' u : Session) → v' ≡ u → RefinesSome capacity limit u → RefinesSome capacity limit v'
+moves capacity limit v' u e l = subst (RefinesSome capacity limit) (sym e) l
 
-happens_lands : (capacity limit : ℕ) (v : Session) (w : World) (e : Event) (o : Outcome) (v' : Session) → Shows v w → Invariant capacity limit w → IsByteEvent e → FitsMemory v' → skip_reason v e ≡ None → Happens v e o v' → Lands capacity limit v'
+happens_lands : (capacity limit : ℕ) (v : Session) (w : AbstractSession) (e : Event) (o : Outcome) (v' : Session)
+    → Refines v w → Invariant capacity limit w → IsByteEvent e → FitsMemory v' → skip_reason v e ≡ None
+    → Happens v e o v' → RefinesSome capacity limit v'
 unfolding Happens skip_reason
-happens_lands capacity limit v w (Encode s fs) o v' sh k wr fits none (inl h) = moves capacity limit v' (with_block v s fs) h.1 (lands_encoded capacity limit v w s fs sh k wr (subst FitsMemory h.1 fits))
+happens_lands capacity limit v w (Encode s fs) o v' sh k wr fits none (inl h) =
+    moves capacity limit v' (with_block v s fs) h.1
+    (lands_encoded capacity limit v w s fs sh k wr (subst FitsMemory h.1 fits))
 happens_lands capacity limit v w (Encode s fs) o v' sh k wr fits none (inr (inl h)) =
-    moves capacity limit v' (given_up v (take h.1 fs)) h.2 (lands_given_up capacity limit v w (take h.1 fs) sh k (every_take IsByteField h.1 fs wr) (subst FitsMemory h.2 fits))
-happens_lands capacity limit v w (Encode s fs) o v' sh k wr fits none (inr (inr h)) = stays capacity limit v v' w sh k h.1
+    moves capacity limit v' (given_up v (take h.many fs)) h.leads
+    (lands_given_up capacity limit v w (take h.many fs) sh k (every_take IsByteField h.many fs wr)
+    (subst FitsMemory h.leads fits))
+happens_lands capacity limit v w (Encode s fs) o v' sh k wr fits none (inr (inr h)) =
+    stays capacity limit v v' w sh k h.1
 happens_lands capacity limit v w (Decode s) o v' sh k wr fits none (inl h) =
     moves capacity limit v' _ h.moves (both (is_read (Some (reading_of_bytes (window v.decoder) h.block.bytes))))
   where
-    both : (b : Bool) → Lands capacity limit (cond b (with_decoded v s) v)
+    both : (b : Bool) → RefinesSome capacity limit (cond b (with_decoded v s) v)
     both true = lands_decoded capacity limit v w s sh k
-    both false = record { world = w; shows = sh; keeps = k }
+    both false = record { abstract = w; refines = sh; keeps = k }
 happens_lands capacity limit v w (Decode s) o v' sh k wr fits none (inr h) = stays capacity limit v v' w sh k h.1
-happens_lands capacity limit v w (ToDecoder n) o v' sh k wr fits none h = lands_delivered capacity limit v w n o v' sh k h
+happens_lands capacity limit v w (ToDecoder n) o v' sh k wr fits none h =
+    lands_delivered capacity limit v w n o v' sh k h
 happens_lands capacity limit v w (ToEncoder n) o v' sh k wr fits none h = lands_heard capacity limit v w n o v' sh k h
 happens_lands capacity limit v w (Acknowledge s) o v' sh k wr fits none (inl h) =
-    moves capacity limit v' _ h.1 (lands_acknowledged capacity limit v w s sh k (lawful_on s (kept_at v.streams s) (waits (kept_at v.streams s)) 4 none))
+    moves capacity limit v' _ h.1 (lands_acknowledged capacity limit v w s sh k
+    (lawful_on s (stream_at v.streams s) (waits requires_entry (stream_at v.streams s)) 4 none))
 happens_lands capacity limit v w (Acknowledge s) o v' sh k wr fits none (inr h) = stays capacity limit v v' w sh k h.1
 happens_lands capacity limit v w (Cancel s) o v' sh k wr fits none (inl h) =
-    moves capacity limit v' _ h.1 (lands_cancelled capacity limit v w s sh k (lawful_on s (kept_at v.streams s) true 0 none).small)
+    moves capacity limit v' _ h.1 (lands_cancelled capacity limit v w s sh k
+    (lawful_on s (stream_at v.streams s) true 0 none).small)
 happens_lands capacity limit v w (Cancel s) o v' sh k wr fits none (inr h) = stays capacity limit v v' w sh k h.1
-happens_lands capacity limit v w (ChangeCapacity n) o v' sh k wr fits none (inl h) = moves capacity limit v' _ h.3 (lands_resized capacity limit v w n h.0 sh k h.1)
-happens_lands capacity limit v w (ChangeCapacity n) o v' sh k wr fits none (inr (inl h)) = stays capacity limit v v' w sh k h.3
-happens_lands capacity limit v w (ChangeCapacity n) o v' sh k wr fits none (inr (inr h)) = stays capacity limit v v' w sh k h.1
+happens_lands capacity limit v w (ChangeCapacity n) o v' sh k wr fits none (inl h) =
+    moves capacity limit v' _ h.leads (lands_resized capacity limit v w n h.table sh k h.is_set)
+happens_lands capacity limit v w (ChangeCapacity n) o v' sh k wr fits none (inr (inl h)) =
+    stays capacity limit v v' w sh k h.stays
+happens_lands capacity limit v w (ChangeCapacity n) o v' sh k wr fits none (inr (inr h)) =
+    stays capacity limit v v' w sh k h.1
 
--- each event leads to a session that shows a world again
-pub goes_lands : (capacity limit : ℕ) (v : Session) (w : World) (e : Event) (o : Outcome) (v' : Session) → Shows v w → Invariant capacity limit w → IsByteEvent e → FitsMemory v' → Goes v e o v' → Lands capacity limit v'
-goes_lands capacity limit v w e o v' sh k wr fits (inl h) = stays capacity limit v v' w sh k h.3
+-- each event leads to a session that refines one of values again
+pub goes_lands : (capacity limit : ℕ) (v : Session) (w : AbstractSession) (e : Event) (o : Outcome) (v' : Session)
+    → Refines v w → Invariant capacity limit w → IsByteEvent e → FitsMemory v' → Goes v e o v'
+    → RefinesSome capacity limit v'
+goes_lands capacity limit v w e o v' sh k wr fits (inl h) = stays capacity limit v v' w sh k h.stays
 goes_lands capacity limit v w e o v' sh k wr fits (inr h) = happens_lands capacity limit v w e o v' sh k wr fits h.0 h.1
 
-pub opened_lands : (capacity limit : ℕ) → Lands capacity limit (opened capacity limit)
+pub opened_lands : (capacity limit : ℕ) → RefinesSome capacity limit (opened capacity limit)
 opened_lands capacity limit =
     record {
-      world = started capacity limit;
-      shows = record {
+      abstract = abstract_start capacity limit;
+      refines = record {
         encoder_is = refl;
         decoder_is = refl;
         unreported_is = refl;
-        sent_carried = record { front = []; rest = []; cut = refl; ends = refl; front_joined = refl; rest_joined = refl };
+        encoder_stream =
+            record { front = []; rest = []; cut = refl; ends = refl; front_joined = refl; rest_joined = refl };
         sent_order = lit≤ tt;
         heard_lines = [];
-        told_carried = record { front = []; rest = []; cut = refl; ends = refl; front_joined = refl; rest_joined = refl };
+        decoder_stream =
+            record { front = []; rest = []; cut = refl; ends = refl; front_joined = refl; rest_joined = refl };
         told_order = lit≤ tt;
         streams_are = λ s. record { blocks_are = tt; decoded_is = refl; acknowledged_is = refl; cancelled_is = refl };
       };
       keeps = inv_started capacity limit;
     }
 
-pub runs_land : (capacity limit : ℕ) (v : Session) (events : List (Event × Outcome)) (v' : Session) → Lands capacity limit v → Runs v events v' → Lands capacity limit v'
-runs_land capacity limit v [] v' l r = subst (Lands capacity limit) r l
-runs_land capacity limit v (p ∷ events) v' l r =
-    runs_land capacity limit r.0 events v' (goes_lands capacity limit v l.world p.0 p.1 r.0 l.shows l.keeps r.1 r.3 r.2) r.4
-
 -- ---- neither end refuses
 
-never_refused : (capacity limit : ℕ) (v : Session) (w : World) (e : Event) (fault : StreamFault) (v' : Session) → Shows v w → Invariant capacity limit w → Happens v e (Refused fault) v' → ⊥
+-- a reading is no refusal of a stream
+no_refused_reading : (r : Reading) (fault : StreamFault) → Refused fault ≡ decode_outcome r → ⊥
+no_refused_reading (Fields fs d) fault e = absurd cc
+no_refused_reading (Missing n) fault e = absurd cc
+no_refused_reading (Faulty f) fault e = absurd cc
+
+pub never_refused : (capacity limit : ℕ) (v : Session) (w : AbstractSession) (e : Event) (fault : StreamFault)
+    (v' : Session) → Refines v w → Invariant capacity limit w → Happens v e (Refused fault) v' → ⊥
 unfolding Happens
 never_refused capacity limit v w (Encode s fs) fault v' sh k (inl h) = absurd (let e = h.0 in cc)
-never_refused capacity limit v w (Encode s fs) fault v' sh k (inr (inl h)) = absurd (let e = h.0 in cc)
+never_refused capacity limit v w (Encode s fs) fault v' sh k (inr (inl h)) = absurd (let e = h.answers in cc)
 never_refused capacity limit v w (Encode s fs) fault v' sh k (inr (inr h)) = absurd (let e = h.0 in cc)
-never_refused capacity limit v w (Decode s) fault v' sh k (inl h) = absurd (let e = h.answers in cc)
+never_refused capacity limit v w (Decode s) fault v' sh k (inl h) =
+    no_refused_reading (reading_of_bytes (window v.decoder) h.block.bytes) fault h.answers
 never_refused capacity limit v w (Decode s) fault v' sh k (inr h) = absurd (let e = h.0 in cc)
 never_refused capacity limit v w (ToDecoder n) fault v' sh k h = delivered_lawful capacity limit v w n fault v' sh k h
 never_refused capacity limit v w (ToEncoder n) fault v' sh k h = heard_lawful capacity limit v w n fault v' sh k h
@@ -111,8 +141,8 @@ never_refused capacity limit v w (Acknowledge s) fault v' sh k (inl h) = absurd 
 never_refused capacity limit v w (Acknowledge s) fault v' sh k (inr h) = absurd (let e = h.0 in cc)
 never_refused capacity limit v w (Cancel s) fault v' sh k (inl h) = absurd (let e = h.0 in cc)
 never_refused capacity limit v w (Cancel s) fault v' sh k (inr h) = absurd (let e = h.0 in cc)
-never_refused capacity limit v w (ChangeCapacity n) fault v' sh k (inl h) = absurd (let e = h.2 in cc)
-never_refused capacity limit v w (ChangeCapacity n) fault v' sh k (inr (inl h)) = absurd (let e = h.2 in cc)
+never_refused capacity limit v w (ChangeCapacity n) fault v' sh k (inl h) = absurd (let e = h.answers in cc)
+never_refused capacity limit v w (ChangeCapacity n) fault v' sh k (inr (inl h)) = absurd (let e = h.answers in cc)
 never_refused capacity limit v w (ChangeCapacity n) fault v' sh k (inr (inr h)) = absurd (let e = h.0 in cc)
 
 -- ---- fronts of what was sent
@@ -126,152 +156,167 @@ nothing_cut_off S W text more l e s = W.spells_some l (subst (λ (b : List ℕ).
     nil_front (x ∷ a) b h = absurd cc
 
 -- of two fronts of the same bytes that are lines, the one of fewer lines is no longer
-fronts_order : {L : Type 0} (S : List ℕ → L → Type 0) (W : Wire L S) (ls ms : List L) (a b x y : List ℕ) → Joined S a ls → Joined S b ms → a ++ x ≡ b ++ y → length ls ≤ length ms → length a ≤ length b
+fronts_order : {L : Type 0} (S : List ℕ → L → Type 0) (W : Wire L S) (ls ms : List L) (a b x y : List ℕ)
+    → Joined S a ls → Joined S b ms → a ++ x ≡ b ++ y → length ls ≤ length ms → length a ≤ length b
 fronts_order S W [] ms a b x y j k e le = omega (arith, ap length j)
 fronts_order S W (l ∷ ls) [] a b x y j k e le = absurd (omega arith)
 fronts_order S W (l ∷ ls) (m ∷ ms) a b x y j k e le =
-    let both : j.0 ++ (j.1 ++ x) ≡ k.0 ++ (k.1 ++ y) = sym (append_assoc j.0 j.1 x) ∙ ap (λ z. z ++ x) (sym j.2) ∙ e ∙ ap (λ z. z ++ y) k.2 ∙ append_assoc k.0 k.1 y in
+    let both : j.0 ++ (j.1 ++ x) ≡ k.0 ++ (k.1 ++ y) =
+    sym (append_assoc j.0 j.1 x) ∙ ap (λ z. z ++ x) (sym j.2) ∙ e ∙ ap (λ z. z ++ y) k.2 ∙ append_assoc k.0 k.1 y in
     let same = W.one_spelling j.0 k.0 (j.1 ++ x) (k.1 ++ y) l m j.3 k.3 both in
-    let tail : j.1 ++ x ≡ k.1 ++ y = append_cancel_left k.0 (j.1 ++ x) (k.1 ++ y) (ap (λ z. z ++ (j.1 ++ x)) (sym same.0) ∙ both) in
+    let tail : j.1 ++ x ≡ k.1 ++ y =
+    append_cancel_left k.0 (j.1 ++ x) (k.1 ++ y) (ap (λ z. z ++ (j.1 ++ x)) (sym same.0) ∙ both) in
     let rest = fronts_order S W ls ms j.1 k.1 x y j.4 k.4 tail (omega arith) in
     omega (arith, rest, ap length j.2, ap length k.2, length-append j.0 j.1, length-append k.0 k.1, ap length same.0)
 
 -- instructions that end within what was taken were taken
-taken_within : (v : Session) (w : World) (place many : ℕ) → Shows v w → EndsAt v.sent (w.taken ++ w.flying) place many → place ≤ v.sent_taken → many ≤ length w.taken
+taken_within : (v : Session) (w : AbstractSession) (place many : ℕ) → Refines v w
+    → EndsAt v.sent (w.taken ++ w.in_flight) place many → place ≤ v.sent_taken → many ≤ length w.taken
 taken_within v w place many sh e le =
-    let c = sh.sent_carried in
+    let c = sh.encoder_stream in
     let same : e.front ++ e.rest ≡ c.front ++ ([] ++ c.rest) = sym e.cut ∙ c.cut in
-    let r = reads_delivered SpellsInstruction (wire instruction_form) w.taken e.first [] c.front [] c.rest e.front e.rest c.front_joined (nothing_cut_off SpellsInstruction (wire instruction_form)) e.joined same (omega (arith, le, e.place_is, c.ends)) in
+    let r = reads_delivered SpellsInstruction (wire instruction_form) w.taken e.first [] c.front [] c.rest e.front
+    e.rest c.front_joined (nothing_cut_off SpellsInstruction (wire instruction_form)) e.joined same
+    (omega (arith, le, e.place_is, c.ends)) in
     omega (arith, r, e.many_is)
 
 -- ---- what the decoder reads
 
-pub reads_exactly : (capacity limit : ℕ) (v : Session) (w : World) → Shows v w → Invariant capacity limit w → (s : ℕ) (b : KeptBlock) → (kept_at v.streams s).cancelled ≡ false → next_block v s ≡ Some b → ReadsExactly v b
+-- what the decoder answers for the next block of a stream
+pub record ReadsExactly (v : Session) (b : KeptBlock) : Type 0 where
+  pub missing : count v.decoder < b.required → reading_of_bytes (window v.decoder) b.bytes ≡ Missing b.required
+  pub exact : b.required ≤ count v.decoder
+      → reading_of_bytes (window v.decoder) b.bytes ≡ Fields b.handed (nat_lt 0 b.required)
+  pub in_time : b.end ≤ v.sent_taken → b.required ≤ count v.decoder
+
+pub reads_exactly : (capacity limit : ℕ) (v : Session) (w : AbstractSession) → Refines v w → Invariant capacity limit w
+    → (s : ℕ) (b : KeptBlock) → (stream_at v.streams s).cancelled ≡ false → next_block v s ≡ Some b → ReadsExactly v b
 reads_exactly capacity limit v w sh k s b live next =
     let old = sh.streams_are s in
-    let at = agrees_get (ShowsBlock v.sent (w.taken ++ w.flying)) (kept_at v.streams s).blocks (stream_at w.streams s).blocks (kept_at v.streams s).decoded b old.blocks_are next in
-    let there : slice_get (stream_at w.streams s).blocks (stream_at w.streams s).decoded ≡ Some at.0 = ap (slice_get (stream_at w.streams s).blocks) (sym old.decoded_is) ∙ at.1 in
+    let at =
+    agrees_get (RefinesBlock v.sent (w.taken ++ w.in_flight)) (stream_at v.streams s).blocks
+    (stream_at w.streams s).blocks (stream_at v.streams s).decoded b old.blocks_are next in
+    let there : slice_get (stream_at w.streams s).blocks (stream_at w.streams s).decoded ≡ Some at.0 =
+    ap (slice_get (stream_at w.streams s).blocks) (sym old.decoded_is) ∙ at.1 in
     let d : DecodesExactly w at.0 = (inv_safe capacity limit w k).decodes s at.0 (sym old.cancelled_is ∙ live) there in
     let shown = at.2 in
     let many : count v.decoder ≡ total w.decoder = ap count sh.decoder_is ∙ count_put w.decoder in
     let same : reading_of_bytes (window v.decoder) b.bytes ≡ reading w.decoder at.0.block =
-    ap (λ (t : Table). reading_of_bytes (window t) b.bytes) sh.decoder_is ∙ ap (λ (x : Window). reading_of_bytes x b.bytes) (window_put w.decoder) ∙ ap (reading_of_bytes w.decoder) shown.bytes_are ∙ written_read w.decoder at.0.block shown.writable in
+    ap (λ (t : Table). reading_of_bytes (window t) b.bytes) sh.decoder_is
+    ∙ ap (λ (x : Window). reading_of_bytes x b.bytes) (window_put w.decoder)
+    ∙ ap (reading_of_bytes w.decoder) shown.bytes_are ∙ written_read w.decoder at.0.block shown.writable in
     record {
-      missing = λ lt. same ∙ d.missing (omega (arith, lt, many, shown.required_is)) ∙ ap (λ n. Missing n) (sym shown.required_is);
-      exact = λ le. same ∙ d.exact (omega (arith, le, many, shown.required_is)) ∙ ap (λ (fs : List Field). Fields fs (nat_lt 0 (required_count at.0))) (sym shown.handed_are) ∙ ap (λ (n : ℕ). Fields b.handed (nat_lt 0 n)) (sym shown.required_is);
-      in_time = λ le. omega (arith, d.in_time (taken_within v w b.end at.0.end sh shown.ends le), many, shown.required_is);
+      missing =
+          λ lt. same ∙ d.missing (omega (arith, lt, many, shown.required_is))
+          ∙ ap (λ n. Missing n) (sym shown.required_is);
+      exact = λ le. same ∙ d.exact (omega (arith, le, many, shown.required_is))
+          ∙ ap (λ (fs : List Field). Fields fs (nat_lt 0 (required_count at.0))) (sym shown.handed_are)
+          ∙ ap (λ (n : ℕ). Fields b.handed (nat_lt 0 n)) (sym shown.required_is);
+      in_time =
+          λ le. omega (arith, d.in_time (taken_within v w b.end at.0.end sh shown.ends le), many, shown.required_is);
     }
 
 -- ---- what blocks mean
 
 -- the base of a block that requires an entry is the one that was written; where nothing is required, none counts
-base_known : (capacity : ℕ) (made : History) (sent : List Instruction) (b : SentBlock) (ok : KeepsBlock capacity made sent b)
-    → (base : ℕ) × (base_behind b.block.prefix (required_count b) ≡ Ok base) × (fields_of (whole made) base b.block.lines ≡ Ok b.handed)
+base_known : (capacity : ℕ) (made : History) (sent : List Instruction) (b : AbstractBlock)
+    (ok : KeepsBlock capacity made sent b)
+    → (base : ℕ) × (base_behind b.block.prefix (required_count b) ≡ Ok base)
+    × (fields_of (whole made) base b.block.lines ≡ Ok b.handed)
 base_known capacity made sent b ok = pick (cases_lt 0 (required_count b))
   where
-    pick : (0 < required_count b) ⊎ (required_count b ≤ 0) → (base : ℕ) × (base_behind b.block.prefix (required_count b) ≡ Ok base) × (fields_of (whole made) base b.block.lines ≡ Ok b.handed)
+    pick : (0 < required_count b) ⊎ (required_count b ≤ 0)
+        → (base : ℕ) × (base_behind b.block.prefix (required_count b) ≡ Ok base)
+        × (fields_of (whole made) base b.block.lines ≡ Ok b.handed)
     pick (inl positive) =
-        let a : Agreed capacity ok.at_end = leads_agreed capacity (start capacity) ok.front ok.at_end ok.leads (agreed_start capacity) in
+        let a : Agreed capacity ok.at_end =
+        leads_agreed capacity (start capacity) ok.front ok.at_end ok.leads (agreed_start capacity) in
         let room : 32 ≤ capacity = a.roomy (omega (arith, ok.within, positive)) in
         let apart : nat_eq (required_count b) 0 ≡ false = ne_eqb (required_count b) 0 (λ e. absurd (omega arith)) in
         let read : read_base b.block.prefix.sign (required_count b) b.block.prefix.delta ≡ Ok ok.base =
-        subst (λ (p : Prefix). read_base p.sign (required_count b) p.delta ≡ Ok ok.base) (sym ok.written) (base_written capacity (required_count b) ok.base positive (omega arith) (omega (arith, ok.few))) in
+        subst (λ (p : Prefix). read_base p.sign (required_count b) p.delta ≡ Ok ok.base) (sym ok.written)
+        (base_written capacity (required_count b) ok.base positive (omega arith) (omega (arith, ok.few))) in
         (ok.base, rw apart read, ok.means)
     pick (inr none) =
         let zero_count : required_count b ≡ 0 = omega arith in
         let is : nat_eq (required_count b) 0 ≡ true = eq-eqb (required_count b) 0 zero_count in
-        let plain : references_of ok.base b.block.lines ≡ [] = tracked_none (references_of ok.base b.block.lines) (ok.references ∙ ok.plain zero_count) in
+        let plain : references_of ok.base b.block.lines ≡ [] =
+        tracked_none (references_of ok.base b.block.lines) (ok.references ∙ ok.plain zero_count) in
         (0, rw is refl, sym (fields_plain (whole made) (whole made) ok.base 0 b.block.lines plain) ∙ ok.means)
 
 -- bytes that are lines are one list of them
-lines_same : (bytes : List ℕ) (ls ms : List Instruction) → Joined SpellsInstruction bytes ls → Joined SpellsInstruction bytes ms → ls ≡ ms
+lines_same : (bytes : List ℕ) (ls ms : List Instruction) → Joined SpellsInstruction bytes ls
+    → Joined SpellsInstruction bytes ms → ls ≡ ms
 lines_same bytes ls ms j k =
     let W = wire instruction_form in
-    (one_reading SpellsInstruction W ls ms bytes bytes [] [] j k (nothing_cut_off SpellsInstruction W) (nothing_cut_off SpellsInstruction W) refl).0
+    (one_reading SpellsInstruction W ls ms bytes bytes [] [] j k (nothing_cut_off SpellsInstruction W)
+    (nothing_cut_off SpellsInstruction W) refl).0
 
-pub means_handed : (capacity limit : ℕ) (v : Session) (w : World) → Shows v w → Invariant capacity limit w → (instructions : List Instruction) (all : History) → Joined SpellsInstruction v.sent instructions → Leads (start capacity) instructions all
-    → (s place : ℕ) (b : KeptBlock) → slice_get (kept_at v.streams s).blocks place ≡ Some b → meaning_over_all all b.bytes b.required ≡ Ok b.handed
+pub means_handed : (capacity limit : ℕ) (v : Session) (w : AbstractSession) → Refines v w → Invariant capacity limit w
+    → (instructions : List Instruction) (all : History) → Joined SpellsInstruction v.sent instructions
+    → Leads (start capacity) instructions all
+    → (s place : ℕ) (b : KeptBlock) → slice_get (stream_at v.streams s).blocks place ≡ Some b
+    → meaning_over_all all b.bytes b.required ≡ Ok b.handed
 means_handed capacity limit v w sh k instructions all j l s place b there =
-    let found = agrees_get (ShowsBlock v.sent (w.taken ++ w.flying)) (kept_at v.streams s).blocks (stream_at w.streams s).blocks place b (sh.streams_are s).blocks_are there in
-    let ok : KeepsBlock capacity k.made (w.taken ++ w.flying) found.0 = every_get (KeepsBlock capacity k.made (w.taken ++ w.flying)) (stream_at w.streams s).blocks place found.0 found.1 (k.streams s).blocks in
-    let lines : instructions ≡ w.taken ++ w.flying = lines_same v.sent instructions (w.taken ++ w.flying) j (whole_sent v.sent v.sent_taken w.taken w.flying sh.sent_carried) in
-    let made : Leads (start capacity) (w.taken ++ w.flying) k.made = leads_append (start capacity) w.taken w.flying k.received k.made k.taken_leads k.flying_leads in
-    let same : all ≡ k.made = leads_unique (start capacity) (w.taken ++ w.flying) all k.made (subst (λ (x : List Instruction). Leads (start capacity) x all) lines l) made in
-    let base = base_known capacity k.made (w.taken ++ w.flying) found.0 ok in
-    ap (λ (h : History). meaning_over_all h b.bytes b.required) same ∙ ap (λ (x : List ℕ). meaning_over_all k.made x b.required) found.2.bytes_are ∙ ap (meaning_over_all k.made (written_block found.0.block)) found.2.required_is
+    let found =
+    agrees_get (RefinesBlock v.sent (w.taken ++ w.in_flight)) (stream_at v.streams s).blocks
+    (stream_at w.streams s).blocks place b (sh.streams_are s).blocks_are there in
+    let ok : KeepsBlock capacity k.made (w.taken ++ w.in_flight) found.0 =
+    every_get (KeepsBlock capacity k.made (w.taken ++ w.in_flight)) (stream_at w.streams s).blocks place found.0
+    found.1 (k.streams s).blocks in
+    let lines : instructions ≡ w.taken ++ w.in_flight =
+    lines_same v.sent instructions (w.taken ++ w.in_flight) j
+    (whole_sent v.sent v.sent_taken w.taken w.in_flight sh.encoder_stream) in
+    let made : Leads (start capacity) (w.taken ++ w.in_flight) k.made =
+    leads_append (start capacity) w.taken w.in_flight k.received k.made k.taken_leads k.in_flight_leads in
+    let same : all ≡ k.made =
+    leads_unique (start capacity) (w.taken ++ w.in_flight) all k.made
+    (subst (λ (x : List Instruction). Leads (start capacity) x all) lines l) made in
+    let base = base_known capacity k.made (w.taken ++ w.in_flight) found.0 ok in
+    ap (λ (h : History). meaning_over_all h b.bytes b.required) same
+    ∙ ap (λ (x : List ℕ). meaning_over_all k.made x b.required) found.2.bytes_are
+    ∙ ap (meaning_over_all k.made (written_block found.0.block)) found.2.required_is
     ∙ written_means k.made found.0.block (required_count found.0) base.0 found.0.handed found.2.writable base.1 base.2
     ∙ ap (λ (fs : List Field). let r : Result (List Field) Fault = Ok fs in r) (sym found.2.handed_are)
 
 -- ---- what a delivery takes
 
-pub delivers_whole : (capacity limit : ℕ) (v : Session) (w : World) (n received : ℕ) (v' : Session) → Shows v w → Invariant capacity limit w → DeliversTo v n (Delivered received) v'
-    → (s place : ℕ) (b : KeptBlock) → slice_get (kept_at v'.streams s).blocks place ≡ Some b → b.end ≤ v'.sent_delivered → b.end ≤ v'.sent_taken
-delivers_whole capacity limit v w n received v' sh k c s place b there le = go (moved capacity limit v w n (Delivered received) v' sh k c) c.ends
+-- a delivery that is answered takes the instructions of each block whose end it reached, of those written since too
+pub delivers_whole : (capacity limit : ℕ) (v : Session) (w : AbstractSession) (n received : ℕ) (v' : Session)
+    → Refines v w → Invariant capacity limit w → DeliversTo v n (Delivered received) v'
+    → (u : Session) (x : AbstractSession) → Refines u x → Extends v.sent u.sent → (s position : ℕ) (b : KeptBlock)
+    → slice_get (stream_at u.streams s).blocks position ≡ Some b → b.end ≤ v'.sent_delivered → b.end ≤ v'.sent_taken
+delivers_whole capacity limit v w n received v' sh k c u x su more s position b there le =
+    go (moved capacity limit v w n (Delivered received) v' sh k c) c.ends
   where
-    whole : (m : Moved capacity limit v w n c.lines c.front c.rest c.table) → Truncates instruction_form c.rest → slice_get (kept_at v.streams s).blocks place ≡ Some b → b.end ≤ min (v.sent_delivered + n) (length v.sent) → b.end ≤ v.sent_taken + length c.front
-    whole m cut at within =
-        let found = agrees_get (ShowsBlock v.sent (w.taken ++ w.flying)) (kept_at v.streams s).blocks (stream_at w.streams s).blocks place b (sh.streams_are s).blocks_are at in
+    whole : (m : Moved capacity limit v w n c.lines c.front c.rest c.table) → Truncates instruction_form c.rest
+        → b.end ≤ min (v.sent_delivered + n) (length v.sent) → b.end ≤ v.sent_taken + length c.front
+    whole m cut within =
+        let found =
+        agrees_get (RefinesBlock u.sent (x.taken ++ x.in_flight)) (stream_at u.streams s).blocks
+        (stream_at x.streams s).blocks position b (su.streams_are s).blocks_are there in
         let e = found.2.ends in
         let carried = m.on.carried in
-        let same : e.front ++ e.rest ≡ carried.front ++ (c.rest ++ m.on.more) = sym e.cut ∙ carried.cut ∙ ap (λ x. carried.front ++ x) m.on.rest_is in
-        let few = reads_delivered SpellsInstruction (wire instruction_form) (w.taken ++ c.lines) e.first [] carried.front c.rest m.on.more e.front e.rest carried.front_joined (λ text more l q x. (cut text more q).0 l x) e.joined same (omega (arith, e.place_is, within, m.place, carried.ends)) in
-        let short = fronts_order SpellsInstruction (wire instruction_form) e.first (w.taken ++ c.lines) e.front carried.front e.rest (c.rest ++ m.on.more) e.joined carried.front_joined same few in
+        let behind = m.on.more ++ more.0 in
+        let same : e.front ++ e.rest ≡ carried.front ++ (c.rest ++ behind) =
+        sym e.cut ∙ more.1 ∙ ap (λ l. l ++ more.0) (carried.cut ∙ ap (λ l. carried.front ++ l) m.on.rest_is)
+        ∙ append_assoc carried.front (c.rest ++ m.on.more) more.0
+        ∙ ap (λ l. carried.front ++ l) (append_assoc c.rest m.on.more more.0) in
+        let few =
+        reads_delivered SpellsInstruction (wire instruction_form) (w.taken ++ c.lines) e.first [] carried.front
+        c.rest behind e.front e.rest carried.front_joined (λ text l i q y. (cut text l q).0 i y) e.joined same
+        (omega (arith, e.place_is, within, m.place, carried.ends)) in
+        let short =
+        fronts_order SpellsInstruction (wire instruction_form) e.first (w.taken ++ c.lines) e.front carried.front
+        e.rest (c.rest ++ behind) e.joined carried.front_joined same few in
         omega (arith, short, e.place_is, carried.ends)
 
-    go : Moved capacity limit v w n c.lines c.front c.rest c.table → DeliveryEnds v n c.table c.front c.rest (Delivered received) v' → b.end ≤ v'.sent_taken
+    go : Moved capacity limit v w n c.lines c.front c.rest c.table
+        → DeliveryEnds v n c.table c.front c.rest (Delivered received) v' → b.end ≤ v'.sent_taken
     go m (takes_all pieces cut sizes sum is goes) =
-        let at : slice_get (kept_at v.streams s).blocks place ≡ Some b = ap (λ (x : Session). slice_get (kept_at x.streams s).blocks place) (sym goes) ∙ there in
-        let within : b.end ≤ min (v.sent_delivered + n) (length v.sent) = omega (arith, le, ap (λ (x : Session). x.sent_delivered) goes) in
-        omega (arith, whole m cut at within, ap (λ (x : Session). x.sent_taken) goes)
+        let within : b.end ≤ min (v.sent_delivered + n) (length v.sent) =
+        omega (arith, le, ap (λ (y : Session). y.sent_delivered) goes) in
+        omega (arith, whole m cut within, ap (λ (y : Session). y.sent_taken) goes)
     go m (no_memory is goes) = absurd cc
-    go m (bad_bytes f x is goes) = absurd cc
-    go m (bad_instruction text more i e cut x bad is goes) = absurd cc
-
--- ---- the theorem
-
-fits_put : (w : Window) → total_size w.live ≤ w.capacity → total_size (fields_in (table_of w).live) ≤ (table_of w).capacity
-unfolding window
-fits_put w h = subst (λ (x : Window). total_size x.live ≤ x.capacity) (sym (window_put w)) h
-
-delivers_of : (v : Session) (n received : ℕ) (v' : Session) → Goes v (ToDecoder n) (Delivered received) v' → DeliversTo v n (Delivered received) v'
-unfolding Happens
-delivers_of v n received v' (inl h) = absurd (let e = h.2 in cc)
-delivers_of v n received v' (inr h) = h.1
-
-refused_of : (v : Session) (e : Event) (fault : StreamFault) (v' : Session) → Goes v e (Refused fault) v' → Happens v e (Refused fault) v'
-refused_of v e fault v' (inl h) = absurd (let x = h.2 in cc)
-refused_of v e fault v' (inr h) = h.1
-
--- where a session shows a world of which the invariant holds, it is safe
-pub lands_safe : (capacity limit : ℕ) (v : Session) → Lands capacity limit v → SafeSession capacity limit v
-lands_safe capacity limit v l =
-    let w = l.world in
-    let sh = l.shows in
-    let k = l.keeps in
-    let safe : Safe capacity limit w = inv_safe capacity limit w k in
-    let many : count v.decoder ≡ total w.decoder = ap count sh.decoder_is ∙ count_put w.decoder in
-    record {
-      no_refusal = λ e fault v' g. never_refused capacity limit v w e fault v' sh k (refused_of v e fault v' g);
-      reads = reads_exactly capacity limit v w sh k;
-      meanings = means_handed capacity limit v w sh k;
-      delivers = λ n received v' g s place b. delivers_whole capacity limit v w n received v' sh k (delivers_of v n received v' g) s place b;
-      blocked = subst (λ (t : Table). length t.waiting ≤ limit) (sym sh.encoder_is) safe.blocked;
-      received = omega (arith, safe.received, many, ap (λ (t : Table). t.known) sh.encoder_is);
-      encoder_fits = subst (λ (t : Table). total_size (fields_in t.live) ≤ t.capacity) (sym sh.encoder_is) safe.encoder_fits;
-      decoder_fits = subst (λ (t : Table). total_size (fields_in t.live) ≤ t.capacity) (sym sh.decoder_is) (fits_put w.decoder safe.decoder_fits);
-      lockstep = (
-        w.taken,
-        w.flying,
-        safe.lockstep.0,
-        safe.lockstep.1,
-        sh.sent_carried,
-        safe.lockstep.2,
-        safe.lockstep.3,
-        sh.decoder_is ∙ ap table_of safe.lockstep.4,
-        ap window sh.encoder_is ∙ safe.lockstep.5,
-      );
-    }
-
--- THE SESSION THEOREM, in bytes
-pub sessions_safe : SessionsAreSafe
-sessions_safe capacity limit events v r = lands_safe capacity limit v (runs_land capacity limit (opened capacity limit) events v (opened_lands capacity limit) r)
+    go m (bad_bytes f y is goes) = absurd cc
+    go m (bad_instruction text l i e cut y bad is goes) = absurd cc

@@ -1,41 +1,40 @@
 -- Streams and blocks in bytes go on showing what they show when more is written.
-use Rattle.std.proofs.Common.{ℕ, zero, suc, ◌*◌, ◌/◌, ◌%◌, ◌^◌, ◌≤◌, ◌≡◌, Bool, true, false, cond, List, [], ◌∷◌, ◌++◌, length, take, Some, refl, sym, ap, ◌∙◌, subst, arith, lit≤}
+use Rattle.std.proofs.Common.{ℕ, zero, suc, ◌*◌, ◌/◌, ◌%◌, ◌^◌, ◌≤◌, ◌≡◌, Bool, true, false, cond, List, [], ◌∷◌, ◌++◌}
+use Rattle.std.proofs.Common.{length, take, Some, refl, sym, ap, ◌∙◌, subst, arith, lit≤}
 use Rattle.std.specs.List.{AllByRecursion, slice_get, filter}
 use Rattle.std.specs.Prelude.{nat_eq, nat_le, not, ◌||◌}
 use Rattle.std.proofs.Math.Nat.{mod-le}
 use Rattle.std.proofs.lemmas.Bool.{cond_both}
 use Rattle.std.proofs.lemmas.List.{append_assoc}
-use Rattle.qpack_spec.specs.Instruction.{Instruction, Reply, SpellsInstruction, SpellsReply, written_instruction, written_instructions, written_reply, written_replies}
+use Rattle.qpack_spec.specs.Instruction.{Instruction, Reply, SpellsInstruction, SpellsReply, written_instruction}
+use Rattle.qpack_spec.specs.Instruction.{written_instructions, written_reply, written_replies}
 use Rattle.qpack_spec.specs.Stream.{Joined}
 use Rattle.qpack_spec.specs.Prefix.{prefix_for}
 use Rattle.qpack_spec.specs.WrittenLaws.{IsWritableInstruction, IsWritableReply, IsWritablePrefix}
-use Rattle.qpack_spec.specs.World.{SentBlock, is_dynamic, Stream, increments}
-use Rattle.qpack_spec.specs.Session.{KeptBlock, KeptStream, requires_entry}
+use Rattle.qpack_safety.specs.AbstractSession.{AbstractBlock, is_dynamic, AbstractStream}
+use Rattle.qpack_spec.specs.Session.{KeptBlock, KeptStream, requires_entry, increments}
 use Rattle.qpack_spec.proofs.WrittenForms.{instructions_spelled, replies_spelled}
-use Rattle.qpack_safety.specs.Shows.{Agrees, EndsAt, ShowsBlock, ShowsStream}
+use Rattle.qpack_safety.specs.Refines.{Agrees, EndsAt, RefinesBlock, RefinesStream}
 
 -- ---- lists that agree
 
-pub agrees_weaker : {X Y : Type 0} (P Q : X → Y → Type 0) → ((x : X) (y : Y) → P x y → Q x y) → (xs : List X) (ys : List Y) → Agrees P xs ys → Agrees Q xs ys
+agrees_weaker : {X Y : Type 0} (P Q : X → Y → Type 0) → ((x : X) (y : Y) → P x y → Q x y) → (xs : List X) (ys : List Y)
+    → Agrees P xs ys → Agrees Q xs ys
 agrees_weaker P Q f [] [] h = tt
 agrees_weaker P Q f [] (y ∷ ys) h = absurd h
 agrees_weaker P Q f (x ∷ xs) [] h = absurd h
 agrees_weaker P Q f (x ∷ xs) (y ∷ ys) h = (f x y h.0, agrees_weaker P Q f xs ys h.1)
 
-pub agrees_push : {X Y : Type 0} (P : X → Y → Type 0) (xs : List X) (ys : List Y) (x : X) (y : Y) → Agrees P xs ys → P x y → Agrees P (xs ++ x ∷ []) (ys ++ y ∷ [])
+pub agrees_push : {X Y : Type 0} (P : X → Y → Type 0) (xs : List X) (ys : List Y) (x : X) (y : Y) → Agrees P xs ys
+    → P x y → Agrees P (xs ++ x ∷ []) (ys ++ y ∷ [])
 agrees_push P [] [] x y h k = (k, tt)
 agrees_push P [] (z ∷ ys) x y h k = absurd h
 agrees_push P (z ∷ xs) [] x y h k = absurd h
 agrees_push P (z ∷ xs) (u ∷ ys) x y h k = (h.0, agrees_push P xs ys x y h.1 k)
 
-pub agrees_length : {X Y : Type 0} (P : X → Y → Type 0) (xs : List X) (ys : List Y) → Agrees P xs ys → length xs ≡ length ys
-agrees_length P [] [] h = refl
-agrees_length P [] (y ∷ ys) h = absurd h
-agrees_length P (x ∷ xs) [] h = absurd h
-agrees_length P (x ∷ xs) (y ∷ ys) h = ap (λ n. suc n) (agrees_length P xs ys h.1)
-
 -- what stands at a place
-pub agrees_get : {X Y : Type 0} (P : X → Y → Type 0) (xs : List X) (ys : List Y) (i : ℕ) (x : X) → Agrees P xs ys → slice_get xs i ≡ Some x → (y : Y) × (slice_get ys i ≡ Some y) × P x y
+pub agrees_get : {X Y : Type 0} (P : X → Y → Type 0) (xs : List X) (ys : List Y) (i : ℕ) (x : X) → Agrees P xs ys
+    → slice_get xs i ≡ Some x → (y : Y) × (slice_get ys i ≡ Some y) × P x y
 agrees_get P [] ys i x h e = absurd (cc)
 agrees_get P (z ∷ xs) [] i x h e = absurd h
 agrees_get {X} {Y} P (z ∷ xs) (u ∷ ys) zero x h e = let q : z ≡ x = cc in (u, refl, subst (λ (a : X). P a u) q h.0)
@@ -43,7 +42,8 @@ agrees_get P (z ∷ xs) (u ∷ ys) (suc i) x h e = agrees_get P xs ys i x h.1 e
 
 -- ---- more is written
 
-pub ends_grow : (sent more : List ℕ) (lines behind : List Instruction) (place many : ℕ) → EndsAt sent lines place many → EndsAt (sent ++ more) (lines ++ behind) place many
+ends_grow : (sent more : List ℕ) (lines behind : List Instruction) (place many : ℕ) → EndsAt sent lines place many
+    → EndsAt (sent ++ more) (lines ++ behind) place many
 ends_grow sent more lines behind place many e =
     record {
       front = e.front;
@@ -57,11 +57,18 @@ ends_grow sent more lines behind place many e =
       joined = e.joined;
     }
 
-pub shows_grow : (sent more : List ℕ) (lines behind : List Instruction) (k : KeptStream) (st : Stream) → ShowsStream sent lines k st → ShowsStream (sent ++ more) (lines ++ behind) k st
+pub shows_grow : (sent more : List ℕ) (lines behind : List Instruction) (k : KeptStream) (st : AbstractStream)
+    → RefinesStream sent lines k st → RefinesStream (sent ++ more) (lines ++ behind) k st
 shows_grow sent more lines behind k st s =
     record {
-      blocks_are = agrees_weaker (ShowsBlock sent lines) (ShowsBlock (sent ++ more) (lines ++ behind))
-          (λ x y h. record { bytes_are = h.bytes_are; writable = h.writable; required_is = h.required_is; handed_are = h.handed_are; ends = ends_grow sent more lines behind x.end y.end h.ends })
+      blocks_are = agrees_weaker (RefinesBlock sent lines) (RefinesBlock (sent ++ more) (lines ++ behind))
+          (λ x y h. record {
+            bytes_are = h.bytes_are;
+            writable = h.writable;
+            required_is = h.required_is;
+            handed_are = h.handed_are;
+            ends = ends_grow sent more lines behind x.end y.end h.ends;
+          })
           k.blocks st.blocks s.blocks_are;
       decoded_is = s.decoded_is;
       acknowledged_is = s.acknowledged_is;
@@ -69,15 +76,18 @@ shows_grow sent more lines behind k st s =
     }
 
 -- one stream changed
-pub shows_update : (P : KeptStream → Stream → Type 0) (b : Bool) (k k' : KeptStream) (st st' : Stream) → P k' st' → P k st → P (cond b k' k) (cond b st' st)
+pub shows_update : (P : KeptStream → AbstractStream → Type 0) (b : Bool) (k k' : KeptStream) (st st' : AbstractStream)
+    → P k' st' → P k st → P (cond b k' k) (cond b st' st)
 shows_update P true k k' st st' h g = h
 shows_update P false k k' st st' h g = g
 
 -- the blocks that require an entry are as many on both sides
-dynamic_same : (sent : List ℕ) (lines : List Instruction) (x : KeptBlock) (y : SentBlock) → ShowsBlock sent lines x y → requires_entry x ≡ is_dynamic y
+dynamic_same : (sent : List ℕ) (lines : List Instruction) (x : KeptBlock) (y : AbstractBlock)
+    → RefinesBlock sent lines x y → requires_entry x ≡ is_dynamic y
 dynamic_same sent lines x y h = ap (λ n. not (nat_eq n 0)) h.required_is
 
-pub dynamic_many : (sent : List ℕ) (lines : List Instruction) (n : ℕ) (xs : List KeptBlock) (ys : List SentBlock) → Agrees (ShowsBlock sent lines) xs ys
+pub dynamic_many : (sent : List ℕ) (lines : List Instruction) (n : ℕ) (xs : List KeptBlock) (ys : List AbstractBlock)
+    → Agrees (RefinesBlock sent lines) xs ys
     → length (filter requires_entry (take n xs)) ≡ length (filter is_dynamic (take n ys))
 dynamic_many sent lines zero xs ys h = refl
 dynamic_many sent lines (suc n) [] [] h = refl
@@ -87,16 +97,19 @@ dynamic_many sent lines (suc n) (x ∷ xs) (y ∷ ys) h =
     rw (dynamic_same sent lines x y h.0) (both (is_dynamic y) (dynamic_many sent lines n xs ys h.1))
   where
     both : (b : Bool) → length (filter requires_entry (take n xs)) ≡ length (filter is_dynamic (take n ys))
-        → length (cond b (x ∷ filter requires_entry (take n xs)) (filter requires_entry (take n xs))) ≡ length (cond b (y ∷ filter is_dynamic (take n ys)) (filter is_dynamic (take n ys)))
+        → length (cond b (x ∷ filter requires_entry (take n xs)) (filter requires_entry (take n xs)))
+        ≡ length (cond b (y ∷ filter is_dynamic (take n ys)) (filter is_dynamic (take n ys)))
     both true e = ap (λ m. suc m) e
     both false e = e
 
 -- ---- what is written is joined
 
-pub instructions_joined : (is : List Instruction) → AllByRecursion IsWritableInstruction is → Joined SpellsInstruction (written_instructions is) is
+pub instructions_joined : (is : List Instruction) → AllByRecursion IsWritableInstruction is
+    → Joined SpellsInstruction (written_instructions is) is
 unfolding written_instructions
 instructions_joined [] w = refl
-instructions_joined (i ∷ is) w = (written_instruction i, written_instructions is, refl, instructions_spelled i w.0, instructions_joined is w.1)
+instructions_joined (i ∷ is) w =
+    (written_instruction i, written_instructions is, refl, instructions_spelled i w.0, instructions_joined is w.1)
 
 pub replies_joined : (rs : List Reply) → AllByRecursion IsWritableReply rs → Joined SpellsReply (written_replies rs) rs
 unfolding written_replies
@@ -106,12 +119,14 @@ replies_joined (r ∷ rs) w = (written_reply r, written_replies rs, refl, replie
 pub one_joined : {L : Type 0} (S : List ℕ → L → Type 0) (text : List ℕ) (l : L) → S text l → Joined S text (l ∷ [])
 one_joined S text l s = (text, [], sym (Rattle.std.proofs.lemmas.List.append-nil text), s, refl)
 
-pub increments_writable : (ns : List ℕ) → AllByRecursion (λ n. (1 ≤ n) × (n ≤ 64)) ns → AllByRecursion IsWritableReply (increments ns)
+pub increments_writable : (ns : List ℕ) → AllByRecursion (λ n. (1 ≤ n) × (n ≤ 64)) ns
+    → AllByRecursion IsWritableReply (increments ns)
 increments_writable [] h = tt
 increments_writable (n ∷ ns) h = (omega (arith, h.0.1), increments_writable ns h.1)
 
 -- a prefix of small numbers
-pub prefix_small : (maximum required base : ℕ) → required ≤ 2 ^ 62 → base ≤ 2 ^ 62 → IsWritablePrefix (prefix_for maximum required base)
+pub prefix_small : (maximum required base : ℕ) → required ≤ 2 ^ 62 → base ≤ 2 ^ 62
+    → IsWritablePrefix (prefix_for maximum required base)
 unfolding prefix_for
 prefix_small maximum required base r b =
     let low : required % (2 * (maximum / 32)) ≤ required = mod-le required (2 * (maximum / 32)) in

@@ -1,11 +1,14 @@
--- Events that write: after each, the session in bytes shows a world of which the invariant holds.
-use Rattle.std.proofs.Common.{length-append, ℕ, ◌+◌, ◌-◌, ◌^◌, ◌<◌, ◌≤◌, ◌≡◌, Bool, true, false, cond, List, [], ◌∷◌, ◌++◌, length, take, Option, None, Some, Result, Ok, Err, refl, sym, ap, ◌∙◌, subst, arith, inl, inr, ◌⊎◌}
+-- Events that write: after each, the session in bytes refines a session of values of which the invariant holds.
+use Rattle.std.proofs.Common.{length-append, ℕ, ◌+◌, ◌-◌, ◌^◌, ◌<◌, ◌≤◌, ◌≡◌, Bool, true, false, cond, List, [], ◌∷◌}
+use Rattle.std.proofs.Common.{◌++◌, length, take, Option, None, Some, Result, Ok, Err, refl, sym, ap, ◌∙◌, subst, arith}
+use Rattle.std.proofs.Common.{inl, inr, ◌⊎◌}
 use Rattle.std.specs.List.{AllByRecursion, filter}
 use Rattle.std.specs.Prelude.{nat_eq, nat_le, nat_lt}
 use Rattle.std.proofs.lemmas.Bool.{eq-eqb, leb-false}
 use Rattle.std.proofs.lemmas.List.{append-nil, append_assoc}
 use Rattle.qpack_spec.specs.Field.{Field}
-use Rattle.qpack_spec.specs.Instruction.{Instruction, SetCapacity, Acknowledgment, Cancellation, SpellsInstruction, SpellsReply, written_instruction, written_instructions, written_reply}
+use Rattle.qpack_spec.specs.Instruction.{Instruction, SetCapacity, Acknowledgment, Cancellation, SpellsInstruction}
+use Rattle.qpack_spec.specs.Instruction.{SpellsReply, written_instruction, written_instructions, written_reply}
 use Rattle.qpack_spec.specs.Stream.{Joined, Carried}
 use Rattle.qpack_spec.specs.Window.{agreed_maximum, greatest_capacity, Refusal}
 use Rattle.qpack_spec.specs.Reading.{Block, greatest}
@@ -14,162 +17,254 @@ use Rattle.qpack_spec.specs.Line.{written_lines}
 use Rattle.qpack_spec.specs.BlockReading.{written_block}
 use Rattle.qpack_spec.specs.Table.{Table, count, resized}
 use Rattle.qpack_spec.specs.Rule.{rule, required_of, block_of}
-use Rattle.qpack_spec.specs.World.{SentBlock, is_dynamic, stream_at, World, encoded, abandoned, with_resized, waits_for_acknowledgment}
-use Rattle.qpack_spec.specs.Session.{KeptBlock, KeptStream, kept_at, with_kept, Session, FitsMemory, waits, requires_entry, unless_cancelled, with_block, given_up, with_decoded}
+use Rattle.qpack_safety.specs.AbstractSession.{AbstractBlock, is_dynamic, AbstractSession, after_encode, after_abandon}
+use Rattle.qpack_safety.specs.AbstractSession.{after_resize, waits_for_acknowledgment}
+use Rattle.qpack_spec.specs.Session.{KeptBlock, KeptStream, stream_at, with_kept, Session, FitsMemory, waits}
+use Rattle.qpack_spec.specs.Session.{requires_entry, unless_cancelled, with_block, given_up, with_decoded}
 use Rattle.qpack_spec.specs.WrittenLaws.{IsByteField, IsWritableBlock}
 use Rattle.qpack_spec.proofs.Lists.{every_right, every_weaker}
 use Rattle.qpack_spec.proofs.Readings.{greatest_bound}
 use Rattle.qpack_spec.proofs.Drafts.{IsLive, Drafting, count_inserted, rule_drafts}
 use Rattle.qpack_spec.proofs.WrittenForms.{instructions_spelled, replies_spelled}
 use Rattle.qpack_spec.proofs.WrittenDrafts.{WrittenDraft, rule_written, lines_fit, instructions_fit}
-use Rattle.qpack_safety.specs.Shows.{EndsAt, ShowsBlock, ShowsStream, Shows}
+use Rattle.qpack_safety.specs.Refines.{EndsAt, RefinesBlock, RefinesStream, Refines}
 use Rattle.qpack_safety.proofs.Invariant.{Invariant, sound_made}
 use Rattle.qpack_safety.proofs.Encoding.{inv_encoded, inv_abandoned}
 use Rattle.qpack_safety.proofs.Decoding.{inv_decoded, inv_acked, inv_cancelled}
 use Rattle.qpack_safety.proofs.Resizing.{CanResize, resized_table, resized_cases, inv_with_resized}
 use Rattle.qpack_spec.proofs.Cuttings.{joined_append, carried_more}
-use Rattle.qpack_safety.proofs.Shown.{agrees_push, shows_grow, shows_update, dynamic_many, instructions_joined, one_joined, prefix_small}
+use Rattle.qpack_safety.proofs.Shown.{agrees_push, shows_grow, shows_update, dynamic_many, instructions_joined}
+use Rattle.qpack_safety.proofs.Shown.{one_joined, prefix_small}
 
--- the world that a session shows after an event
-pub record Lands (capacity limit : ℕ) (v : Session) : Type 0 where
-  pub world : World
-  pub shows : Shows v world
-  pub keeps : Invariant capacity limit world
+-- a session in bytes refines some session of values, of which the invariant holds
+pub record RefinesSome (capacity limit : ℕ) (v : Session) : Type 0 where
+  pub abstract : AbstractSession
+  pub refines : Refines v abstract
+  pub keeps : Invariant capacity limit abstract
 
-few_insertions : (capacity limit : ℕ) (w : World) → Invariant capacity limit w → count w.encoder ≤ 2 ^ 62
+few_insertions : (capacity limit : ℕ) (w : AbstractSession) → Invariant capacity limit w → count w.encoder ≤ 2 ^ 62
 few_insertions capacity limit w k =
     let s = sound_made capacity limit w k in omega (arith, count_inserted w.encoder k.made k.encoder.shares s, s.few)
 
 -- all that is sent is the instructions written
-pub whole_sent : (sent : List ℕ) (place : ℕ) (taken flying : List Instruction) → Carried Instruction SpellsInstruction sent place taken flying → Joined SpellsInstruction sent (taken ++ flying)
-whole_sent sent place taken flying c =
-    subst (λ (b : List ℕ). Joined SpellsInstruction b (taken ++ flying)) (sym c.cut) (joined_append SpellsInstruction c.front c.rest taken flying c.front_joined c.rest_joined)
+pub whole_sent : (sent : List ℕ) (place : ℕ) (taken in_flight : List Instruction)
+    → Carried Instruction SpellsInstruction sent place taken in_flight
+    → Joined SpellsInstruction sent (taken ++ in_flight)
+whole_sent sent place taken in_flight c =
+    subst (λ (b : List ℕ). Joined SpellsInstruction b (taken ++ in_flight)) (sym c.cut)
+    (joined_append SpellsInstruction c.front c.rest taken in_flight c.front_joined c.rest_joined)
 
-ends_here : (sent : List ℕ) (lines : List Instruction) → Joined SpellsInstruction sent lines → EndsAt sent lines (length sent) (length lines)
+ends_here : (sent : List ℕ) (lines : List Instruction) → Joined SpellsInstruction sent lines
+    → EndsAt sent lines (length sent) (length lines)
 ends_here sent lines j =
-    record { front = sent; rest = []; cut = sym (append-nil sent); place_is = refl; first = lines; others = []; split = sym (append-nil lines); many_is = refl; joined = j }
+    record {
+      front = sent;
+      rest = [];
+      cut = sym (append-nil sent);
+      place_is = refl;
+      first = lines;
+      others = [];
+      split = sym (append-nil lines);
+      many_is = refl;
+      joined = j;
+    }
 
 lines_short : (b : Block) → length (written_block b) < 2 ^ 63 → length (written_lines b.lines) < 2 ^ 63
 unfolding written_block
 lines_short b h = omega (arith, h, length-append (written_prefix b.prefix) (written_lines b.lines))
 
-instructions_short : (sent : List ℕ) (is : List Instruction) → length (sent ++ written_instructions is) < 2 ^ 63 → length (written_instructions is) < 2 ^ 63
+instructions_short : (sent : List ℕ) (is : List Instruction) → length (sent ++ written_instructions is) < 2 ^ 63
+    → length (written_instructions is) < 2 ^ 63
 instructions_short sent is h = omega (arith, h, length-append sent (written_instructions is))
 
 -- the block of the rule can be written
-block_writable : (capacity limit : ℕ) (w : World) (fs : List Field) → Invariant capacity limit w → AllByRecursion IsByteField fs → length (written_block (block_of w.encoder (rule w.encoder fs))) < 2 ^ 63 → IsWritableBlock (block_of w.encoder (rule w.encoder fs))
+block_writable : (capacity limit : ℕ) (w : AbstractSession) (fs : List Field) → Invariant capacity limit w
+    → AllByRecursion IsByteField fs → length (written_block (block_of w.encoder (rule w.encoder fs))) < 2 ^ 63
+    → IsWritableBlock (block_of w.encoder (rule w.encoder fs))
 block_writable capacity limit w fs k wr fits =
     let d = rule w.encoder fs in
     let few = few_insertions capacity limit w k in
     let wd : WrittenDraft d = rule_written w.encoder fs few wr in
-    let p : Drafting w.encoder k.made fs d = rule_drafts w.encoder k.made fs (sound_made capacity limit w k) k.encoder in
+    let p : Drafting w.encoder k.made fs d =
+    rule_drafts w.encoder k.made fs (sound_made capacity limit w k) k.encoder in
     let required : greatest d.table.named ≤ count d.table =
-    greatest_bound (count d.table) d.table.named (every_weaker (IsLive d.table) (λ a. a ≤ count d.table) (λ a q. q.1) d.table.named p.named) in
-    record { prefix = prefix_small (agreed_maximum w.encoder.agreed w.encoder.capacity) (required_of d) (count w.encoder) (omega (arith, required, wd.few)) few; lines = lines_fit d.lines wd.lines (lines_short (block_of w.encoder d) fits) }
+    greatest_bound (count d.table) d.table.named
+    (every_weaker (IsLive d.table) (λ a. a ≤ count d.table) (λ a q. q.1) d.table.named p.named) in
+    record {
+      prefix = prefix_small (agreed_maximum w.encoder.agreed w.encoder.capacity) (required_of d)
+          (count w.encoder) (omega (arith, required, wd.few)) few;
+      lines =
+          lines_fit d.lines wd.lines (lines_short (block_of w.encoder d) fits);
+    }
 
 -- ---- a block is written
 
 -- what an encode writes has fewer than 2^63 bytes
 abbrev EncodeFits : List ℕ → Table → List Field → Type 0
-EncodeFits sent t fs = (length (sent ++ written_instructions (rule t fs).instructions) < 2 ^ 63) × (length (written_block (block_of t (rule t fs))) < 2 ^ 63)
+EncodeFits sent t fs =
+    (length (sent ++ written_instructions (rule t fs).instructions) < 2 ^ 63)
+    × (length (written_block (block_of t (rule t fs))) < 2 ^ 63)
 
-last_fits : (bs : List KeptBlock) (b : KeptBlock) → AllByRecursion (λ (x : KeptBlock). length x.bytes < 2 ^ 63) (bs ++ b ∷ []) → length b.bytes < 2 ^ 63
+last_fits : (bs : List KeptBlock) (b : KeptBlock)
+    → AllByRecursion (λ (x : KeptBlock). length x.bytes < 2 ^ 63) (bs ++ b ∷ []) → length b.bytes < 2 ^ 63
 last_fits bs b h = (every_right (λ (x : KeptBlock). length x.bytes < 2 ^ 63) bs (b ∷ []) h).0
 
 block_fits : (v : Session) (s : ℕ) (fs : List Field) → FitsMemory (with_block v s fs) → EncodeFits v.sent v.encoder fs
 block_fits v s fs f =
     let d = rule v.encoder fs in
-    let k = kept_at v.streams s in
-    let b : KeptBlock = record { bytes = written_block (block_of v.encoder d); required = required_of d; end = length (v.sent ++ written_instructions d.instructions); handed = fs } in
-    let all : AllByRecursion (λ (x : KeptBlock). length x.bytes < 2 ^ 63) (kept_at ((s, record k { blocks = k.blocks ++ b ∷ [] }) ∷ v.streams) s).blocks = f.blocks_fit s in
+    let k = stream_at v.streams s in
+    let b : KeptBlock =
+    record {
+      bytes = written_block (block_of v.encoder d);
+      required = required_of d;
+      end = length (v.sent ++ written_instructions d.instructions);
+      handed = fs;
+    } in
+    let all : AllByRecursion (λ (x : KeptBlock). length x.bytes < 2 ^ 63)
+    (stream_at ((s, record k { blocks = k.blocks ++ b ∷ [] }) ∷ v.streams) s).blocks = f.blocks_fit s in
     (f.sent_fits, last_fits k.blocks b (own (nat_eq s s) (eq-eqb s s refl) all))
   where
-    own : (t : Bool) → t ≡ true → AllByRecursion (λ (x : KeptBlock). length x.bytes < 2 ^ 63) (cond t (record (kept_at v.streams s) { blocks = (kept_at v.streams s).blocks ++ record { bytes = written_block (block_of v.encoder (rule v.encoder fs)); required = required_of (rule v.encoder fs); end = length (v.sent ++ written_instructions (rule v.encoder fs).instructions); handed = fs } ∷ [] }) (kept_at v.streams s)).blocks
-        → AllByRecursion (λ (x : KeptBlock). length x.bytes < 2 ^ 63) ((kept_at v.streams s).blocks ++ record { bytes = written_block (block_of v.encoder (rule v.encoder fs)); required = required_of (rule v.encoder fs); end = length (v.sent ++ written_instructions (rule v.encoder fs).instructions); handed = fs } ∷ [])
+    own : (t : Bool) → t ≡ true → AllByRecursion (λ (x : KeptBlock). length x.bytes < 2 ^ 63)
+        (cond t (record (stream_at v.streams s) {
+          blocks = (stream_at v.streams s).blocks
+              ++ record {
+                bytes = written_block (block_of v.encoder (rule v.encoder fs));
+                required = required_of (rule v.encoder fs);
+                end =
+                    length (v.sent ++ written_instructions (rule v.encoder fs).instructions);
+                handed = fs;
+              } ∷ [];
+        })
+        (stream_at v.streams s)).blocks
+        → AllByRecursion (λ (x : KeptBlock). length x.bytes < 2 ^ 63)
+        ((stream_at v.streams s).blocks ++ record {
+          bytes = written_block (block_of v.encoder (rule v.encoder fs));
+          required = required_of (rule v.encoder fs);
+          end =
+              length (v.sent ++ written_instructions (rule v.encoder fs).instructions);
+          handed = fs;
+        } ∷ [])
     own true e h = h
     own false e h = absurd cc
 
-encoded_shown : (capacity limit : ℕ) (v : Session) (w : World) (s : ℕ) (fs : List Field) → Shows v w → Invariant capacity limit w → AllByRecursion IsByteField fs
-    → EncodeFits v.sent w.encoder fs → Lands capacity limit (with_block (record v { encoder = w.encoder }) s fs)
+encoded_shown : (capacity limit : ℕ) (v : Session) (w : AbstractSession) (s : ℕ) (fs : List Field) → Refines v w
+    → Invariant capacity limit w → AllByRecursion IsByteField fs
+    → EncodeFits v.sent w.encoder fs → RefinesSome capacity limit (with_block (record v { encoder = w.encoder }) s fs)
 encoded_shown capacity limit v w s fs sh k wr fits =
     let d = rule w.encoder fs in
     let wd : WrittenDraft d = rule_written w.encoder fs (few_insertions capacity limit w k) wr in
     let more = written_instructions d.instructions in
     let sent = v.sent ++ more in
-    let lines = w.taken ++ (w.flying ++ d.instructions) in
-    let regroup : (w.taken ++ w.flying) ++ d.instructions ≡ lines = append_assoc w.taken w.flying d.instructions in
-    let carried = carried_more SpellsInstruction v.sent more v.sent_taken w.taken w.flying d.instructions sh.sent_carried (instructions_joined d.instructions (instructions_fit d.instructions wd.instructions (instructions_short v.sent d.instructions fits.0))) in
-    let grown = λ (q : ℕ). subst (λ (l : List Instruction). ShowsStream sent l (kept_at v.streams q) (stream_at w.streams q)) regroup
-    (shows_grow v.sent more (w.taken ++ w.flying) d.instructions (kept_at v.streams q) (stream_at w.streams q) (sh.streams_are q)) in
-    let kept = kept_at v.streams s in
+    let lines = w.taken ++ (w.in_flight ++ d.instructions) in
+    let regroup : (w.taken ++ w.in_flight) ++ d.instructions ≡ lines =
+    append_assoc w.taken w.in_flight d.instructions in
+    let carried =
+    carried_more SpellsInstruction v.sent more v.sent_taken w.taken w.in_flight d.instructions sh.encoder_stream
+    (instructions_joined d.instructions (instructions_fit d.instructions wd.instructions
+    (instructions_short v.sent d.instructions fits.0))) in
+    let grown =
+    λ (q : ℕ). subst (λ (l : List Instruction). RefinesStream sent l (stream_at v.streams q)
+    (stream_at w.streams q)) regroup
+    (shows_grow v.sent more (w.taken ++ w.in_flight) d.instructions (stream_at v.streams q) (stream_at w.streams q)
+    (sh.streams_are q)) in
+    let kept = stream_at v.streams s in
     let st = stream_at w.streams s in
-    let b : KeptBlock = record { bytes = written_block (block_of w.encoder d); required = required_of d; end = length sent; handed = fs } in
-    let x : SentBlock = record { block = block_of w.encoder d; named = d.table.named; end = length lines; handed = fs } in
-    let shown : ShowsBlock sent lines b x = record {
+    let b : KeptBlock =
+    record {
+      bytes = written_block (block_of w.encoder d);
+      required = required_of d;
+      end = length sent;
+      handed = fs;
+    } in
+    let x : AbstractBlock =
+    record { block = block_of w.encoder d; named = d.table.named; end = length lines; handed = fs } in
+    let shown : RefinesBlock sent lines b x = record {
       bytes_are = refl;
       writable = block_writable capacity limit w fs k wr fits.1;
       required_is = refl;
       handed_are = refl;
-      ends = ends_here sent lines (whole_sent sent v.sent_taken w.taken (w.flying ++ d.instructions) carried);
+      ends = ends_here sent lines (whole_sent sent v.sent_taken w.taken (w.in_flight ++ d.instructions) carried);
     } in
-    let old : ShowsStream sent lines kept st = grown s in
-    let new : ShowsStream sent lines (record kept { blocks = kept.blocks ++ b ∷ [] }) (record st { blocks = st.blocks ++ x ∷ [] }) = record {
-      blocks_are = agrees_push (ShowsBlock sent lines) kept.blocks st.blocks b x old.blocks_are shown;
+    let old : RefinesStream sent lines kept st = grown s in
+    let new : RefinesStream sent lines (record kept { blocks = kept.blocks ++ b ∷ [] })
+    (record st { blocks = st.blocks ++ x ∷ [] }) = record {
+      blocks_are = agrees_push (RefinesBlock sent lines) kept.blocks st.blocks b x old.blocks_are shown;
       decoded_is = old.decoded_is;
       acknowledged_is = old.acknowledged_is;
       cancelled_is = old.cancelled_is;
     } in
     record {
-      world = encoded w s fs d;
-      shows = record {
+      abstract = after_encode w s fs d;
+      refines = record {
         encoder_is = refl;
         decoder_is = sh.decoder_is;
         unreported_is = sh.unreported_is;
-        sent_carried = carried;
+        encoder_stream = carried;
         sent_order = sh.sent_order;
         heard_lines = sh.heard_lines;
-        told_carried = sh.told_carried;
+        decoder_stream = sh.decoder_stream;
         told_order = sh.told_order;
-        streams_are = λ q. shows_update (ShowsStream sent lines) (nat_eq s q) (kept_at v.streams q) (record kept { blocks = kept.blocks ++ b ∷ [] }) (stream_at w.streams q) (record st { blocks = st.blocks ++ x ∷ [] }) new (grown q);
+        streams_are =
+            λ q. shows_update (RefinesStream sent lines) (nat_eq s q) (stream_at v.streams q)
+            (record kept { blocks = kept.blocks ++ b ∷ [] }) (stream_at w.streams q)
+            (record st { blocks = st.blocks ++ x ∷ [] }) new (grown q);
       };
       keeps = inv_encoded capacity limit w s fs k;
     }
 
-pub lands_encoded : (capacity limit : ℕ) (v : Session) (w : World) (s : ℕ) (fs : List Field) → Shows v w → Invariant capacity limit w → AllByRecursion IsByteField fs → FitsMemory (with_block v s fs) → Lands capacity limit (with_block v s fs)
+pub lands_encoded : (capacity limit : ℕ) (v : Session) (w : AbstractSession) (s : ℕ) (fs : List Field) → Refines v w
+    → Invariant capacity limit w → AllByRecursion IsByteField fs → FitsMemory (with_block v s fs)
+    → RefinesSome capacity limit (with_block v s fs)
 lands_encoded capacity limit v w s fs sh k wr f =
-    let fits : EncodeFits v.sent w.encoder fs = subst (λ (t : Table). EncodeFits v.sent t fs) sh.encoder_is (block_fits v s fs f) in
-    subst (λ (t : Table). Lands capacity limit (with_block (record v { encoder = t }) s fs)) (sym sh.encoder_is) (encoded_shown capacity limit v w s fs sh k wr fits)
+    let fits : EncodeFits v.sent w.encoder fs =
+    subst (λ (t : Table). EncodeFits v.sent t fs) sh.encoder_is (block_fits v s fs f) in
+    subst (λ (t : Table). RefinesSome capacity limit (with_block (record v { encoder = t }) s fs)) (sym sh.encoder_is)
+    (encoded_shown capacity limit v w s fs sh k wr fits)
 
 -- ---- a block is given up
 
-abandoned_shown : (capacity limit : ℕ) (v : Session) (w : World) (fs : List Field) → Shows v w → Invariant capacity limit w → AllByRecursion IsByteField fs
-    → length (v.sent ++ written_instructions (rule w.encoder fs).instructions) < 2 ^ 63 → Lands capacity limit (given_up (record v { encoder = w.encoder }) fs)
+abandoned_shown : (capacity limit : ℕ) (v : Session) (w : AbstractSession) (fs : List Field) → Refines v w
+    → Invariant capacity limit w → AllByRecursion IsByteField fs
+    → length (v.sent ++ written_instructions (rule w.encoder fs).instructions) < 2 ^ 63
+    → RefinesSome capacity limit (given_up (record v { encoder = w.encoder }) fs)
 abandoned_shown capacity limit v w fs sh k wr fits =
     let d = rule w.encoder fs in
     let wd : WrittenDraft d = rule_written w.encoder fs (few_insertions capacity limit w k) wr in
     let more = written_instructions d.instructions in
-    let regroup : (w.taken ++ w.flying) ++ d.instructions ≡ w.taken ++ (w.flying ++ d.instructions) = append_assoc w.taken w.flying d.instructions in
+    let regroup : (w.taken ++ w.in_flight) ++ d.instructions ≡ w.taken ++ (w.in_flight ++ d.instructions) =
+    append_assoc w.taken w.in_flight d.instructions in
     record {
-      world = abandoned w d;
-      shows = record {
+      abstract = after_abandon w d;
+      refines = record {
         encoder_is = refl;
         decoder_is = sh.decoder_is;
         unreported_is = sh.unreported_is;
-        sent_carried = carried_more SpellsInstruction v.sent more v.sent_taken w.taken w.flying d.instructions sh.sent_carried (instructions_joined d.instructions (instructions_fit d.instructions wd.instructions (instructions_short v.sent d.instructions fits)));
+        encoder_stream =
+            carried_more SpellsInstruction v.sent more v.sent_taken w.taken w.in_flight d.instructions
+            sh.encoder_stream (instructions_joined d.instructions
+            (instructions_fit d.instructions wd.instructions (instructions_short v.sent d.instructions fits)));
         sent_order = sh.sent_order;
         heard_lines = sh.heard_lines;
-        told_carried = sh.told_carried;
+        decoder_stream = sh.decoder_stream;
         told_order = sh.told_order;
-        streams_are = λ q. subst (λ (l : List Instruction). ShowsStream (v.sent ++ more) l (kept_at v.streams q) (stream_at w.streams q)) regroup
-            (shows_grow v.sent more (w.taken ++ w.flying) d.instructions (kept_at v.streams q) (stream_at w.streams q) (sh.streams_are q));
+        streams_are =
+            λ q. subst (λ (l : List Instruction). RefinesStream (v.sent ++ more) l (stream_at v.streams q)
+            (stream_at w.streams q)) regroup
+            (shows_grow v.sent more (w.taken ++ w.in_flight) d.instructions (stream_at v.streams q)
+            (stream_at w.streams q) (sh.streams_are q));
       };
       keeps = inv_abandoned capacity limit w fs k;
     }
 
-pub lands_given_up : (capacity limit : ℕ) (v : Session) (w : World) (fs : List Field) → Shows v w → Invariant capacity limit w → AllByRecursion IsByteField fs → FitsMemory (given_up v fs) → Lands capacity limit (given_up v fs)
+pub lands_given_up : (capacity limit : ℕ) (v : Session) (w : AbstractSession) (fs : List Field) → Refines v w
+    → Invariant capacity limit w → AllByRecursion IsByteField fs → FitsMemory (given_up v fs)
+    → RefinesSome capacity limit (given_up v fs)
 lands_given_up capacity limit v w fs sh k wr f =
-    let fits : length (v.sent ++ written_instructions (rule w.encoder fs).instructions) < 2 ^ 63 = subst (λ (t : Table). length (v.sent ++ written_instructions (rule t fs).instructions) < 2 ^ 63) sh.encoder_is f.sent_fits in
-    subst (λ (t : Table). Lands capacity limit (given_up (record v { encoder = t }) fs)) (sym sh.encoder_is) (abandoned_shown capacity limit v w fs sh k wr fits)
+    let fits : length (v.sent ++ written_instructions (rule w.encoder fs).instructions) < 2 ^ 63 =
+    subst (λ (t : Table). length (v.sent ++ written_instructions (rule t fs).instructions) < 2 ^ 63) sh.encoder_is
+    f.sent_fits in
+    subst (λ (t : Table). RefinesSome capacity limit (given_up (record v { encoder = t }) fs)) (sym sh.encoder_is)
+    (abandoned_shown capacity limit v w fs sh k wr fits)
 
 -- ---- a capacity is set
 
@@ -180,56 +275,77 @@ bounded (Some m) = omega arith
 small_capacity : (t u : Table) (n : ℕ) → resized t n ≡ Ok u → n < 2 ^ 63
 small_capacity t u n e = pick (resized_cases t n)
   where
-    pick : (CanResize t n × (resized t n ≡ Ok (resized_table t n))) ⊎ ((r : Refusal) × (resized t n ≡ Err r)) → n < 2 ^ 63
+    pick : (CanResize t n × (resized t n ≡ Ok (resized_table t n))) ⊎ ((r : Refusal) × (resized t n ≡ Err r))
+        → n < 2 ^ 63
     pick (inl p) = omega (arith, p.0.within, bounded t.agreed)
     pick (inr p) = absurd (let q = p.1 in cc)
 
-pub lands_resized : (capacity limit : ℕ) (v : Session) (w : World) (n : ℕ) (t : Table) → Shows v w → Invariant capacity limit w → resized v.encoder n ≡ Ok t
-    → Lands capacity limit (record v { encoder = t; sent = v.sent ++ written_instruction (SetCapacity n) })
+pub lands_resized : (capacity limit : ℕ) (v : Session) (w : AbstractSession) (n : ℕ) (t : Table) → Refines v w
+    → Invariant capacity limit w → resized v.encoder n ≡ Ok t
+    → RefinesSome capacity limit (record v { encoder = t; sent = v.sent ++ written_instruction (SetCapacity n) })
 lands_resized capacity limit v w n t sh k e =
     let same : resized w.encoder n ≡ Ok t = ap (λ x. resized x n) (sym sh.encoder_is) ∙ e in
     let more = written_instruction (SetCapacity n) in
-    let spelled = one_joined SpellsInstruction more (SetCapacity n) (instructions_spelled (SetCapacity n) (small_capacity w.encoder t n same)) in
-    let regroup : (w.taken ++ w.flying) ++ SetCapacity n ∷ [] ≡ w.taken ++ (w.flying ++ SetCapacity n ∷ []) = append_assoc w.taken w.flying (SetCapacity n ∷ []) in
+    let spelled =
+    one_joined SpellsInstruction more (SetCapacity n)
+    (instructions_spelled (SetCapacity n) (small_capacity w.encoder t n same)) in
+    let regroup : (w.taken ++ w.in_flight) ++ SetCapacity n ∷ [] ≡ w.taken ++ (w.in_flight ++ SetCapacity n ∷ []) =
+    append_assoc w.taken w.in_flight (SetCapacity n ∷ []) in
     record {
-      world = record w { encoder = t; flying = w.flying ++ SetCapacity n ∷ [] };
-      shows = record {
+      abstract = record w { encoder = t; in_flight = w.in_flight ++ SetCapacity n ∷ [] };
+      refines = record {
         encoder_is = refl;
         decoder_is = sh.decoder_is;
         unreported_is = sh.unreported_is;
-        sent_carried = carried_more SpellsInstruction v.sent more v.sent_taken w.taken w.flying (SetCapacity n ∷ []) sh.sent_carried spelled;
+        encoder_stream =
+            carried_more SpellsInstruction v.sent more v.sent_taken w.taken w.in_flight (SetCapacity n ∷ [])
+            sh.encoder_stream spelled;
         sent_order = sh.sent_order;
         heard_lines = sh.heard_lines;
-        told_carried = sh.told_carried;
+        decoder_stream = sh.decoder_stream;
         told_order = sh.told_order;
-        streams_are = λ q. subst (λ (l : List Instruction). ShowsStream (v.sent ++ more) l (kept_at v.streams q) (stream_at w.streams q)) regroup
-            (shows_grow v.sent more (w.taken ++ w.flying) (SetCapacity n ∷ []) (kept_at v.streams q) (stream_at w.streams q) (sh.streams_are q));
+        streams_are =
+            λ q. subst (λ (l : List Instruction). RefinesStream (v.sent ++ more) l (stream_at v.streams q)
+            (stream_at w.streams q)) regroup
+            (shows_grow v.sent more (w.taken ++ w.in_flight) (SetCapacity n ∷ []) (stream_at v.streams q)
+            (stream_at w.streams q) (sh.streams_are q));
       };
-      keeps = subst (λ (r : Result Table Refusal). Invariant capacity limit (with_resized w n r)) same (inv_with_resized capacity limit w n k);
+      keeps = subst (λ (r : Result Table Refusal). Invariant capacity limit (after_resize w n r)) same
+          (inv_with_resized capacity limit w n k);
     }
 
 -- ---- a block is decoded, acknowledged, a stream cancelled
 
-pub lands_decoded : (capacity limit : ℕ) (v : Session) (w : World) (s : ℕ) → Shows v w → Invariant capacity limit w → Lands capacity limit (with_decoded v s)
+pub lands_decoded : (capacity limit : ℕ) (v : Session) (w : AbstractSession) (s : ℕ) → Refines v w
+    → Invariant capacity limit w → RefinesSome capacity limit (with_decoded v s)
 lands_decoded capacity limit v w s sh k =
-    let kept = kept_at v.streams s in
+    let kept = stream_at v.streams s in
     let st = stream_at w.streams s in
     let old = sh.streams_are s in
-    let lines = w.taken ++ w.flying in
-    let new : ShowsStream v.sent lines (record kept { decoded = kept.decoded + 1 }) (record st { decoded = st.decoded + 1 }) =
-    record { blocks_are = old.blocks_are; decoded_is = omega (arith, old.decoded_is); acknowledged_is = old.acknowledged_is; cancelled_is = old.cancelled_is } in
+    let lines = w.taken ++ w.in_flight in
+    let new : RefinesStream v.sent lines (record kept { decoded = kept.decoded + 1 })
+    (record st { decoded = st.decoded + 1 }) =
     record {
-      world = record w { streams = (s, record st { decoded = st.decoded + 1 }) ∷ w.streams };
-      shows = record {
+      blocks_are = old.blocks_are;
+      decoded_is = omega (arith, old.decoded_is);
+      acknowledged_is = old.acknowledged_is;
+      cancelled_is = old.cancelled_is;
+    } in
+    record {
+      abstract = record w { streams = (s, record st { decoded = st.decoded + 1 }) ∷ w.streams };
+      refines = record {
         encoder_is = sh.encoder_is;
         decoder_is = sh.decoder_is;
         unreported_is = sh.unreported_is;
-        sent_carried = sh.sent_carried;
+        encoder_stream = sh.encoder_stream;
         sent_order = sh.sent_order;
         heard_lines = sh.heard_lines;
-        told_carried = sh.told_carried;
+        decoder_stream = sh.decoder_stream;
         told_order = sh.told_order;
-        streams_are = λ q. shows_update (ShowsStream v.sent lines) (nat_eq s q) (kept_at v.streams q) (record kept { decoded = kept.decoded + 1 }) (stream_at w.streams q) (record st { decoded = st.decoded + 1 }) new (sh.streams_are q);
+        streams_are =
+            λ q. shows_update (RefinesStream v.sent lines) (nat_eq s q) (stream_at v.streams q)
+            (record kept { decoded = kept.decoded + 1 }) (stream_at w.streams q)
+            (record st { decoded = st.decoded + 1 }) new (sh.streams_are q);
       };
       keeps = inv_decoded capacity limit w s k;
     }
@@ -240,77 +356,119 @@ pub record Lawful (s : ℕ) (k : KeptStream) (lawful : Bool) : Type 0 where
   pub live : k.cancelled ≡ false
   pub holds : lawful ≡ true
 
-pub lawful_on : (s : ℕ) (k : KeptStream) (lawful : Bool) (reason : ℕ) → cond (nat_le (2 ^ 62) s) (Some 1) (unless_cancelled k lawful reason) ≡ None → Lawful s k lawful
+pub lawful_on : (s : ℕ) (k : KeptStream) (lawful : Bool) (reason : ℕ)
+    → cond (nat_le (2 ^ 62) s) (Some 1) (unless_cancelled k lawful reason) ≡ None → Lawful s k lawful
 lawful_on s k lawful reason = one (nat_le (2 ^ 62) s) refl k.cancelled refl lawful refl
   where
-    one : (a : Bool) → nat_le (2 ^ 62) s ≡ a → (b : Bool) → k.cancelled ≡ b → (c : Bool) → lawful ≡ c → cond a (Some 1) (cond b (Some 3) (cond c None (Some reason))) ≡ None → Lawful s k lawful
+    one : (a : Bool) → nat_le (2 ^ 62) s ≡ a → (b : Bool) → k.cancelled ≡ b → (c : Bool) → lawful ≡ c
+        → cond a (Some 1) (cond b (Some 3) (cond c None (Some reason))) ≡ None → Lawful s k lawful
     one true p b q c r h = absurd cc
     one false p true q c r h = absurd cc
     one false p false q true r h = record { small = leb-false _ _ p; live = q; holds = r }
     one false p false q false r h = absurd cc
 
-waits_same : (v : Session) (w : World) (s : ℕ) → Shows v w → (kept_at v.streams s).cancelled ≡ false → waits (kept_at v.streams s) ≡ true → waits_for_acknowledgment (stream_at w.streams s) ≡ true
+waits_same : (v : Session) (w : AbstractSession) (s : ℕ) → Refines v w → (stream_at v.streams s).cancelled ≡ false
+    → waits requires_entry (stream_at v.streams s) ≡ true → waits_for_acknowledgment (stream_at w.streams s) ≡ true
 waits_same v w s sh live h =
-    let kept = kept_at v.streams s in
+    let kept = stream_at v.streams s in
     let st = stream_at w.streams s in
     let old = sh.streams_are s in
     let c : st.cancelled ≡ false = sym old.cancelled_is ∙ live in
-    let n : length (filter requires_entry (take kept.decoded kept.blocks)) ≡ length (filter is_dynamic (take st.decoded st.blocks)) =
-    dynamic_many v.sent (w.taken ++ w.flying) kept.decoded kept.blocks st.blocks old.blocks_are ∙ ap (λ m. length (filter is_dynamic (take m st.blocks))) old.decoded_is in
+    let n : length (filter requires_entry (take kept.decoded kept.blocks))
+    ≡ length (filter is_dynamic (take st.decoded st.blocks)) =
+    dynamic_many v.sent (w.taken ++ w.in_flight) kept.decoded kept.blocks st.blocks old.blocks_are
+    ∙ ap (λ m. length (filter is_dynamic (take m st.blocks))) old.decoded_is in
     let t : nat_lt st.acknowledged (length (filter is_dynamic (take st.decoded st.blocks))) ≡ true =
-    ap (λ m. nat_lt m (length (filter is_dynamic (take st.decoded st.blocks)))) (sym old.acknowledged_is) ∙ ap (nat_lt kept.acknowledged) (sym n) ∙ h in
+    ap (λ m. nat_lt m (length (filter is_dynamic (take st.decoded st.blocks)))) (sym old.acknowledged_is)
+    ∙ ap (nat_lt kept.acknowledged) (sym n) ∙ h in
     rw (c, t) refl
 
-pub lands_acknowledged : (capacity limit : ℕ) (v : Session) (w : World) (s : ℕ) → Shows v w → Invariant capacity limit w → Lawful s (kept_at v.streams s) (waits (kept_at v.streams s))
-    → (let k = kept_at v.streams s in Lands capacity limit (record (with_kept v s (record k { acknowledged = k.acknowledged + 1 })) { told = v.told ++ written_reply (Acknowledgment s) }))
+pub lands_acknowledged : (capacity limit : ℕ) (v : Session) (w : AbstractSession) (s : ℕ) → Refines v w
+    → Invariant capacity limit w → Lawful s (stream_at v.streams s) (waits requires_entry (stream_at v.streams s))
+    → (let k = stream_at v.streams s in RefinesSome capacity limit
+    (record (with_kept v s (record k { acknowledged = k.acknowledged + 1 }))
+    { told = v.told ++ written_reply (Acknowledgment s) }))
 lands_acknowledged capacity limit v w s sh k ok =
-    let kept = kept_at v.streams s in
+    let kept = stream_at v.streams s in
     let st = stream_at w.streams s in
     let old = sh.streams_are s in
-    let lines = w.taken ++ w.flying in
+    let lines = w.taken ++ w.in_flight in
     let more = written_reply (Acknowledgment s) in
-    let spelled = one_joined SpellsReply more (Acknowledgment s) (replies_spelled (Acknowledgment s) (omega (arith, ok.small))) in
-    let new : ShowsStream v.sent lines (record kept { acknowledged = kept.acknowledged + 1 }) (record st { acknowledged = st.acknowledged + 1 }) =
-    record { blocks_are = old.blocks_are; decoded_is = old.decoded_is; acknowledged_is = omega (arith, old.acknowledged_is); cancelled_is = old.cancelled_is } in
+    let spelled =
+    one_joined SpellsReply more (Acknowledgment s) (replies_spelled (Acknowledgment s) (omega (arith, ok.small))) in
+    let new : RefinesStream v.sent lines (record kept { acknowledged = kept.acknowledged + 1 })
+    (record st { acknowledged = st.acknowledged + 1 }) =
     record {
-      world = record w { replies = w.replies ++ Acknowledgment s ∷ []; streams = (s, record st { acknowledged = st.acknowledged + 1 }) ∷ w.streams };
-      shows = record {
+      blocks_are = old.blocks_are;
+      decoded_is = old.decoded_is;
+      acknowledged_is = omega (arith, old.acknowledged_is);
+      cancelled_is = old.cancelled_is;
+    } in
+    record {
+      abstract =
+          record w {
+            decoder_in_flight = w.decoder_in_flight ++ Acknowledgment s ∷ [];
+            streams = (s, record st { acknowledged = st.acknowledged + 1 }) ∷ w.streams;
+          };
+      refines = record {
         encoder_is = sh.encoder_is;
         decoder_is = sh.decoder_is;
         unreported_is = sh.unreported_is;
-        sent_carried = sh.sent_carried;
+        encoder_stream = sh.encoder_stream;
         sent_order = sh.sent_order;
         heard_lines = sh.heard_lines;
-        told_carried = carried_more SpellsReply v.told more v.told_taken sh.heard_lines w.replies (Acknowledgment s ∷ []) sh.told_carried spelled;
+        decoder_stream =
+            carried_more SpellsReply v.told more v.told_taken sh.heard_lines w.decoder_in_flight
+            (Acknowledgment s ∷ []) sh.decoder_stream spelled;
         told_order = sh.told_order;
-        streams_are = λ q. shows_update (ShowsStream v.sent lines) (nat_eq s q) (kept_at v.streams q) (record kept { acknowledged = kept.acknowledged + 1 }) (stream_at w.streams q) (record st { acknowledged = st.acknowledged + 1 }) new (sh.streams_are q);
+        streams_are =
+            λ q. shows_update (RefinesStream v.sent lines) (nat_eq s q) (stream_at v.streams q)
+            (record kept { acknowledged = kept.acknowledged + 1 }) (stream_at w.streams q)
+            (record st { acknowledged = st.acknowledged + 1 }) new (sh.streams_are q);
       };
       keeps = inv_acked capacity limit w s (waits_same v w s sh ok.live ok.holds) k;
     }
 
-pub lands_cancelled : (capacity limit : ℕ) (v : Session) (w : World) (s : ℕ) → Shows v w → Invariant capacity limit w → s < 2 ^ 62
-    → (let k = kept_at v.streams s in Lands capacity limit (record (with_kept v s (record k { cancelled = true })) { told = v.told ++ written_reply (Cancellation s) }))
+pub lands_cancelled : (capacity limit : ℕ) (v : Session) (w : AbstractSession) (s : ℕ) → Refines v w
+    → Invariant capacity limit w → s < 2 ^ 62
+    → (let k = stream_at v.streams s in RefinesSome capacity limit
+    (record (with_kept v s (record k { cancelled = true })) { told = v.told ++ written_reply (Cancellation s) }))
 lands_cancelled capacity limit v w s sh k small =
-    let kept = kept_at v.streams s in
+    let kept = stream_at v.streams s in
     let st = stream_at w.streams s in
     let old = sh.streams_are s in
-    let lines = w.taken ++ w.flying in
+    let lines = w.taken ++ w.in_flight in
     let more = written_reply (Cancellation s) in
-    let spelled = one_joined SpellsReply more (Cancellation s) (replies_spelled (Cancellation s) (omega (arith, small))) in
-    let new : ShowsStream v.sent lines (record kept { cancelled = true }) (record st { cancelled = true }) =
-    record { blocks_are = old.blocks_are; decoded_is = old.decoded_is; acknowledged_is = old.acknowledged_is; cancelled_is = refl } in
+    let spelled =
+    one_joined SpellsReply more (Cancellation s) (replies_spelled (Cancellation s) (omega (arith, small))) in
+    let new : RefinesStream v.sent lines (record kept { cancelled = true }) (record st { cancelled = true }) =
     record {
-      world = record w { replies = w.replies ++ Cancellation s ∷ []; streams = (s, record st { cancelled = true }) ∷ w.streams };
-      shows = record {
+      blocks_are = old.blocks_are;
+      decoded_is = old.decoded_is;
+      acknowledged_is = old.acknowledged_is;
+      cancelled_is = refl;
+    } in
+    record {
+      abstract =
+          record w {
+            decoder_in_flight = w.decoder_in_flight ++ Cancellation s ∷ [];
+            streams = (s, record st { cancelled = true }) ∷ w.streams;
+          };
+      refines = record {
         encoder_is = sh.encoder_is;
         decoder_is = sh.decoder_is;
         unreported_is = sh.unreported_is;
-        sent_carried = sh.sent_carried;
+        encoder_stream = sh.encoder_stream;
         sent_order = sh.sent_order;
         heard_lines = sh.heard_lines;
-        told_carried = carried_more SpellsReply v.told more v.told_taken sh.heard_lines w.replies (Cancellation s ∷ []) sh.told_carried spelled;
+        decoder_stream =
+            carried_more SpellsReply v.told more v.told_taken sh.heard_lines w.decoder_in_flight (Cancellation s ∷ [])
+            sh.decoder_stream spelled;
         told_order = sh.told_order;
-        streams_are = λ q. shows_update (ShowsStream v.sent lines) (nat_eq s q) (kept_at v.streams q) (record kept { cancelled = true }) (stream_at w.streams q) (record st { cancelled = true }) new (sh.streams_are q);
+        streams_are =
+            λ q. shows_update (RefinesStream v.sent lines) (nat_eq s q) (stream_at v.streams q)
+            (record kept { cancelled = true }) (stream_at w.streams q) (record st { cancelled = true }) new
+            (sh.streams_are q);
       };
       keeps = inv_cancelled capacity limit w s k;
     }

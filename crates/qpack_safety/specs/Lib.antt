@@ -1,3 +1,4 @@
-pub mod Safety
-pub mod Shows
+pub mod AbstractSession
+pub mod AbstractSafety
+pub mod Refines
 pub mod SessionSafety

@@ -1,48 +1,221 @@
--- What holds of a session in bytes at every moment, whatever its events were and wherever memory was refused
--- (RFC 9204, section 2).
-use Rattle.std.specs.Prelude.{◌≡◌, ℕ, ◌<◌, ◌≤◌, false, nat_lt, List, length, Some, Ok, slice_get}
-use Rattle.qpack_spec.specs.Field.{total_size}
-use Rattle.qpack_spec.specs.Instruction.{Instruction, SpellsInstruction}
+-- The session theorem, in four parts (RFC 9204, section 2): what holds of every session in bytes at every moment,
+-- behind any events with their answers, and of whatever event comes next. An event that is refused memory is an event
+-- like the others.
+use Rattle.std.specs.Prelude.{◌≡◌, ℕ, ◌+◌, ◌<◌, ◌≤◌, ◌⊎◌, Bool, false, if◌then◌else◌, nat_lt, nat_eq, List, [], ◌∷◌}
+use Rattle.std.specs.Prelude.{◌++◌, length, map, Option, Some, Ok, slice_get}
+use Rattle.qpack_spec.specs.Field.{Field, total_size}
+use Rattle.qpack_spec.specs.Instruction.{Instruction, Reply, SpellsInstruction, SpellsReply, written_instructions}
 use Rattle.qpack_spec.specs.Stream.{Joined, Carried}
 use Rattle.qpack_spec.specs.History.{History, start, window_of, Leads}
-use Rattle.qpack_spec.specs.Reading.{Fields, Missing}
-use Rattle.qpack_spec.specs.BlockReading.{reading_of_bytes, meaning_over_all}
-use Rattle.qpack_spec.specs.Table.{table_of, fields_in, window, count}
-use Rattle.qpack_spec.specs.Session.{KeptBlock, kept_at, Session, Event, ToDecoder, Outcome, Delivered, Refused, StreamFault, opened, next_block, Goes, Runs}
+use Rattle.qpack_spec.specs.Reading.{Fields, Missing, references_of, greatest}
+use Rattle.qpack_spec.specs.BlockReading.{reading_of_bytes, meaning_over_all, written_block}
+use Rattle.qpack_spec.specs.Table.{table_of, fields_in, window, count, tracked, opens, below_limit}
+use Rattle.qpack_spec.specs.Rule.{rule, block_of}
+use Rattle.qpack_spec.specs.Session.{KeptBlock, stream_at, Session, Event, Encode, Decode, ToDecoder, ToEncoder}
+use Rattle.qpack_spec.specs.Session.{Outcome, Encoded, Decoded, MissingReferences, Delivered, Heard, Refused, NoMemory}
+use Rattle.qpack_spec.specs.Session.{Skipped, StreamFault, opened, next_block, increment_sum, blocked_blocks}
+use Rattle.qpack_spec.specs.Session.{unreadable_blocks, skip_reason, Goes, Runs}
+use Rattle.qpack_spec.specs.Stateless.{held_size}
 
--- what the decoder answers for the next block of a stream
-pub record ReadsExactly (v : Session) (b : KeptBlock) : Type 0 where
-  -- while the block requires more insertions than were received, the decoder waits, and tells how many it requires
-  pub missing : count v.decoder < b.required → reading_of_bytes (window v.decoder) b.bytes ≡ Missing b.required
-  -- after that it reads exactly the fields that were handed to the encoder, in order, and whether any entry is required
-  pub exact : b.required ≤ count v.decoder → reading_of_bytes (window v.decoder) b.bytes ≡ Fields b.handed (nat_lt 0 b.required)
-  -- it waits no longer than until the bytes that were written by the block's end are taken
-  pub in_time : b.end ≤ v.sent_taken → b.required ≤ count v.decoder
+-- ---- (a) the run
 
-pub record SafeSession (capacity limit : ℕ) (v : Session) : Type 0 where
-  -- whatever happens next, neither end refuses an instruction
-  pub no_refusal : (e : Event) (fault : StreamFault) (v' : Session) → Goes v e (Refused fault) v' → ⊥
-  -- the next block of each stream that isn't cancelled is read exactly
-  pub reads : (s : ℕ) (b : KeptBlock) → (kept_at v.streams s).cancelled ≡ false → next_block v s ≡ Some b → ReadsExactly v b
-  -- what the lines of every block mean over all insertions ever made, those of the bytes sent, is the fields that were handed
-  pub meanings : (instructions : List Instruction) (all : History) → Joined SpellsInstruction v.sent instructions → Leads (start capacity) instructions all
-      → (s place : ℕ) (b : KeptBlock) → slice_get (kept_at v.streams s).blocks place ≡ Some b → meaning_over_all all b.bytes b.required ≡ Ok b.handed
-  -- a delivery that isn't refused memory takes the instructions of each block whose end it reached
-  pub delivers : (n received : ℕ) (v' : Session) → Goes v (ToDecoder n) (Delivered received) v'
-      → (s place : ℕ) (b : KeptBlock) → slice_get (kept_at v'.streams s).blocks place ≡ Some b → b.end ≤ v'.sent_delivered → b.end ≤ v'.sent_taken
-  -- no more blocks are blocked than may be (section 2.1.2)
-  pub blocked : length v.encoder.waiting ≤ limit
-  -- what the encoder knows to be received was received
-  pub received : v.encoder.known ≤ count v.decoder
-  -- each table is within its capacity of the moment (section 3.2.2)
+-- what an encode that answered a required insert count did: the block that it kept is the written block of the rule, it
+-- requires that count, which is the greatest index that its lines reference, and it ends where the encoder stream does,
+-- which gained exactly the written instructions of the rule; the block is unacknowledged with what its lines reference
+pub record WritesBlock (v : Session) (s : ℕ) (fields : List Field) (required : ℕ) (v' : Session) : Type 0 where
+  pub block : KeptBlock
+  pub kept : (stream_at v'.streams s).blocks ≡ (stream_at v.streams s).blocks ++ block ∷ []
+  pub bytes_are : block.bytes ≡ written_block (block_of v.encoder (rule v.encoder fields))
+  pub required_is : block.required ≡ required
+  pub is_greatest : greatest (references_of (count v.encoder) (rule v.encoder fields).lines) ≡ required
+  pub handed_are : block.handed ≡ fields
+  pub ends : block.end ≡ length v'.sent
+  pub stream_gains : v'.sent ≡ v.sent ++ written_instructions (rule v.encoder fields).instructions
+  pub keeps_references : v'.encoder.opened ≡ opens v.encoder.opened s
+      (tracked [] (references_of (count v.encoder) (rule v.encoder fields).lines))
+
+-- lockstep: the bytes sent are instructions, of which the first are taken; what those make of an empty table is the
+-- decoder's, and what all of them make of it the encoder's
+pub record Lockstep (capacity : ℕ) (v : Session) : Type 0 where
+  pub taken : List Instruction
+  pub in_flight : List Instruction
+  pub received : History
+  pub made : History
+  pub carried : Carried Instruction SpellsInstruction v.sent v.sent_taken taken in_flight
+  pub taken_lead : Leads (start capacity) taken received
+  pub in_flight_lead : Leads received in_flight made
+  pub decoder_is : v.decoder ≡ table_of (window_of received)
+  pub encoder_is : window v.encoder ≡ window_of made
+
+-- every insertion received is reported and heard, reported and under way as an increment, or not reported yet
+pub record Accounts (v : Session) : Type 0 where
+  pub heard : List Reply
+  pub in_flight : List Reply
+  pub carried : Carried Reply SpellsReply v.told v.told_taken heard in_flight
+  pub adds_up : v.encoder.known + increment_sum in_flight + v.unreported ≡ count v.decoder
+
+-- of both streams no more is taken than was delivered, and no more delivered than written
+pub record IsOrdered (v : Session) : Type 0 where
+  pub sent_taken : v.sent_taken ≤ v.sent_delivered
+  pub sent_delivered : v.sent_delivered ≤ length v.sent
+  pub told_taken : v.told_taken ≤ v.told_delivered
+  pub told_delivered : v.told_delivered ≤ length v.told
+
+-- one list begins with the other
+abbrev pub Extends : {X : Type 0} → List X → List X → Type 0
+Extends {X} xs ys = (more : List X) × (ys ≡ xs ++ more)
+
+-- from one session to a later one: both streams and the blocks only grow, and nothing taken or delivered goes back
+pub record Advances (v v' : Session) : Type 0 where
+  pub sent : Extends v.sent v'.sent
+  pub told : Extends v.told v'.told
+  pub sent_taken : v.sent_taken ≤ v'.sent_taken
+  pub sent_delivered : v.sent_delivered ≤ v'.sent_delivered
+  pub told_taken : v.told_taken ≤ v'.told_taken
+  pub told_delivered : v.told_delivered ≤ v'.told_delivered
+  pub blocks : (s : ℕ) → Extends (stream_at v.streams s).blocks (stream_at v'.streams s).blocks
+
+-- (a) The outcomes and the state are a run of the session. Each block and the encoder stream are the rule's. Both
+-- tables are those that the instructions make of an empty one, and within their capacity of the moment (section 3.2.2).
+-- No more blocks are blocked than may be (section 2.1.2): of those kept the ones that require more than the encoder
+-- knows to be received. It is their number that the encoder holds against its limit, and no more are unreadable at the
+-- decoder, which received what is known to be received.
+pub record RunsByTheRule (capacity limit : ℕ) (events : List (Event × Outcome)) (v : Session) : Type 0 where
+  pub run : Runs (opened capacity limit) events v
+  pub writes : (s : ℕ) (fields : List Field) (required : ℕ) (v' : Session)
+      → Goes v (Encode s fields) (Encoded required) v'
+      → WritesBlock v s fields required v'
+  pub lockstep : Lockstep capacity v
   pub encoder_fits : total_size (fields_in v.encoder.live) ≤ v.encoder.capacity
   pub decoder_fits : total_size (fields_in v.decoder.live) ≤ v.decoder.capacity
-  -- lockstep: the bytes sent are instructions, of which the first are taken; what those make of an empty table is the
-  -- decoder's, and what all of them make of it the encoder's
-  pub lockstep : (taken flying : List Instruction) × (h h' : History) × Carried Instruction SpellsInstruction v.sent v.sent_taken taken flying
-      × Leads (start capacity) taken h × Leads h flying h' × (v.decoder ≡ table_of (window_of h)) × (window v.encoder ≡ window_of h')
+  pub blocked : blocked_blocks v ≤ limit
+  pub counts_blocked : length v.encoder.waiting ≡ blocked_blocks v
+  pub unreadable_within : unreadable_blocks v ≤ blocked_blocks v
+  pub may_block_more : below_limit v.encoder ≡ nat_lt (blocked_blocks v) limit
+  pub limit_is : v.encoder.limit ≡ limit
+  pub received : v.encoder.known ≤ count v.decoder
+  pub accounts : Accounts v
+  pub ordered : IsOrdered v
+  pub advances : (e : Event) (o : Outcome) (v' : Session) → Goes v e o v' → Advances v v'
+
+-- ---- (b) no refusal
+
+-- (b) No instruction is refused but for memory: whatever happens next, no event is answered by a refusal of a stream. A
+-- delivery to the decoder answers how many insertions were received, or is refused memory; one to the encoder is heard.
+pub record RefusesNothing (v : Session) : Type 0 where
+  pub no_refusal : (e : Event) (fault : StreamFault) (v' : Session) → Goes v e (Refused fault) v' → ⊥
+  pub delivers : (n : ℕ) (o : Outcome) (v' : Session) → Goes v (ToDecoder n) o v'
+      → (o ≡ Delivered (count v'.decoder)) ⊎ (o ≡ NoMemory)
+  pub hears : (n : ℕ) (o : Outcome) (v' : Session) → Goes v (ToEncoder n) o v' → o ≡ Heard
+
+-- ---- (c) the fields
+
+-- an encode that was answered: the fields that were handed to it, and the required insert count that it answered
+pub record AnsweredEncode : Type 0 where
+  pub fields : List Field
+  pub required : ℕ
+
+-- the encode of an event on this stream, if it is one that was answered
+abbrev pub encode_of : ℕ → Event → Outcome → List AnsweredEncode
+encode_of s (Encode stream fields) (Encoded required) =
+    if nat_eq stream s then record { fields = fields; required = required } ∷ [] else []
+encode_of s e o = []
+
+-- 1 if the event is a decode on this stream that answered fields
+abbrev pub decode_of : ℕ → Event → Outcome → ℕ
+decode_of s (Decode stream) (Decoded fields size is_dynamic) = if nat_eq stream s then 1 else 0
+decode_of s e o = 0
+
+-- the encodes of a stream that were answered, in order: each wrote the next block of the stream
+abbrev pub encodes_on : ℕ → List (Event × Outcome) → List AnsweredEncode
+encodes_on s [] = []
+encodes_on s (p ∷ ps) = encode_of s p.0 p.1 ++ encodes_on s ps
+
+-- how many decodes of a stream answered fields: each read the next block of the stream
+abbrev pub decodes_on : ℕ → List (Event × Outcome) → ℕ
+decodes_on s [] = 0
+decodes_on s (p ∷ ps) = decode_of s p.0 p.1 + decodes_on s ps
+
+-- the encode that wrote the next block to be decoded on a stream
+abbrev pub next_encode : ℕ → List (Event × Outcome) → Option AnsweredEncode
+next_encode s events = slice_get (encodes_on s events) (decodes_on s events)
+
+-- an answer with fields: those that were handed to the next encode of the stream, the sum of their sizes, held at 2^64
+-- - 1, and whether any entry is required
+pub record AnswersFields (events : List (Event × Outcome)) (s : ℕ) (fields : List Field) (size : ℕ)
+    (is_dynamic : Bool) : Type 0 where
+  pub encode : AnsweredEncode
+  pub is_next : next_encode s events ≡ Some encode
+  pub fields_are : fields ≡ encode.fields
+  pub size_is : size ≡ held_size (total_size encode.fields)
+  pub dynamic_is : is_dynamic ≡ nat_lt 0 encode.required
+
+-- what was handed to the encode that wrote a block, and what it answered
+abbrev pub encode_behind : KeptBlock → AnsweredEncode
+encode_behind b = record { fields = b.handed; required = b.required }
+
+-- (c) A decode that answers fields answers exactly the fields that were handed to the encode that wrote its block, in
+-- order, with the sum of their sizes, and whether any entry is required. So are the bytes of the next block read under
+-- the decoder's table, once it received what the block requires; and so do the lines of every block mean them over all
+-- insertions ever made, those of the bytes sent.
+pub record DecodesWhatWasHanded (capacity : ℕ) (events : List (Event × Outcome)) (v : Session) : Type 0 where
+  pub answers : (s : ℕ) (fields : List Field) (size : ℕ) (is_dynamic : Bool) (v' : Session)
+      → Goes v (Decode s) (Decoded fields size is_dynamic) v'
+      → AnswersFields events s fields size is_dynamic
+  pub blocks_are : (s : ℕ) → map (λ b. encode_behind b) (stream_at v.streams s).blocks ≡ encodes_on s events
+  pub decoded_are : (s : ℕ) → (stream_at v.streams s).decoded ≡ decodes_on s events
+  pub reads : (s : ℕ) (b : KeptBlock) → (stream_at v.streams s).cancelled ≡ false → next_block v s ≡ Some b
+      → b.required ≤ count v.decoder
+      → reading_of_bytes (window v.decoder) b.bytes ≡ Fields b.handed (nat_lt 0 b.required)
+  pub meanings : (instructions : List Instruction) (all : History) → Joined SpellsInstruction v.sent instructions
+      → Leads (start capacity) instructions all
+      → (s position : ℕ) (b : KeptBlock) → slice_get (stream_at v.streams s).blocks position ≡ Some b
+      → meaning_over_all all b.bytes b.required ≡ Ok b.handed
+
+-- ---- (d) the other answers
+
+-- what a decode answers: it is skipped, as its event is outside a lawful session; it wants memory; it answers fields;
+-- or that its block's required insert count is missing, which exceeds the insertions received
+pub data DecodeAnswer (events : List (Event × Outcome)) (v : Session) (s : ℕ) (o : Outcome) : Type 0 where
+  is_skipped : (reason : ℕ) → skip_reason v (Decode s) ≡ Some reason → o ≡ Skipped reason → DecodeAnswer events v s o
+  wants_memory : o ≡ NoMemory → DecodeAnswer events v s o
+  gives_fields : (fields : List Field) (size : ℕ) (is_dynamic : Bool) → o ≡ Decoded fields size is_dynamic
+      → DecodeAnswer events v s o
+  waits_for : (encode : AnsweredEncode) → next_encode s events ≡ Some encode → count v.decoder < encode.required
+      → o ≡ MissingReferences encode.required → DecodeAnswer events v s o
+
+-- (d) The only other answers of a decode are want of memory, or that the required insert count of its block is missing
+-- while that exceeds the insertions received; and never once the encoder bytes that were written by the block's end
+-- were delivered by a delivery that was answered, whatever happened since.
+pub record WaitsOnlyForInsertions (events : List (Event × Outcome)) (v : Session) : Type 0 where
+  pub answers : (s : ℕ) (o : Outcome) (v' : Session) → Goes v (Decode s) o v' → DecodeAnswer events v s o
+  pub never_again : (n received : ℕ) (delivered : Session) → Goes v (ToDecoder n) (Delivered received) delivered
+      → (later : List (Event × Outcome)) (u : Session) → Runs delivered later u
+      → (s : ℕ) (b : KeptBlock) → next_block u s ≡ Some b → b.end ≤ delivered.sent_delivered
+      → (required : ℕ) (u' : Session) → Goes u (Decode s) (MissingReferences required) u' → ⊥
+  -- such a delivery takes the instructions of each block whose end it reached, and behind them nothing is missing
+  pub takes : (n received : ℕ) (v' : Session) → Goes v (ToDecoder n) (Delivered received) v'
+      → (s position : ℕ) (b : KeptBlock) → slice_get (stream_at v'.streams s).blocks position ≡ Some b
+      → b.end ≤ v'.sent_delivered → b.end ≤ v'.sent_taken
+  pub in_time : (s : ℕ) (b : KeptBlock) → (stream_at v.streams s).cancelled ≡ false → next_block v s ≡ Some b
+      → b.end ≤ v.sent_taken
+      → b.required ≤ count v.decoder
+  -- the bytes of the next block are read so under the decoder's table
+  pub missing : (s : ℕ) (b : KeptBlock) → (stream_at v.streams s).cancelled ≡ false → next_block v s ≡ Some b
+      → count v.decoder < b.required
+      → reading_of_bytes (window v.decoder) b.bytes ≡ Missing b.required
+
+-- ---- the theorem
+
+-- a session is safe: all four parts hold
+pub record IsSafe (capacity limit : ℕ) (events : List (Event × Outcome)) (v : Session) : Type 0 where
+  pub follows : RunsByTheRule capacity limit events v
+  pub refuses : RefusesNothing v
+  pub decodes : DecodesWhatWasHanded capacity events v
+  pub waits : WaitsOnlyForInsertions events v
 
 -- for every capacity, every limit and every list of events with their answers, events refused for memory among them
 abbrev pub SessionsAreSafe : Type 0
 SessionsAreSafe =
-    (capacity limit : ℕ) (events : List (Event × Outcome)) (v : Session) → Runs (opened capacity limit) events v → SafeSession capacity limit v
+    (capacity limit : ℕ) (events : List (Event × Outcome)) (v : Session) → Runs (opened capacity limit) events v
+    → IsSafe capacity limit events v

@@ -3,15 +3,9 @@
 //! still under way. Each function here is a law: it does nothing, and its contract is the statement.
 #![tactic(auto)]
 
-ghost use Rattle.qpack_safety.specs.Safety.{AlwaysSafe};
 ghost use Rattle.qpack_safety.specs.SessionSafety.{SessionsAreSafe};
 
 /// The theorem: at every moment of every session in bytes, whatever its events were, and wherever memory was refused.
 pub fn sessions_are_safe()
     ensures { SessionsAreSafe }
-{}
-
-/// The same of the values that the bytes stand for, step by step: what the theorem rests on.
-pub fn steps_are_safe()
-    ensures { AlwaysSafe }
 {}

@@ -1,9 +1,11 @@
 -- Bits of numbers and of bytes.
-use Rattle.std.proofs.Common.{◌≡◌, ℕ, zero, suc, ◌+◌, ◌-◌, ◌*◌, ◌/◌, ◌%◌, ◌^◌, ◌<◌, ◌≤◌, List, [], ◌∷◌, ◌++◌, length, take, drop, refl, sym, ap, ◌∙◌, arith, append_assoc, inl, inr}
+use Rattle.std.proofs.Common.{◌≡◌, ℕ, zero, suc, ◌+◌, ◌-◌, ◌*◌, ◌/◌, ◌%◌, ◌^◌, ◌<◌, ◌≤◌, List, [], ◌∷◌, ◌++◌, length}
+use Rattle.std.proofs.Common.{take, drop, refl, sym, ap, ◌∙◌, arith, append_assoc, inl, inr}
 use Rattle.std.specs.List.{AllByRecursion}
 use Rattle.std.proofs.Math.Nat.{pow-succ', mul-add-div_right}
 use Rattle.std.proofs.lemmas.Nat.{pow_pos, shr-shr, mod-pow-add, div-mul-add, shr_split}
-use Rattle.std.proofs.lemmas.List.{drop_all, take-append-le, take-append-drop, length-append, take_at, length-take-le, length-drop}
+use Rattle.std.proofs.lemmas.List.{drop_all, take-append-le, take-append-drop, length-append, take_at, length-take-le}
+use Rattle.std.proofs.lemmas.List.{length-drop}
 use Rattle.std.proofs.Math.Seq.{take-append-add}
 use Rattle.std.proofs.lemmas.List.Concat.{flat_map-cons}
 use Rattle.std.proofs.lemmas.Bool.{cases_lt}
@@ -25,7 +27,7 @@ pub bits_behind : (a b : List ℕ) → AreBits (a ++ b) → AreBits b
 bits_behind [] b ok = ok
 bits_behind (x ∷ a) b ok = bits_behind a b ok.1
 
-pub bits_before : (a b : List ℕ) → AreBits (a ++ b) → AreBits a
+bits_before : (a b : List ℕ) → AreBits (a ++ b) → AreBits a
 bits_before [] b ok = tt
 bits_before (x ∷ a) b ok = (ok.0, bits_before a b ok.1)
 
@@ -36,14 +38,15 @@ bits_are (suc k) n = (omega arith, bits_are k n)
 
 pub bytes_bits : (bytes : List ℕ) → AreBits (bits_of_bytes bytes)
 bytes_bits [] = tt
-bytes_bits (b ∷ bytes) = rw flat_map-cons (bits_join (bits_of 8 b) (bits_of_bytes bytes) (bits_are 8 b) (bytes_bits bytes))
+bytes_bits (b ∷ bytes) =
+    rw flat_map-cons (bits_join (bits_of 8 b) (bits_of_bytes bytes) (bits_are 8 b) (bytes_bits bytes))
 
 pub bits_length : (k n : ℕ) → length (bits_of k n) ≡ k
 unfolding bits_of
 bits_length zero n = refl
 bits_length (suc k) n = ap suc (bits_length k n)
 
-pub bytes_length : (bytes : List ℕ) → length (bits_of_bytes bytes) ≡ 8 * length bytes
+bytes_length : (bytes : List ℕ) → length (bits_of_bytes bytes) ≡ 8 * length bytes
 bytes_length [] = refl
 bytes_length (b ∷ bytes) = rw (flat_map-cons, length-append) (omega (arith, bits_length 8 b, bytes_length bytes))
 
@@ -59,7 +62,7 @@ unfolding ones
 ones_all zero = tt
 ones_all (suc k) = (refl, ones_all k)
 
-pub ones_bits : (k : ℕ) → AreBits (ones k)
+ones_bits : (k : ℕ) → AreBits (ones k)
 unfolding ones
 ones_bits zero = tt
 ones_bits (suc k) = (omega arith, ones_bits k)
@@ -69,11 +72,11 @@ unfolding ones
 ones_length zero = refl
 ones_length (suc k) = ap suc (ones_length k)
 
-pub ones_none : ones 0 ≡ []
+ones_none : ones 0 ≡ []
 unfolding ones
 ones_none = refl
 
-pub ones_join : (j k : ℕ) → ones j ++ ones k ≡ ones (j + k)
+ones_join : (j k : ℕ) → ones j ++ ones k ≡ ones (j + k)
 unfolding ones
 ones_join zero k = ap ones (let e : k ≡ 0 + k = omega arith in e)
 ones_join (suc j) k = let e : suc j + k ≡ suc (j + k) = omega arith in rw (ones_join j k, e) refl
@@ -94,12 +97,13 @@ low_bit : (hi x : ℕ) → (2 * hi + x) % 2 ≡ x % 2
 low_bit hi x = omega arith
 
 -- the low bits don't see what stands above them
-pub bits_low : (q hi lo : ℕ) → bits_of q (hi * 2 ^ q + lo) ≡ bits_of q lo
+bits_low : (q hi lo : ℕ) → bits_of q (hi * 2 ^ q + lo) ≡ bits_of q lo
 unfolding bits_of
 bits_low zero hi lo = refl
 bits_low (suc q) hi lo =
     let whole : hi * 2 ^ suc q + lo ≡ 2 * hi * 2 ^ q + lo = let p = pow-succ' 2 q in rw p (omega arith) in
-    let head : (2 * hi * 2 ^ q + lo) / 2 ^ q % 2 ≡ lo / 2 ^ q % 2 = ap (λ (k : ℕ). k % 2) (mul-add-div_right (pow_pos q) (2 * hi) lo) ∙ low_bit hi (lo / 2 ^ q) in
+    let head : (2 * hi * 2 ^ q + lo) / 2 ^ q % 2 ≡ lo / 2 ^ q % 2 =
+    ap (λ (k : ℕ). k % 2) (mul-add-div_right (pow_pos q) (2 * hi) lo) ∙ low_bit hi (lo / 2 ^ q) in
     rw (whole, head, bits_low q (2 * hi) lo) refl
 
 pub bits_cut : (q n : ℕ) → bits_of q (n % 2 ^ q) ≡ bits_of q n
@@ -107,7 +111,8 @@ bits_cut q n = sym (bits_low q (n / 2 ^ q) (n % 2 ^ q)) ∙ ap (bits_of q) (shr_
 
 -- a number, and a number of q bits behind it
 pub bits_push : (p q hi lo : ℕ) → lo < 2 ^ q → bits_of (p + q) (hi * 2 ^ q + lo) ≡ bits_of p hi ++ bits_of q lo
-bits_push p q hi lo h = bits_append p q (p + q) (hi * 2 ^ q + lo) refl ∙ rw (div-mul-add hi (2 ^ q) lo h, bits_low q hi lo) refl
+bits_push p q hi lo h =
+    bits_append p q (p + q) (hi * 2 ^ q + lo) refl ∙ rw (div-mul-add hi (2 ^ q) lo h, bits_low q hi lo) refl
 
 one_bit : (bit : ℕ) → bit < 2 → bits_of 1 bit ≡ bit ∷ []
 unfolding bits_of
@@ -118,7 +123,8 @@ pub bits_next : (k n bit : ℕ) → bit < 2 → bits_of (suc k) (2 * n + bit) �
 bits_next k n bit h =
     let e : 2 * n + bit ≡ n * 2 ^ 1 + bit = omega arith in
     let s : suc k ≡ k + 1 = omega arith in
-    ap (bits_of (suc k)) e ∙ ap (λ (j : ℕ). bits_of j (n * 2 ^ 1 + bit)) s ∙ bits_push k 1 n bit (omega arith) ∙ ap (λ (l : List ℕ). bits_of k n ++ l) (one_bit bit h)
+    ap (bits_of (suc k)) e ∙ ap (λ (j : ℕ). bits_of j (n * 2 ^ 1 + bit)) s ∙ bits_push k 1 n bit (omega arith)
+    ∙ ap (λ (l : List ℕ). bits_of k n ++ l) (one_bit bit h)
 
 -- all bits of the greatest number are ones
 pub ones_number : (k n : ℕ) → n + 1 ≡ 2 ^ k → bits_of k n ≡ ones k
@@ -143,8 +149,10 @@ pub number_bits : (k n m : ℕ) → number_from n (bits_of k m) ≡ n * 2 ^ k + 
 unfolding bits_of number_from
 number_bits zero n m = let e : m % 2 ^ 0 ≡ 0 = omega arith in rw e (omega arith)
 number_bits (suc k) n m =
-    let low : m % 2 ^ suc k ≡ (m / 2 ^ k % 2) * 2 ^ k + m % 2 ^ k = let s : suc k ≡ 1 + k = omega arith in rw s (mod-pow-add m 1 k) in
-    number_bits k (2 * n + m / 2 ^ k % 2) m ∙ high_part n (m / 2 ^ k % 2) (2 ^ k) (m % 2 ^ k) ∙ (let p = pow-succ' 2 k in rw (low, p) refl)
+    let low : m % 2 ^ suc k ≡ (m / 2 ^ k % 2) * 2 ^ k + m % 2 ^ k = let s : suc k ≡ 1 + k =
+    omega arith in rw s (mod-pow-add m 1 k) in
+    number_bits k (2 * n + m / 2 ^ k % 2) m ∙ high_part n (m / 2 ^ k % 2) (2 ^ k) (m % 2 ^ k)
+    ∙ (let p = pow-succ' 2 k in rw (low, p) refl)
 
 pub record SplitsNumber (n : ℕ) (bits : List ℕ) : Type 0 where
   pub low : ℕ
@@ -175,7 +183,9 @@ bits_number n [] ok = refl
 bits_number n (b ∷ bits) ok =
     let t = number_splits (2 * n + b) bits ok.1 in
     let head : number_from (2 * n + b) bits / 2 ^ length bits % 2 ≡ b =
-    ap (λ (x : ℕ). x / 2 ^ length bits % 2) t.is ∙ ap (λ (x : ℕ). x % 2) (div-mul-add (2 * n + b) (2 ^ length bits) t.low t.small) ∙ (let h = ok.0 in omega arith) in
+    ap (λ (x : ℕ). x / 2 ^ length bits % 2) t.is
+    ∙ ap (λ (x : ℕ). x % 2) (div-mul-add (2 * n + b) (2 ^ length bits) t.low t.small)
+    ∙ (let h = ok.0 in omega arith) in
     rw (head, bits_number (2 * n + b) bits ok.1) refl
 
 -- ---- bytes and their bits
@@ -192,14 +202,17 @@ parts_same (c ∷ a) (d ∷ b) x y l e =
     (let q = r.0 in cc, r.1)
 
 -- bytes with the same bits are the same
-pub bytes_same : (p q : List ℕ) → AreBytes p → AreBytes q → bits_of_bytes p ≡ bits_of_bytes q → p ≡ q
+bytes_same : (p q : List ℕ) → AreBytes p → AreBytes q → bits_of_bytes p ≡ bits_of_bytes q → p ≡ q
 bytes_same [] [] ok ok' e = refl
 bytes_same [] (c ∷ q) ok ok' e = absurd (let l = ap length e in omega (arith, bytes_length [], bytes_length (c ∷ q)))
 bytes_same (b ∷ p) [] ok ok' e = absurd (let l = ap length e in omega (arith, bytes_length [], bytes_length (b ∷ p)))
 bytes_same (b ∷ p) (c ∷ q) ok ok' e =
-    let s : bits_of 8 b ++ bits_of_bytes p ≡ bits_of 8 c ++ bits_of_bytes q = sym (flat_map-cons (bits_of 8) b p) ∙ e ∙ flat_map-cons (bits_of 8) c q in
-    let t = parts_same (bits_of 8 b) (bits_of 8 c) (bits_of_bytes p) (bits_of_bytes q) (bits_length 8 b ∙ sym (bits_length 8 c)) s in
-    let n : b % 2 ^ 8 ≡ c % 2 ^ 8 = let x = number_bits 8 0 b in let y = number_bits 8 0 c in let z = ap (number_from 0) t.0 in omega arith in
+    let s : bits_of 8 b ++ bits_of_bytes p ≡ bits_of 8 c ++ bits_of_bytes q =
+    sym (flat_map-cons (bits_of 8) b p) ∙ e ∙ flat_map-cons (bits_of 8) c q in
+    let t = parts_same (bits_of 8 b) (bits_of 8 c) (bits_of_bytes p) (bits_of_bytes q) (bits_length 8 b
+    ∙ sym (bits_length 8 c)) s in
+    let n : b % 2 ^ 8 ≡ c % 2 ^ 8 = let x = number_bits 8 0 b in let y = number_bits 8 0 c in let z =
+    ap (number_from 0) t.0 in omega arith in
     let h : b ≡ c = let x = ok.0 in let y = ok'.0 in omega arith in
     let r = bytes_same p q ok.1 ok'.1 t.1 in
     cc
@@ -208,7 +221,8 @@ bytes_same (b ∷ p) (c ∷ q) ok ok' e =
 
 front_bits : (bits : List ℕ) → AreBits bits → AreBits (take 8 (bits ++ ones 8))
 front_bits bits ok =
-    bits_before (take 8 (bits ++ ones 8)) (drop 8 (bits ++ ones 8)) (rw (take-append-drop 8 (bits ++ ones 8)) (bits_join bits (ones 8) ok (ones_bits 8)))
+    bits_before (take 8 (bits ++ ones 8)) (drop 8 (bits ++ ones 8))
+    (rw (take-append-drop 8 (bits ++ ones 8)) (bits_join bits (ones 8) ok (ones_bits 8)))
 
 front_length : (bits : List ℕ) → length (take 8 (bits ++ ones 8)) ≡ 8
 front_length bits = length-take-le 8 (bits ++ ones 8) (omega (arith, length-append bits (ones 8), ones_length 8))
@@ -233,43 +247,54 @@ filled : (bits : List ℕ) → length bits ≤ 8 → take 8 (bits ++ ones 8) ≡
 filled bits le =
     let m = 8 - length bits in
     let e : 8 ≡ length bits + m = omega arith in
-    let o : ones 8 ≡ ones m ++ ones (length bits) = (let g : 8 ≡ m + length bits = omega arith in ap ones g) ∙ sym (ones_join m (length bits)) in
+    let o : ones 8 ≡ ones m ++ ones (length bits) =
+    (let g : 8 ≡ m + length bits = omega arith in ap ones g) ∙ sym (ones_join m (length bits)) in
     ap (λ (j : ℕ). take j (bits ++ ones 8)) e ∙ take-append-add bits (ones 8) m
-    ∙ ap (λ (l : List ℕ). bits ++ take m l) o ∙ ap (λ (l : List ℕ). bits ++ l) (take_at (ones m) (ones (length bits)) m (ones_length m))
+    ∙ ap (λ (l : List ℕ). bits ++ take m l) o
+    ∙ ap (λ (l : List ℕ). bits ++ l) (take_at (ones m) (ones (length bits)) m (ones_length m))
 
 -- eight bits of those, filled up with ones, and then the others
 eight_more : (k : ℕ) (bits : List ℕ) → length bits ≤ 8 * suc k
-    → take 8 (bits ++ ones 8) ++ (drop 8 bits ++ ones (8 * k - length (drop 8 bits))) ≡ bits ++ ones (8 * suc k - length bits)
+    → take 8 (bits ++ ones 8) ++ (drop 8 bits ++ ones (8 * k - length (drop 8 bits)))
+    ≡ bits ++ ones (8 * suc k - length bits)
 eight_more k bits le =
     elim (cases_lt (length bits) 8) [
       | inl lt ↦
           let d : drop 8 bits ≡ [] = drop_all 8 bits (omega arith) in
           let f : take 8 (bits ++ ones 8) ≡ bits ++ ones (8 - length bits) = filled bits (omega arith) in
           let g : 8 - length bits + (8 * k - length {A = ℕ} []) ≡ 8 * suc k - length bits = omega arith in
-          rw (d, f) (append_assoc bits (ones (8 - length bits)) (ones (8 * k - length {A = ℕ} [])) ∙ ap (λ (l : List ℕ). bits ++ l) (ones_join (8 - length bits) (8 * k - length {A = ℕ} []) ∙ ap ones g))
+          rw (d, f) (append_assoc bits (ones (8 - length bits)) (ones (8 * k - length {A = ℕ} []))
+          ∙ ap (λ (l : List ℕ). bits ++ l) (ones_join (8 - length bits) (8 * k - length {A = ℕ} []) ∙ ap ones g))
       | inr ge ↦
           let f : take 8 (bits ++ ones 8) ≡ take 8 bits = take-append-le 8 bits (ones 8) ge in
           let g : 8 * k - length (drop 8 bits) ≡ 8 * suc k - length bits = omega (arith, length-drop 8 bits) in
-          rw (f, g) (sym (append_assoc (take 8 bits) (drop 8 bits) (ones (8 * suc k - length bits))) ∙ ap (λ (l : List ℕ). l ++ ones (8 * suc k - length bits)) (take-append-drop 8 bits))
+          rw (f, g) (sym (append_assoc (take 8 bits) (drop 8 bits) (ones (8 * suc k - length bits)))
+          ∙ ap (λ (l : List ℕ). l ++ ones (8 * suc k - length bits)) (take-append-drop 8 bits))
     ]
 
 -- the bits of packed bits are these, and ones behind them
-pub packed_bits : (k : ℕ) (bits : List ℕ) → AreBits bits → length bits ≤ 8 * k → bits_of_bytes (packed k bits) ≡ bits ++ ones (8 * k - length bits)
+pub packed_bits : (k : ℕ) (bits : List ℕ) → AreBits bits → length bits ≤ 8 * k
+    → bits_of_bytes (packed k bits) ≡ bits ++ ones (8 * k - length bits)
 unfolding packed
 packed_bits zero [] ok le = let e : 8 * 0 - length {A = ℕ} [] ≡ 0 = omega arith in rw e (sym (ones_none))
 packed_bits zero (b ∷ bits) ok le = absurd (omega arith)
 packed_bits (suc k) bits ok le =
     let front = take 8 (bits ++ ones 8) in
-    let f : bits_of 8 (number_from 0 front) ≡ front = ap (λ (j : ℕ). bits_of j (number_from 0 front)) (sym (front_length bits)) ∙ bits_number 0 front (front_bits bits ok) in
+    let f : bits_of 8 (number_from 0 front) ≡ front =
+    ap (λ (j : ℕ). bits_of j (number_from 0 front)) (sym (front_length bits))
+    ∙ bits_number 0 front (front_bits bits ok) in
     flat_map-cons (bits_of 8) (number_from 0 front) (packed k (drop 8 bits))
     ∙ ap (λ (l : List ℕ). l ++ bits_of_bytes (packed k (drop 8 bits))) f
-    ∙ ap (λ (l : List ℕ). front ++ l) (packed_bits k (drop 8 bits) (rest_bits bits ok) (omega (arith, length-drop 8 bits)))
+    ∙ ap (λ (l : List ℕ). front ++ l) (packed_bits k (drop 8 bits) (rest_bits bits ok)
+    (omega (arith, length-drop 8 bits)))
     ∙ eight_more k bits le
 
 -- bytes whose bits are these and fewer than eight ones behind them are these bits, packed
-pub packed_is : (bytes bits : List ℕ) (padding : ℕ) → AreBytes bytes → AreBits bits → padding < 8 → bits_of_bytes bytes ≡ bits ++ ones padding → bytes ≡ packed ((length bits + 7) / 8) bits
+pub packed_is : (bytes bits : List ℕ) (padding : ℕ) → AreBytes bytes → AreBits bits → padding < 8
+    → bits_of_bytes bytes ≡ bits ++ ones padding → bytes ≡ packed ((length bits + 7) / 8) bits
 packed_is bytes bits padding ok are few e =
-    let len : 8 * length bytes ≡ length bits + padding = omega (arith, bytes_length bytes, ap length e, length-append bits (ones padding), ones_length padding) in
+    let len : 8 * length bytes ≡ length bits + padding =
+    omega (arith, bytes_length bytes, ap length e, length-append bits (ones padding), ones_length padding) in
     let k : (length bits + 7) / 8 ≡ length bytes = omega arith in
     let pad : 8 * length bytes - length bits ≡ padding = omega arith in
     rw k (bytes_same bytes (packed (length bytes) bits) ok (packed_bytes (length bytes) bits are)

@@ -1,6 +1,7 @@
--- Reading a field section from its bytes: what is written is read as the block that it is, and reading line by line is the
--- relation of lines joined.
-use Rattle.std.proofs.Common.{◌≡◌, ℕ, zero, suc, ◌<◌, ◌≤◌, Bool, true, false, List, [], ◌∷◌, ◌++◌, length, Result, Ok, Err, refl, sym, ap, subst, ◌∙◌, append_assoc, arith, lit≤, length-append}
+-- Reading a field section from its bytes: what is written is read as the block that it is, and reading line by line is
+-- the relation of lines joined.
+use Rattle.std.proofs.Common.{◌≡◌, ℕ, zero, suc, ◌<◌, ◌≤◌, Bool, true, false, List, [], ◌∷◌, ◌++◌, length, Result, Ok}
+use Rattle.std.proofs.Common.{Err, refl, sym, ap, subst, ◌∙◌, append_assoc, arith, lit≤, length-append}
 use Rattle.std.specs.List.{AllByRecursion}
 use Rattle.std.specs.Prelude.{nat_eq}
 use Rattle.qpack_spec.specs.Bytes.{◌>>=◌}
@@ -14,7 +15,9 @@ use Rattle.qpack_spec.specs.Prefix.{Prefix, PrefixFault, SpellsPrefix, sign_bit,
 use Rattle.qpack_spec.specs.Window.{Window, agreed_maximum, total}
 use Rattle.qpack_spec.specs.History.{History, whole}
 use Rattle.qpack_spec.specs.Reading.{Fault, BadForm, line_field, followed, fields_of, Block, reading_behind, reading}
-use Rattle.qpack_spec.specs.BlockReading.{base_behind, meaning_over_all, StopsAt, in_bytes, in_line, ReadsSome, ReadsTo, or_bad_form, fields_at, fields_in_bytes, bytes_behind, reading_of_bytes, written_block}
+use Rattle.qpack_spec.specs.BlockReading.{base_behind, meaning_over_all, StopsAt, in_bytes, in_line, ReadsSome, ReadsTo}
+use Rattle.qpack_spec.specs.BlockReading.{or_bad_form, fields_at, fields_in_bytes, bytes_behind, reading_of_bytes}
+use Rattle.qpack_spec.specs.BlockReading.{written_block}
 use Rattle.qpack_spec.proofs.Results.{bind_ok, ok_pair}
 use Rattle.qpack_spec.proofs.Readings.{followed_ok}
 use Rattle.qpack_spec.proofs.Integers.{integer_takes}
@@ -24,12 +27,13 @@ use Rattle.qpack_spec.proofs.WrittenForms.{lines_spelled, integer_written}
 
 -- ---- lines
 
-pub joined_written : (ls : List Line) → AllByRecursion IsWritableLine ls → Joined SpellsLine (written_lines ls) ls
+joined_written : (ls : List Line) → AllByRecursion IsWritableLine ls → Joined SpellsLine (written_lines ls) ls
 unfolding written_lines
 joined_written [] w = refl
 joined_written (l ∷ ls) w = (written_line l, written_lines ls, refl, lines_spelled l w.0, joined_written ls w.1)
 
-followed_is : (r : Result Field Fault) (rs : Result (List Field) Fault) → (r >>= λ f. rs >>= λ fs. Ok (f ∷ fs)) ≡ followed r rs
+followed_is : (r : Result Field Fault) (rs : Result (List Field) Fault)
+    → (r >>= λ f. rs >>= λ fs. Ok (f ∷ fs)) ≡ followed r rs
 followed_is (Ok f) (Ok fs) = refl
 followed_is (Ok f) (Err e) = refl
 followed_is (Err e) rs = refl
@@ -56,12 +60,14 @@ no_lines : (w : Window) (base : ℕ) → fields_of w base [] ≡ Ok []
 unfolding fields_of
 no_lines w base = refl
 
-one_line : (w : Window) (base : ℕ) (l : Line) (ls : List Line) → fields_of w base (l ∷ ls) ≡ followed (line_field w base l) (fields_of w base ls)
+one_line : (w : Window) (base : ℕ) (l : Line) (ls : List Line)
+    → fields_of w base (l ∷ ls) ≡ followed (line_field w base l) (fields_of w base ls)
 unfolding fields_of
 one_line w base l ls = refl
 
 -- the bytes of lines give what the lines mean
-pub fields_read : (steps : ℕ) (w : Window) (base : ℕ) (bytes : List ℕ) (ls : List Line) → Joined SpellsLine bytes ls → length bytes ≤ steps → fields_at steps w base bytes ≡ fields_of w base ls
+fields_read : (steps : ℕ) (w : Window) (base : ℕ) (bytes : List ℕ) (ls : List Line) → Joined SpellsLine bytes ls
+    → length bytes ≤ steps → fields_at steps w base bytes ≡ fields_of w base ls
 fields_read steps w base bytes [] j h = ap (fields_at steps w base) j ∙ no_bytes steps w base ∙ sym (no_lines w base)
 fields_read zero w base bytes (l ∷ ls) j h = absurd (omega (arith, ap length j.2, spelled_length j.0 j.1 l j.3))
 fields_read (suc steps) w base bytes (l ∷ ls) j h =
@@ -71,9 +77,16 @@ fields_read (suc steps) w base bytes (l ∷ ls) j h =
 
 -- ---- reading line by line finds what the relation says
 
-line_more : (w : Window) (base : ℕ) (text more : List ℕ) (l : Line) (f : Field) (r : Result (List Field) Fault) → SpellsLine text l → line_field w base l ≡ Ok f → ReadsTo w base more r → ReadsTo w base (text ++ more) (followed (Ok f) r)
+line_more : (w : Window) (base : ℕ) (text more : List ℕ) (l : Line) (f : Field) (r : Result (List Field) Fault)
+    → SpellsLine text l → line_field w base l ≡ Ok f → ReadsTo w base more r
+    → ReadsTo w base (text ++ more) (followed (Ok f) r)
 line_more w base text more l f (Ok fs) s e k =
-    record { lines = l ∷ k.lines; joined = (text, more, refl, s, k.joined); means = one_line w base l k.lines ∙ (rw (e, k.means) refl) }
+    record {
+      lines = l ∷ k.lines;
+      joined = (text, more, refl, s, k.joined);
+      means = one_line w base l k.lines
+          ∙ (rw (e, k.means) refl);
+    }
 line_more w base text more l f (Err d) s e k =
     record {
       lines = l ∷ k.lines;
@@ -88,15 +101,28 @@ line_more w base text more l f (Err d) s e k =
     }
 
 -- the next line stops the reading
-stops_at : (w : Window) (base b : ℕ) (bytes : List ℕ) (e : Fault) → StopsAt w base (b ∷ bytes) e → ReadsSome w base (b ∷ bytes) e
+stops_at : (w : Window) (base b : ℕ) (bytes : List ℕ) (e : Fault) → StopsAt w base (b ∷ bytes) e
+    → ReadsSome w base (b ∷ bytes) e
 stops_at w base b bytes e s =
-    record { lines = []; front = []; next = b; more = bytes; cut = refl; joined = refl; so_far = []; means = no_lines w base; stops = s }
+    record {
+      lines = [];
+      front = [];
+      next = b;
+      more = bytes;
+      cut = refl;
+      joined = refl;
+      so_far = [];
+      means = no_lines w base;
+      stops = s;
+    }
 
 -- what is read of the next line, and behind it
 next_line : ℕ → Window → ℕ → Result (Line × List ℕ) FormFault → Result (List Field) Fault
-next_line steps w base r = or_bad_form r >>= λ l. line_field w base l.0 >>= λ f. fields_at steps w base l.1 >>= λ fs. Ok (f ∷ fs)
+next_line steps w base r =
+    or_bad_form r >>= λ l. line_field w base l.0 >>= λ f. fields_at steps w base l.1 >>= λ fs. Ok (f ∷ fs)
 
-next_is : (steps : ℕ) (w : Window) (base b : ℕ) (bytes : List ℕ) → fields_at (suc steps) w base (b ∷ bytes) ≡ next_line steps w base (form_at line_form (b ∷ bytes))
+next_is : (steps : ℕ) (w : Window) (base b : ℕ) (bytes : List ℕ)
+    → fields_at (suc steps) w base (b ∷ bytes) ≡ next_line steps w base (form_at line_form (b ∷ bytes))
 unfolding fields_at next_line
 next_is steps w base b bytes = refl
 
@@ -104,24 +130,35 @@ next_bad : (steps : ℕ) (w : Window) (base : ℕ) (e : FormFault) → next_line
 unfolding next_line
 next_bad steps w base e = refl
 
-next_read : (steps : ℕ) (w : Window) (base : ℕ) (l : Line) (rest : List ℕ) → next_line steps w base (Ok (l, rest)) ≡ followed (line_field w base l) (fields_at steps w base rest)
+next_read : (steps : ℕ) (w : Window) (base : ℕ) (l : Line) (rest : List ℕ)
+    → next_line steps w base (Ok (l, rest)) ≡ followed (line_field w base l) (fields_at steps w base rest)
 unfolding next_line
 next_read steps w base l rest = followed_is (line_field w base l) (fields_at steps w base rest)
 
-pub fields_found : (steps : ℕ) (w : Window) (base : ℕ) (bytes : List ℕ) → length bytes ≤ steps → ReadsTo w base bytes (fields_at steps w base bytes)
+pub fields_found : (steps : ℕ) (w : Window) (base : ℕ) (bytes : List ℕ) → length bytes ≤ steps
+    → ReadsTo w base bytes (fields_at steps w base bytes)
 fields_found steps w base [] h =
-    subst (ReadsTo w base []) (sym (no_bytes steps w base)) (record { lines = []; joined = refl; means = no_lines w base })
+    subst (ReadsTo w base []) (sym (no_bytes steps w base))
+    (record { lines = []; joined = refl; means = no_lines w base })
 fields_found zero w base (b ∷ bytes) h = absurd (omega arith)
 fields_found (suc steps) w base (b ∷ bytes) h =
-    subst (ReadsTo w base (b ∷ bytes)) (sym (next_is steps w base b bytes)) (go (λ x le. fields_found steps w base x le) (form_at line_form (b ∷ bytes)) refl)
+    subst (ReadsTo w base (b ∷ bytes)) (sym (next_is steps w base b bytes))
+    (go (λ x le. fields_found steps w base x le) (form_at line_form (b ∷ bytes)) refl)
   where
-    line : (l : Line) (rest text : List ℕ) → b ∷ bytes ≡ text ++ rest → SpellsLine text l → (r : Result Field Fault) → line_field w base l ≡ r → ReadsTo w base rest (fields_at steps w base rest)
+    line : (l : Line) (rest text : List ℕ) → b ∷ bytes ≡ text ++ rest → SpellsLine text l → (r : Result Field Fault)
+        → line_field w base l ≡ r → ReadsTo w base rest (fields_at steps w base rest)
         → ReadsTo w base (b ∷ bytes) (followed r (fields_at steps w base rest))
     line l rest text p s (Err e) q k = stops_at w base b bytes e (in_line text rest l p s q)
-    line l rest text p s (Ok f) q k = subst (λ (x : List ℕ). ReadsTo w base x (followed (Ok f) (fields_at steps w base rest))) (sym p) (line_more w base text rest l f (fields_at steps w base rest) s q k)
+    line l rest text p s (Ok f) q k =
+        subst (λ (x : List ℕ). ReadsTo w base x (followed (Ok f) (fields_at steps w base rest))) (sym p)
+        (line_more w base text rest l f (fields_at steps w base rest) s q k)
 
-    go : ((x : List ℕ) → length x ≤ steps → ReadsTo w base x (fields_at steps w base x)) → (r : Result (Line × List ℕ) FormFault) → form_at line_form (b ∷ bytes) ≡ r → ReadsTo w base (b ∷ bytes) (next_line steps w base r)
-    go found (Err e) q = subst (ReadsTo w base (b ∷ bytes)) (sym (next_bad steps w base e)) (stops_at w base b bytes (BadForm e) (in_bytes e q refl))
+    go : ((x : List ℕ) → length x ≤ steps → ReadsTo w base x (fields_at steps w base x))
+        → (r : Result (Line × List ℕ) FormFault) → form_at line_form (b ∷ bytes) ≡ r
+        → ReadsTo w base (b ∷ bytes) (next_line steps w base r)
+    go found (Err e) q =
+        subst (ReadsTo w base (b ∷ bytes)) (sym (next_bad steps w base e))
+        (stops_at w base b bytes (BadForm e) (in_bytes e q refl))
     go found (Ok r) q =
         let t = form_takes line_form (b ∷ bytes) r.0 r.1 q in
         let short : length r.1 ≤ steps = omega (arith, ap length t.parts, spelled_length t.text r.1 r.0 t.spells) in
@@ -131,31 +168,39 @@ fields_found (suc steps) w base (b ∷ bytes) h =
 -- ---- and nothing else
 
 -- a front of lines that mean fields is read, and what is behind it
-front_read : (steps : ℕ) (w : Window) (base : ℕ) (front rest : List ℕ) (ls : List Line) (fs : List Field) (e : Fault) → Joined SpellsLine front ls → fields_of w base ls ≡ Ok fs → length (front ++ rest) ≤ steps
+front_read : (steps : ℕ) (w : Window) (base : ℕ) (front rest : List ℕ) (ls : List Line) (fs : List Field) (e : Fault)
+    → Joined SpellsLine front ls → fields_of w base ls ≡ Ok fs → length (front ++ rest) ≤ steps
     → ((k : ℕ) → length rest ≤ k → fields_at k w base rest ≡ Err e) → fields_at steps w base (front ++ rest) ≡ Err e
 front_read steps w base front rest [] fs e j m h stop =
-    ap (λ x. fields_at steps w base (x ++ rest)) j ∙ stop steps (omega (arith, h, ap length j, length-append front rest))
+    ap (λ x. fields_at steps w base (x ++ rest)) j
+    ∙ stop steps (omega (arith, h, ap length j, length-append front rest))
 front_read zero w base front rest (l ∷ ls) fs e j m h stop =
     absurd (omega (arith, h, length-append front rest, ap length j.2, spelled_length j.0 j.1 l j.3))
 front_read (suc steps) w base front rest (l ∷ ls) fs e j m h stop =
     let split : front ++ rest ≡ j.0 ++ (j.1 ++ rest) = ap (λ x. x ++ rest) j.2 ∙ append_assoc j.0 j.1 rest in
     let p = followed_ok (line_field w base l) (fields_of w base ls) fs (sym (one_line w base l ls) ∙ m) in
-    let short : length (j.1 ++ rest) ≤ steps = omega (arith, h, ap length split, spelled_length j.0 (j.1 ++ rest) l j.3) in
+    let short : length (j.1 ++ rest) ≤ steps =
+    omega (arith, h, ap length split, spelled_length j.0 (j.1 ++ rest) l j.3) in
     ap (fields_at (suc steps) w base) split ∙ step_at steps w base j.0 (j.1 ++ rest) l j.3
     ∙ (rw (p.2, front_read steps w base j.1 rest ls p.1 e j.4 p.3 short stop) refl)
 
-stops_read : (steps : ℕ) (w : Window) (base b : ℕ) (bytes : List ℕ) (e : Fault) → StopsAt w base (b ∷ bytes) e → length (b ∷ bytes) ≤ steps → fields_at steps w base (b ∷ bytes) ≡ Err e
+stops_read : (steps : ℕ) (w : Window) (base b : ℕ) (bytes : List ℕ) (e : Fault) → StopsAt w base (b ∷ bytes) e
+    → length (b ∷ bytes) ≤ steps → fields_at steps w base (b ∷ bytes) ≡ Err e
 stops_read zero w base b bytes e s h = absurd (omega arith)
 stops_read (suc steps) w base b bytes e (in_bytes fault q same) h =
-    next_is steps w base b bytes ∙ ap (next_line steps w base) q ∙ next_bad steps w base fault ∙ ap (λ (x : Fault). let r : Result (List Field) Fault = Err x in r) (sym same)
+    next_is steps w base b bytes ∙ ap (next_line steps w base) q ∙ next_bad steps w base fault
+    ∙ ap (λ (x : Fault). let r : Result (List Field) Fault = Err x in r) (sym same)
 stops_read (suc steps) w base b bytes e (in_line text more l cut s bad) h =
-    ap (fields_at (suc steps) w base) cut ∙ step_at steps w base text more l s ∙ ap (λ r. followed r (fields_at steps w base more)) bad
+    ap (fields_at (suc steps) w base) cut ∙ step_at steps w base text more l s
+    ∙ ap (λ r. followed r (fields_at steps w base more)) bad
 
-pub fields_only : (w : Window) (base : ℕ) (bytes : List ℕ) (r : Result (List Field) Fault) → ReadsTo w base bytes r → fields_in_bytes w base bytes ≡ r
+pub fields_only : (w : Window) (base : ℕ) (bytes : List ℕ) (r : Result (List Field) Fault) → ReadsTo w base bytes r
+    → fields_in_bytes w base bytes ≡ r
 fields_only w base bytes (Ok fs) k = fields_read (length bytes) w base bytes k.lines k.joined (omega arith) ∙ k.means
 fields_only w base bytes (Err e) k =
     ap (λ x. fields_at (length bytes) w base x) k.cut
-    ∙ front_read (length bytes) w base k.front (k.next ∷ k.more) k.lines k.so_far e k.joined k.means (omega (arith, ap length k.cut)) (λ n le. stops_read n w base k.next k.more e k.stops le)
+    ∙ front_read (length bytes) w base k.front (k.next ∷ k.more) k.lines k.so_far e k.joined k.means
+    (omega (arith, ap length k.cut)) (λ n le. stops_read n w base k.next k.more e k.stops le)
 
 -- ---- prefixes
 
@@ -163,7 +208,8 @@ pub prefix_spelled : (p : Prefix) → IsWritablePrefix p → SpellsPrefix (writt
 unfolding written_prefix
 prefix_spelled p w = go p.sign refl
   where
-    go : (b : Bool) → p.sign ≡ b → SpellsPrefix (written_integer 8 0 p.count ++ written_integer 7 (sign_bit p) p.delta) p
+    go : (b : Bool) → p.sign ≡ b → SpellsPrefix (written_integer 8 0 p.count ++ written_integer 7 (sign_bit p) p.delta)
+        p
     go true e = record {
       head = written_integer 8 0 p.count;
       tail = written_integer 7 (sign_bit p) p.delta;
@@ -189,47 +235,64 @@ record TakesNumber (n : ℕ) (bytes : List ℕ) (flags value : ℕ) (rest : List
   pub parts : bytes ≡ text ++ rest
   pub spells : SpellsInteger n text flags value
 
-number_takes : (n : ℕ) (bytes : List ℕ) (i : ℕ × ℕ × List ℕ) → or_bad_integer (integer_at n bytes) ≡ Ok i → TakesNumber n bytes i.0 i.1 i.2
+number_takes : (n : ℕ) (bytes : List ℕ) (i : ℕ × ℕ × List ℕ) → or_bad_integer (integer_at n bytes) ≡ Ok i
+    → TakesNumber n bytes i.0 i.1 i.2
 number_takes n bytes i e = go (integer_at n bytes) refl e
   where
-    go : (r : Result (ℕ × ℕ × List ℕ) IntegerFault) → integer_at n bytes ≡ r → or_bad_integer r ≡ Ok i → TakesNumber n bytes i.0 i.1 i.2
+    go : (r : Result (ℕ × ℕ × List ℕ) IntegerFault) → integer_at n bytes ≡ r → or_bad_integer r ≡ Ok i
+        → TakesNumber n bytes i.0 i.1 i.2
     go (Ok j) q h =
         let same : j ≡ i = cc in
-        let t = integer_takes n bytes i.0 i.1 i.2 (q ∙ ap (λ (x : ℕ × ℕ × List ℕ). let r : Result (ℕ × ℕ × List ℕ) IntegerFault = Ok x in r) same) in
+        let t = integer_takes n bytes i.0 i.1 i.2 (q
+        ∙ ap (λ (x : ℕ × ℕ × List ℕ). let r : Result (ℕ × ℕ × List ℕ) IntegerFault = Ok x in r) same) in
         record { text = t.text; parts = t.parts; spells = t.spells }
     go (Err f) q h = absurd cc
 
 abbrev prefix_of : ℕ → ℕ → ℕ → Prefix
 prefix_of count sign delta = record { count = count; sign = nat_eq sign 1; delta = delta }
 
-prefix_same : (p : Prefix) (sign : Bool) → p.sign ≡ sign → (let q : Prefix = record { count = p.count; sign = sign; delta = p.delta } in q ≡ p)
-prefix_same p sign e = ap (λ (b : Bool). let q : Prefix = record { count = p.count; sign = b; delta = p.delta } in q) (sym e)
+prefix_same : (p : Prefix) (sign : Bool) → p.sign ≡ sign
+    → (let q : Prefix = record { count = p.count; sign = sign; delta = p.delta } in q ≡ p)
+prefix_same p sign e =
+    ap (λ (b : Bool). let q : Prefix = record { count = p.count; sign = b; delta = p.delta } in q) (sym e)
 
 pub prefix_again : (text rest : List ℕ) (p : Prefix) → SpellsPrefix text p → prefix_at (text ++ rest) ≡ Ok (p, rest)
 unfolding prefix_at
 prefix_again text rest p s =
     let e : text ++ rest ≡ s.head ++ (s.tail ++ rest) = ap (λ x. x ++ rest) s.parts ∙ append_assoc s.head s.tail rest in
     rw (e, index_again 8 s.head (s.tail ++ rest) p.count s.count, index_again 7 s.tail rest p.delta (s.sign, s.delta))
-    (ap (λ (q : Prefix). let r : Result (Prefix × List ℕ) FormFault = Ok (q, rest) in r) (prefix_same p (nat_eq s.sign 1) s.is_sign))
+    (ap (λ (q : Prefix). let r : Result (Prefix × List ℕ) FormFault = Ok (q, rest) in
+    r) (prefix_same p (nat_eq s.sign 1) s.is_sign))
 
 pub record TakesPrefix (bytes : List ℕ) (p : Prefix) (rest : List ℕ) : Type 0 where
   pub text : List ℕ
   pub parts : bytes ≡ text ++ rest
   pub spells : SpellsPrefix text p
 
-pub prefix_takes : (bytes : List ℕ) (p : Prefix) (rest : List ℕ) → prefix_at bytes ≡ Ok (p, rest) → TakesPrefix bytes p rest
+pub prefix_takes : (bytes : List ℕ) (p : Prefix) (rest : List ℕ) → prefix_at bytes ≡ Ok (p, rest)
+    → TakesPrefix bytes p rest
 unfolding prefix_at
 prefix_takes bytes p rest e =
-    let b = bind_ok (or_bad_integer (integer_at 8 bytes)) (λ c. or_bad_integer (integer_at 7 c.2) >>= λ d. Ok (prefix_of c.1 d.0 d.1, d.2)) (p, rest) e in
+    let b = bind_ok (or_bad_integer (integer_at 8 bytes))
+    (λ c. or_bad_integer (integer_at 7 c.2) >>= λ d. Ok (prefix_of c.1 d.0 d.1, d.2)) (p, rest) e in
     let c = bind_ok (or_bad_integer (integer_at 7 b.0.2)) (λ d. Ok (prefix_of b.0.1 d.0 d.1, d.2)) (p, rest) b.2 in
     let t = index_takes 8 bytes b.0 b.1 in
     let u = number_takes 7 b.0.2 c.0 c.1 in
     let q = ok_pair (prefix_of b.0.1 c.0.0 c.0.1) p c.0.2 rest c.2 in
     record {
       text = t.text ++ u.text;
-      parts = t.parts ∙ ap (λ x. t.text ++ x) (u.parts ∙ ap (λ x. u.text ++ x) q.1) ∙ sym (append_assoc t.text u.text rest);
+      parts = t.parts ∙ ap (λ x. t.text ++ x) (u.parts ∙ ap (λ x. u.text ++ x) q.1)
+          ∙ sym (append_assoc t.text u.text rest);
       spells = subst (λ (x : Prefix). SpellsPrefix (t.text ++ u.text) x) q.0
-          (record { head = t.text; tail = u.text; parts = refl; count = t.holds; sign = c.0.0; is_sign = refl; delta = u.spells });
+          (record {
+            head = t.text;
+            tail = u.text;
+            parts = refl;
+            count = t.holds;
+            sign = c.0.0;
+            is_sign = refl;
+            delta = u.spells;
+          });
     }
 
 -- ---- whole blocks
@@ -238,16 +301,21 @@ prefix_takes bytes p rest e =
 pub written_read : (w : Window) (b : Block) → IsWritableBlock b → reading_of_bytes w (written_block b) ≡ reading w b
 unfolding reading_of_bytes written_block reading
 written_read w b k =
-    rw (prefix_again (written_prefix b.prefix) (written_lines b.lines) b.prefix (prefix_spelled b.prefix k.prefix)) (behind (read_prefix (total w) (agreed_maximum w.agreed w.capacity) b.prefix))
+    rw (prefix_again (written_prefix b.prefix) (written_lines b.lines) b.prefix (prefix_spelled b.prefix k.prefix))
+    (behind (read_prefix (total w) (agreed_maximum w.agreed w.capacity) b.prefix))
   where
     behind : (r : Result (ℕ × ℕ) PrefixFault) → bytes_behind w (written_lines b.lines) r ≡ reading_behind w b.lines r
     behind (Err e) = refl
-    behind (Ok p) = rw (fields_read (length (written_lines b.lines)) w p.1 (written_lines b.lines) b.lines (joined_written b.lines k.lines) (omega arith)) refl
+    behind (Ok p) =
+        rw (fields_read (length (written_lines b.lines)) w p.1 (written_lines b.lines) b.lines
+        (joined_written b.lines k.lines) (omega arith)) refl
 
 -- what the lines of a written block mean over all insertions, where its base is the one that was written
-pub written_means : (all : History) (b : Block) (required base : ℕ) (fs : List Field) → IsWritableBlock b → base_behind b.prefix required ≡ Ok base → fields_of (whole all) base b.lines ≡ Ok fs
+pub written_means : (all : History) (b : Block) (required base : ℕ) (fs : List Field) → IsWritableBlock b
+    → base_behind b.prefix required ≡ Ok base → fields_of (whole all) base b.lines ≡ Ok fs
     → meaning_over_all all (written_block b) required ≡ Ok fs
 unfolding meaning_over_all written_block
 written_means all b required base fs k e m =
     rw (prefix_again (written_prefix b.prefix) (written_lines b.lines) b.prefix (prefix_spelled b.prefix k.prefix), e)
-    (fields_read (length (written_lines b.lines)) (whole all) base (written_lines b.lines) b.lines (joined_written b.lines k.lines) (omega arith) ∙ m)
+    (fields_read (length (written_lines b.lines)) (whole all) base (written_lines b.lines) b.lines
+    (joined_written b.lines k.lines) (omega arith) ∙ m)

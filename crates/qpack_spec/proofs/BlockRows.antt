@@ -2,19 +2,27 @@
 use Rattle.std.proofs.Common.{ℕ, zero, suc, ◌+◌, ◌/◌, ◌%◌, ◌≡◌, true, false, List, [], ◌∷◌, ◌++◌, refl}
 use Rattle.std.specs.Prelude.{codes, negsuc, if◌then◌else◌, nat_lt}
 use Rattle.qpack_spec.specs.Integer.{written_groups, groups_at, integer_at, written_integer, UnexpectedEnd}
-use Rattle.qpack_spec.specs.Huffman.{bits_of, ones, bytes_by_length, bytes_of_length, first_word, word_length, word_of, number_from, packed, payload_of, word_at, is_padding, item_at, text_at, text_of_bits}
+use Rattle.qpack_spec.specs.Huffman.{bits_of, ones, bytes_by_length, bytes_of_length, first_word, word_length, word_of}
+use Rattle.qpack_spec.specs.Huffman.{number_from, packed, payload_of, word_at, is_padding, item_at, text_at}
+use Rattle.qpack_spec.specs.Huffman.{text_of_bits}
 use Rattle.qpack_spec.specs.Text.{string_at, written_string, EndsEarly}
 use Rattle.qpack_spec.specs.Field.{Field}
 use Rattle.qpack_spec.specs.StaticTable.{field, static_table, static_place, static_name_place}
 use Rattle.qpack_spec.specs.Form.{BadInteger, BadString, made_at, form_at}
 use Rattle.qpack_spec.specs.Line.{line_form, written_line, written_lines}
-use Rattle.qpack_spec.specs.Instruction.{instruction_form, reply_form, written_instruction, written_instructions, written_reply, written_replies}
-use Rattle.qpack_spec.specs.Prefix.{OutOfRange, BelowZero, prefix_for, required_at, read_required, read_base, read_prefix, written_prefix, prefix_at}
+use Rattle.qpack_spec.specs.Instruction.{instruction_form, reply_form, written_instruction, written_instructions}
+use Rattle.qpack_spec.specs.Instruction.{written_reply, written_replies}
+use Rattle.qpack_spec.specs.Prefix.{OutOfRange, BelowZero, prefix_for, required_at, read_required, read_base}
+use Rattle.qpack_spec.specs.Prefix.{read_prefix, written_prefix, prefix_at}
 use Rattle.qpack_spec.specs.Window.{Window, excess, entry, recent, Inserts, Resizes, insertion, effect, after}
 use Rattle.qpack_spec.specs.History.{window_of, whole, grown, start}
-use Rattle.qpack_spec.specs.Reading.{BadForm, BadPrefix, BelowWindow, AboveWindow, BehindBase, NotStatic, static_field, relative_field, post_base_field, line_field, fields_of, names_of, references_of, greatest, Fields, Missing, Faulty, reading}
+use Rattle.qpack_spec.specs.Reading.{BadForm, BadPrefix, BelowWindow, AboveWindow, BehindBase, NotStatic, static_field}
+use Rattle.qpack_spec.specs.Reading.{relative_field, post_base_field, line_field, fields_of, names_of, references_of}
+use Rattle.qpack_spec.specs.Reading.{greatest, Fields, Missing, Faulty, reading}
 use Rattle.qpack_spec.specs.BlockReading.{fields_at, reading_of_bytes, written_block}
-use Rattle.qpack_spec.specs.Table.{window, track, naming, is_held, none_held, has_room, may_name, with_entry, last_place, newest, put, resized, applied, commit, unnamed, without_oldest, without_stream, raised, heard}
+use Rattle.qpack_spec.specs.Table.{window, track, naming, is_held, none_held, has_room, may_name, with_entry}
+use Rattle.qpack_spec.specs.Table.{last_place, newest, put, resized, applied, commit, unnamed, without_oldest}
+use Rattle.qpack_spec.specs.Table.{without_stream, raised, heard}
 use Rattle.qpack_spec.specs.Rule.{instruction_for, rule_field, rule}
 
 -- a window in which these fields were put
@@ -42,21 +50,33 @@ counted (suc n) = counted n ++ field (codes "foo" ++ decimal (suc n)) (codes "ba
 
 -- all that has to unfold
 rows : ℕ
-unfolding excess written_groups groups_at integer_at written_integer bits_of ones bytes_by_length bytes_of_length first_word word_length word_of number_from packed payload_of word_at is_padding item_at text_at text_of_bits string_at written_string static_table static_place static_name_place line_form written_line written_lines instruction_form reply_form written_instruction written_instructions written_reply written_replies made_at form_at prefix_for required_at read_required read_base read_prefix written_prefix prefix_at entry recent insertion effect after window_of whole grown static_field relative_field post_base_field line_field fields_of names_of references_of greatest reading fields_at reading_of_bytes written_block window track naming is_held none_held has_room may_name with_entry last_place newest put resized applied commit unnamed without_oldest without_stream raised heard instruction_for rule_field rule putting window_with numbered decimal counted
+unfolding excess written_groups groups_at integer_at written_integer bits_of ones bytes_by_length bytes_of_length
+    first_word word_length word_of number_from packed payload_of word_at is_padding item_at text_at text_of_bits
+    string_at written_string static_table static_place static_name_place line_form written_line written_lines
+    instruction_form reply_form written_instruction written_instructions written_reply written_replies made_at form_at
+    prefix_for required_at read_required read_base read_prefix written_prefix prefix_at entry recent insertion effect
+    after window_of whole grown static_field relative_field post_base_field line_field fields_of names_of references_of
+    greatest reading fields_at reading_of_bytes written_block window track naming is_held none_held has_room may_name
+    with_entry last_place newest put resized applied commit unnamed without_oldest without_stream raised heard
+    instruction_for rule_field rule putting window_with numbered decimal counted
 rows = 0
 
 -- a relative and two post-base lines
-read_mixed : (reading_of_bytes (window_with 4096 (numbered 49 ∷ numbered 50 ∷ numbered 51 ∷ numbered 52 ∷ [])) (5 ∷ 129 ∷ 128 ∷ 16 ∷ 17 ∷ [])) ≡ Fields (numbered 50 ∷ numbered 51 ∷ numbered 52 ∷ []) true
+read_mixed : (reading_of_bytes (window_with 4096 (numbered 49 ∷ numbered 50 ∷ numbered 51 ∷ numbered 52 ∷ []))
+    (5 ∷ 129 ∷ 128 ∷ 16 ∷ 17 ∷ [])) ≡ Fields (numbered 50 ∷ numbered 51 ∷ numbered 52 ∷ []) true
 unfolding rows
 read_mixed = refl
 
 -- a post-base name
-read_post_base_name : (reading_of_bytes (window_with 4096 (numbered 49 ∷ numbered 50 ∷ numbered 51 ∷ numbered 52 ∷ [])) (3 ∷ 0 ∷ 0 ∷ 134 ∷ 168 ∷ 190 ∷ 20 ∷ 140 ∷ 118 ∷ 51 ∷ [])) ≡ Fields (field (codes "foo3") (codes "new bar3") ∷ []) true
+read_post_base_name : (reading_of_bytes (window_with 4096 (numbered 49 ∷ numbered 50 ∷ numbered 51 ∷ numbered 52 ∷ []))
+    (3 ∷ 0 ∷ 0 ∷ 134 ∷ 168 ∷ 190 ∷ 20 ∷ 140 ∷ 118 ∷ 51 ∷ []))
+    ≡ Fields (field (codes "foo3") (codes "new bar3") ∷ []) true
 unfolding rows
 read_post_base_name = refl
 
 -- a window of which the oldest entries are gone
-read_far : (reading_of_bytes (window_with 4096 (counted 138)) (134 ∷ 0 ∷ 138 ∷ [])) ≡ Fields ((field (codes "foo123") (codes "bar")) ∷ []) true
+read_far : (reading_of_bytes (window_with 4096 (counted 138)) (134 ∷ 0 ∷ 138 ∷ []))
+    ≡ Fields ((field (codes "foo123") (codes "bar")) ∷ []) true
 unfolding rows
 read_far = refl
 
@@ -76,42 +96,53 @@ unfolding rows
 missing_at_base_0 = refl
 
 -- a base below 0 where nothing is missing
-no_base : (reading_of_bytes (window_with 4096 ((field (codes "foo") (codes "bar")) ∷ [])) (2 ∷ 129 ∷ [])) ≡ Faulty (BadPrefix (BelowZero (negsuc 0)))
+no_base : (reading_of_bytes (window_with 4096 ((field (codes "foo") (codes "bar")) ∷ [])) (2 ∷ 129 ∷ []))
+    ≡ Faulty (BadPrefix (BelowZero (negsuc 0)))
 unfolding rows
 no_base = refl
 
 -- no lines
-no_lines : (reading_of_bytes (window_with 4096 ((field (codes "foo") (codes "bar")) ∷ [])) (2 ∷ 128 ∷ [])) ≡ Fields [] true
+no_lines : (reading_of_bytes (window_with 4096 ((field (codes "foo") (codes "bar")) ∷ [])) (2 ∷ 128 ∷ []))
+    ≡ Fields [] true
 unfolding rows
 no_lines = refl
 
 -- a base below the least number is held there
-least_base : (reading_of_bytes (window_with 4096 ((field (codes "foo") (codes "bar")) ∷ [])) (2 ∷ 255 ∷ 255 ∷ 255 ∷ 255 ∷ 255 ∷ 255 ∷ 255 ∷ 255 ∷ 255 ∷ 127 ∷ [])) ≡ Faulty (BadPrefix (BelowZero (negsuc 9223372036854775807)))
+least_base : (reading_of_bytes (window_with 4096 ((field (codes "foo") (codes "bar")) ∷ []))
+    (2 ∷ 255 ∷ 255 ∷ 255 ∷ 255 ∷ 255 ∷ 255 ∷ 255 ∷ 255 ∷ 255 ∷ 127 ∷ []))
+    ≡ Faulty (BadPrefix (BelowZero (negsuc 9223372036854775807)))
 unfolding rows
 least_base = refl
 
 -- a place above the window
-above_window : (reading_of_bytes (window_with 4096 ((field (codes "a") (codes "1")) ∷ (field (codes "b") (codes "2")) ∷ [])) (2 ∷ 9 ∷ 128 ∷ [])) ≡ Faulty (AboveWindow 9)
+above_window : (reading_of_bytes (window_with 4096 ((field (codes "a") (codes "1")) ∷ (field (codes "b") (codes "2"))
+    ∷ [])) (2 ∷ 9 ∷ 128 ∷ [])) ≡ Faulty (AboveWindow 9)
 unfolding rows
 above_window = refl
 
 -- and far above it
-far_above_window : (reading_of_bytes (window_with 4096 ((field (codes "foo") (codes "bar")) ∷ [])) (2 ∷ 127 ∷ 255 ∷ 255 ∷ 255 ∷ 255 ∷ 255 ∷ 255 ∷ 255 ∷ 255 ∷ 127 ∷ 128 ∷ [])) ≡ Faulty (AboveWindow 9223372036854775934)
+far_above_window : (reading_of_bytes (window_with 4096 ((field (codes "foo") (codes "bar")) ∷ []))
+    (2 ∷ 127 ∷ 255 ∷ 255 ∷ 255 ∷ 255 ∷ 255 ∷ 255 ∷ 255 ∷ 255 ∷ 127 ∷ 128 ∷ []))
+    ≡ Faulty (AboveWindow 9223372036854775934)
 unfolding rows
 far_above_window = refl
 
 -- a post-base index far above it
-far_post_base : (reading_of_bytes (window_with 4096 ((field (codes "foo") (codes "bar")) ∷ [])) (2 ∷ 0 ∷ 31 ∷ 255 ∷ 255 ∷ 255 ∷ 255 ∷ 255 ∷ 255 ∷ 255 ∷ 255 ∷ 127 ∷ [])) ≡ Faulty (BehindBase 9223372036854775822)
+far_post_base : (reading_of_bytes (window_with 4096 ((field (codes "foo") (codes "bar")) ∷ []))
+    (2 ∷ 0 ∷ 31 ∷ 255 ∷ 255 ∷ 255 ∷ 255 ∷ 255 ∷ 255 ∷ 255 ∷ 255 ∷ 127 ∷ [])) ≡ Faulty (BehindBase 9223372036854775822)
 unfolding rows
 far_post_base = refl
 
 -- and behind a base far above it
-far_both : (reading_of_bytes (window_with 4096 ((field (codes "foo") (codes "bar")) ∷ [])) (2 ∷ 127 ∷ 255 ∷ 255 ∷ 255 ∷ 255 ∷ 255 ∷ 255 ∷ 255 ∷ 255 ∷ 127 ∷ 31 ∷ 255 ∷ 255 ∷ 255 ∷ 255 ∷ 255 ∷ 255 ∷ 255 ∷ 255 ∷ 127 ∷ [])) ≡ Faulty (BehindBase 9223372036854775822)
+far_both : (reading_of_bytes (window_with 4096 ((field (codes "foo") (codes "bar")) ∷ []))
+    (2 ∷ 127 ∷ 255 ∷ 255 ∷ 255 ∷ 255 ∷ 255 ∷ 255 ∷ 255 ∷ 255 ∷ 127 ∷ 31 ∷ 255 ∷ 255 ∷ 255 ∷ 255 ∷ 255 ∷ 255 ∷ 255 ∷ 255
+    ∷ 127 ∷ [])) ≡ Faulty (BehindBase 9223372036854775822)
 unfolding rows
 far_both = refl
 
 -- an index below the window
-below_window : (reading_of_bytes (window_with 4096 ((field (codes "foo") (codes "bar")) ∷ [])) (2 ∷ 0 ∷ 129 ∷ [])) ≡ Faulty (BelowWindow 1)
+below_window : (reading_of_bytes (window_with 4096 ((field (codes "foo") (codes "bar")) ∷ [])) (2 ∷ 0 ∷ 129 ∷ []))
+    ≡ Faulty (BelowWindow 1)
 unfolding rows
 below_window = refl
 
@@ -141,7 +172,8 @@ unfolding rows
 not_static = refl
 
 -- :method GET
-static_get : (reading_of_bytes (window_with 4096 []) (0 ∷ 0 ∷ 209 ∷ [])) ≡ Fields ((field (codes ":method") (codes "GET")) ∷ []) false
+static_get : (reading_of_bytes (window_with 4096 []) (0 ∷ 0 ∷ 209 ∷ []))
+    ≡ Fields ((field (codes ":method") (codes "GET")) ∷ []) false
 unfolding rows
 static_get = refl
 
@@ -166,7 +198,8 @@ unfolding rows
 bytes_before_index = refl
 
 -- a line whose bytes are cut tells that before its index
-line_bytes_first : (reading_of_bytes (window_with 4096 []) (0 ∷ 0 ∷ 95 ∷ 84 ∷ 129 ∷ [])) ≡ Faulty (BadForm (BadString EndsEarly))
+line_bytes_first : (reading_of_bytes (window_with 4096 []) (0 ∷ 0 ∷ 95 ∷ 84 ∷ 129 ∷ []))
+    ≡ Faulty (BadForm (BadString EndsEarly))
 unfolding rows
 line_bytes_first = refl
 

@@ -1,21 +1,34 @@
 -- What each field of the rule keeps: the lines mean the fields, and the instructions lead from table to table.
-use Rattle.std.proofs.Common.{ℕ, ◌+◌, ◌-◌, ◌^◌, ◌<◌, ◌≤◌, ◌≡◌, Bool, true, false, List, [], ◌∷◌, ◌++◌, length, drop, Option, None, Some, Result, Ok, refl, sym, ap, ◌∙◌, subst, inl, inr, ◌⊎◌, arith, length-append, length-drop}
+use Rattle.std.proofs.Common.{ℕ, ◌+◌, ◌-◌, ◌^◌, ◌<◌, ◌≤◌, ◌≡◌, Bool, true, false, List, [], ◌∷◌, ◌++◌, length, drop}
+use Rattle.std.proofs.Common.{Option, None, Some, Result, Ok, refl, sym, ap, ◌∙◌, subst, inl, inr, ◌⊎◌, arith}
+use Rattle.std.proofs.Common.{length-append, length-drop}
 use Rattle.std.specs.List.{AllByRecursion, slice_get, list_any}
 use Rattle.std.specs.Prelude.{nat_lt, nat_le, ◌&&◌}
 use Rattle.std.proofs.lemmas.Bool.{cond_both, lt-ltb, or_cases, and_parts, ltb-true, leb-true, leb-false}
 use Rattle.std.proofs.lemmas.List.{append-nil, append_assoc, length-map}
 use Rattle.qpack_spec.specs.Field.{Field, field_size, has_name, is_field}
 use Rattle.qpack_spec.specs.StaticTable.{static_table, static_place, static_name_place}
-use Rattle.qpack_spec.specs.Line.{Line, IndexedStatic, IndexedDynamic, IndexedPostBase, NamedStatic, NamedDynamic, NamedPostBase, Literal}
+use Rattle.qpack_spec.specs.Line.{Line, IndexedStatic, IndexedDynamic, IndexedPostBase, NamedStatic, NamedDynamic}
+use Rattle.qpack_spec.specs.Line.{NamedPostBase, Literal}
 use Rattle.qpack_spec.specs.Window.{Window, entry, after, effect, Inserts}
 use Rattle.qpack_spec.specs.History.{History, window_of, whole, grown, Leads}
 use Rattle.qpack_spec.specs.Reading.{Fault, valued, static_field, line_field, fields_of, names_of, references_of}
-use Rattle.qpack_spec.specs.Table.{Entry, OpenBlock, Table, sent_entry, fields_in, window, count, has_number, track, tracked, naming, can_drop, evicted_for, has_room, below_limit, may_name, with_entry, newest, unnamed}
-use Rattle.qpack_spec.specs.Rule.{Draft, writes, writes_naming, instruction_for, staying, inserts, named_line, literal_by_entry, literal, insertion_or_literal, by_entry, by_static, rule_field, rule_fields, blank, rule}
+use Rattle.qpack_spec.specs.Table.{Entry, OpenBlock, Table, sent_entry, fields_in, window, count, has_number, track}
+use Rattle.qpack_spec.specs.Table.{naming, can_drop, evicted_for, has_room, below_limit, may_name, with_entry}
+use Rattle.qpack_spec.specs.Table.{newest, unnamed}
+use Rattle.qpack_spec.specs.Rule.{Draft, writes, writes_naming, instruction_for, staying, inserts, named_line}
+use Rattle.qpack_spec.specs.Rule.{literal_by_entry, literal, insertion_or_literal, by_entry, by_static, rule_field}
+use Rattle.qpack_spec.specs.Rule.{rule_fields, blank, rule}
 use Rattle.qpack_spec.proofs.Lists.{every_append, every_drop, every_weaker, get_drop, get_append_end}
-use Rattle.qpack_spec.proofs.Windows.{Sound, leads_append, leads_sound, window_grown, grows_one, Kept, kept_growing, excess_push}
-use Rattle.qpack_spec.proofs.Readings.{entry_relative, entry_post_base, fields_kept, fields_push, references_push}
-use Rattle.qpack_spec.proofs.Places.{FoundEntry, newest_found, static_found, static_name_found, same_name, same_field, named_field, instruction_effect, window_entered, NotHeld, dropped_not_held, every_track, tracked_append, above_dropped, opened_above, drops_received}
+use Rattle.qpack_spec.proofs.Windows.{Sound, leads_append, leads_sound, window_grown, grows_one, Kept, kept_growing}
+use Rattle.qpack_spec.proofs.Windows.{excess_push}
+use Rattle.qpack_spec.proofs.References.{KeepsReferences, refers_plain, refers_named, refers_inserts, refers_blank}
+use Rattle.qpack_spec.proofs.References.{static_names, static_name_names, literal_names, indexed_names}
+use Rattle.qpack_spec.proofs.References.{named_line_names}
+use Rattle.qpack_spec.proofs.Readings.{entry_relative, entry_post_base, fields_kept, fields_push}
+use Rattle.qpack_spec.proofs.Places.{FoundEntry, newest_found, static_found, static_name_found, same_name, same_field}
+use Rattle.qpack_spec.proofs.Places.{named_field, instruction_effect, window_entered, NotHeld, dropped_not_held}
+use Rattle.qpack_spec.proofs.Places.{every_track, above_dropped, opened_above, drops_received}
 
 abbrev pub IsLive : Table → ℕ → Type 0
 IsLive t a = (t.dropped < a) × (a ≤ count t)
@@ -38,15 +51,10 @@ pub record Drafting (t0 : Table) (h0 : History) (done : List Field) (d : Draft) 
   pub history : History
   pub leads : Leads h0 d.instructions history
   pub table : KeepsTable history d.table
-  pub known : d.table.known ≡ t0.known
-  pub limit : d.table.limit ≡ t0.limit
-  pub opened : d.table.opened ≡ t0.opened
-  pub waiting : d.table.waiting ≡ t0.waiting
+  pub references : KeepsReferences t0 d
   pub named : AllByRecursion (IsLive d.table) d.table.named
   pub means : fields_of (whole history) (count t0) d.lines ≡ Ok done
-  pub refs : tracked [] (references_of (count t0) d.lines) ≡ d.table.named
   pub may : AllByRecursion (MayStand t0) d.table.named
-  pub base : count t0 ≤ count d.table
 
 -- the count of a table is that of all insertions
 pub count_inserted : (t : Table) (h : History) → window t ≡ window_of h → Sound h → count t ≡ length h.inserted
@@ -57,7 +65,8 @@ count_inserted t h e s =
     omega (arith, length-map t.live (λ (x : Entry). x.field), length-drop h.dropped h.inserted, s.in_range)
 
 -- a live entry among all insertions
-pub live_whole : (t : Table) (h : History) (i : ℕ) (g : Field) → window t ≡ window_of h → slice_get (fields_in t.live) i ≡ Some g → entry (whole h) (t.dropped + i + 1) ≡ Some g
+live_whole : (t : Table) (h : History) (i : ℕ) (g : Field) → window t ≡ window_of h
+    → slice_get (fields_in t.live) i ≡ Some g → entry (whole h) (t.dropped + i + 1) ≡ Some g
 unfolding window window_of entry whole
 live_whole t h i g e q =
     let d : t.dropped ≡ h.dropped = ap (λ (w : Window). w.dropped) e in
@@ -70,47 +79,41 @@ every_all P f [] = tt
 every_all P f (x ∷ xs) = (f x, every_all P f xs)
 
 -- a line that names nothing
-pub drafting_writes : (t0 : Table) (h0 : History) (done : List Field) (d : Draft) (l : Line) (f : Field) (k : Drafting t0 h0 done d)
-    → names_of (count t0) l ≡ [] → line_field (whole k.history) (count t0) l ≡ Ok f → Drafting t0 h0 (done ++ f ∷ []) (writes d l)
+drafting_writes : (t0 : Table) (h0 : History) (done : List Field) (d : Draft) (l : Line) (f : Field)
+    (k : Drafting t0 h0 done d)
+    → names_of (count t0) l ≡ [] → line_field (whole k.history) (count t0) l ≡ Ok f
+    → Drafting t0 h0 (done ++ f ∷ []) (writes d l)
 drafting_writes t0 h0 done d l f k plain m =
     record {
       history = k.history;
       leads = k.leads;
       table = k.table;
-      known = k.known;
-      limit = k.limit;
-      opened = k.opened;
-      waiting = k.waiting;
+      references = refers_plain t0 d l plain k.references;
       named = k.named;
       means = fields_push (whole k.history) (count t0) d.lines l done f k.means m;
-      refs = ap (tracked []) (references_push (count t0) d.lines l ∙ ap (λ r. references_of (count t0) d.lines ++ r) plain ∙ append-nil (references_of (count t0) d.lines)) ∙ k.refs;
       may = k.may;
-      base = k.base;
     }
 
 -- the block in progress names a live entry
-pub keeps_naming : (h : History) (t : Table) (a : ℕ) → KeepsTable h t → KeepsTable h (naming t a)
+keeps_naming : (h : History) (t : Table) (a : ℕ) → KeepsTable h t → KeepsTable h (naming t a)
 unfolding naming window
 keeps_naming h t a k = record { shares = k.shares; marked = k.marked; behind = k.behind; held = k.held }
 
 -- a line that names a live entry
-pub drafting_names : (t0 : Table) (h0 : History) (done : List Field) (d : Draft) (a : ℕ) (l : Line) (f : Field) (k : Drafting t0 h0 done d)
-    → names_of (count t0) l ≡ a ∷ [] → line_field (whole k.history) (count t0) l ≡ Ok f → IsLive d.table a → MayStand t0 a → Drafting t0 h0 (done ++ f ∷ []) (writes_naming d a l)
+drafting_names : (t0 : Table) (h0 : History) (done : List Field) (d : Draft) (a : ℕ) (l : Line) (f : Field)
+    (k : Drafting t0 h0 done d)
+    → names_of (count t0) l ≡ a ∷ [] → line_field (whole k.history) (count t0) l ≡ Ok f → IsLive d.table a
+    → MayStand t0 a → Drafting t0 h0 (done ++ f ∷ []) (writes_naming d a l)
 unfolding naming
 drafting_names t0 h0 done d a l f k named m live may =
     record {
       history = k.history;
       leads = k.leads;
       table = keeps_naming k.history d.table a k.table;
-      known = k.known;
-      limit = k.limit;
-      opened = k.opened;
-      waiting = k.waiting;
+      references = refers_named t0 d a l named k.references;
       named = every_track (IsLive d.table) d.table.named a k.named live;
       means = fields_push (whole k.history) (count t0) d.lines l done f k.means m;
-      refs = ap (tracked []) (references_push (count t0) d.lines l ∙ ap (λ r. references_of (count t0) d.lines ++ r) named) ∙ tracked_append [] (references_of (count t0) d.lines) (a ∷ []) ∙ ap (λ r. track r a) k.refs;
       may = every_track (MayStand t0) d.table.named a k.may may;
-      base = k.base;
     }
 
 static_ok : (i : ℕ) (g : Field) → slice_get static_table i ≡ Some g → static_field i ≡ Ok g
@@ -121,13 +124,15 @@ valued_found : (r : Result Field Fault) (g f : Field) → r ≡ Ok g → f.name 
 valued_found r g f e n = rw e (ap (λ (x : Field). let q : Result Field Fault = Ok x in q) (named_field f g n))
 
 -- what may be named stays within the limit
-may_stand : (t0 : Table) (h0 : History) (done : List Field) (d : Draft) (a : ℕ) → Drafting t0 h0 done d → may_name d.table a ≡ true → MayStand t0 a
+may_stand : (t0 : Table) (h0 : History) (done : List Field) (d : Draft) (a : ℕ) → Drafting t0 h0 done d
+    → may_name d.table a ≡ true → MayStand t0 a
 unfolding may_name
 may_stand t0 h0 done d a k h = pick (or_cases (below_limit d.table) (nat_le a d.table.known) h)
   where
     pick : (below_limit d.table ≡ true) ⊎ (nat_le a d.table.known ≡ true) → MayStand t0 a
-    pick (inl t) = let lt : length d.table.waiting < d.table.limit = ltb-true _ _ t in inl (rw (← k.waiting, ← k.limit) lt)
-    pick (inr t) = let le : a ≤ d.table.known = leb-true _ _ t in inr (rw (← k.known) le)
+    pick (inl t) = let lt : length d.table.waiting < d.table.limit =
+        ltb-true _ _ t in inl (rw (← k.references.waiting, ← k.references.limit) lt)
+    pick (inr t) = let le : a ≤ d.table.known = leb-true _ _ t in inr (rw (← k.references.known) le)
 
 -- the new table of an insertion
 pub record Room (t : Table) (f : Field) : Type 0 where
@@ -143,39 +148,54 @@ room t f h =
     record { fits = leb-true _ _ p.0; few = ltb-true _ _ q.0; drops = q.1 }
 
 evicted_bound : (t : Table) (f : Field) → field_size f ≤ t.capacity → evicted_for t f ≤ length t.live
-evicted_bound t f h = omega (arith, excess_push t.capacity (fields_in t.live) f h, length-map t.live (λ (x : Entry). x.field))
+evicted_bound t f h =
+    omega (arith, excess_push t.capacity (fields_in t.live) f h, length-map t.live (λ (x : Entry). x.field))
 
-count_after : (t : Table) (f : Field) → evicted_for t f ≤ length t.live → count (with_entry t (sent_entry f)) ≡ count t + 1
+count_after : (t : Table) (f : Field) → evicted_for t f ≤ length t.live
+    → count (with_entry t (sent_entry f)) ≡ count t + 1
 unfolding with_entry
-count_after t f h = omega (arith, length-drop (evicted_for t f) (t.live ++ sent_entry f ∷ []), length-append t.live (sent_entry f ∷ []))
+count_after t f h =
+    omega (arith, length-drop (evicted_for t f) (t.live ++ sent_entry f ∷ []), length-append t.live (sent_entry f ∷ []))
 
 dropped_after : (t : Table) (f : Field) → (with_entry t (sent_entry f)).dropped ≡ t.dropped + evicted_for t f
 unfolding with_entry
 dropped_after t f = refl
 
 -- numbers live before, none of which went, are live after
-live_after : (t : Table) (f : Field) (xs : List ℕ) → evicted_for t f ≤ length t.live → ((x : ℕ) → t.dropped < x → x ≤ t.dropped + evicted_for t f → has_number x xs ≡ false) → AllByRecursion (IsLive t) xs → AllByRecursion (IsLive (with_entry t (sent_entry f))) xs
+live_after : (t : Table) (f : Field) (xs : List ℕ) → evicted_for t f ≤ length t.live
+    → ((x : ℕ) → t.dropped < x → x ≤ t.dropped + evicted_for t f → has_number x xs ≡ false)
+    → AllByRecursion (IsLive t) xs → AllByRecursion (IsLive (with_entry t (sent_entry f))) xs
 live_after t f xs b none h =
     every_weaker (λ a. (t.dropped + evicted_for t f < a) × (a ≤ count t)) (IsLive (with_entry t (sent_entry f)))
     (λ a r. (rw (dropped_after t f) r.0, omega (arith, count_after t f b, r.1)))
     xs (above_dropped t.dropped (count t) (evicted_for t f) xs none h)
 
 opened_after : (t : Table) (f : Field) → evicted_for t f ≤ length t.live
-    → ((x : ℕ) → t.dropped < x → x ≤ t.dropped + evicted_for t f → list_any (λ (b : OpenBlock). has_number x b.entries) t.opened ≡ false)
-    → AllByRecursion (λ (b : OpenBlock). AllByRecursion (IsLive t) b.entries) t.opened → AllByRecursion (λ (b : OpenBlock). AllByRecursion (IsLive (with_entry t (sent_entry f))) b.entries) t.opened
+    → ((x : ℕ) → t.dropped < x → x ≤ t.dropped + evicted_for t f
+    → list_any (λ (b : OpenBlock). has_number x b.entries) t.opened ≡ false)
+    → AllByRecursion (λ (b : OpenBlock). AllByRecursion (IsLive t) b.entries) t.opened
+    → AllByRecursion (λ (b : OpenBlock). AllByRecursion (IsLive (with_entry t (sent_entry f))) b.entries) t.opened
 opened_after t f b none h =
-    every_weaker (λ (x : OpenBlock). AllByRecursion (λ a. (t.dropped + evicted_for t f < a) × (a ≤ count t)) x.entries) (λ (x : OpenBlock). AllByRecursion (IsLive (with_entry t (sent_entry f))) x.entries)
-    (λ x r. every_weaker (λ a. (t.dropped + evicted_for t f < a) × (a ≤ count t)) (IsLive (with_entry t (sent_entry f))) (λ a q. (rw (dropped_after t f) q.0, omega (arith, count_after t f b, q.1))) x.entries r)
+    every_weaker (λ (x : OpenBlock). AllByRecursion (λ a. (t.dropped + evicted_for t f < a) × (a ≤ count t)) x.entries)
+    (λ (x : OpenBlock). AllByRecursion (IsLive (with_entry t (sent_entry f))) x.entries)
+    (λ x r. every_weaker (λ a. (t.dropped + evicted_for t f < a)
+    × (a ≤ count t)) (IsLive (with_entry t (sent_entry f)))
+    (λ a q. (rw (dropped_after t f) q.0, omega (arith, count_after t f b, q.1))) x.entries r)
     t.opened (opened_above t.dropped (count t) (evicted_for t f) t.opened none h)
 
-pub keeps_inserted : (h : History) (t : Table) (f : Field) → Sound h → KeepsTable h t → Room t f → KeepsTable (grown h (Inserts f)) (with_entry t (sent_entry f))
+keeps_inserted : (h : History) (t : Table) (f : Field) → Sound h → KeepsTable h t → Room t f
+    → KeepsTable (grown h (Inserts f)) (with_entry t (sent_entry f))
 unfolding with_entry
 keeps_inserted h t f s k r =
     let b : evicted_for t f ≤ length t.live = evicted_bound t f r.fits in
-    let none : (x : ℕ) → t.dropped < x → x ≤ t.dropped + evicted_for t f → NotHeld t x = dropped_not_held t (evicted_for t f) r.drops b k.marked in
+    let none : (x : ℕ) → t.dropped < x → x ≤ t.dropped + evicted_for t f → NotHeld t x =
+    dropped_not_held t (evicted_for t f) r.drops b k.marked in
     record {
-      shares = window_entered t (sent_entry f) ∙ ap (λ (w : Window). after w (Inserts f)) k.shares ∙ sym (window_grown h (Inserts f) s.in_range);
-      marked = every_drop IsSent (evicted_for t f) (t.live ++ sent_entry f ∷ []) (every_append IsSent t.live (sent_entry f ∷ []) k.marked (refl, tt));
+      shares = window_entered t (sent_entry f) ∙ ap (λ (w : Window). after w (Inserts f)) k.shares
+          ∙ sym (window_grown h (Inserts f) s.in_range);
+      marked =
+          every_drop IsSent (evicted_for t f) (t.live ++ sent_entry f ∷ [])
+          (every_append IsSent t.live (sent_entry f ∷ []) k.marked (refl, tt));
       behind = drops_received t (evicted_for t f) k.behind none;
       held = opened_after t f b (λ x low high. (none x low high).unopened) k.held;
     }
@@ -187,42 +207,45 @@ new_whole h f =
     let n : length h.inserted + 1 - 0 - 1 ≡ length h.inserted = omega arith in
     rw (lt-ltb 0 (length h.inserted + 1) (omega arith), n) (get_append_end h.inserted f)
 
-post_line : (w : Window) (base n : ℕ) (f : Field) → base ≤ n → entry w (n + 1) ≡ Some f → line_field w base (IndexedPostBase (n - base)) ≡ Ok f
+post_line : (w : Window) (base n : ℕ) (f : Field) → base ≤ n → entry w (n + 1) ≡ Some f
+    → line_field w base (IndexedPostBase (n - base)) ≡ Ok f
 unfolding line_field
-post_line w base n f le e = let q : base + (n - base) + 1 ≡ n + 1 = omega arith in entry_post_base w base (n - base) f (rw q e)
+post_line w base n f le e = let q : base + (n - base) + 1 ≡ n + 1 =
+    omega arith in entry_post_base w base (n - base) f (rw q e)
 
-post_names : (base n : ℕ) → base ≤ n → names_of base (IndexedPostBase (n - base)) ≡ (n + 1) ∷ []
-unfolding names_of
-post_names base n le = let q : base + (n - base) + 1 ≡ n + 1 = omega arith in rw q refl
-
-one_effect : (t : Table) (h : History) (f : Field) → window t ≡ window_of h → evicted_for t f ≤ length t.live → Room t f → effect (window_of h) (instruction_for f (staying t f)) ≡ Ok (Inserts f)
+one_effect : (t : Table) (h : History) (f : Field) → window t ≡ window_of h → evicted_for t f ≤ length t.live
+    → Room t f → effect (window_of h) (instruction_for f (staying t f)) ≡ Ok (Inserts f)
 unfolding window
-one_effect t h f e b r = rw (← e) (instruction_effect (window t) f (evicted_for t f) (omega (arith, length-map t.live (λ (x : Entry). x.field))) r.fits (omega (arith, r.few, length-map t.live (λ (x : Entry). x.field))))
+one_effect t h f e b r =
+    rw (← e) (instruction_effect (window t) f (evicted_for t f)
+    (omega (arith, length-map t.live (λ (x : Entry). x.field))) r.fits
+    (omega (arith, r.few, length-map t.live (λ (x : Entry). x.field))))
 
 -- what an insertion that is named leaves alone, and what it names
 record SameRest (t t' : Table) (f : Field) : Type 0 where
-  pub same_known : t'.known ≡ t.known
-  pub same_limit : t'.limit ≡ t.limit
-  pub same_opened : t'.opened ≡ t.opened
-  pub same_waiting : t'.waiting ≡ t.waiting
   pub now_named : t'.named ≡ track t.named (count t + 1)
   pub same_dropped : t'.dropped ≡ (with_entry t (sent_entry f)).dropped
   pub same_live : t'.live ≡ (with_entry t (sent_entry f)).live
 
 same_rest : (t : Table) (f : Field) → SameRest t (naming (with_entry t (sent_entry f)) (count t + 1)) f
 unfolding with_entry naming
-same_rest t f = record { same_known = refl; same_limit = refl; same_opened = refl; same_waiting = refl; now_named = refl; same_dropped = refl; same_live = refl }
+same_rest t f = record { now_named = refl; same_dropped = refl; same_live = refl }
 
-live_same : (t t' : Table) (xs : List ℕ) → t'.dropped ≡ t.dropped → t'.live ≡ t.live → AllByRecursion (IsLive t) xs → AllByRecursion (IsLive t') xs
-live_same t t' xs d l h = every_weaker (IsLive t) (IsLive t') (λ a q. (omega (arith, q.0, d), omega (arith, q.1, d, ap length l))) xs h
+live_same : (t t' : Table) (xs : List ℕ) → t'.dropped ≡ t.dropped → t'.live ≡ t.live → AllByRecursion (IsLive t) xs
+    → AllByRecursion (IsLive t') xs
+live_same t t' xs d l h =
+    every_weaker (IsLive t) (IsLive t') (λ a q. (omega (arith, q.0, d), omega (arith, q.1, d, ap length l))) xs h
 
-drafting_inserts : (t0 : Table) (h0 : History) (done : List Field) (d : Draft) (f : Field) → Sound h0 → Drafting t0 h0 done d → length t0.waiting < t0.limit → Room d.table f → Drafting t0 h0 (done ++ f ∷ []) (inserts (count t0) d f)
+drafting_inserts : (t0 : Table) (h0 : History) (done : List Field) (d : Draft) (f : Field) → Sound h0
+    → Drafting t0 h0 done d → length t0.waiting < t0.limit → Room d.table f
+    → Drafting t0 h0 (done ++ f ∷ []) (inserts (count t0) d f)
 drafting_inserts t0 h0 done d f s0 k blocked r =
     let t = d.table in
     let h = k.history in
     let s : Sound h = leads_sound h0 d.instructions h k.leads s0 in
     let b : evicted_for t f ≤ length t.live = evicted_bound t f r.fits in
-    let none : (x : ℕ) → t.dropped < x → x ≤ t.dropped + evicted_for t f → NotHeld t x = dropped_not_held t (evicted_for t f) r.drops b k.table.marked in
+    let none : (x : ℕ) → t.dropped < x → x ≤ t.dropped + evicted_for t f → NotHeld t x =
+    dropped_not_held t (evicted_for t f) r.drops b k.table.marked in
     let same_count : count t ≡ length h.inserted = count_inserted t h k.table.shares s in
     let new : entry (whole (grown h (Inserts f))) (count t + 1) ≡ Some f = rw same_count (new_whole h f) in
     let same = same_rest t f in
@@ -232,47 +255,36 @@ drafting_inserts t0 h0 done d f s0 k blocked r =
     (rw (dropped_after t f) (omega arith), omega (arith, count_after t f b)) in
     record {
       history = grown h (Inserts f);
-      leads = leads_append h0 d.instructions (instruction_for f (staying t f) ∷ []) h (grown h (Inserts f)) k.leads (Inserts f, one_effect t h f k.table.shares b r, refl);
-      table = keeps_naming (grown h (Inserts f)) (with_entry t (sent_entry f)) (count t + 1) (keeps_inserted h t f s k.table r);
-      known = same.same_known ∙ k.known;
-      limit = same.same_limit ∙ k.limit;
-      opened = same.same_opened ∙ k.opened;
-      waiting = same.same_waiting ∙ k.waiting;
-      named = rw same.now_named (live_same (with_entry t (sent_entry f)) (naming (with_entry t (sent_entry f)) (count t + 1)) (track t.named (count t + 1)) same.same_dropped same.same_live live);
+      leads = leads_append h0 d.instructions (instruction_for f (staying t f) ∷ []) h (grown h (Inserts f)) k.leads
+          (Inserts f, one_effect t h f k.table.shares b r, refl);
+      table = keeps_naming (grown h (Inserts f)) (with_entry t (sent_entry f)) (count t + 1)
+          (keeps_inserted h t f s k.table r);
+      references = refers_inserts t0 d f k.references;
+      named = rw same.now_named (live_same (with_entry t (sent_entry f))
+          (naming (with_entry t (sent_entry f)) (count t + 1)) (track t.named (count t + 1)) same.same_dropped
+          same.same_live live);
       means = fields_push (whole (grown h (Inserts f))) (count t0) d.lines (IndexedPostBase (count t - count t0)) done f
           (fields_kept (whole h) (whole (grown h (Inserts f))) (count t0) d.lines done
-          (every_all (Kept (whole h) (whole (grown h (Inserts f)))) (λ a. kept_growing h (grown h (Inserts f)) a (grows_one h (Inserts f))) (references_of (count t0) d.lines)) k.means)
-          (post_line (whole (grown h (Inserts f))) (count t0) (count t) f k.base new);
-      refs = ap (tracked []) (references_push (count t0) d.lines (IndexedPostBase (count t - count t0)) ∙ ap (λ x. references_of (count t0) d.lines ++ x) (post_names (count t0) (count t) k.base)) ∙ tracked_append [] (references_of (count t0) d.lines) ((count t + 1) ∷ []) ∙ ap (λ x. track x (count t + 1)) k.refs ∙ sym same.now_named;
+          (every_all (Kept (whole h) (whole (grown h (Inserts f))))
+          (λ a. kept_growing h (grown h (Inserts f)) a (grows_one h (Inserts f)))
+          (references_of (count t0) d.lines)) k.means)
+          (post_line (whole (grown h (Inserts f))) (count t0) (count t) f k.references.base new);
       may = rw same.now_named (every_track (MayStand t0) t.named (count t + 1) k.may (inl blocked));
-      base = omega (arith, k.base, count_after t f b, same.same_dropped, ap length same.same_live);
     }
 
-indexed_line : (w : Window) (base a : ℕ) (f : Field) → a ≤ base → entry w a ≡ Some f → line_field w base (IndexedDynamic (base - a)) ≡ Ok f
+indexed_line : (w : Window) (base a : ℕ) (f : Field) → a ≤ base → entry w a ≡ Some f
+    → line_field w base (IndexedDynamic (base - a)) ≡ Ok f
 unfolding line_field
-indexed_line w base a f le e = let q : base - (base - a) ≡ a = omega arith in entry_relative w base (base - a) f (rw q e)
+indexed_line w base a f le e = let q : base - (base - a) ≡ a =
+    omega arith in entry_relative w base (base - a) f (rw q e)
 
-indexed_names : (base a : ℕ) → a ≤ base → names_of base (IndexedDynamic (base - a)) ≡ a ∷ []
-unfolding names_of
-indexed_names base a le = let q : base - (base - a) ≡ a = omega arith in rw q refl
-
-static_line : (w : Window) (base i : ℕ) (f : Field) → slice_get static_table i ≡ Some f → line_field w base (IndexedStatic i) ≡ Ok f
+static_line : (w : Window) (base i : ℕ) (f : Field) → slice_get static_table i ≡ Some f
+    → line_field w base (IndexedStatic i) ≡ Ok f
 unfolding line_field
 static_line w base i f e = static_ok i f e
 
-plain_static : (base i : ℕ) → names_of base (IndexedStatic i) ≡ []
-unfolding names_of
-plain_static base i = refl
-
-plain_name : (base i : ℕ) (v : List ℕ) → names_of base (NamedStatic i v) ≡ []
-unfolding names_of
-plain_name base i v = refl
-
-plain_literal : (base : ℕ) (n v : List ℕ) → names_of base (Literal n v) ≡ []
-unfolding names_of
-plain_literal base n v = refl
-
-static_name_line : (w : Window) (base i : ℕ) (f g : Field) → slice_get static_table i ≡ Some g → f.name ≡ g.name → line_field w base (NamedStatic i f.value) ≡ Ok f
+static_name_line : (w : Window) (base i : ℕ) (f g : Field) → slice_get static_table i ≡ Some g → f.name ≡ g.name
+    → line_field w base (NamedStatic i f.value) ≡ Ok f
 unfolding line_field
 static_name_line w base i f g e q = valued_found (static_field i) g f (static_ok i g e) q
 
@@ -281,73 +293,98 @@ unfolding line_field
 literal_line w base f = refl
 
 -- a name's line, before or after the base
-line_by_name : (w : Window) (base a : ℕ) (f g : Field) → entry w a ≡ Some g → f.name ≡ g.name → (line_field w base (named_line base a f) ≡ Ok f) × (names_of base (named_line base a f) ≡ a ∷ [])
-unfolding line_field names_of
+line_by_name : (w : Window) (base a : ℕ) (f g : Field) → entry w a ≡ Some g → f.name ≡ g.name
+    → line_field w base (named_line base a f) ≡ Ok f
+unfolding line_field
 line_by_name w base a f g e q =
-    cond_both (nat_le a base) (NamedDynamic (base - a) f.value) (NamedPostBase (a - base - 1) f.value) (λ l. (line_field w base l ≡ Ok f) × (names_of base l ≡ a ∷ []))
+    cond_both (nat_le a base) (NamedDynamic (base - a) f.value) (NamedPostBase (a - base - 1) f.value)
+    (λ l. line_field w base l ≡ Ok f)
     (λ t. let le : a ≤ base = leb-true _ _ t in let n : base - (base - a) ≡ a = omega arith in
-    (valued_found _ g f (entry_relative w base (base - a) g (rw n e)) q, rw n refl))
+    valued_found _ g f (entry_relative w base (base - a) g (rw n e)) q)
     (λ t. let lt : base < a = leb-false _ _ t in let n : base + (a - base - 1) + 1 ≡ a = omega arith in
-    (valued_found _ g f (entry_post_base w base (a - base - 1) g (rw n e)) q, rw n refl))
+    valued_found _ g f (entry_post_base w base (a - base - 1) g (rw n e)) q)
 
 -- an entry that was found, among all insertions
-found_whole : (t : Table) (h : History) (p : Field → Bool) (a : ℕ) → window t ≡ window_of h → (at : FoundEntry t p a) → entry (whole h) a ≡ Some at.item
+found_whole : (t : Table) (h : History) (p : Field → Bool) (a : ℕ) → window t ≡ window_of h → (at : FoundEntry t p a)
+    → entry (whole h) a ≡ Some at.item
 found_whole t h p a e at =
     subst (λ (x : ℕ). entry (whole h) x ≡ Some at.item) at.index (live_whole t h at.place at.item e at.there)
 
-drafting_literal_by_entry : (t0 : Table) (h0 : History) (done : List Field) (d : Draft) (f : Field) → Drafting t0 h0 done d
-    → (o : Option ℕ) → newest d.table (has_name f.name) ≡ o → Drafting t0 h0 (done ++ f ∷ []) (literal_by_entry (count t0) d f o)
+drafting_literal_by_entry : (t0 : Table) (h0 : History) (done : List Field) (d : Draft) (f : Field)
+    → Drafting t0 h0 done d
+    → (o : Option ℕ) → newest d.table (has_name f.name) ≡ o
+    → Drafting t0 h0 (done ++ f ∷ []) (literal_by_entry (count t0) d f o)
 drafting_literal_by_entry t0 h0 done d f k None e =
-    drafting_writes t0 h0 done d (Literal f.name f.value) f k (plain_literal (count t0) f.name f.value) (literal_line (whole k.history) (count t0) f)
+    drafting_writes t0 h0 done d (Literal f.name f.value) f k (literal_names (count t0) f.name f.value)
+    (literal_line (whole k.history) (count t0) f)
 drafting_literal_by_entry t0 h0 done d f k (Some a) e =
     let at = newest_found d.table (has_name f.name) a e in
-    let means = line_by_name (whole k.history) (count t0) a f at.item (found_whole d.table k.history (has_name f.name) a k.table.shares at) (same_name f.name at.item at.passes) in
-    cond_both (may_name d.table a) (writes_naming d a (named_line (count t0) a f)) (writes d (Literal f.name f.value)) (Drafting t0 h0 (done ++ f ∷ []))
-    (λ t. drafting_names t0 h0 done d a (named_line (count t0) a f) f k means.1 means.0 (at.above, at.within) (may_stand t0 h0 done d a k t))
-    (λ _. drafting_writes t0 h0 done d (Literal f.name f.value) f k (plain_literal (count t0) f.name f.value) (literal_line (whole k.history) (count t0) f))
+    let means =
+    line_by_name (whole k.history) (count t0) a f at.item
+    (found_whole d.table k.history (has_name f.name) a k.table.shares at) (same_name f.name at.item at.passes) in
+    cond_both (may_name d.table a) (writes_naming d a (named_line (count t0) a f)) (writes d (Literal f.name f.value))
+    (Drafting t0 h0 (done ++ f ∷ []))
+    (λ t. drafting_names t0 h0 done d a (named_line (count t0) a f) f k (named_line_names (count t0) a f) means
+    (at.above, at.within) (may_stand t0 h0 done d a k t))
+    (λ _. drafting_writes t0 h0 done d (Literal f.name f.value) f k (literal_names (count t0) f.name f.value)
+    (literal_line (whole k.history) (count t0) f))
 
 drafting_literal : (t0 : Table) (h0 : History) (done : List Field) (d : Draft) (f : Field) → Drafting t0 h0 done d
     → (o : Option ℕ) → static_name_place f.name ≡ o → Drafting t0 h0 (done ++ f ∷ []) (literal (count t0) d f o)
-drafting_literal t0 h0 done d f k None e = drafting_literal_by_entry t0 h0 done d f k (newest d.table (has_name f.name)) refl
+drafting_literal t0 h0 done d f k None e =
+    drafting_literal_by_entry t0 h0 done d f k (newest d.table (has_name f.name)) refl
 drafting_literal t0 h0 done d f k (Some i) e =
     let at = static_name_found f.name i e in
-    drafting_writes t0 h0 done d (NamedStatic i f.value) f k (plain_name (count t0) i f.value) (static_name_line (whole k.history) (count t0) i f at.0 at.1 at.2)
+    drafting_writes t0 h0 done d (NamedStatic i f.value) f k (static_name_names (count t0) i f.value)
+    (static_name_line (whole k.history) (count t0) i f at.0 at.1 at.2)
 
-drafting_insertion_or_literal : (t0 : Table) (h0 : History) (done : List Field) (d : Draft) (f : Field) → Sound h0 → Drafting t0 h0 done d → Drafting t0 h0 (done ++ f ∷ []) (insertion_or_literal (count t0) d f)
+drafting_insertion_or_literal : (t0 : Table) (h0 : History) (done : List Field) (d : Draft) (f : Field) → Sound h0
+    → Drafting t0 h0 done d → Drafting t0 h0 (done ++ f ∷ []) (insertion_or_literal (count t0) d f)
 drafting_insertion_or_literal t0 h0 done d f s k =
-    cond_both (below_limit d.table && has_room d.table f) (inserts (count t0) d f) (literal (count t0) d f (static_name_place f.name)) (Drafting t0 h0 (done ++ f ∷ []))
+    cond_both (below_limit d.table && has_room d.table f) (inserts (count t0) d f)
+    (literal (count t0) d f (static_name_place f.name)) (Drafting t0 h0 (done ++ f ∷ []))
     (λ t. let p = and_parts (below_limit d.table) (has_room d.table f) t in
     let lt : length d.table.waiting < d.table.limit = ltb-true _ _ p.0 in
-    drafting_inserts t0 h0 done d f s k (rw (← k.waiting, ← k.limit) lt) (room d.table f p.1))
+    drafting_inserts t0 h0 done d f s k (rw (← k.references.waiting, ← k.references.limit) lt) (room d.table f p.1))
     (λ _. drafting_literal t0 h0 done d f k (static_name_place f.name) refl)
 
-drafting_by_entry : (t0 : Table) (h0 : History) (done : List Field) (d : Draft) (f : Field) → Sound h0 → Drafting t0 h0 done d
+drafting_by_entry : (t0 : Table) (h0 : History) (done : List Field) (d : Draft) (f : Field) → Sound h0
+    → Drafting t0 h0 done d
     → (o : Option ℕ) → newest d.table (is_field f) ≡ o → Drafting t0 h0 (done ++ f ∷ []) (by_entry (count t0) d f o)
 drafting_by_entry t0 h0 done d f s k None e = drafting_insertion_or_literal t0 h0 done d f s k
 drafting_by_entry t0 h0 done d f s k (Some a) e =
     let at = newest_found d.table (is_field f) a e in
-    let there : entry (whole k.history) a ≡ Some f = found_whole d.table k.history (is_field f) a k.table.shares at ∙ ap Some (sym (same_field f at.item at.passes)) in
-    cond_both (nat_le a (count t0) && may_name d.table a) (writes_naming d a (IndexedDynamic (count t0 - a))) (insertion_or_literal (count t0) d f) (Drafting t0 h0 (done ++ f ∷ []))
+    let there : entry (whole k.history) a ≡ Some f =
+    found_whole d.table k.history (is_field f) a k.table.shares at
+    ∙ ap Some (sym (same_field f at.item at.passes)) in
+    cond_both (nat_le a (count t0) && may_name d.table a) (writes_naming d a (IndexedDynamic (count t0 - a)))
+    (insertion_or_literal (count t0) d f) (Drafting t0 h0 (done ++ f ∷ []))
     (λ t. let p = and_parts (nat_le a (count t0)) (may_name d.table a) t in
     let le : a ≤ count t0 = leb-true _ _ p.0 in
-    drafting_names t0 h0 done d a (IndexedDynamic (count t0 - a)) f k (indexed_names (count t0) a le) (indexed_line (whole k.history) (count t0) a f le there) (at.above, at.within) (may_stand t0 h0 done d a k p.1))
+    drafting_names t0 h0 done d a (IndexedDynamic (count t0 - a)) f k (indexed_names (count t0) a le)
+    (indexed_line (whole k.history) (count t0) a f le there) (at.above, at.within) (may_stand t0 h0 done d a k p.1))
     (λ _. drafting_insertion_or_literal t0 h0 done d f s k)
 
-drafting_by_static : (t0 : Table) (h0 : History) (done : List Field) (d : Draft) (f : Field) → Sound h0 → Drafting t0 h0 done d
+drafting_by_static : (t0 : Table) (h0 : History) (done : List Field) (d : Draft) (f : Field) → Sound h0
+    → Drafting t0 h0 done d
     → (o : Option ℕ) → static_place f ≡ o → Drafting t0 h0 (done ++ f ∷ []) (by_static (count t0) d f o)
 drafting_by_static t0 h0 done d f s k None e = drafting_by_entry t0 h0 done d f s k (newest d.table (is_field f)) refl
 drafting_by_static t0 h0 done d f s k (Some i) e =
-    drafting_writes t0 h0 done d (IndexedStatic i) f k (plain_static (count t0) i) (static_line (whole k.history) (count t0) i f (static_found f i e))
+    drafting_writes t0 h0 done d (IndexedStatic i) f k (static_names (count t0) i)
+    (static_line (whole k.history) (count t0) i f (static_found f i e))
 
 -- one field
-pub drafting_field : (t0 : Table) (h0 : History) (done : List Field) (d : Draft) (f : Field) → Sound h0 → Drafting t0 h0 done d → Drafting t0 h0 (done ++ f ∷ []) (rule_field (count t0) d f)
+drafting_field : (t0 : Table) (h0 : History) (done : List Field) (d : Draft) (f : Field) → Sound h0
+    → Drafting t0 h0 done d → Drafting t0 h0 (done ++ f ∷ []) (rule_field (count t0) d f)
 unfolding rule_field
 drafting_field t0 h0 done d f s k = drafting_by_static t0 h0 done d f s k (static_place f) refl
 
-pub drafting_fields : (t0 : Table) (h0 : History) (done : List Field) (d : Draft) (fs : List Field) → Sound h0 → Drafting t0 h0 done d → Drafting t0 h0 (done ++ fs) (rule_fields (count t0) d fs)
+drafting_fields : (t0 : Table) (h0 : History) (done : List Field) (d : Draft) (fs : List Field) → Sound h0
+    → Drafting t0 h0 done d → Drafting t0 h0 (done ++ fs) (rule_fields (count t0) d fs)
 drafting_fields t0 h0 done d [] s k = rw append-nil k
 drafting_fields t0 h0 done d (f ∷ fs) s k =
-    subst (λ (l : List Field). Drafting t0 h0 l (rule_fields (count t0) (rule_field (count t0) d f) fs)) (append_assoc done (f ∷ []) fs)
+    subst (λ (l : List Field). Drafting t0 h0 l (rule_fields (count t0) (rule_field (count t0) d f) fs))
+    (append_assoc done (f ∷ []) fs)
     (drafting_fields t0 h0 (done ++ f ∷ []) (rule_field (count t0) d f) fs s (drafting_field t0 h0 done d f s k))
 
 pub keeps_unnamed : (h : History) (t : Table) → KeepsTable h t → KeepsTable h (unnamed t)
@@ -357,7 +394,15 @@ keeps_unnamed h t k = record { shares = k.shares; marked = k.marked; behind = k.
 drafting_blank : (t0 : Table) (h0 : History) → KeepsTable h0 t0 → Drafting t0 h0 [] (blank t0)
 unfolding fields_of references_of unnamed
 drafting_blank t0 h0 k =
-    record { history = h0; leads = refl; table = keeps_unnamed h0 t0 k; known = refl; limit = refl; opened = refl; waiting = refl; named = tt; means = refl; refs = refl; may = tt; base = omega arith }
+    record {
+      history = h0;
+      leads = refl;
+      table = keeps_unnamed h0 t0 k;
+      references = refers_blank t0;
+      named = tt;
+      means = refl;
+      may = tt;
+    }
 
 -- THE RULE: the block means the fields under all insertions, its instructions lead from the old table to the new one,
 -- each entry that it names is live, and may be named

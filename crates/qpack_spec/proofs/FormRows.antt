@@ -2,18 +2,29 @@
 use Rattle.std.proofs.Common.{ℕ, ◌-◌, ◌^◌, ◌≡◌, true, false, List, [], ◌∷◌, None, Some, Result, Ok, Err, refl}
 use Rattle.std.specs.Prelude.{codes, negsuc}
 use Rattle.qpack_spec.specs.Integer.{written_groups, groups_at, integer_at, written_integer, Overflow, UnexpectedEnd}
-use Rattle.qpack_spec.specs.Huffman.{bits_of, ones, bytes_by_length, bytes_of_length, first_word, word_length, word_of, number_from, packed, payload_of, word_at, is_padding, item_at, text_at, text_of_bits, MissingBits, Unhandled}
+use Rattle.qpack_spec.specs.Huffman.{bits_of, ones, bytes_by_length, bytes_of_length, first_word, word_length, word_of}
+use Rattle.qpack_spec.specs.Huffman.{number_from, packed, payload_of, word_at, is_padding, item_at, text_at}
+use Rattle.qpack_spec.specs.Huffman.{text_of_bits, MissingBits, Unhandled}
 use Rattle.qpack_spec.specs.Text.{string_at, written_string, EndsEarly, LengthOverflows, BadHuffman}
 use Rattle.qpack_spec.specs.StaticTable.{static_table, static_place, static_name_place}
-use Rattle.qpack_spec.specs.Form.{Index, IndexAndValue, NameAndValue, FormFault, BadInteger, BadString, made_at, form_at}
-use Rattle.qpack_spec.specs.Line.{Line, IndexedStatic, IndexedDynamic, IndexedPostBase, NamedStatic, NamedDynamic, NamedPostBase, Literal, line_form, written_line, written_lines}
-use Rattle.qpack_spec.specs.Instruction.{Instruction, InsertStaticName, InsertDynamicName, InsertLiteralName, Duplicate, SetCapacity, Reply, Acknowledgment, Cancellation, Increment, instruction_form, reply_form, written_instruction, written_instructions, written_reply, written_replies}
-use Rattle.qpack_spec.specs.Prefix.{Prefix, OutOfRange, BelowZero, prefix_for, required_at, read_required, read_base, read_prefix, written_prefix, prefix_at}
+use Rattle.qpack_spec.specs.Form.{Index, IndexAndValue, NameAndValue, FormFault, BadInteger, BadString, made_at}
+use Rattle.qpack_spec.specs.Form.{form_at}
+use Rattle.qpack_spec.specs.Line.{Line, IndexedStatic, IndexedDynamic, IndexedPostBase, NamedStatic, NamedDynamic}
+use Rattle.qpack_spec.specs.Line.{NamedPostBase, Literal, line_form, written_line, written_lines}
+use Rattle.qpack_spec.specs.Instruction.{Instruction, InsertStaticName, InsertDynamicName, InsertLiteralName, Duplicate}
+use Rattle.qpack_spec.specs.Instruction.{SetCapacity, Reply, Acknowledgment, Cancellation, Increment, instruction_form}
+use Rattle.qpack_spec.specs.Instruction.{reply_form, written_instruction, written_instructions, written_reply}
+use Rattle.qpack_spec.specs.Instruction.{written_replies}
+use Rattle.qpack_spec.specs.Prefix.{Prefix, OutOfRange, BelowZero, prefix_for, required_at, read_required, read_base}
+use Rattle.qpack_spec.specs.Prefix.{read_prefix, written_prefix, prefix_at}
 use Rattle.qpack_spec.specs.Window.{excess, entry, recent, insertion, effect, after}
 use Rattle.qpack_spec.specs.History.{window_of, whole, grown}
-use Rattle.qpack_spec.specs.Reading.{static_field, relative_field, post_base_field, line_field, fields_of, names_of, references_of, greatest, reading}
+use Rattle.qpack_spec.specs.Reading.{static_field, relative_field, post_base_field, line_field, fields_of, names_of}
+use Rattle.qpack_spec.specs.Reading.{references_of, greatest, reading}
 use Rattle.qpack_spec.specs.BlockReading.{fields_at, reading_of_bytes, written_block}
-use Rattle.qpack_spec.specs.Table.{window, track, naming, is_held, none_held, has_room, may_name, with_entry, last_place, newest, put, resized, applied, commit, unnamed, without_oldest, without_stream, raised, heard, count}
+use Rattle.qpack_spec.specs.Table.{window, track, naming, is_held, none_held, has_room, may_name, with_entry}
+use Rattle.qpack_spec.specs.Table.{last_place, newest, put, resized, applied, commit, unnamed, without_oldest}
+use Rattle.qpack_spec.specs.Table.{without_stream, raised, heard, count}
 use Rattle.qpack_spec.specs.Rule.{instruction_for, rule_field, rule}
 
 -- what was read, and how many bytes were left
@@ -31,11 +42,20 @@ prefix_of count delta = record { count = count; sign = false; delta = delta }
 
 -- all that has to unfold
 rows : ℕ
-unfolding excess written_groups groups_at integer_at written_integer bits_of ones bytes_by_length bytes_of_length first_word word_length word_of number_from packed payload_of word_at is_padding item_at text_at text_of_bits string_at written_string static_table static_place static_name_place line_form written_line written_lines instruction_form reply_form written_instruction written_instructions written_reply written_replies made_at form_at prefix_for required_at read_required read_base read_prefix written_prefix prefix_at entry recent insertion effect after window_of whole grown static_field relative_field post_base_field line_field fields_of names_of references_of greatest reading fields_at reading_of_bytes written_block window track naming is_held none_held has_room may_name with_entry last_place newest put resized applied commit unnamed without_oldest without_stream raised heard instruction_for rule_field rule line_at instruction_at reply_at prefix_of
+unfolding excess written_groups groups_at integer_at written_integer bits_of ones bytes_by_length bytes_of_length
+    first_word word_length word_of number_from packed payload_of word_at is_padding item_at text_at text_of_bits
+    string_at written_string static_table static_place static_name_place line_form written_line written_lines
+    instruction_form reply_form written_instruction written_instructions written_reply written_replies made_at form_at
+    prefix_for required_at read_required read_base read_prefix written_prefix prefix_at entry recent insertion effect
+    after window_of whole grown static_field relative_field post_base_field line_field fields_of names_of references_of
+    greatest reading fields_at reading_of_bytes written_block window track naming is_held none_held has_room may_name
+    with_entry last_place newest put resized applied commit unnamed without_oldest without_stream raised heard
+    instruction_for rule_field rule line_at instruction_at reply_at prefix_of
 rows = 0
 
 -- an insertion without a name reference
-write_insert : (written_instruction (InsertLiteralName (codes "foo") (codes "bar"))) ≡ 98 ∷ 148 ∷ 231 ∷ 131 ∷ 140 ∷ 118 ∷ 127 ∷ []
+write_insert : (written_instruction (InsertLiteralName (codes "foo") (codes "bar")))
+    ≡ 98 ∷ 148 ∷ 231 ∷ 131 ∷ 140 ∷ 118 ∷ 127 ∷ []
 unfolding rows
 write_insert = refl
 
@@ -55,7 +75,8 @@ unfolding rows
 write_insert_static = refl
 
 -- an insertion by the name of an entry
-write_insert_dynamic : (written_instruction (InsertDynamicName 1 (codes "new bar3"))) ≡ 129 ∷ 134 ∷ 168 ∷ 190 ∷ 20 ∷ 140 ∷ 118 ∷ 51 ∷ []
+write_insert_dynamic : (written_instruction (InsertDynamicName 1 (codes "new bar3")))
+    ≡ 129 ∷ 134 ∷ 168 ∷ 190 ∷ 20 ∷ 140 ∷ 118 ∷ 51 ∷ []
 unfolding rows
 write_insert_dynamic = refl
 
@@ -100,7 +121,8 @@ unfolding rows
 write_literal = refl
 
 -- an insertion is read, and what follows is left
-read_insert : (instruction_at (98 ∷ 148 ∷ 231 ∷ 131 ∷ 140 ∷ 118 ∷ 127 ∷ 0 ∷ [])) ≡ Ok (InsertLiteralName (codes "foo") (codes "bar"), 0 ∷ [])
+read_insert : (instruction_at (98 ∷ 148 ∷ 231 ∷ 131 ∷ 140 ∷ 118 ∷ 127 ∷ 0 ∷ []))
+    ≡ Ok (InsertLiteralName (codes "foo") (codes "bar"), 0 ∷ [])
 unfolding rows
 read_insert = refl
 
@@ -150,7 +172,8 @@ unfolding rows
 read_overflow = refl
 
 -- eight of them are truncation
-read_truncated_overflow : (reply_at (63 ∷ 255 ∷ 255 ∷ 255 ∷ 255 ∷ 255 ∷ 255 ∷ 255 ∷ 255 ∷ [])) ≡ Err (BadInteger UnexpectedEnd)
+read_truncated_overflow : (reply_at (63 ∷ 255 ∷ 255 ∷ 255 ∷ 255 ∷ 255 ∷ 255 ∷ 255 ∷ 255 ∷ []))
+    ≡ Err (BadInteger UnexpectedEnd)
 unfolding rows
 read_truncated_overflow = refl
 
@@ -190,12 +213,14 @@ unfolding rows
 read_cut_name = refl
 
 -- and so is a cut length
-read_cut_name_length : (line_at (39 ∷ 255 ∷ 255 ∷ 255 ∷ 255 ∷ 255 ∷ 255 ∷ 255 ∷ 255 ∷ 127 ∷ [])) ≡ Err (BadString EndsEarly)
+read_cut_name_length : (line_at (39 ∷ 255 ∷ 255 ∷ 255 ∷ 255 ∷ 255 ∷ 255 ∷ 255 ∷ 255 ∷ 127 ∷ []))
+    ≡ Err (BadString EndsEarly)
 unfolding rows
 read_cut_name_length = refl
 
 -- a length that overflows
-read_name_overflow : (line_at (39 ∷ 255 ∷ 255 ∷ 255 ∷ 255 ∷ 255 ∷ 255 ∷ 255 ∷ 255 ∷ 255 ∷ [])) ≡ Err (BadString LengthOverflows)
+read_name_overflow : (line_at (39 ∷ 255 ∷ 255 ∷ 255 ∷ 255 ∷ 255 ∷ 255 ∷ 255 ∷ 255 ∷ 255 ∷ []))
+    ≡ Err (BadString LengthOverflows)
 unfolding rows
 read_name_overflow = refl
 
@@ -270,7 +295,8 @@ unfolding rows
 prefix_no_base = refl
 
 -- a base far below 0 is held at the least number
-prefix_far_below : (read_prefix 1 4096 (record { count = 2; sign = true; delta = 9223372036854775934 })) ≡ Err (BelowZero (negsuc 9223372036854775807))
+prefix_far_below : (read_prefix 1 4096 (record { count = 2; sign = true; delta = 9223372036854775934 }))
+    ≡ Err (BelowZero (negsuc 9223372036854775807))
 unfolding rows
 prefix_far_below = refl
 

@@ -2,21 +2,29 @@
 use Rattle.std.proofs.Common.{ℕ, ◌≡◌, List, [], ◌∷◌, None, Err, refl}
 use Rattle.std.specs.Prelude.{codes}
 use Rattle.qpack_spec.specs.Integer.{written_groups, groups_at, integer_at, written_integer}
-use Rattle.qpack_spec.specs.Huffman.{bits_of, ones, bytes_by_length, bytes_of_length, first_word, word_length, word_of, number_from, packed, payload_of, word_at, is_padding, item_at, text_at, text_of_bits}
+use Rattle.qpack_spec.specs.Huffman.{bits_of, ones, bytes_by_length, bytes_of_length, first_word, word_length, word_of}
+use Rattle.qpack_spec.specs.Huffman.{number_from, packed, payload_of, word_at, is_padding, item_at, text_at}
+use Rattle.qpack_spec.specs.Huffman.{text_of_bits}
 use Rattle.qpack_spec.specs.Text.{string_at, written_string}
 use Rattle.qpack_spec.specs.Field.{Field}
 use Rattle.qpack_spec.specs.StaticTable.{field, static_table, static_place, static_name_place}
 use Rattle.qpack_spec.specs.Form.{made_at, form_at}
 use Rattle.qpack_spec.specs.Line.{line_form, written_line, written_lines}
-use Rattle.qpack_spec.specs.Instruction.{Acknowledgment, instruction_form, reply_form, written_instruction, written_instructions, written_reply, written_replies}
-use Rattle.qpack_spec.specs.Prefix.{prefix_for, required_at, read_required, read_base, read_prefix, written_prefix, prefix_at}
+use Rattle.qpack_spec.specs.Instruction.{Acknowledgment, instruction_form, reply_form, written_instruction}
+use Rattle.qpack_spec.specs.Instruction.{written_instructions, written_reply, written_replies}
+use Rattle.qpack_spec.specs.Prefix.{prefix_for, required_at, read_required, read_base, read_prefix, written_prefix}
+use Rattle.qpack_spec.specs.Prefix.{prefix_at}
 use Rattle.qpack_spec.specs.Window.{excess, entry, recent, insertion, effect, after, UnknownStream}
 use Rattle.qpack_spec.specs.History.{window_of, whole, grown}
-use Rattle.qpack_spec.specs.Reading.{static_field, relative_field, post_base_field, line_field, fields_of, names_of, references_of, greatest, reading}
+use Rattle.qpack_spec.specs.Reading.{static_field, relative_field, post_base_field, line_field, fields_of, names_of}
+use Rattle.qpack_spec.specs.Reading.{references_of, greatest, reading}
 use Rattle.qpack_spec.specs.BlockReading.{fields_at, reading_of_bytes, written_block}
-use Rattle.qpack_spec.specs.Table.{Table, empty_table, window, track, naming, is_held, none_held, has_room, may_name, with_entry, last_place, newest, put, resized, applied, commit, unnamed, without_oldest, without_stream, raised, heard, put_entry}
+use Rattle.qpack_spec.specs.Table.{Table, empty_table, window, track, naming, is_held, none_held, has_room, may_name}
+use Rattle.qpack_spec.specs.Table.{with_entry, last_place, newest, put, resized, applied, commit, unnamed}
+use Rattle.qpack_spec.specs.Table.{without_oldest, without_stream, raised, heard, put_entry}
 use Rattle.qpack_spec.specs.Rule.{instruction_for, rule_field, rule}
-use Rattle.qpack_spec.specs.Handle.{AtRelative, NotFound, find_field, Insertion, Duplicated, InsertedWithStaticName, InsertedWithName, Inserted, NotInserted, insert_field}
+use Rattle.qpack_spec.specs.Handle.{AtRelative, NotFound, find_field, Insertion, Duplicated, InsertedWithStaticName}
+use Rattle.qpack_spec.specs.Handle.{InsertedWithName, Inserted, NotInserted, insert_field}
 
 -- fields put in turn into a table with room for them
 putting : List Field → Table → Table
@@ -33,18 +41,30 @@ behind base t [] = t
 behind base t (f ∷ fs) = behind base (insert_field t base f).table fs
 
 names_ab : Table
-names_ab = putting ((field (codes "Name-A") (codes "Value-A")) ∷ (field (codes "Name-B") (codes "Value-B")) ∷ []) (empty_table 4096 None 100)
+names_ab =
+    putting ((field (codes "Name-A") (codes "Value-A")) ∷ (field (codes "Name-B") (codes "Value-B")) ∷ [])
+    (empty_table 4096 None 100)
 
 -- a table at which a block was given up behind an insertion, and one at which a block was written
 given_up_once : Table
-given_up_once = unnamed (behind 0 (empty_table 64 None 100) ((field (codes "foo") (codes "bar")) ∷ (field (codes "foo2") (codes "bar")) ∷ []))
+given_up_once =
+    unnamed (behind 0 (empty_table 64 None 100)
+    ((field (codes "foo") (codes "bar")) ∷ (field (codes "foo2") (codes "bar")) ∷ []))
 
 written_once : Table
 written_once = commit (behind 0 (empty_table 4096 None 1) ((field (codes "foo") (codes "bar")) ∷ [])) 4 1
 
 -- all that has to unfold
 rows : ℕ
-unfolding excess written_groups groups_at integer_at written_integer bits_of ones bytes_by_length bytes_of_length first_word word_length word_of number_from packed payload_of word_at is_padding item_at text_at text_of_bits string_at written_string static_table static_place static_name_place line_form written_line written_lines instruction_form reply_form written_instruction written_instructions written_reply written_replies made_at form_at prefix_for required_at read_required read_base read_prefix written_prefix prefix_at entry recent insertion effect after window_of whole grown static_field relative_field post_base_field line_field fields_of names_of references_of greatest reading fields_at reading_of_bytes written_block window track naming is_held none_held has_room may_name with_entry last_place newest put resized applied commit unnamed without_oldest without_stream raised heard instruction_for rule_field rule putting asked behind names_ab given_up_once written_once find_field insert_field
+unfolding excess written_groups groups_at integer_at written_integer bits_of ones bytes_by_length bytes_of_length
+    first_word word_length word_of number_from packed payload_of word_at is_padding item_at text_at text_of_bits
+    string_at written_string static_table static_place static_name_place line_form written_line written_lines
+    instruction_form reply_form written_instruction written_instructions written_reply written_replies made_at form_at
+    prefix_for required_at read_required read_base read_prefix written_prefix prefix_at entry recent insertion effect
+    after window_of whole grown static_field relative_field post_base_field line_field fields_of names_of references_of
+    greatest reading fields_at reading_of_bytes written_block window track naming is_held none_held has_room may_name
+    with_entry last_place newest put resized applied commit unnamed without_oldest without_stream raised heard
+    instruction_for rule_field rule putting asked behind names_ab given_up_once written_once find_field insert_field
 rows = 0
 
 -- an entry before the base
@@ -53,12 +73,17 @@ unfolding rows
 find_old = refl
 
 -- a duplicate, two names and a literal
-insert_each : (asked 2 names_ab ((field (codes "Name-A") (codes "Value-A")) ∷ (field (codes "Name-B") (codes "New Value-B")) ∷ (field (codes "Name-B") (codes "Newer Value-B")) ∷ (field (codes "Name-C") (codes "Value-C")) ∷ [])) ≡ Duplicated 1 0 3 ∷ InsertedWithName 1 1 4 ∷ InsertedWithName 0 2 5 ∷ Inserted 3 6 ∷ []
+insert_each : (asked 2 names_ab ((field (codes "Name-A") (codes "Value-A"))
+    ∷ (field (codes "Name-B") (codes "New Value-B")) ∷ (field (codes "Name-B") (codes "Newer Value-B"))
+    ∷ (field (codes "Name-C") (codes "Value-C")) ∷ [])) ≡ Duplicated 1 0 3 ∷ InsertedWithName 1 1 4
+    ∷ InsertedWithName 0 2 5 ∷ Inserted 3 6 ∷ []
 unfolding rows
 insert_each = refl
 
 -- what the block in progress names makes no room
-no_room_named : (asked 0 (empty_table 64 None 100) ((field (codes "foo") (codes "bar")) ∷ (field (codes "foo2") (codes "bar")) ∷ [])) ≡ Inserted 0 1 ∷ NotInserted NotFound ∷ []
+no_room_named : (asked 0 (empty_table 64 None 100)
+    ((field (codes "foo") (codes "bar")) ∷ (field (codes "foo2") (codes "bar")) ∷ []))
+    ≡ Inserted 0 1 ∷ NotInserted NotFound ∷ []
 unfolding rows
 no_room_named = refl
 
@@ -88,22 +113,27 @@ unfolding rows
 at_limit_received = refl
 
 -- the equal entry goes first
-equal_goes : (asked 2 (putting ((field (codes "foo") (codes "bar")) ∷ (field (codes "baz") (codes "bar")) ∷ []) (empty_table 76 None 100)) ((field (codes "foo") (codes "bar")) ∷ [])) ≡ Inserted 0 3 ∷ []
+equal_goes : (asked 2 (putting ((field (codes "foo") (codes "bar")) ∷ (field (codes "baz") (codes "bar")) ∷ [])
+    (empty_table 76 None 100)) ((field (codes "foo") (codes "bar")) ∷ [])) ≡ Inserted 0 3 ∷ []
 unfolding rows
 equal_goes = refl
 
 -- the newest entry of the name
-newest_name : (asked 2 (putting ((field (codes "foo") (codes "zzz")) ∷ (field (codes "foo") (codes "aaa")) ∷ []) (empty_table 4096 None 1)) ((field (codes "foo") (codes "mmm")) ∷ [])) ≡ InsertedWithName 0 0 3 ∷ []
+newest_name : (asked 2 (putting ((field (codes "foo") (codes "zzz")) ∷ (field (codes "foo") (codes "aaa")) ∷ [])
+    (empty_table 4096 None 1)) ((field (codes "foo") (codes "mmm")) ∷ [])) ≡ InsertedWithName 0 0 3 ∷ []
 unfolding rows
 newest_name = refl
 
 -- an entry of the block itself, which its insertion refers to and does not hold
-name_of_the_block : (asked 1 (putting ((field (codes "foo") (codes "bar")) ∷ []) (empty_table 95 None 100)) ((field (codes "foo") (codes "quxx")) ∷ (field (codes "foo") (codes "baz")) ∷ [])) ≡ InsertedWithName 0 0 2 ∷ InsertedWithName 0 1 3 ∷ []
+name_of_the_block : (asked 1 (putting ((field (codes "foo") (codes "bar")) ∷ []) (empty_table 95 None 100))
+    ((field (codes "foo") (codes "quxx")) ∷ (field (codes "foo") (codes "baz")) ∷ []))
+    ≡ InsertedWithName 0 0 2 ∷ InsertedWithName 0 1 3 ∷ []
 unfolding rows
 name_of_the_block = refl
 
 -- a static name
-static_name : (asked 0 (empty_table 4096 None 1) ((field (codes ":method") (codes "x")) ∷ [])) ≡ InsertedWithStaticName 0 15 1 ∷ []
+static_name : (asked 0 (empty_table 4096 None 1) ((field (codes ":method") (codes "x")) ∷ []))
+    ≡ InsertedWithStaticName 0 15 1 ∷ []
 unfolding rows
 static_name = refl
 

@@ -1,16 +1,23 @@
 -- Asking an encoder's handle field by field is the rule.
-use Rattle.std.proofs.Common.{ℕ, ◌+◌, ◌-◌, ◌<◌, ◌≤◌, ◌≡◌, Bool, true, false, cond, List, [], ◌∷◌, ◌++◌, length, Option, None, Some, refl, ap, ◌∙◌, subst, arith, inl, inr, ◌⊎◌}
+use Rattle.std.proofs.Common.{ℕ, ◌+◌, ◌-◌, ◌<◌, ◌≤◌, ◌≡◌, Bool, true, false, cond, List, [], ◌∷◌, ◌++◌, length, Option}
+use Rattle.std.proofs.Common.{None, Some, refl, ap, ◌∙◌, subst, arith, inl, inr, ◌⊎◌}
 use Rattle.std.specs.Prelude.{nat_le, nat_eq, ◌&&◌}
 use Rattle.std.proofs.lemmas.Bool.{cond_both, and_parts, leb-false, cases_lt, or_left, or_right, eq-eqb}
 use Rattle.std.proofs.lemmas.List.{append-nil}
 use Rattle.std.proofs.lemmas.List.Folds.{list_any-append}
 use Rattle.qpack_spec.specs.Field.{Field, has_name, is_field}
 use Rattle.qpack_spec.specs.StaticTable.{static_place, static_name_place}
-use Rattle.qpack_spec.specs.Instruction.{Instruction, InsertStaticName, InsertDynamicName, InsertLiteralName, Duplicate, SetCapacity}
+use Rattle.qpack_spec.specs.Instruction.{Instruction, InsertStaticName, InsertDynamicName, InsertLiteralName, Duplicate}
+use Rattle.qpack_spec.specs.Instruction.{SetCapacity}
 use Rattle.qpack_spec.specs.Line.{IndexedDynamic, IndexedPostBase, NamedStatic, NamedDynamic, NamedPostBase, Literal}
-use Rattle.qpack_spec.specs.Table.{Table, count, has_number, track, naming, has_room, below_limit, may_name, sent_entry, with_entry, last_place, newest}
-use Rattle.qpack_spec.specs.Rule.{Draft, writes, writes_naming, by_name, by_static_name, by_equal, instruction_for, staying, inserts, named_line, literal_by_entry, literal, insertion_or_literal, by_entry, by_static, rule_field, rule_fields, blank, rule}
-use Rattle.qpack_spec.specs.Handle.{AtRelative, AtPostBase, NotFound, placed, Found, found_entry, find_field, found_name, answer_of, instead, insert_field, literal_at, line_of, instructions_of, with_insertion, with_found, by_handle, handle_field, handle_fields, HandleIsTheRule}
+use Rattle.qpack_spec.specs.Table.{Table, count, has_number, track, naming, has_room, below_limit, may_name, sent_entry}
+use Rattle.qpack_spec.specs.Table.{with_entry, last_place, newest}
+use Rattle.qpack_spec.specs.Rule.{Draft, writes, writes_naming, by_name, by_static_name, by_equal, instruction_for}
+use Rattle.qpack_spec.specs.Rule.{staying, inserts, named_line, literal_by_entry, literal, insertion_or_literal}
+use Rattle.qpack_spec.specs.Rule.{by_entry, by_static, rule_field, rule_fields, blank, rule}
+use Rattle.qpack_spec.specs.Handle.{AtRelative, AtPostBase, NotFound, placed, Found, found_entry, find_field}
+use Rattle.qpack_spec.specs.Handle.{found_name, answer_of, instead, insert_field, literal_at, line_of, instructions_of}
+use Rattle.qpack_spec.specs.Handle.{with_insertion, with_found, by_handle, handle_field, handle_fields, HandleIsTheRule}
 use Rattle.qpack_spec.proofs.Places.{FoundEntry, newest_found}
 use Rattle.qpack_spec.proofs.Drafts.{Room, room}
 use Rattle.qpack_spec.proofs.WrittenDrafts.{count_naming, count_entered, count_unnamed}
@@ -31,7 +38,8 @@ new_tracked : (named : List ℕ) (x : ℕ) → has_number x (track named x) ≡ 
 unfolding track
 new_tracked named x =
     cond_both (has_number x named) named (named ++ x ∷ []) (λ l. has_number x l ≡ true) (λ t. t)
-    (λ _. list_any-append (λ y. nat_eq y x) named (x ∷ []) ∙ or_right (has_number x named) (has_number x (x ∷ [])) (or_left (nat_eq x x) false (eq-eqb x x refl)))
+    (λ _. list_any-append (λ y. nat_eq y x) named (x ∷ [])
+    ∙ or_right (has_number x named) (has_number x (x ∷ [])) (or_left (nat_eq x x) false (eq-eqb x x refl)))
 
 -- naming what is named already changes nothing
 naming_again : (t : Table) (a : ℕ) → has_number a t.named ≡ true → naming t a ≡ t
@@ -50,24 +58,32 @@ same_named : (t : Table) (f : Field) → (with_entry t (sent_entry f)).named ≡
 unfolding with_entry
 same_named t f = refl
 
-above_inserted : (base : ℕ) (t : Table) (f : Field) → Room t f → NamesAbove base t → NamesAbove base (naming (with_entry t (sent_entry f)) (count t + 1))
+above_inserted : (base : ℕ) (t : Table) (f : Field) → Room t f → NamesAbove base t
+    → NamesAbove base (naming (with_entry t (sent_entry f)) (count t + 1))
 above_inserted base t f r k a low high =
-    let many : count (naming (with_entry t (sent_entry f)) (count t + 1)) ≡ count t + 1 = count_naming (with_entry t (sent_entry f)) (count t + 1) ∙ count_entered t f r in
-    let is : (naming (with_entry t (sent_entry f)) (count t + 1)).named ≡ track t.named (count t + 1) = named_now (with_entry t (sent_entry f)) (count t + 1) ∙ ap (λ l. track l (count t + 1)) (same_named t f) in
+    let many : count (naming (with_entry t (sent_entry f)) (count t + 1)) ≡ count t + 1 =
+    count_naming (with_entry t (sent_entry f)) (count t + 1) ∙ count_entered t f r in
+    let is : (naming (with_entry t (sent_entry f)) (count t + 1)).named ≡ track t.named (count t + 1) =
+    named_now (with_entry t (sent_entry f)) (count t + 1) ∙ ap (λ l. track l (count t + 1)) (same_named t f) in
     ap (has_number a) is ∙ pick (cases_lt (count t) a) many
   where
-    pick : (count t < a) ⊎ (a ≤ count t) → count (naming (with_entry t (sent_entry f)) (count t + 1)) ≡ count t + 1 → has_number a (track t.named (count t + 1)) ≡ true
-    pick (inl lt) many = let same : count t + 1 ≡ a = omega (arith, high, many, lt) in subst (λ (x : ℕ). has_number x (track t.named (count t + 1)) ≡ true) same (new_tracked t.named (count t + 1))
+    pick : (count t < a) ⊎ (a ≤ count t) → count (naming (with_entry t (sent_entry f)) (count t + 1)) ≡ count t + 1
+        → has_number a (track t.named (count t + 1)) ≡ true
+    pick (inl lt) many = let same : count t + 1 ≡ a =
+        omega (arith, high, many, lt) in subst (λ (x : ℕ). has_number x (track t.named (count t + 1)) ≡ true) same
+        (new_tracked t.named (count t + 1))
     pick (inr le) many = kept_tracked t.named (count t + 1) a (k a low le)
 
 -- ---- one field
 
 -- each form of an insertion's instruction is told by its answer
-instruction_same : (f : Field) (stay : List Field) (p a : ℕ) → instructions_of f (answer_of (instruction_for f stay) p a) ≡ instruction_for f stay ∷ []
+instruction_same : (f : Field) (stay : List Field) (p a : ℕ)
+    → instructions_of f (answer_of (instruction_for f stay) p a) ≡ instruction_for f stay ∷ []
 unfolding instruction_for
 instruction_same f stay p a = equal (last_place (is_field f) stay)
   where
-    name : (o : Option ℕ) → instructions_of f (answer_of (by_name f (length stay) o) p a) ≡ by_name f (length stay) o ∷ []
+    name : (o : Option ℕ) → instructions_of f (answer_of (by_name f (length stay) o) p a)
+        ≡ by_name f (length stay) o ∷ []
     name (Some i) = refl
     name None = refl
 
@@ -89,39 +105,89 @@ line_same f (SetCapacity n) p a = refl
 entry_line : (base a : ℕ) (f : Field) → literal_at f (placed base a) ≡ named_line base a f
 entry_line base a f = both (nat_le a base)
   where
-    both : (b : Bool) → literal_at f (cond b (AtRelative (base - a) a) (AtPostBase (a - base - 1) a)) ≡ cond b (NamedDynamic (base - a) f.value) (NamedPostBase (a - base - 1) f.value)
+    both : (b : Bool) → literal_at f (cond b (AtRelative (base - a) a) (AtPostBase (a - base - 1) a))
+        ≡ cond b (NamedDynamic (base - a) f.value) (NamedPostBase (a - base - 1) f.value)
     both true = refl
     both false = refl
 
 -- a literal, by what was found of its name
-found_literal : (base : ℕ) (d : Draft) (f : Field) (o : Option ℕ) → with_insertion d f (instead (found_entry d.table base o)) ≡ literal_by_entry base d f o
-found_literal base d f None = ap (λ is. (let x : Draft = record { table = d.table; lines = d.lines ++ Literal f.name f.value ∷ []; instructions = is } in x)) (append-nil d.instructions)
+found_literal : (base : ℕ) (d : Draft) (f : Field) (o : Option ℕ)
+    → with_insertion d f (instead (found_entry d.table base o)) ≡ literal_by_entry base d f o
+found_literal base d f None =
+    ap (λ is. (let x : Draft = record {
+      table = d.table;
+      lines = d.lines ++ Literal f.name f.value ∷ [];
+      instructions = is;
+    } in x)) (append-nil d.instructions)
 found_literal base d f (Some a) = both (may_name d.table a)
   where
-    both : (b : Bool) → with_insertion d f (instead (cond b (record { lookup = placed base a; table = naming d.table a }) (record { lookup = NotFound; table = d.table })))
+    both : (b : Bool) → with_insertion d f (instead
+        (cond b (record { lookup = placed base a; table = naming d.table a })
+        (record { lookup = NotFound; table = d.table })))
         ≡ cond b (writes_naming d a (named_line base a f)) (writes d (Literal f.name f.value))
     both true =
-        ap (λ is. (let x : Draft = record { table = naming d.table a; lines = d.lines ++ literal_at f (placed base a) ∷ []; instructions = is } in x)) (append-nil d.instructions)
-        ∙ ap (λ l. (let x : Draft = record { table = naming d.table a; lines = d.lines ++ l ∷ []; instructions = d.instructions } in x)) (entry_line base a f)
-    both false = ap (λ is. (let x : Draft = record { table = d.table; lines = d.lines ++ Literal f.name f.value ∷ []; instructions = is } in x)) (append-nil d.instructions)
+        ap (λ is. (let x : Draft = record {
+          table = naming d.table a;
+          lines = d.lines ++ literal_at f (placed base a)
+              ∷ [];
+          instructions = is;
+        } in x)) (append-nil d.instructions)
+        ∙ ap (λ l. (let x : Draft = record {
+          table = naming d.table a;
+          lines = d.lines ++ l ∷ [];
+          instructions = d.instructions;
+        } in x)) (entry_line base a f)
+    both false =
+        ap (λ is. (let x : Draft = record {
+          table = d.table;
+          lines = d.lines ++ Literal f.name f.value ∷ [];
+          instructions = is;
+        } in x)) (append-nil d.instructions)
 
-name_literal : (base : ℕ) (d : Draft) (f : Field) (o : Option ℕ) → with_insertion d f (instead (found_name d.table base f o)) ≡ literal base d f o
-name_literal base d f (Some i) = ap (λ is. (let x : Draft = record { table = d.table; lines = d.lines ++ NamedStatic i f.value ∷ []; instructions = is } in x)) (append-nil d.instructions)
+name_literal : (base : ℕ) (d : Draft) (f : Field) (o : Option ℕ)
+    → with_insertion d f (instead (found_name d.table base f o)) ≡ literal base d f o
+name_literal base d f (Some i) =
+    ap (λ is. (let x : Draft = record {
+      table = d.table;
+      lines = d.lines ++ NamedStatic i f.value ∷ [];
+      instructions = is;
+    } in x)) (append-nil d.instructions)
 name_literal base d f None = found_literal base d f (newest d.table (has_name f.name))
 
-insertion_same : (base : ℕ) (d : Draft) (f : Field) → with_insertion d f (insert_field d.table base f) ≡ insertion_or_literal base d f
+insertion_same : (base : ℕ) (d : Draft) (f : Field)
+    → with_insertion d f (insert_field d.table base f) ≡ insertion_or_literal base d f
 unfolding insert_field
 insertion_same base d f = both (below_limit d.table && has_room d.table f)
   where
-    done : with_insertion d f (record { insertion = answer_of (instruction_for f (staying d.table f)) (count d.table - base) (count d.table + 1); table = naming (with_entry d.table (sent_entry f)) (count d.table + 1) }) ≡ inserts base d f
+    done : with_insertion d f (record {
+      insertion = answer_of (instruction_for f (staying d.table f))
+          (count d.table - base) (count d.table + 1);
+      table =
+          naming (with_entry d.table (sent_entry f)) (count d.table + 1);
+    }) ≡ inserts base d f
     done =
         let i = instruction_for f (staying d.table f) in
-        ap (λ l. (let x : Draft = record { table = naming (with_entry d.table (sent_entry f)) (count d.table + 1); lines = d.lines ++ l ∷ []; instructions = d.instructions ++ instructions_of f (answer_of i (count d.table - base) (count d.table + 1)) } in x))
+        ap (λ l. (let x : Draft = record {
+          table = naming (with_entry d.table (sent_entry f)) (count d.table + 1);
+          lines = d.lines ++ l ∷ [];
+          instructions =
+              d.instructions ++ instructions_of f (answer_of i (count d.table - base) (count d.table + 1));
+        } in x))
         (line_same f i (count d.table - base) (count d.table + 1))
-        ∙ ap (λ is. (let x : Draft = record { table = naming (with_entry d.table (sent_entry f)) (count d.table + 1); lines = d.lines ++ IndexedPostBase (count d.table - base) ∷ []; instructions = d.instructions ++ is } in x))
+        ∙ ap (λ is. (let x : Draft = record {
+          table = naming (with_entry d.table (sent_entry f)) (count d.table + 1);
+          lines = d.lines ++ IndexedPostBase (count d.table - base) ∷ [];
+          instructions = d.instructions ++ is;
+        } in x))
         (instruction_same f (staying d.table f) (count d.table - base) (count d.table + 1))
 
-    both : (b : Bool) → with_insertion d f (cond b (record { insertion = answer_of (instruction_for f (staying d.table f)) (count d.table - base) (count d.table + 1); table = naming (with_entry d.table (sent_entry f)) (count d.table + 1) }) (instead (found_name d.table base f (static_name_place f.name))))
+    both : (b : Bool) → with_insertion d f (cond b
+        (record {
+          insertion = answer_of (instruction_for f (staying d.table f)) (count d.table - base)
+              (count d.table + 1);
+          table = naming (with_entry d.table (sent_entry f)) (count d.table + 1);
+        })
+        (instead (found_name d.table base f (static_name_place f.name))))
         ≡ cond b (inserts base d f) (literal base d f (static_name_place f.name))
     both true = done
     both false = name_literal base d f (static_name_place f.name)
@@ -129,9 +195,11 @@ insertion_same base d f = both (below_limit d.table && has_room d.table f)
 -- what is found of an entry, by whether it may be named and whether it is up to the base
 abbrev chosen_entry : Bool → Bool → ℕ → ℕ → Table → Found
 chosen_entry b c base a t =
-    cond b (record { lookup = cond c (AtRelative (base - a) a) (AtPostBase (a - base - 1) a); table = naming t a }) (record { lookup = NotFound; table = t })
+    cond b (record { lookup = cond c (AtRelative (base - a) a) (AtPostBase (a - base - 1) a); table = naming t a })
+    (record { lookup = NotFound; table = t })
 
-entry_same : (base : ℕ) (d : Draft) (f : Field) → NamesAbove base d.table → (o : Option ℕ) → newest d.table (is_field f) ≡ o
+entry_same : (base : ℕ) (d : Draft) (f : Field) → NamesAbove base d.table → (o : Option ℕ)
+    → newest d.table (is_field f) ≡ o
     → with_found base d f (found_entry d.table base o).lookup (found_entry d.table base o).table ≡ by_entry base d f o
 entry_same base d f k None e = insertion_same base d f
 entry_same base d f k (Some a) e = both (may_name d.table a) (nat_le a base) refl
@@ -139,11 +207,14 @@ entry_same base d f k (Some a) e = both (may_name d.table a) (nat_le a base) ref
     at : FoundEntry d.table (is_field f) a
     at = newest_found d.table (is_field f) a e
 
-    both : (b c : Bool) → nat_le a base ≡ c → with_found base d f (chosen_entry b c base a d.table).lookup (chosen_entry b c base a d.table).table ≡ cond (c && b) (writes_naming d a (IndexedDynamic (base - a))) (insertion_or_literal base d f)
+    both : (b c : Bool) → nat_le a base ≡ c
+        → with_found base d f (chosen_entry b c base a d.table).lookup (chosen_entry b c base a d.table).table
+        ≡ cond (c && b) (writes_naming d a (IndexedDynamic (base - a))) (insertion_or_literal base d f)
     both true true h = refl
     both true false h =
         let above : base < a = leb-false _ _ h in
-        ap (λ t. with_insertion d f (insert_field t base f)) (naming_again d.table a (k a above at.within)) ∙ insertion_same base d f
+        ap (λ t. with_insertion d f (insert_field t base f)) (naming_again d.table a (k a above at.within))
+        ∙ insertion_same base d f
     both false true h = insertion_same base d f
     both false false h = insertion_same base d f
 
@@ -157,25 +228,32 @@ handle_same base d f k = static (static_place f)
 
 -- ---- and the next one
 
-above_literal : (base : ℕ) (d : Draft) (f : Field) (o : Option ℕ) → NamesAbove base d.table → NamesAbove base (literal_by_entry base d f o).table
+above_literal : (base : ℕ) (d : Draft) (f : Field) (o : Option ℕ) → NamesAbove base d.table
+    → NamesAbove base (literal_by_entry base d f o).table
 above_literal base d f None k = k
 above_literal base d f (Some a) k =
-    cond_both (may_name d.table a) (writes_naming d a (named_line base a f)) (writes d (Literal f.name f.value)) (λ (x : Draft). NamesAbove base x.table) (λ _. above_naming base d.table a k) (λ _. k)
+    cond_both (may_name d.table a) (writes_naming d a (named_line base a f)) (writes d (Literal f.name f.value))
+    (λ (x : Draft). NamesAbove base x.table) (λ _. above_naming base d.table a k) (λ _. k)
 
-above_name : (base : ℕ) (d : Draft) (f : Field) (o : Option ℕ) → NamesAbove base d.table → NamesAbove base (literal base d f o).table
+above_name : (base : ℕ) (d : Draft) (f : Field) (o : Option ℕ) → NamesAbove base d.table
+    → NamesAbove base (literal base d f o).table
 above_name base d f (Some i) k = k
 above_name base d f None k = above_literal base d f (newest d.table (has_name f.name)) k
 
-above_insertion : (base : ℕ) (d : Draft) (f : Field) → NamesAbove base d.table → NamesAbove base (insertion_or_literal base d f).table
+above_insertion : (base : ℕ) (d : Draft) (f : Field) → NamesAbove base d.table
+    → NamesAbove base (insertion_or_literal base d f).table
 above_insertion base d f k =
-    cond_both (below_limit d.table && has_room d.table f) (inserts base d f) (literal base d f (static_name_place f.name)) (λ (x : Draft). NamesAbove base x.table)
+    cond_both (below_limit d.table && has_room d.table f) (inserts base d f)
+    (literal base d f (static_name_place f.name)) (λ (x : Draft). NamesAbove base x.table)
     (λ t. above_inserted base d.table f (room d.table f (and_parts (below_limit d.table) (has_room d.table f) t).1) k)
     (λ _. above_name base d f (static_name_place f.name) k)
 
-above_entry : (base : ℕ) (d : Draft) (f : Field) (o : Option ℕ) → NamesAbove base d.table → NamesAbove base (by_entry base d f o).table
+above_entry : (base : ℕ) (d : Draft) (f : Field) (o : Option ℕ) → NamesAbove base d.table
+    → NamesAbove base (by_entry base d f o).table
 above_entry base d f None k = above_insertion base d f k
 above_entry base d f (Some a) k =
-    cond_both (nat_le a base && may_name d.table a) (writes_naming d a (IndexedDynamic (base - a))) (insertion_or_literal base d f) (λ (x : Draft). NamesAbove base x.table)
+    cond_both (nat_le a base && may_name d.table a) (writes_naming d a (IndexedDynamic (base - a)))
+    (insertion_or_literal base d f) (λ (x : Draft). NamesAbove base x.table)
     (λ _. above_naming base d.table a k) (λ _. above_insertion base d f k)
 
 above_field : (base : ℕ) (d : Draft) (f : Field) → NamesAbove base d.table → NamesAbove base (rule_field base d f).table
@@ -186,11 +264,14 @@ above_field base d f k = static (static_place f)
     static (Some i) = k
     static None = above_entry base d f (newest d.table (is_field f)) k
 
-fields_same : (base : ℕ) (d : Draft) (fs : List Field) → NamesAbove base d.table → handle_fields base d fs ≡ rule_fields base d fs
+fields_same : (base : ℕ) (d : Draft) (fs : List Field) → NamesAbove base d.table
+    → handle_fields base d fs ≡ rule_fields base d fs
 fields_same base d [] k = refl
 fields_same base d (f ∷ fs) k =
-    ap (λ x. handle_fields base x fs) (handle_same base d f k) ∙ fields_same base (rule_field base d f) fs (above_field base d f k)
+    ap (λ x. handle_fields base x fs) (handle_same base d f k)
+    ∙ fields_same base (rule_field base d f) fs (above_field base d f k)
 
 pub handle_is_rule : HandleIsTheRule
 unfolding rule
-handle_is_rule t fs = fields_same (count t) (blank t) fs (λ a low high. absurd (omega (arith, low, high, count_unnamed t)))
+handle_is_rule t fs =
+    fields_same (count t) (blank t) fs (λ a low high. absurd (omega (arith, low, high, count_unnamed t)))

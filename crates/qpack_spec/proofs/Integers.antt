@@ -1,17 +1,20 @@
 -- Reading integers from left to right is the relation: what is read is spelled so, and what is spelled so is read.
-use Rattle.std.proofs.Common.{◌≡◌, ℕ, zero, suc, ◌+◌, ◌*◌, ◌/◌, ◌%◌, ◌^◌, ◌<◌, ◌≤◌, ltb, List, [], ◌∷◌, ◌++◌, length, take, Result, Ok, Err, refl, sym, ap, ◌∙◌, arith, lit≤, inl, inr}
+use Rattle.std.proofs.Common.{◌≡◌, ℕ, zero, suc, ◌+◌, ◌*◌, ◌/◌, ◌%◌, ◌^◌, ◌<◌, ◌≤◌, ltb, List, [], ◌∷◌, ◌++◌, length}
+use Rattle.std.proofs.Common.{take, Result, Ok, Err, refl, sym, ap, ◌∙◌, arith, lit≤, inl, inr}
 use Rattle.std.specs.List.{AllByRecursion}
 use Rattle.std.proofs.lemmas.Bool.{ltb-false, le-ltb, ltb-true, lt-ltb}
 use Rattle.std.proofs.lemmas.List.{append_cancel_right, take_at}
 use Rattle.std.proofs.lemmas.Nat.{pow_pos, mod_below}
 use Rattle.qpack_spec.specs.Bytes.{Begins, ◌>>=◌}
-use Rattle.qpack_spec.specs.Integer.{IntegerFault, Overflow, UnexpectedEnd, full, EndsAtLast, groups_sum, SpellsInteger, OverflowsInteger, TruncatesInteger, groups_at, integer_at}
-use Rattle.qpack_spec.specs.IntegerLaws.{IntegersHaveOneValue, NoIntegerBeginsAnother, ReadingFindsSpellings, ReadingFindsFaults}
+use Rattle.qpack_spec.specs.Integer.{IntegerFault, Overflow, UnexpectedEnd, full, EndsAtLast, groups_sum, SpellsInteger}
+use Rattle.qpack_spec.specs.Integer.{OverflowsInteger, TruncatesInteger, groups_at, integer_at}
+use Rattle.qpack_spec.specs.IntegerLaws.{IntegersHaveOneValue, NoIntegerBeginsAnother, ReadingFindsSpellings}
+use Rattle.qpack_spec.specs.IntegerLaws.{ReadingFindsFaults}
 use Rattle.qpack_spec.proofs.Results.{bind_ok, bind_err, chosen, ok_pair, ok_triple}
 
 -- ---- groups
 
-pub record TakesGroups (k : ℕ) (cs : List ℕ) (sum : ℕ) (rest : List ℕ) : Type 0 where
+record TakesGroups (k : ℕ) (cs : List ℕ) (sum : ℕ) (rest : List ℕ) : Type 0 where
   pub text : List ℕ
   pub parts : cs ≡ text ++ rest
   pub ends : EndsAtLast text
@@ -22,7 +25,8 @@ pub ends_cons : (c : ℕ) (cs : List ℕ) → 128 ≤ c → EndsAtLast cs → En
 ends_cons c [] h e = absurd e
 ends_cons c (d ∷ cs) h e = (h, e)
 
-pub groups_take : (k : ℕ) (cs : List ℕ) (sum : ℕ) (rest : List ℕ) → groups_at k cs ≡ Ok (sum, rest) → TakesGroups k cs sum rest
+groups_take : (k : ℕ) (cs : List ℕ) (sum : ℕ) (rest : List ℕ) → groups_at k cs ≡ Ok (sum, rest)
+    → TakesGroups k cs sum rest
 unfolding groups_at
 groups_take zero cs sum rest e = absurd cc
 groups_take (suc k) [] sum rest e = absurd cc
@@ -31,7 +35,13 @@ groups_take (suc k) (c ∷ cs) sum rest e =
       | inl h ↦
           let low : c < 128 = ltb-true _ _ h.0 in
           let p = ok_pair c sum cs rest h.1 in
-          record { text = c ∷ []; parts = ap (λ (t : List ℕ). c ∷ t) p.1; ends = low; few = omega arith; sum_is = omega (arith, p.0) }
+          record {
+            text = c ∷ [];
+            parts = ap (λ (t : List ℕ). c ∷ t) p.1;
+            ends = low;
+            few = omega arith;
+            sum_is = omega (arith, p.0);
+          }
       | inr h ↦
           let high : 128 ≤ c = ltb-false _ _ h.0 in
           let b = bind_ok (groups_at k cs) (λ r. Ok (c % 128 + 128 * r.0, r.1)) (sum, rest) h.1 in
@@ -39,10 +49,19 @@ groups_take (suc k) (c ∷ cs) sum rest e =
           let p = ok_pair (c % 128 + 128 * b.0.0) sum b.0.1 rest b.2 in
           let s = p.0 in
           let r = p.1 in
-          record { text = c ∷ t.text; parts = ap (λ (u : List ℕ). c ∷ u) t.parts ∙ ap (λ (u : List ℕ). c ∷ (t.text ++ u)) r; ends = ends_cons c t.text high t.ends; few = omega (arith, t.few); sum_is = sym s ∙ ap (λ (n : ℕ). c % 128 + 128 * n) t.sum_is }
+          record {
+            text = c ∷ t.text;
+            parts = ap (λ (u : List ℕ). c ∷ u) t.parts
+                ∙ ap (λ (u : List ℕ). c ∷ (t.text ++ u)) r;
+            ends = ends_cons c t.text high t.ends;
+            few =
+                omega (arith, t.few);
+            sum_is = sym s ∙ ap (λ (n : ℕ). c % 128 + 128 * n) t.sum_is;
+          }
     ]
 
-pub groups_again : (k : ℕ) (text rest : List ℕ) → EndsAtLast text → length text ≤ k → groups_at k (text ++ rest) ≡ Ok (groups_sum text, rest)
+groups_again : (k : ℕ) (text rest : List ℕ) → EndsAtLast text → length text ≤ k
+    → groups_at k (text ++ rest) ≡ Ok (groups_sum text, rest)
 unfolding groups_at
 groups_again k [] rest e few = absurd e
 groups_again zero (c ∷ cs) rest e few = absurd (omega arith)
@@ -52,21 +71,23 @@ groups_again (suc k) (c ∷ []) rest e few =
 groups_again (suc k) (c ∷ d ∷ cs) rest e few =
     rw (le-ltb c 128 e.0, groups_again k (d ∷ cs) rest e.1 (omega arith)) refl
 
-pub groups_overflow : (k : ℕ) (text rest : List ℕ) → length text ≡ k → AllByRecursion (λ c. 128 ≤ c) text → groups_at k (text ++ rest) ≡ Err Overflow
+groups_overflow : (k : ℕ) (text rest : List ℕ) → length text ≡ k → AllByRecursion (λ c. 128 ≤ c) text
+    → groups_at k (text ++ rest) ≡ Err Overflow
 unfolding groups_at
 groups_overflow zero [] rest len all = refl
 groups_overflow zero (c ∷ cs) rest len all = absurd (omega arith)
 groups_overflow (suc k) [] rest len all = absurd (omega arith)
-groups_overflow (suc k) (c ∷ cs) rest len all = rw (le-ltb c 128 all.0, groups_overflow k cs rest (omega arith) all.1) refl
+groups_overflow (suc k) (c ∷ cs) rest len all =
+    rw (le-ltb c 128 all.0, groups_overflow k cs rest (omega arith) all.1) refl
 
-pub record PassesGroups (k : ℕ) (cs : List ℕ) : Type 0 where
+record PassesGroups (k : ℕ) (cs : List ℕ) : Type 0 where
   pub text : List ℕ
   pub rest : List ℕ
   pub parts : cs ≡ text ++ rest
   pub len : length text ≡ k
   pub high : AllByRecursion (λ c. 128 ≤ c) text
 
-pub groups_pass : (k : ℕ) (cs : List ℕ) → groups_at k cs ≡ Err Overflow → PassesGroups k cs
+groups_pass : (k : ℕ) (cs : List ℕ) → groups_at k cs ≡ Err Overflow → PassesGroups k cs
 unfolding groups_at
 groups_pass zero cs e = record { text = []; rest = cs; parts = refl; len = refl; high = tt }
 groups_pass (suc k) [] e = absurd cc
@@ -75,12 +96,18 @@ groups_pass (suc k) (c ∷ cs) e =
       | inl h ↦ absurd (cc (h.1))
       | inr h ↦
           let p = groups_pass k cs (bind_err (groups_at k cs) (λ r. (c % 128 + 128 * r.0, r.1)) Overflow h.1) in
-          record { text = c ∷ p.text; rest = p.rest; parts = ap (λ (u : List ℕ). c ∷ u) p.parts; len = omega (arith, p.len); high = (ltb-false _ _ h.0, p.high) }
+          record {
+            text = c ∷ p.text;
+            rest = p.rest;
+            parts = ap (λ (u : List ℕ). c ∷ u) p.parts;
+            len = omega (arith, p.len);
+            high = (ltb-false _ _ h.0, p.high);
+          }
     ]
 
 -- ---- integers
 
-pub full_prefix : (n b : ℕ) → full n ≤ b % 2 ^ n → b % 2 ^ n ≡ full n
+full_prefix : (n b : ℕ) → full n ≤ b % 2 ^ n → b % 2 ^ n ≡ full n
 full_prefix n b h = let p = pow_pos n in let m = mod_below b (2 ^ n) p in omega arith
 
 pub record TakesInteger (n : ℕ) (bytes : List ℕ) (flags value : ℕ) (rest : List ℕ) : Type 0 where
@@ -88,14 +115,27 @@ pub record TakesInteger (n : ℕ) (bytes : List ℕ) (flags value : ℕ) (rest :
   pub parts : bytes ≡ text ++ rest
   pub spells : SpellsInteger n text flags value
 
-pub integer_takes : (n : ℕ) (bytes : List ℕ) (flags value : ℕ) (rest : List ℕ) → integer_at n bytes ≡ Ok (flags, value, rest) → TakesInteger n bytes flags value rest
+pub integer_takes : (n : ℕ) (bytes : List ℕ) (flags value : ℕ) (rest : List ℕ)
+    → integer_at n bytes ≡ Ok (flags, value, rest) → TakesInteger n bytes flags value rest
 unfolding integer_at
 integer_takes n [] flags value rest e = absurd cc
 integer_takes n (b ∷ cs) flags value rest e =
-    elim (chosen (ltb (b % 2 ^ n) (full n)) (Ok (b / 2 ^ n, b % 2 ^ n, cs)) (groups_at 9 cs >>= λ r. Ok (b / 2 ^ n, full n + r.0, r.1)) (Ok (flags, value, rest)) e) [
+    elim (chosen (ltb (b % 2 ^ n) (full n)) (Ok (b / 2 ^ n, b % 2 ^ n, cs))
+    (groups_at 9 cs >>= λ r. Ok (b / 2 ^ n, full n + r.0, r.1)) (Ok (flags, value, rest)) e) [
       | inl h ↦
           let p = ok_triple (b / 2 ^ n) flags (b % 2 ^ n) value cs rest h.1 in
-          record { text = b ∷ []; parts = ap (λ (t : List ℕ). b ∷ t) p.2; spells = record { stands = (sym p.0, inl (record { alone = refl; below = ltb-true _ _ h.0; is = sym p.1 })); few = lit≤ tt } }
+          record {
+            text = b ∷ [];
+            parts = ap (λ (t : List ℕ). b ∷ t) p.2;
+            spells = record {
+              stands = (
+                sym p.0,
+                inl
+                    (record { alone = refl; below = ltb-true _ _ h.0; is = sym p.1 }),
+              );
+              few = lit≤ tt;
+            };
+          }
       | inr h ↦
           let k = bind_ok (groups_at 9 cs) (λ r. Ok (b / 2 ^ n, full n + r.0, r.1)) (flags, value, rest) h.1 in
           let q = ok_triple (b / 2 ^ n) flags (full n + k.0.0) value k.0.1 rest k.2 in
@@ -104,10 +144,28 @@ integer_takes n (b ∷ cs) flags value rest e =
           let r = q.2 in
           let t = groups_take 9 cs k.0.0 k.0.1 k.1 in
           let p : b % 2 ^ n ≡ full n = full_prefix n b (ltb-false _ _ h.0) in
-          record { text = b ∷ t.text; parts = ap (λ (u : List ℕ). b ∷ u) t.parts ∙ ap (λ (u : List ℕ). b ∷ (t.text ++ u)) r; spells = record { stands = (sym f, inr (record { prefix = p; ends = t.ends; sum = sym v ∙ ap (λ (m : ℕ). full n + m) t.sum_is })); few = omega (arith, t.few) } }
+          record {
+            text = b ∷ t.text;
+            parts = ap (λ (u : List ℕ). b ∷ u) t.parts
+                ∙ ap (λ (u : List ℕ). b ∷ (t.text ++ u)) r;
+            spells =
+                record {
+                  stands = (
+                    sym f,
+                    inr (record {
+                      prefix = p;
+                      ends = t.ends;
+                      sum = sym v
+                          ∙ ap (λ (m : ℕ). full n + m) t.sum_is;
+                    }),
+                  );
+                  few = omega (arith, t.few);
+                };
+          }
     ]
 
-pub integer_again : (n : ℕ) (text rest : List ℕ) (flags value : ℕ) → SpellsInteger n text flags value → integer_at n (text ++ rest) ≡ Ok (flags, value, rest)
+pub integer_again : (n : ℕ) (text rest : List ℕ) (flags value : ℕ) → SpellsInteger n text flags value
+    → integer_at n (text ++ rest) ≡ Ok (flags, value, rest)
 unfolding integer_at
 integer_again n [] rest flags value s = absurd s.stands
 integer_again n (b ∷ cs) rest flags value s =
@@ -115,10 +173,16 @@ integer_again n (b ∷ cs) rest flags value s =
       | inl h ↦
           rw (h.alone, lt-ltb _ _ h.below, s.stands.0, h.is) refl
       | inr h ↦
-          rw (le-ltb (b % 2 ^ n) (full n) (omega (arith, h.prefix)), groups_again 9 cs rest h.ends (omega (arith, s.few)), s.stands.0, h.sum) refl
+          rw (
+            le-ltb (b % 2 ^ n) (full n) (omega (arith, h.prefix)),
+            groups_again 9 cs rest h.ends (omega (arith, s.few)),
+            s.stands.0,
+            h.sum,
+          ) refl
     ]
 
-pub integer_overflows : (n : ℕ) (text rest : List ℕ) → OverflowsInteger n text → integer_at n (text ++ rest) ≡ Err Overflow
+pub integer_overflows : (n : ℕ) (text rest : List ℕ) → OverflowsInteger n text
+    → integer_at n (text ++ rest) ≡ Err Overflow
 unfolding integer_at
 integer_overflows n [] rest o = absurd o
 integer_overflows n (b ∷ cs) rest o =
@@ -128,20 +192,27 @@ pub overflow_begins : (n : ℕ) (bytes : List ℕ) → integer_at n bytes ≡ Er
 unfolding integer_at
 overflow_begins n [] e = absurd cc
 overflow_begins n (b ∷ cs) e =
-    elim (chosen (ltb (b % 2 ^ n) (full n)) (Ok (b / 2 ^ n, b % 2 ^ n, cs)) (groups_at 9 cs >>= λ r. Ok (b / 2 ^ n, full n + r.0, r.1)) (Err Overflow) e) [
+    elim (chosen (ltb (b % 2 ^ n) (full n)) (Ok (b / 2 ^ n, b % 2 ^ n, cs))
+    (groups_at 9 cs >>= λ r. Ok (b / 2 ^ n, full n + r.0, r.1)) (Err Overflow) e) [
       | inl h ↦ absurd (cc (h.1))
       | inr h ↦
           let p = groups_pass 9 cs (bind_err (groups_at 9 cs) (λ r. (b / 2 ^ n, full n + r.0, r.1)) Overflow h.1) in
-          record { text = b ∷ p.text; rest = p.rest; parts = ap (λ (u : List ℕ). b ∷ u) p.parts; holds = (full_prefix n b (ltb-false _ _ h.0), p.len, p.high) }
+          record {
+            text = b ∷ p.text;
+            rest = p.rest;
+            parts = ap (λ (u : List ℕ). b ∷ u) p.parts;
+            holds = (full_prefix n b (ltb-false _ _ h.0), p.len, p.high);
+          }
     ]
 
-pub end_truncated : (n : ℕ) (bytes : List ℕ) → integer_at n bytes ≡ Err UnexpectedEnd → TruncatesInteger n bytes
+end_truncated : (n : ℕ) (bytes : List ℕ) → integer_at n bytes ≡ Err UnexpectedEnd → TruncatesInteger n bytes
 end_truncated n bytes e s rest parts = (
-  λ flags value spells. absurd (let a = integer_again n s rest flags value spells in let b = ap (integer_at n) parts in cc),
+  λ flags value spells. absurd (let a = integer_again n s rest flags value spells in let b = ap (integer_at n) parts in
+      cc),
   λ overflows. absurd (let a = integer_overflows n s rest overflows in let b = ap (integer_at n) parts in cc),
 )
 
-pub truncated_end : (n : ℕ) (bytes : List ℕ) → TruncatesInteger n bytes → integer_at n bytes ≡ Err UnexpectedEnd
+truncated_end : (n : ℕ) (bytes : List ℕ) → TruncatesInteger n bytes → integer_at n bytes ≡ Err UnexpectedEnd
 truncated_end n bytes t = go (integer_at n bytes) refl
   where
     go : (r : Result (ℕ × ℕ × List ℕ) IntegerFault) → integer_at n bytes ≡ r → r ≡ Err UnexpectedEnd

@@ -7,6 +7,7 @@ pub mod Windows
 pub mod Readings
 pub mod Prefixes
 pub mod Places
+pub mod References
 pub mod Drafts
 pub mod WordTable
 pub mod Bits
@@ -19,10 +20,10 @@ pub mod WrittenStrings
 pub mod Forms
 pub mod FormLaws
 pub mod Cuttings
+pub mod StreamReadings
 pub mod WrittenForms
 pub mod BlockReadings
 pub mod BlockLaws
-pub mod Rows
 pub mod FormRows
 pub mod BlockRows
 pub mod TableRows
@@ -32,9 +33,11 @@ pub mod WindowLaws
 pub mod TableLaws
 pub mod StatelessPairs
 pub mod StatelessMeanings
+pub mod StatelessTables
 pub mod StatelessRows
 pub mod Sizes
 pub mod Handles
 pub mod HandleRows
 pub mod SessionAnswers
+pub mod SessionRows
 pub mod StringRows

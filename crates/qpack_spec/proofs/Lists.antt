@@ -1,8 +1,10 @@
 -- What holds of each element of a list, and of elements found by their places.
-use Rattle.std.proofs.Common.{◌≤◌, ℕ, zero, ◌+◌, ◌<◌, ◌≡◌, suc, Bool, true, false, cond, List, [], ◌∷◌, ◌++◌, length, drop, Some, refl, ap, subst, arith}
-use Rattle.std.specs.List.{AllByRecursion, slice_get, filter}
+use Rattle.std.proofs.Common.{◌≤◌, ℕ, zero, ◌+◌, ◌<◌, ◌≡◌, suc, List, [], ◌∷◌, ◌++◌, length}
+use Rattle.std.proofs.Common.{drop, Some, refl, ap, subst, arith}
+use Rattle.std.specs.List.{AllByRecursion, slice_get}
 
-pub every_append : {X : Type 0} (P : X → Type 0) (xs ys : List X) → AllByRecursion P xs → AllByRecursion P ys → AllByRecursion P (xs ++ ys)
+pub every_append : {X : Type 0} (P : X → Type 0) (xs ys : List X) → AllByRecursion P xs → AllByRecursion P ys
+    → AllByRecursion P (xs ++ ys)
 every_append P [] ys h k = k
 every_append P (x ∷ xs) ys h k = (h.0, every_append P xs ys h.1 k)
 
@@ -14,26 +16,25 @@ pub every_right : {X : Type 0} (P : X → Type 0) (xs ys : List X) → AllByRecu
 every_right P [] ys h = h
 every_right P (x ∷ xs) ys h = every_right P xs ys h.1
 
-pub every_weaker : {X : Type 0} (P Q : X → Type 0) → ((x : X) → P x → Q x) → (xs : List X) → AllByRecursion P xs → AllByRecursion Q xs
+pub every_weaker : {X : Type 0} (P Q : X → Type 0) → ((x : X) → P x → Q x) → (xs : List X) → AllByRecursion P xs
+    → AllByRecursion Q xs
 every_weaker P Q f [] h = tt
 every_weaker P Q f (x ∷ xs) h = (f x h.0, every_weaker P Q f xs h.1)
 
 -- from two facts of each
-pub every_both : {X : Type 0} (P Q R : X → Type 0) → ((x : X) → P x → Q x → R x) → (xs : List X) → AllByRecursion P xs → AllByRecursion Q xs → AllByRecursion R xs
+pub every_both : {X : Type 0} (P Q R : X → Type 0) → ((x : X) → P x → Q x → R x) → (xs : List X) → AllByRecursion P xs
+    → AllByRecursion Q xs → AllByRecursion R xs
 every_both P Q R f [] h k = tt
 every_both P Q R f (x ∷ xs) h k = (f x h.0 k.0, every_both P Q R f xs h.1 k.1)
 
-pub every_drop : {X : Type 0} (P : X → Type 0) (n : ℕ) (xs : List X) → AllByRecursion P xs → AllByRecursion P (drop n xs)
+pub every_drop : {X : Type 0} (P : X → Type 0) (n : ℕ) (xs : List X) → AllByRecursion P xs
+    → AllByRecursion P (drop n xs)
 every_drop P zero xs h = h
 every_drop P (suc n) [] h = tt
 every_drop P (suc n) (x ∷ xs) h = every_drop P n xs h.1
 
-pub every_filter : {X : Type 0} (P : X → Type 0) (p : X → Bool) (xs : List X) → AllByRecursion P xs → AllByRecursion P (filter p xs)
-every_filter P p [] h = tt
-every_filter P p (x ∷ xs) h = let rest = every_filter P p xs h.1 in
-    elim (p x) as (λ b. AllByRecursion P (cond b (x ∷ filter p xs) (filter p xs))) [ true ↦ (h.0, rest) | false ↦ rest ]
-
-pub every_get : {X : Type 0} (P : X → Type 0) (xs : List X) (i : ℕ) (x : X) → slice_get xs i ≡ Some x → AllByRecursion P xs → P x
+pub every_get : {X : Type 0} (P : X → Type 0) (xs : List X) (i : ℕ) (x : X) → slice_get xs i ≡ Some x
+    → AllByRecursion P xs → P x
 every_get P [] i x e h = absurd (cc)
 every_get P (y ∷ ys) zero x e h = let q : y ≡ x = cc in subst P q h.0
 every_get P (y ∷ ys) (suc i) x e h = every_get P ys i x e h.1
@@ -44,7 +45,8 @@ get_drop zero xs i = ap (slice_get xs) (omega arith)
 get_drop (suc d) [] i = refl
 get_drop (suc d) (x ∷ xs) i = let e : suc d + i ≡ suc (d + i) = omega arith in rw e (get_drop d xs i)
 
-pub get_append : {X : Type 0} (xs ys : List X) (i : ℕ) (x : X) → slice_get xs i ≡ Some x → slice_get (xs ++ ys) i ≡ Some x
+pub get_append : {X : Type 0} (xs ys : List X) (i : ℕ) (x : X) → slice_get xs i ≡ Some x
+    → slice_get (xs ++ ys) i ≡ Some x
 get_append [] ys i x e = absurd (cc)
 get_append (y ∷ xs) ys zero x e = e
 get_append (y ∷ xs) ys (suc i) x e = get_append xs ys i x e
@@ -59,7 +61,8 @@ get_append_end [] x = refl
 get_append_end (y ∷ xs) x = get_append_end xs x
 
 -- of two ways to cut a list, the front of the shorter cut is a front of the other
-pub front_of : {X : Type 0} (as' bs cs ds : List X) → as' ++ bs ≡ cs ++ ds → length as' ≤ length cs → (x : List X) × (as' ++ x ≡ cs)
+pub front_of : {X : Type 0} (as' bs cs ds : List X) → as' ++ bs ≡ cs ++ ds → length as' ≤ length cs
+    → (x : List X) × (as' ++ x ≡ cs)
 front_of [] bs cs ds e h = (cs, refl)
 front_of (a ∷ as') bs [] ds e h = absurd (omega arith)
 front_of (a ∷ as') bs (c ∷ cs) ds e h =

@@ -1,9 +1,12 @@
 -- Reading a payload's bits from left to right gives the text that they mean, and no other.
-use Rattle.std.proofs.Common.{◌≡◌, ℕ, zero, suc, ◌<◌, Bool, true, false, cond, List, [], ◌∷◌, ◌++◌, length, None, Result, Ok, Err, refl, sym, ap, subst, ◌∙◌, arith, append_assoc, append-nil, inl, inr}
+use Rattle.std.proofs.Common.{◌≡◌, ℕ, zero, suc, ◌<◌, Bool, true, false, cond, List, [], ◌∷◌, ◌++◌, length, None}
+use Rattle.std.proofs.Common.{Result, Ok, Err, refl, sym, ap, subst, ◌∙◌, arith, append_assoc, append-nil, inl, inr}
 use Rattle.std.specs.Prelude.{◌==◌}
 use Rattle.std.proofs.lemmas.Bool.{eqb-true}
 use Rattle.std.proofs.lemmas.List.Concat.{flat_map-cons}
-use Rattle.qpack_spec.specs.Huffman.{HuffmanFault, MissingBits, bytes_by_length, word_of, word_at, is_padding, item_of, item_at, with_front, text_after, text_at, text_of_bits, ones, AreBytes, bits_of_text, BitsMean}
+use Rattle.qpack_spec.specs.Huffman.{HuffmanFault, MissingBits, bytes_by_length, word_of, word_at, is_padding, item_of}
+use Rattle.qpack_spec.specs.Huffman.{item_at, with_front, text_after, text_at, text_of_bits, ones, AreBytes}
+use Rattle.qpack_spec.specs.Huffman.{bits_of_text, BitsMean}
 use Rattle.qpack_spec.proofs.Results.{chosen, ok_is}
 use Rattle.qpack_spec.proofs.Bits.{AreBits, AreOnes, bits_behind, ones_are, ones_all, ones_length}
 use Rattle.qpack_spec.proofs.WordTable.{ones_missing}
@@ -43,7 +46,8 @@ pad_missing : (bits : List ℕ) → is_padding 8 bits ≡ true → word_at bytes
 pad_missing bits e = let p = end_is bits e in ap (word_at bytes_by_length 0 0) p.is ∙ ones_missing p.count p.few
 
 -- what begins with a word is not the end
-pub word_no_end : (bits : List ℕ) (b : ℕ) (rest : List ℕ) → word_at bytes_by_length 0 0 bits ≡ Ok (b, rest) → is_padding 8 bits ≡ false
+pub word_no_end : (bits : List ℕ) (b : ℕ) (rest : List ℕ) → word_at bytes_by_length 0 0 bits ≡ Ok (b, rest)
+    → is_padding 8 bits ≡ false
 word_no_end bits b rest e = go (is_padding 8 bits) refl
   where
     go : (p : Bool) → is_padding 8 bits ≡ p → p ≡ false
@@ -52,24 +56,29 @@ word_no_end bits b rest e = go (is_padding 8 bits) refl
 
 -- ---- texts
 
-pub front_is : (b : ℕ) (r : Result (List ℕ) HuffmanFault) (text : List ℕ) → with_front (b ∷ []) r ≡ Ok text → (t : List ℕ) × (r ≡ Ok t) × (b ∷ t ≡ text)
+front_is : (b : ℕ) (r : Result (List ℕ) HuffmanFault) (text : List ℕ) → with_front (b ∷ []) r ≡ Ok text
+    → (t : List ℕ) × (r ≡ Ok t) × (b ∷ t ≡ text)
 front_is b (Ok t) text e = (t, refl, ok_is (b ∷ t) text e)
 front_is b (Err f) text e = absurd cc
 
 -- a word, and then bits that mean a text
-pub more_text : (bits rest text : List ℕ) (b : ℕ) → b < 256 → bits ≡ word_of b ++ rest → BitsMean rest text → BitsMean bits (b ∷ text)
+more_text : (bits rest text : List ℕ) (b : ℕ) → b < 256 → bits ≡ word_of b ++ rest → BitsMean rest text
+    → BitsMean bits (b ∷ text)
 more_text bits rest text b h e m = record {
   bytes = (h, m.bytes);
   padding = m.padding;
   few = m.few;
-  parts = e ∙ ap (λ (l : List ℕ). word_of b ++ l) m.parts ∙ sym (append_assoc (word_of b) (bits_of_text text) (ones m.padding))
+  parts = e ∙ ap (λ (l : List ℕ). word_of b ++ l) m.parts
+      ∙ sym (append_assoc (word_of b) (bits_of_text text) (ones m.padding))
       ∙ ap (λ (l : List ℕ). l ++ ones m.padding) (sym (flat_map-cons word_of b text));
 }
 
 abbrev TakesAt : ℕ → Type 0
 TakesAt k = (bits text : List ℕ) → length bits < k → AreBits bits → text_at k bits ≡ Ok text → BitsMean bits text
 
-at_word : (k : ℕ) (bits text : List ℕ) (r : Result (ℕ × List ℕ) HuffmanFault) → TakesAt k → length bits < suc k → AreBits bits → word_at bytes_by_length 0 0 bits ≡ r → text_after (item_of r).0 (text_at k (item_of r).1) ≡ Ok text → BitsMean bits text
+at_word : (k : ℕ) (bits text : List ℕ) (r : Result (ℕ × List ℕ) HuffmanFault) → TakesAt k → length bits < suc k
+    → AreBits bits → word_at bytes_by_length 0 0 bits ≡ r
+    → text_after (item_of r).0 (text_at k (item_of r).1) ≡ Ok text → BitsMean bits text
 at_word k bits text (Ok x) ih lt ok w h =
     let f = front_is x.0 (text_at k x.1) text h in
     let t = word_found bits x.0 x.1 ok w in
@@ -78,15 +87,18 @@ at_word k bits text (Ok x) ih lt ok w h =
     subst (BitsMean bits) f.2 (more_text bits x.1 f.0 x.0 t.byte t.parts (ih x.1 f.0 (omega arith) left f.1))
 at_word k bits text (Err f) ih lt ok w h = absurd cc
 
-at_item : (k : ℕ) (bits text : List ℕ) (p : Bool) → TakesAt k → length bits < suc k → AreBits bits → is_padding 8 bits ≡ p
-    → text_after (cond p (None, []) (item_of (word_at bytes_by_length 0 0 bits))).0 (text_at k (cond p (None, []) (item_of (word_at bytes_by_length 0 0 bits))).1) ≡ Ok text
+at_item : (k : ℕ) (bits text : List ℕ) (p : Bool) → TakesAt k → length bits < suc k → AreBits bits
+    → is_padding 8 bits ≡ p
+    → text_after (cond p (None, []) (item_of (word_at bytes_by_length 0 0 bits))).0
+    (text_at k (cond p (None, []) (item_of (word_at bytes_by_length 0 0 bits))).1) ≡ Ok text
     → BitsMean bits text
 at_item k bits text true ih lt ok p h =
     let q = end_is bits p in
     subst (BitsMean bits) (ok_is [] text h) (record { bytes = tt; padding = q.count; few = q.few; parts = q.is })
 at_item k bits text false ih lt ok p h = at_word k bits text (word_at bytes_by_length 0 0 bits) ih lt ok refl h
 
-text_takes : (k : ℕ) (bits text : List ℕ) → length bits < k → AreBits bits → text_at k bits ≡ Ok text → BitsMean bits text
+text_takes : (k : ℕ) (bits text : List ℕ) → length bits < k → AreBits bits → text_at k bits ≡ Ok text
+    → BitsMean bits text
 unfolding text_at item_at
 text_takes zero bits text lt ok e = absurd (omega arith)
 text_takes (suc k) bits text lt ok e = at_item k bits text (is_padding 8 bits) (text_takes k) lt ok refl e
@@ -102,7 +114,8 @@ pub record ReadsOn (k : ℕ) (text rest bits : List ℕ) : Type 0 where
   pub enough : length rest < left
   pub is : text_at k bits ≡ with_front text (text_at left rest)
 
-fronts_join : (b : ℕ) (text : List ℕ) (r : Result (List ℕ) HuffmanFault) → with_front (b ∷ []) (with_front text r) ≡ with_front (b ∷ text) r
+fronts_join : (b : ℕ) (text : List ℕ) (r : Result (List ℕ) HuffmanFault)
+    → with_front (b ∷ []) (with_front text r) ≡ with_front (b ∷ text) r
 fronts_join b text (Ok t) = refl
 fronts_join b text (Err f) = refl
 
@@ -110,18 +123,27 @@ front_none : (r : Result (List ℕ) HuffmanFault) → r ≡ with_front [] r
 front_none (Ok t) = refl
 front_none (Err f) = refl
 
-word_step : (k b : ℕ) (bits rest : List ℕ) → is_padding 8 bits ≡ false → word_at bytes_by_length 0 0 bits ≡ Ok (b, rest) → text_at (suc k) bits ≡ with_front (b ∷ []) (text_at k rest)
+word_step : (k b : ℕ) (bits rest : List ℕ) → is_padding 8 bits ≡ false
+    → word_at bytes_by_length 0 0 bits ≡ Ok (b, rest) → text_at (suc k) bits ≡ with_front (b ∷ []) (text_at k rest)
 unfolding text_at item_at
 word_step k b bits rest p e = rw (p, e) refl
 
-pub words_read : (k : ℕ) (text rest bits : List ℕ) → length bits < k → AreBytes text → bits ≡ bits_of_text text ++ rest → ReadsOn k text rest bits
+pub words_read : (k : ℕ) (text rest bits : List ℕ) → length bits < k → AreBytes text → bits ≡ bits_of_text text ++ rest
+    → ReadsOn k text rest bits
 words_read zero text rest bits lt ok e = absurd (omega arith)
 words_read (suc k) [] rest bits lt ok e =
-    record { left = suc k; enough = omega (arith, ap length e); is = ap (text_at (suc k)) e ∙ front_none (text_at (suc k) rest) }
+    record {
+      left = suc k;
+      enough = omega (arith, ap length e);
+      is = ap (text_at (suc k)) e
+          ∙ front_none (text_at (suc k) rest);
+    }
 words_read (suc k) (b ∷ text) rest bits lt ok e =
     let parts : bits ≡ word_of b ++ (bits_of_text text ++ rest) =
-    e ∙ ap (λ (l : List ℕ). l ++ rest) (flat_map-cons word_of b text) ∙ append_assoc (word_of b) (bits_of_text text) rest in
-    let read : word_at bytes_by_length 0 0 bits ≡ Ok (b, bits_of_text text ++ rest) = ap (word_at bytes_by_length 0 0) parts ∙ word_again b (bits_of_text text ++ rest) ok.0 in
+    e ∙ ap (λ (l : List ℕ). l ++ rest) (flat_map-cons word_of b text)
+    ∙ append_assoc (word_of b) (bits_of_text text) rest in
+    let read : word_at bytes_by_length 0 0 bits ≡ Ok (b, bits_of_text text ++ rest) =
+    ap (word_at bytes_by_length 0 0) parts ∙ word_again b (bits_of_text text ++ rest) ok.0 in
     let shorter = word_shorter bytes_by_length 0 0 bits (bits_of_text text ++ rest) b read in
     let t = words_read k text rest (bits_of_text text ++ rest) (omega arith) ok.1 refl in
     record {

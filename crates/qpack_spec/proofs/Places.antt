@@ -1,36 +1,44 @@
 -- Places found in lists and tables, the instruction of an insertion, and what is not held.
-use Rattle.std.proofs.Common.{length-append, ℕ, zero, suc, ◌+◌, ◌-◌, ◌^◌, ◌<◌, ◌≤◌, ◌≡◌, Bool, true, false, List, [], ◌∷◌, ◌++◌, length, drop, take, Option, None, Some, Ok, refl, sym, ap, ◌∙◌, subst, inl, inr, ◌⊎◌, arith, length-drop}
+use Rattle.std.proofs.Common.{length-append, ℕ, zero, suc, ◌+◌, ◌-◌, ◌^◌, ◌<◌, ◌≤◌, ◌≡◌, Bool, true, false, List, []}
+use Rattle.std.proofs.Common.{◌∷◌, ◌++◌, length, drop, take, Option, None, Some, Ok, refl, sym, ap, ◌∙◌, subst, inl}
+use Rattle.std.proofs.Common.{inr, ◌⊎◌, arith, length-drop}
 use Rattle.std.specs.List.{AllByRecursion, slice_get, list_any}
 use Rattle.std.specs.Option.{option_map}
 use Rattle.std.specs.Prelude.{nat_eq, MatchOption}
 use Rattle.std.specs.Str.{bytes_eq}
 use Rattle.std.proofs.lemmas.Slice.Eq.{bytes_eq-Decides}
-use Rattle.std.proofs.lemmas.Bool.{or_cases, eqb-true, cond_both, lt-ltb, le-leb, eq-eqb, ne_eqb, or_parts, and_parts, or_right, or_left, cases_lt, ltb-false}
+use Rattle.std.proofs.lemmas.Bool.{or_cases, eqb-true, cond_both, lt-ltb, le-leb, eq-eqb, ne_eqb, or_parts, and_parts}
+use Rattle.std.proofs.lemmas.Bool.{or_right, or_left, cases_lt, ltb-false}
 use Rattle.std.proofs.lemmas.Option.{slice_get_within, same_Some}
 use Rattle.std.proofs.lemmas.List.{length-map, length-take-le, drop-map, map-append}
 use Rattle.qpack_spec.specs.Field.{Field, field_size, has_name, is_field}
 use Rattle.qpack_spec.specs.StaticTable.{static_table, IsLeastStatic, NoStatic, static_place, static_name_place}
 use Rattle.qpack_spec.specs.Window.{Window, total, recent, insertion, effect, with_value, after, Inserts}
-use Rattle.qpack_spec.specs.Table.{Entry, OpenBlock, Table, fields_in, window, count, has_number, track, tracked, is_held, none_held, can_drop, evicted_for, with_entry, later, last_place, newest}
+use Rattle.qpack_spec.specs.Table.{Entry, OpenBlock, Table, fields_in, window, count, has_number, track, tracked}
+use Rattle.qpack_spec.specs.Table.{is_held, none_held, can_drop, evicted_for, with_entry, later, last_place, newest}
 use Rattle.qpack_spec.specs.Rule.{by_name, by_static_name, by_equal, instruction_for}
 use Rattle.qpack_spec.proofs.StaticPlaces.{place_is_least, name_place_is_least}
 use Rattle.qpack_spec.proofs.Lists.{every_append, every_left, every_right, get_drop, every_both, every_weaker}
 use Rattle.qpack_spec.proofs.Windows.{size_least}
 
 -- an element that passes, and its place
-pub record FoundAt (X : Type 0) (p : X → Bool) (xs : List X) (i : ℕ) : Type 0 where
+record FoundAt (X : Type 0) (p : X → Bool) (xs : List X) (i : ℕ) : Type 0 where
   pub item : X
   pub there : slice_get xs i ≡ Some item
   pub passes : p item ≡ true
 
-pub last_found : {X : Type 0} (p : X → Bool) (xs : List X) (i : ℕ) → last_place p xs ≡ Some i → FoundAt X p xs i
+last_found : {X : Type 0} (p : X → Bool) (xs : List X) (i : ℕ) → last_place p xs ≡ Some i → FoundAt X p xs i
 unfolding last_place
 last_found p [] i h = absurd (cc)
 last_found {X} p (x ∷ xs) i h = pick (last_place p xs) refl (p x) refl (last_found p xs) i h
   where
-    pick : (o : Option ℕ) → last_place p xs ≡ o → (b : Bool) → p x ≡ b → ((j : ℕ) → last_place p xs ≡ Some j → FoundAt X p xs j) → (n : ℕ) → later o b ≡ Some n → FoundAt X p (x ∷ xs) n
-    pick (Some j) e b q rest n k = let r = rest j e in let s : suc j ≡ n = cc in subst (FoundAt X p (x ∷ xs)) s (record { item = r.item; there = r.there; passes = r.passes })
-    pick None e true q rest n k = let s : 0 ≡ n = same_Some 0 n k in subst (FoundAt X p (x ∷ xs)) s (record { item = x; there = refl; passes = q })
+    pick : (o : Option ℕ) → last_place p xs ≡ o → (b : Bool) → p x ≡ b
+        → ((j : ℕ) → last_place p xs ≡ Some j → FoundAt X p xs j) → (n : ℕ) → later o b ≡ Some n
+        → FoundAt X p (x ∷ xs) n
+    pick (Some j) e b q rest n k = let r = rest j e in let s : suc j ≡ n =
+        cc in subst (FoundAt X p (x ∷ xs)) s (record { item = r.item; there = r.there; passes = r.passes })
+    pick None e true q rest n k = let s : 0 ≡ n =
+        same_Some 0 n k in subst (FoundAt X p (x ∷ xs)) s (record { item = x; there = refl; passes = q })
     pick None e false q rest n k = absurd (cc)
 
 -- the static field of a place that was found
@@ -40,22 +48,26 @@ static_found f i e =
     subst (λ (o : Option ℕ). MatchOption o (NoStatic (λ g. g ≡ f)) (IsLeastStatic (λ g. g ≡ f))) e (place_is_least f) in
     is.at.1 ∙ ap Some is.at.2
 
-pub static_name_found : (name : List ℕ) (i : ℕ) → static_name_place name ≡ Some i → (g : Field) × (slice_get static_table i ≡ Some g) × (name ≡ g.name)
+pub static_name_found : (name : List ℕ) (i : ℕ) → static_name_place name ≡ Some i
+    → (g : Field) × (slice_get static_table i ≡ Some g) × (name ≡ g.name)
 static_name_found name i e =
     let is : IsLeastStatic (λ g. g.name ≡ name) i =
-    subst (λ (o : Option ℕ). MatchOption o (NoStatic (λ g. g.name ≡ name)) (IsLeastStatic (λ g. g.name ≡ name))) e (name_place_is_least name) in
+    subst (λ (o : Option ℕ). MatchOption o (NoStatic (λ g. g.name ≡ name)) (IsLeastStatic (λ g. g.name ≡ name))) e
+    (name_place_is_least name) in
     (is.at.0, is.at.1, sym is.at.2)
 
 pub same_name : (n : List ℕ) (g : Field) → has_name n g ≡ true → n ≡ g.name
 same_name n g h = (bytes_eq-Decides n g.name).0 h
 
-field_is : (n m v w : List ℕ) → n ≡ m → v ≡ w → (let f : Field = record { name = n; value = v } in let g : Field = record { name = m; value = w } in f ≡ g)
+field_is : (n m v w : List ℕ) → n ≡ m → v ≡ w
+    → (let f : Field = record { name = n; value = v } in let g : Field = record { name = m; value = w } in f ≡ g)
 field_is n m v w p q = cc
 
 pub same_field : (f g : Field) → is_field f g ≡ true → f ≡ g
 same_field f g h =
     let p = and_parts (bytes_eq f.name g.name) (bytes_eq f.value g.value) h in
-    field_is f.name g.name f.value g.value ((bytes_eq-Decides f.name g.name).0 p.0) ((bytes_eq-Decides f.value g.value).0 p.1)
+    field_is f.name g.name f.value g.value ((bytes_eq-Decides f.name g.name).0 p.0)
+    ((bytes_eq-Decides f.value g.value).0 p.1)
 
 pub named_field : (f g : Field) → f.name ≡ g.name → with_value f.value g ≡ f
 named_field f g e = field_is g.name f.name f.value f.value (sym e) refl
@@ -74,17 +86,27 @@ pub newest_found : (t : Table) (p : Field → Bool) (a : ℕ) → newest t p ≡
 unfolding newest
 newest_found t p a h = pick (last_place p (fields_in t.live)) refl h
   where
-    pick : (o : Option ℕ) → last_place p (fields_in t.live) ≡ o → option_map (λ i. t.dropped + i + 1) o ≡ Some a → FoundEntry t p a
+    pick : (o : Option ℕ) → last_place p (fields_in t.live) ≡ o → option_map (λ i. t.dropped + i + 1) o ≡ Some a
+        → FoundEntry t p a
     pick None e k = absurd cc
     pick (Some i) e k =
         let at = last_found p (fields_in t.live) i e in
         let is : t.dropped + i + 1 ≡ a = same_Some _ _ k in
         let lt : i < length (fields_in t.live) = slice_get_within (fields_in t.live) i at.item at.there in
         let n : length (fields_in t.live) ≡ length t.live = length-map t.live (λ (x : Entry). x.field) in
-        record { item = at.item; place = i; index = is; there = at.there; passes = at.passes; above = omega arith; within = omega arith }
+        record {
+          item = at.item;
+          place = i;
+          index = is;
+          there = at.there;
+          passes = at.passes;
+          above = omega arith;
+          within = omega arith;
+        }
 
 -- an entry that stays, as instructions name it
-recent_kept : (w : Window) (k i : ℕ) (g : Field) → k ≤ length w.live → slice_get (drop k w.live) i ≡ Some g → recent w (length (drop k w.live) - 1 - i) ≡ Some g
+recent_kept : (w : Window) (k i : ℕ) (g : Field) → k ≤ length w.live → slice_get (drop k w.live) i ≡ Some g
+    → recent w (length (drop k w.live) - 1 - i) ≡ Some g
 unfolding recent
 recent_kept w k i g le h =
     let within : i < length (drop k w.live) = slice_get_within (drop k w.live) i g h in
@@ -93,21 +115,25 @@ recent_kept w k i g le h =
     let e : length w.live - 1 - (length (drop k w.live) - 1 - i) ≡ k + i = omega arith in
     rw (lt-ltb _ _ lt, e, ← get_drop) h
 
-name_effect : (w : Window) (f : Field) (k : ℕ) → k ≤ length w.live → (o : Option ℕ) → last_place (has_name f.name) (drop k w.live) ≡ o → effect w (by_name f (length (drop k w.live)) o) ≡ insertion w f
+name_effect : (w : Window) (f : Field) (k : ℕ) → k ≤ length w.live → (o : Option ℕ)
+    → last_place (has_name f.name) (drop k w.live) ≡ o → effect w (by_name f (length (drop k w.live)) o) ≡ insertion w f
 unfolding effect
 name_effect w f k le (Some i) e =
     let at = last_found (has_name f.name) (drop k w.live) i e in
-    rw (recent_kept w k i at.item le at.there) (ap (insertion w) (named_field f at.item (same_name f.name at.item at.passes)))
+    rw (recent_kept w k i at.item le at.there)
+    (ap (insertion w) (named_field f at.item (same_name f.name at.item at.passes)))
 name_effect w f k le None e = refl
 
-static_effect : (w : Window) (f : Field) (k : ℕ) → k ≤ length w.live → (o : Option ℕ) → static_name_place f.name ≡ o → effect w (by_static_name f (drop k w.live) o) ≡ insertion w f
+static_effect : (w : Window) (f : Field) (k : ℕ) → k ≤ length w.live → (o : Option ℕ) → static_name_place f.name ≡ o
+    → effect w (by_static_name f (drop k w.live) o) ≡ insertion w f
 unfolding effect
 static_effect w f k le (Some i) e =
     let at = static_name_found f.name i e in
     rw at.1 (ap (insertion w) (named_field f at.0 at.2))
 static_effect w f k le None e = name_effect w f k le (last_place (has_name f.name) (drop k w.live)) refl
 
-equal_effect : (w : Window) (f : Field) (k : ℕ) → k ≤ length w.live → (o : Option ℕ) → last_place (is_field f) (drop k w.live) ≡ o → effect w (by_equal f (drop k w.live) o) ≡ insertion w f
+equal_effect : (w : Window) (f : Field) (k : ℕ) → k ≤ length w.live → (o : Option ℕ)
+    → last_place (is_field f) (drop k w.live) ≡ o → effect w (by_equal f (drop k w.live) o) ≡ insertion w f
 unfolding effect
 equal_effect w f k le (Some i) e =
     let at = last_found (is_field f) (drop k w.live) i e in
@@ -115,11 +141,16 @@ equal_effect w f k le (Some i) e =
 equal_effect w f k le None e = static_effect w f k le (static_name_place f.name) refl
 
 -- the instruction inserts the field, whichever form it has
-pub instruction_effect : (w : Window) (f : Field) (k : ℕ) → k ≤ length w.live → field_size f ≤ w.capacity → total w < 2 ^ 62 → effect w (instruction_for f (drop k w.live)) ≡ Ok (Inserts f)
+pub instruction_effect : (w : Window) (f : Field) (k : ℕ) → k ≤ length w.live → field_size f ≤ w.capacity
+    → total w < 2 ^ 62 → effect w (instruction_for f (drop k w.live)) ≡ Ok (Inserts f)
 unfolding instruction_for insertion
 instruction_effect w f k le fits few =
     equal_effect w f k le (last_place (is_field f) (drop k w.live)) refl
-    ∙ (rw (ne_eqb w.capacity 0 (λ e. absurd (omega (arith, size_least f))), le-leb (field_size f) w.capacity fits, lt-ltb (total w) (2 ^ 62) few) refl)
+    ∙ (rw (
+      ne_eqb w.capacity 0 (λ e. absurd (omega (arith, size_least f))),
+      le-leb (field_size f) w.capacity fits,
+      lt-ltb (total w) (2 ^ 62) few,
+    ) refl)
 
 pub window_entered : (t : Table) (e : Entry) → window (with_entry t e) ≡ after (window t) (Inserts e.field)
 unfolding window with_entry after
@@ -127,8 +158,14 @@ window_entered t x =
     let f = x.field in
     let k = evicted_for t f in
     let e : fields_in (drop k (t.live ++ x ∷ [])) ≡ drop k (fields_in t.live ++ f ∷ []) =
-    sym (drop-map (λ (y : Entry). y.field) k (t.live ++ x ∷ [])) ∙ ap (drop k) (map-append (λ (y : Entry). y.field) t.live (x ∷ [])) in
-    ap (λ (l : List Field). let w : Window = record { capacity = t.capacity; agreed = t.agreed; dropped = t.dropped + k; live = l } in w) e
+    sym (drop-map (λ (y : Entry). y.field) k (t.live ++ x ∷ []))
+    ∙ ap (drop k) (map-append (λ (y : Entry). y.field) t.live (x ∷ [])) in
+    ap (λ (l : List Field). let w : Window = record {
+      capacity = t.capacity;
+      agreed = t.agreed;
+      dropped = t.dropped + k;
+      live = l;
+    } in w) e
 
 -- what stands among the first live entries is neither named nor unreceived
 pub record NotHeld (t : Table) (x : ℕ) : Type 0 where
@@ -143,7 +180,8 @@ not_held t x h =
     let q = or_parts (list_any (λ (b : OpenBlock). has_number x b.entries) t.opened) _ p.1 in
     record { unnamed = p.0; unopened = q.0; received = ltb-false _ _ q.1 }
 
-none_held_at : (t : Table) (a : ℕ) (es : List Entry) → none_held t a es ≡ true → AllByRecursion (λ (e : Entry). e.sent ≡ true) es → (x : ℕ) → a ≤ x → x < a + length es → NotHeld t x
+none_held_at : (t : Table) (a : ℕ) (es : List Entry) → none_held t a es ≡ true
+    → AllByRecursion (λ (e : Entry). e.sent ≡ true) es → (x : ℕ) → a ≤ x → x < a + length es → NotHeld t x
 unfolding none_held
 none_held_at t a [] h m x low high = absurd (omega arith)
 none_held_at t a (e ∷ es) h m x low high =
@@ -153,47 +191,58 @@ none_held_at t a (e ∷ es) h m x low high =
     (λ free q. pick free (rest q m.1) (cases_lt a x))
     h
   where
-    pick : is_held t a e.sent ≡ false → ((y : ℕ) → suc a ≤ y → y < suc a + length es → NotHeld t y) → (a < x) ⊎ (x ≤ a) → NotHeld t x
+    pick : is_held t a e.sent ≡ false → ((y : ℕ) → suc a ≤ y → y < suc a + length es → NotHeld t y) → (a < x) ⊎ (x ≤ a)
+        → NotHeld t x
     pick free rest (inl lt) = rest x (omega arith) (omega arith)
     pick free rest (inr le) = let same : a ≡ x = omega arith in subst (NotHeld t) same (not_held t a (rw m.0 at free))
 
-pub every_take : {X : Type 0} (P : X → Type 0) (n : ℕ) (xs : List X) → AllByRecursion P xs → AllByRecursion P (take n xs)
+pub every_take : {X : Type 0} (P : X → Type 0) (n : ℕ) (xs : List X) → AllByRecursion P xs
+    → AllByRecursion P (take n xs)
 every_take P zero xs h = tt
 every_take P (suc n) [] h = tt
 every_take P (suc n) (x ∷ xs) h = (h.0, every_take P n xs h.1)
 
-pub dropped_not_held : (t : Table) (k : ℕ) → can_drop t k ≡ true → k ≤ length t.live → AllByRecursion (λ (e : Entry). e.sent ≡ true) t.live → (x : ℕ) → t.dropped < x → x ≤ t.dropped + k → NotHeld t x
+pub dropped_not_held : (t : Table) (k : ℕ) → can_drop t k ≡ true → k ≤ length t.live
+    → AllByRecursion (λ (e : Entry). e.sent ≡ true) t.live → (x : ℕ) → t.dropped < x → x ≤ t.dropped + k → NotHeld t x
 dropped_not_held t k h le m x low high =
-    none_held_at t (suc t.dropped) (take k t.live) h (every_take (λ (e : Entry). e.sent ≡ true) k t.live m) x (omega arith) (omega (arith, length-take-le k t.live le))
+    none_held_at t (suc t.dropped) (take k t.live) h (every_take (λ (e : Entry). e.sent ≡ true) k t.live m) x
+    (omega arith) (omega (arith, length-take-le k t.live le))
 
-has_itself : (a : ℕ) (xs : List ℕ) → AllByRecursion (λ x. has_number x (a ∷ xs) ≡ true) (a ∷ [])
-has_itself a xs = (or_left (nat_eq a a) (has_number a xs) (eq-eqb a a refl), tt)
-
-pub has_each : (xs : List ℕ) → AllByRecursion (λ x. has_number x xs ≡ true) xs
+has_each : (xs : List ℕ) → AllByRecursion (λ x. has_number x xs ≡ true) xs
 has_each [] = tt
-has_each (a ∷ xs) = (or_left (nat_eq a a) (has_number a xs) (eq-eqb a a refl), every_weaker (λ x. has_number x xs ≡ true) (λ x. has_number x (a ∷ xs) ≡ true) (λ x h. or_right (nat_eq a x) (has_number x xs) h) xs (has_each xs))
+has_each (a ∷ xs) = (
+  or_left (nat_eq a a) (has_number a xs) (eq-eqb a a refl),
+  every_weaker (λ x. has_number x xs ≡ true) (λ x. has_number x (a ∷ xs) ≡ true)
+      (λ x h. or_right (nat_eq a x) (has_number x xs) h) xs (has_each xs),
+)
 
 -- what holds of the numbers named and of one more
-pub every_track : (P : ℕ → Type 0) (named : List ℕ) (a : ℕ) → AllByRecursion P named → P a → AllByRecursion P (track named a)
+pub every_track : (P : ℕ → Type 0) (named : List ℕ) (a : ℕ) → AllByRecursion P named → P a
+    → AllByRecursion P (track named a)
 unfolding track
-every_track P named a h k = cond_both (has_number a named) named (named ++ a ∷ []) (AllByRecursion P) (λ _. h) (λ _. every_append P named (a ∷ []) h (k, tt))
+every_track P named a h k =
+    cond_both (has_number a named) named (named ++ a ∷ []) (AllByRecursion P) (λ _. h)
+    (λ _. every_append P named (a ∷ []) h (k, tt))
 
 every_has : (P : ℕ → Type 0) (named : List ℕ) (a : ℕ) → has_number a named ≡ true → AllByRecursion P named → P a
 every_has P [] a t h = absurd (cc)
-every_has P (x ∷ xs) a t h = let rest = λ (m : has_number a xs ≡ true). every_has P xs a m h.1 in pick rest (or_cases (nat_eq x a) (has_number a xs) t)
+every_has P (x ∷ xs) a t h = let rest = λ (m : has_number a xs ≡ true). every_has P xs a m h.1 in
+    pick rest (or_cases (nat_eq x a) (has_number a xs) t)
   where
     pick : (has_number a xs ≡ true → P a) → (nat_eq x a ≡ true) ⊎ (has_number a xs ≡ true) → P a
     pick rest (inl e) = subst P (eqb-true x a e) h.0
     pick rest (inr m) = rest m
 
-pub every_untrack : (P : ℕ → Type 0) (named : List ℕ) (a : ℕ) → AllByRecursion P (track named a) → AllByRecursion P named × P a
+every_untrack : (P : ℕ → Type 0) (named : List ℕ) (a : ℕ) → AllByRecursion P (track named a)
+    → AllByRecursion P named × P a
 unfolding track
 every_untrack P named a =
     cond_both (has_number a named) named (named ++ a ∷ []) (λ xs. AllByRecursion P xs → AllByRecursion P named × P a)
     (λ t h. (h, every_has P named a t h))
     (λ _ h. (every_left P named (a ∷ []) h, (every_right P named (a ∷ []) h).0))
 
-pub every_tracked : (P : ℕ → Type 0) (xs named : List ℕ) → AllByRecursion P (tracked named xs) → AllByRecursion P named × AllByRecursion P xs
+pub every_tracked : (P : ℕ → Type 0) (xs named : List ℕ) → AllByRecursion P (tracked named xs)
+    → AllByRecursion P named × AllByRecursion P xs
 every_tracked P [] named h = (h, tt)
 every_tracked P (x ∷ xs) named h =
     let r = every_tracked P xs (track named x) h in
@@ -207,11 +256,15 @@ tracked_append named (x ∷ xs) ys = tracked_append (track named x) xs ys
 track_some : (named : List ℕ) (a : ℕ) → 0 < length (track named a)
 unfolding track
 track_some [] a = omega arith
-track_some (x ∷ xs) a = cond_both (has_number a (x ∷ xs)) (x ∷ xs) ((x ∷ xs) ++ a ∷ []) (λ l. 0 < length l) (λ _. omega arith) (λ _. omega arith)
+track_some (x ∷ xs) a =
+    cond_both (has_number a (x ∷ xs)) (x ∷ xs) ((x ∷ xs) ++ a ∷ []) (λ l. 0 < length l) (λ _. omega arith)
+    (λ _. omega arith)
 
 track_longer : (named : List ℕ) (a : ℕ) → length named ≤ length (track named a)
 unfolding track
-track_longer named a = cond_both (has_number a named) named (named ++ a ∷ []) (λ l. length named ≤ length l) (λ _. omega arith) (λ _. omega (arith, length-append named (a ∷ [])))
+track_longer named a =
+    cond_both (has_number a named) named (named ++ a ∷ []) (λ l. length named ≤ length l) (λ _. omega arith)
+    (λ _. omega (arith, length-append named (a ∷ [])))
 
 tracked_longer : (xs named : List ℕ) → length named ≤ length (tracked named xs)
 tracked_longer [] named = omega arith
@@ -221,12 +274,9 @@ pub tracked_none : (xs : List ℕ) → tracked [] xs ≡ [] → xs ≡ []
 tracked_none [] e = refl
 tracked_none (x ∷ xs) e = absurd (omega (arith, track_some [] x, tracked_longer xs (track [] x), ap length e))
 
-none_any : {X : Type 0} (p : X → Bool) (xs : List X) → list_any p xs ≡ false → AllByRecursion (λ x. p x ≡ false) xs
-none_any p [] h = tt
-none_any p (x ∷ xs) h = let q = or_parts (p x) (list_any p xs) h in (q.0, none_any p xs q.1)
-
 -- numbers that stood above d stand above d + k where none between is among them
-pub above_dropped : (d n k : ℕ) (xs : List ℕ) → ((x : ℕ) → d < x → x ≤ d + k → has_number x xs ≡ false) → AllByRecursion (λ a. (d < a) × (a ≤ n)) xs → AllByRecursion (λ a. (d + k < a) × (a ≤ n)) xs
+pub above_dropped : (d n k : ℕ) (xs : List ℕ) → ((x : ℕ) → d < x → x ≤ d + k → has_number x xs ≡ false)
+    → AllByRecursion (λ a. (d < a) × (a ≤ n)) xs → AllByRecursion (λ a. (d + k < a) × (a ≤ n)) xs
 above_dropped d n k xs none h =
     every_both (λ a. (d < a) × (a ≤ n)) (λ a. has_number a xs ≡ true) (λ a. (d + k < a) × (a ≤ n))
     (λ a r t. (up a r.0 t, r.1)) xs h (has_each xs)
@@ -238,8 +288,10 @@ above_dropped d n k xs none h =
     up : (a : ℕ) → d < a → has_number a xs ≡ true → d + k < a
     up a lt t = pick a lt t (cases_lt (d + k) a)
 
-pub opened_above : (d n k : ℕ) (bs : List OpenBlock) → ((x : ℕ) → d < x → x ≤ d + k → list_any (λ (b : OpenBlock). has_number x b.entries) bs ≡ false)
-    → AllByRecursion (λ (b : OpenBlock). AllByRecursion (λ a. (d < a) × (a ≤ n)) b.entries) bs → AllByRecursion (λ (b : OpenBlock). AllByRecursion (λ a. (d + k < a) × (a ≤ n)) b.entries) bs
+pub opened_above : (d n k : ℕ) (bs : List OpenBlock)
+    → ((x : ℕ) → d < x → x ≤ d + k → list_any (λ (b : OpenBlock). has_number x b.entries) bs ≡ false)
+    → AllByRecursion (λ (b : OpenBlock). AllByRecursion (λ a. (d < a) × (a ≤ n)) b.entries) bs
+    → AllByRecursion (λ (b : OpenBlock). AllByRecursion (λ a. (d + k < a) × (a ≤ n)) b.entries) bs
 opened_above d n k [] none h = tt
 opened_above d n k (b ∷ bs) none h = (
   above_dropped d n k b.entries (λ x low high. (or_parts (has_number x b.entries) _ (none x low high)).0) h.0,
@@ -247,6 +299,7 @@ opened_above d n k (b ∷ bs) none h = (
 )
 
 -- what goes was received
-pub drops_received : (t : Table) (k : ℕ) → t.dropped ≤ t.known → ((x : ℕ) → t.dropped < x → x ≤ t.dropped + k → NotHeld t x) → t.dropped + k ≤ t.known
+pub drops_received : (t : Table) (k : ℕ) → t.dropped ≤ t.known
+    → ((x : ℕ) → t.dropped < x → x ≤ t.dropped + k → NotHeld t x) → t.dropped + k ≤ t.known
 drops_received t zero b none = omega arith
 drops_received t (suc k) b none = omega (arith, (none (t.dropped + suc k) (omega arith) (omega arith)).received)

@@ -1,14 +1,19 @@
 -- A table at which nothing is held, as a decoder's is: an instruction does to it what it does to its window.
-use Rattle.std.proofs.Common.{ℕ, zero, suc, ◌+◌, ◌^◌, ◌≡◌, Bool, true, false, List, [], ◌∷◌, ◌++◌, take, drop, map, Option, None, Some, Result, Ok, Err, refl, sym, ap, ◌∙◌}
+use Rattle.std.proofs.Common.{ℕ, zero, suc, ◌+◌, ◌^◌, ◌≡◌, Bool, true, false, List, [], ◌∷◌, ◌++◌, take, drop, map}
+use Rattle.std.proofs.Common.{Option, None, Some, Result, Ok, Err, refl, sym, ap, ◌∙◌}
 use Rattle.std.specs.List.{slice_get}
 use Rattle.std.specs.Prelude.{nat_lt, nat_le, nat_eq, cond, ◌&&◌}
 use Rattle.std.proofs.lemmas.List.{drop-map, map-append, length-map}
 use Rattle.qpack_spec.specs.Bytes.{◌>>=◌}
 use Rattle.qpack_spec.specs.Field.{Field, field_size}
 use Rattle.qpack_spec.specs.StaticTable.{static_table}
-use Rattle.qpack_spec.specs.Instruction.{Instruction, InsertStaticName, InsertDynamicName, InsertLiteralName, Duplicate, SetCapacity}
-use Rattle.qpack_spec.specs.Window.{Window, greatest_capacity, total, recent, excess, Refusal, NoEntry, NoStaticField, DoesNotFit, AboveMaximum, Effect, Inserts, Ignored, Resizes, or_refused, with_value, insertion, effect, after, apply}
-use Rattle.qpack_spec.specs.Table.{Table, put_entry, fields_in, window, count, is_held, none_held, can_drop, evicted_for, with_entry, put, resized, applied, table_of}
+use Rattle.qpack_spec.specs.Instruction.{Instruction, InsertStaticName, InsertDynamicName, InsertLiteralName, Duplicate}
+use Rattle.qpack_spec.specs.Instruction.{SetCapacity}
+use Rattle.qpack_spec.specs.Window.{Window, greatest_capacity, total, recent, excess, Refusal, NoEntry, NoStaticField}
+use Rattle.qpack_spec.specs.Window.{DoesNotFit, AboveMaximum, Effect, Inserts, Ignored, Resizes, or_refused, with_value}
+use Rattle.qpack_spec.specs.Window.{insertion, effect, after, apply}
+use Rattle.qpack_spec.specs.Table.{Table, put_entry, fields_in, window, count, is_held, none_held, can_drop}
+use Rattle.qpack_spec.specs.Table.{evicted_for, with_entry, put, resized, applied, table_of}
 
 fields_put : (fs : List Field) → fields_in (map (λ f. put_entry f) fs) ≡ fs
 fields_put [] = refl
@@ -16,14 +21,21 @@ fields_put (f ∷ fs) = ap (λ (l : List Field). f ∷ l) (fields_put fs)
 
 pub window_put : (w : Window) → window (table_of w) ≡ w
 unfolding window table_of
-window_put w = ap (λ (l : List Field). let x : Window = record { capacity = w.capacity; agreed = w.agreed; dropped = w.dropped; live = l } in x) (fields_put w.live)
+window_put w =
+    ap (λ (l : List Field). let x : Window = record {
+      capacity = w.capacity;
+      agreed = w.agreed;
+      dropped = w.dropped;
+      live = l;
+    } in x) (fields_put w.live)
 
 pub count_put : (w : Window) → count (table_of w) ≡ total w
 unfolding table_of
 count_put w = ap (λ n. w.dropped + n) (length-map w.live (λ (f : Field). put_entry f))
 
 -- nothing is held
-none_put : (w : Window) (a k : ℕ) (fs : List Field) → none_held (table_of w) a (take k (map (λ f. put_entry f) fs)) ≡ true
+none_put : (w : Window) (a k : ℕ) (fs : List Field)
+    → none_held (table_of w) a (take k (map (λ f. put_entry f) fs)) ≡ true
 unfolding none_held is_held table_of
 none_put w a zero fs = refl
 none_put w a (suc k) [] = refl
@@ -42,26 +54,36 @@ capacity_put w = refl
 entered_put : (w : Window) (f : Field) → with_entry (table_of w) (put_entry f) ≡ table_of (after w (Inserts f))
 unfolding with_entry table_of after
 entered_put w f =
-    let e : fields_in (map (λ g. put_entry g) w.live) ++ f ∷ [] ≡ w.live ++ f ∷ [] = ap (λ (l : List Field). l ++ f ∷ []) (fields_put w.live) in
+    let e : fields_in (map (λ g. put_entry g) w.live) ++ f ∷ [] ≡ w.live ++ f ∷ [] =
+    ap (λ (l : List Field). l ++ f ∷ []) (fields_put w.live) in
     let k = excess w.capacity (w.live ++ f ∷ []) in
-    let l : drop k (map (λ g. put_entry g) w.live ++ put_entry f ∷ []) ≡ map (λ g. put_entry g) (drop k (w.live ++ f ∷ [])) =
-    ap (drop k) (sym (map-append (λ (g : Field). put_entry g) w.live (f ∷ []))) ∙ drop-map (λ (g : Field). put_entry g) k (w.live ++ f ∷ []) in
+    let l : drop k (map (λ g. put_entry g) w.live ++ put_entry f ∷ [])
+    ≡ map (λ g. put_entry g) (drop k (w.live ++ f ∷ [])) =
+    ap (drop k) (sym (map-append (λ (g : Field). put_entry g) w.live (f ∷ [])))
+    ∙ drop-map (λ (g : Field). put_entry g) k (w.live ++ f ∷ []) in
     rw (e, l) refl
 
-one_choice : (b : Bool) (g : Effect → Table) (x : Table) (e : Effect) (r : Refusal) → x ≡ g e → cond b (Ok x) (Err r) ≡ (cond b (Ok e) (Err r) >>= λ y. Ok (g y))
+one_choice : (b : Bool) (g : Effect → Table) (x : Table) (e : Effect) (r : Refusal) → x ≡ g e
+    → cond b (Ok x) (Err r) ≡ (cond b (Ok e) (Err r) >>= λ y. Ok (g y))
 one_choice true g x e r h = ap (λ (z : Table). let q : Result Table Refusal = Ok z in q) h
 one_choice false g x e r h = refl
 
-resized_put : (w : Window) (n : ℕ) → resized (table_of w) n ≡ (cond (nat_le n (greatest_capacity w.agreed)) (Ok (Resizes n)) (Err AboveMaximum) >>= λ e. Ok (table_of (after w e)))
+resized_put : (w : Window) (n : ℕ) → resized (table_of w) n
+    ≡ (cond (nat_le n (greatest_capacity w.agreed)) (Ok (Resizes n)) (Err AboveMaximum)
+    >>= λ e. Ok (table_of (after w e)))
 unfolding resized after table_of
 resized_put w n =
     let k = excess n w.live in
     let e : fields_in (map (λ g. put_entry g) w.live) ≡ w.live = fields_put w.live in
-    let l : drop k (map (λ g. put_entry g) w.live) ≡ map (λ g. put_entry g) (drop k w.live) = drop-map (λ (g : Field). put_entry g) k w.live in
-    rw (e, drops_put w k, l) (one_choice (nat_le n (greatest_capacity w.agreed)) (λ y. table_of (after w y)) (table_of (after w (Resizes n))) (Resizes n) AboveMaximum refl)
+    let l : drop k (map (λ g. put_entry g) w.live) ≡ map (λ g. put_entry g) (drop k w.live) =
+    drop-map (λ (g : Field). put_entry g) k w.live in
+    rw (e, drops_put w k, l) (one_choice (nat_le n (greatest_capacity w.agreed)) (λ y. table_of (after w y))
+    (table_of (after w (Resizes n))) (Resizes n) AboveMaximum refl)
 
-three_choices : (b c d d' : Bool) (g : Effect → Table) (t x : Table) (f : Field) → d ≡ d' → t ≡ g Ignored → x ≡ g (Inserts f)
-    → cond b (Ok t) (cond c (cond d (Ok x) (Ok t)) (Err DoesNotFit)) ≡ (cond b (Ok Ignored) (cond c (cond d' (Ok (Inserts f)) (Ok Ignored)) (Err DoesNotFit)) >>= λ y. Ok (g y))
+three_choices : (b c d d' : Bool) (g : Effect → Table) (t x : Table) (f : Field) → d ≡ d' → t ≡ g Ignored
+    → x ≡ g (Inserts f)
+    → cond b (Ok t) (cond c (cond d (Ok x) (Ok t)) (Err DoesNotFit))
+    ≡ (cond b (Ok Ignored) (cond c (cond d' (Ok (Inserts f)) (Ok Ignored)) (Err DoesNotFit)) >>= λ y. Ok (g y))
 three_choices true c d d' g t x f e h k = ap (λ (z : Table). let q : Result Table Refusal = Ok z in q) h
 three_choices false true true true g t x f e h k = ap (λ (z : Table). let q : Result Table Refusal = Ok z in q) k
 three_choices false true false false g t x f e h k = ap (λ (z : Table). let q : Result Table Refusal = Ok z in q) h
@@ -82,12 +104,19 @@ unfolding put insertion
 put_is w f =
     let k = evicted_for (table_of w) f in
     let d : (nat_lt (count (table_of w)) (2 ^ 62) && can_drop (table_of w) k) ≡ nat_lt (total w) (2 ^ 62) =
-    both_hold (nat_lt (count (table_of w)) (2 ^ 62)) (can_drop (table_of w) k) (drops_put w k) ∙ ap (λ n. nat_lt n (2 ^ 62)) (count_put w) in
-    three_choices (nat_eq (table_of w).capacity 0) (nat_le (field_size f) (table_of w).capacity) _ _ (λ e. table_of (after w e)) (table_of w) (with_entry (table_of w) (put_entry f)) f d (ignored_put w) (entered_put w f)
-    ∙ ap (λ (c : ℕ). cond (nat_eq c 0) (Ok Ignored) (cond (nat_le (field_size f) c) (cond (nat_lt (total w) (2 ^ 62)) (Ok (Inserts f)) (Ok Ignored)) (Err DoesNotFit)) >>= λ e. (let q : Result Table Refusal = Ok (table_of (after w e)) in q)) (capacity_put w)
+    both_hold (nat_lt (count (table_of w)) (2 ^ 62)) (can_drop (table_of w) k) (drops_put w k)
+    ∙ ap (λ n. nat_lt n (2 ^ 62)) (count_put w) in
+    three_choices (nat_eq (table_of w).capacity 0) (nat_le (field_size f) (table_of w).capacity) _ _
+    (λ e. table_of (after w e)) (table_of w) (with_entry (table_of w) (put_entry f)) f d (ignored_put w)
+    (entered_put w f)
+    ∙ ap (λ (c : ℕ). cond (nat_eq c 0) (Ok Ignored)
+    (cond (nat_le (field_size f) c) (cond (nat_lt (total w) (2 ^ 62)) (Ok (Inserts f)) (Ok Ignored)) (Err DoesNotFit))
+    >>= λ e. (let q : Result Table Refusal = Ok (table_of (after w e)) in q)) (capacity_put w)
 
 -- what is found goes on alike on both sides
-found_put : (w : Window) (o : Option Field) (r : Refusal) (g : Field → Field) → (or_refused o r >>= λ f. put (table_of w) (g f)) ≡ ((or_refused o r >>= λ f. insertion w (g f)) >>= λ e. Ok (table_of (after w e)))
+found_put : (w : Window) (o : Option Field) (r : Refusal) (g : Field → Field)
+    → (or_refused o r >>= λ f. put (table_of w) (g f))
+    ≡ ((or_refused o r >>= λ f. insertion w (g f)) >>= λ e. Ok (table_of (after w e)))
 found_put w None r g = refl
 found_put w (Some f) r g = put_is w (g f)
 
@@ -102,7 +131,8 @@ applies w (InsertLiteralName n v) = put_is w (record { name = n; value = v })
 applies w (Duplicate i) = rw (recent_put w i) (found_put w (recent w i) (NoEntry i) (λ f. f))
 applies w (SetCapacity n) = resized_put w n
 
-twice : (r : Result Effect Refusal) (g : Effect → Window) → (r >>= λ e. Ok (table_of (g e))) ≡ ((r >>= λ e. Ok (g e)) >>= λ w. Ok (table_of w))
+twice : (r : Result Effect Refusal) (g : Effect → Window)
+    → (r >>= λ e. Ok (table_of (g e))) ≡ ((r >>= λ e. Ok (g e)) >>= λ w. Ok (table_of w))
 twice (Ok e) g = refl
 twice (Err d) g = refl
 

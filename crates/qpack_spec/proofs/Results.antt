@@ -2,7 +2,8 @@
 use Rattle.std.proofs.Common.{◌≡◌, Bool, true, false, cond, Result, Ok, Err, refl, ap, inl, inr, ◌⊎◌}
 use Rattle.qpack_spec.specs.Bytes.{◌>>=◌}
 
-pub bind_ok : {A B E : Type 0} (r : Result A E) (f : A → Result B E) (y : B) → (r >>= f) ≡ Ok y → (x : A) × (r ≡ Ok x) × (f x ≡ Ok y)
+pub bind_ok : {A B E : Type 0} (r : Result A E) (f : A → Result B E) (y : B) → (r >>= f) ≡ Ok y
+    → (x : A) × (r ≡ Ok x) × (f x ≡ Ok y)
 bind_ok (Ok x) f y e = (x, refl, e)
 bind_ok (Err d) f y e = absurd cc
 
@@ -24,9 +25,15 @@ pub ok_pair : {A B E : Type 0} (a c : A) (b d : B) → done {A = A × B} {E = E}
 ok_pair {A} {B} a c b d e =
     let p = ok_is (a, b) (c, d) e in (ap (λ (x : A × B). x.0) p, ap (λ (x : A × B). x.1) p)
 
-pub ok_triple : {A B C E : Type 0} (a d : A) (b e : B) (c f : C) → done {A = A × B × C} {E = E} (a, b, c) ≡ done (d, e, f) → (a ≡ d) × (b ≡ e) × (c ≡ f)
+pub ok_triple : {A B C E : Type 0} (a d : A) (b e : B) (c f : C)
+    → done {A = A × B × C} {E = E} (a, b, c) ≡ done (d, e, f) → (a ≡ d) × (b ≡ e) × (c ≡ f)
 ok_triple {A} {B} {C} a d b e c f h =
-    let p = ok_is (a, b, c) (d, e, f) h in (ap (λ (x : A × B × C). x.0) p, ap (λ (x : A × B × C). x.1) p, ap (λ (x : A × B × C). x.2) p)
+    let p = ok_is (a, b, c) (d, e, f) h in (
+      ap (λ (x : A × B × C). x.0) p,
+      ap (λ (x : A × B × C). x.1) p,
+      ap (λ (x : A × B × C). x.2) p,
+    )
 
-pub pair_is : {A B : Type 0} (a c : A) (b d : B) → a ≡ c → b ≡ d → (let x : A × B = (a, b) in let y : A × B = (c, d) in x ≡ y)
+pub pair_is : {A B : Type 0} (a c : A) (b d : B) → a ≡ c → b ≡ d
+    → (let x : A × B = (a, b) in let y : A × B = (c, d) in x ≡ y)
 pair_is {A} {B} a c b d p q = cc

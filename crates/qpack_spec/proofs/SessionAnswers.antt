@@ -1,5 +1,7 @@
 -- Every event has an answer at every session.
-use Rattle.std.proofs.Common.{ℕ, zero, suc, ◌+◌, ◌^◌, ◌<◌, ◌≤◌, ◌≡◌, Bool, true, false, cond, List, [], ◌∷◌, ◌++◌, length, take, drop, Option, None, Some, Result, Ok, Err, refl, sym, ap, ◌∙◌, arith, inl, inr, ◌⊎◌, length-append, append_assoc}
+use Rattle.std.proofs.Common.{ℕ, zero, suc, ◌+◌, ◌^◌, ◌<◌, ◌≤◌, ◌≡◌, Bool, true, false, cond, List, [], ◌∷◌, ◌++◌}
+use Rattle.std.proofs.Common.{length, take, drop, Option, None, Some, Result, Ok, Err, refl, sym, ap, ◌∙◌, arith, inl}
+use Rattle.std.proofs.Common.{inr, ◌⊎◌, length-append, append_assoc}
 use Rattle.std.specs.List.{AllByRecursion, slice_get}
 use Rattle.std.specs.Prelude.{nat_lt, nat_le}
 use Rattle.std.proofs.lemmas.Bool.{ltb-true}
@@ -8,20 +10,26 @@ use Rattle.qpack_spec.specs.Form.{FormFault, is_cut, Form, Spells, Refuses, Trun
 use Rattle.qpack_spec.specs.Instruction.{Instruction, Reply, instruction_form, reply_form}
 use Rattle.qpack_spec.specs.Stream.{Joined}
 use Rattle.qpack_spec.specs.Window.{Refusal}
-use Rattle.qpack_spec.specs.Table.{Table, applied, heard, resized}
-use Rattle.qpack_spec.specs.World.{sum_of}
-use Rattle.qpack_spec.specs.Session.{kept_at, Session, Event, Encode, Decode, ToDecoder, ToEncoder, Acknowledge, Cancel, ChangeCapacity, Outcome, NoMemory, IsPiece, all_applied, all_heard, to_report, DeliveryEnds, takes_all, bad_bytes, bad_instruction, DeliversTo, HearingEnds, hears_all, bad_bytes_heard, bad_reply, HearsFrom, skip_reason, Happens, Goes}
+use Rattle.qpack_spec.specs.Table.{Table, window, applied, heard, resized}
+use Rattle.qpack_spec.specs.Session.{sum_of, stream_at, Session, Event, Encode, Decode, ToDecoder, ToEncoder}
+use Rattle.qpack_spec.specs.Session.{Acknowledge, Cancel, ChangeCapacity, Outcome, decode_outcome, NoMemory, IsPiece}
+use Rattle.qpack_spec.specs.Session.{all_applied, all_heard, to_report, DeliveryEnds, takes_all, bad_bytes}
+use Rattle.qpack_spec.specs.Session.{bad_instruction, DeliversTo, HearingEnds, hears_all, bad_bytes_heard, bad_reply}
+use Rattle.qpack_spec.specs.Session.{HearsFrom, skip_reason, Happens, Goes}
+use Rattle.qpack_spec.specs.Reading.{Reading, Fields, Missing, Faulty}
+use Rattle.qpack_spec.specs.BlockReading.{reading_of_bytes}
 use Rattle.qpack_spec.specs.SessionLaws.{EventsHaveAnswers}
 use Rattle.qpack_spec.proofs.FormLaws.{form_takes, form_refusal, reads_form_truncation}
 
--- how a reading of lines ends behind those that were taken
-abbrev Stops : {L : Type 0} → (ℕ → Option (Form L)) → (Table → L → Result Table Refusal) → Table → List ℕ → Type 0
-Stops {L} form_of step t rest =
-    Truncates form_of rest
-    ⊎ ((fault : FormFault) × Begins (λ text. Refuses L form_of text fault) rest)
-    ⊎ ((text : List ℕ) × (more : List ℕ) × (l : L) × (e : Refusal) × (rest ≡ text ++ more) × Spells L form_of text l × (step t l ≡ Err e))
+-- how a reading of lines ends behind those that were taken: the rest is truncated, or refused, or the next step is
+data Stops (L : Type 0) (form_of : ℕ → Option (Form L)) (step : Table → L → Result Table Refusal) (t : Table) (rest : List ℕ) : Type 0 where
+  truncated : Truncates form_of rest → Stops L form_of step t rest
+  refused_bytes : (fault : FormFault) → Begins (λ text. Refuses L form_of text fault) rest → Stops L form_of step t rest
+  refused_step : (text more : List ℕ) (l : L) (e : Refusal) → rest ≡ text ++ more → Spells L form_of text l → step t l ≡ Err e
+      → Stops L form_of step t rest
 
-record ReadsOn (L : Type 0) (form_of : ℕ → Option (Form L)) (step : Table → L → Result Table Refusal) (all : Table → List L → Result Table Refusal) (t : Table) (bytes : List ℕ) : Type 0 where
+record ReadsOn (L : Type 0) (form_of : ℕ → Option (Form L)) (step : Table → L → Result Table Refusal) (all : Table
+    → List L → Result Table Refusal) (t : Table) (bytes : List ℕ) : Type 0 where
   pub lines : List L
   pub front : List ℕ
   pub rest : List ℕ
@@ -29,36 +37,64 @@ record ReadsOn (L : Type 0) (form_of : ℕ → Option (Form L)) (step : Table �
   pub parts : bytes ≡ front ++ rest
   pub joined : Joined (λ text l. Spells L form_of text l) front lines
   pub goes : all t lines ≡ Ok table
-  pub stops : Stops form_of step table rest
+  pub stops : Stops L form_of step table rest
 
 -- any bytes are read on until they are cut, or something is refused
-reads_on : {L : Type 0} (form_of : ℕ → Option (Form L)) (step : Table → L → Result Table Refusal) (all : Table → List L → Result Table Refusal)
-    → ((t : Table) → all t [] ≡ Ok t) → ((t : Table) (l : L) (ls : List L) → all t (l ∷ ls) ≡ (step t l >>= λ u. all u ls))
+reads_on : {L : Type 0} (form_of : ℕ → Option (Form L)) (step : Table → L → Result Table Refusal) (all : Table → List L
+    → Result Table Refusal)
+    → ((t : Table) → all t [] ≡ Ok t) → ((t : Table) (l : L) (ls : List L)
+    → all t (l ∷ ls) ≡ (step t l >>= λ u. all u ls))
     → (steps : ℕ) (t : Table) (bytes : List ℕ) → length bytes ≤ steps → ReadsOn L form_of step all t bytes
 reads_on {L} form_of step all none one zero t bytes h = go (form_at form_of bytes) refl
   where
-    here : Stops form_of step t bytes → ReadsOn L form_of step all t bytes
-    here s = record { lines = []; front = []; rest = bytes; table = t; parts = refl; joined = refl; goes = none t; stops = s }
+    here : Stops L form_of step t bytes → ReadsOn L form_of step all t bytes
+    here s =
+        record {
+          lines = [];
+          front = [];
+          rest = bytes;
+          table = t;
+          parts = refl;
+          joined = refl;
+          goes = none t;
+          stops = s;
+        }
 
-    cut : (e : FormFault) → form_at form_of bytes ≡ Err e → (b : Bool) → is_cut e ≡ b → ReadsOn L form_of step all t bytes
-    cut e q true c = here (inl ((reads_form_truncation form_of bytes).0 (e, c, q)))
-    cut e q false c = here (inr (inl (e, form_refusal form_of bytes e q c)))
+    cut : (e : FormFault) → form_at form_of bytes ≡ Err e → (b : Bool) → is_cut e ≡ b
+        → ReadsOn L form_of step all t bytes
+    cut e q true c = here (truncated ((reads_form_truncation form_of bytes).0 (e, c, q)))
+    cut e q false c = here (refused_bytes e (form_refusal form_of bytes e q c))
 
     go : (r : Result (L × List ℕ) FormFault) → form_at form_of bytes ≡ r → ReadsOn L form_of step all t bytes
     go (Err e) q = cut e q (is_cut e) refl
-    go (Ok x) q = let k = form_takes form_of bytes x.0 x.1 q in absurd (omega (arith, h, ap length k.parts, length-append k.text x.1, ap length k.spells.begins))
-reads_on {L} form_of step all none one (suc steps) t bytes h = go (λ u b le. reads_on form_of step all none one steps u b le) (form_at form_of bytes) refl
+    go (Ok x) q = let k =
+        form_takes form_of bytes x.0 x.1 q in absurd
+        (omega (arith, h, ap length k.parts, length-append k.text x.1, ap length k.spells.begins))
+reads_on {L} form_of step all none one (suc steps) t bytes h =
+    go (λ u b le. reads_on form_of step all none one steps u b le) (form_at form_of bytes) refl
   where
-    here : Stops form_of step t bytes → ReadsOn L form_of step all t bytes
-    here s = record { lines = []; front = []; rest = bytes; table = t; parts = refl; joined = refl; goes = none t; stops = s }
+    here : Stops L form_of step t bytes → ReadsOn L form_of step all t bytes
+    here s =
+        record {
+          lines = [];
+          front = [];
+          rest = bytes;
+          table = t;
+          parts = refl;
+          joined = refl;
+          goes = none t;
+          stops = s;
+        }
 
-    cut : (e : FormFault) → form_at form_of bytes ≡ Err e → (b : Bool) → is_cut e ≡ b → ReadsOn L form_of step all t bytes
-    cut e q true c = here (inl ((reads_form_truncation form_of bytes).0 (e, c, q)))
-    cut e q false c = here (inr (inl (e, form_refusal form_of bytes e q c)))
+    cut : (e : FormFault) → form_at form_of bytes ≡ Err e → (b : Bool) → is_cut e ≡ b
+        → ReadsOn L form_of step all t bytes
+    cut e q true c = here (truncated ((reads_form_truncation form_of bytes).0 (e, c, q)))
+    cut e q false c = here (refused_bytes e (form_refusal form_of bytes e q c))
 
-    line : ((u : Table) (b : List ℕ) → length b ≤ steps → ReadsOn L form_of step all u b) → (text rest : List ℕ) (l : L) → bytes ≡ text ++ rest → Spells L form_of text l
+    line : ((u : Table) (b : List ℕ) → length b ≤ steps → ReadsOn L form_of step all u b)
+        → (text rest : List ℕ) (l : L) → bytes ≡ text ++ rest → Spells L form_of text l
         → (r : Result Table Refusal) → step t l ≡ r → ReadsOn L form_of step all t bytes
-    line more text rest l p s (Err e) q = here (inr (inr (text, rest, l, e, p, s, q)))
+    line more text rest l p s (Err e) q = here (refused_step text rest l e p s q)
     line more text rest l p s (Ok u) q =
         let k = more u rest (omega (arith, h, ap length p, length-append text rest, ap length s.begins)) in
         record {
@@ -72,9 +108,11 @@ reads_on {L} form_of step all none one (suc steps) t bytes h = go (λ u b le. re
           stops = k.stops;
         }
 
-    go : ((u : Table) (b : List ℕ) → length b ≤ steps → ReadsOn L form_of step all u b) → (r : Result (L × List ℕ) FormFault) → form_at form_of bytes ≡ r → ReadsOn L form_of step all t bytes
+    go : ((u : Table) (b : List ℕ) → length b ≤ steps → ReadsOn L form_of step all u b)
+        → (r : Result (L × List ℕ) FormFault) → form_at form_of bytes ≡ r → ReadsOn L form_of step all t bytes
     go more (Err e) q = cut e q (is_cut e) refl
-    go more (Ok x) q = let k = form_takes form_of bytes x.0 x.1 q in line more k.text x.1 x.0 k.parts k.spells (step t x.0) refl
+    go more (Ok x) q = let k =
+        form_takes form_of bytes x.0 x.1 q in line more k.text x.1 x.0 k.parts k.spells (step t x.0) refl
 
 -- increments of one each
 ones : ℕ → List ℕ
@@ -96,31 +134,76 @@ abbrev Answers : Session → Event → Type 0
 Answers v e = (o : Outcome) × (v' : Session) × Happens v e o v' × (o ≡ NoMemory → ⊥)
 
 to_decoder : (v : Session) (n : ℕ) → (o : Outcome) × (v' : Session) × DeliversTo v n o v' × (o ≡ NoMemory → ⊥)
-to_decoder v n = go (reads_on instruction_form applied all_applied (λ t. refl) (λ t l ls. refl) (length (drop v.sent_taken (take (v.sent_delivered + n) v.sent))) v.decoder (drop v.sent_taken (take (v.sent_delivered + n) v.sent)) (omega arith))
+to_decoder v n =
+    go (reads_on instruction_form applied all_applied (λ t. refl) (λ t l ls. refl)
+    (length (drop v.sent_taken (take (v.sent_delivered + n) v.sent))) v.decoder
+    (drop v.sent_taken (take (v.sent_delivered + n) v.sent)) (omega arith))
   where
-    delivers : (r : ReadsOn Instruction instruction_form applied all_applied v.decoder (drop v.sent_taken (take (v.sent_delivered + n) v.sent))) (o : Outcome) (v' : Session) → DeliveryEnds v n r.table r.front r.rest o v' → DeliversTo v n o v'
-    delivers r o v' e = record { lines = r.lines; front = r.front; rest = r.rest; table = r.table; offered = r.parts; joined = r.joined; applies = r.goes; ends = e }
+    delivers : (r : ReadsOn Instruction instruction_form applied all_applied v.decoder
+        (drop v.sent_taken (take (v.sent_delivered + n) v.sent))) (o : Outcome) (v' : Session)
+        → DeliveryEnds v n r.table r.front r.rest o v' → DeliversTo v n o v'
+    delivers r o v' e =
+        record {
+          lines = r.lines;
+          front = r.front;
+          rest = r.rest;
+          table = r.table;
+          offered = r.parts;
+          joined = r.joined;
+          applies = r.goes;
+          ends = e;
+        }
 
-    ends : (r : ReadsOn Instruction instruction_form applied all_applied v.decoder (drop v.sent_taken (take (v.sent_delivered + n) v.sent))) → Stops instruction_form applied r.table r.rest → (o : Outcome) × (v' : Session) × DeliversTo v n o v' × (o ≡ NoMemory → ⊥)
-    ends r (inl c) = (_, _, delivers r _ _ (takes_all (ones (to_report v r.table)) c (ones_pieces (to_report v r.table)) (ones_sum (to_report v r.table)) refl refl), λ h. absurd cc)
-    ends r (inr (inl c)) = (_, _, delivers r _ _ (bad_bytes c.0 c.1 refl refl), λ h. absurd cc)
-    ends r (inr (inr c)) = (_, _, delivers r _ _ (bad_instruction c.0 c.1 c.2 c.3 c.4 c.5 c.6 refl refl), λ h. absurd cc)
+    ends : (r : ReadsOn Instruction instruction_form applied all_applied v.decoder
+        (drop v.sent_taken (take (v.sent_delivered + n) v.sent))) → Stops Instruction instruction_form applied r.table r.rest
+        → (o : Outcome) × (v' : Session) × DeliversTo v n o v' × (o ≡ NoMemory → ⊥)
+    ends r (truncated c) = (
+      _,
+      _,
+      delivers r _ _ (takes_all (ones (to_report v r.table)) c (ones_pieces (to_report v r.table))
+          (ones_sum (to_report v r.table)) refl refl),
+      λ h. absurd cc,
+    )
+    ends r (refused_bytes fault c) = (_, _, delivers r _ _ (bad_bytes fault c refl refl), λ h. absurd cc)
+    ends r (refused_step text more l e cut spells refused) =
+        (_, _, delivers r _ _ (bad_instruction text more l e cut spells refused refl refl), λ h. absurd cc)
 
-    go : (r : ReadsOn Instruction instruction_form applied all_applied v.decoder (drop v.sent_taken (take (v.sent_delivered + n) v.sent))) → (o : Outcome) × (v' : Session) × DeliversTo v n o v' × (o ≡ NoMemory → ⊥)
+    go : (r : ReadsOn Instruction instruction_form applied all_applied v.decoder
+        (drop v.sent_taken (take (v.sent_delivered + n) v.sent)))
+        → (o : Outcome) × (v' : Session) × DeliversTo v n o v' × (o ≡ NoMemory → ⊥)
     go r = ends r r.stops
 
 to_encoder : (v : Session) (n : ℕ) → (o : Outcome) × (v' : Session) × HearsFrom v n o v' × (o ≡ NoMemory → ⊥)
-to_encoder v n = go (reads_on reply_form heard all_heard (λ t. refl) (λ t l ls. refl) (length (drop v.told_taken (take (v.told_delivered + n) v.told))) v.encoder (drop v.told_taken (take (v.told_delivered + n) v.told)) (omega arith))
+to_encoder v n =
+    go (reads_on reply_form heard all_heard (λ t. refl) (λ t l ls. refl)
+    (length (drop v.told_taken (take (v.told_delivered + n) v.told))) v.encoder
+    (drop v.told_taken (take (v.told_delivered + n) v.told)) (omega arith))
   where
-    hears : (r : ReadsOn Reply reply_form heard all_heard v.encoder (drop v.told_taken (take (v.told_delivered + n) v.told))) (o : Outcome) (v' : Session) → HearingEnds v n r.table r.front r.rest o v' → HearsFrom v n o v'
-    hears r o v' e = record { lines = r.lines; front = r.front; rest = r.rest; table = r.table; offered = r.parts; joined = r.joined; hears = r.goes; ends = e }
+    hears : (r : ReadsOn Reply reply_form heard all_heard v.encoder
+        (drop v.told_taken (take (v.told_delivered + n) v.told))) (o : Outcome) (v' : Session)
+        → HearingEnds v n r.table r.front r.rest o v' → HearsFrom v n o v'
+    hears r o v' e =
+        record {
+          lines = r.lines;
+          front = r.front;
+          rest = r.rest;
+          table = r.table;
+          offered = r.parts;
+          joined = r.joined;
+          hears = r.goes;
+          ends = e;
+        }
 
-    ends : (r : ReadsOn Reply reply_form heard all_heard v.encoder (drop v.told_taken (take (v.told_delivered + n) v.told))) → Stops reply_form heard r.table r.rest → (o : Outcome) × (v' : Session) × HearsFrom v n o v' × (o ≡ NoMemory → ⊥)
-    ends r (inl c) = (_, _, hears r _ _ (hears_all c refl refl), λ h. absurd cc)
-    ends r (inr (inl c)) = (_, _, hears r _ _ (bad_bytes_heard c.0 c.1 refl refl), λ h. absurd cc)
-    ends r (inr (inr c)) = (_, _, hears r _ _ (bad_reply c.0 c.1 c.2 c.3 c.4 c.5 c.6 refl refl), λ h. absurd cc)
+    ends : (r : ReadsOn Reply reply_form heard all_heard v.encoder
+        (drop v.told_taken (take (v.told_delivered + n) v.told))) → Stops Reply reply_form heard r.table r.rest
+        → (o : Outcome) × (v' : Session) × HearsFrom v n o v' × (o ≡ NoMemory → ⊥)
+    ends r (truncated c) = (_, _, hears r _ _ (hears_all c refl refl), λ h. absurd cc)
+    ends r (refused_bytes fault c) = (_, _, hears r _ _ (bad_bytes_heard fault c refl refl), λ h. absurd cc)
+    ends r (refused_step text more l e cut spells refused) = (_, _, hears r _ _ (bad_reply text more l e cut spells refused refl refl), λ h. absurd cc)
 
-    go : (r : ReadsOn Reply reply_form heard all_heard v.encoder (drop v.told_taken (take (v.told_delivered + n) v.told))) → (o : Outcome) × (v' : Session) × HearsFrom v n o v' × (o ≡ NoMemory → ⊥)
+    go : (r : ReadsOn Reply reply_form heard all_heard v.encoder
+        (drop v.told_taken (take (v.told_delivered + n) v.told))) → (o : Outcome) × (v' : Session) × HearsFrom v n o v'
+        × (o ≡ NoMemory → ⊥)
     go r = ends r r.stops
 
 -- a place within a list has an element
@@ -129,20 +212,32 @@ within_some [] i h = absurd (omega arith)
 within_some (y ∷ xs) zero h = (y, refl)
 within_some (y ∷ xs) (suc i) h = within_some xs i (omega arith)
 
-lawful_decode : (a b c : Bool) (reason : ℕ) → cond a (Some 1) (cond b (Some 3) (cond c None (Some reason))) ≡ None → c ≡ true
+lawful_decode : (a b c : Bool) (reason : ℕ) → cond a (Some 1) (cond b (Some 3) (cond c None (Some reason))) ≡ None
+    → c ≡ true
 lawful_decode true b c reason h = absurd cc
 lawful_decode false true c reason h = absurd cc
 lawful_decode false false true reason h = refl
 lawful_decode false false false reason h = absurd cc
 
+-- a reading is no refusal for memory
+decode_no_memory : (r : Reading) → decode_outcome r ≡ NoMemory → ⊥
+decode_no_memory (Fields fs d) e = absurd cc
+decode_no_memory (Missing n) e = absurd cc
+decode_no_memory (Faulty f) e = absurd cc
+
 lawful_answers : (v : Session) (e : Event) → skip_reason v e ≡ None → Answers v e
 unfolding Happens skip_reason
 lawful_answers v (Encode s fs) h = (_, _, inl (refl, refl), λ x. absurd cc)
 lawful_answers v (Decode s) h =
-    let k = kept_at v.streams s in
-    let more : nat_lt k.decoded (length k.blocks) ≡ true = lawful_decode (nat_le (2 ^ 62) s) k.cancelled (nat_lt k.decoded (length k.blocks)) 2 h in
-    let b = within_some k.blocks k.decoded (ltb-true _ _ more) in
-    (_, _, inl (record { block = b.0; is_next = b.1; answers = refl; moves = refl }), λ x. absurd cc)
+    let k = stream_at v.streams s in
+    let more : nat_lt k.decoded (length k.blocks) ≡ true =
+    lawful_decode (nat_le (2 ^ 62) s) k.cancelled (nat_lt k.decoded (length k.blocks)) 2 h in
+    let b = within_some k.blocks k.decoded (ltb-true _ _ more) in (
+      _,
+      _,
+      inl (record { block = b.0; is_next = b.1; answers = refl; moves = refl }),
+      decode_no_memory (reading_of_bytes (window v.decoder) b.0.bytes),
+    )
 lawful_answers v (ToDecoder n) h = to_decoder v n
 lawful_answers v (ToEncoder n) h = to_encoder v n
 lawful_answers v (Acknowledge s) h = (_, _, inl (refl, refl), λ x. absurd cc)
@@ -150,12 +245,12 @@ lawful_answers v (Cancel s) h = (_, _, inl (refl, refl), λ x. absurd cc)
 lawful_answers v (ChangeCapacity n) h = go (resized v.encoder n) refl
   where
     go : (r : Result Table Refusal) → resized v.encoder n ≡ r → Answers v (ChangeCapacity n)
-    go (Ok t) q = (_, _, inl (t, q, refl, refl), λ x. absurd cc)
-    go (Err e) q = (_, _, inr (inl (e, q, refl, refl)), λ x. absurd cc)
+    go (Ok t) q = (_, _, inl (record { table = t; is_set = q; answers = refl; leads = refl }), λ x. absurd cc)
+    go (Err e) q = (_, _, inr (inl (record { refusal = e; is_refused = q; answers = refl; stays = refl })), λ x. absurd cc)
 
 pub events_answer : EventsHaveAnswers
 events_answer v e = go (skip_reason v e) refl
   where
     go : (o : Option ℕ) → skip_reason v e ≡ o → (o : Outcome) × (v' : Session) × Goes v e o v' × (o ≡ NoMemory → ⊥)
-    go (Some r) q = (_, _, inl (r, q, refl, refl), λ x. absurd cc)
+    go (Some r) q = (_, _, inl (record { reason = r; is_reason = q; answers = refl; stays = refl }), λ x. absurd cc)
     go None q = let a = lawful_answers v e q in (a.0, a.1, inr (q, a.2), a.3)

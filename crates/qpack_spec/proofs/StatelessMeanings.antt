@@ -1,5 +1,7 @@
 -- Sections read alone: reading from left to right finds exactly what they mean.
-use Rattle.std.proofs.Common.{◌≡◌, ℕ, zero, suc, ◌+◌, ◌<◌, ◌≤◌, List, [], ◌∷◌, ◌++◌, length, Option, Some, Result, Ok, Err, refl, sym, ap, subst, ◌∙◌, append_assoc, zero-add, arith, inl, inr, length-append, ◌⊎◌}
+use Rattle.std.proofs.Common.{◌≡◌, ℕ, zero, suc, ◌+◌, ◌<◌, ◌≤◌, List, [], ◌∷◌, ◌++◌, length, Option, Some, Result, Ok}
+use Rattle.std.proofs.Common.{Err, refl, sym, ap, subst, ◌∙◌, append_assoc, zero-add, arith, inl, inr, length-append}
+use Rattle.std.proofs.Common.{◌⊎◌}
 use Rattle.std.proofs.lemmas.Bool.{lt-ltb, le-ltb, cases_lt}
 use Rattle.qpack_spec.specs.Bytes.{◌>>=◌}
 use Rattle.qpack_spec.specs.Field.{Field, field_size, total_size}
@@ -8,8 +10,10 @@ use Rattle.qpack_spec.specs.Line.{Line, line_form, SpellsLine, NamedPostBase, In
 use Rattle.qpack_spec.specs.Prefix.{Prefix, SpellsPrefix, prefix_at}
 use Rattle.qpack_spec.specs.Stream.{Joined}
 use Rattle.qpack_spec.specs.Reading.{BadForm}
-use Rattle.qpack_spec.specs.Stateless.{StatelessFault, BadSection, NamesEntry, TooLong, held_size, field_alone, or_bad_bytes, within_limit, stateless_at, stateless_reading}
-use Rattle.qpack_spec.specs.StatelessMeaning.{SpellsFieldAlone, StopsLine, post_base, in_bytes, in_line, past_limit, StopsBehind, in_prefix, in_lines, GivesAlone, ReadingAloneIsMeaning}
+use Rattle.qpack_spec.specs.Stateless.{StatelessFault, BadSection, NamesEntry, TooLong, held_size, field_alone}
+use Rattle.qpack_spec.specs.Stateless.{or_bad_bytes, within_limit, stateless_at, stateless_reading}
+use Rattle.qpack_spec.specs.StatelessMeaning.{SpellsFieldAlone, StopsLine, post_base, in_bytes, in_line, past_limit}
+use Rattle.qpack_spec.specs.StatelessMeaning.{StopsBehind, in_prefix, in_lines, GivesAlone, ReadingAloneIsMeaning}
 use Rattle.qpack_spec.proofs.Sizes.{total_first}
 use Rattle.qpack_spec.proofs.FormLaws.{form_takes, form_again}
 use Rattle.qpack_spec.proofs.BlockReadings.{prefix_takes, prefix_again}
@@ -20,23 +24,26 @@ abbrev bad : StatelessFault → Result (List Field) StatelessFault
 bad e = Err e
 
 -- a field in front
-abbrev before : Field → Result (List Field) StatelessFault → Result (List Field) StatelessFault
+abbrev pub before : Field → Result (List Field) StatelessFault → Result (List Field) StatelessFault
 before f r = r >>= λ fs. Ok (f ∷ fs)
 
-limited : ℕ → ℕ → ℕ → Field → List ℕ → Result (List Field) StatelessFault
-limited steps limit sum f rest = within_limit limit sum f >>= λ g. before g (stateless_at steps limit (sum + field_size g) rest)
+unfoldable pub limited : ℕ → ℕ → ℕ → Field → List ℕ → Result (List Field) StatelessFault
+limited steps limit sum f rest =
+    within_limit limit sum f >>= λ g. before g (stateless_at steps limit (sum + field_size g) rest)
 
-meant : ℕ → ℕ → ℕ → Result Field StatelessFault → List ℕ → Result (List Field) StatelessFault
+unfoldable pub meant : ℕ → ℕ → ℕ → Result Field StatelessFault → List ℕ → Result (List Field) StatelessFault
 meant steps limit sum r rest = r >>= λ f. limited steps limit sum f rest
 
-next : ℕ → ℕ → ℕ → Result (Line × List ℕ) FormFault → Result (List Field) StatelessFault
+unfoldable pub next : ℕ → ℕ → ℕ → Result (Line × List ℕ) FormFault → Result (List Field) StatelessFault
 next steps limit sum r = or_bad_bytes r >>= λ l. meant steps limit sum (field_alone l.0) l.1
 
-low_is : (steps limit sum b : ℕ) (bytes : List ℕ) → b < 32 → stateless_at (suc steps) limit sum (b ∷ bytes) ≡ bad NamesEntry
+pub low_is : (steps limit sum b : ℕ) (bytes : List ℕ) → b < 32
+    → stateless_at (suc steps) limit sum (b ∷ bytes) ≡ bad NamesEntry
 unfolding stateless_at
 low_is steps limit sum b bytes h = rw (lt-ltb b 32 h) refl
 
-high_is : (steps limit sum b : ℕ) (bytes : List ℕ) → 32 ≤ b → stateless_at (suc steps) limit sum (b ∷ bytes) ≡ next steps limit sum (form_at line_form (b ∷ bytes))
+pub high_is : (steps limit sum b : ℕ) (bytes : List ℕ) → 32 ≤ b
+    → stateless_at (suc steps) limit sum (b ∷ bytes) ≡ next steps limit sum (form_at line_form (b ∷ bytes))
 unfolding stateless_at next meant limited
 high_is steps limit sum b bytes h = rw (le-ltb b 32 h) refl
 
@@ -44,7 +51,8 @@ next_bad : (steps limit sum : ℕ) (e : FormFault) → next steps limit sum (Err
 unfolding next
 next_bad steps limit sum e = refl
 
-next_ok : (steps limit sum : ℕ) (l : Line) (rest : List ℕ) → next steps limit sum (Ok (l, rest)) ≡ meant steps limit sum (field_alone l) rest
+pub next_ok : (steps limit sum : ℕ) (l : Line) (rest : List ℕ)
+    → next steps limit sum (Ok (l, rest)) ≡ meant steps limit sum (field_alone l) rest
 unfolding next
 next_ok steps limit sum l rest = refl
 
@@ -52,19 +60,22 @@ meant_bad : (steps limit sum : ℕ) (e : StatelessFault) (rest : List ℕ) → m
 unfolding meant
 meant_bad steps limit sum e rest = refl
 
-meant_ok : (steps limit sum : ℕ) (f : Field) (rest : List ℕ) → meant steps limit sum (Ok f) rest ≡ limited steps limit sum f rest
+pub meant_ok : (steps limit sum : ℕ) (f : Field) (rest : List ℕ)
+    → meant steps limit sum (Ok f) rest ≡ limited steps limit sum f rest
 unfolding meant
 meant_ok steps limit sum f rest = refl
 
-limited_long : (steps limit sum : ℕ) (f : Field) (rest : List ℕ) → limit < held_size (sum + field_size f) → limited steps limit sum f rest ≡ bad (TooLong (held_size (sum + field_size f)))
+pub limited_long : (steps limit sum : ℕ) (f : Field) (rest : List ℕ) → limit < held_size (sum + field_size f)
+    → limited steps limit sum f rest ≡ bad (TooLong (held_size (sum + field_size f)))
 unfolding limited
 limited_long steps limit sum f rest h = rw (lt-ltb _ _ h) refl
 
-limited_ok : (steps limit sum : ℕ) (f : Field) (rest : List ℕ) → held_size (sum + field_size f) ≤ limit → limited steps limit sum f rest ≡ before f (stateless_at steps limit (sum + field_size f) rest)
+pub limited_ok : (steps limit sum : ℕ) (f : Field) (rest : List ℕ) → held_size (sum + field_size f) ≤ limit
+    → limited steps limit sum f rest ≡ before f (stateless_at steps limit (sum + field_size f) rest)
 unfolding limited
 limited_ok steps limit sum f rest h = rw (le-ltb _ _ h) refl
 
-nothing_left : (steps limit sum : ℕ) → stateless_at steps limit sum [] ≡ Ok []
+pub nothing_left : (steps limit sum : ℕ) → stateless_at steps limit sum [] ≡ Ok []
 unfolding stateless_at
 nothing_left zero limit sum = refl
 nothing_left (suc steps) limit sum = refl
@@ -82,16 +93,28 @@ sum_none sum = omega arith
 low_none : (limit sum : ℕ) → held_size sum ≤ limit → held_size (sum + total_size []) ≤ limit
 low_none limit sum h = subst (λ (n : ℕ). held_size n ≤ limit) (sym (sum_none sum)) h
 
-stops_here : (limit sum b : ℕ) (bytes : List ℕ) (e : StatelessFault) → held_size sum ≤ limit → StopsLine limit sum b bytes e → StopsBehind limit sum (b ∷ bytes) e
+stops_here : (limit sum b : ℕ) (bytes : List ℕ) (e : StatelessFault) → held_size sum ≤ limit
+    → StopsLine limit sum b bytes e → StopsBehind limit sum (b ∷ bytes) e
 stops_here limit sum b bytes e low s =
-    record { front = []; first = b; more = bytes; cut = refl; so_far = []; joined = refl; within = low_none limit sum low; stops = subst (λ (n : ℕ). StopsLine limit n b bytes e) (sym (sum_none sum)) s }
+    record {
+      front = [];
+      first = b;
+      more = bytes;
+      cut = refl;
+      so_far = [];
+      joined = refl;
+      within = low_none limit sum low;
+      stops = subst (λ (n : ℕ). StopsLine limit n b bytes e) (sym (sum_none sum)) s;
+    }
 
 sum_first : (sum : ℕ) (f : Field) (fs : List Field) → sum + field_size f + total_size fs ≡ sum + total_size (f ∷ fs)
 sum_first sum f fs = omega (arith, total_first f fs)
 
-line_before : (limit sum : ℕ) (text more : List ℕ) (f : Field) (r : Result (List Field) StatelessFault) → SpellsFieldAlone text f
+line_before : (limit sum : ℕ) (text more : List ℕ) (f : Field) (r : Result (List Field) StatelessFault)
+    → SpellsFieldAlone text f
     → LinesGive limit (sum + field_size f) more r → LinesGive limit sum (text ++ more) (before f r)
-line_before limit sum text more f (Ok fs) s k = ((text, more, refl, s, k.0), subst (λ (n : ℕ). held_size n ≤ limit) (sum_first sum f fs) k.1)
+line_before limit sum text more f (Ok fs) s k =
+    ((text, more, refl, s, k.0), subst (λ (n : ℕ). held_size n ≤ limit) (sum_first sum f fs) k.1)
 line_before limit sum text more f (Err e) s k =
     record {
       front = text ++ k.front;
@@ -107,46 +130,65 @@ line_before limit sum text more f (Err e) s k =
 spelled_length : (text more : List ℕ) (l : Line) → SpellsLine text l → length more < length (text ++ more)
 spelled_length text more l s = omega (arith, length-append text more, ap length s.begins)
 
-lines_found : (steps limit sum : ℕ) (bytes : List ℕ) → length bytes ≤ steps → held_size sum ≤ limit → LinesGive limit sum bytes (stateless_at steps limit sum bytes)
-lines_found steps limit sum [] h low = subst (LinesGive limit sum []) (sym (nothing_left steps limit sum)) (refl, low_none limit sum low)
+lines_found : (steps limit sum : ℕ) (bytes : List ℕ) → length bytes ≤ steps → held_size sum ≤ limit
+    → LinesGive limit sum bytes (stateless_at steps limit sum bytes)
+lines_found steps limit sum [] h low =
+    subst (LinesGive limit sum []) (sym (nothing_left steps limit sum)) (refl, low_none limit sum low)
 lines_found zero limit sum (b ∷ bytes) h low = absurd (omega arith)
-lines_found (suc steps) limit sum (b ∷ bytes) h low = by_first (λ n x le low'. lines_found steps limit n x le low') (cases_lt b 32)
+lines_found (suc steps) limit sum (b ∷ bytes) h low =
+    by_first (λ n x le low'. lines_found steps limit n x le low') (cases_lt b 32)
   where
-    by_limit : (l : Line) (rest text : List ℕ) (f : Field) → b ∷ bytes ≡ text ++ rest → SpellsLine text l → field_alone l ≡ Ok f
-        → ((n : ℕ) (x : List ℕ) → length x ≤ steps → held_size n ≤ limit → LinesGive limit n x (stateless_at steps limit n x))
-        → (limit < held_size (sum + field_size f)) ⊎ (held_size (sum + field_size f) ≤ limit) → LinesGive limit sum (b ∷ bytes) (limited steps limit sum f rest)
+    by_limit : (l : Line) (rest text : List ℕ) (f : Field) → b ∷ bytes ≡ text ++ rest → SpellsLine text l
+        → field_alone l ≡ Ok f
+        → ((n : ℕ) (x : List ℕ) → length x ≤ steps → held_size n ≤ limit
+        → LinesGive limit n x (stateless_at steps limit n x))
+        → (limit < held_size (sum + field_size f)) ⊎ (held_size (sum + field_size f) ≤ limit)
+        → LinesGive limit sum (b ∷ bytes) (limited steps limit sum f rest)
     by_limit l rest text f p s m found (inl long) =
         subst (LinesGive limit sum (b ∷ bytes)) (sym (limited_long steps limit sum f rest long))
-        (stops_here limit sum b bytes (TooLong (held_size (sum + field_size f))) low (past_limit text rest f p (l, s, m) long refl))
+        (stops_here limit sum b bytes (TooLong (held_size (sum + field_size f))) low
+        (past_limit text rest f p (l, s, m) long refl))
     by_limit l rest text f p s m found (inr fits) =
         let short : length rest ≤ steps = omega (arith, h, ap length p, spelled_length text rest l s) in
         subst (LinesGive limit sum (b ∷ bytes)) (sym (limited_ok steps limit sum f rest fits))
-        (subst (λ (x : List ℕ). LinesGive limit sum x (before f (stateless_at steps limit (sum + field_size f) rest))) (sym p)
-        (line_before limit sum text rest f (stateless_at steps limit (sum + field_size f) rest) (l, s, m) (found (sum + field_size f) rest short fits)))
+        (subst (λ (x : List ℕ). LinesGive limit sum x (before f (stateless_at steps limit (sum + field_size f) rest)))
+        (sym p)
+        (line_before limit sum text rest f (stateless_at steps limit (sum + field_size f) rest) (l, s, m)
+        (found (sum + field_size f) rest short fits)))
 
     by_meaning : (l : Line) (rest text : List ℕ) → 32 ≤ b → b ∷ bytes ≡ text ++ rest → SpellsLine text l
-        → ((n : ℕ) (x : List ℕ) → length x ≤ steps → held_size n ≤ limit → LinesGive limit n x (stateless_at steps limit n x))
-        → (r : Result Field StatelessFault) → field_alone l ≡ r → LinesGive limit sum (b ∷ bytes) (meant steps limit sum r rest)
+        → ((n : ℕ) (x : List ℕ) → length x ≤ steps → held_size n ≤ limit
+        → LinesGive limit n x (stateless_at steps limit n x))
+        → (r : Result Field StatelessFault) → field_alone l ≡ r
+        → LinesGive limit sum (b ∷ bytes) (meant steps limit sum r rest)
     by_meaning l rest text high p s found (Err e) m =
-        subst (LinesGive limit sum (b ∷ bytes)) (sym (meant_bad steps limit sum e rest)) (stops_here limit sum b bytes e low (in_line high text rest l p s m))
+        subst (LinesGive limit sum (b ∷ bytes)) (sym (meant_bad steps limit sum e rest))
+        (stops_here limit sum b bytes e low (in_line high text rest l p s m))
     by_meaning l rest text high p s found (Ok f) m =
         subst (LinesGive limit sum (b ∷ bytes)) (sym (meant_ok steps limit sum f rest))
         (by_limit l rest text f p s m found (cases_lt limit (held_size (sum + field_size f))))
 
-    by_form : 32 ≤ b → ((n : ℕ) (x : List ℕ) → length x ≤ steps → held_size n ≤ limit → LinesGive limit n x (stateless_at steps limit n x))
-        → (r : Result (Line × List ℕ) FormFault) → form_at line_form (b ∷ bytes) ≡ r → LinesGive limit sum (b ∷ bytes) (next steps limit sum r)
+    by_form : 32 ≤ b → ((n : ℕ) (x : List ℕ) → length x ≤ steps → held_size n ≤ limit
+        → LinesGive limit n x (stateless_at steps limit n x))
+        → (r : Result (Line × List ℕ) FormFault) → form_at line_form (b ∷ bytes) ≡ r
+        → LinesGive limit sum (b ∷ bytes) (next steps limit sum r)
     by_form high found (Err e) q =
-        subst (LinesGive limit sum (b ∷ bytes)) (sym (next_bad steps limit sum e)) (stops_here limit sum b bytes (BadSection (BadForm e)) low (in_bytes high e q refl))
+        subst (LinesGive limit sum (b ∷ bytes)) (sym (next_bad steps limit sum e))
+        (stops_here limit sum b bytes (BadSection (BadForm e)) low (in_bytes high e q refl))
     by_form high found (Ok r) q =
         let t = form_takes line_form (b ∷ bytes) r.0 r.1 q in
-        subst (LinesGive limit sum (b ∷ bytes)) (sym (next_ok steps limit sum r.0 r.1)) (by_meaning r.0 r.1 t.text high t.parts t.spells found (field_alone r.0) refl)
+        subst (LinesGive limit sum (b ∷ bytes)) (sym (next_ok steps limit sum r.0 r.1))
+        (by_meaning r.0 r.1 t.text high t.parts t.spells found (field_alone r.0) refl)
 
-    by_first : ((n : ℕ) (x : List ℕ) → length x ≤ steps → held_size n ≤ limit → LinesGive limit n x (stateless_at steps limit n x))
+    by_first : ((n : ℕ) (x : List ℕ) → length x ≤ steps → held_size n ≤ limit
+        → LinesGive limit n x (stateless_at steps limit n x))
         → (b < 32) ⊎ (32 ≤ b) → LinesGive limit sum (b ∷ bytes) (stateless_at (suc steps) limit sum (b ∷ bytes))
     by_first found (inl less) =
-        subst (LinesGive limit sum (b ∷ bytes)) (sym (low_is steps limit sum b bytes less)) (stops_here limit sum b bytes NamesEntry low (post_base less refl))
+        subst (LinesGive limit sum (b ∷ bytes)) (sym (low_is steps limit sum b bytes less))
+        (stops_here limit sum b bytes NamesEntry low (post_base less refl))
     by_first found (inr high) =
-        subst (LinesGive limit sum (b ∷ bytes)) (sym (high_is steps limit sum b bytes high)) (by_form high found (form_at line_form (b ∷ bytes)) refl)
+        subst (LinesGive limit sum (b ∷ bytes)) (sym (high_is steps limit sum b bytes high))
+        (by_form high found (form_at line_form (b ∷ bytes)) refl)
 
 -- ---- and nothing else
 
@@ -162,15 +204,18 @@ same_form : (o : Option (Form Line)) (f g : Form Line) → o ≡ Some f → o �
 same_form o f g p q = cc
 
 -- a post-base line means nothing alone
-low_means : (b : ℕ) (text : List ℕ) (l : Line) (form : Form Line) → b < 32 → line_form b ≡ Some form → SpellsForm form text l → field_alone l ≡ Err NamesEntry
+pub low_means : (b : ℕ) (text : List ℕ) (l : Line) (form : Form Line) → b < 32 → line_form b ≡ Some form
+    → SpellsForm form text l → field_alone l ≡ Err NamesEntry
 low_means b text l form h named s = pick (cases_lt b 16)
   where
     pick : (b < 16) ⊎ (16 ≤ b) → field_alone l ≡ Err NamesEntry
     pick (inl p) =
-        let k = subst (λ (x : Form Line). SpellsForm x text l) (same_form (line_form b) form (IndexAndValue 3 NamedPostBase) named (form_below b p)) s in
+        let k = subst (λ (x : Form Line). SpellsForm x text l)
+        (same_form (line_form b) form (IndexAndValue 3 NamedPostBase) named (form_below b p)) s in
         ap field_alone k.3
     pick (inr p) =
-        let k = subst (λ (x : Form Line). SpellsForm x text l) (same_form (line_form b) form (Index 4 IndexedPostBase) named (form_between b p h)) s in
+        let k = subst (λ (x : Form Line). SpellsForm x text l)
+        (same_form (line_form b) form (Index 4 IndexedPostBase) named (form_between b p h)) s in
         ap field_alone k.2
 
 no_entry : (l : Line) (f : Field) → field_alone l ≡ Ok f → field_alone l ≡ Err NamesEntry → ⊥
@@ -188,9 +233,12 @@ step : (steps limit sum : ℕ) (text more : List ℕ) (f : Field) → SpellsFiel
     → stateless_at (suc steps) limit sum (text ++ more) ≡ limited steps limit sum f more
 step steps limit sum text more f s =
     let split : text ++ more ≡ s.1.first ∷ (s.1.more ++ more) = ap (λ x. x ++ more) s.1.begins in
-    let read : form_at line_form (s.1.first ∷ (s.1.more ++ more)) ≡ Ok (s.0, more) = ap (form_at line_form) (sym split) ∙ form_again line_form text more s.0 s.1 in
-    ap (stateless_at (suc steps) limit sum) split ∙ high_is steps limit sum s.1.first (s.1.more ++ more) (high_first text f s)
-    ∙ ap (next steps limit sum) read ∙ next_ok steps limit sum s.0 more ∙ ap (λ r. meant steps limit sum r more) s.2 ∙ meant_ok steps limit sum f more
+    let read : form_at line_form (s.1.first ∷ (s.1.more ++ more)) ≡ Ok (s.0, more) =
+    ap (form_at line_form) (sym split) ∙ form_again line_form text more s.0 s.1 in
+    ap (stateless_at (suc steps) limit sum) split
+    ∙ high_is steps limit sum s.1.first (s.1.more ++ more) (high_first text f s)
+    ∙ ap (next steps limit sum) read ∙ next_ok steps limit sum s.0 more ∙ ap (λ r. meant steps limit sum r more) s.2
+    ∙ meant_ok steps limit sum f more
 
 field_length : (text more : List ℕ) (f : Field) → SpellsFieldAlone text f → length more < length (text ++ more)
 field_length text more f s = spelled_length text more s.0 s.1
@@ -200,61 +248,76 @@ fits_first : (limit sum : ℕ) (f : Field) (fs : List Field) → held_size (sum 
     → (held_size (sum + field_size f) ≤ limit) × (held_size (sum + field_size f + total_size fs) ≤ limit)
 fits_first limit sum f fs h = (omega (arith, h, total_first f fs), omega (arith, h, total_first f fs))
 
-lines_read : (steps limit sum : ℕ) (bytes : List ℕ) (fs : List Field) → length bytes ≤ steps → Joined SpellsFieldAlone bytes fs → held_size (sum + total_size fs) ≤ limit
+lines_read : (steps limit sum : ℕ) (bytes : List ℕ) (fs : List Field) → length bytes ≤ steps
+    → Joined SpellsFieldAlone bytes fs → held_size (sum + total_size fs) ≤ limit
     → stateless_at steps limit sum bytes ≡ Ok fs
 lines_read steps limit sum bytes [] h j low = ap (stateless_at steps limit sum) j ∙ nothing_left steps limit sum
 lines_read zero limit sum bytes (f ∷ fs) h j low = absurd (omega (arith, ap length j.2, field_length j.0 j.1 f j.3))
 lines_read (suc steps) limit sum bytes (f ∷ fs) h j low =
     let fits = fits_first limit sum f fs low in
     let short : length j.1 ≤ steps = omega (arith, h, ap length j.2, field_length j.0 j.1 f j.3) in
-    ap (stateless_at (suc steps) limit sum) j.2 ∙ step steps limit sum j.0 j.1 f j.3 ∙ limited_ok steps limit sum f j.1 fits.0
+    ap (stateless_at (suc steps) limit sum) j.2 ∙ step steps limit sum j.0 j.1 f j.3
+    ∙ limited_ok steps limit sum f j.1 fits.0
     ∙ ap (before f) (lines_read steps limit (sum + field_size f) j.1 fs short j.4 fits.1)
 
 -- the next line stops the reading
-stop_read : (steps limit sum first : ℕ) (more : List ℕ) (e : StatelessFault) → length (first ∷ more) ≤ steps → StopsLine limit sum first more e
+stop_read : (steps limit sum first : ℕ) (more : List ℕ) (e : StatelessFault) → length (first ∷ more) ≤ steps
+    → StopsLine limit sum first more e
     → stateless_at steps limit sum (first ∷ more) ≡ Err e
 stop_read zero limit sum first more e h s = absurd (omega arith)
-stop_read (suc steps) limit sum first more e h (post_base less same) = low_is steps limit sum first more less ∙ ap bad (sym same)
+stop_read (suc steps) limit sum first more e h (post_base less same) =
+    low_is steps limit sum first more less ∙ ap bad (sym same)
 stop_read (suc steps) limit sum first more e h (in_bytes high fault q same) =
-    high_is steps limit sum first more high ∙ ap (next steps limit sum) q ∙ next_bad steps limit sum fault ∙ ap bad (sym same)
+    high_is steps limit sum first more high ∙ ap (next steps limit sum) q ∙ next_bad steps limit sum fault
+    ∙ ap bad (sym same)
 stop_read (suc steps) limit sum first more e h (in_line high text rest l cut s m) =
-    let read : form_at line_form (first ∷ more) ≡ Ok (l, rest) = ap (form_at line_form) cut ∙ form_again line_form text rest l s in
-    high_is steps limit sum first more high ∙ ap (next steps limit sum) read ∙ next_ok steps limit sum l rest ∙ ap (λ r. meant steps limit sum r rest) m ∙ meant_bad steps limit sum e rest
+    let read : form_at line_form (first ∷ more) ≡ Ok (l, rest) =
+    ap (form_at line_form) cut ∙ form_again line_form text rest l s in
+    high_is steps limit sum first more high ∙ ap (next steps limit sum) read ∙ next_ok steps limit sum l rest
+    ∙ ap (λ r. meant steps limit sum r rest) m ∙ meant_bad steps limit sum e rest
 stop_read (suc steps) limit sum first more e h (past_limit text rest f cut s long same) =
-    ap (stateless_at (suc steps) limit sum) cut ∙ step steps limit sum text rest f s ∙ limited_long steps limit sum f rest long ∙ ap bad (sym same)
+    ap (stateless_at (suc steps) limit sum) cut ∙ step steps limit sum text rest f s
+    ∙ limited_long steps limit sum f rest long ∙ ap bad (sym same)
 
 -- lines that mean fields, and then one that stops
-front_read : (steps limit sum : ℕ) (front : List ℕ) (fs : List Field) (first : ℕ) (more : List ℕ) (e : StatelessFault) → length (front ++ first ∷ more) ≤ steps
-    → Joined SpellsFieldAlone front fs → held_size (sum + total_size fs) ≤ limit → StopsLine limit (sum + total_size fs) first more e
+front_read : (steps limit sum : ℕ) (front : List ℕ) (fs : List Field) (first : ℕ) (more : List ℕ) (e : StatelessFault)
+    → length (front ++ first ∷ more) ≤ steps
+    → Joined SpellsFieldAlone front fs → held_size (sum + total_size fs) ≤ limit
+    → StopsLine limit (sum + total_size fs) first more e
     → stateless_at steps limit sum (front ++ first ∷ more) ≡ Err e
 front_read steps limit sum front [] first more e h j low s =
     let none : sum + total_size [] ≡ sum = sum_none sum in
     ap (λ x. stateless_at steps limit sum (x ++ first ∷ more)) j
-    ∙ stop_read steps limit sum first more e (omega (arith, h, length-append front (first ∷ more))) (subst (λ (n : ℕ). StopsLine limit n first more e) none s)
+    ∙ stop_read steps limit sum first more e (omega (arith, h, length-append front (first ∷ more)))
+    (subst (λ (n : ℕ). StopsLine limit n first more e) none s)
 front_read zero limit sum front (f ∷ fs) first more e h j low s =
     absurd (omega (arith, h, length-append front (first ∷ more), ap length j.2, field_length j.0 j.1 f j.3))
 front_read (suc steps) limit sum front (f ∷ fs) first more e h j low s =
     let fits = fits_first limit sum f fs low in
     let rest = j.1 ++ first ∷ more in
-    let split : front ++ first ∷ more ≡ j.0 ++ rest = ap (λ x. x ++ first ∷ more) j.2 ∙ append_assoc j.0 j.1 (first ∷ more) in
+    let split : front ++ first ∷ more ≡ j.0 ++ rest =
+    ap (λ x. x ++ first ∷ more) j.2 ∙ append_assoc j.0 j.1 (first ∷ more) in
     let short : length rest ≤ steps = omega (arith, h, ap length split, field_length j.0 rest f j.3) in
-    ap (stateless_at (suc steps) limit sum) split ∙ step steps limit sum j.0 rest f j.3 ∙ limited_ok steps limit sum f rest fits.0
-    ∙ ap (before f) (front_read steps limit (sum + field_size f) j.1 fs first more e short j.4 fits.1 (subst (λ (n : ℕ). StopsLine limit n first more e) (sym (sum_first sum f fs)) s))
+    ap (stateless_at (suc steps) limit sum) split ∙ step steps limit sum j.0 rest f j.3
+    ∙ limited_ok steps limit sum f rest fits.0
+    ∙ ap (before f) (front_read steps limit (sum + field_size f) j.1 fs first more e short j.4 fits.1
+    (subst (λ (n : ℕ). StopsLine limit n first more e) (sym (sum_first sum f fs)) s))
 
 -- ---- whole sections
 
-behind_prefix : ℕ → Result (Prefix × List ℕ) FormFault → Result (List Field) StatelessFault
+unfoldable pub behind_prefix : ℕ → Result (Prefix × List ℕ) FormFault → Result (List Field) StatelessFault
 behind_prefix limit r = or_bad_bytes r >>= λ p. stateless_at (length p.1) limit 0 p.1
 
-section_is : (limit : ℕ) (bytes : List ℕ) → stateless_reading limit bytes ≡ behind_prefix limit (prefix_at bytes)
+pub section_is : (limit : ℕ) (bytes : List ℕ) → stateless_reading limit bytes ≡ behind_prefix limit (prefix_at bytes)
 unfolding stateless_reading behind_prefix
 section_is limit bytes = refl
 
-prefix_bad : (limit : ℕ) (e : FormFault) → behind_prefix limit (Err e) ≡ bad (BadSection (BadForm e))
+pub prefix_bad : (limit : ℕ) (e : FormFault) → behind_prefix limit (Err e) ≡ bad (BadSection (BadForm e))
 unfolding behind_prefix
 prefix_bad limit e = refl
 
-prefix_ok : (limit : ℕ) (p : Prefix) (rest : List ℕ) → behind_prefix limit (Ok (p, rest)) ≡ stateless_at (length rest) limit 0 rest
+pub prefix_ok : (limit : ℕ) (p : Prefix) (rest : List ℕ)
+    → behind_prefix limit (Ok (p, rest)) ≡ stateless_at (length rest) limit 0 rest
 unfolding behind_prefix
 prefix_ok limit p rest = refl
 
@@ -264,9 +327,18 @@ held_none limit = omega arith
 section_found : (limit : ℕ) (bytes : List ℕ) → GivesAlone limit bytes (stateless_reading limit bytes)
 section_found limit bytes = subst (GivesAlone limit bytes) (sym (section_is limit bytes)) (go (prefix_at bytes) refl)
   where
-    behind : (head lines : List ℕ) (p : Prefix) → bytes ≡ head ++ lines → SpellsPrefix head p → (r : Result (List Field) StatelessFault) → LinesGive limit 0 lines r → GivesAlone limit bytes r
+    behind : (head lines : List ℕ) (p : Prefix) → bytes ≡ head ++ lines → SpellsPrefix head p
+        → (r : Result (List Field) StatelessFault) → LinesGive limit 0 lines r → GivesAlone limit bytes r
     behind head lines p cut s (Ok fs) k =
-        record { head = head; lines = lines; cut = cut; prefix = p; spells = s; joined = k.0; within = subst (λ (n : ℕ). held_size n ≤ limit) (zero-add (total_size fs)) k.1 }
+        record {
+          head = head;
+          lines = lines;
+          cut = cut;
+          prefix = p;
+          spells = s;
+          joined = k.0;
+          within = subst (λ (n : ℕ). held_size n ≤ limit) (zero-add (total_size fs)) k.1;
+        }
     behind head lines p cut s (Err e) k = in_lines head lines p cut s k
 
     go : (r : Result (Prefix × List ℕ) FormFault) → prefix_at bytes ≡ r → GivesAlone limit bytes (behind_prefix limit r)
@@ -274,20 +346,28 @@ section_found limit bytes = subst (GivesAlone limit bytes) (sym (section_is limi
     go (Ok p) q =
         let t = prefix_takes bytes p.0 p.1 q in
         subst (GivesAlone limit bytes) (sym (prefix_ok limit p.0 p.1))
-        (behind t.text p.1 p.0 t.parts t.spells (stateless_at (length p.1) limit 0 p.1) (lines_found (length p.1) limit 0 p.1 (omega arith) (held_none limit)))
+        (behind t.text p.1 p.0 t.parts t.spells (stateless_at (length p.1) limit 0 p.1)
+        (lines_found (length p.1) limit 0 p.1 (omega arith) (held_none limit)))
 
-section_spelled : (limit : ℕ) (bytes head lines : List ℕ) (p : Prefix) → bytes ≡ head ++ lines → SpellsPrefix head p → stateless_reading limit bytes ≡ stateless_at (length lines) limit 0 lines
+section_spelled : (limit : ℕ) (bytes head lines : List ℕ) (p : Prefix) → bytes ≡ head ++ lines → SpellsPrefix head p
+    → stateless_reading limit bytes ≡ stateless_at (length lines) limit 0 lines
 section_spelled limit bytes head lines p cut s =
-    section_is limit bytes ∙ ap (behind_prefix limit) (ap prefix_at cut ∙ prefix_again head lines p s) ∙ prefix_ok limit p lines
+    section_is limit bytes ∙ ap (behind_prefix limit) (ap prefix_at cut ∙ prefix_again head lines p s)
+    ∙ prefix_ok limit p lines
 
-section_only : (limit : ℕ) (bytes : List ℕ) (r : Result (List Field) StatelessFault) → GivesAlone limit bytes r → stateless_reading limit bytes ≡ r
+section_only : (limit : ℕ) (bytes : List ℕ) (r : Result (List Field) StatelessFault) → GivesAlone limit bytes r
+    → stateless_reading limit bytes ≡ r
 section_only limit bytes (Ok fs) k =
     section_spelled limit bytes k.head k.lines k.prefix k.cut k.spells
-    ∙ lines_read (length k.lines) limit 0 k.lines fs (omega arith) k.joined (subst (λ (n : ℕ). held_size n ≤ limit) (sym (zero-add (total_size fs))) k.within)
-section_only limit bytes (Err e) (in_prefix fault q same) = section_is limit bytes ∙ ap (behind_prefix limit) q ∙ prefix_bad limit fault ∙ ap bad (sym same)
+    ∙ lines_read (length k.lines) limit 0 k.lines fs (omega arith) k.joined
+    (subst (λ (n : ℕ). held_size n ≤ limit) (sym (zero-add (total_size fs))) k.within)
+section_only limit bytes (Err e) (in_prefix fault q same) =
+    section_is limit bytes ∙ ap (behind_prefix limit) q ∙ prefix_bad limit fault ∙ ap bad (sym same)
 section_only limit bytes (Err e) (in_lines head lines p cut s k) =
     section_spelled limit bytes head lines p cut s ∙ ap (stateless_at (length lines) limit 0) k.cut
-    ∙ front_read (length lines) limit 0 k.front k.so_far k.first k.more e (omega (arith, ap length k.cut)) k.joined k.within k.stops
+    ∙ front_read (length lines) limit 0 k.front k.so_far k.first k.more e (omega (arith, ap length k.cut)) k.joined
+    k.within k.stops
 
 pub reading_alone : ReadingAloneIsMeaning
-reading_alone limit bytes r = (λ e. subst (GivesAlone limit bytes) e (section_found limit bytes), section_only limit bytes r)
+reading_alone limit bytes r =
+    (λ e. subst (GivesAlone limit bytes) e (section_found limit bytes), section_only limit bytes r)

@@ -2,23 +2,33 @@
 use Rattle.std.proofs.Common.{ℕ, ◌^◌, ◌≡◌, true, false, List, [], ◌∷◌, None, Some, Ok, Err, refl}
 use Rattle.std.specs.Prelude.{codes}
 use Rattle.qpack_spec.specs.Integer.{written_groups, groups_at, integer_at, written_integer, UnexpectedEnd}
-use Rattle.qpack_spec.specs.Huffman.{bits_of, ones, bytes_by_length, bytes_of_length, first_word, word_length, word_of, number_from, packed, payload_of, word_at, is_padding, item_at, text_at, text_of_bits}
+use Rattle.qpack_spec.specs.Huffman.{bits_of, ones, bytes_by_length, bytes_of_length, first_word, word_length, word_of}
+use Rattle.qpack_spec.specs.Huffman.{number_from, packed, payload_of, word_at, is_padding, item_at, text_at}
+use Rattle.qpack_spec.specs.Huffman.{text_of_bits}
 use Rattle.qpack_spec.specs.Text.{string_at, written_string, EndsEarly, LengthOverflows}
 use Rattle.qpack_spec.specs.Field.{Field}
 use Rattle.qpack_spec.specs.StaticTable.{field, static_table, static_place, static_name_place}
 use Rattle.qpack_spec.specs.Form.{BadInteger, BadString, made_at, form_at}
 use Rattle.qpack_spec.specs.Line.{line_form, written_line, written_lines}
-use Rattle.qpack_spec.specs.Instruction.{instruction_form, reply_form, written_instruction, written_instructions, written_reply, written_replies}
-use Rattle.qpack_spec.specs.Prefix.{prefix_for, required_at, read_required, read_base, read_prefix, written_prefix, prefix_at}
-use Rattle.qpack_spec.specs.Window.{excess, entry, recent, insertion, effect, after, NoEntry, NoStaticField, DoesNotFit, AboveMaximum, UnknownStream}
+use Rattle.qpack_spec.specs.Instruction.{instruction_form, reply_form, written_instruction, written_instructions}
+use Rattle.qpack_spec.specs.Instruction.{written_reply, written_replies}
+use Rattle.qpack_spec.specs.Prefix.{prefix_for, required_at, read_required, read_base, read_prefix, written_prefix}
+use Rattle.qpack_spec.specs.Prefix.{prefix_at}
+use Rattle.qpack_spec.specs.Window.{excess, entry, recent, insertion, effect, after, NoEntry, NoStaticField, DoesNotFit}
+use Rattle.qpack_spec.specs.Window.{AboveMaximum, UnknownStream}
 use Rattle.qpack_spec.specs.History.{window_of, whole, grown}
-use Rattle.qpack_spec.specs.Reading.{BadForm, NotStatic, static_field, relative_field, post_base_field, line_field, fields_of, names_of, references_of, greatest, reading}
+use Rattle.qpack_spec.specs.Reading.{BadForm, NotStatic, static_field, relative_field, post_base_field, line_field}
+use Rattle.qpack_spec.specs.Reading.{fields_of, names_of, references_of, greatest, reading}
 use Rattle.qpack_spec.specs.BlockReading.{fields_at, reading_of_bytes, written_block}
-use Rattle.qpack_spec.specs.Table.{window, track, naming, is_held, none_held, has_room, may_name, with_entry, last_place, newest, put, resized, applied, commit, unnamed, without_oldest, without_stream, raised, heard}
+use Rattle.qpack_spec.specs.Table.{window, track, naming, is_held, none_held, has_room, may_name, with_entry}
+use Rattle.qpack_spec.specs.Table.{last_place, newest, put, resized, applied, commit, unnamed, without_oldest}
+use Rattle.qpack_spec.specs.Table.{without_stream, raised, heard}
 use Rattle.qpack_spec.specs.Rule.{instruction_for, rule_field, rule}
 use Rattle.qpack_spec.specs.Session.{Encode, Decode, Acknowledge, Cancel}
-use Rattle.qpack_spec.specs.Stateless.{stateless_block, BadSection, NamesEntry, TooLong, stateless_at, stateless_reading}
-use Rattle.qpack_spec.specs.Session.{Session, opened, with_block, with_decoded, with_kept, kept_at, skip_reason, is_consumed}
+use Rattle.qpack_spec.specs.Stateless.{stateless_block, BadSection, NamesEntry, TooLong, stateless_at}
+use Rattle.qpack_spec.specs.Stateless.{stateless_reading}
+use Rattle.qpack_spec.specs.Session.{Session, opened, with_block, with_decoded, with_kept, stream_at, skip_reason}
+use Rattle.qpack_spec.specs.Session.{is_consumed}
 
 alone : List Field → List ℕ
 alone fs = written_block (stateless_block fs)
@@ -31,14 +41,23 @@ decoded_block : Session
 decoded_block = with_decoded one_block 4
 
 acknowledged_block : Session
-acknowledged_block = with_kept decoded_block 4 (record (kept_at decoded_block.streams 4) { acknowledged = 1 })
+acknowledged_block = with_kept decoded_block 4 (record (stream_at decoded_block.streams 4) { acknowledged = 1 })
 
 cancelled_stream : Session
-cancelled_stream = with_kept one_block 4 (record (kept_at one_block.streams 4) { cancelled = true })
+cancelled_stream = with_kept one_block 4 (record (stream_at one_block.streams 4) { cancelled = true })
 
 -- all that has to unfold
 rows : ℕ
-unfolding excess written_groups groups_at integer_at written_integer bits_of ones bytes_by_length bytes_of_length first_word word_length word_of number_from packed payload_of word_at is_padding item_at text_at text_of_bits string_at written_string static_table static_place static_name_place line_form written_line written_lines instruction_form reply_form written_instruction written_instructions written_reply written_replies made_at form_at prefix_for required_at read_required read_base read_prefix written_prefix prefix_at entry recent insertion effect after window_of whole grown static_field relative_field post_base_field line_field fields_of names_of references_of greatest reading fields_at reading_of_bytes written_block window track naming is_held none_held has_room may_name with_entry last_place newest put resized applied commit unnamed without_oldest without_stream raised heard instruction_for rule_field rule alone one_block decoded_block acknowledged_block cancelled_stream stateless_at stateless_reading skip_reason
+unfolding excess written_groups groups_at integer_at written_integer bits_of ones bytes_by_length bytes_of_length
+    first_word word_length word_of number_from packed payload_of word_at is_padding item_at text_at text_of_bits
+    string_at written_string static_table static_place static_name_place line_form written_line written_lines
+    instruction_form reply_form written_instruction written_instructions written_reply written_replies made_at form_at
+    prefix_for required_at read_required read_base read_prefix written_prefix prefix_at entry recent insertion effect
+    after window_of whole grown static_field relative_field post_base_field line_field fields_of names_of references_of
+    greatest reading fields_at reading_of_bytes written_block window track naming is_held none_held has_room may_name
+    with_entry last_place newest put resized applied commit unnamed without_oldest without_stream raised heard
+    instruction_for rule_field rule alone one_block decoded_block acknowledged_block cancelled_stream stateless_at
+    stateless_reading skip_reason
 rows = 0
 
 -- no fields
@@ -102,27 +121,33 @@ unfolding rows
 no_static = refl
 
 -- a name that is cut
-cut_name : (stateless_reading 9 (0 ∷ 0 ∷ 39 ∷ 255 ∷ 255 ∷ 255 ∷ 255 ∷ 255 ∷ 255 ∷ 255 ∷ 255 ∷ 127 ∷ [])) ≡ Err (BadSection (BadForm (BadString EndsEarly)))
+cut_name : (stateless_reading 9 (0 ∷ 0 ∷ 39 ∷ 255 ∷ 255 ∷ 255 ∷ 255 ∷ 255 ∷ 255 ∷ 255 ∷ 255 ∷ 127 ∷ []))
+    ≡ Err (BadSection (BadForm (BadString EndsEarly)))
 unfolding rows
 cut_name = refl
 
 -- a length that overflows
-long_name : (stateless_reading 9 (0 ∷ 0 ∷ 39 ∷ 255 ∷ 255 ∷ 255 ∷ 255 ∷ 255 ∷ 255 ∷ 255 ∷ 255 ∷ 255 ∷ [])) ≡ Err (BadSection (BadForm (BadString LengthOverflows)))
+long_name : (stateless_reading 9 (0 ∷ 0 ∷ 39 ∷ 255 ∷ 255 ∷ 255 ∷ 255 ∷ 255 ∷ 255 ∷ 255 ∷ 255 ∷ 255 ∷ []))
+    ≡ Err (BadSection (BadForm (BadString LengthOverflows)))
 unfolding rows
 long_name = refl
 
 -- two fields with the limit 2
-limit_2 : (stateless_reading 2 (alone ((field (codes "trailer") (codes "value")) ∷ (field (codes "trailer2") (codes "value2")) ∷ []))) ≡ Err (TooLong 44)
+limit_2 : (stateless_reading 2 (alone ((field (codes "trailer") (codes "value"))
+    ∷ (field (codes "trailer2") (codes "value2")) ∷ []))) ≡ Err (TooLong 44)
 unfolding rows
 limit_2 = refl
 
 -- two fields with the limit 89
-limit_89 : (stateless_reading 89 (alone ((field (codes "trailer") (codes "value")) ∷ (field (codes "trailer2") (codes "value2")) ∷ []))) ≡ Err (TooLong 90)
+limit_89 : (stateless_reading 89 (alone ((field (codes "trailer") (codes "value"))
+    ∷ (field (codes "trailer2") (codes "value2")) ∷ []))) ≡ Err (TooLong 90)
 unfolding rows
 limit_89 = refl
 
 -- two fields with the limit 90
-limit_90 : (stateless_reading 90 (alone ((field (codes "trailer") (codes "value")) ∷ (field (codes "trailer2") (codes "value2")) ∷ []))) ≡ Ok ((field (codes "trailer") (codes "value")) ∷ (field (codes "trailer2") (codes "value2")) ∷ [])
+limit_90 : (stateless_reading 90 (alone ((field (codes "trailer") (codes "value"))
+    ∷ (field (codes "trailer2") (codes "value2")) ∷ [])))
+    ≡ Ok ((field (codes "trailer") (codes "value")) ∷ (field (codes "trailer2") (codes "value2")) ∷ [])
 unfolding rows
 limit_90 = refl
 

@@ -1,5 +1,6 @@
 -- Looking into the static table from the front finds the least index.
-use Rattle.std.proofs.Common.{◌≡◌, ℕ, zero, suc, ◌+◌, ◌<◌, Bool, true, false, not, cond, ◌&&◌, ◌||◌, List, [], ◌∷◌, length, Option, Some, None, refl, sym, ap, ◌∙◌, arith, inl, inr}
+use Rattle.std.proofs.Common.{◌≡◌, ℕ, zero, suc, ◌+◌, ◌<◌, Bool, true, false, not, cond, ◌&&◌, ◌||◌, List, [], ◌∷◌}
+use Rattle.std.proofs.Common.{length, Option, Some, None, refl, sym, ap, ◌∙◌, arith, inl, inr}
 use Rattle.std.specs.Prelude.{slice_get, position, MatchOption}
 use Rattle.std.specs.List.{position_or_len, list_any}
 use Rattle.std.specs.Bool.{Decides}
@@ -22,14 +23,16 @@ step_before p y ys n x false is rest zero h e = ap p (sym (same_some y x e)) ∙
 step_before p y ys n x false is rest (suc k) h e = rest k (omega arith) e
 
 -- no element before the first that passes does
-fails_before : {X : Type 0} (p : X → Bool) (xs : List X) (x : X) (k : ℕ) → k < position_or_len p xs → slice_get xs k ≡ Some x → p x ≡ false
+fails_before : {X : Type 0} (p : X → Bool) (xs : List X) (x : X) (k : ℕ) → k < position_or_len p xs
+    → slice_get xs k ≡ Some x → p x ≡ false
 fails_before p [] x k h e = absurd cc
 fails_before p (y ∷ ys) x k h e =
     step_before p y ys (position_or_len p ys) x (p y) refl (λ i. fails_before p ys x i) k h e
 
 step_at : {X : Type 0} (p : X → Bool) (y : X) (ys : List X) (n : ℕ) (b : Bool) → p y ≡ b
     → (n < length ys → (x : X) × (slice_get ys n ≡ Some x) × (p x ≡ true))
-    → cond (not b) (1 + n) 0 < length (y ∷ ys) → (x : X) × (slice_get (y ∷ ys) (cond (not b) (1 + n) 0) ≡ Some x) × (p x ≡ true)
+    → cond (not b) (1 + n) 0 < length (y ∷ ys) → (x : X) × (slice_get (y ∷ ys) (cond (not b) (1 + n) 0) ≡ Some x)
+    × (p x ≡ true)
 step_at p y ys n true is rest h = (y, refl, is)
 step_at p y ys n false is rest h =
     let r = rest (omega arith) in
@@ -37,26 +40,32 @@ step_at p y ys n false is rest h =
     (r.0, rw e r.1, r.2)
 
 -- the first that passes
-passes_at : {X : Type 0} (p : X → Bool) (xs : List X) → position_or_len p xs < length xs → (x : X) × (slice_get xs (position_or_len p xs) ≡ Some x) × (p x ≡ true)
+passes_at : {X : Type 0} (p : X → Bool) (xs : List X) → position_or_len p xs < length xs
+    → (x : X) × (slice_get xs (position_or_len p xs) ≡ Some x) × (p x ≡ true)
 passes_at p [] h = absurd (omega arith)
 passes_at p (y ∷ ys) h = step_at p y ys (position_or_len p ys) (p y) refl (λ l. passes_at p ys l) h
 
 -- what a position says of a list, where the test decides Q
-pub record IsPlace {X : Type 0} (Q : X → Type 0) (xs : List X) (i : ℕ) : Type 0 where
+record IsPlace {X : Type 0} (Q : X → Type 0) (xs : List X) (i : ℕ) : Type 0 where
   pub at : (x : X) × (slice_get xs i ≡ Some x) × Q x
   pub before : (k : ℕ) (x : X) → k < i → slice_get xs k ≡ Some x → Q x → ⊥
 
-pub places : {X : Type 0} (p : X → Bool) (Q : X → Type 0) (xs : List X) → ((x : X) → Decides (p x) (Q x))
+places : {X : Type 0} (p : X → Bool) (Q : X → Type 0) (xs : List X) → ((x : X) → Decides (p x) (Q x))
     → MatchOption (position p xs) ((k : ℕ) (x : X) → slice_get xs k ≡ Some x → Q x → ⊥) (IsPlace Q xs)
 places p Q xs d =
     elim (cases_lt (position_or_len p xs) (length xs)) [
       | inl lt ↦
           let a = passes_at p xs lt in
           rw (lt-ltb _ _ lt)
-          (record { at = (a.0, a.1, (d a.0).0 a.2); before = λ k x h e q. let f = fails_before p xs x k h e in let t = (d x).1 q in absurd cc })
+          (record {
+            at = (a.0, a.1, (d a.0).0 a.2);
+            before = λ k x h e q. let f = fails_before p xs x k h e in
+                let t = (d x).1 q in absurd cc;
+          })
       | inr le ↦
           rw (le-ltb _ _ le)
-          (λ k x e q. let w = slice_get_within xs k x e in let f = fails_before p xs x k (omega arith) e in let t = (d x).1 q in absurd cc)
+          (λ k x e q. let w = slice_get_within xs k x e in let f = fails_before p xs x k (omega arith) e in
+          let t = (d x).1 q in absurd cc)
     ]
 
 and_true : (a b : Bool) → (a && b) ≡ true → (a ≡ true) × (b ≡ true)
@@ -67,33 +76,41 @@ both_true : (a b : Bool) → a ≡ true → b ≡ true → (a && b) ≡ true
 both_true true b p q = q
 both_true false b p q = absurd cc
 
-field_is : (n m v w : List ℕ) → n ≡ m → v ≡ w → (let f : Field = record { name = n; value = v } in let g : Field = record { name = m; value = w } in f ≡ g)
+field_is : (n m v w : List ℕ) → n ≡ m → v ≡ w
+    → (let f : Field = record { name = n; value = v } in let g : Field = record { name = m; value = w } in f ≡ g)
 field_is n m v w p q = cc
 
-pub is_field-Decides : (f g : Field) → Decides (is_field f g) (g ≡ f)
+is_field-Decides : (f g : Field) → Decides (is_field f g) (g ≡ f)
 is_field-Decides f g = (
   λ e.
       let b = and_true (bytes_eq f.name g.name) (bytes_eq f.value g.value) e in
-      field_is g.name f.name g.value f.value (sym ((bytes_eq-Decides f.name g.name).0 b.0)) (sym ((bytes_eq-Decides f.value g.value).0 b.1)),
-  λ e. both_true _ _ ((bytes_eq-Decides f.name g.name).1 (ap (λ (x : Field). x.name) (sym e))) ((bytes_eq-Decides f.value g.value).1 (ap (λ (x : Field). x.value) (sym e))),
+      field_is g.name f.name g.value f.value (sym ((bytes_eq-Decides f.name g.name).0 b.0))
+      (sym ((bytes_eq-Decides f.value g.value).0 b.1)),
+  λ e. both_true _ _ ((bytes_eq-Decides f.name g.name).1 (ap (λ (x : Field). x.name) (sym e)))
+      ((bytes_eq-Decides f.value g.value).1 (ap (λ (x : Field). x.value) (sym e))),
 )
 
-pub has_name-Decides : (name : List ℕ) (g : Field) → Decides (has_name name g) (g.name ≡ name)
+has_name-Decides : (name : List ℕ) (g : Field) → Decides (has_name name g) (g.name ≡ name)
 has_name-Decides name g = (λ e. sym ((bytes_eq-Decides name g.name).0 e), λ e. (bytes_eq-Decides name g.name).1 (sym e))
 
 pub place_is_least : StaticPlaceIsLeast
 unfolding static_place
-place_is_least f = go (position (is_field f) static_table) (places (is_field f) (λ g. g ≡ f) static_table (is_field-Decides f))
+place_is_least f =
+    go (position (is_field f) static_table) (places (is_field f) (λ g. g ≡ f) static_table (is_field-Decides f))
   where
-    go : (o : Option ℕ) → MatchOption o (NoStatic (λ g. g ≡ f)) (IsPlace (λ g. g ≡ f) static_table) → MatchOption o (NoStatic (λ g. g ≡ f)) (IsLeastStatic (λ g. g ≡ f))
+    go : (o : Option ℕ) → MatchOption o (NoStatic (λ g. g ≡ f)) (IsPlace (λ g. g ≡ f) static_table)
+        → MatchOption o (NoStatic (λ g. g ≡ f)) (IsLeastStatic (λ g. g ≡ f))
     go None h = h
     go (Some i) h = record { at = h.at; before = h.before }
 
 pub name_place_is_least : StaticNamePlaceIsLeast
 unfolding static_name_place
-name_place_is_least name = go (position (has_name name) static_table) (places (has_name name) (λ g. g.name ≡ name) static_table (has_name-Decides name))
+name_place_is_least name =
+    go (position (has_name name) static_table)
+    (places (has_name name) (λ g. g.name ≡ name) static_table (has_name-Decides name))
   where
-    go : (o : Option ℕ) → MatchOption o (NoStatic (λ g. g.name ≡ name)) (IsPlace (λ g. g.name ≡ name) static_table) → MatchOption o (NoStatic (λ g. g.name ≡ name)) (IsLeastStatic (λ g. g.name ≡ name))
+    go : (o : Option ℕ) → MatchOption o (NoStatic (λ g. g.name ≡ name)) (IsPlace (λ g. g.name ≡ name) static_table)
+        → MatchOption o (NoStatic (λ g. g.name ≡ name)) (IsLeastStatic (λ g. g.name ≡ name))
     go None h = h
     go (Some i) h = record { at = h.at; before = h.before }
 
@@ -109,7 +126,8 @@ table_differs : differ static_table ≡ true
 unfolding static_table
 table_differs = refl
 
-passes_any : (p : Field → Bool) (fs : List Field) (k : ℕ) (f : Field) → slice_get fs k ≡ Some f → p f ≡ true → list_any p fs ≡ true
+passes_any : (p : Field → Bool) (fs : List Field) (k : ℕ) (f : Field) → slice_get fs k ≡ Some f → p f ≡ true
+    → list_any p fs ≡ true
 passes_any p [] k f e t = absurd cc
 passes_any p (g ∷ fs) zero f e t = rw (ap p (same_some g f e) ∙ t) refl
 passes_any p (g ∷ fs) (suc k) f e t = rw (passes_any p fs k f e t) (or_true (p g))
@@ -124,7 +142,8 @@ not_any f fs k n e =
     let m : not true ≡ true = ap not (sym t) ∙ n in
     cc
 
-differ_places : (fs : List Field) → differ fs ≡ true → (i j : ℕ) (f : Field) → slice_get fs i ≡ Some f → slice_get fs j ≡ Some f → i ≡ j
+differ_places : (fs : List Field) → differ fs ≡ true → (i j : ℕ) (f : Field) → slice_get fs i ≡ Some f
+    → slice_get fs j ≡ Some f → i ≡ j
 differ_places [] d i j f p q = absurd cc
 differ_places (g ∷ fs) d zero zero f p q = refl
 differ_places (g ∷ fs) d zero (suc j) f p q =

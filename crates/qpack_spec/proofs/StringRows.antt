@@ -2,22 +2,28 @@
 use Rattle.std.proofs.Common.{◌≡◌, [], ◌∷◌, Ok, Err, refl}
 use Rattle.std.specs.Prelude.{codes}
 use Rattle.qpack_spec.specs.Integer.{groups_at, integer_at, written_groups, written_integer}
-use Rattle.qpack_spec.specs.Huffman.{MissingBits, Unhandled, bits_of, ones, bytes_by_length, bytes_of_length, first_word, word_length, word_of, number_from, packed, payload_of, word_at, is_padding, item_at, text_at, text_of_bits}
+use Rattle.qpack_spec.specs.Huffman.{MissingBits, Unhandled, bits_of, ones, bytes_by_length, bytes_of_length}
+use Rattle.qpack_spec.specs.Huffman.{first_word, word_length, word_of, number_from, packed, payload_of, word_at}
+use Rattle.qpack_spec.specs.Huffman.{is_padding, item_at, text_at, text_of_bits}
 use Rattle.qpack_spec.specs.Text.{EndsEarly, LengthOverflows, BadHuffman, string_at, written_string}
 
 -- `foo` fills two bytes, with no padding
 foo_written : written_string 8 0 (codes "foo") ≡ 130 ∷ 148 ∷ 231 ∷ []
-unfolding written_integer written_groups payload_of bits_of ones bytes_by_length bytes_of_length first_word word_length word_of number_from packed written_string
+unfolding written_integer written_groups payload_of bits_of ones bytes_by_length bytes_of_length first_word word_length
+    word_of number_from packed written_string
 foo_written = refl
 
 -- nothing is a length of 0
 nothing_written : written_string 8 0 [] ≡ 128 ∷ []
-unfolding written_integer written_groups payload_of bits_of ones bytes_by_length bytes_of_length first_word word_length word_of number_from packed written_string
+unfolding written_integer written_groups payload_of bits_of ones bytes_by_length bytes_of_length first_word word_length
+    word_of number_from packed written_string
 nothing_written = refl
 
 -- the flags stand above H
-flagged_written : written_string 6 1 (codes "name without ref") ≡ 108 ∷ 168 ∷ 116 ∷ 149 ∷ 79 ∷ 6 ∷ 76 ∷ 231 ∷ 181 ∷ 42 ∷ 88 ∷ 89 ∷ 127 ∷ []
-unfolding written_integer written_groups payload_of bits_of ones bytes_by_length bytes_of_length first_word word_length word_of number_from packed written_string
+flagged_written : written_string 6 1 (codes "name without ref") ≡ 108 ∷ 168 ∷ 116 ∷ 149 ∷ 79 ∷ 6 ∷ 76 ∷ 231 ∷ 181 ∷ 42
+    ∷ 88 ∷ 89 ∷ 127 ∷ []
+unfolding written_integer written_groups payload_of bits_of ones bytes_by_length bytes_of_length first_word word_length
+    word_of number_from packed written_string
 flagged_written = refl
 
 -- a coded string, and what follows it

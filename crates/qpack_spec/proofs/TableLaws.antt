@@ -15,20 +15,32 @@ entries_inserted t e = window_entered t e
 
 -- the table behind a capacity
 abbrev smaller : Table → ℕ → Table
-smaller t n = record t { capacity = n; dropped = t.dropped + excess n (fields_in t.live); live = drop (excess n (fields_in t.live)) t.live }
+smaller t n =
+    record t {
+      capacity = n;
+      dropped = t.dropped + excess n (fields_in t.live);
+      live = drop (excess n (fields_in t.live)) t.live;
+    }
 
 smaller_window : (t : Table) (n : ℕ) → window (smaller t n) ≡ after (window t) (Resizes n)
 unfolding window after
 smaller_window t n =
     let k = excess n (fields_in t.live) in
-    ap (λ (l : List Field). let w : Window = record { capacity = n; agreed = t.agreed; dropped = t.dropped + k; live = l } in w) (sym (drop-map (λ (x : Entry). x.field) k t.live))
+    ap (λ (l : List Field). let w : Window = record {
+      capacity = n;
+      agreed = t.agreed;
+      dropped = t.dropped + k;
+      live = l;
+    } in w) (sym (drop-map (λ (x : Entry). x.field) k t.live))
 
 pub capacities_of_window : CapacitiesAreOfTheWindow
 unfolding resized
 capacities_of_window t u n e =
     let gone = excess n (fields_in t.live) in
-    cond_both (nat_le n (greatest_capacity t.agreed)) (cond (can_drop t gone) (Ok (smaller t n)) (Err DoesNotFit)) (Err AboveMaximum) (λ r. r ≡ Ok u → window u ≡ after (window t) (Resizes n))
-    (λ _. cond_both (can_drop t gone) (Ok (smaller t n)) (Err DoesNotFit) (λ r. r ≡ Ok u → window u ≡ after (window t) (Resizes n))
+    cond_both (nat_le n (greatest_capacity t.agreed)) (cond (can_drop t gone) (Ok (smaller t n)) (Err DoesNotFit))
+    (Err AboveMaximum) (λ r. r ≡ Ok u → window u ≡ after (window t) (Resizes n))
+    (λ _. cond_both (can_drop t gone) (Ok (smaller t n)) (Err DoesNotFit) (λ r. r ≡ Ok u
+    → window u ≡ after (window t) (Resizes n))
     (λ _ q. ap window (sym (ok_is _ _ q)) ∙ smaller_window t n)
     (λ _ q. absurd cc))
     (λ _ q. absurd cc)

@@ -1,21 +1,32 @@
 -- Worked rows of tables and of the rule, computed by the definitions.
-use Rattle.std.proofs.Common.{ℕ, ◌+◌, ◌-◌, ◌^◌, ◌≡◌, true, false, List, [], ◌∷◌, length, take, None, Result, Ok, Err, refl}
+use Rattle.std.proofs.Common.{ℕ, ◌+◌, ◌-◌, ◌^◌, ◌≡◌, true, false, List, [], ◌∷◌, length, take, None, Result, Ok, Err}
+use Rattle.std.proofs.Common.{refl}
 use Rattle.std.specs.Prelude.{codes, ℤ, negsuc, if◌then◌else◌, nat_lt}
 use Rattle.qpack_spec.specs.Bytes.{◌>>=◌}
 use Rattle.qpack_spec.specs.Integer.{written_groups, groups_at, integer_at, written_integer}
-use Rattle.qpack_spec.specs.Huffman.{bits_of, ones, bytes_by_length, bytes_of_length, first_word, word_length, word_of, number_from, packed, payload_of, word_at, is_padding, item_at, text_at, text_of_bits}
+use Rattle.qpack_spec.specs.Huffman.{bits_of, ones, bytes_by_length, bytes_of_length, first_word, word_length, word_of}
+use Rattle.qpack_spec.specs.Huffman.{number_from, packed, payload_of, word_at, is_padding, item_at, text_at}
+use Rattle.qpack_spec.specs.Huffman.{text_of_bits}
 use Rattle.qpack_spec.specs.Text.{string_at, written_string}
 use Rattle.qpack_spec.specs.Field.{Field}
 use Rattle.qpack_spec.specs.StaticTable.{field, static_table, static_place, static_name_place}
 use Rattle.qpack_spec.specs.Form.{made_at, form_at}
 use Rattle.qpack_spec.specs.Line.{line_form, written_line, written_lines}
-use Rattle.qpack_spec.specs.Instruction.{Instruction, InsertStaticName, InsertDynamicName, InsertLiteralName, Duplicate, SetCapacity, Reply, Acknowledgment, Cancellation, Increment, instruction_form, reply_form, written_instruction, written_instructions, written_reply, written_replies}
-use Rattle.qpack_spec.specs.Prefix.{prefix_for, required_at, read_required, read_base, read_prefix, written_prefix, prefix_at}
-use Rattle.qpack_spec.specs.Window.{excess, entry, recent, insertion, effect, after, Refusal, NoEntry, NoStaticField, DoesNotFit, AboveMaximum, UnknownStream}
+use Rattle.qpack_spec.specs.Instruction.{Instruction, InsertStaticName, InsertDynamicName, InsertLiteralName, Duplicate}
+use Rattle.qpack_spec.specs.Instruction.{SetCapacity, Reply, Acknowledgment, Cancellation, Increment, instruction_form}
+use Rattle.qpack_spec.specs.Instruction.{reply_form, written_instruction, written_instructions, written_reply}
+use Rattle.qpack_spec.specs.Instruction.{written_replies}
+use Rattle.qpack_spec.specs.Prefix.{prefix_for, required_at, read_required, read_base, read_prefix, written_prefix}
+use Rattle.qpack_spec.specs.Prefix.{prefix_at}
+use Rattle.qpack_spec.specs.Window.{excess, entry, recent, insertion, effect, after, Refusal, NoEntry, NoStaticField}
+use Rattle.qpack_spec.specs.Window.{DoesNotFit, AboveMaximum, UnknownStream}
 use Rattle.qpack_spec.specs.History.{window_of, whole, grown}
-use Rattle.qpack_spec.specs.Reading.{static_field, relative_field, post_base_field, line_field, fields_of, names_of, references_of, greatest, reading}
+use Rattle.qpack_spec.specs.Reading.{static_field, relative_field, post_base_field, line_field, fields_of, names_of}
+use Rattle.qpack_spec.specs.Reading.{references_of, greatest, reading}
 use Rattle.qpack_spec.specs.BlockReading.{fields_at, reading_of_bytes, written_block}
-use Rattle.qpack_spec.specs.Table.{Table, empty_table, window, track, naming, is_held, none_held, has_room, may_name, with_entry, last_place, newest, put, resized, applied, commit, unnamed, without_oldest, without_stream, raised, heard, fields_in, count}
+use Rattle.qpack_spec.specs.Table.{Table, empty_table, window, track, naming, is_held, none_held, has_room, may_name}
+use Rattle.qpack_spec.specs.Table.{with_entry, last_place, newest, put, resized, applied, commit, unnamed}
+use Rattle.qpack_spec.specs.Table.{without_oldest, without_stream, raised, heard, fields_in, count}
 use Rattle.qpack_spec.specs.Rule.{staying, instruction_for, rule_field, rule, block_of, committed}
 
 -- fields put into a table in turn; a refused one ends it
@@ -62,11 +73,21 @@ duplicates n = Rattle.std.specs.Prelude.replicate n (Duplicate 0)
 
 -- all that has to unfold
 rows : ℕ
-unfolding excess written_groups groups_at integer_at written_integer bits_of ones bytes_by_length bytes_of_length first_word word_length word_of number_from packed payload_of word_at is_padding item_at text_at text_of_bits string_at written_string static_table static_place static_name_place line_form written_line written_lines instruction_form reply_form written_instruction written_instructions written_reply written_replies made_at form_at prefix_for required_at read_required read_base read_prefix written_prefix prefix_at entry recent insertion effect after window_of whole grown static_field relative_field post_base_field line_field fields_of names_of references_of greatest reading fields_at reading_of_bytes written_block window track naming is_held none_held has_room may_name with_entry last_place newest put resized applied commit unnamed without_oldest without_stream raised heard instruction_for rule_field rule put_all put_into live_of counts_of apply_all writes_on block_bytes hear_all open_count waiting_count duplicates
+unfolding excess written_groups groups_at integer_at written_integer bits_of ones bytes_by_length bytes_of_length
+    first_word word_length word_of number_from packed payload_of word_at is_padding item_at text_at text_of_bits
+    string_at written_string static_table static_place static_name_place line_form written_line written_lines
+    instruction_form reply_form written_instruction written_instructions written_reply written_replies made_at form_at
+    prefix_for required_at read_required read_base read_prefix written_prefix prefix_at entry recent insertion effect
+    after window_of whole grown static_field relative_field post_base_field line_field fields_of names_of references_of
+    greatest reading fields_at reading_of_bytes written_block window track naming is_held none_held has_room may_name
+    with_entry last_place newest put resized applied commit unnamed without_oldest without_stream raised heard
+    instruction_for rule_field rule put_all put_into live_of counts_of apply_all writes_on block_bytes hear_all
+    open_count waiting_count duplicates
 rows = 0
 
 -- the live entries are the longest tail that fits
-live_tail : (live_of (put_into 76 0 ((field (codes "foo") (codes "bar")) ∷ (field (codes "baz") (codes "bar")) ∷ (field (codes "foo") (codes "quxx")) ∷ []))) ≡ Ok ((field (codes "foo") (codes "quxx")) ∷ [])
+live_tail : (live_of (put_into 76 0 ((field (codes "foo") (codes "bar")) ∷ (field (codes "baz") (codes "bar"))
+    ∷ (field (codes "foo") (codes "quxx")) ∷ []))) ≡ Ok ((field (codes "foo") (codes "quxx")) ∷ [])
 unfolding rows
 live_tail = refl
 
@@ -81,7 +102,8 @@ unfolding rows
 put_too_large = refl
 
 -- a capacity evicts the oldest
-resize_evicts : (live_of (put_into 4096 0 ((field (codes "foo") (codes "bar")) ∷ (field (codes "baz") (codes "bar")) ∷ []) >>= λ t. resized t 38)) ≡ Ok ((field (codes "baz") (codes "bar")) ∷ [])
+resize_evicts : (live_of (put_into 4096 0 ((field (codes "foo") (codes "bar")) ∷ (field (codes "baz") (codes "bar"))
+    ∷ []) >>= λ t. resized t 38)) ≡ Ok ((field (codes "baz") (codes "bar")) ∷ [])
 unfolding rows
 resize_evicts = refl
 
@@ -96,132 +118,180 @@ unfolding rows
 past_greatest = refl
 
 -- the entry that is evicted is not duplicated
-equal_goes_first : (put_into 76 4 ((field (codes "foo") (codes "bar")) ∷ (field (codes "baz") (codes "bar")) ∷ []) >>= λ t. Ok (instruction_for (field (codes "foo") (codes "bar")) (staying t (field (codes "foo") (codes "bar"))))) ≡ Ok (InsertLiteralName (codes "foo") (codes "bar"))
+equal_goes_first : (put_into 76 4 ((field (codes "foo") (codes "bar")) ∷ (field (codes "baz") (codes "bar")) ∷ [])
+    >>= λ t. Ok (instruction_for (field (codes "foo") (codes "bar")) (staying t (field (codes "foo") (codes "bar")))))
+    ≡ Ok (InsertLiteralName (codes "foo") (codes "bar"))
 unfolding rows
 equal_goes_first = refl
 
 -- an equal entry is duplicated, a name referred to by its newest entry
-references : (put_into 4096 100 ((field (codes "Name-A") (codes "Value-A")) ∷ (field (codes "Name-B") (codes "Value-B")) ∷ []) >>= λ t. Ok (rule t ((field (codes "Name-B") (codes "New Value-B")) ∷ (field (codes "Name-B") (codes "Newer Value-B")) ∷ (field (codes "Name-C") (codes "Value-C")) ∷ [])).instructions) ≡ Ok (InsertDynamicName 0 (codes "New Value-B") ∷ InsertDynamicName 0 (codes "Newer Value-B") ∷ InsertLiteralName (codes "Name-C") (codes "Value-C") ∷ [])
+references : (put_into 4096 100 ((field (codes "Name-A") (codes "Value-A"))
+    ∷ (field (codes "Name-B") (codes "Value-B")) ∷ [])
+    >>= λ t. Ok (rule t ((field (codes "Name-B") (codes "New Value-B"))
+    ∷ (field (codes "Name-B") (codes "Newer Value-B")) ∷ (field (codes "Name-C") (codes "Value-C"))
+    ∷ [])).instructions) ≡ Ok (InsertDynamicName 0 (codes "New Value-B") ∷ InsertDynamicName 0 (codes "Newer Value-B")
+    ∷ InsertLiteralName (codes "Name-C") (codes "Value-C") ∷ [])
 unfolding rows
 references = refl
 
 -- a block with each kind of line
-mixed_block : (put_into 4096 100 ((field (codes "foo1") (codes "bar1")) ∷ (field (codes "foo2") (codes "bar2")) ∷ (field (codes "foo3") (codes "bar3")) ∷ (field (codes "foo4") (codes "bar4")) ∷ []) >>= λ t. Ok (block_bytes t ((field (codes ":method") (codes "GET")) ∷ (field (codes "foo1") (codes "bar1")) ∷ (field (codes "foo3") (codes "new bar3")) ∷ (field (codes ":method") (codes "staticnameref")) ∷ (field (codes "newfoo") (codes "newbar")) ∷ []))) ≡ Ok (8 ∷ 130 ∷ 209 ∷ 131 ∷ 16 ∷ 17 ∷ 18 ∷ [])
+mixed_block : (put_into 4096 100 ((field (codes "foo1") (codes "bar1")) ∷ (field (codes "foo2") (codes "bar2"))
+    ∷ (field (codes "foo3") (codes "bar3")) ∷ (field (codes "foo4") (codes "bar4")) ∷ [])
+    >>= λ t. Ok (block_bytes t ((field (codes ":method") (codes "GET")) ∷ (field (codes "foo1") (codes "bar1"))
+    ∷ (field (codes "foo3") (codes "new bar3")) ∷ (field (codes ":method") (codes "staticnameref"))
+    ∷ (field (codes "newfoo") (codes "newbar")) ∷ []))) ≡ Ok (8 ∷ 130 ∷ 209 ∷ 131 ∷ 16 ∷ 17 ∷ 18 ∷ [])
 unfolding rows
 mixed_block = refl
 
 -- its instructions
-mixed_instructions : (put_into 4096 100 ((field (codes "foo1") (codes "bar1")) ∷ (field (codes "foo2") (codes "bar2")) ∷ (field (codes "foo3") (codes "bar3")) ∷ (field (codes "foo4") (codes "bar4")) ∷ []) >>= λ t. Ok (take 8 (written_instructions (rule t ((field (codes ":method") (codes "GET")) ∷ (field (codes "foo1") (codes "bar1")) ∷ (field (codes "foo3") (codes "new bar3")) ∷ (field (codes ":method") (codes "staticnameref")) ∷ (field (codes "newfoo") (codes "newbar")) ∷ [])).instructions))) ≡ Ok (129 ∷ 134 ∷ 168 ∷ 190 ∷ 20 ∷ 140 ∷ 118 ∷ 51 ∷ [])
+mixed_instructions : (put_into 4096 100 ((field (codes "foo1") (codes "bar1")) ∷ (field (codes "foo2") (codes "bar2"))
+    ∷ (field (codes "foo3") (codes "bar3")) ∷ (field (codes "foo4") (codes "bar4")) ∷ [])
+    >>= λ t. Ok (take 8 (written_instructions
+    (rule t ((field (codes ":method") (codes "GET")) ∷ (field (codes "foo1") (codes "bar1"))
+    ∷ (field (codes "foo3") (codes "new bar3")) ∷ (field (codes ":method") (codes "staticnameref"))
+    ∷ (field (codes "newfoo") (codes "newbar")) ∷ [])).instructions)))
+    ≡ Ok (129 ∷ 134 ∷ 168 ∷ 190 ∷ 20 ∷ 140 ∷ 118 ∷ 51 ∷ [])
 unfolding rows
 mixed_instructions = refl
 
 -- at limit 0 and capacity 4096 a literal
-literal_0_4096 : (block_bytes (empty_table 4096 None 0) ((field (codes "foo") (codes "bar")) ∷ [])) ≡ 0 ∷ 0 ∷ 42 ∷ 148 ∷ 231 ∷ 131 ∷ 140 ∷ 118 ∷ 127 ∷ []
+literal_0_4096 : (block_bytes (empty_table 4096 None 0) ((field (codes "foo") (codes "bar")) ∷ []))
+    ≡ 0 ∷ 0 ∷ 42 ∷ 148 ∷ 231 ∷ 131 ∷ 140 ∷ 118 ∷ 127 ∷ []
 unfolding rows
 literal_0_4096 = refl
 
 -- at limit 1 and capacity 0 a literal
-literal_1_0 : (block_bytes (empty_table 0 None 1) ((field (codes "foo") (codes "bar")) ∷ [])) ≡ 0 ∷ 0 ∷ 42 ∷ 148 ∷ 231 ∷ 131 ∷ 140 ∷ 118 ∷ 127 ∷ []
+literal_1_0 : (block_bytes (empty_table 0 None 1) ((field (codes "foo") (codes "bar")) ∷ []))
+    ≡ 0 ∷ 0 ∷ 42 ∷ 148 ∷ 231 ∷ 131 ∷ 140 ∷ 118 ∷ 127 ∷ []
 unfolding rows
 literal_1_0 = refl
 
 -- the second block names the entry
-second_block : (block_bytes (writes_on (empty_table 4096 None 3) 4 ((field (codes "foo") (codes "bar")) ∷ [])) ((field (codes "foo") (codes "bar")) ∷ [])) ≡ 2 ∷ 0 ∷ 128 ∷ []
+second_block : (block_bytes (writes_on (empty_table 4096 None 3) 4 ((field (codes "foo") (codes "bar")) ∷ []))
+    ((field (codes "foo") (codes "bar")) ∷ [])) ≡ 2 ∷ 0 ∷ 128 ∷ []
 unfolding rows
 second_block = refl
 
 -- three blocks are open
-three_open : (open_count (Ok (writes_on (writes_on (writes_on (empty_table 4096 None 3) 4 ((field (codes "foo") (codes "bar")) ∷ [])) 4 ((field (codes "foo") (codes "bar")) ∷ [])) 4 ((field (codes "foo") (codes "bar")) ∷ [])))) ≡ Ok 3
+three_open : (open_count (Ok (writes_on
+    (writes_on (writes_on (empty_table 4096 None 3) 4 ((field (codes "foo") (codes "bar")) ∷ [])) 4
+    ((field (codes "foo") (codes "bar")) ∷ [])) 4 ((field (codes "foo") (codes "bar")) ∷ [])))) ≡ Ok 3
 unfolding rows
 three_open = refl
 
 -- a cancellation releases them all
-cancel_all : (open_count (hear_all (Cancellation 4 ∷ []) (writes_on (writes_on (writes_on (empty_table 4096 None 3) 4 ((field (codes "foo") (codes "bar")) ∷ [])) 4 ((field (codes "foo") (codes "bar")) ∷ [])) 4 ((field (codes "foo") (codes "bar")) ∷ [])))) ≡ Ok 0
+cancel_all : (open_count (hear_all (Cancellation 4 ∷ [])
+    (writes_on (writes_on (writes_on (empty_table 4096 None 3) 4 ((field (codes "foo") (codes "bar")) ∷ [])) 4
+    ((field (codes "foo") (codes "bar")) ∷ [])) 4 ((field (codes "foo") (codes "bar")) ∷ [])))) ≡ Ok 0
 unfolding rows
 cancel_all = refl
 
 -- so that an acknowledgment finds none
-then_unknown : (open_count (hear_all (Cancellation 4 ∷ Acknowledgment 4 ∷ []) (writes_on (writes_on (writes_on (empty_table 4096 None 3) 4 ((field (codes "foo") (codes "bar")) ∷ [])) 4 ((field (codes "foo") (codes "bar")) ∷ [])) 4 ((field (codes "foo") (codes "bar")) ∷ [])))) ≡ Err (UnknownStream 4)
+then_unknown : (open_count (hear_all (Cancellation 4 ∷ Acknowledgment 4 ∷ [])
+    (writes_on (writes_on (writes_on (empty_table 4096 None 3) 4 ((field (codes "foo") (codes "bar")) ∷ [])) 4
+    ((field (codes "foo") (codes "bar")) ∷ [])) 4 ((field (codes "foo") (codes "bar")) ∷ [])))) ≡ Err (UnknownStream 4)
 unfolding rows
 then_unknown = refl
 
 -- an acknowledgment releases one
-ack_oldest : (open_count (hear_all (Acknowledgment 4 ∷ []) (writes_on (writes_on (writes_on (empty_table 4096 None 3) 4 ((field (codes "foo") (codes "bar")) ∷ [])) 4 ((field (codes "foo") (codes "bar")) ∷ [])) 4 ((field (codes "foo") (codes "bar")) ∷ [])))) ≡ Ok 2
+ack_oldest : (open_count (hear_all (Acknowledgment 4 ∷ [])
+    (writes_on (writes_on (writes_on (empty_table 4096 None 3) 4 ((field (codes "foo") (codes "bar")) ∷ [])) 4
+    ((field (codes "foo") (codes "bar")) ∷ [])) 4 ((field (codes "foo") (codes "bar")) ∷ [])))) ≡ Ok 2
 unfolding rows
 ack_oldest = refl
 
 -- none is open on another stream
-unknown_ack : (open_count (hear_all (Acknowledgment 8 ∷ []) (writes_on (writes_on (writes_on (empty_table 4096 None 3) 4 ((field (codes "foo") (codes "bar")) ∷ [])) 4 ((field (codes "foo") (codes "bar")) ∷ [])) 4 ((field (codes "foo") (codes "bar")) ∷ [])))) ≡ Err (UnknownStream 8)
+unknown_ack : (open_count (hear_all (Acknowledgment 8 ∷ [])
+    (writes_on (writes_on (writes_on (empty_table 4096 None 3) 4 ((field (codes "foo") (codes "bar")) ∷ [])) 4
+    ((field (codes "foo") (codes "bar")) ∷ [])) 4 ((field (codes "foo") (codes "bar")) ∷ [])))) ≡ Err (UnknownStream 8)
 unfolding rows
 unknown_ack = refl
 
 -- a cancellation of an unknown stream is nothing
-unknown_cancel : (open_count (hear_all (Cancellation 8 ∷ []) (writes_on (writes_on (writes_on (empty_table 4096 None 3) 4 ((field (codes "foo") (codes "bar")) ∷ [])) 4 ((field (codes "foo") (codes "bar")) ∷ [])) 4 ((field (codes "foo") (codes "bar")) ∷ [])))) ≡ Ok 3
+unknown_cancel : (open_count (hear_all (Cancellation 8 ∷ [])
+    (writes_on (writes_on (writes_on (empty_table 4096 None 3) 4 ((field (codes "foo") (codes "bar")) ∷ [])) 4
+    ((field (codes "foo") (codes "bar")) ∷ [])) 4 ((field (codes "foo") (codes "bar")) ∷ [])))) ≡ Ok 3
 unfolding rows
 unknown_cancel = refl
 
 -- a block that names nothing is not open
-no_reference_not_opened : (open_count (Ok (writes_on (empty_table 4096 None 3) 4 ((field (codes ":method") (codes "GET")) ∷ [])))) ≡ Ok 0
+no_reference_not_opened : (open_count (Ok
+    (writes_on (empty_table 4096 None 3) 4 ((field (codes ":method") (codes "GET")) ∷ [])))) ≡ Ok 0
 unfolding rows
 no_reference_not_opened = refl
 
 -- nor does it count as blocked
-static_not_waiting : (waiting_count (Ok (writes_on (empty_table 4096 None 3) 4 ((field (codes ":method") (codes "GET")) ∷ [])))) ≡ Ok 0
+static_not_waiting : (waiting_count (Ok
+    (writes_on (empty_table 4096 None 3) 4 ((field (codes ":method") (codes "GET")) ∷ [])))) ≡ Ok 0
 unfolding rows
 static_not_waiting = refl
 
 -- a block that requires an unreceived entry does
-one_waiting : (waiting_count (Ok (writes_on (empty_table 4096 None 3) 4 ((field (codes "foo") (codes "bar")) ∷ [])))) ≡ Ok 1
+one_waiting : (waiting_count (Ok (writes_on (empty_table 4096 None 3) 4 ((field (codes "foo") (codes "bar")) ∷ []))))
+    ≡ Ok 1
 unfolding rows
 one_waiting = refl
 
 -- one that requires what is known to be received does not
-known_not_waiting : (waiting_count ((hear_all (Increment 1 ∷ []) (writes_on (empty_table 4096 None 3) 4 ((field (codes "foo") (codes "bar")) ∷ []))) >>= λ t. Ok (writes_on t 8 ((field (codes "foo") (codes "bar")) ∷ [])))) ≡ Ok 0
+known_not_waiting : (waiting_count ((hear_all (Increment 1 ∷ [])
+    (writes_on (empty_table 4096 None 3) 4 ((field (codes "foo") (codes "bar")) ∷ [])))
+    >>= λ t. Ok (writes_on t 8 ((field (codes "foo") (codes "bar")) ∷ [])))) ≡ Ok 0
 unfolding rows
 known_not_waiting = refl
 
 -- the 2^62th insertion is made
-last_insertion : (counts_of (put (record (empty_table 4096 None 0) { dropped = 2 ^ 62 - 1 }) (field (codes "foo") (codes "bar")))) ≡ Ok (4611686018427387904, 4611686018427387904)
+last_insertion : (counts_of (put (record (empty_table 4096 None 0) { dropped = 2 ^ 62 - 1 })
+    (field (codes "foo") (codes "bar")))) ≡ Ok (4611686018427387904, 4611686018427387904)
 unfolding rows
 last_insertion = refl
 
 -- and none behind it
-past_last_insertion : (counts_of (put (record (empty_table 4096 None 0) { dropped = 2 ^ 62 }) (field (codes "foo") (codes "bar")))) ≡ Ok (4611686018427387905, 4611686018427387904)
+past_last_insertion : (counts_of (put (record (empty_table 4096 None 0) { dropped = 2 ^ 62 })
+    (field (codes "foo") (codes "bar")))) ≡ Ok (4611686018427387905, 4611686018427387904)
 unfolding rows
 past_last_insertion = refl
 
 -- by the encoder neither
-no_room_past_last : (has_room (record (empty_table 4096 None 1) { dropped = 2 ^ 62 }) (field (codes "foo") (codes "bar"))) ≡ false
+no_room_past_last : (has_room (record (empty_table 4096 None 1) { dropped = 2 ^ 62 })
+    (field (codes "foo") (codes "bar"))) ≡ false
 unfolding rows
 no_room_past_last = refl
 
 -- which makes that one
-room_for_last : (has_room (record (empty_table 4096 None 1) { dropped = 2 ^ 62 - 1 }) (field (codes "foo") (codes "bar"))) ≡ true
+room_for_last : (has_room (record (empty_table 4096 None 1) { dropped = 2 ^ 62 - 1 })
+    (field (codes "foo") (codes "bar"))) ≡ true
 unfolding rows
 room_for_last = refl
 
 -- an entry whose name alone an open block uses is held
-literal_name_held : (counts_of (put_into 64 0 ((field (codes "foo") (codes "bar")) ∷ []) >>= λ t. resized (writes_on (raised t 1) 4 ((field (codes "foo") (codes "quxx")) ∷ [])) 37)) ≡ Err DoesNotFit
+literal_name_held : (counts_of (put_into 64 0 ((field (codes "foo") (codes "bar")) ∷ [])
+    >>= λ t. resized (writes_on (raised t 1) 4 ((field (codes "foo") (codes "quxx")) ∷ [])) 37)) ≡ Err DoesNotFit
 unfolding rows
 literal_name_held = refl
 
 -- which another block does not hold
-literal_name_free : (counts_of (put_into 64 0 ((field (codes "foo") (codes "bar")) ∷ []) >>= λ t. resized (writes_on (raised t 1) 4 ((field (codes ":method") (codes "GET")) ∷ [])) 37)) ≡ Ok (2, 1)
+literal_name_free : (counts_of (put_into 64 0 ((field (codes "foo") (codes "bar")) ∷ [])
+    >>= λ t. resized (writes_on (raised t 1) 4 ((field (codes ":method") (codes "GET")) ∷ [])) 37)) ≡ Ok (2, 1)
 unfolding rows
 literal_name_free = refl
 
 -- a capacity that an open block stands against
-resize_held : (counts_of (resized (writes_on (empty_table 4096 None 1) 4 ((field (codes "foo") (codes "bar")) ∷ [])) 37)) ≡ Err DoesNotFit
+resize_held : (counts_of (resized (writes_on (empty_table 4096 None 1) 4 ((field (codes "foo") (codes "bar")) ∷ []))
+    37)) ≡ Err DoesNotFit
 unfolding rows
 resize_held = refl
 
 -- or an entry not known to be received
-resize_unreceived : (counts_of (hear_all (Acknowledgment 4 ∷ []) (writes_on (empty_table 4096 None 1) 4 ((field (codes "foo") (codes "bar")) ∷ [])) >>= λ t. resized t 37)) ≡ Err DoesNotFit
+resize_unreceived : (counts_of (hear_all (Acknowledgment 4 ∷ [])
+    (writes_on (empty_table 4096 None 1) 4 ((field (codes "foo") (codes "bar")) ∷ [])) >>= λ t. resized t 37))
+    ≡ Err DoesNotFit
 unfolding rows
 resize_unreceived = refl
 
 -- once it is received
-resize_received : (counts_of (hear_all (Acknowledgment 4 ∷ Increment 1 ∷ []) (writes_on (empty_table 4096 None 1) 4 ((field (codes "foo") (codes "bar")) ∷ [])) >>= λ t. resized t 37)) ≡ Ok (2, 1)
+resize_received : (counts_of (hear_all (Acknowledgment 4 ∷ Increment 1 ∷ [])
+    (writes_on (empty_table 4096 None 1) 4 ((field (codes "foo") (codes "bar")) ∷ [])) >>= λ t. resized t 37))
+    ≡ Ok (2, 1)
 unfolding rows
 resize_received = refl
 
@@ -231,7 +301,8 @@ unfolding rows
 ignored_at_0 = refl
 
 -- at capacity 33
-too_large_at_33 : (counts_of (applied (empty_table 33 None 0) (InsertLiteralName (codes "foo") (codes "bar")))) ≡ Err DoesNotFit
+too_large_at_33 : (counts_of (applied (empty_table 33 None 0) (InsertLiteralName (codes "foo") (codes "bar"))))
+    ≡ Err DoesNotFit
 unfolding rows
 too_large_at_33 = refl
 
@@ -251,22 +322,26 @@ unfolding rows
 no_static_at_0 = refl
 
 -- an entry far away
-no_far_entry : (counts_of (applied (empty_table 4096 None 0) (InsertDynamicName 9223372036854775870 []))) ≡ Err (NoEntry 9223372036854775870)
+no_far_entry : (counts_of (applied (empty_table 4096 None 0) (InsertDynamicName 9223372036854775870 [])))
+    ≡ Err (NoEntry 9223372036854775870)
 unfolding rows
 no_far_entry = refl
 
 -- a capacity past the greatest
-capacity_past_greatest : (counts_of (applied (empty_table 4096 None 0) (SetCapacity 9223372036854775838))) ≡ Err AboveMaximum
+capacity_past_greatest : (counts_of (applied (empty_table 4096 None 0) (SetCapacity 9223372036854775838)))
+    ≡ Err AboveMaximum
 unfolding rows
 capacity_past_greatest = refl
 
 -- capacity 0 empties the table
-capacity_0 : (live_of (put_into 4096 0 ((field (codes "foo") (codes "bar")) ∷ []) >>= λ t. applied t (SetCapacity 0))) ≡ Ok []
+capacity_0 : (live_of (put_into 4096 0 ((field (codes "foo") (codes "bar")) ∷ []) >>= λ t. applied t (SetCapacity 0)))
+    ≡ Ok []
 unfolding rows
 capacity_0 = refl
 
 -- 129 duplicates of one field
-many_duplicates : (counts_of (apply_all (InsertLiteralName (codes "foo") (codes "bar") ∷ duplicates 129) (empty_table 4096 None 0))) ≡ Ok (24, 130)
+many_duplicates : (counts_of (apply_all (InsertLiteralName (codes "foo") (codes "bar") ∷ duplicates 129)
+    (empty_table 4096 None 0))) ≡ Ok (24, 130)
 unfolding rows
 many_duplicates = refl
 

@@ -1,16 +1,22 @@
 -- Reading strings from left to right is the relation of literals and of their refusals.
-use Rattle.std.proofs.Common.{◌≡◌, ℕ, ◌+◌, ◌-◌, ◌*◌, ◌/◌, ◌%◌, ◌≤◌, Bool, true, false, cond, List, [], ◌++◌, length, take, drop, Result, Ok, Err, refl, sym, ap, subst, ◌∙◌, arith, append_assoc, inl, inr, ◌⊎◌}
+use Rattle.std.proofs.Common.{◌≡◌, ℕ, ◌+◌, ◌-◌, ◌*◌, ◌/◌, ◌%◌, ◌≤◌, Bool, true, false, cond, List, [], ◌++◌, length}
+use Rattle.std.proofs.Common.{take, drop, Result, Ok, Err, refl, sym, ap, subst, ◌∙◌, arith, append_assoc, inl, inr}
+use Rattle.std.proofs.Common.{◌⊎◌}
 use Rattle.std.specs.Prelude.{nat_lt, ◌==◌}
 use Rattle.std.proofs.lemmas.Bool.{ltb-false, le-ltb, eqb-true}
-use Rattle.std.proofs.lemmas.List.{take_at, drop_at, take-append-drop, length-take-le, length-append, append_cancel_left}
+use Rattle.std.proofs.lemmas.List.{take_at, drop_at, take-append-drop, length-take-le, length-append}
+use Rattle.std.proofs.lemmas.List.{append_cancel_left}
 use Rattle.qpack_spec.specs.Bytes.{Begins}
 use Rattle.qpack_spec.specs.Integer.{IntegerFault, Overflow, UnexpectedEnd, SpellsInteger, OverflowsInteger, integer_at}
 use Rattle.qpack_spec.specs.Huffman.{HuffmanFault, bits_of_bytes, PayloadMeans, PayloadMeansNothing, text_of_bits}
-use Rattle.qpack_spec.specs.Text.{StringFault, EndsEarly, LengthOverflows, BadHuffman, IsLiteral, SpellsString, RefusesString, TruncatesString, value_before, payload_at, string_behind, string_at}
-use Rattle.qpack_spec.specs.TextLaws.{StringsHaveOneValue, NoStringBeginsAnother, ReadingFindsStrings, ReadingFindsRefusals, ReadingFindsTruncation}
+use Rattle.qpack_spec.specs.Text.{StringFault, EndsEarly, LengthOverflows, BadHuffman, IsLiteral, SpellsString}
+use Rattle.qpack_spec.specs.Text.{RefusesString, TruncatesString, value_before, payload_at, string_behind, string_at}
+use Rattle.qpack_spec.specs.TextLaws.{StringsHaveOneValue, NoStringBeginsAnother, ReadingFindsStrings}
+use Rattle.qpack_spec.specs.TextLaws.{ReadingFindsRefusals, ReadingFindsTruncation}
 use Rattle.qpack_spec.proofs.Results.{chosen, ok_triple}
 use Rattle.qpack_spec.proofs.Bits.{bytes_bits, parts_same}
-use Rattle.qpack_spec.proofs.Integers.{integer_takes, integer_again, integer_overflows, overflow_begins, none_begins, one_value as one_integer}
+use Rattle.qpack_spec.proofs.Integers.{integer_takes, integer_again, integer_overflows, overflow_begins, none_begins}
+use Rattle.qpack_spec.proofs.Integers.{one_value as one_integer}
 use Rattle.qpack_spec.proofs.Payloads.{text_means, text_again}
 use Rattle.qpack_spec.proofs.PayloadFaults.{fault_means, fault_again}
 
@@ -19,7 +25,7 @@ use Rattle.qpack_spec.proofs.PayloadFaults.{fault_means, fault_again}
 abbrev meaning : Bool → List ℕ → Result (List ℕ) HuffmanFault
 meaning plain payload = cond plain (Ok payload) (text_of_bits (bits_of_bytes payload))
 
-pub record TakesPayload (fl len : ℕ) (bytes : List ℕ) : Type 0 where
+record TakesPayload (fl len : ℕ) (bytes : List ℕ) : Type 0 where
   pub payload : List ℕ
   pub rest : List ℕ
   pub parts : bytes ≡ payload ++ rest
@@ -34,10 +40,13 @@ payload_taken fl len bytes le = record {
 }
 
 -- what the payload says, under its flags
-abbrev pub Says : ℕ → ℕ → List ℕ → List ℕ → Type 0
-Says fl flags payload value = ((fl ≡ 2 * flags + 0) × (payload ≡ value)) ⊎ ((fl ≡ 2 * flags + 1) × PayloadMeans payload value)
+abbrev Says : ℕ → ℕ → List ℕ → List ℕ → Type 0
+Says fl flags payload value =
+    ((fl ≡ 2 * flags + 0) × (payload ≡ value)) ⊎ ((fl ≡ 2 * flags + 1) × PayloadMeans payload value)
 
-says : (fl flags : ℕ) (payload value rest rest' : List ℕ) (plain : Bool) → (fl % 2 == 0) ≡ plain → value_before (fl / 2) rest (meaning plain payload) ≡ Ok (flags, value, rest') → Says fl flags payload value × (rest ≡ rest')
+says : (fl flags : ℕ) (payload value rest rest' : List ℕ) (plain : Bool) → (fl % 2 == 0) ≡ plain
+    → value_before (fl / 2) rest (meaning plain payload) ≡ Ok (flags, value, rest')
+    → Says fl flags payload value × (rest ≡ rest')
 says fl flags payload value rest rest' true p e =
     let t = ok_triple (fl / 2) flags payload value rest rest' e in
     let z = eqb-true _ _ p in
@@ -47,14 +56,21 @@ says fl flags payload value rest rest' false p e = coded (text_of_bits (bits_of_
     odd : fl % 2 ≡ 0 → ⊥
     odd z = absurd (let q = ap (λ (m : ℕ). m == 0) z in cc)
 
-    coded : (r : Result (List ℕ) HuffmanFault) → text_of_bits (bits_of_bytes payload) ≡ r → value_before (fl / 2) rest r ≡ Ok (flags, value, rest') → Says fl flags payload value × (rest ≡ rest')
+    coded : (r : Result (List ℕ) HuffmanFault) → text_of_bits (bits_of_bytes payload) ≡ r
+        → value_before (fl / 2) rest r ≡ Ok (flags, value, rest') → Says fl flags payload value × (rest ≡ rest')
     coded (Ok t) w h =
-        let u = ok_triple (fl / 2) flags t value rest rest' h in
-        (inr (let f = u.0 in let n = odd in omega arith, text_means (bits_of_bytes payload) value (bytes_bits payload) (w ∙ ap (λ (l : List ℕ). Ok l) u.1)), u.2)
+        let u = ok_triple (fl / 2) flags t value rest rest' h in (
+          inr (
+            let f = u.0 in let n = odd in omega arith,
+            text_means (bits_of_bytes payload) value (bytes_bits payload) (w ∙ ap (λ (l : List ℕ). Ok l) u.1),
+          ),
+          u.2,
+        )
     coded (Err f) w h = absurd cc
 
 -- the value that a whole payload has, or its fault
-payload_reads : (fl : ℕ) (payload rest : List ℕ) → payload_at fl (length payload) (payload ++ rest) ≡ value_before (fl / 2) rest (meaning (fl % 2 == 0) payload)
+payload_reads : (fl : ℕ) (payload rest : List ℕ)
+    → payload_at fl (length payload) (payload ++ rest) ≡ value_before (fl / 2) rest (meaning (fl % 2 == 0) payload)
 payload_reads fl payload rest =
     let le : length payload ≤ length (payload ++ rest) = omega (arith, length-append payload rest) in
     rw (le-ltb _ _ le, take_at payload rest (length payload) refl, drop_at payload rest (length payload) refl) refl
@@ -65,11 +81,14 @@ coded_flags flags = (omega arith, omega arith)
 plain_flags : (flags : ℕ) → ((2 * flags + 0) / 2 ≡ flags) × ((2 * flags + 0) % 2 ≡ 0)
 plain_flags flags = (omega arith, omega arith)
 
-plain_reads : (flags : ℕ) (value rest : List ℕ) → payload_at (2 * flags + 0) (length value) (value ++ rest) ≡ Ok (flags, value, rest)
+plain_reads : (flags : ℕ) (value rest : List ℕ)
+    → payload_at (2 * flags + 0) (length value) (value ++ rest) ≡ Ok (flags, value, rest)
 plain_reads flags value rest =
     let f = plain_flags flags in payload_reads (2 * flags + 0) value rest ∙ rw (f.0, f.1) refl
 
-coded_reads : (flags : ℕ) (payload rest : List ℕ) → payload_at (2 * flags + 1) (length payload) (payload ++ rest) ≡ value_before flags rest (text_of_bits (bits_of_bytes payload))
+coded_reads : (flags : ℕ) (payload rest : List ℕ)
+    → payload_at (2 * flags + 1) (length payload) (payload ++ rest)
+    ≡ value_before flags rest (text_of_bits (bits_of_bytes payload))
 coded_reads flags payload rest =
     let f = coded_flags flags in payload_reads (2 * flags + 1) payload rest ∙ rw (f.0, f.1) refl
 
@@ -80,23 +99,29 @@ pub record TakesString (n : ℕ) (bytes : List ℕ) (flags : ℕ) (value rest : 
   pub parts : bytes ≡ text ++ rest
   pub spells : SpellsString n text flags value
 
-literal : (n fl len flags : ℕ) (bytes value rest : List ℕ) (head : List ℕ) (t : TakesPayload fl len bytes) → SpellsInteger (n - 1) head fl len → Says fl flags t.payload value → t.rest ≡ rest
+literal : (n fl len flags : ℕ) (bytes value rest : List ℕ) (head : List ℕ) (t : TakesPayload fl len bytes)
+    → SpellsInteger (n - 1) head fl len → Says fl flags t.payload value → t.rest ≡ rest
     → TakesString n (head ++ bytes) flags value rest
 literal n fl len flags bytes value rest head t s says e = record {
   text = head ++ t.payload;
-  parts = ap (λ (l : List ℕ). head ++ l) t.parts ∙ sym (append_assoc head t.payload t.rest) ∙ ap (λ (l : List ℕ). (head ++ t.payload) ++ l) e;
+  parts = ap (λ (l : List ℕ). head ++ l) t.parts ∙ sym (append_assoc head t.payload t.rest)
+      ∙ ap (λ (l : List ℕ). (head ++ t.payload) ++ l) e;
   spells = elim says [
     | inl p ↦ inl (record {
       head = head;
       parts = ap (λ (l : List ℕ). head ++ l) p.1;
-      spells = subst (λ (f : ℕ). SpellsInteger (n - 1) head f (length value)) p.0 (subst (λ (m : ℕ). SpellsInteger (n - 1) head fl m) (t.size ∙ ap (λ (l : List ℕ). length l) p.1) s);
+      spells =
+          subst (λ (f : ℕ). SpellsInteger (n - 1) head f (length value)) p.0
+          (subst (λ (m : ℕ). SpellsInteger (n - 1) head fl m) (t.size ∙ ap (λ (l : List ℕ). length l) p.1) s);
     })
     | inr p ↦ inr (
       t.payload,
       record {
         head = head;
         parts = refl;
-        spells = subst (λ (f : ℕ). SpellsInteger (n - 1) head f (length t.payload)) p.0 (subst (λ (m : ℕ). SpellsInteger (n - 1) head fl m) t.size s);
+        spells =
+            subst (λ (f : ℕ). SpellsInteger (n - 1) head f (length t.payload)) p.0
+            (subst (λ (m : ℕ). SpellsInteger (n - 1) head fl m) t.size s);
       },
       p.1,
     )
@@ -104,73 +129,95 @@ literal n fl len flags bytes value rest head t s says e = record {
 }
 
 -- what is read is spelled so
-pub string_takes : (n : ℕ) (bytes : List ℕ) (flags : ℕ) (value rest : List ℕ) → string_at n bytes ≡ Ok (flags, value, rest) → TakesString n bytes flags value rest
+pub string_takes : (n : ℕ) (bytes : List ℕ) (flags : ℕ) (value rest : List ℕ)
+    → string_at n bytes ≡ Ok (flags, value, rest) → TakesString n bytes flags value rest
 unfolding string_at
 string_takes n bytes flags value rest e = go (integer_at (n - 1) bytes) refl e
   where
     whole : (x : ℕ × ℕ × List ℕ) → integer_at (n - 1) bytes ≡ Ok x → x.1 ≤ length x.2
-        → value_before (x.0 / 2) (drop x.1 x.2) (meaning (x.0 % 2 == 0) (take x.1 x.2)) ≡ Ok (flags, value, rest) → TakesString n bytes flags value rest
+        → value_before (x.0 / 2) (drop x.1 x.2) (meaning (x.0 % 2 == 0) (take x.1 x.2)) ≡ Ok (flags, value, rest)
+        → TakesString n bytes flags value rest
     whole x i le h =
         let t = payload_taken x.0 x.1 x.2 le in
         let s = says x.0 flags t.payload value t.rest rest (x.0 % 2 == 0) refl h in
         let k = integer_takes (n - 1) bytes x.0 x.1 x.2 i in
-        subst (λ (l : List ℕ). TakesString n l flags value rest) (sym k.parts) (literal n x.0 x.1 flags x.2 value rest k.text t k.spells s.0 s.1)
+        subst (λ (l : List ℕ). TakesString n l flags value rest) (sym k.parts)
+        (literal n x.0 x.1 flags x.2 value rest k.text t k.spells s.0 s.1)
 
-    go : (r : Result (ℕ × ℕ × List ℕ) IntegerFault) → integer_at (n - 1) bytes ≡ r → string_behind r ≡ Ok (flags, value, rest) → TakesString n bytes flags value rest
+    go : (r : Result (ℕ × ℕ × List ℕ) IntegerFault) → integer_at (n - 1) bytes ≡ r
+        → string_behind r ≡ Ok (flags, value, rest) → TakesString n bytes flags value rest
     go (Err Overflow) i h = absurd cc
     go (Err UnexpectedEnd) i h = absurd cc
     go (Ok x) i h =
-        elim (chosen (nat_lt (length x.2) x.1) (Err EndsEarly) (value_before (x.0 / 2) (drop x.1 x.2) (meaning (x.0 % 2 == 0) (take x.1 x.2))) (Ok (flags, value, rest)) h) [
+        elim (chosen (nat_lt (length x.2) x.1) (Err EndsEarly)
+        (value_before (x.0 / 2) (drop x.1 x.2) (meaning (x.0 % 2 == 0) (take x.1 x.2))) (Ok (flags, value, rest))
+        h) [
           | inl p ↦ absurd (let q = p.1 in cc)
           | inr p ↦ whole x i (ltb-false _ _ p.0) p.1
         ]
 
 -- a whole literal is read by its length and its payload
-behind : (n : ℕ) (text rest payload : List ℕ) (flags huffman : ℕ) → IsLiteral n text flags huffman payload → string_at n (text ++ rest) ≡ payload_at (2 * flags + huffman) (length payload) (payload ++ rest)
+behind : (n : ℕ) (text rest payload : List ℕ) (flags huffman : ℕ) → IsLiteral n text flags huffman payload
+    → string_at n (text ++ rest) ≡ payload_at (2 * flags + huffman) (length payload) (payload ++ rest)
 unfolding string_at
 behind n text rest payload flags huffman l =
-    let e : text ++ rest ≡ l.head ++ (payload ++ rest) = ap (λ (t : List ℕ). t ++ rest) l.parts ∙ append_assoc l.head payload rest in
+    let e : text ++ rest ≡ l.head ++ (payload ++ rest) =
+    ap (λ (t : List ℕ). t ++ rest) l.parts ∙ append_assoc l.head payload rest in
     ap (λ (t : List ℕ). string_behind (integer_at (n - 1) t)) e
     ∙ ap string_behind (integer_again (n - 1) l.head (payload ++ rest) (2 * flags + huffman) (length payload) l.spells)
 
 -- what is spelled so is read, whatever follows
-pub string_again : (n : ℕ) (text rest : List ℕ) (flags : ℕ) (value : List ℕ) → SpellsString n text flags value → string_at n (text ++ rest) ≡ Ok (flags, value, rest)
+pub string_again : (n : ℕ) (text rest : List ℕ) (flags : ℕ) (value : List ℕ) → SpellsString n text flags value
+    → string_at n (text ++ rest) ≡ Ok (flags, value, rest)
 string_again n text rest flags value (inl l) = behind n text rest value flags 0 l ∙ plain_reads flags value rest
 string_again n text rest flags value (inr p) =
-    behind n text rest p.0 flags 1 p.1 ∙ coded_reads flags p.0 rest ∙ ap (value_before flags rest) (text_again (bits_of_bytes p.0) value p.2)
+    behind n text rest p.0 flags 1 p.1 ∙ coded_reads flags p.0 rest
+    ∙ ap (value_before flags rest) (text_again (bits_of_bytes p.0) value p.2)
 
 -- ---- refusals
 
 -- what is refused for a fault of its payload is read so, whatever follows
-pub string_faulty : (n : ℕ) (text rest : List ℕ) (fault : HuffmanFault) → RefusesString n text (BadHuffman fault) → string_at n (text ++ rest) ≡ Err (BadHuffman fault)
+string_faulty : (n : ℕ) (text rest : List ℕ) (fault : HuffmanFault) → RefusesString n text (BadHuffman fault)
+    → string_at n (text ++ rest) ≡ Err (BadHuffman fault)
 string_faulty n text rest fault p =
-    behind n text rest p.1 p.0 1 p.2 ∙ coded_reads p.0 p.1 rest ∙ ap (value_before p.0 rest) (fault_again (bits_of_bytes p.1) fault (bytes_bits p.1) p.3)
+    behind n text rest p.1 p.0 1 p.2 ∙ coded_reads p.0 p.1 rest
+    ∙ ap (value_before p.0 rest) (fault_again (bits_of_bytes p.1) fault (bytes_bits p.1) p.3)
 
 -- what is refused for its length is read so
-pub string_overflows : (n : ℕ) (text rest : List ℕ) → RefusesString n text LengthOverflows → string_at n (text ++ rest) ≡ Err LengthOverflows
+string_overflows : (n : ℕ) (text rest : List ℕ) → RefusesString n text LengthOverflows
+    → string_at n (text ++ rest) ≡ Err LengthOverflows
 unfolding string_at
 string_overflows n text rest o = ap string_behind (integer_overflows (n - 1) text rest o)
 
-pub string_refused : (n : ℕ) (text rest : List ℕ) (fault : StringFault) → RefusesString n text fault → string_at n (text ++ rest) ≡ Err fault
+pub string_refused : (n : ℕ) (text rest : List ℕ) (fault : StringFault) → RefusesString n text fault
+    → string_at n (text ++ rest) ≡ Err fault
 string_refused n text rest EndsEarly r = absurd r
 string_refused n text rest LengthOverflows r = string_overflows n text rest r
 string_refused n text rest (BadHuffman f) r = string_faulty n text rest f r
 
 -- a payload that is refused is coded, and means nothing
-faults : (fl : ℕ) (payload rest : List ℕ) (fault : HuffmanFault) (plain : Bool) → (fl % 2 == 0) ≡ plain → value_before (fl / 2) rest (meaning plain payload) ≡ Err (BadHuffman fault) → (fl ≡ 2 * (fl / 2) + 1) × PayloadMeansNothing payload fault
+faults : (fl : ℕ) (payload rest : List ℕ) (fault : HuffmanFault) (plain : Bool) → (fl % 2 == 0) ≡ plain
+    → value_before (fl / 2) rest (meaning plain payload) ≡ Err (BadHuffman fault)
+    → (fl ≡ 2 * (fl / 2) + 1) × PayloadMeansNothing payload fault
 faults fl payload rest fault true p e = absurd cc
 faults fl payload rest fault false p e = coded (text_of_bits (bits_of_bytes payload)) refl e
   where
     odd : fl % 2 ≡ 0 → ⊥
     odd z = absurd (let q = ap (λ (m : ℕ). m == 0) z in cc)
 
-    coded : (r : Result (List ℕ) HuffmanFault) → text_of_bits (bits_of_bytes payload) ≡ r → value_before (fl / 2) rest r ≡ Err (BadHuffman fault) → (fl ≡ 2 * (fl / 2) + 1) × PayloadMeansNothing payload fault
+    coded : (r : Result (List ℕ) HuffmanFault) → text_of_bits (bits_of_bytes payload) ≡ r
+        → value_before (fl / 2) rest r ≡ Err (BadHuffman fault)
+        → (fl ≡ 2 * (fl / 2) + 1) × PayloadMeansNothing payload fault
     coded (Ok t) w h = absurd cc
     coded (Err f) w h =
-        let q : f ≡ fault = cc in
-        (let n = odd in omega arith, fault_means (bits_of_bytes payload) fault (bytes_bits payload) (w ∙ ap (λ (g : HuffmanFault). Err g) q))
+        let q : f ≡ fault = cc in (
+          let n = odd in omega arith,
+          fault_means (bits_of_bytes payload) fault (bytes_bits payload) (w
+              ∙ ap (λ (g : HuffmanFault). Err g) q),
+        )
 
-refused_literal : (n fl len : ℕ) (bytes head : List ℕ) (fault : HuffmanFault) (t : TakesPayload fl len bytes) → SpellsInteger (n - 1) head fl len → (fl ≡ 2 * (fl / 2) + 1) × PayloadMeansNothing t.payload fault
+refused_literal : (n fl len : ℕ) (bytes head : List ℕ) (fault : HuffmanFault) (t : TakesPayload fl len bytes)
+    → SpellsInteger (n - 1) head fl len → (fl ≡ 2 * (fl / 2) + 1) × PayloadMeansNothing t.payload fault
     → Begins (λ text. RefusesString n text (BadHuffman fault)) (head ++ bytes)
 refused_literal n fl len bytes head fault t s says = record {
   text = head ++ t.payload;
@@ -182,50 +229,64 @@ refused_literal n fl len bytes head fault t s says = record {
     record {
       head = head;
       parts = refl;
-      spells = subst (λ (f : ℕ). SpellsInteger (n - 1) head f (length t.payload)) says.0 (subst (λ (m : ℕ). SpellsInteger (n - 1) head fl m) t.size s);
+      spells =
+          subst (λ (f : ℕ). SpellsInteger (n - 1) head f (length t.payload)) says.0
+          (subst (λ (m : ℕ). SpellsInteger (n - 1) head fl m) t.size s);
     },
     says.1,
   );
 }
 
 -- a whole payload is refused for its own fault alone
-only_bad : (flags : ℕ) (rest : List ℕ) (r : Result (List ℕ) HuffmanFault) (fault : StringFault) → value_before flags rest r ≡ Err fault → (f : HuffmanFault) × (fault ≡ BadHuffman f)
+only_bad : (flags : ℕ) (rest : List ℕ) (r : Result (List ℕ) HuffmanFault) (fault : StringFault)
+    → value_before flags rest r ≡ Err fault → (f : HuffmanFault) × (fault ≡ BadHuffman f)
 only_bad flags rest (Ok t) fault h = absurd cc
 only_bad flags rest (Err f) fault h = (f, cc)
 
 -- where a refusal is read, it stands at the front
-pub refusal_begins : (n : ℕ) (bytes : List ℕ) (fault : StringFault) → string_at n bytes ≡ Err fault → (fault ≡ EndsEarly → ⊥) → Begins (λ text. RefusesString n text fault) bytes
+pub refusal_begins : (n : ℕ) (bytes : List ℕ) (fault : StringFault) → string_at n bytes ≡ Err fault
+    → (fault ≡ EndsEarly → ⊥) → Begins (λ text. RefusesString n text fault) bytes
 unfolding string_at
 refusal_begins n bytes fault e more = go (integer_at (n - 1) bytes) fault refl e more
   where
-    payload : (x : ℕ × ℕ × List ℕ) (g : StringFault) → integer_at (n - 1) bytes ≡ Ok x → x.1 ≤ length x.2 → value_before (x.0 / 2) (drop x.1 x.2) (meaning (x.0 % 2 == 0) (take x.1 x.2)) ≡ Err g
+    payload : (x : ℕ × ℕ × List ℕ) (g : StringFault) → integer_at (n - 1) bytes ≡ Ok x → x.1 ≤ length x.2
+        → value_before (x.0 / 2) (drop x.1 x.2) (meaning (x.0 % 2 == 0) (take x.1 x.2)) ≡ Err g
         → Begins (λ text. RefusesString n text g) bytes
     payload x (BadHuffman f) i le h =
         let t = payload_taken x.0 x.1 x.2 le in
         let s = faults x.0 t.payload t.rest f (x.0 % 2 == 0) refl h in
         let k = integer_takes (n - 1) bytes x.0 x.1 x.2 i in
-        subst (λ (l : List ℕ). Begins (λ text. RefusesString n text (BadHuffman f)) l) (sym k.parts) (refused_literal n x.0 x.1 x.2 k.text f t k.spells s)
-    payload x EndsEarly i le h = absurd (let b = only_bad (x.0 / 2) (drop x.1 x.2) (meaning (x.0 % 2 == 0) (take x.1 x.2)) EndsEarly h in let q = b.1 in cc)
-    payload x LengthOverflows i le h = absurd (let b = only_bad (x.0 / 2) (drop x.1 x.2) (meaning (x.0 % 2 == 0) (take x.1 x.2)) LengthOverflows h in let q = b.1 in cc)
+        subst (λ (l : List ℕ). Begins (λ text. RefusesString n text (BadHuffman f)) l) (sym k.parts)
+        (refused_literal n x.0 x.1 x.2 k.text f t k.spells s)
+    payload x EndsEarly i le h =
+        absurd (let b = only_bad (x.0 / 2) (drop x.1 x.2) (meaning (x.0 % 2 == 0) (take x.1 x.2)) EndsEarly h in
+        let q = b.1 in cc)
+    payload x LengthOverflows i le h =
+        absurd (let b = only_bad (x.0 / 2) (drop x.1 x.2) (meaning (x.0 % 2 == 0) (take x.1 x.2)) LengthOverflows h in
+        let q = b.1 in cc)
 
-    go : (r : Result (ℕ × ℕ × List ℕ) IntegerFault) (g : StringFault) → integer_at (n - 1) bytes ≡ r → string_behind r ≡ Err g → (g ≡ EndsEarly → ⊥) → Begins (λ text. RefusesString n text g) bytes
+    go : (r : Result (ℕ × ℕ × List ℕ) IntegerFault) (g : StringFault) → integer_at (n - 1) bytes ≡ r
+        → string_behind r ≡ Err g → (g ≡ EndsEarly → ⊥) → Begins (λ text. RefusesString n text g) bytes
     go (Err Overflow) LengthOverflows i h m = overflow_begins (n - 1) bytes i
     go (Err Overflow) EndsEarly i h m = absurd cc
     go (Err Overflow) (BadHuffman f) i h m = absurd cc
     go (Err UnexpectedEnd) g i h m = absurd (let q : g ≡ EndsEarly = cc in m q)
     go (Ok x) g i h m =
-        elim (chosen (nat_lt (length x.2) x.1) (Err EndsEarly) (value_before (x.0 / 2) (drop x.1 x.2) (meaning (x.0 % 2 == 0) (take x.1 x.2))) (Err g) h) [
+        elim (chosen (nat_lt (length x.2) x.1) (Err EndsEarly)
+        (value_before (x.0 / 2) (drop x.1 x.2) (meaning (x.0 % 2 == 0) (take x.1 x.2))) (Err g) h) [
           | inl p ↦ absurd (let q : g ≡ EndsEarly = let r = p.1 in cc in m q)
           | inr p ↦ payload x g i (ltb-false _ _ p.0) p.1
         ]
 
 end_truncated : (n : ℕ) (bytes : List ℕ) → string_at n bytes ≡ Err EndsEarly → TruncatesString n bytes
 end_truncated n bytes e text rest parts = (
-  λ flags value spells. absurd (let a = string_again n text rest flags value spells in let b = ap (string_at n) parts in cc),
+  λ flags value spells. absurd (let a = string_again n text rest flags value spells in
+      let b = ap (string_at n) parts in cc),
   λ fault refuses. ended n text rest fault (sym (ap (string_at n) parts) ∙ e) refuses,
 )
   where
-    ended : (n : ℕ) (text rest : List ℕ) (fault : StringFault) → string_at n (text ++ rest) ≡ Err EndsEarly → RefusesString n text fault → ⊥
+    ended : (n : ℕ) (text rest : List ℕ) (fault : StringFault) → string_at n (text ++ rest) ≡ Err EndsEarly
+        → RefusesString n text fault → ⊥
     ended n text rest EndsEarly e r = absurd r
     ended n text rest LengthOverflows e r = absurd (let a = string_refused n text rest LengthOverflows r in cc)
     ended n text rest (BadHuffman f) e r = absurd (let a = string_refused n text rest (BadHuffman f) r in cc)
@@ -272,11 +333,15 @@ one_value n text f g v w p q =
     let t = ok_triple f g v w [] [] (sym r ∙ s) in
     (t.0, t.1)
 
-literals_same : (n f h g k : ℕ) (a b p q x y : List ℕ) → IsLiteral n a f h p → IsLiteral n b g k q → a ++ x ≡ b ++ y → a ≡ b
+literals_same : (n f h g k : ℕ) (a b p q x y : List ℕ) → IsLiteral n a f h p → IsLiteral n b g k q → a ++ x ≡ b ++ y
+    → a ≡ b
 literals_same n f h g k a b p q x y l m e =
     let both : l.head ++ (p ++ x) ≡ m.head ++ (q ++ y) =
-    sym (append_assoc l.head p x) ∙ ap (λ (t : List ℕ). t ++ x) (sym l.parts) ∙ e ∙ ap (λ (t : List ℕ). t ++ y) m.parts ∙ append_assoc m.head q y in
-    let head = none_begins (n - 1) l.head m.head (p ++ x) (q ++ y) (inl (2 * f + h, length p, l.spells)) (inl (2 * g + k, length q, m.spells)) both in
+    sym (append_assoc l.head p x) ∙ ap (λ (t : List ℕ). t ++ x) (sym l.parts) ∙ e ∙ ap (λ (t : List ℕ). t ++ y) m.parts
+    ∙ append_assoc m.head q y in
+    let head =
+    none_begins (n - 1) l.head m.head (p ++ x) (q ++ y) (inl (2 * f + h, length p, l.spells))
+    (inl (2 * g + k, length q, m.spells)) both in
     let again = subst (λ (t : List ℕ). SpellsInteger (n - 1) t (2 * g + k) (length q)) (sym head) m.spells in
     let len = one_integer (n - 1) l.head (2 * f + h) (2 * g + k) (length p) (length q) l.spells again in
     let left = append_cancel_left l.head (p ++ x) (q ++ y) (both ∙ ap (λ (t : List ℕ). t ++ (q ++ y)) (sym head)) in
@@ -285,20 +350,24 @@ literals_same n f h g k a b p q x y l m e =
 
 -- what ends a string: a whole literal, or the overflow of its length
 abbrev Ends : ℕ → List ℕ → Type 0
-Ends n text = ((flags : ℕ) × (huffman : ℕ) × (payload : List ℕ) × IsLiteral n text flags huffman payload) ⊎ OverflowsInteger (n - 1) text
+Ends n text = ((flags : ℕ) × (huffman : ℕ) × (payload : List ℕ) × IsLiteral n text flags huffman payload)
+    ⊎ OverflowsInteger (n - 1) text
 
-ends : (n : ℕ) (text : List ℕ) → ((flags : ℕ) × (value : List ℕ) × SpellsString n text flags value) ⊎ ((fault : StringFault) × RefusesString n text fault) → Ends n text
+ends : (n : ℕ) (text : List ℕ) → ((flags : ℕ) × (value : List ℕ) × SpellsString n text flags value)
+    ⊎ ((fault : StringFault) × RefusesString n text fault) → Ends n text
 ends n text (inl (flags, value, inl l)) = inl (flags, 0, value, l)
 ends n text (inl (flags, value, inr p)) = inl (flags, 1, p.0, p.1)
 ends n text (inr (EndsEarly, r)) = absurd r
 ends n text (inr (LengthOverflows, r)) = inr r
 ends n text (inr (BadHuffman f, r)) = inl (r.0, 1, r.1, r.2)
 
-not_both : (n flags huffman : ℕ) (a b payload x y : List ℕ) → IsLiteral n a flags huffman payload → OverflowsInteger (n - 1) b → a ++ x ≡ b ++ y → ⊥
+not_both : (n flags huffman : ℕ) (a b payload x y : List ℕ) → IsLiteral n a flags huffman payload
+    → OverflowsInteger (n - 1) b → a ++ x ≡ b ++ y → ⊥
 not_both n flags huffman a b payload x y l o e =
     let r = integer_again (n - 1) l.head (payload ++ x) (2 * flags + huffman) (length payload) l.spells in
     let s = integer_overflows (n - 1) b y o in
-    let w : l.head ++ (payload ++ x) ≡ b ++ y = sym (append_assoc l.head payload x) ∙ ap (λ (t : List ℕ). t ++ x) (sym l.parts) ∙ e in
+    let w : l.head ++ (payload ++ x) ≡ b ++ y =
+    sym (append_assoc l.head payload x) ∙ ap (λ (t : List ℕ). t ++ x) (sym l.parts) ∙ e in
     absurd (let t = ap (integer_at (n - 1)) w in cc)
 
 ends_same : (n : ℕ) (a b x y : List ℕ) → Ends n a → Ends n b → a ++ x ≡ b ++ y → a ≡ b

@@ -1,5 +1,6 @@
 -- The laws of a table's window: what was dropped, in closed form.
-use Rattle.std.proofs.Common.{ℕ, zero, suc, ◌+◌, ◌-◌, ◌<◌, ◌≤◌, ◌≡◌, List, [], ◌∷◌, ◌++◌, length, drop, max, Result, Ok, Err, refl, sym, ap, ◌∙◌, subst, inl, inr, ◌⊎◌, arith, length-drop}
+use Rattle.std.proofs.Common.{ℕ, zero, suc, ◌+◌, ◌-◌, ◌<◌, ◌≤◌, ◌≡◌, List, [], ◌∷◌, ◌++◌, length, drop, max, Result, Ok}
+use Rattle.std.proofs.Common.{Err, refl, sym, ap, ◌∙◌, subst, inl, inr, ◌⊎◌, arith, length-drop}
 use Rattle.std.specs.List.{AllByRecursion, slice_get}
 use Rattle.std.specs.Prelude.{nat_lt, nat_le, nat_eq}
 use Rattle.std.proofs.lemmas.Bool.{cases_lt, cond_both}
@@ -8,41 +9,54 @@ use Rattle.std.proofs.lemmas.List.Sums.{sum_by-append}
 use Rattle.qpack_spec.specs.Bytes.{◌>>=◌}
 use Rattle.qpack_spec.specs.Field.{Field, field_size, total_size}
 use Rattle.qpack_spec.specs.StaticTable.{static_table}
-use Rattle.qpack_spec.specs.Instruction.{Instruction, InsertStaticName, InsertDynamicName, InsertLiteralName, Duplicate, SetCapacity}
-use Rattle.qpack_spec.specs.Window.{Window, total, recent, excess, Refusal, NoEntry, NoStaticField, DoesNotFit, Effect, Inserts, Ignored, Resizes, or_refused, with_value, insertion, effect, after, apply}
+use Rattle.qpack_spec.specs.Instruction.{Instruction, InsertStaticName, InsertDynamicName, InsertLiteralName, Duplicate}
+use Rattle.qpack_spec.specs.Instruction.{SetCapacity}
+use Rattle.qpack_spec.specs.Window.{Window, total, recent, excess, Refusal, NoEntry, NoStaticField, DoesNotFit, Effect}
+use Rattle.qpack_spec.specs.Window.{Inserts, Ignored, Resizes, or_refused, with_value, insertion, effect, after, apply}
 use Rattle.qpack_spec.specs.History.{History, window_of, grown, begin, Leads}
-use Rattle.qpack_spec.specs.WindowLaws.{LiveEntriesAreFew, ExcessIsLeast, FrontLeads, DroppedIsGreatest, SetsNoCapacity, LiveIsLongestTail, all_taken, WindowsFollowHistories}
+use Rattle.qpack_spec.specs.WindowLaws.{LiveEntriesAreFew, ExcessIsLeast, FrontLeads, DroppedIsGreatest, SetsNoCapacity}
+use Rattle.qpack_spec.specs.WindowLaws.{LiveIsLongestTail, all_taken, WindowsFollowHistories}
 use Rattle.qpack_spec.proofs.Results.{bind_ok, ok_is}
-use Rattle.qpack_spec.proofs.Windows.{excess_bound, total_cons, excess_fits, excess_least, Sound, sound_begin, sound_grown, allowed, sound_few, live_push, window_grown, leads_sound, leads_split, leads_unique, leads_grows}
+use Rattle.qpack_spec.proofs.Windows.{excess_bound, total_cons, excess_fits, excess_least, Sound, sound_begin}
+use Rattle.qpack_spec.proofs.Windows.{sound_grown, allowed, sound_few, live_push, window_grown, leads_sound}
+use Rattle.qpack_spec.proofs.Windows.{leads_split, leads_unique, leads_grows}
 
 -- a tail is no larger
-pub shorter : (n : ℕ) (fs : List Field) → total_size (drop n fs) ≤ total_size fs
+shorter : (n : ℕ) (fs : List Field) → total_size (drop n fs) ≤ total_size fs
 shorter zero fs = omega arith
 shorter (suc n) [] = omega arith
 shorter (suc n) (f ∷ fs) = omega (arith, shorter n fs, total_cons f fs)
 
 -- behind d entries, the least number is that of all, or d
-pub excess_drop : (c : ℕ) (fs : List Field) (d : ℕ) → d + excess c (drop d fs) ≡ max d (excess c fs)
+excess_drop : (c : ℕ) (fs : List Field) (d : ℕ) → d + excess c (drop d fs) ≡ max d (excess c fs)
 excess_drop c fs d =
     let up : d + excess c (drop d fs) ≤ max d (excess c fs) = pick (cases_lt d (excess c fs)) in
-    let low : excess c fs ≤ d + excess c (drop d fs) = excess_least c fs (d + excess c (drop d fs)) (rw (← drop-drop) (excess_fits c (drop d fs))) in
+    let low : excess c fs ≤ d + excess c (drop d fs) =
+    excess_least c fs (d + excess c (drop d fs)) (rw (← drop-drop) (excess_fits c (drop d fs))) in
     omega arith
   where
     pick : (d < excess c fs) ⊎ (excess c fs ≤ d) → d + excess c (drop d fs) ≤ max d (excess c fs)
     pick (inl lt) =
         let n : d + (excess c fs - d) ≡ excess c fs = omega arith in
-        let m : excess c (drop d fs) ≤ excess c fs - d = excess_least c (drop d fs) (excess c fs - d) (rw (drop-drop, n) (excess_fits c fs)) in
+        let m : excess c (drop d fs) ≤ excess c fs - d =
+        excess_least c (drop d fs) (excess c fs - d) (rw (drop-drop, n) (excess_fits c fs)) in
         omega arith
     pick (inr le) =
         let n : excess c fs + (d - excess c fs) ≡ d = omega arith in
-        let m : excess c (drop d fs) ≤ 0 = excess_least c (drop d fs) 0 (subst (λ (k : ℕ). total_size (drop k fs) ≤ c) n (rw (← drop-drop) (omega (arith, shorter (d - excess c fs) (drop (excess c fs) fs), excess_fits c fs)))) in
+        let m : excess c (drop d fs) ≤ 0 =
+        excess_least c (drop d fs) 0 (subst (λ (k : ℕ). total_size (drop k fs) ≤ c) n
+        (rw (← drop-drop) (omega (arith, shorter (d - excess c fs) (drop (excess c fs) fs), excess_fits c fs)))) in
         omega arith
 
 -- what was dropped is the greater of what was dropped before and what has to go now
-pub grown_dropped : (h : History) (e : Effect) → Sound h → (grown h e).dropped ≡ max h.dropped (excess (grown h e).capacity (grown h e).inserted)
+grown_dropped : (h : History) (e : Effect) → Sound h
+    → (grown h e).dropped ≡ max h.dropped (excess (grown h e).capacity (grown h e).inserted)
 unfolding grown
-grown_dropped h (Inserts f) s = ap (λ l. h.dropped + excess h.capacity l) (sym (live_push h f s.in_range)) ∙ excess_drop h.capacity (h.inserted ++ f ∷ []) h.dropped
-grown_dropped h Ignored s = let le : excess h.capacity h.inserted ≤ h.dropped = excess_least h.capacity h.inserted h.dropped s.fits in omega arith
+grown_dropped h (Inserts f) s =
+    ap (λ l. h.dropped + excess h.capacity l) (sym (live_push h f s.in_range))
+    ∙ excess_drop h.capacity (h.inserted ++ f ∷ []) h.dropped
+grown_dropped h Ignored s = let le : excess h.capacity h.inserted ≤ h.dropped =
+    excess_least h.capacity h.inserted h.dropped s.fits in omega arith
 grown_dropped h (Resizes n) s = excess_drop n h.inserted h.dropped
 
 live_many : (h : History) → length (window_of h).live ≡ length h.inserted - h.dropped
@@ -57,7 +71,8 @@ pub excess_is_least : ExcessIsLeast
 excess_is_least capacity fs = (excess_fits capacity fs, excess_least capacity fs)
 
 -- what has to go at a front's end was dropped
-at_least : (from : History) (is : List Instruction) (h : History) → Sound from → Leads from is h → (m : History) → FrontLeads from is m → excess m.capacity m.inserted ≤ h.dropped
+at_least : (from : History) (is : List Instruction) (h : History) → Sound from → Leads from is h → (m : History)
+    → FrontLeads from is m → excess m.capacity m.inserted ≤ h.dropped
 at_least from is h s l m f =
     let split = leads_split from f.front f.rest h (subst (λ (x : List Instruction). Leads from x h) (sym f.cut) l) in
     let same : split.0 ≡ m = leads_unique from f.front split.0 m split.1 f.leads in
@@ -66,15 +81,20 @@ at_least from is h s l m f =
     omega (arith, excess_least m.capacity m.inserted m.dropped sound.fits, (leads_grows m f.rest h on).drops)
 
 -- what was dropped was dropped before, or had to go at the end of a front
-attained : (from : History) (is : List Instruction) (h : History) → Sound from → Leads from is h → (h.dropped ≡ from.dropped) ⊎ ((m : History) × FrontLeads from is m × (h.dropped ≡ excess m.capacity m.inserted))
+attained : (from : History) (is : List Instruction) (h : History) → Sound from → Leads from is h
+    → (h.dropped ≡ from.dropped) ⊎ ((m : History) × FrontLeads from is m × (h.dropped ≡ excess m.capacity m.inserted))
 attained from [] h s l = inl (ap (λ (x : History). x.dropped) (sym l))
 attained from (i ∷ is) h s l =
     let next = grown from l.0 in
-    pick (attained next is h (sound_grown from l.0 s (allowed (window_of from) i l.0 l.1)) l.2) (cases_lt from.dropped (excess next.capacity next.inserted))
+    pick (attained next is h (sound_grown from l.0 s (allowed (window_of from) i l.0 l.1)) l.2)
+    (cases_lt from.dropped (excess next.capacity next.inserted))
   where
-    pick : (h.dropped ≡ (grown from l.0).dropped) ⊎ ((m : History) × FrontLeads (grown from l.0) is m × (h.dropped ≡ excess m.capacity m.inserted))
-        → (from.dropped < excess (grown from l.0).capacity (grown from l.0).inserted) ⊎ (excess (grown from l.0).capacity (grown from l.0).inserted ≤ from.dropped)
-        → (h.dropped ≡ from.dropped) ⊎ ((m : History) × FrontLeads from (i ∷ is) m × (h.dropped ≡ excess m.capacity m.inserted))
+    pick : (h.dropped ≡ (grown from l.0).dropped)
+        ⊎ ((m : History) × FrontLeads (grown from l.0) is m × (h.dropped ≡ excess m.capacity m.inserted))
+        → (from.dropped < excess (grown from l.0).capacity (grown from l.0).inserted)
+        ⊎ (excess (grown from l.0).capacity (grown from l.0).inserted ≤ from.dropped)
+        → (h.dropped ≡ from.dropped) ⊎ ((m : History) × FrontLeads from (i ∷ is) m
+        × (h.dropped ≡ excess m.capacity m.inserted))
     pick (inl e) (inl lt) = inr (
       grown from l.0,
       record { front = i ∷ []; rest = is; cut = refl; leads = (l.0, l.1, refl) },
@@ -83,7 +103,12 @@ attained from (i ∷ is) h s l =
     pick (inl e) (inr le) = inl (omega (arith, e, grown_dropped from l.0 s, le))
     pick (inr m) c = inr (
       m.0,
-      record { front = i ∷ m.1.front; rest = m.1.rest; cut = ap (λ (x : List Instruction). i ∷ x) m.1.cut; leads = (l.0, l.1, m.1.leads) },
+      record {
+        front = i ∷ m.1.front;
+        rest = m.1.rest;
+        cut = ap (λ (x : List Instruction). i ∷ x) m.1.cut;
+        leads = (l.0, l.1, m.1.leads);
+      },
       m.2,
     )
 
@@ -97,9 +122,15 @@ dropped_greatest capacity agreed is h l = (
   pick (attained (begin capacity agreed) is h (sound_begin capacity agreed) l),
 )
   where
-    pick : (h.dropped ≡ 0) ⊎ ((m : History) × FrontLeads (begin capacity agreed) is m × (h.dropped ≡ excess m.capacity m.inserted))
+    pick : (h.dropped ≡ 0) ⊎ ((m : History) × FrontLeads (begin capacity agreed) is m
+        × (h.dropped ≡ excess m.capacity m.inserted))
         → (m : History) × FrontLeads (begin capacity agreed) is m × (h.dropped ≡ excess m.capacity m.inserted)
-    pick (inl e) = (begin capacity agreed, record { front = []; rest = is; cut = refl; leads = refl }, e ∙ sym (nothing_goes capacity))
+    pick (inl e) = (
+      begin capacity agreed,
+      record { front = []; rest = is; cut = refl; leads = refl },
+      e
+          ∙ sym (nothing_goes capacity),
+    )
     pick (inr m) = m
 
 -- ---- one capacity
@@ -124,9 +155,11 @@ insertion_keeps w f e h =
 keeps_capacity : (w : Window) (i : Instruction) (e : Effect) → SetsNoCapacity i → effect w i ≡ Ok e → IsNoResize e
 unfolding effect
 keeps_capacity w (InsertStaticName i v) e n h =
-    let r = bind_ok (or_refused (slice_get static_table i) (NoStaticField i)) (λ f. insertion w (with_value v f)) e h in insertion_keeps w (with_value v r.0) e r.2
+    let r = bind_ok (or_refused (slice_get static_table i) (NoStaticField i)) (λ f. insertion w (with_value v f)) e
+    h in insertion_keeps w (with_value v r.0) e r.2
 keeps_capacity w (InsertDynamicName i v) e n h =
-    let r = bind_ok (or_refused (recent w i) (NoEntry i)) (λ f. insertion w (with_value v f)) e h in insertion_keeps w (with_value v r.0) e r.2
+    let r = bind_ok (or_refused (recent w i) (NoEntry i)) (λ f. insertion w (with_value v f)) e h in
+    insertion_keeps w (with_value v r.0) e r.2
 keeps_capacity w (InsertLiteralName m v) e n h = insertion_keeps w (record { name = m; value = v }) e h
 keeps_capacity w (Duplicate i) e n h =
     let r = bind_ok (or_refused (recent w i) (NoEntry i)) (λ f. insertion w f) e h in insertion_keeps w r.0 e r.2
@@ -165,23 +198,29 @@ ignored_same : (capacity : ℕ) (x : History) → OneCapacity capacity x → One
 unfolding grown
 ignored_same capacity x k = k
 
-one_grown : (capacity : ℕ) (h : History) (e : Effect) → Sound h → IsNoResize e → OneCapacity capacity h → OneCapacity capacity (grown h e)
+one_grown : (capacity : ℕ) (h : History) (e : Effect) → Sound h → IsNoResize e → OneCapacity capacity h
+    → OneCapacity capacity (grown h e)
 one_grown capacity h (Inserts f) s n o =
     let d = grown_dropped h (Inserts f) s in
     let c : (grown h (Inserts f)).capacity ≡ capacity = capacity_kept h f ∙ o.same in
     let i = inserted_more h f in
     let low = more_goes capacity h.inserted f in
-    let now : excess (grown h (Inserts f)).capacity (grown h (Inserts f)).inserted ≡ excess capacity (h.inserted ++ f ∷ []) = ap (λ x. excess x (grown h (Inserts f)).inserted) c ∙ ap (excess capacity) i in
-    let then : excess capacity (grown h (Inserts f)).inserted ≡ excess capacity (h.inserted ++ f ∷ []) = ap (excess capacity) i in
+    let now : excess (grown h (Inserts f)).capacity (grown h (Inserts f)).inserted
+    ≡ excess capacity (h.inserted ++ f ∷ []) = ap (λ x. excess x (grown h (Inserts f)).inserted) c
+    ∙ ap (excess capacity) i in
+    let then : excess capacity (grown h (Inserts f)).inserted ≡ excess capacity (h.inserted ++ f ∷ []) =
+    ap (excess capacity) i in
     record { same = c; least = omega (arith, d, o.least, low, now, then) }
 one_grown capacity h Ignored s n o = ignored_same capacity h o
 one_grown capacity h (Resizes m) s n o = absurd n
 
-one_leads : (capacity : ℕ) (from : History) (is : List Instruction) (h : History) → Sound from → AllByRecursion SetsNoCapacity is → Leads from is h → OneCapacity capacity from → OneCapacity capacity h
+one_leads : (capacity : ℕ) (from : History) (is : List Instruction) (h : History) → Sound from
+    → AllByRecursion SetsNoCapacity is → Leads from is h → OneCapacity capacity from → OneCapacity capacity h
 one_leads capacity from [] h s n l o = subst (OneCapacity capacity) l o
 one_leads capacity from (i ∷ is) h s n l o =
     let a = allowed (window_of from) i l.0 l.1 in
-    one_leads capacity (grown from l.0) is h (sound_grown from l.0 s a) n.1 l.2 (one_grown capacity from l.0 s (keeps_capacity (window_of from) i l.0 n.0 l.1) o)
+    one_leads capacity (grown from l.0) is h (sound_grown from l.0 s a) n.1 l.2
+    (one_grown capacity from l.0 s (keeps_capacity (window_of from) i l.0 n.0 l.1) o)
 
 live_is : (h : History) → (window_of h).live ≡ drop h.dropped h.inserted
 unfolding window_of
@@ -190,35 +229,43 @@ live_is h = refl
 pub live_longest : LiveIsLongestTail
 live_longest capacity agreed is h n l =
     let s = sound_begin capacity agreed in
-    let o = one_leads capacity (begin capacity agreed) is h s n l (record { same = refl; least = sym (nothing_goes capacity) }) in
+    let o = one_leads capacity (begin capacity agreed) is h s n l
+    (record { same = refl; least = sym (nothing_goes capacity) }) in
     let sound = leads_sound (begin capacity agreed) is h l s in
     record {
       gone = h.dropped;
       is = live_is h;
-      fits = subst (λ (fs : List Field). total_size fs ≤ capacity) (sym (live_is h)) (omega (arith, sound.fits, o.same));
+      fits = subst (λ (fs : List Field). total_size fs ≤ capacity) (sym (live_is h))
+          (omega (arith, sound.fits, o.same));
       longest = λ k fits. omega (arith, o.least, excess_least capacity h.inserted k fits);
     }
 
 -- ---- windows follow histories
 
-follows : (from : History) (is : List Instruction) (h : History) → Sound from → Leads from is h → all_taken (window_of from) is ≡ Ok (window_of h)
+follows : (from : History) (is : List Instruction) (h : History) → Sound from → Leads from is h
+    → all_taken (window_of from) is ≡ Ok (window_of h)
 follows from [] h s l = ap (λ (x : History). let r : Result Window Refusal = Ok (window_of x) in r) l
 follows from (i ∷ is) h s l =
     let e : apply (window_of from) i ≡ Ok (window_of (grown from l.0)) =
-    ap (λ (r : Result Effect Refusal). r >>= λ x. (let q : Result Window Refusal = Ok (after (window_of from) x) in q)) l.1 ∙ ap (λ (x : Window). let q : Result Window Refusal = Ok x in q) (sym (window_grown from l.0 s.in_range)) in
-    ap (λ (r : Result Window Refusal). r >>= λ x. all_taken x is) e ∙ follows (grown from l.0) is h (sound_grown from l.0 s (allowed (window_of from) i l.0 l.1)) l.2
+    ap (λ (r : Result Effect Refusal). r >>= λ x. (let q : Result Window Refusal = Ok (after (window_of from) x) in q))
+    l.1 ∙ ap (λ (x : Window). let q : Result Window Refusal = Ok x in q) (sym (window_grown from l.0 s.in_range)) in
+    ap (λ (r : Result Window Refusal). r >>= λ x. all_taken x is) e
+    ∙ follows (grown from l.0) is h (sound_grown from l.0 s (allowed (window_of from) i l.0 l.1)) l.2
 
-followed : (from : History) (is : List Instruction) (w : Window) → Sound from → all_taken (window_of from) is ≡ Ok w → (h : History) × Leads from is h × (w ≡ window_of h)
+followed : (from : History) (is : List Instruction) (w : Window) → Sound from → all_taken (window_of from) is ≡ Ok w
+    → (h : History) × Leads from is h × (w ≡ window_of h)
 followed from [] w s e = (from, refl, sym (ok_is _ _ e))
 followed from (i ∷ is) w s e =
     let a = bind_ok (apply (window_of from) i) (λ x. all_taken x is) w e in
     let b = bind_ok (effect (window_of from) i) (λ x. Ok (after (window_of from) x)) a.0 a.1 in
     let same : a.0 ≡ window_of (grown from b.0) = sym (ok_is _ _ b.2) ∙ sym (window_grown from b.0 s.in_range) in
-    let r = followed (grown from b.0) is w (sound_grown from b.0 s (allowed (window_of from) i b.0 b.1)) (ap (λ (x : Window). all_taken x is) (sym same) ∙ a.2) in
+    let r = followed (grown from b.0) is w (sound_grown from b.0 s (allowed (window_of from) i b.0 b.1))
+    (ap (λ (x : Window). all_taken x is) (sym same) ∙ a.2) in
     (r.0, (b.0, b.1, r.1), r.2)
 
 pub windows_follow : WindowsFollowHistories
 windows_follow capacity agreed is w = (
   λ e. followed (begin capacity agreed) is w (sound_begin capacity agreed) e,
-  λ p. follows (begin capacity agreed) is p.0 (sound_begin capacity agreed) p.1 ∙ ap (λ (x : Window). let q : Result Window Refusal = Ok x in q) (sym p.2),
+  λ p. follows (begin capacity agreed) is p.0 (sound_begin capacity agreed) p.1
+      ∙ ap (λ (x : Window). let q : Result Window Refusal = Ok x in q) (sym p.2),
 )

@@ -1,5 +1,7 @@
 -- The longest fitting tail, histories, and what instructions lead to.
-use Rattle.std.proofs.Common.{ℕ, zero, suc, ◌+◌, ◌-◌, ◌*◌, ◌^◌, ◌<◌, ◌≤◌, ◌≡◌, List, [], ◌∷◌, ◌++◌, length, drop, Option, None, Some, Ok, Err, refl, sym, ap, ◌∙◌, subst, arith, length-append, length-drop, lit≤}
+use Rattle.std.proofs.Common.{ℕ, zero, suc, ◌+◌, ◌-◌, ◌*◌, ◌^◌, ◌<◌, ◌≤◌, ◌≡◌, List, [], ◌∷◌, ◌++◌, length, drop}
+use Rattle.std.proofs.Common.{Option, None, Some, Ok, Err, refl, sym, ap, ◌∙◌, subst, arith, length-append, length-drop}
+use Rattle.std.proofs.Common.{lit≤}
 use Rattle.std.specs.List.{slice_get}
 use Rattle.std.specs.Prelude.{nat_lt, nat_le, nat_eq}
 use Rattle.std.proofs.lemmas.Bool.{cond_both, lt-ltb, ltb-true, leb-true, le-leb}
@@ -8,8 +10,11 @@ use Rattle.std.proofs.lemmas.List.{drop-drop, drop-append-le, append_assoc, appe
 use Rattle.std.proofs.lemmas.List.Sums.{sum_by-cons}
 use Rattle.qpack_spec.specs.Field.{Field, field_size, total_size}
 use Rattle.qpack_spec.specs.StaticTable.{static_table}
-use Rattle.qpack_spec.specs.Instruction.{Instruction, InsertStaticName, InsertDynamicName, InsertLiteralName, Duplicate, SetCapacity}
-use Rattle.qpack_spec.specs.Window.{Window, greatest_capacity, total, entry, recent, excess, NoEntry, NoStaticField, DoesNotFit, AboveMaximum, Effect, Inserts, Ignored, Resizes, or_refused, with_value, insertion, effect, after}
+use Rattle.qpack_spec.specs.Instruction.{Instruction, InsertStaticName, InsertDynamicName, InsertLiteralName, Duplicate}
+use Rattle.qpack_spec.specs.Instruction.{SetCapacity}
+use Rattle.qpack_spec.specs.Window.{Window, greatest_capacity, total, entry, recent, excess, NoEntry, NoStaticField}
+use Rattle.qpack_spec.specs.Window.{DoesNotFit, AboveMaximum, Effect, Inserts, Ignored, Resizes, or_refused, with_value}
+use Rattle.qpack_spec.specs.Window.{insertion, effect, after}
 use Rattle.qpack_spec.specs.History.{History, window_of, whole, grown, begin, start, Leads}
 use Rattle.qpack_spec.proofs.Results.{bind_ok, ok_is}
 use Rattle.qpack_spec.proofs.Lists.{get_drop, get_append, get_append_within}
@@ -21,7 +26,7 @@ pub total_cons : (f : Field) (fs : List Field) → total_size (f ∷ fs) ≡ fie
 total_cons f fs = sum_by-cons field_size f fs
 
 -- each entry takes 32
-pub entries_fit : (fs : List Field) → 32 * length fs ≤ total_size fs
+entries_fit : (fs : List Field) → 32 * length fs ≤ total_size fs
 entries_fit [] = omega arith
 entries_fit (f ∷ fs) = omega (arith, entries_fit fs, total_cons f fs)
 
@@ -30,16 +35,19 @@ unfolding excess
 excess_fits c [] = omega arith
 excess_fits c (f ∷ fs) =
     let rest = excess_fits c fs in
-    cond_both (nat_le (total_size (f ∷ fs)) c) 0 (suc (excess c fs)) (λ k. total_size (drop k (f ∷ fs)) ≤ c) (λ e. leb-true (total_size (f ∷ fs)) c e) (λ e. rest)
+    cond_both (nat_le (total_size (f ∷ fs)) c) 0 (suc (excess c fs)) (λ k. total_size (drop k (f ∷ fs)) ≤ c)
+    (λ e. leb-true (total_size (f ∷ fs)) c e) (λ e. rest)
 
 pub excess_least : (c : ℕ) (fs : List Field) (k : ℕ) → total_size (drop k fs) ≤ c → excess c fs ≤ k
 unfolding excess
 excess_least c [] k h = omega arith
 excess_least c (f ∷ fs) zero h =
-    cond_both (nat_le (total_size (f ∷ fs)) c) 0 (suc (excess c fs)) (λ k. k ≤ 0) (λ e. omega arith) (λ e. absurd (let x = le-leb (total_size (f ∷ fs)) c h in cc))
+    cond_both (nat_le (total_size (f ∷ fs)) c) 0 (suc (excess c fs)) (λ k. k ≤ 0) (λ e. omega arith)
+    (λ e. absurd (let x = le-leb (total_size (f ∷ fs)) c h in cc))
 excess_least c (f ∷ fs) (suc k) h =
     let rest = excess_least c fs k h in
-    cond_both (nat_le (total_size (f ∷ fs)) c) 0 (suc (excess c fs)) (λ n. n ≤ suc k) (λ e. omega arith) (λ e. omega arith)
+    cond_both (nat_le (total_size (f ∷ fs)) c) 0 (suc (excess c fs)) (λ n. n ≤ suc k) (λ e. omega arith)
+    (λ e. omega arith)
 
 drop_all : (fs : List Field) → drop (length fs) fs ≡ []
 drop_all [] = refl
@@ -53,7 +61,8 @@ one_size f = omega arith
 
 -- a field that fits alone is no part of what goes
 pub excess_push : (c : ℕ) (fs : List Field) (f : Field) → field_size f ≤ c → excess c (fs ++ f ∷ []) ≤ length fs
-excess_push c fs f h = excess_least c (fs ++ f ∷ []) (length fs) (rw (drop_at fs (f ∷ []) (length fs) refl, one_size f) h)
+excess_push c fs f h =
+    excess_least c (fs ++ f ∷ []) (length fs) (rw (drop_at fs (f ∷ []) (length fs) refl, one_size f) h)
 
 -- a history as instructions make it of an empty table
 pub record Sound (h : History) : Type 0 where
@@ -105,21 +114,33 @@ allowed w (SetCapacity n) e h =
     (λ _ q. absurd cc)
     h
 
-pub live_push : (h : History) (f : Field) → h.dropped ≤ length h.inserted → drop h.dropped (h.inserted ++ f ∷ []) ≡ drop h.dropped h.inserted ++ f ∷ []
+pub live_push : (h : History) (f : Field) → h.dropped ≤ length h.inserted
+    → drop h.dropped (h.inserted ++ f ∷ []) ≡ drop h.dropped h.inserted ++ f ∷ []
 live_push h f r = drop-append-le h.dropped h.inserted (f ∷ []) r
 
 -- what is live after an effect
-pub window_grown : (h : History) (e : Effect) → h.dropped ≤ length h.inserted → window_of (grown h e) ≡ after (window_of h) e
+pub window_grown : (h : History) (e : Effect) → h.dropped ≤ length h.inserted
+    → window_of (grown h e) ≡ after (window_of h) e
 unfolding window_of grown after
 window_grown h (Inserts f) r =
     let k = excess h.capacity (drop h.dropped h.inserted ++ f ∷ []) in
     let e : drop (h.dropped + k) (h.inserted ++ f ∷ []) ≡ drop k (drop h.dropped h.inserted ++ f ∷ []) =
     sym (drop-drop k h.dropped (h.inserted ++ f ∷ [])) ∙ ap (drop k) (live_push h f r) in
-    ap (λ (l : List Field). let w : Window = record { capacity = h.capacity; agreed = h.agreed; dropped = h.dropped + k; live = l } in w) e
+    ap (λ (l : List Field). let w : Window = record {
+      capacity = h.capacity;
+      agreed = h.agreed;
+      dropped = h.dropped + k;
+      live = l;
+    } in w) e
 window_grown h Ignored r = refl
 window_grown h (Resizes n) r =
     let k = excess n (drop h.dropped h.inserted) in
-    ap (λ (l : List Field). let w : Window = record { capacity = n; agreed = h.agreed; dropped = h.dropped + k; live = l } in w) (sym (drop-drop k h.dropped h.inserted))
+    ap (λ (l : List Field). let w : Window = record {
+      capacity = n;
+      agreed = h.agreed;
+      dropped = h.dropped + k;
+      live = l;
+    } in w) (sym (drop-drop k h.dropped h.inserted))
 
 pub sound_begin : (capacity : ℕ) (agreed : Option ℕ) → Sound (begin capacity agreed)
 sound_begin capacity agreed = record { in_range = omega arith; fits = omega arith; few = lit≤ tt }
@@ -139,7 +160,15 @@ sound_grown h (Inserts f) s a =
     let e : drop (h.dropped + k) (h.inserted ++ f ∷ []) ≡ drop k all =
     sym (drop-drop k h.dropped (h.inserted ++ f ∷ [])) ∙ ap (drop k) (live_push h f s.in_range) in
     record {
-      in_range = omega (arith, excess_bound h.capacity all, length-append (drop h.dropped h.inserted) (f ∷ []), length-append h.inserted (f ∷ []), length-drop h.dropped h.inserted, s.in_range);
+      in_range =
+          omega (
+            arith,
+            excess_bound h.capacity all,
+            length-append (drop h.dropped h.inserted) (f ∷ []),
+            length-append h.inserted (f ∷ []),
+            length-drop h.dropped h.inserted,
+            s.in_range,
+          );
       fits = rw e (excess_fits h.capacity all);
       few = omega (arith, a.1, length-append h.inserted (f ∷ []), length-drop h.dropped h.inserted, s.in_range);
     }
@@ -152,9 +181,10 @@ sound_grown h (Resizes n) s a =
       few = s.few;
     }
 
-pub agreed_grown : (most : ℕ) (h : History) (e : Effect) → Agreed most h → Allowed (window_of h) e → Agreed most (grown h e)
+agreed_grown : (most : ℕ) (h : History) (e : Effect) → Agreed most h → Allowed (window_of h) e → Agreed most (grown h e)
 unfolding grown window_of
-agreed_grown most h (Inserts f) s a = record { is_agreed = s.is_agreed; within = s.within; roomy = λ _. omega (arith, a.0, s.within) }
+agreed_grown most h (Inserts f) s a =
+    record { is_agreed = s.is_agreed; within = s.within; roomy = λ _. omega (arith, a.0, s.within) }
 agreed_grown most h Ignored s a = s
 agreed_grown most h (Resizes n) s a =
     let least = subst (λ (o : Option ℕ). n ≤ greatest_capacity o) s.is_agreed a in
@@ -173,7 +203,7 @@ grows_one h (Inserts f) = record { drops = omega arith; agreed = refl; more = f 
 grows_one h Ignored = record { drops = omega arith; agreed = refl; more = []; inserts = append-nil h.inserted }
 grows_one h (Resizes n) = record { drops = omega arith; agreed = refl; more = []; inserts = append-nil h.inserted }
 
-pub grows_both : (a b c : History) → Grows a b → Grows b c → Grows a c
+grows_both : (a b c : History) → Grows a b → Grows b c → Grows a c
 grows_both a b c g k =
     record {
       drops = omega (arith, g.drops, k.drops);
@@ -182,14 +212,16 @@ grows_both a b c g k =
       inserts = sym (append_assoc a.inserted g.more k.more) ∙ ap (λ l. l ++ k.more) g.inserts ∙ k.inserts;
     }
 
-pub grows_none : (h : History) → Grows h h
+grows_none : (h : History) → Grows h h
 grows_none h = record { drops = omega arith; agreed = refl; more = []; inserts = append-nil h.inserted }
 
 pub leads_sound : (h : History) (is : List Instruction) (h' : History) → Leads h is h' → Sound h → Sound h'
 leads_sound h [] h' l s = subst Sound l s
-leads_sound h (i ∷ is) h' l s = leads_sound (grown h l.0) is h' l.2 (sound_grown h l.0 s (allowed (window_of h) i l.0 l.1))
+leads_sound h (i ∷ is) h' l s =
+    leads_sound (grown h l.0) is h' l.2 (sound_grown h l.0 s (allowed (window_of h) i l.0 l.1))
 
-pub leads_agreed : (most : ℕ) (h : History) (is : List Instruction) (h' : History) → Leads h is h' → Agreed most h → Agreed most h'
+pub leads_agreed : (most : ℕ) (h : History) (is : List Instruction) (h' : History) → Leads h is h' → Agreed most h
+    → Agreed most h'
 leads_agreed most h [] h' l s = subst (Agreed most) l s
 leads_agreed most h (i ∷ is) h' l s =
     leads_agreed most (grown h l.0) is h' l.2 (agreed_grown most h l.0 s (allowed (window_of h) i l.0 l.1))
@@ -198,11 +230,13 @@ pub leads_grows : (h : History) (is : List Instruction) (h' : History) → Leads
 leads_grows h [] h' l = subst (Grows h) l (grows_none h)
 leads_grows h (i ∷ is) h' l = grows_both h (grown h l.0) h' (grows_one h l.0) (leads_grows (grown h l.0) is h' l.2)
 
-pub leads_append : (h : History) (is js : List Instruction) (m h' : History) → Leads h is m → Leads m js h' → Leads h (is ++ js) h'
+pub leads_append : (h : History) (is js : List Instruction) (m h' : History) → Leads h is m → Leads m js h'
+    → Leads h (is ++ js) h'
 leads_append h [] js m h' l k = subst (λ (x : History). Leads x js h') (sym l) k
 leads_append h (i ∷ is) js m h' l k = (l.0, l.1, leads_append (grown h l.0) is js m h' l.2 k)
 
-pub leads_split : (h : History) (is js : List Instruction) (h' : History) → Leads h (is ++ js) h' → (m : History) × Leads h is m × Leads m js h'
+pub leads_split : (h : History) (is js : List Instruction) (h' : History) → Leads h (is ++ js) h'
+    → (m : History) × Leads h is m × Leads m js h'
 leads_split h [] js h' l = (h, refl, l)
 leads_split h (i ∷ is) js h' l = let r = leads_split (grown h l.0) is js h' l.2 in (r.0, (l.0, l.1, r.1), r.2)
 
@@ -216,29 +250,37 @@ leads_unique h (i ∷ is) a b l k =
 abbrev pub Kept : Window → Window → ℕ → Type 0
 Kept w w' a = (f : Field) → entry w a ≡ Some f → entry w' a ≡ Some f
 
-whole_entry : (h : History) (a : ℕ) (f : Field) → entry (whole h) a ≡ Some f → (0 < a) × (slice_get h.inserted (a - 1) ≡ Some f)
+whole_entry : (h : History) (a : ℕ) (f : Field) → entry (whole h) a ≡ Some f
+    → (0 < a) × (slice_get h.inserted (a - 1) ≡ Some f)
 unfolding entry whole
 whole_entry h a f =
-    cond_both (nat_lt 0 a) (slice_get h.inserted (a - 0 - 1)) None (λ r. r ≡ Some f → (0 < a) × (slice_get h.inserted (a - 1) ≡ Some f))
+    cond_both (nat_lt 0 a) (slice_get h.inserted (a - 0 - 1)) None (λ r. r ≡ Some f
+    → (0 < a) × (slice_get h.inserted (a - 1) ≡ Some f))
     (λ t q. (grind (arith, nat_tests), let e : a - 1 ≡ a - 0 - 1 = omega arith in rw e q))
     (λ _ q. absurd (cc))
 
-entry_whole : (h : History) (a : ℕ) (f : Field) → 0 < a → slice_get h.inserted (a - 1) ≡ Some f → entry (whole h) a ≡ Some f
+entry_whole : (h : History) (a : ℕ) (f : Field) → 0 < a → slice_get h.inserted (a - 1) ≡ Some f
+    → entry (whole h) a ≡ Some f
 unfolding entry whole
 entry_whole h a f p q = rw (lt-ltb 0 a p) (let e : a - 0 - 1 ≡ a - 1 = omega arith in rw e q)
 
-entry_live : (h : History) (a : ℕ) (f : Field) → h.dropped < a → slice_get h.inserted (a - 1) ≡ Some f → entry (window_of h) a ≡ Some f
+entry_live : (h : History) (a : ℕ) (f : Field) → h.dropped < a → slice_get h.inserted (a - 1) ≡ Some f
+    → entry (window_of h) a ≡ Some f
 unfolding entry window_of
-entry_live h a f p q = rw (lt-ltb h.dropped a p, get_drop h.dropped h.inserted (a - h.dropped - 1)) (let e : h.dropped + (a - h.dropped - 1) ≡ a - 1 = omega arith in rw e q)
+entry_live h a f p q =
+    rw (lt-ltb h.dropped a p, get_drop h.dropped h.inserted (a - h.dropped - 1))
+    (let e : h.dropped + (a - h.dropped - 1) ≡ a - 1 = omega arith in rw e q)
 
 pub kept_growing : (h h' : History) (a : ℕ) → Grows h h' → Kept (whole h) (whole h') a
 kept_growing h h' a g f q = let w = whole_entry h a f q in
     entry_whole h' a f w.0 (rw (← g.inserts) (get_append h.inserted g.more (a - 1) f w.1))
 
 -- what is not dropped at the later moment and was received at the earlier one is live at the earlier one
-pub kept_received : (h h' : History) (a : ℕ) → Grows h h' → h'.dropped < a → a ≤ length h.inserted → Kept (whole h') (window_of h) a
+pub kept_received : (h h' : History) (a : ℕ) → Grows h h' → h'.dropped < a → a ≤ length h.inserted
+    → Kept (whole h') (window_of h) a
 kept_received h h' a g low high f q =
     let w = whole_entry h' a f q in
     let fits : a - 1 < length h.inserted = omega arith in
-    let same : slice_get h.inserted (a - 1) ≡ Some f = sym (get_append_within h.inserted g.more (a - 1) fits) ∙ (rw g.inserts w.1) in
+    let same : slice_get h.inserted (a - 1) ≡ Some f =
+    sym (get_append_within h.inserted g.more (a - 1) fits) ∙ (rw g.inserts w.1) in
     entry_live h a f (omega (arith, g.drops)) same

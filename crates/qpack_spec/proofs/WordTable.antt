@@ -1,8 +1,11 @@
--- The code, computed once: each byte's word is read as that byte, and each place of the code has the word that its length and rank say.
-use Rattle.std.proofs.Common.{◌≡◌, ℕ, zero, suc, ◌+◌, ◌*◌, ◌<◌, Bool, true, false, List, [], ◌∷◌, ◌++◌, Result, Ok, Err, refl, arith}
+-- The code, computed once: each byte's word is read as that byte, and each place of the code has the word that its
+-- length and rank say.
+use Rattle.std.proofs.Common.{◌≡◌, ℕ, zero, suc, ◌+◌, ◌*◌, ◌<◌, Bool, true, false, List, [], ◌∷◌, ◌++◌, Result, Ok, Err}
+use Rattle.std.proofs.Common.{refl, arith}
 use Rattle.std.specs.Prelude.{◌==◌, ◌&&◌, nat_lt, nat_le, length}
 use Rattle.std.specs.Str.{bytes_eq}
-use Rattle.qpack_spec.specs.Huffman.{HuffmanFault, MissingBits, Unhandled, bytes_by_length, bytes_of_length, first_word, word_length, word_of, word_at, bits_of, ones}
+use Rattle.qpack_spec.specs.Huffman.{HuffmanFault, MissingBits, Unhandled, bytes_by_length, bytes_of_length, first_word}
+use Rattle.qpack_spec.specs.Huffman.{word_length, word_of, word_at, bits_of, ones}
 
 -- whether the answer is the byte, with nothing left
 abbrev pub gives : ℕ → Result (ℕ × List ℕ) HuffmanFault → Bool

@@ -1,5 +1,6 @@
 -- Reading a word bit by bit finds the byte whose word stands in front, and no other.
-use Rattle.std.proofs.Common.{◌≡◌, ℕ, zero, suc, ◌+◌, ◌-◌, ◌*◌, ◌<◌, ◌≤◌, Bool, true, false, List, [], ◌∷◌, ◌++◌, length, Result, Ok, Err, refl, sym, ap, subst, ◌∙◌, arith, append_assoc, inl, inr}
+use Rattle.std.proofs.Common.{◌≡◌, ℕ, zero, suc, ◌+◌, ◌-◌, ◌*◌, ◌<◌, ◌≤◌, Bool, true, false, List, [], ◌∷◌, ◌++◌}
+use Rattle.std.proofs.Common.{length, Result, Ok, Err, refl, sym, ap, subst, ◌∙◌, arith, append_assoc, inl, inr}
 use Rattle.std.specs.Prelude.{nat_lt, slice_index, ◌==◌, ◌&&◌}
 use Rattle.std.proofs.lemmas.Bool.{ltb-true, ltb-false, eqb-true, cases_eq}
 use Rattle.std.proofs.lemmas.Slice.Eq.{bytes_eq-Decides}
@@ -43,12 +44,14 @@ word_read b h = given b (word_at bytes_by_length 0 0 (word_of b)) (each 256 0 b 
 
 -- ---- what stands behind a word does not matter
 
-pub word_extends : (rs : List (List ℕ)) (n x : ℕ) (bits rest more : List ℕ) (b : ℕ) → word_at rs n x bits ≡ Ok (b, rest) → word_at rs n x (bits ++ more) ≡ Ok (b, rest ++ more)
+word_extends : (rs : List (List ℕ)) (n x : ℕ) (bits rest more : List ℕ) (b : ℕ) → word_at rs n x bits ≡ Ok (b, rest)
+    → word_at rs n x (bits ++ more) ≡ Ok (b, rest ++ more)
 unfolding word_at
 word_extends [] n x bits rest more b e = absurd cc
 word_extends (r ∷ rs) n x [] rest more b e = absurd cc
 word_extends (r ∷ rs) n x (bit ∷ bits) rest more b e =
-    elim (chosen (nat_lt (2 * n + bit) (2 * x + length r)) (Ok (slice_index r (2 * n + bit - 2 * x), bits)) (word_at rs (2 * n + bit) (2 * x + length r) bits) (Ok (b, rest)) e) [
+    elim (chosen (nat_lt (2 * n + bit) (2 * x + length r)) (Ok (slice_index r (2 * n + bit - 2 * x), bits))
+    (word_at rs (2 * n + bit) (2 * x + length r) bits) (Ok (b, rest)) e) [
       | inl h ↦
           let p = ok_pair (slice_index r (2 * n + bit - 2 * x)) b bits rest h.1 in
           let t = p.0 in
@@ -63,13 +66,14 @@ word_again b rest h = word_extends bytes_by_length 0 0 (word_of b) [] rest b (wo
 
 -- ---- what is read is a word
 
-pub record TakesWord (n number : ℕ) (bits : List ℕ) (b : ℕ) (rest : List ℕ) : Type 0 where
+record TakesWord (n number : ℕ) (bits : List ℕ) (b : ℕ) (rest : List ℕ) : Type 0 where
   pub word : List ℕ
   pub parts : bits ≡ word ++ rest
   pub byte : b < 256
   pub is : word_of b ≡ bits_of n number ++ word
 
-row_at : (n first : ℕ) (row : List ℕ) (k : ℕ) → row_good n first row ≡ true → k < length row → (slice_index row k < 256) × (word_of (slice_index row k) ≡ bits_of n (first + k))
+row_at : (n first : ℕ) (row : List ℕ) (k : ℕ) → row_good n first row ≡ true → k < length row
+    → (slice_index row k < 256) × (word_of (slice_index row k) ≡ bits_of n (first + k))
 row_at n first [] k e h = absurd (omega arith)
 row_at n first (b ∷ row) zero e h =
     let g = both (nat_lt b 256) (bytes_eq (word_of b) (bits_of n first) && row_good n (suc first) row) e in
@@ -83,14 +87,18 @@ row_at n first (b ∷ row) (suc k) e h =
     let f : suc first + k ≡ first + suc k = omega arith in
     (r.0, r.1 ∙ ap (bits_of n) f)
 
-pub word_takes : (rs : List (List ℕ)) (n number next : ℕ) (bits : List ℕ) (b : ℕ) (rest : List ℕ) → rows_good n next rs ≡ true → AreBits bits → next ≤ number → word_at rs number next bits ≡ Ok (b, rest) → TakesWord n number bits b rest
+word_takes : (rs : List (List ℕ)) (n number next : ℕ) (bits : List ℕ) (b : ℕ) (rest : List ℕ)
+    → rows_good n next rs ≡ true → AreBits bits → next ≤ number → word_at rs number next bits ≡ Ok (b, rest)
+    → TakesWord n number bits b rest
 unfolding word_at
 word_takes [] n number next bits b rest good ok le e = absurd cc
 word_takes (r ∷ rs) n number next [] b rest good ok le e = absurd cc
 word_takes (r ∷ rs) n number next (bit ∷ bits) b rest good ok le e =
     let g = both (row_good (suc n) (2 * next) r) (rows_good (suc n) (2 * next + length r) rs) good in
     let one = bits_next n number bit ok.0 in
-    elim (chosen (nat_lt (2 * number + bit) (2 * next + length r)) (Ok (slice_index r (2 * number + bit - 2 * next), bits)) (word_at rs (2 * number + bit) (2 * next + length r) bits) (Ok (b, rest)) e) [
+    elim (chosen (nat_lt (2 * number + bit) (2 * next + length r))
+    (Ok (slice_index r (2 * number + bit - 2 * next), bits))
+    (word_at rs (2 * number + bit) (2 * next + length r) bits) (Ok (b, rest)) e) [
       | inl h ↦
           let p = ok_pair (slice_index r (2 * number + bit - 2 * next)) b bits rest h.1 in
           let lt = ltb-true _ _ h.0 in
@@ -103,7 +111,8 @@ word_takes (r ∷ rs) n number next (bit ∷ bits) b rest good ok le e =
             is = ap word_of (sym p.0) ∙ w.1 ∙ ap (bits_of (suc n)) k ∙ one;
           }
       | inr h ↦
-          let t = word_takes rs (suc n) (2 * number + bit) (2 * next + length r) bits b rest g.1 ok.1 (ltb-false _ _ h.0) h.1 in
+          let t = word_takes rs (suc n) (2 * number + bit) (2 * next + length r) bits b rest g.1 ok.1
+          (ltb-false _ _ h.0) h.1 in
           record {
             word = bit ∷ t.word;
             parts = ap (λ (l : List ℕ). bit ∷ l) t.parts;
@@ -120,19 +129,23 @@ no_bits_before : (n : ℕ) → bits_of 0 n ≡ []
 unfolding bits_of
 no_bits_before n = refl
 
-pub word_found : (bits : List ℕ) (b : ℕ) (rest : List ℕ) → AreBits bits → word_at bytes_by_length 0 0 bits ≡ Ok (b, rest) → FindsWord bits b rest
+pub word_found : (bits : List ℕ) (b : ℕ) (rest : List ℕ) → AreBits bits
+    → word_at bytes_by_length 0 0 bits ≡ Ok (b, rest) → FindsWord bits b rest
 word_found bits b rest ok e =
     let t = word_takes bytes_by_length 0 0 0 bits b rest all_rows ok (omega arith) e in
     let w : word_of b ≡ t.word = t.is ∙ ap (λ (l : List ℕ). l ++ t.word) (no_bits_before 0) in
     record { byte = t.byte; parts = t.parts ∙ ap (λ (l : List ℕ). l ++ rest) (sym w) }
 
 -- a word takes at least one bit
-pub word_shorter : (rs : List (List ℕ)) (n x : ℕ) (bits rest : List ℕ) (b : ℕ) → word_at rs n x bits ≡ Ok (b, rest) → length rest < length bits
+pub word_shorter : (rs : List (List ℕ)) (n x : ℕ) (bits rest : List ℕ) (b : ℕ) → word_at rs n x bits ≡ Ok (b, rest)
+    → length rest < length bits
 unfolding word_at
 word_shorter [] n x bits rest b e = absurd cc
 word_shorter (r ∷ rs) n x [] rest b e = absurd cc
 word_shorter (r ∷ rs) n x (bit ∷ bits) rest b e =
-    elim (chosen (nat_lt (2 * n + bit) (2 * x + length r)) (Ok (slice_index r (2 * n + bit - 2 * x), bits)) (word_at rs (2 * n + bit) (2 * x + length r) bits) (Ok (b, rest)) e) [
-      | inl h ↦ let p = ok_pair (slice_index r (2 * n + bit - 2 * x)) b bits rest h.1 in let q = ap (λ (y : List ℕ). length y) p.1 in omega (arith, q)
+    elim (chosen (nat_lt (2 * n + bit) (2 * x + length r)) (Ok (slice_index r (2 * n + bit - 2 * x), bits))
+    (word_at rs (2 * n + bit) (2 * x + length r) bits) (Ok (b, rest)) e) [
+      | inl h ↦ let p = ok_pair (slice_index r (2 * n + bit - 2 * x)) b bits rest h.1 in let q =
+          ap (λ (y : List ℕ). length y) p.1 in omega (arith, q)
       | inr h ↦ omega (arith, word_shorter rs (2 * n + bit) (2 * x + length r) bits rest b h.1)
     ]

@@ -1,6 +1,7 @@
 -- What the rule writes can be written: its numbers are small, its strings are those of the fields; and what takes fewer
 -- than 2^63 bytes can be read back.
-use Rattle.std.proofs.Common.{◌<◌, ◌*◌, ℕ, ◌+◌, ◌-◌, ◌^◌, ◌≤◌, ◌≡◌, List, [], ◌∷◌, ◌++◌, length, Option, None, Some, refl, arith, length-append, length-drop}
+use Rattle.std.proofs.Common.{◌<◌, ◌*◌, ℕ, ◌+◌, ◌-◌, ◌^◌, ◌≤◌, ◌≡◌, List, [], ◌∷◌, ◌++◌, length, Option, None, Some}
+use Rattle.std.proofs.Common.{refl, arith, length-append, length-drop}
 use Rattle.std.specs.List.{AllByRecursion, slice_get}
 use Rattle.std.specs.Prelude.{nat_le, ◌&&◌}
 use Rattle.std.proofs.lemmas.Bool.{cond_both, and_parts}
@@ -8,14 +9,20 @@ use Rattle.std.proofs.lemmas.Option.{slice_get_within}
 use Rattle.std.proofs.lemmas.List.{length-map}
 use Rattle.qpack_spec.specs.Field.{Field, has_name, is_field}
 use Rattle.qpack_spec.specs.StaticTable.{static_table, static_place, static_name_place}
-use Rattle.qpack_spec.specs.Line.{Line, IndexedStatic, IndexedDynamic, IndexedPostBase, NamedStatic, NamedDynamic, NamedPostBase, Literal, written_line, written_lines}
+use Rattle.qpack_spec.specs.Line.{Line, IndexedStatic, IndexedDynamic, IndexedPostBase, NamedStatic, NamedDynamic}
+use Rattle.qpack_spec.specs.Line.{NamedPostBase, Literal, written_line, written_lines}
 use Rattle.qpack_spec.specs.Integer.{written_integer}
 use Rattle.qpack_spec.specs.Huffman.{AreBytes, payload_of}
 use Rattle.qpack_spec.specs.Text.{written_string}
-use Rattle.qpack_spec.specs.Instruction.{Instruction, InsertStaticName, InsertDynamicName, InsertLiteralName, Duplicate, SetCapacity, written_instruction, written_instructions}
-use Rattle.qpack_spec.specs.Table.{Entry, Table, sent_entry, fields_in, count, naming, evicted_for, has_room, below_limit, may_name, with_entry, last_place, newest, unnamed}
-use Rattle.qpack_spec.specs.Rule.{Draft, writes, writes_naming, by_name, by_static_name, by_equal, instruction_for, staying, inserts, named_line, literal_by_entry, literal, insertion_or_literal, by_entry, by_static, rule_field, rule_fields, blank, rule}
-use Rattle.qpack_spec.specs.WrittenLaws.{IsSmall, IsWritableText, IsByteField, IsByteLine, IsByteInstruction, IsWritableLine, IsWritableInstruction}
+use Rattle.qpack_spec.specs.Instruction.{Instruction, InsertStaticName, InsertDynamicName, InsertLiteralName, Duplicate}
+use Rattle.qpack_spec.specs.Instruction.{SetCapacity, written_instruction, written_instructions}
+use Rattle.qpack_spec.specs.Table.{Entry, Table, sent_entry, fields_in, count, naming, evicted_for, has_room}
+use Rattle.qpack_spec.specs.Table.{below_limit, may_name, with_entry, last_place, newest, unnamed}
+use Rattle.qpack_spec.specs.Rule.{Draft, writes, writes_naming, by_name, by_static_name, by_equal, instruction_for}
+use Rattle.qpack_spec.specs.Rule.{staying, inserts, named_line, literal_by_entry, literal, insertion_or_literal}
+use Rattle.qpack_spec.specs.Rule.{by_entry, by_static, rule_field, rule_fields, blank, rule}
+use Rattle.qpack_spec.specs.WrittenLaws.{IsSmall, IsWritableText, IsByteField, IsByteLine, IsByteInstruction}
+use Rattle.qpack_spec.specs.WrittenLaws.{IsWritableLine, IsWritableInstruction}
 use Rattle.qpack_spec.proofs.Lists.{every_append}
 use Rattle.qpack_spec.proofs.Windows.{excess_push}
 use Rattle.qpack_spec.proofs.Places.{newest_found, static_found, static_name_found}
@@ -36,7 +43,11 @@ static_small i f e = omega (arith, slice_get_within static_table i f e, has_99)
 
 writes_written : (d : Draft) (l : Line) → WrittenDraft d → IsByteLine l → WrittenDraft (writes d l)
 writes_written d l k w =
-    record { few = k.few; lines = every_append IsByteLine d.lines (l ∷ []) k.lines (w, tt); instructions = k.instructions }
+    record {
+      few = k.few;
+      lines = every_append IsByteLine d.lines (l ∷ []) k.lines (w, tt);
+      instructions = k.instructions;
+    }
 
 pub count_naming : (t : Table) (a : ℕ) → count (naming t a) ≡ count t
 unfolding naming
@@ -44,23 +55,31 @@ count_naming t a = refl
 
 naming_written : (d : Draft) (a : ℕ) (l : Line) → WrittenDraft d → IsByteLine l → WrittenDraft (writes_naming d a l)
 naming_written d a l k w =
-    record { few = omega (arith, k.few, count_naming d.table a); lines = every_append IsByteLine d.lines (l ∷ []) k.lines (w, tt); instructions = k.instructions }
+    record {
+      few = omega (arith, k.few, count_naming d.table a);
+      lines = every_append IsByteLine d.lines (l ∷ []) k.lines (w, tt);
+      instructions = k.instructions;
+    }
 
 -- ---- the instruction of an insertion
 
-name_instruction : (f : Field) (stay : List Field) → length stay ≤ 2 ^ 62 → IsByteField f → (o : Option ℕ) → IsByteInstruction (by_name f (length stay) o)
+name_instruction : (f : Field) (stay : List Field) → length stay ≤ 2 ^ 62 → IsByteField f → (o : Option ℕ)
+    → IsByteInstruction (by_name f (length stay) o)
 name_instruction f stay few w (Some i) = (omega arith, w.1)
 name_instruction f stay few w None = (w.0, w.1)
 
-static_instruction : (f : Field) (stay : List Field) → length stay ≤ 2 ^ 62 → IsByteField f → (o : Option ℕ) → static_name_place f.name ≡ o → IsByteInstruction (by_static_name f stay o)
+static_instruction : (f : Field) (stay : List Field) → length stay ≤ 2 ^ 62 → IsByteField f → (o : Option ℕ)
+    → static_name_place f.name ≡ o → IsByteInstruction (by_static_name f stay o)
 static_instruction f stay few w (Some i) e = let at = static_name_found f.name i e in (static_small i at.0 at.1, w.1)
 static_instruction f stay few w None e = name_instruction f stay few w (last_place (has_name f.name) stay)
 
-equal_instruction : (f : Field) (stay : List Field) → length stay ≤ 2 ^ 62 → IsByteField f → (o : Option ℕ) → IsByteInstruction (by_equal f stay o)
+equal_instruction : (f : Field) (stay : List Field) → length stay ≤ 2 ^ 62 → IsByteField f → (o : Option ℕ)
+    → IsByteInstruction (by_equal f stay o)
 equal_instruction f stay few w (Some i) = omega arith
 equal_instruction f stay few w None = static_instruction f stay few w (static_name_place f.name) refl
 
-instruction_written : (f : Field) (stay : List Field) → length stay ≤ 2 ^ 62 → IsByteField f → IsByteInstruction (instruction_for f stay)
+instruction_written : (f : Field) (stay : List Field) → length stay ≤ 2 ^ 62 → IsByteField f
+    → IsByteInstruction (instruction_for f stay)
 unfolding instruction_for
 instruction_written f stay few w = equal_instruction f stay few w (last_place (is_field f) stay)
 
@@ -69,78 +88,117 @@ instruction_written f stay few w = equal_instruction f stay few w (last_place (i
 pub count_entered : (t : Table) (f : Field) → Room t f → count (with_entry t (sent_entry f)) ≡ count t + 1
 unfolding with_entry
 count_entered t f r =
-    let b : evicted_for t f ≤ length t.live = omega (arith, excess_push t.capacity (fields_in t.live) f r.fits, length-map t.live (λ (x : Entry). x.field)) in
+    let b : evicted_for t f ≤ length t.live =
+    omega (arith, excess_push t.capacity (fields_in t.live) f r.fits, length-map t.live (λ (x : Entry). x.field)) in
     omega (arith, length-drop (evicted_for t f) (t.live ++ sent_entry f ∷ []), length-append t.live (sent_entry f ∷ []))
 
-inserts_written : (base : ℕ) (d : Draft) (f : Field) → WrittenDraft d → IsByteField f → Room d.table f → WrittenDraft (inserts base d f)
+inserts_written : (base : ℕ) (d : Draft) (f : Field) → WrittenDraft d → IsByteField f → Room d.table f
+    → WrittenDraft (inserts base d f)
 inserts_written base d f k w r =
-    let stay : length (staying d.table f) ≤ 2 ^ 62 = omega (arith, k.few, length-drop (evicted_for d.table f) (fields_in d.table.live), length-map d.table.live (λ (x : Entry). x.field)) in
+    let stay : length (staying d.table f) ≤ 2 ^ 62 =
+    omega (
+      arith,
+      k.few,
+      length-drop (evicted_for d.table f) (fields_in d.table.live),
+      length-map d.table.live (λ (x : Entry). x.field),
+    ) in
     record {
-      few = omega (arith, r.few, count_naming (with_entry d.table (sent_entry f)) (count d.table + 1), count_entered d.table f r);
-      lines = every_append IsByteLine d.lines (IndexedPostBase (count d.table - base) ∷ []) k.lines (omega (arith, r.few), tt);
-      instructions = every_append IsByteInstruction d.instructions (instruction_for f (staying d.table f) ∷ []) k.instructions (instruction_written f (staying d.table f) stay w, tt);
+      few = omega (
+        arith,
+        r.few,
+        count_naming (with_entry d.table (sent_entry f)) (count d.table + 1),
+        count_entered d.table f r,
+      );
+      lines = every_append IsByteLine d.lines (IndexedPostBase (count d.table - base) ∷ []) k.lines
+          (omega (arith, r.few), tt);
+      instructions =
+          every_append IsByteInstruction d.instructions (instruction_for f (staying d.table f) ∷ []) k.instructions
+          (instruction_written f (staying d.table f) stay w, tt);
     }
 
 entry_line : (base a : ℕ) (f : Field) → base ≤ 2 ^ 62 → a ≤ 2 ^ 62 → IsByteField f → IsByteLine (named_line base a f)
 entry_line base a f b le w =
-    cond_both (nat_le a base) (NamedDynamic (base - a) f.value) (NamedPostBase (a - base - 1) f.value) IsByteLine (λ _. (omega arith, w.1)) (λ _. (omega arith, w.1))
+    cond_both (nat_le a base) (NamedDynamic (base - a) f.value) (NamedPostBase (a - base - 1) f.value) IsByteLine
+    (λ _. (omega arith, w.1)) (λ _. (omega arith, w.1))
 
-by_entry_written : (base : ℕ) (d : Draft) (f : Field) → base ≤ 2 ^ 62 → WrittenDraft d → IsByteField f → (o : Option ℕ) → newest d.table (has_name f.name) ≡ o → WrittenDraft (literal_by_entry base d f o)
+by_entry_written : (base : ℕ) (d : Draft) (f : Field) → base ≤ 2 ^ 62 → WrittenDraft d → IsByteField f → (o : Option ℕ)
+    → newest d.table (has_name f.name) ≡ o → WrittenDraft (literal_by_entry base d f o)
 by_entry_written base d f b k w None e = writes_written d (Literal f.name f.value) k w
 by_entry_written base d f b k w (Some a) e =
     let at = newest_found d.table (has_name f.name) a e in
-    cond_both (may_name d.table a) (writes_naming d a (named_line base a f)) (writes d (Literal f.name f.value)) WrittenDraft
+    cond_both (may_name d.table a) (writes_naming d a (named_line base a f)) (writes d (Literal f.name f.value))
+    WrittenDraft
     (λ _. naming_written d a (named_line base a f) k (entry_line base a f b (omega (arith, at.within, k.few)) w))
     (λ _. writes_written d (Literal f.name f.value) k w)
 
-literal_written : (base : ℕ) (d : Draft) (f : Field) → base ≤ 2 ^ 62 → WrittenDraft d → IsByteField f → (o : Option ℕ) → static_name_place f.name ≡ o → WrittenDraft (literal base d f o)
+literal_written : (base : ℕ) (d : Draft) (f : Field) → base ≤ 2 ^ 62 → WrittenDraft d → IsByteField f → (o : Option ℕ)
+    → static_name_place f.name ≡ o → WrittenDraft (literal base d f o)
 literal_written base d f b k w None e = by_entry_written base d f b k w (newest d.table (has_name f.name)) refl
 literal_written base d f b k w (Some i) e =
     let at = static_name_found f.name i e in writes_written d (NamedStatic i f.value) k (static_small i at.0 at.1, w.1)
 
-insertion_written : (base : ℕ) (d : Draft) (f : Field) → base ≤ 2 ^ 62 → WrittenDraft d → IsByteField f → WrittenDraft (insertion_or_literal base d f)
+insertion_written : (base : ℕ) (d : Draft) (f : Field) → base ≤ 2 ^ 62 → WrittenDraft d → IsByteField f
+    → WrittenDraft (insertion_or_literal base d f)
 insertion_written base d f b k w =
-    cond_both (below_limit d.table && has_room d.table f) (inserts base d f) (literal base d f (static_name_place f.name)) WrittenDraft
+    cond_both (below_limit d.table && has_room d.table f) (inserts base d f)
+    (literal base d f (static_name_place f.name)) WrittenDraft
     (λ t. inserts_written base d f k w (room d.table f (and_parts (below_limit d.table) (has_room d.table f) t).1))
     (λ _. literal_written base d f b k w (static_name_place f.name) refl)
 
-equal_written : (base : ℕ) (d : Draft) (f : Field) → base ≤ 2 ^ 62 → WrittenDraft d → IsByteField f → (o : Option ℕ) → WrittenDraft (by_entry base d f o)
+equal_written : (base : ℕ) (d : Draft) (f : Field) → base ≤ 2 ^ 62 → WrittenDraft d → IsByteField f → (o : Option ℕ)
+    → WrittenDraft (by_entry base d f o)
 equal_written base d f b k w None = insertion_written base d f b k w
 equal_written base d f b k w (Some a) =
-    cond_both (nat_le a base && may_name d.table a) (writes_naming d a (IndexedDynamic (base - a))) (insertion_or_literal base d f) WrittenDraft
+    cond_both (nat_le a base && may_name d.table a) (writes_naming d a (IndexedDynamic (base - a)))
+    (insertion_or_literal base d f) WrittenDraft
     (λ _. naming_written d a (IndexedDynamic (base - a)) k (omega arith))
     (λ _. insertion_written base d f b k w)
 
-static_written : (base : ℕ) (d : Draft) (f : Field) → base ≤ 2 ^ 62 → WrittenDraft d → IsByteField f → (o : Option ℕ) → static_place f ≡ o → WrittenDraft (by_static base d f o)
+static_written : (base : ℕ) (d : Draft) (f : Field) → base ≤ 2 ^ 62 → WrittenDraft d → IsByteField f → (o : Option ℕ)
+    → static_place f ≡ o → WrittenDraft (by_static base d f o)
 static_written base d f b k w None e = equal_written base d f b k w (newest d.table (is_field f))
 static_written base d f b k w (Some i) e = writes_written d (IndexedStatic i) k (static_small i f (static_found f i e))
 
-field_written : (base : ℕ) (d : Draft) (f : Field) → base ≤ 2 ^ 62 → WrittenDraft d → IsByteField f → WrittenDraft (rule_field base d f)
+field_written : (base : ℕ) (d : Draft) (f : Field) → base ≤ 2 ^ 62 → WrittenDraft d → IsByteField f
+    → WrittenDraft (rule_field base d f)
 unfolding rule_field
 field_written base d f b k w = static_written base d f b k w (static_place f) refl
 
-fields_written : (base : ℕ) (d : Draft) (fs : List Field) → base ≤ 2 ^ 62 → WrittenDraft d → AllByRecursion IsByteField fs → WrittenDraft (rule_fields base d fs)
+fields_written : (base : ℕ) (d : Draft) (fs : List Field) → base ≤ 2 ^ 62 → WrittenDraft d
+    → AllByRecursion IsByteField fs → WrittenDraft (rule_fields base d fs)
 fields_written base d [] b k w = k
-fields_written base d (f ∷ fs) b k w = fields_written base (rule_field base d f) fs b (field_written base d f b k w.0) w.1
+fields_written base d (f ∷ fs) b k w =
+    fields_written base (rule_field base d f) fs b (field_written base d f b k w.0) w.1
 
 pub count_unnamed : (t : Table) → count (unnamed t) ≡ count t
 unfolding unnamed
 count_unnamed t = refl
 
 -- the numbers that the rule writes are small, its strings bytes
-pub rule_written : (t : Table) (fs : List Field) → count t ≤ 2 ^ 62 → AllByRecursion IsByteField fs → WrittenDraft (rule t fs)
+pub rule_written : (t : Table) (fs : List Field) → count t ≤ 2 ^ 62 → AllByRecursion IsByteField fs
+    → WrittenDraft (rule t fs)
 unfolding rule
 rule_written t fs few w =
-    fields_written (count t) (blank t) fs few (record { few = omega (arith, few, count_unnamed t); lines = tt; instructions = tt }) w
+    fields_written (count t) (blank t) fs few
+    (record { few = omega (arith, few, count_unnamed t); lines = tt; instructions = tt }) w
 
 -- ---- what takes fewer than 2^63 bytes can be read back
 
-text_fits : (n flags : ℕ) (text : List ℕ) → AreBytes text → length (written_string n flags text) < 2 ^ 63 → IsWritableText text
+text_fits : (n flags : ℕ) (text : List ℕ) → AreBytes text → length (written_string n flags text) < 2 ^ 63
+    → IsWritableText text
 unfolding written_string
 text_fits n flags text b h =
-    record { bytes = b; size = omega (arith, h, length-append (written_integer (n - 1) (2 * flags + 1) (length (payload_of text))) (payload_of text)) }
+    record {
+      bytes = b;
+      size = omega (
+        arith,
+        h,
+        length-append (written_integer (n - 1) (2 * flags + 1) (length (payload_of text))) (payload_of text),
+      );
+    }
 
-value_fits : (head text : List ℕ) → AreBytes text → length (head ++ written_string 8 0 text) < 2 ^ 63 → IsWritableText text
+value_fits : (head text : List ℕ) → AreBytes text → length (head ++ written_string 8 0 text) < 2 ^ 63
+    → IsWritableText text
 value_fits head text b h = text_fits 8 0 text b (omega (arith, h, length-append head (written_string 8 0 text)))
 
 line_fits : (l : Line) → IsByteLine l → length (written_line l) < 2 ^ 63 → IsWritableLine l
@@ -151,24 +209,33 @@ line_fits (IndexedPostBase i) b h = b
 line_fits (NamedStatic i v) b h = (b.0, value_fits (written_integer 4 5 i) v b.1 h)
 line_fits (NamedDynamic i v) b h = (b.0, value_fits (written_integer 4 4 i) v b.1 h)
 line_fits (NamedPostBase i v) b h = (b.0, value_fits (written_integer 3 0 i) v b.1 h)
-line_fits (Literal n v) b h =
-    (text_fits 4 2 n b.0 (omega (arith, h, length-append (written_string 4 2 n) (written_string 8 0 v))), value_fits (written_string 4 2 n) v b.1 h)
+line_fits (Literal n v) b h = (
+  text_fits 4 2 n b.0 (omega (arith, h, length-append (written_string 4 2 n) (written_string 8 0 v))),
+  value_fits (written_string 4 2 n) v b.1 h,
+)
 
-pub lines_fit : (ls : List Line) → AllByRecursion IsByteLine ls → length (written_lines ls) < 2 ^ 63 → AllByRecursion IsWritableLine ls
+pub lines_fit : (ls : List Line) → AllByRecursion IsByteLine ls → length (written_lines ls) < 2 ^ 63
+    → AllByRecursion IsWritableLine ls
 unfolding written_lines
 lines_fit [] b h = tt
-lines_fit (l ∷ ls) b h = let n = length-append (written_line l) (written_lines ls) in (line_fits l b.0 (omega (arith, h, n)), lines_fit ls b.1 (omega (arith, h, n)))
+lines_fit (l ∷ ls) b h = let n = length-append (written_line l) (written_lines ls) in
+    (line_fits l b.0 (omega (arith, h, n)), lines_fit ls b.1 (omega (arith, h, n)))
 
-instruction_fits : (i : Instruction) → IsByteInstruction i → length (written_instruction i) < 2 ^ 63 → IsWritableInstruction i
+instruction_fits : (i : Instruction) → IsByteInstruction i → length (written_instruction i) < 2 ^ 63
+    → IsWritableInstruction i
 unfolding written_instruction
 instruction_fits (InsertStaticName i v) b h = (b.0, value_fits (written_integer 6 3 i) v b.1 h)
 instruction_fits (InsertDynamicName i v) b h = (b.0, value_fits (written_integer 6 2 i) v b.1 h)
-instruction_fits (InsertLiteralName n v) b h =
-    (text_fits 6 1 n b.0 (omega (arith, h, length-append (written_string 6 1 n) (written_string 8 0 v))), value_fits (written_string 6 1 n) v b.1 h)
+instruction_fits (InsertLiteralName n v) b h = (
+  text_fits 6 1 n b.0 (omega (arith, h, length-append (written_string 6 1 n) (written_string 8 0 v))),
+  value_fits (written_string 6 1 n) v b.1 h,
+)
 instruction_fits (Duplicate i) b h = b
 instruction_fits (SetCapacity c) b h = b
 
-pub instructions_fit : (is : List Instruction) → AllByRecursion IsByteInstruction is → length (written_instructions is) < 2 ^ 63 → AllByRecursion IsWritableInstruction is
+pub instructions_fit : (is : List Instruction) → AllByRecursion IsByteInstruction is
+    → length (written_instructions is) < 2 ^ 63 → AllByRecursion IsWritableInstruction is
 unfolding written_instructions
 instructions_fit [] b h = tt
-instructions_fit (i ∷ is) b h = let n = length-append (written_instruction i) (written_instructions is) in (instruction_fits i b.0 (omega (arith, h, n)), instructions_fit is b.1 (omega (arith, h, n)))
+instructions_fit (i ∷ is) b h = let n = length-append (written_instruction i) (written_instructions is) in
+    (instruction_fits i b.0 (omega (arith, h, n)), instructions_fit is b.1 (omega (arith, h, n)))

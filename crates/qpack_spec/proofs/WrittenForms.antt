@@ -1,13 +1,18 @@
 -- What is written of lines, instructions and replies is a spelling.
-use Rattle.std.proofs.Common.{◌≡◌, ℕ, suc, ◌+◌, ◌-◌, ◌*◌, ◌/◌, ◌%◌, ◌^◌, ◌<◌, ◌≤◌, List, [], ◌∷◌, ◌++◌, length, Option, Some, refl, ap, arith, lit≤}
+use Rattle.std.proofs.Common.{◌≡◌, ℕ, suc, ◌+◌, ◌-◌, ◌*◌, ◌/◌, ◌%◌, ◌^◌, ◌<◌, ◌≤◌, List, [], ◌∷◌, ◌++◌, length, Option}
+use Rattle.std.proofs.Common.{Some, refl, ap, arith, lit≤}
 use Rattle.std.proofs.lemmas.Bool.{lt-ltb, le-ltb, eq-eqb, ne_eqb}
 use Rattle.qpack_spec.specs.Integer.{SpellsInteger, written_integer}
 use Rattle.qpack_spec.specs.Huffman.{payload_of}
 use Rattle.qpack_spec.specs.Text.{SpellsString, written_string}
 use Rattle.qpack_spec.specs.Form.{Form, Index, IndexAndValue, NameAndValue, Spells}
-use Rattle.qpack_spec.specs.Line.{IndexedStatic, IndexedDynamic, IndexedPostBase, NamedStatic, NamedDynamic, NamedPostBase, Literal, line_form, written_line}
-use Rattle.qpack_spec.specs.Instruction.{InsertStaticName, InsertDynamicName, InsertLiteralName, Duplicate, SetCapacity, Acknowledgment, Cancellation, Increment, instruction_form, reply_form, written_instruction, written_reply}
-use Rattle.qpack_spec.specs.WrittenLaws.{IsSmall, IsWritableText, WrittenLinesAreSpellings, WrittenInstructionsAreSpellings, WrittenRepliesAreSpellings}
+use Rattle.qpack_spec.specs.Line.{IndexedStatic, IndexedDynamic, IndexedPostBase, NamedStatic, NamedDynamic}
+use Rattle.qpack_spec.specs.Line.{NamedPostBase, Literal, line_form, written_line}
+use Rattle.qpack_spec.specs.Instruction.{InsertStaticName, InsertDynamicName, InsertLiteralName, Duplicate, SetCapacity}
+use Rattle.qpack_spec.specs.Instruction.{Acknowledgment, Cancellation, Increment, instruction_form, reply_form}
+use Rattle.qpack_spec.specs.Instruction.{written_instruction, written_reply}
+use Rattle.qpack_spec.specs.WrittenLaws.{IsSmall, IsWritableText, WrittenLinesAreSpellings}
+use Rattle.qpack_spec.specs.WrittenLaws.{WrittenInstructionsAreSpellings, WrittenRepliesAreSpellings}
 use Rattle.qpack_spec.proofs.WrittenIntegers.{written_spells}
 use Rattle.qpack_spec.proofs.WrittenStrings.{written_literal}
 
@@ -23,63 +28,114 @@ integer_starts n [] flags value s = absurd s.stands
 integer_starts n (b ∷ cs) flags value s = record { first = b; more = cs; begins = refl; high = s.stands.0 }
 
 pub behind : (n flags : ℕ) (head tail : List ℕ) → Starts n flags head → Starts n flags (head ++ tail)
-behind n flags head tail s = record { first = s.first; more = s.more ++ tail; begins = ap (λ x. x ++ tail) s.begins; high = s.high }
+behind n flags head tail s =
+    record { first = s.first; more = s.more ++ tail; begins = ap (λ x. x ++ tail) s.begins; high = s.high }
 
 -- an integer as it is written: of 3 to 7 bits, the flags fitting above
-pub integer_written : (n flags value : ℕ) → 1 ≤ n → n ≤ 8 → flags < 2 ^ (8 - n) → IsSmall value → SpellsInteger n (written_integer n flags value) flags value
+pub integer_written : (n flags value : ℕ) → 1 ≤ n → n ≤ 8 → flags < 2 ^ (8 - n) → IsSmall value
+    → SpellsInteger n (written_integer n flags value) flags value
 integer_written n flags value least most fit small =
     written_spells n flags value (record { least = least; most = most; high = fit; low = omega arith }) (omega arith)
 
-pub string_written : (n flags : ℕ) (value : List ℕ) → 2 ≤ n → n ≤ 8 → flags < 2 ^ (8 - n) → IsWritableText value → SpellsString n (written_string n flags value) flags value
+string_written : (n flags : ℕ) (value : List ℕ) → 2 ≤ n → n ≤ 8 → flags < 2 ^ (8 - n) → IsWritableText value
+    → SpellsString n (written_string n flags value) flags value
 string_written n flags value least most fit w =
-    written_literal n flags value (record { least = least; most = most; flags_fit = fit; bytes = w.bytes; size = omega (arith, w.size) })
+    written_literal n flags value (record {
+      least = least;
+      most = most;
+      flags_fit = fit;
+      bytes = w.bytes;
+      size = omega (arith, w.size);
+    })
 
 value_written : (value : List ℕ) → IsWritableText value → SpellsString 8 (written_string 8 0 value) 0 value
 value_written value w = string_written 8 0 value (lit≤ tt) (lit≤ tt) (lit≤ tt) w
 
 -- the first byte of a written name
-pub name_starts : (n flags : ℕ) (name : List ℕ) → 1 ≤ n → n ≤ 7 → 2 * flags + 1 < 2 ^ (8 - n) → length (payload_of name) < 2 ^ 63 → Starts n (2 * flags + 1) (written_string (suc n) flags name)
+pub name_starts : (n flags : ℕ) (name : List ℕ) → 1 ≤ n → n ≤ 7 → 2 * flags + 1 < 2 ^ (8 - n)
+    → length (payload_of name) < 2 ^ 63 → Starts n (2 * flags + 1) (written_string (suc n) flags name)
 unfolding written_string
 name_starts n flags name least most fit small =
     let e : suc n - 1 ≡ n = omega arith in
-    let s = written_spells n (2 * flags + 1) (length (payload_of name)) (record { least = least; most = omega arith; high = fit; low = omega arith }) (omega arith) in
-    rw e (behind n (2 * flags + 1) (written_integer n (2 * flags + 1) (length (payload_of name))) (payload_of name) (integer_starts n (written_integer n (2 * flags + 1) (length (payload_of name))) (2 * flags + 1) (length (payload_of name)) s))
+    let s = written_spells n (2 * flags + 1) (length (payload_of name))
+    (record { least = least; most = omega arith; high = fit; low = omega arith }) (omega arith) in
+    rw e (behind n (2 * flags + 1) (written_integer n (2 * flags + 1) (length (payload_of name))) (payload_of name)
+    (integer_starts n (written_integer n (2 * flags + 1) (length (payload_of name))) (2 * flags + 1)
+    (length (payload_of name)) s))
 
 -- ---- a form that is named by the first byte
 
-by_index : {L : Type 0} (form_of : ℕ → Option (Form L)) (n flags index : ℕ) (make : ℕ → L) → 1 ≤ n → n ≤ 8 → flags < 2 ^ (8 - n) → IsSmall index
-    → ((b : ℕ) → flags ≡ b / 2 ^ n → form_of b ≡ Some (Index n make)) → Spells L form_of (written_integer n flags index) (make index)
+by_index : {L : Type 0} (form_of : ℕ → Option (Form L)) (n flags index : ℕ) (make : ℕ → L) → 1 ≤ n → n ≤ 8
+    → flags < 2 ^ (8 - n) → IsSmall index
+    → ((b : ℕ) → flags ≡ b / 2 ^ n → form_of b ≡ Some (Index n make))
+    → Spells L form_of (written_integer n flags index) (make index)
 by_index {L} form_of n flags index make least most fit small named =
     let s = integer_written n flags index least most fit small in
     let b = integer_starts n (written_integer n flags index) flags index s in
-    record { first = b.first; more = b.more; form = Index n make; begins = b.begins; names = named b.first b.high; spells = (index, (flags, s), refl) }
+    record {
+      first = b.first;
+      more = b.more;
+      form = Index n make;
+      begins = b.begins;
+      names = named b.first b.high;
+      spells = (index, (flags, s), refl);
+    }
 
-by_index_and_value : {L : Type 0} (form_of : ℕ → Option (Form L)) (n flags index : ℕ) (value : List ℕ) (make : ℕ → List ℕ → L) → 1 ≤ n → n ≤ 8 → flags < 2 ^ (8 - n) → IsSmall index → IsWritableText value
-    → ((b : ℕ) → flags ≡ b / 2 ^ n → form_of b ≡ Some (IndexAndValue n make)) → Spells L form_of (written_integer n flags index ++ written_string 8 0 value) (make index value)
+by_index_and_value : {L : Type 0} (form_of : ℕ → Option (Form L)) (n flags index : ℕ) (value : List ℕ) (make : ℕ
+    → List ℕ → L) → 1 ≤ n → n ≤ 8 → flags < 2 ^ (8 - n) → IsSmall index → IsWritableText value
+    → ((b : ℕ) → flags ≡ b / 2 ^ n → form_of b ≡ Some (IndexAndValue n make))
+    → Spells L form_of (written_integer n flags index ++ written_string 8 0 value) (make index value)
 by_index_and_value {L} form_of n flags index value make least most fit small w named =
     let s = integer_written n flags index least most fit small in
-    let b = behind n flags (written_integer n flags index) (written_string 8 0 value) (integer_starts n (written_integer n flags index) flags index s) in
+    let b = behind n flags (written_integer n flags index) (written_string 8 0 value)
+    (integer_starts n (written_integer n flags index) flags index s) in
     record {
       first = b.first;
       more = b.more;
       form = IndexAndValue n make;
       begins = b.begins;
       names = named b.first b.high;
-      spells = (index, value, record { head = written_integer n flags index; tail = written_string 8 0 value; parts = refl; first = (flags, s); second = (0, value_written value w) }, refl);
+      spells = (
+        index,
+        value,
+        record {
+          head = written_integer n flags index;
+          tail = written_string 8 0 value;
+          parts = refl;
+          first = (flags, s);
+          second = (0, value_written value w);
+        },
+        refl,
+      );
     }
 
-by_name_and_value : {L : Type 0} (form_of : ℕ → Option (Form L)) (n flags : ℕ) (name value : List ℕ) (make : List ℕ → List ℕ → L) → 1 ≤ n → n ≤ 7 → 2 * flags + 1 < 2 ^ (8 - n) → flags < 2 ^ (8 - suc n) → IsWritableText name → IsWritableText value
-    → ((b : ℕ) → 2 * flags + 1 ≡ b / 2 ^ n → form_of b ≡ Some (NameAndValue (suc n) make)) → Spells L form_of (written_string (suc n) flags name ++ written_string 8 0 value) (make name value)
+by_name_and_value : {L : Type 0} (form_of : ℕ → Option (Form L)) (n flags : ℕ) (name value : List ℕ) (make : List ℕ
+    → List ℕ → L) → 1 ≤ n → n ≤ 7 → 2 * flags + 1 < 2 ^ (8 - n) → flags < 2 ^ (8 - suc n) → IsWritableText name
+    → IsWritableText value
+    → ((b : ℕ) → 2 * flags + 1 ≡ b / 2 ^ n → form_of b ≡ Some (NameAndValue (suc n) make))
+    → Spells L form_of (written_string (suc n) flags name ++ written_string 8 0 value) (make name value)
 by_name_and_value {L} form_of n flags name value make least most fit fit' w v named =
     let s = string_written (suc n) flags name (omega arith) (omega arith) fit' w in
-    let b = behind n (2 * flags + 1) (written_string (suc n) flags name) (written_string 8 0 value) (name_starts n flags name least most fit w.size) in
+    let b = behind n (2 * flags + 1) (written_string (suc n) flags name) (written_string 8 0 value)
+    (name_starts n flags name least most fit w.size) in
     record {
       first = b.first;
       more = b.more;
       form = NameAndValue (suc n) make;
       begins = b.begins;
       names = named b.first b.high;
-      spells = (name, value, record { head = written_string (suc n) flags name; tail = written_string 8 0 value; parts = refl; first = (flags, s); second = (0, value_written value v) }, refl);
+      spells = (
+        name,
+        value,
+        record {
+          head = written_string (suc n) flags name;
+          tail = written_string 8 0 value;
+          parts = refl;
+          first = (flags, s);
+          second = (0, value_written value v);
+        },
+        refl,
+      );
     }
 
 -- ---- lines
@@ -98,29 +154,64 @@ first_literal b e = rw (le-ltb b 16 (omega arith), le-ltb b 32 (omega arith), lt
 
 first_named_static : (b : ℕ) → 5 ≡ b / 2 ^ 4 → line_form b ≡ Some (IndexAndValue 4 NamedStatic)
 unfolding line_form
-first_named_static b e = rw (le-ltb b 16 (omega arith), le-ltb b 32 (omega arith), le-ltb b 64 (omega arith), lt-ltb b 128 (omega arith), eq-eqb (b / 16 % 2) 1 (omega arith)) refl
+first_named_static b e =
+    rw (
+      le-ltb b 16 (omega arith),
+      le-ltb b 32 (omega arith),
+      le-ltb b 64 (omega arith),
+      lt-ltb b 128 (omega arith),
+      eq-eqb (b / 16 % 2) 1 (omega arith),
+    ) refl
 
 first_named_dynamic : (b : ℕ) → 4 ≡ b / 2 ^ 4 → line_form b ≡ Some (IndexAndValue 4 NamedDynamic)
 unfolding line_form
-first_named_dynamic b e = rw (le-ltb b 16 (omega arith), le-ltb b 32 (omega arith), le-ltb b 64 (omega arith), lt-ltb b 128 (omega arith), ne_eqb (b / 16 % 2) 1 (λ h. absurd (omega arith))) refl
+first_named_dynamic b e =
+    rw (
+      le-ltb b 16 (omega arith),
+      le-ltb b 32 (omega arith),
+      le-ltb b 64 (omega arith),
+      lt-ltb b 128 (omega arith),
+      ne_eqb (b / 16 % 2) 1 (λ h. absurd (omega arith)),
+    ) refl
 
 first_dynamic : (b : ℕ) → 2 ≡ b / 2 ^ 6 → line_form b ≡ Some (Index 6 IndexedDynamic)
 unfolding line_form
-first_dynamic b e = rw (le-ltb b 16 (omega arith), le-ltb b 32 (omega arith), le-ltb b 64 (omega arith), le-ltb b 128 (omega arith), lt-ltb b 192 (omega arith)) refl
+first_dynamic b e =
+    rw (
+      le-ltb b 16 (omega arith),
+      le-ltb b 32 (omega arith),
+      le-ltb b 64 (omega arith),
+      le-ltb b 128 (omega arith),
+      lt-ltb b 192 (omega arith),
+    ) refl
 
 first_static : (b : ℕ) → 3 ≡ b / 2 ^ 6 → line_form b ≡ Some (Index 6 IndexedStatic)
 unfolding line_form
-first_static b e = rw (le-ltb b 16 (omega arith), le-ltb b 32 (omega arith), le-ltb b 64 (omega arith), le-ltb b 128 (omega arith), le-ltb b 192 (omega arith), lt-ltb b 256 (omega arith)) refl
+first_static b e =
+    rw (
+      le-ltb b 16 (omega arith),
+      le-ltb b 32 (omega arith),
+      le-ltb b 64 (omega arith),
+      le-ltb b 128 (omega arith),
+      le-ltb b 192 (omega arith),
+      lt-ltb b 256 (omega arith),
+    ) refl
 
 pub lines_spelled : WrittenLinesAreSpellings
 unfolding written_line
 lines_spelled (IndexedStatic i) w = by_index line_form 6 3 i IndexedStatic (lit≤ tt) (lit≤ tt) (lit≤ tt) w first_static
-lines_spelled (IndexedDynamic i) w = by_index line_form 6 2 i IndexedDynamic (lit≤ tt) (lit≤ tt) (lit≤ tt) w first_dynamic
-lines_spelled (IndexedPostBase i) w = by_index line_form 4 1 i IndexedPostBase (lit≤ tt) (lit≤ tt) (lit≤ tt) w first_post_base
-lines_spelled (NamedStatic i v) w = by_index_and_value line_form 4 5 i v NamedStatic (lit≤ tt) (lit≤ tt) (lit≤ tt) w.0 w.1 first_named_static
-lines_spelled (NamedDynamic i v) w = by_index_and_value line_form 4 4 i v NamedDynamic (lit≤ tt) (lit≤ tt) (lit≤ tt) w.0 w.1 first_named_dynamic
-lines_spelled (NamedPostBase i v) w = by_index_and_value line_form 3 0 i v NamedPostBase (lit≤ tt) (lit≤ tt) (lit≤ tt) w.0 w.1 first_named_post_base
-lines_spelled (Literal n v) w = by_name_and_value line_form 3 2 n v Literal (lit≤ tt) (lit≤ tt) (lit≤ tt) (lit≤ tt) w.0 w.1 first_literal
+lines_spelled (IndexedDynamic i) w =
+    by_index line_form 6 2 i IndexedDynamic (lit≤ tt) (lit≤ tt) (lit≤ tt) w first_dynamic
+lines_spelled (IndexedPostBase i) w =
+    by_index line_form 4 1 i IndexedPostBase (lit≤ tt) (lit≤ tt) (lit≤ tt) w first_post_base
+lines_spelled (NamedStatic i v) w =
+    by_index_and_value line_form 4 5 i v NamedStatic (lit≤ tt) (lit≤ tt) (lit≤ tt) w.0 w.1 first_named_static
+lines_spelled (NamedDynamic i v) w =
+    by_index_and_value line_form 4 4 i v NamedDynamic (lit≤ tt) (lit≤ tt) (lit≤ tt) w.0 w.1 first_named_dynamic
+lines_spelled (NamedPostBase i v) w =
+    by_index_and_value line_form 3 0 i v NamedPostBase (lit≤ tt) (lit≤ tt) (lit≤ tt) w.0 w.1 first_named_post_base
+lines_spelled (Literal n v) w =
+    by_name_and_value line_form 3 2 n v Literal (lit≤ tt) (lit≤ tt) (lit≤ tt) (lit≤ tt) w.0 w.1 first_literal
 
 -- ---- instructions
 
@@ -138,19 +229,35 @@ first_literal_name b e = rw (le-ltb b 32 (omega arith), le-ltb b 64 (omega arith
 
 first_dynamic_name : (b : ℕ) → 2 ≡ b / 2 ^ 6 → instruction_form b ≡ Some (IndexAndValue 6 InsertDynamicName)
 unfolding instruction_form
-first_dynamic_name b e = rw (le-ltb b 32 (omega arith), le-ltb b 64 (omega arith), le-ltb b 128 (omega arith), lt-ltb b 192 (omega arith)) refl
+first_dynamic_name b e =
+    rw (le-ltb b 32 (omega arith), le-ltb b 64 (omega arith), le-ltb b 128 (omega arith), lt-ltb b 192 (omega arith))
+    refl
 
 first_static_name : (b : ℕ) → 3 ≡ b / 2 ^ 6 → instruction_form b ≡ Some (IndexAndValue 6 InsertStaticName)
 unfolding instruction_form
-first_static_name b e = rw (le-ltb b 32 (omega arith), le-ltb b 64 (omega arith), le-ltb b 128 (omega arith), le-ltb b 192 (omega arith), lt-ltb b 256 (omega arith)) refl
+first_static_name b e =
+    rw (
+      le-ltb b 32 (omega arith),
+      le-ltb b 64 (omega arith),
+      le-ltb b 128 (omega arith),
+      le-ltb b 192 (omega arith),
+      lt-ltb b 256 (omega arith),
+    ) refl
 
 pub instructions_spelled : WrittenInstructionsAreSpellings
 unfolding written_instruction
-instructions_spelled (InsertStaticName i v) w = by_index_and_value instruction_form 6 3 i v InsertStaticName (lit≤ tt) (lit≤ tt) (lit≤ tt) w.0 w.1 first_static_name
-instructions_spelled (InsertDynamicName i v) w = by_index_and_value instruction_form 6 2 i v InsertDynamicName (lit≤ tt) (lit≤ tt) (lit≤ tt) w.0 w.1 first_dynamic_name
-instructions_spelled (InsertLiteralName n v) w = by_name_and_value instruction_form 5 1 n v InsertLiteralName (lit≤ tt) (lit≤ tt) (lit≤ tt) (lit≤ tt) w.0 w.1 first_literal_name
-instructions_spelled (Duplicate i) w = by_index instruction_form 5 0 i Duplicate (lit≤ tt) (lit≤ tt) (lit≤ tt) w first_duplicate
-instructions_spelled (SetCapacity c) w = by_index instruction_form 5 1 c SetCapacity (lit≤ tt) (lit≤ tt) (lit≤ tt) w first_capacity
+instructions_spelled (InsertStaticName i v) w =
+    by_index_and_value instruction_form 6 3 i v InsertStaticName (lit≤ tt) (lit≤ tt) (lit≤ tt) w.0 w.1 first_static_name
+instructions_spelled (InsertDynamicName i v) w =
+    by_index_and_value instruction_form 6 2 i v InsertDynamicName (lit≤ tt) (lit≤ tt) (lit≤ tt) w.0 w.1
+    first_dynamic_name
+instructions_spelled (InsertLiteralName n v) w =
+    by_name_and_value instruction_form 5 1 n v InsertLiteralName (lit≤ tt) (lit≤ tt) (lit≤ tt) (lit≤ tt) w.0 w.1
+    first_literal_name
+instructions_spelled (Duplicate i) w =
+    by_index instruction_form 5 0 i Duplicate (lit≤ tt) (lit≤ tt) (lit≤ tt) w first_duplicate
+instructions_spelled (SetCapacity c) w =
+    by_index instruction_form 5 1 c SetCapacity (lit≤ tt) (lit≤ tt) (lit≤ tt) w first_capacity
 
 -- ---- replies
 
@@ -168,6 +275,8 @@ first_acknowledgment b e = rw (le-ltb b 64 (omega arith), le-ltb b 128 (omega ar
 
 pub replies_spelled : WrittenRepliesAreSpellings
 unfolding written_reply
-replies_spelled (Acknowledgment s) w = by_index reply_form 7 1 s Acknowledgment (lit≤ tt) (lit≤ tt) (lit≤ tt) w first_acknowledgment
-replies_spelled (Cancellation s) w = by_index reply_form 6 1 s Cancellation (lit≤ tt) (lit≤ tt) (lit≤ tt) w first_cancellation
+replies_spelled (Acknowledgment s) w =
+    by_index reply_form 7 1 s Acknowledgment (lit≤ tt) (lit≤ tt) (lit≤ tt) w first_acknowledgment
+replies_spelled (Cancellation s) w =
+    by_index reply_form 6 1 s Cancellation (lit≤ tt) (lit≤ tt) (lit≤ tt) w first_cancellation
 replies_spelled (Increment k) w = by_index reply_form 6 0 k Increment (lit≤ tt) (lit≤ tt) (lit≤ tt) w first_increment

@@ -1,21 +1,23 @@
 -- The written spelling is a spelling, and the shortest one.
-use Rattle.std.proofs.Common.{◌≡◌, ℕ, zero, suc, ◌+◌, ◌-◌, ◌*◌, ◌/◌, ◌%◌, ◌^◌, ◌<◌, ◌≤◌, List, [], ◌∷◌, length, refl, sym, ap, ◌∙◌, arith, inl, inr, lit≤}
+use Rattle.std.proofs.Common.{◌≡◌, ℕ, zero, suc, ◌+◌, ◌-◌, ◌*◌, ◌/◌, ◌%◌, ◌^◌, ◌<◌, ◌≤◌, List, [], ◌∷◌, length, refl}
+use Rattle.std.proofs.Common.{sym, ap, ◌∙◌, arith, inl, inr, lit≤}
 use Rattle.std.proofs.Math.Nat.{pow-succ', mod-eq_of_lt}
 use Rattle.std.proofs.lemmas.Bool.{cases_lt, le-ltb, lt-ltb}
 use Rattle.std.proofs.lemmas.Nat.{div-mul-add, mod-mul-add, pow_pos, pow-add, mul-add-lt, mod_below}
-use Rattle.qpack_spec.specs.Integer.{full, EndsAtLast, groups_sum, written_groups, written_integer, StandsFor, SpellsInteger, integer_at}
+use Rattle.qpack_spec.specs.Integer.{full, EndsAtLast, groups_sum, written_groups, written_integer, StandsFor}
+use Rattle.qpack_spec.specs.Integer.{SpellsInteger, integer_at}
 use Rattle.qpack_spec.specs.IntegerLaws.{IsWritable, WrittenIntegersAreShortest, WrittenIntegersAreReadBack}
 use Rattle.qpack_spec.proofs.Results.{ok_triple}
 use Rattle.qpack_spec.proofs.Integers.{ends_cons, integer_again}
 
-pub record SpellsGroups (cs : List ℕ) (value : ℕ) : Type 0 where
+record SpellsGroups (cs : List ℕ) (value : ℕ) : Type 0 where
   pub ends : EndsAtLast cs
   pub sum : groups_sum cs ≡ value
 
 one_group : (value : ℕ) → value < 128 → SpellsGroups (value ∷ []) value
 one_group value h = record { ends = h; sum = omega arith }
 
-pub groups_spell : (k value : ℕ) → value < 128 ^ suc k → SpellsGroups (written_groups k value) value
+groups_spell : (k value : ℕ) → value < 128 ^ suc k → SpellsGroups (written_groups k value) value
 unfolding written_groups
 groups_spell zero value h = one_group value (omega (arith, pow-succ' 128 0))
 groups_spell (suc k) value h =
@@ -23,10 +25,14 @@ groups_spell (suc k) value h =
       | inl lt ↦ rw (lt-ltb value 128 lt) (one_group value lt)
       | inr le ↦
           let g = groups_spell k (value / 128) (omega (arith, pow-succ' 128 (suc k))) in
-          rw (le-ltb value 128 le) (record { ends = ends_cons (128 + value % 128) (written_groups k (value / 128)) (omega arith) g.ends; sum = omega (arith, g.sum) })
+          rw (le-ltb value 128 le) (record {
+            ends = ends_cons (128 + value % 128) (written_groups k (value / 128))
+                (omega arith) g.ends;
+            sum = omega (arith, g.sum);
+          })
     ]
 
-pub groups_shortest : (k value : ℕ) (cs : List ℕ) → SpellsGroups cs value → length (written_groups k value) ≤ length cs
+groups_shortest : (k value : ℕ) (cs : List ℕ) → SpellsGroups cs value → length (written_groups k value) ≤ length cs
 unfolding written_groups
 groups_shortest k value [] s = absurd s.ends
 groups_shortest zero value (c ∷ cs) s = omega arith
@@ -40,7 +46,7 @@ groups_shortest (suc k) value (c ∷ d ∷ cs) s =
           rw (le-ltb value 128 le) (omega (arith, i))
     ]
 
-pub groups_few : (k j value : ℕ) → value < 128 ^ suc j → length (written_groups k value) ≤ suc j
+groups_few : (k j value : ℕ) → value < 128 ^ suc j → length (written_groups k value) ≤ suc j
 unfolding written_groups
 groups_few zero j value h = omega arith
 groups_few (suc k) zero value h =
@@ -56,14 +62,16 @@ groups_few (suc k) (suc j) value h =
 -- ---- integers
 
 -- the first byte of a spelling has the flags above the prefix
-pub first_byte : (n flags low : ℕ) → low < 2 ^ n → ((flags * 2 ^ n + low) / 2 ^ n ≡ flags) × ((flags * 2 ^ n + low) % 2 ^ n ≡ low)
+first_byte : (n flags low : ℕ) → low < 2 ^ n → ((flags * 2 ^ n + low) / 2 ^ n ≡ flags)
+    × ((flags * 2 ^ n + low) % 2 ^ n ≡ low)
 first_byte n flags low h = (div-mul-add flags (2 ^ n) low h, mod-mul-add flags (2 ^ n) low h)
 
 -- flags that fit are not cut
-pub uncut : (n flags value : ℕ) → IsWritable n flags value → flags % 2 ^ (8 - n) ≡ flags
+uncut : (n flags value : ℕ) → IsWritable n flags value → flags % 2 ^ (8 - n) ≡ flags
 uncut n flags value w = mod-eq_of_lt w.high
 
-pub written_stands : (n flags value : ℕ) → IsWritable n flags value → StandsFor n (written_integer n flags value) flags value
+written_stands : (n flags value : ℕ) → IsWritable n flags value
+    → StandsFor n (written_integer n flags value) flags value
 unfolding written_integer
 written_stands n flags value w =
     elim (cases_lt value (full n)) [
@@ -78,7 +86,7 @@ written_stands n flags value w =
           (sym f.0, inr (record { prefix = f.1; ends = g.ends; sum = omega (arith, g.sum) }))
     ]
 
-pub written_few : (n flags value : ℕ) → value < 2 ^ 63 + full n → length (written_integer n flags value) ≤ 10
+written_few : (n flags value : ℕ) → value < 2 ^ 63 + full n → length (written_integer n flags value) ≤ 10
 unfolding written_integer
 written_few n flags value h =
     elim (cases_lt value (full n)) [
@@ -88,10 +96,12 @@ written_few n flags value h =
           rw (le-ltb value (full n) le) (omega (arith, g))
     ]
 
-pub written_spells : (n flags value : ℕ) → IsWritable n flags value → value < 2 ^ 63 + full n → SpellsInteger n (written_integer n flags value) flags value
+pub written_spells : (n flags value : ℕ) → IsWritable n flags value → value < 2 ^ 63 + full n
+    → SpellsInteger n (written_integer n flags value) flags value
 written_spells n flags value w h = record { stands = written_stands n flags value w; few = written_few n flags value h }
 
-pub no_shorter : (n flags value : ℕ) (text : List ℕ) → StandsFor n text flags value → length (written_integer n flags value) ≤ length text
+no_shorter : (n flags value : ℕ) (text : List ℕ) → StandsFor n text flags value
+    → length (written_integer n flags value) ≤ length text
 unfolding written_integer
 no_shorter n flags value [] s = absurd s
 no_shorter n flags value (b ∷ cs) s =
@@ -139,7 +149,8 @@ unfolding written_groups
 groups_last value h = rw (lt-ltb value 128 h) refl
 
 -- a group with others behind it
-pub groups_more : (value : ℕ) → value < 2 ^ 64 → 128 ≤ value → written_groups 9 value ≡ (128 + value % 128) ∷ written_groups 9 (value / 128)
+pub groups_more : (value : ℕ) → value < 2 ^ 64 → 128 ≤ value
+    → written_groups 9 value ≡ (128 + value % 128) ∷ written_groups 9 (value / 128)
 unfolding written_groups
 groups_more value small high =
     let l : 2 ^ 57 ≤ 128 ^ 9 = lit≤ tt in
@@ -171,5 +182,6 @@ pub byte_fits : (n flags low : ℕ) → n ≤ 8 → low < 2 ^ n → flags % 2 ^ 
 byte_fits n flags low le lt =
     let e : 8 ≡ n + (8 - n) = omega arith in
     let whole : 256 ≡ 2 ^ n * 2 ^ (8 - n) = ap (λ (k : ℕ). 2 ^ k) e ∙ pow-add 2 n (8 - n) in
-    let m = mul-add-lt (flags % 2 ^ (8 - n)) (2 ^ n) low (2 ^ (8 - n)) (mod_below flags (2 ^ (8 - n)) (pow_pos (8 - n))) lt in
+    let m = mul-add-lt (flags % 2 ^ (8 - n)) (2 ^ n) low (2 ^ (8 - n))
+    (mod_below flags (2 ^ (8 - n)) (pow_pos (8 - n))) lt in
     rw whole m

@@ -1,13 +1,18 @@
 -- The written payload means its text, and is the only one that does; the laws of payloads.
-use Rattle.std.proofs.Common.{◌≡◌, ℕ, zero, suc, ◌+◌, ◌-◌, ◌*◌, ◌/◌, ◌<◌, ◌≤◌, true, List, [], ◌∷◌, length, Result, Ok, Err, refl, sym, ap, subst, ◌∙◌, arith, inl, inr, ◌⊎◌}
+use Rattle.std.proofs.Common.{◌≡◌, ℕ, zero, suc, ◌+◌, ◌-◌, ◌*◌, ◌/◌, ◌<◌, ◌≤◌, true, List, [], ◌∷◌, length, Result, Ok}
+use Rattle.std.proofs.Common.{Err, refl, sym, ap, subst, ◌∙◌, arith, inl, inr, ◌⊎◌}
 use Rattle.std.specs.Prelude.{nat_le}
 use Rattle.std.proofs.lemmas.Bool.{cases_eq, leb-true}
 use Rattle.std.proofs.lemmas.List.{length-append}
 use Rattle.std.proofs.lemmas.List.Concat.{flat_map-cons}
-use Rattle.qpack_spec.specs.Huffman.{HuffmanFault, bytes_by_length, bits_of_bytes, AreBytes, word_length, word_of, word_at, bits_of_text, PayloadMeans, PayloadMeansNothing, payload_of, text_of_bits}
-use Rattle.qpack_spec.specs.HuffmanLaws.{NoWordBeginsAnother, NoWordBeginsEos, PayloadsHaveOneText, TextsHaveOnePayload, WrittenPayloadsMeanTheirText, PayloadsMeanOrDont, PayloadsDontMeanBoth, PayloadsHaveOneFault, ReadingFindsTexts, ReadingFindsPayloadFaults}
+use Rattle.qpack_spec.specs.Huffman.{HuffmanFault, bytes_by_length, bits_of_bytes, AreBytes, word_length, word_of}
+use Rattle.qpack_spec.specs.Huffman.{word_at, bits_of_text, PayloadMeans, PayloadMeansNothing, payload_of, text_of_bits}
+use Rattle.qpack_spec.specs.HuffmanLaws.{NoWordBeginsAnother, NoWordBeginsEos, PayloadsHaveOneText, TextsHaveOnePayload}
+use Rattle.qpack_spec.specs.HuffmanLaws.{WrittenPayloadsMeanTheirText, PayloadsMeanOrDont, PayloadsDontMeanBoth}
+use Rattle.qpack_spec.specs.HuffmanLaws.{PayloadsHaveOneFault, ReadingFindsTexts, ReadingFindsPayloadFaults}
 use Rattle.qpack_spec.proofs.Results.{ok_is, ok_pair}
-use Rattle.qpack_spec.proofs.Bits.{AreBits, bits_are, bits_join, bytes_bits, packed_bits, packed_bytes, packed_is, packed_length}
+use Rattle.qpack_spec.proofs.Bits.{AreBits, bits_are, bits_join, bytes_bits, packed_bits, packed_bytes, packed_is}
+use Rattle.qpack_spec.proofs.Bits.{packed_length}
 use Rattle.qpack_spec.proofs.WordTable.{all_short, all_words_short, ones_unhandled}
 use Rattle.qpack_spec.proofs.Words.{both, word_again}
 use Rattle.qpack_spec.proofs.Payloads.{text_means, text_again}
@@ -17,7 +22,7 @@ word_bits : (b : ℕ) → AreBits (word_of b)
 unfolding word_of
 word_bits b = bits_are (word_length b) _
 
-pub text_bits : (text : List ℕ) → AreBits (bits_of_text text)
+text_bits : (text : List ℕ) → AreBits (bits_of_text text)
 text_bits [] = tt
 text_bits (b ∷ text) = rw flat_map-cons (bits_join (word_of b) (bits_of_text text) (word_bits b) (text_bits text))
 
@@ -42,11 +47,14 @@ short_each (suc k) b c e l u =
 bits_few : (text : List ℕ) → AreBytes text → length (bits_of_text text) ≤ 30 * length text
 bits_few [] ok = omega arith
 bits_few (b ∷ text) ok =
-    omega (arith, ap (λ (l : List ℕ). length l) (flat_map-cons word_of b text), length-append (word_of b) (bits_of_text text), short_each 256 0 b all_words_short (omega arith) (omega (arith, ok.0)), bits_few text ok.1)
-
--- a payload has at most four bytes for each of the text
-pub payload_small : (text : List ℕ) → AreBytes text → length (payload_of text) ≤ 4 * length text
-payload_small text ok = omega (arith, payload_length text, bits_few text ok)
+    omega (
+      arith,
+      ap (λ (l : List ℕ). length l) (flat_map-cons word_of b text),
+      length-append (word_of b) (bits_of_text text),
+      short_each 256 0 b all_words_short (omega arith)
+          (omega (arith, ok.0)),
+      bits_few text ok.1,
+    )
 
 pub written_means : WrittenPayloadsMeanTheirText
 unfolding payload_of
@@ -69,7 +77,8 @@ one_text p t u m m' = ok_is t u (sym (text_again (bits_of_bytes p) t m) ∙ text
 pub means_or_not : PayloadsMeanOrDont
 means_or_not p = go (text_of_bits (bits_of_bytes p)) refl
   where
-    go : (r : Result (List ℕ) HuffmanFault) → text_of_bits (bits_of_bytes p) ≡ r → ((text : List ℕ) × PayloadMeans p text) ⊎ ((fault : HuffmanFault) × PayloadMeansNothing p fault)
+    go : (r : Result (List ℕ) HuffmanFault) → text_of_bits (bits_of_bytes p) ≡ r
+        → ((text : List ℕ) × PayloadMeans p text) ⊎ ((fault : HuffmanFault) × PayloadMeansNothing p fault)
     go (Ok t) e = inl (t, text_means (bits_of_bytes p) t (bytes_bits p) e)
     go (Err f) e = inr (f, fault_means (bits_of_bytes p) f (bytes_bits p) e)
 
@@ -82,7 +91,8 @@ same_err f g r p q = cc
 
 pub one_fault : PayloadsHaveOneFault
 one_fault p f g m n =
-    same_err f g (text_of_bits (bits_of_bytes p)) (fault_again (bits_of_bytes p) f (bytes_bits p) m) (fault_again (bits_of_bytes p) g (bytes_bits p) n)
+    same_err f g (text_of_bits (bits_of_bytes p)) (fault_again (bits_of_bytes p) f (bytes_bits p) m)
+    (fault_again (bits_of_bytes p) g (bytes_bits p) n)
 
 pub reads_texts : ReadingFindsTexts
 reads_texts p t = (text_means (bits_of_bytes p) t (bytes_bits p), text_again (bits_of_bytes p) t)
@@ -95,4 +105,5 @@ no_word_begins a b x y h h' e =
     (ok_pair a b x y (sym (word_again a x h) ∙ ap (word_at bytes_by_length 0 0) e ∙ word_again b y h')).0
 
 pub no_word_eos : NoWordBeginsEos
-no_word_eos b x y h e = absurd (let a = ones_unhandled x in let c = ap (word_at bytes_by_length 0 0) e ∙ word_again b y h in cc)
+no_word_eos b x y h e =
+    absurd (let a = ones_unhandled x in let c = ap (word_at bytes_by_length 0 0) e ∙ word_again b y h in cc)

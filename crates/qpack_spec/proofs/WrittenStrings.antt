@@ -1,5 +1,6 @@
 -- The written string is a literal of its value, and is read back whole.
-use Rattle.std.proofs.Common.{◌≡◌, ℕ, suc, ◌+◌, ◌-◌, ◌*◌, ◌^◌, ◌<◌, ◌≤◌, List, ◌++◌, length, Ok, refl, sym, ap, ◌∙◌, arith, inr}
+use Rattle.std.proofs.Common.{◌≡◌, ℕ, suc, ◌+◌, ◌-◌, ◌*◌, ◌^◌, ◌<◌, ◌≤◌, List, ◌++◌, length, Ok, refl, sym, ap, ◌∙◌}
+use Rattle.std.proofs.Common.{arith, inr}
 use Rattle.std.proofs.Math.Nat.{pow-succ'}
 use Rattle.std.proofs.Math.Pow.{pow_mono}
 use Rattle.qpack_spec.specs.IntegerLaws.{IsWritable}
@@ -31,8 +32,10 @@ written_literal n flags value w =
     inr (payload_of value, record { head = _; parts = refl; spells = b.0 }, m.1)
 
 -- what is written is read, whatever follows
-pub written_again : (n flags : ℕ) (value rest : List ℕ) → IsWritableString n flags value → string_at n (written_string n flags value ++ rest) ≡ Ok (flags, value, rest)
-written_again n flags value rest w = string_again n (written_string n flags value) rest flags value (written_literal n flags value w)
+written_again : (n flags : ℕ) (value rest : List ℕ) → IsWritableString n flags value
+    → string_at n (written_string n flags value ++ rest) ≡ Ok (flags, value, rest)
+written_again n flags value rest w =
+    string_again n (written_string n flags value) rest flags value (written_literal n flags value w)
 
 pub written_read : WrittenStringsAreReadBack
 written_read n flags value rest text more f v w s e =

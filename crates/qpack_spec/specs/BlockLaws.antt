@@ -1,10 +1,12 @@
 -- What every reader of field sections relies on, as statements; the crate's law functions promise them.
-use Rattle.std.specs.Prelude.{◌≡◌, ℕ, ◌+◌, ◌<◌, ◌≤◌, ◌↔◌, List, ◌++◌, Result, Ok}
+use Rattle.std.specs.Prelude.{◌≡◌, ℕ, ◌+◌, ◌<◌, ◌≤◌, ◌↔◌, List, [], ◌++◌, Result, Ok}
 use Rattle.qpack_spec.specs.Field.{Field}
 use Rattle.qpack_spec.specs.Prefix.{Prefix, IsRequired, required_at, SpellsPrefix, prefix_at}
 use Rattle.qpack_spec.specs.Window.{Window}
-use Rattle.qpack_spec.specs.Reading.{Fault}
+use Rattle.qpack_spec.specs.Reading.{Fault, references_of, greatest}
 use Rattle.qpack_spec.specs.BlockReading.{ReadsTo, fields_in_bytes}
+use Rattle.qpack_spec.specs.Table.{Table, count, tracked, opens}
+use Rattle.qpack_spec.specs.Rule.{rule, required_of, committed}
 
 -- reading from left to right finds exactly the prefix at the front
 abbrev pub ReadingFindsPrefixes : Type 0
@@ -15,7 +17,8 @@ ReadingFindsPrefixes =
 -- an encoded count stands for one required count at most, whatever the total of insertions
 abbrev pub CountsHaveOneReading : Type 0
 CountsHaveOneReading =
-    (total entries count r s : ℕ) → 0 < count → IsRequired total entries count r → IsRequired total entries count s → r ≡ s
+    (total entries count r s : ℕ) → 0 < count → IsRequired total entries count r → IsRequired total entries count s
+    → r ≡ s
 
 -- which is what is computed; where none is computed, it stands for none
 abbrev pub CountsAreRead : Type 0
@@ -26,4 +29,16 @@ CountsAreRead =
 -- reading line by line gives the fields, or the first fault, of the lines that the bytes are
 abbrev pub ReadingLinesFindsFields : Type 0
 ReadingLinesFindsFields =
-    (w : Window) (base : ℕ) (bytes : List ℕ) (r : Result (List Field) Fault) → (fields_in_bytes w base bytes ≡ r) ↔ ReadsTo w base bytes r
+    (w : Window) (base : ℕ) (bytes : List ℕ) (r : Result (List Field) Fault)
+    → (fields_in_bytes w base bytes ≡ r) ↔ ReadsTo w base bytes r
+
+-- what a block requires, and what is kept of it until it is acknowledged, is what its lines reference: its required
+-- insert count is the greatest index among them (section 2.1.2), and each of them stands once in its unacknowledged
+-- block, of which there is none where they reference nothing (section 2.2.2.1)
+abbrev pub BlocksRequireReferences : Type 0
+BlocksRequireReferences =
+    (t : Table) (stream : ℕ) (fields : List Field)
+    → (let d = rule t fields in
+    let references = references_of (count t) d.lines in
+    (required_of d ≡ greatest references) × ((committed d stream).opened
+    ≡ opens t.opened stream (tracked [] references)))

@@ -1,6 +1,7 @@
 -- What the bytes of a field section mean under a window (RFC 9204, sections 2.2.1 and 4.5): in reading order, the first
 -- fault decides.
-use Rattle.std.specs.Prelude.{◌≡◌, ℕ, zero, suc, if◌then◌else◌, nat_lt, nat_eq, List, [], ◌∷◌, ◌++◌, length, Result, Ok, Err}
+use Rattle.std.specs.Prelude.{◌≡◌, ℕ, zero, suc, if◌then◌else◌, nat_lt, nat_eq, List, [], ◌∷◌, ◌++◌, length, Result, Ok}
+use Rattle.std.specs.Prelude.{Err}
 use Rattle.qpack_spec.specs.Bytes.{◌>>=◌}
 use Rattle.qpack_spec.specs.Field.{Field}
 use Rattle.qpack_spec.specs.Form.{FormFault, form_at}
@@ -9,12 +10,14 @@ use Rattle.qpack_spec.specs.Stream.{Joined}
 use Rattle.qpack_spec.specs.Prefix.{Prefix, PrefixFault, read_base, read_prefix, written_prefix, prefix_at}
 use Rattle.qpack_spec.specs.Window.{Window, agreed_maximum, total}
 use Rattle.qpack_spec.specs.History.{History, whole}
-use Rattle.qpack_spec.specs.Reading.{Fault, BadForm, BadPrefix, line_field, fields_of, Block, Reading, Missing, Faulty, answered}
+use Rattle.qpack_spec.specs.Reading.{Fault, BadForm, BadPrefix, line_field, fields_of, Block, Reading, Missing, Faulty}
+use Rattle.qpack_spec.specs.Reading.{answered}
 
 -- why the next line gives no field: its bytes, or what it names
 pub data StopsAt (w : Window) (base : ℕ) (rest : List ℕ) (e : Fault) : Type 0 where
   in_bytes : (fault : FormFault) → form_at line_form rest ≡ Err fault → e ≡ BadForm fault → StopsAt w base rest e
-  in_line : (text more : List ℕ) (l : Line) → rest ≡ text ++ more → SpellsLine text l → line_field w base l ≡ Err e → StopsAt w base rest e
+  in_line : (text more : List ℕ) (l : Line) → rest ≡ text ++ more → SpellsLine text l → line_field w base l ≡ Err e
+      → StopsAt w base rest e
 
 -- the bytes are lines, which mean the fields
 pub record ReadsAll (w : Window) (base : ℕ) (bytes : List ℕ) (fs : List Field) : Type 0 where
@@ -51,7 +54,8 @@ unfoldable pub fields_at : ℕ → Window → ℕ → List ℕ → Result (List 
 fields_at steps w base [] = Ok []
 fields_at zero w base (b ∷ bytes) = Ok []
 fields_at (suc steps) w base (b ∷ bytes) =
-    or_bad_form (form_at line_form (b ∷ bytes)) >>= λ r. line_field w base r.0 >>= λ f. fields_at steps w base r.1 >>= λ fs. Ok (f ∷ fs)
+    or_bad_form (form_at line_form (b ∷ bytes)) >>= λ r. line_field w base r.0 >>= λ f. fields_at steps w base r.1
+    >>= λ fs. Ok (f ∷ fs)
 
 -- the fields of the bytes behind a prefix; each line takes a byte at least
 abbrev pub fields_in_bytes : Window → ℕ → List ℕ → Result (List Field) Fault
@@ -60,7 +64,8 @@ fields_in_bytes w base bytes = fields_at (length bytes) w base bytes
 -- the answer behind a prefix that was read
 abbrev pub bytes_behind : Window → List ℕ → Result (ℕ × ℕ) PrefixFault → Reading
 bytes_behind w rest (Err e) = Faulty (BadPrefix e)
-bytes_behind w rest (Ok p) = if nat_lt (total w) p.0 then Missing p.0 else answered (fields_in_bytes w p.1 rest) (nat_lt 0 p.0)
+bytes_behind w rest (Ok p) =
+    if nat_lt (total w) p.0 then Missing p.0 else answered (fields_in_bytes w p.1 rest) (nat_lt 0 p.0)
 
 -- the answer where a prefix stands in front, or none
 abbrev pub section_behind : Window → Result (Prefix × List ℕ) FormFault → Reading
@@ -80,11 +85,12 @@ abbrev pub or_bad_prefix : {A : Type 0} → Result A PrefixFault → Result A Fa
 or_bad_prefix (Ok x) = Ok x
 or_bad_prefix (Err e) = Err (BadPrefix e)
 
--- what the lines of a section mean over all insertions ever made, its required count being known: absolute index i is the
--- i-th of them. Capacity, eviction and delivery have no part in it
+-- what the lines of a section mean over all insertions ever made, its required count being known: absolute index i is
+-- the i-th of them. Capacity, eviction and delivery have no part in it
 unfoldable pub meaning_over_all : History → List ℕ → ℕ → Result (List Field) Fault
 meaning_over_all all bytes required =
-    or_bad_form (prefix_at bytes) >>= λ p. or_bad_prefix (base_behind p.0 required) >>= λ base. fields_in_bytes (whole all) base p.1
+    or_bad_form (prefix_at bytes) >>= λ p. or_bad_prefix (base_behind p.0 required)
+    >>= λ base. fields_in_bytes (whole all) base p.1
 
 -- the bytes that are written of a block
 unfoldable pub written_block : Block → List ℕ

@@ -1,9 +1,10 @@
--- The forms that lines, instructions and replies have in bytes (RFC 9204, sections 4.3 to 4.5): the first bits of a byte
--- name the form, and behind them stand an integer, an integer and a string, or two strings.
+-- The forms that lines, instructions and replies have in bytes (RFC 9204, sections 4.3 to 4.5): the first bits of a
+-- byte name the form, and behind them stand an integer, an integer and a string, or two strings.
 use Rattle.std.specs.Prelude.{◌≡◌, ℕ, ◌⊎◌, Bool, true, false, List, [], ◌∷◌, ◌++◌, Option, None, Some, Result, Ok, Err}
 use Rattle.qpack_spec.specs.Bytes.{◌>>=◌}
 use Rattle.qpack_spec.specs.Integer.{IntegerFault, Overflow, UnexpectedEnd, SpellsInteger, OverflowsInteger, integer_at}
-use Rattle.qpack_spec.specs.Text.{StringFault, EndsEarly, LengthOverflows, BadHuffman, SpellsString, RefusesString, string_at}
+use Rattle.qpack_spec.specs.Text.{StringFault, EndsEarly, LengthOverflows, BadHuffman, SpellsString, RefusesString}
+use Rattle.qpack_spec.specs.Text.{string_at}
 
 -- why a form can't be read: its integer, or one of its strings
 pub data FormFault : Type 0 where
@@ -18,8 +19,9 @@ is_cut (BadString EndsEarly) = true
 is_cut (BadString LengthOverflows) = false
 is_cut (BadString (BadHuffman fault)) = false
 
--- a form, and what is made of its parts: an integer with a prefix of n bits; one with a value behind it; or a name, whose
--- flag stands above a length with a prefix of n - 1 bits, with a value behind it. A value is a string that takes whole bytes
+-- a form, and what is made of its parts: an integer with a prefix of n bits; one with a value behind it; or a name,
+-- whose flag stands above a length with a prefix of n - 1 bits, with a value behind it. A value is a string that takes
+-- whole bytes
 pub data Form (L : Type 0) : Type 0 where
   Index : (n : ℕ) (make : ℕ → L) → Form L
   IndexAndValue : (n : ℕ) (make : ℕ → List ℕ → L) → Form L

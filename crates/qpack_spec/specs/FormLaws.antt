@@ -1,4 +1,5 @@
--- What every reader of lines, instructions and replies relies on, as statements; the crate's law functions promise them.
+-- What every reader of lines, instructions and replies relies on, as statements; the crate's law functions promise
+-- them.
 use Rattle.std.specs.Prelude.{◌≡◌, ℕ, ◌⊎◌, ◌↔◌, true, false, List, ◌++◌, Option, Ok, Err}
 use Rattle.qpack_spec.specs.Bytes.{Begins}
 use Rattle.qpack_spec.specs.Form.{FormFault, is_cut, Form, Spells, Refuses, Truncates, form_at}
@@ -30,4 +31,5 @@ ReadingFindsFormRefusals {L} form_of =
 -- and an end exactly where no front is one or the other
 abbrev pub ReadingFindsFormTruncation : {L : Type 0} → (ℕ → Option (Form L)) → Type 0
 ReadingFindsFormTruncation form_of =
-    (bytes : List ℕ) → ((fault : FormFault) × (is_cut fault ≡ true) × (form_at form_of bytes ≡ Err fault)) ↔ Truncates form_of bytes
+    (bytes : List ℕ) → ((fault : FormFault) × (is_cut fault ≡ true) × (form_at form_of bytes ≡ Err fault)) ↔ Truncates
+    form_of bytes

@@ -2,9 +2,12 @@
 use Rattle.std.specs.Prelude.{◌≡◌, ℕ, ◌+◌, ◌-◌, if◌then◌else◌, ◌&&◌, nat_le, List, [], ◌∷◌, ◌++◌, Option, None, Some}
 use Rattle.qpack_spec.specs.Field.{Field, has_name, is_field}
 use Rattle.qpack_spec.specs.StaticTable.{static_place, static_name_place}
-use Rattle.qpack_spec.specs.Instruction.{Instruction, InsertStaticName, InsertDynamicName, InsertLiteralName, Duplicate, SetCapacity}
-use Rattle.qpack_spec.specs.Line.{Line, IndexedStatic, IndexedDynamic, IndexedPostBase, NamedStatic, NamedDynamic, NamedPostBase, Literal}
-use Rattle.qpack_spec.specs.Table.{Table, count, naming, has_room, below_limit, may_name, sent_entry, with_entry, newest}
+use Rattle.qpack_spec.specs.Instruction.{Instruction, InsertStaticName, InsertDynamicName, InsertLiteralName, Duplicate}
+use Rattle.qpack_spec.specs.Instruction.{SetCapacity}
+use Rattle.qpack_spec.specs.Line.{Line, IndexedStatic, IndexedDynamic, IndexedPostBase, NamedStatic, NamedDynamic}
+use Rattle.qpack_spec.specs.Line.{NamedPostBase, Literal}
+use Rattle.qpack_spec.specs.Table.{Table, count, naming, has_room, below_limit, may_name, sent_entry, with_entry}
+use Rattle.qpack_spec.specs.Table.{newest}
 use Rattle.qpack_spec.specs.Rule.{Draft, instruction_for, staying, writes, blank, rule}
 
 -- where a field or its name was found: in the static table, at an entry up to the base, at one above it, or nowhere
@@ -27,7 +30,10 @@ pub record Found : Type 0 where
 abbrev pub found_entry : Table → ℕ → Option ℕ → Found
 found_entry t base None = record { lookup = NotFound; table = t }
 found_entry t base (Some a) =
-    if may_name t a then record { lookup = placed base a; table = naming t a } else record { lookup = NotFound; table = t }
+    if may_name t a then record { lookup = placed base a; table = naming t a } else record {
+      lookup = NotFound;
+      table = t;
+    }
 
 -- to find a field: the newest equal entry alone is looked at
 unfoldable pub find_field : Table → ℕ → Field → Found
@@ -38,8 +44,8 @@ abbrev pub found_name : Table → ℕ → Field → Option ℕ → Found
 found_name t base f (Some i) = record { lookup = AtStatic i; table = t }
 found_name t base f None = found_entry t base (newest t (has_name f.name))
 
--- what an insertion answers: its instruction's reference, with the post-base index and the absolute one of the new entry;
--- or where the name was found instead
+-- what an insertion answers: its instruction's reference, with the post-base index and the absolute one of the new
+-- entry; or where the name was found instead
 pub data Insertion : Type 0 where
   Duplicated : (relative post_base absolute : ℕ) → Insertion
   InsertedWithStaticName : (post_base index absolute : ℕ) → Insertion
@@ -102,7 +108,11 @@ instructions_of f (NotInserted lookup) = []
 -- the block in progress behind an insertion, or what was found in its place
 abbrev pub with_insertion : Draft → Field → Insertable → Draft
 with_insertion d f i =
-    record { table = i.table; lines = d.lines ++ line_of f i.insertion ∷ []; instructions = d.instructions ++ instructions_of f i.insertion }
+    record {
+      table = i.table;
+      lines = d.lines ++ line_of f i.insertion ∷ [];
+      instructions = d.instructions ++ instructions_of f i.insertion;
+    }
 
 -- an entry up to the base is a line by itself; anything else is left to an insertion
 abbrev pub with_found : ℕ → Draft → Field → Lookup → Table → Draft

@@ -22,7 +22,10 @@ whole h = record { capacity = h.capacity; agreed = h.agreed; dropped = 0; live =
 -- the history after an effect
 unfoldable pub grown : History → Effect → History
 grown h (Inserts f) =
-    record h { dropped = h.dropped + excess h.capacity (drop h.dropped h.inserted ++ f ∷ []); inserted = h.inserted ++ f ∷ [] }
+    record h {
+      dropped = h.dropped + excess h.capacity (drop h.dropped h.inserted ++ f ∷ []);
+      inserted = h.inserted ++ f ∷ [];
+    }
 grown h Ignored = h
 grown h (Resizes n) = record h { capacity = n; dropped = h.dropped + excess n (drop h.dropped h.inserted) }
 

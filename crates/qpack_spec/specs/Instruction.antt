@@ -18,7 +18,8 @@ pub data Reply : Type 0 where
   Cancellation : (stream : ℕ) → Reply
   Increment : (by : ℕ) → Reply
 
--- what the first byte says of an encoder instruction: its first bits are 000, 001, 01H, 10 and 11 (sections 4.3.1 to 4.3.4)
+-- what the first byte says of an encoder instruction: its first bits are 000, 001, 01H, 10 and 11 (sections 4.3.1 to
+-- 4.3.4)
 unfoldable pub instruction_form : ℕ → Option (Form Instruction)
 instruction_form first =
     if nat_lt first 32 then Some (Index 5 Duplicate)

@@ -1,5 +1,6 @@
 -- Integers with a prefix of n bits, n from 1 to 8 (RFC 7541, section 5.1; RFC 9204, section 4.1.1).
-use Rattle.std.specs.Prelude.{◌≡◌, ℕ, zero, suc, ◌+◌, ◌-◌, ◌*◌, ◌/◌, ◌%◌, ◌^◌, ◌<◌, ◌≤◌, ◌⊎◌, List, [], ◌∷◌, ◌++◌, length, Result, Ok, Err, nat_lt, if◌then◌else◌}
+use Rattle.std.specs.Prelude.{◌≡◌, ℕ, zero, suc, ◌+◌, ◌-◌, ◌*◌, ◌/◌, ◌%◌, ◌^◌, ◌<◌, ◌≤◌, ◌⊎◌, List, [], ◌∷◌, ◌++◌}
+use Rattle.std.specs.Prelude.{length, Result, Ok, Err, nat_lt, if◌then◌else◌}
 use Rattle.std.specs.List.{AllByRecursion}
 use Rattle.qpack_spec.specs.Bytes.{◌>>=◌}
 
@@ -53,7 +54,8 @@ OverflowsInteger n (b ∷ cs) = (b % 2 ^ n ≡ full n) × (length cs ≡ 9) × A
 -- no front is a spelling or a refusal
 abbrev pub TruncatesInteger : ℕ → List ℕ → Type 0
 TruncatesInteger n bytes =
-    (text rest : List ℕ) → bytes ≡ text ++ rest → ((flags value : ℕ) → SpellsInteger n text flags value → ⊥) × (OverflowsInteger n text → ⊥)
+    (text rest : List ℕ) → bytes ≡ text ++ rest → ((flags value : ℕ) → SpellsInteger n text flags value → ⊥)
+    × (OverflowsInteger n text → ⊥)
 
 -- ---- the same, as reading from left to right
 
@@ -61,20 +63,23 @@ TruncatesInteger n bytes =
 unfoldable pub groups_at : ℕ → List ℕ → Result (ℕ × List ℕ) IntegerFault
 groups_at zero bytes = Err Overflow
 groups_at (suc k) [] = Err UnexpectedEnd
-groups_at (suc k) (c ∷ cs) = if nat_lt c 128 then Ok (c, cs) else (groups_at k cs >>= λ r. Ok (c % 128 + 128 * r.0, r.1))
+groups_at (suc k) (c ∷ cs) =
+    if nat_lt c 128 then Ok (c, cs) else (groups_at k cs >>= λ r. Ok (c % 128 + 128 * r.0, r.1))
 
 -- the flags, the value, and the bytes behind the integer
 unfoldable pub integer_at : ℕ → List ℕ → Result (ℕ × ℕ × List ℕ) IntegerFault
 integer_at n [] = Err UnexpectedEnd
 integer_at n (b ∷ cs) =
-    if nat_lt (b % 2 ^ n) (full n) then Ok (b / 2 ^ n, b % 2 ^ n, cs) else (groups_at 9 cs >>= λ r. Ok (b / 2 ^ n, full n + r.0, r.1))
+    if nat_lt (b % 2 ^ n) (full n) then Ok (b / 2 ^ n, b % 2 ^ n, cs) else
+    (groups_at 9 cs >>= λ r. Ok (b / 2 ^ n, full n + r.0, r.1))
 
 -- ---- the written spelling
 
 -- a number in groups of seven bits, at most k + 1 of them
 unfoldable pub written_groups : ℕ → ℕ → List ℕ
 written_groups zero value = value ∷ []
-written_groups (suc k) value = if nat_lt value 128 then value ∷ [] else ((128 + value % 128) ∷ written_groups k (value / 128))
+written_groups (suc k) value =
+    if nat_lt value 128 then value ∷ [] else ((128 + value % 128) ∷ written_groups k (value / 128))
 
 -- the shortest spelling, the flags cut to the bits above the prefix; ten groups hold every number below 2^64
 unfoldable pub written_integer : ℕ → ℕ → ℕ → List ℕ

@@ -1,7 +1,8 @@
 -- What every reader of integers relies on, as statements; the crate's law functions promise them.
 use Rattle.std.specs.Prelude.{◌≡◌, ℕ, ◌+◌, ◌-◌, ◌^◌, ◌<◌, ◌≤◌, ◌⊎◌, ◌↔◌, List, ◌++◌, length, Ok, Err}
 use Rattle.qpack_spec.specs.Bytes.{Begins}
-use Rattle.qpack_spec.specs.Integer.{Overflow, UnexpectedEnd, full, StandsFor, SpellsInteger, OverflowsInteger, TruncatesInteger, integer_at, written_integer}
+use Rattle.qpack_spec.specs.Integer.{Overflow, UnexpectedEnd, full, StandsFor, SpellsInteger, OverflowsInteger}
+use Rattle.qpack_spec.specs.Integer.{TruncatesInteger, integer_at, written_integer}
 
 -- one spelling is of one value, under one list of flags
 abbrev pub IntegersHaveOneValue : Type 0
@@ -35,14 +36,16 @@ abbrev pub WrittenIntegersAreReadBack : Type 0
 WrittenIntegersAreReadBack =
     (n flags value : ℕ) → IsWritable n flags value → value < 2 ^ 63 + full n
     → SpellsInteger n (written_integer n flags value) flags value
-    × ((rest text more : List ℕ) (f v : ℕ) → SpellsInteger n text f v → written_integer n flags value ++ rest ≡ text ++ more
+    × ((rest text more : List ℕ) (f v : ℕ) → SpellsInteger n text f v
+    → written_integer n flags value ++ rest ≡ text ++ more
     → (f ≡ flags) × (v ≡ value) × (more ≡ rest))
 
 -- reading from left to right finds exactly the spelling at the front
 abbrev pub ReadingFindsSpellings : Type 0
 ReadingFindsSpellings =
     (n : ℕ) (bytes : List ℕ) (flags value : ℕ) (rest : List ℕ)
-    → (integer_at n bytes ≡ Ok (flags, value, rest)) ↔ ((text : List ℕ) × (bytes ≡ text ++ rest) × SpellsInteger n text flags value)
+    → (integer_at n bytes ≡ Ok (flags, value, rest)) ↔ ((text : List ℕ) × (bytes ≡ text ++ rest)
+    × SpellsInteger n text flags value)
 
 -- and each fault exactly where it stands
 abbrev pub ReadingFindsFaults : Type 0

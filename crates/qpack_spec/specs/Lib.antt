@@ -24,7 +24,6 @@ pub mod Table
 pub mod TableLaws
 pub mod Rule
 pub mod Handle
-pub mod World
 pub mod Session
 pub mod SessionLaws
 pub mod HuffmanLaws

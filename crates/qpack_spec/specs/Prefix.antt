@@ -1,5 +1,6 @@
 -- The prefix of an encoded field section: the required insert count and the base (RFC 9204, section 4.5.1).
-use Rattle.std.specs.Prelude.{◌≡◌, ℕ, List, ◌++◌, ◌+◌, ◌-◌, ◌*◌, ◌/◌, ◌%◌, ◌^◌, ◌<◌, ◌≤◌, ℤ, negsuc, min, Bool, true, false, if◌then◌else◌, ◌||◌, nat_lt, nat_le, nat_eq, Result, Ok, Err}
+use Rattle.std.specs.Prelude.{◌≡◌, ℕ, List, ◌++◌, ◌+◌, ◌-◌, ◌*◌, ◌/◌, ◌%◌, ◌^◌, ◌<◌, ◌≤◌, ℤ, negsuc, min, Bool, true}
+use Rattle.std.specs.Prelude.{false, if◌then◌else◌, ◌||◌, nat_lt, nat_le, nat_eq, Result, Ok, Err}
 use Rattle.qpack_spec.specs.Bytes.{◌>>=◌}
 use Rattle.qpack_spec.specs.Integer.{SpellsInteger, integer_at, written_integer}
 use Rattle.qpack_spec.specs.Form.{FormFault, HoldsIndex, or_bad_integer}
@@ -19,8 +20,8 @@ pub data PrefixFault : Type 0 where
 abbrev pub most_entries : ℕ → ℕ
 most_entries maximum = maximum / 32
 
--- the prefix that is written for a required count and a base, the maximum capacity being agreed; section 4.5.1.1 has the
--- count modulo 2 MaxEntries, section 4.5.1.2 the distance of the base and its sign
+-- the prefix that is written for a required count and a base, the maximum capacity being agreed; section 4.5.1.1 has
+-- the count modulo 2 MaxEntries, section 4.5.1.2 the distance of the base and its sign
 unfoldable pub prefix_for : ℕ → ℕ → ℕ → Prefix
 prefix_for maximum required base =
     if nat_eq required 0 || nat_eq maximum 0 then record { count = 0; sign = false; delta = 0 }
@@ -57,12 +58,14 @@ read_required total maximum count =
 unfoldable pub read_base : Bool → ℕ → ℕ → Result ℕ PrefixFault
 read_base false required delta = if nat_lt (required + delta) (2 ^ 64) then Ok (required + delta) else Err OutOfRange
 read_base true required delta =
-    if nat_lt delta required then Ok (required - delta - 1) else Err (BelowZero (negsuc (min (delta - required) (2 ^ 63 - 1))))
+    if nat_lt delta required then Ok (required - delta - 1) else Err
+    (BelowZero (negsuc (min (delta - required) (2 ^ 63 - 1))))
 
 -- the required count with its base, which is 0 where nothing is required
 abbrev pub with_base : Prefix → Result ℕ PrefixFault → Result (ℕ × ℕ) PrefixFault
 with_base p (Err e) = Err e
-with_base p (Ok required) = if nat_eq required 0 then Ok (0, 0) else and_base required (read_base p.sign required p.delta)
+with_base p (Ok required) =
+    if nat_eq required 0 then Ok (0, 0) else and_base required (read_base p.sign required p.delta)
   where
     and_base : ℕ → Result ℕ PrefixFault → Result (ℕ × ℕ) PrefixFault
     and_base required (Err e) = Err e
@@ -95,4 +98,5 @@ written_prefix p = written_integer 8 0 p.count ++ written_integer 7 (sign_bit p)
 -- the prefix at the front of the bytes, and the bytes behind it
 unfoldable pub prefix_at : List ℕ → Result (Prefix × List ℕ) FormFault
 prefix_at bytes =
-    or_bad_integer (integer_at 8 bytes) >>= λ c. or_bad_integer (integer_at 7 c.2) >>= λ d. Ok (record { count = c.1; sign = nat_eq d.0 1; delta = d.1 }, d.2)
+    or_bad_integer (integer_at 8 bytes) >>= λ c. or_bad_integer (integer_at 7 c.2)
+    >>= λ d. Ok (record { count = c.1; sign = nat_eq d.0 1; delta = d.1 }, d.2)

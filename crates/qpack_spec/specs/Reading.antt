@@ -1,14 +1,16 @@
 -- What a field section means under a window (RFC 9204, sections 2.2.1 and 4.5).
-use Rattle.std.specs.Prelude.{ℕ, ◌+◌, ◌-◌, max, Bool, if◌then◌else◌, ◌&&◌, nat_lt, List, [], ◌∷◌, ◌++◌, length, Option, None, Some, slice_get, Result, Ok, Err}
+use Rattle.std.specs.Prelude.{ℕ, ◌+◌, ◌-◌, max, Bool, if◌then◌else◌, ◌&&◌, nat_lt, List, [], ◌∷◌, ◌++◌, length, Option}
+use Rattle.std.specs.Prelude.{None, Some, slice_get, Result, Ok, Err}
 use Rattle.qpack_spec.specs.Field.{Field}
 use Rattle.qpack_spec.specs.StaticTable.{static_table}
 use Rattle.qpack_spec.specs.Form.{FormFault}
-use Rattle.qpack_spec.specs.Line.{Line, IndexedStatic, IndexedDynamic, IndexedPostBase, NamedStatic, NamedDynamic, NamedPostBase, Literal}
+use Rattle.qpack_spec.specs.Line.{Line, IndexedStatic, IndexedDynamic, IndexedPostBase, NamedStatic, NamedDynamic}
+use Rattle.qpack_spec.specs.Line.{NamedPostBase, Literal}
 use Rattle.qpack_spec.specs.Prefix.{Prefix, PrefixFault, read_prefix}
 use Rattle.qpack_spec.specs.Window.{Window, agreed_maximum, total, with_value}
 
--- why a field section means nothing: its bytes, its prefix, or a line that names no entry: one below the window or where
--- nothing is live, one above it (its place is told), one behind the base, or no static field
+-- why a field section means nothing: its bytes, its prefix, or a line that names no entry: one below the window or
+-- where nothing is live, one above it (its place is told), one behind the base, or no static field
 pub data Fault : Type 0 where
   BadForm : (fault : FormFault) → Fault
   BadPrefix : (fault : PrefixFault) → Fault

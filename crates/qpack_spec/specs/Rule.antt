@@ -1,13 +1,17 @@
--- How the encoder writes a field section: which line stands for each field, and what is inserted (RFC 9204, section 2.1).
-use Rattle.std.specs.Prelude.{ℕ, ◌+◌, ◌-◌, if◌then◌else◌, ◌&&◌, nat_le, List, [], ◌∷◌, ◌++◌, length, drop, Option, None, Some}
+-- How the encoder writes a field section: which line stands for each field, and what is inserted (RFC 9204, section
+-- 2.1).
+use Rattle.std.specs.Prelude.{ℕ, ◌+◌, ◌-◌, if◌then◌else◌, ◌&&◌, nat_le, List, [], ◌∷◌, ◌++◌, length, drop, Option, None}
+use Rattle.std.specs.Prelude.{Some}
 use Rattle.qpack_spec.specs.Field.{Field, has_name, is_field}
 use Rattle.qpack_spec.specs.StaticTable.{static_place, static_name_place}
 use Rattle.qpack_spec.specs.Instruction.{Instruction, InsertStaticName, InsertDynamicName, InsertLiteralName, Duplicate}
-use Rattle.qpack_spec.specs.Line.{Line, IndexedStatic, IndexedDynamic, IndexedPostBase, NamedStatic, NamedDynamic, NamedPostBase, Literal}
+use Rattle.qpack_spec.specs.Line.{Line, IndexedStatic, IndexedDynamic, IndexedPostBase, NamedStatic, NamedDynamic}
+use Rattle.qpack_spec.specs.Line.{NamedPostBase, Literal}
 use Rattle.qpack_spec.specs.Prefix.{prefix_for}
 use Rattle.qpack_spec.specs.Reading.{Block, greatest}
 use Rattle.qpack_spec.specs.Window.{agreed_maximum}
-use Rattle.qpack_spec.specs.Table.{Table, fields_in, count, naming, evicted_for, has_room, below_limit, may_name, sent_entry, with_entry, last_place, newest, unnamed, commit}
+use Rattle.qpack_spec.specs.Table.{Table, fields_in, count, naming, evicted_for, has_room, below_limit, may_name}
+use Rattle.qpack_spec.specs.Table.{sent_entry, with_entry, last_place, newest, unnamed, commit}
 
 -- a block in progress: the table, the lines and the instructions so far
 pub record Draft : Type 0 where
@@ -111,7 +115,8 @@ required_of d = greatest d.table.named
 
 -- the block that is written
 abbrev pub block_of : Table → Draft → Block
-block_of t d = record { prefix = prefix_for (agreed_maximum t.agreed t.capacity) (required_of d) (count t); lines = d.lines }
+block_of t d =
+    record { prefix = prefix_for (agreed_maximum t.agreed t.capacity) (required_of d) (count t); lines = d.lines }
 
 -- the table behind it
 abbrev pub committed : Draft → ℕ → Table

@@ -1,38 +1,49 @@
--- A session in bytes: two ends, the two streams between them, the blocks of each request stream, and what each event makes
--- of it (RFC 9204, section 2).
-use Rattle.std.specs.Prelude.{◌≡◌, ◌<◌, ℕ, ◌+◌, ◌-◌, ◌^◌, ◌≤◌, ◌⊎◌, min, Bool, true, false, if◌then◌else◌, not, nat_lt, nat_le, nat_eq, List, [], ◌∷◌, ◌++◌, length, take, drop, Option, None, Some, slice_get, Result, Ok, Err}
+-- A session in bytes: two ends, the two streams between them, the blocks of each request stream, and what each event
+-- makes of it (RFC 9204, section 2).
+use Rattle.std.specs.Prelude.{◌≡◌, ◌<◌, ℕ, ◌+◌, ◌-◌, ◌^◌, ◌≤◌, ◌⊎◌, min, Bool, true, false, if◌then◌else◌, not, nat_lt}
+use Rattle.std.specs.Prelude.{nat_le, nat_eq, List, [], ◌∷◌, ◌++◌, length, take, drop, Option, None, Some, slice_get}
+use Rattle.std.specs.Prelude.{Result, Ok, Err}
 use Rattle.std.specs.List.{AllByRecursion, filter}
 use Rattle.qpack_spec.specs.Bytes.{Begins, ◌>>=◌}
-use Rattle.qpack_spec.specs.Field.{Field}
+use Rattle.qpack_spec.specs.Field.{Field, total_size}
 use Rattle.qpack_spec.specs.Form.{FormFault, Truncates}
-use Rattle.qpack_spec.specs.Instruction.{Instruction, SetCapacity, Reply, Acknowledgment, Cancellation, instruction_form, reply_form, SpellsInstruction, RefusesInstruction, SpellsReply, RefusesReply, written_instruction, written_instructions, written_reply, written_replies}
+use Rattle.qpack_spec.specs.Instruction.{Instruction, SetCapacity, Reply, Acknowledgment, Cancellation, Increment}
+use Rattle.qpack_spec.specs.Instruction.{instruction_form, reply_form, SpellsInstruction, RefusesInstruction}
+use Rattle.qpack_spec.specs.Instruction.{SpellsReply, RefusesReply, written_instruction, written_instructions}
+use Rattle.qpack_spec.specs.Instruction.{written_reply, written_replies}
 use Rattle.qpack_spec.specs.Stream.{Joined}
 use Rattle.qpack_spec.specs.Window.{Refusal, NoEntry, NoStaticField, DoesNotFit, AboveMaximum, UnknownStream}
 use Rattle.qpack_spec.specs.History.{start, window_of}
-use Rattle.qpack_spec.specs.Reading.{Reading}
+use Rattle.qpack_spec.specs.Reading.{Fault, Reading, Fields, Missing, Faulty}
 use Rattle.qpack_spec.specs.BlockReading.{reading_of_bytes, written_block}
-use Rattle.qpack_spec.specs.Table.{Table, empty_table, table_of, window, count, unnamed, applied, heard, resized}
+use Rattle.qpack_spec.specs.Table.{Table, empty_table, table_of, window, count, has_number, unnamed, applied, heard}
+use Rattle.qpack_spec.specs.Table.{resized}
 use Rattle.qpack_spec.specs.Rule.{rule, required_of, block_of, committed}
-use Rattle.qpack_spec.specs.World.{sum_of, increments, is_read}
+use Rattle.qpack_spec.specs.Stateless.{held_size}
 use Rattle.qpack_spec.specs.WrittenLaws.{IsByteField}
 
--- a block: its bytes, the required count that was answered, how long the encoder's stream was at its end, and the fields
--- that were handed to the encoder
+-- a block: its bytes, the required count that was answered, how long the encoder's stream was at its end, and the
+-- fields that were handed to the encoder
 pub record KeptBlock : Type 0 where
   pub bytes : List ℕ
   pub required : ℕ
   pub end : ℕ
   pub handed : List Field
 
--- a request stream: its blocks, how many were decoded, how many of the dynamic ones acknowledged, whether it is cancelled
-pub record KeptStream : Type 0 where
-  pub blocks : List KeptBlock
+-- a request stream: its blocks, how many were decoded, how many of the dynamic ones acknowledged, whether it is
+-- cancelled
+pub record RequestStream (B : Type 0) : Type 0 where
+  pub blocks : List B
   pub decoded : ℕ
   pub acknowledged : ℕ
   pub cancelled : Bool
 
--- the two ends, the insertions that the decoder did not yet report, the encoder's stream with how much of it was delivered
--- and taken, the decoder's stream likewise, and the request streams
+-- a request stream with its blocks in bytes
+abbrev pub KeptStream : Type 0
+KeptStream = RequestStream KeptBlock
+
+-- the two ends, the insertions that the decoder did not yet report, the encoder's stream with how much of it was
+-- delivered and taken, the decoder's stream likewise, and the request streams
 pub record Session : Type 0 where
   pub encoder : Table
   pub decoder : Table
@@ -45,8 +56,8 @@ pub record Session : Type 0 where
   pub told_taken : ℕ
   pub streams : List (ℕ × KeptStream)
 
--- what may happen (the session's surface): a block is written, decoded, so many bytes of a stream are delivered, a block is
--- acknowledged, a stream cancelled, a capacity set
+-- what may happen (the session's surface): a block is written, decoded, so many bytes of a stream are delivered, a
+-- block is acknowledged, a stream cancelled, a capacity set
 pub data Event : Type 0 where
   Encode : (stream : ℕ) (fields : List Field) → Event
   Decode : (stream : ℕ) → Event
@@ -61,10 +72,14 @@ pub data StreamFault : Type 0 where
   BadBytes : (fault : FormFault) → StreamFault
   BadInstruction : (refusal : Refusal) → StreamFault
 
--- what an event answers; any that takes memory may be refused it
+-- what an event answers; any that takes memory may be refused it. An encode answers the required insert count of its
+-- block; a decode the fields, the sum of their sizes and whether any entry is required, or how many insertions it waits
+-- for, or a fault
 pub data Outcome : Type 0 where
   Encoded : (required : ℕ) → Outcome
-  Decoded : (reading : Reading) → Outcome
+  Decoded : (fields : List Field) (size : ℕ) (is_dynamic : Bool) → Outcome
+  MissingReferences : (required : ℕ) → Outcome
+  BadBlock : (fault : Fault) → Outcome
   Delivered : (total : ℕ) → Outcome
   Heard : Outcome
   Acknowledged : Outcome
@@ -78,13 +93,17 @@ pub data Outcome : Type 0 where
 -- ---- what is kept
 
 -- the stream of a number; the first pair of a number counts, and one that was never used is empty
-abbrev pub kept_at : List (ℕ × KeptStream) → ℕ → KeptStream
-kept_at [] s = record { blocks = []; decoded = 0; acknowledged = 0; cancelled = false }
-kept_at (p ∷ ps) s = if nat_eq p.0 s then p.1 else kept_at ps s
+abbrev pub stream_at : {B : Type 0} → List (ℕ × RequestStream B) → ℕ → RequestStream B
+stream_at [] s = record { blocks = []; decoded = 0; acknowledged = 0; cancelled = false }
+stream_at (p ∷ ps) s = if nat_eq p.0 s then p.1 else stream_at ps s
+
+-- the streams with one changed
+abbrev pub with_stream : {B : Type 0} → List (ℕ × RequestStream B) → ℕ → RequestStream B → List (ℕ × RequestStream B)
+with_stream ps s k = (s, k) ∷ ps
 
 -- the session with one stream changed
 abbrev pub with_kept : Session → ℕ → KeptStream → Session
-with_kept v s k = record v { streams = (s, k) ∷ v.streams }
+with_kept v s k = record v { streams = with_stream v.streams s k }
 
 -- how a session begins: both tables empty, the capacity agreed
 abbrev pub opened : ℕ → ℕ → Session
@@ -102,17 +121,63 @@ opened capacity limit =
       streams = [];
     }
 
+-- the greatest capacity that a session begins with
+abbrev pub greatest_first_capacity : ℕ
+greatest_first_capacity = 2 ^ 30 - 1
+
+-- the greatest limit of blocked blocks
+abbrev pub greatest_limit : ℕ
+greatest_limit = 65534
+
+-- why a session doesn't begin
+pub data StartRefusal : Type 0 where
+  CapacityTooLarge : StartRefusal
+  LimitTooLarge : StartRefusal
+
+-- a session begins, unless its capacity or its limit is too great; the capacity is tested first
+abbrev pub begin_session : ℕ → ℕ → Result Session StartRefusal
+begin_session capacity limit =
+    if nat_le capacity greatest_first_capacity
+    then (if nat_le limit greatest_limit then Ok (opened capacity limit) else Err LimitTooLarge)
+    else Err CapacityTooLarge
+
+-- the oldest undecoded block of a request stream
+abbrev pub oldest_undecoded : {B : Type 0} → RequestStream B → Option B
+oldest_undecoded k = slice_get k.blocks k.decoded
+
 -- the oldest undecoded block of a stream
 abbrev pub next_block : Session → ℕ → Option KeptBlock
-next_block v s = slice_get (kept_at v.streams s).blocks (kept_at v.streams s).decoded
+next_block v s = oldest_undecoded (stream_at v.streams s)
 
 -- a block requires an entry
 abbrev pub requires_entry : KeptBlock → Bool
 requires_entry b = not (nat_eq b.required 0)
 
 -- a decoded block that requires an entry waits for its acknowledgment
-abbrev pub waits : KeptStream → Bool
-waits k = nat_lt k.acknowledged (length (filter requires_entry (take k.decoded k.blocks)))
+abbrev pub waits : {B : Type 0} → (B → Bool) → RequestStream B → Bool
+waits requires k = nat_lt k.acknowledged (length (filter requires (take k.decoded k.blocks)))
+
+-- ---- what is blocked
+
+-- how many blocks of a request stream require more insertions than this count
+abbrev pub blocked_on : ℕ → KeptStream → ℕ
+blocked_on known k = length (filter (λ b. nat_lt known b.required) k.blocks)
+
+-- how many blocks of the streams do, each stream counted once: of the pairs of a number the first counts
+abbrev pub blocked_among : ℕ → List ℕ → List (ℕ × KeptStream) → ℕ
+blocked_among known counted [] = 0
+blocked_among known counted (p ∷ ps) =
+    if has_number p.0 counted then blocked_among known counted ps
+    else blocked_on known p.1 + blocked_among known (p.0 ∷ counted) ps
+
+-- the blocked blocks (section 2.1.2): those of all request streams, cancelled ones too, decoded or not, that require
+-- more insertions than the encoder knows to be received
+abbrev pub blocked_blocks : Session → ℕ
+blocked_blocks v = blocked_among v.encoder.known [] v.streams
+
+-- the blocks that require more insertions than the decoder received: those that it could not read yet
+abbrev pub unreadable_blocks : Session → ℕ
+unreadable_blocks v = blocked_among (count v.decoder) [] v.streams
 
 -- ---- what is skipped
 
@@ -120,18 +185,18 @@ waits k = nat_lt k.acknowledged (length (filter requires_entry (take k.decoded k
 abbrev pub unless_cancelled : KeptStream → Bool → ℕ → Option ℕ
 unless_cancelled k lawful reason = if k.cancelled then Some 3 else if lawful then None else Some reason
 
--- the first reason why an event is outside a lawful session, in the order 1, 3, 2, 4: a stream number of 2^62 or more; an
--- event on a cancelled stream; nothing to decode; nothing to acknowledge
+-- the first reason why an event is outside a lawful session, in the order 1, 3, 2, 4: a stream number of 2^62 or more;
+-- an event on a cancelled stream; nothing to decode; nothing to acknowledge
 unfoldable pub skip_reason : Session → Event → Option ℕ
 skip_reason v (Encode s fs) = if nat_le (2 ^ 62) s then Some 1 else None
 skip_reason v (Decode s) =
-    let k = kept_at v.streams s in
+    let k = stream_at v.streams s in
     if nat_le (2 ^ 62) s then Some 1 else unless_cancelled k (nat_lt k.decoded (length k.blocks)) 2
 skip_reason v (ToDecoder n) = None
 skip_reason v (ToEncoder n) = None
 skip_reason v (Acknowledge s) =
-    let k = kept_at v.streams s in if nat_le (2 ^ 62) s then Some 1 else unless_cancelled k (waits k) 4
-skip_reason v (Cancel s) = if nat_le (2 ^ 62) s then Some 1 else unless_cancelled (kept_at v.streams s) true 0
+    let k = stream_at v.streams s in if nat_le (2 ^ 62) s then Some 1 else unless_cancelled k (waits requires_entry k) 4
+skip_reason v (Cancel s) = if nat_le (2 ^ 62) s then Some 1 else unless_cancelled (stream_at v.streams s) true 0
 skip_reason v (ChangeCapacity n) = None
 
 -- ---- what happens
@@ -140,10 +205,21 @@ skip_reason v (ChangeCapacity n) = None
 abbrev pub with_block : Session → ℕ → List Field → Session
 with_block v s fs =
     let d = rule v.encoder fs in
-    let k = kept_at v.streams s in
+    let k = stream_at v.streams s in
     let sent = v.sent ++ written_instructions d.instructions in
-    let b : KeptBlock = record { bytes = written_block (block_of v.encoder d); required = required_of d; end = length sent; handed = fs } in
-    record v { encoder = committed d s; sent = sent; streams = (s, record k { blocks = k.blocks ++ b ∷ [] }) ∷ v.streams }
+    let b : KeptBlock =
+    record {
+      bytes = written_block (block_of v.encoder d);
+      required = required_of d;
+      end = length sent;
+      handed = fs;
+    } in
+    record v {
+      encoder = committed d s;
+      sent = sent;
+      streams = (s, record k { blocks = k.blocks ++ b ∷ [] })
+          ∷ v.streams;
+    }
 
 -- the session behind a block that was given up: its insertions stand and were written
 abbrev pub given_up : Session → List Field → Session
@@ -153,7 +229,7 @@ given_up v fs =
 
 -- the session behind a decoded block
 abbrev pub with_decoded : Session → ℕ → Session
-with_decoded v s = let k = kept_at v.streams s in with_kept v s (record k { decoded = k.decoded + 1 })
+with_decoded v s = let k = stream_at v.streams s in with_kept v s (record k { decoded = k.decoded + 1 })
 
 -- the table behind some instructions
 abbrev pub all_applied : Table → List Instruction → Result Table Refusal
@@ -164,6 +240,23 @@ all_applied t (i ∷ is) = applied t i >>= λ u. all_applied u is
 abbrev pub all_heard : Table → List Reply → Result Table Refusal
 all_heard t [] = Ok t
 all_heard t (r ∷ rs) = heard t r >>= λ u. all_heard u rs
+
+-- the sum of some numbers
+abbrev pub sum_of : List ℕ → ℕ
+sum_of [] = 0
+sum_of (n ∷ ns) = n + sum_of ns
+
+-- an increment for each piece
+abbrev pub increments : List ℕ → List Reply
+increments [] = []
+increments (n ∷ ns) = Increment n ∷ increments ns
+
+-- the sum of the increments among decoder instructions
+unfoldable pub increment_sum : List Reply → ℕ
+increment_sum [] = 0
+increment_sum (Acknowledgment stream ∷ rs) = increment_sum rs
+increment_sum (Cancellation stream ∷ rs) = increment_sum rs
+increment_sum (Increment n ∷ rs) = n + increment_sum rs
 
 -- an increment is from 1 to 64
 abbrev pub IsPiece : ℕ → Type 0
@@ -192,19 +285,24 @@ decoder_moved v n t consumed unreported told =
 abbrev pub to_report : Session → Table → ℕ
 to_report v t = v.unreported + (count t - count v.decoder)
 
--- how a delivery to the decoder ends, behind lines that it took: nothing whole is left, and its insertions are reported; it
--- is refused memory; the next bytes are refused; or the next instruction is. Refused, it reports nothing
-pub data DeliveryEnds (v : Session) (n : ℕ) (t : Table) (front rest : List ℕ) (o : Outcome) (v' : Session) : Type 0 where
-  takes_all : (pieces : List ℕ) → Truncates instruction_form rest → AllByRecursion IsPiece pieces → sum_of pieces ≡ to_report v t
-      → o ≡ Delivered (count t) → v' ≡ decoder_moved v n t (length front) 0 (v.told ++ written_replies (increments pieces))
-      → DeliveryEnds v n t front rest o v'
-  no_memory : o ≡ NoMemory → v' ≡ decoder_moved v n t (length front) (to_report v t) v.told → DeliveryEnds v n t front rest o v'
-  bad_bytes : (fault : FormFault) → Begins (λ text. RefusesInstruction text fault) rest → o ≡ Refused (BadBytes fault)
-      → v' ≡ decoder_moved v n t (length front) (to_report v t) v.told → DeliveryEnds v n t front rest o v'
-  bad_instruction : (text more : List ℕ) (i : Instruction) (e : Refusal) → rest ≡ text ++ more → SpellsInstruction text i
-      → applied t i ≡ Err e → o ≡ Refused (BadInstruction e)
-      → v' ≡ decoder_moved v n t (length front + (if is_consumed e then length text else 0)) (to_report v t) v.told
-      → DeliveryEnds v n t front rest o v'
+-- how a delivery to the decoder ends, behind lines that it took: nothing whole is left, and its insertions are
+-- reported; it is refused memory; the next bytes are refused; or the next instruction is. Refused, it reports nothing
+pub data DeliveryEnds (v : Session) (n : ℕ) (t : Table) (front rest : List ℕ) (o : Outcome) (v' : Session) : Type 0
+  where
+    takes_all : (pieces : List ℕ) → Truncates instruction_form rest → AllByRecursion IsPiece pieces
+        → sum_of pieces ≡ to_report v t
+        → o ≡ Delivered (count t) → v' ≡ decoder_moved v n t (length front) 0
+        (v.told ++ written_replies (increments pieces))
+        → DeliveryEnds v n t front rest o v'
+    no_memory : o ≡ NoMemory → v' ≡ decoder_moved v n t (length front) (to_report v t) v.told
+        → DeliveryEnds v n t front rest o v'
+    bad_bytes : (fault : FormFault) → Begins (λ text. RefusesInstruction text fault) rest → o ≡ Refused (BadBytes fault)
+        → v' ≡ decoder_moved v n t (length front) (to_report v t) v.told → DeliveryEnds v n t front rest o v'
+    bad_instruction : (text more : List ℕ) (i : Instruction) (e : Refusal) → rest ≡ text ++ more
+        → SpellsInstruction text i
+        → applied t i ≡ Err e → o ≡ Refused (BadInstruction e)
+        → v' ≡ decoder_moved v n t (length front + (if is_consumed e then length text else 0)) (to_report v t) v.told
+        → DeliveryEnds v n t front rest o v'
 
 -- the next n bytes are delivered to the decoder, and offered behind those that it left; it takes lines at their front
 pub record DeliversTo (v : Session) (n : ℕ) (o : Outcome) (v' : Session) : Type 0 where
@@ -220,15 +318,22 @@ pub record DeliversTo (v : Session) (n : ℕ) (o : Outcome) (v' : Session) : Typ
 -- the session when the next n bytes were delivered to the encoder, so many consumed, and this table made
 abbrev pub encoder_moved : Session → ℕ → Table → ℕ → Session
 encoder_moved v n t consumed =
-    record v { encoder = t; told_delivered = min (v.told_delivered + n) (length v.told); told_taken = v.told_taken + consumed }
+    record v {
+      encoder = t;
+      told_delivered = min (v.told_delivered + n) (length v.told);
+      told_taken = v.told_taken + consumed;
+    }
 
 -- how a delivery to the encoder ends; it takes no memory
 pub data HearingEnds (v : Session) (n : ℕ) (t : Table) (front rest : List ℕ) (o : Outcome) (v' : Session) : Type 0 where
-  hears_all : Truncates reply_form rest → o ≡ Heard → v' ≡ encoder_moved v n t (length front) → HearingEnds v n t front rest o v'
+  hears_all : Truncates reply_form rest → o ≡ Heard → v' ≡ encoder_moved v n t (length front)
+      → HearingEnds v n t front rest o v'
   bad_bytes_heard : (fault : FormFault) → Begins (λ text. RefusesReply text fault) rest → o ≡ Refused (BadBytes fault)
       → v' ≡ encoder_moved v n t (length front) → HearingEnds v n t front rest o v'
-  bad_reply : (text more : List ℕ) (r : Reply) (e : Refusal) → rest ≡ text ++ more → SpellsReply text r → heard t r ≡ Err e
-      → o ≡ Refused (BadInstruction e) → v' ≡ encoder_moved v n t (length front + length text) → HearingEnds v n t front rest o v'
+  bad_reply : (text more : List ℕ) (r : Reply) (e : Refusal) → rest ≡ text ++ more → SpellsReply text r
+      → heard t r ≡ Err e
+      → o ≡ Refused (BadInstruction e) → v' ≡ encoder_moved v n t (length front + length text)
+      → HearingEnds v n t front rest o v'
 
 -- the next n bytes are delivered to the encoder, and offered behind those that it left; it hears replies at their front
 pub record HearsFrom (v : Session) (n : ℕ) (o : Outcome) (v' : Session) : Type 0 where
@@ -245,39 +350,81 @@ pub record HearsFrom (v : Session) (n : ℕ) (o : Outcome) (v' : Session) : Type
 abbrev pub LeavesAll : Session → Outcome → Session → Type 0
 LeavesAll v o v' = (o ≡ NoMemory) × (v' ≡ v)
 
+-- a block was decoded
+abbrev pub is_read : Option Reading → Bool
+is_read (Some (Fields fs b)) = true
+is_read (Some (Missing r)) = false
+is_read (Some (Faulty e)) = false
+is_read None = false
+
+-- what a decode answers for a reading; a sum of sizes is held at 2^64 - 1
+abbrev pub decode_outcome : Reading → Outcome
+decode_outcome (Fields fs is_dynamic) = Decoded fs (held_size (total_size fs)) is_dynamic
+decode_outcome (Missing required) = MissingReferences required
+decode_outcome (Faulty fault) = BadBlock fault
+
 -- the next block of a stream is read
 pub record DecodesNext (v : Session) (s : ℕ) (o : Outcome) (v' : Session) : Type 0 where
   pub block : KeptBlock
   pub is_next : next_block v s ≡ Some block
-  pub answers : o ≡ Decoded (reading_of_bytes (window v.decoder) block.bytes)
+  pub answers : o ≡ decode_outcome (reading_of_bytes (window v.decoder) block.bytes)
   pub moves : v' ≡ (if is_read (Some (reading_of_bytes (window v.decoder) block.bytes)) then with_decoded v s else v)
+
+-- an encode that is refused memory behind some of its fields
+pub record GivesUp (v : Session) (fields : List Field) (o : Outcome) (v' : Session) : Type 0 where
+  pub many : ℕ
+  pub answers : o ≡ NoMemory
+  pub leads : v' ≡ given_up v (take many fields)
+
+-- the encoder sets a capacity, and writes it
+pub record SetsCapacity (v : Session) (n : ℕ) (o : Outcome) (v' : Session) : Type 0 where
+  pub table : Table
+  pub is_set : resized v.encoder n ≡ Ok table
+  pub answers : o ≡ CapacitySet
+  pub leads : v' ≡ record v { encoder = table; sent = v.sent ++ written_instruction (SetCapacity n) }
+
+-- the encoder's table refuses a capacity
+pub record RefusesCapacity (v : Session) (n : ℕ) (o : Outcome) (v' : Session) : Type 0 where
+  pub refusal : Refusal
+  pub is_refused : resized v.encoder n ≡ Err refusal
+  pub answers : o ≡ CapacityRefused refusal
+  pub stays : v' ≡ v
+
+-- the session behind an acknowledgment of a block, which is written
+abbrev pub with_acknowledged : Session → ℕ → Session
+with_acknowledged v s =
+    let k = stream_at v.streams s in
+    record (with_kept v s (record k { acknowledged = k.acknowledged + 1 })) {
+      told = v.told ++ written_reply (Acknowledgment s);
+    }
+
+-- the session behind a cancellation of a stream, which is written
+abbrev pub with_cancelled : Session → ℕ → Session
+with_cancelled v s =
+    let k = stream_at v.streams s in
+    record (with_kept v s (record k { cancelled = true })) { told = v.told ++ written_reply (Cancellation s) }
 
 -- what a lawful event does
 unfoldable pub Happens : Session → Event → Outcome → Session → Type 0
 Happens v (Encode s fs) o v' =
-    ((o ≡ Encoded (required_of (rule v.encoder fs))) × (v' ≡ with_block v s fs))
-    ⊎ ((o ≡ NoMemory) × (many : ℕ) × (v' ≡ given_up v (take many fs)))
-    ⊎ LeavesAll v o v'
+    ((o ≡ Encoded (required_of (rule v.encoder fs))) × (v' ≡ with_block v s fs)) ⊎ GivesUp v fs o v' ⊎ LeavesAll v o v'
 Happens v (Decode s) o v' = DecodesNext v s o v' ⊎ LeavesAll v o v'
 Happens v (ToDecoder n) o v' = DeliversTo v n o v'
 Happens v (ToEncoder n) o v' = HearsFrom v n o v'
-Happens v (Acknowledge s) o v' =
-    let k = kept_at v.streams s in
-    ((o ≡ Acknowledged) × (v' ≡ record (with_kept v s (record k { acknowledged = k.acknowledged + 1 })) { told = v.told ++ written_reply (Acknowledgment s) }))
-    ⊎ LeavesAll v o v'
-Happens v (Cancel s) o v' =
-    let k = kept_at v.streams s in
-    ((o ≡ Cancelled) × (v' ≡ record (with_kept v s (record k { cancelled = true })) { told = v.told ++ written_reply (Cancellation s) }))
-    ⊎ LeavesAll v o v'
-Happens v (ChangeCapacity n) o v' =
-    ((t : Table) × (resized v.encoder n ≡ Ok t) × (o ≡ CapacitySet) × (v' ≡ record v { encoder = t; sent = v.sent ++ written_instruction (SetCapacity n) }))
-    ⊎ ((e : Refusal) × (resized v.encoder n ≡ Err e) × (o ≡ CapacityRefused e) × (v' ≡ v))
-    ⊎ LeavesAll v o v'
+Happens v (Acknowledge s) o v' = ((o ≡ Acknowledged) × (v' ≡ with_acknowledged v s)) ⊎ LeavesAll v o v'
+Happens v (Cancel s) o v' = ((o ≡ Cancelled) × (v' ≡ with_cancelled v s)) ⊎ LeavesAll v o v'
+Happens v (ChangeCapacity n) o v' = SetsCapacity v n o v' ⊎ RefusesCapacity v n o v' ⊎ LeavesAll v o v'
+
+-- an event outside a lawful session changes nothing
+pub record Skips (v : Session) (e : Event) (o : Outcome) (v' : Session) : Type 0 where
+  pub reason : ℕ
+  pub is_reason : skip_reason v e ≡ Some reason
+  pub answers : o ≡ Skipped reason
+  pub stays : v' ≡ v
 
 -- an event, what it answers, and the session behind it: skipped for the first reason that applies, or done
 abbrev pub Goes : Session → Event → Outcome → Session → Type 0
-Goes v e o v' =
-    ((reason : ℕ) × (skip_reason v e ≡ Some reason) × (o ≡ Skipped reason) × (v' ≡ v)) ⊎ ((skip_reason v e ≡ None) × Happens v e o v')
+Goes v e o v' = Skips v e o v' ⊎ ((skip_reason v e ≡ None) × Happens v e o v')
 
 -- names and values of an event's fields are bytes
 abbrev pub IsByteEvent : Event → Type 0
@@ -292,9 +439,15 @@ IsByteEvent (ChangeCapacity n) = Unit {0}
 -- what is kept has fewer than 2^63 bytes, as every vector has: what was sent, and each block
 pub record FitsMemory (v : Session) : Type 0 where
   pub sent_fits : length v.sent < 2 ^ 63
-  pub blocks_fit : (s : ℕ) → AllByRecursion (λ b. length b.bytes < 2 ^ 63) (kept_at v.streams s).blocks
+  pub blocks_fit : (s : ℕ) → AllByRecursion (λ b. length b.bytes < 2 ^ 63) (stream_at v.streams s).blocks
+
+-- an event of a run: names and values are bytes, and what is kept behind it fits memory
+pub record Passes (v : Session) (e : Event) (o : Outcome) (v' : Session) : Type 0 where
+  pub has_bytes : IsByteEvent e
+  pub goes : Goes v e o v'
+  pub fits : FitsMemory v'
 
 -- events in turn, each with its answer, lead from a session to another
 abbrev pub Runs : Session → List (Event × Outcome) → Session → Type 0
 Runs v [] v' = v ≡ v'
-Runs v (p ∷ ps) v' = (m : Session) × IsByteEvent p.0 × Goes v p.0 p.1 m × FitsMemory m × Runs m ps v'
+Runs v (p ∷ ps) v' = (next : Session) × Passes v p.0 p.1 next × Runs next ps v'

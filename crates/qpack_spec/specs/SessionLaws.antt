@@ -2,7 +2,7 @@
 use Rattle.std.specs.Prelude.{◌≡◌}
 use Rattle.qpack_spec.specs.Session.{Session, Event, Outcome, NoMemory, Goes}
 
--- every event has an answer at every session, without a refusal for memory: so what is promised of all answers is no empty
--- promise
+-- every event has an answer at every session, without a refusal for memory: so what is promised of all answers is no
+-- empty promise
 abbrev pub EventsHaveAnswers : Type 0
 EventsHaveAnswers = (v : Session) (e : Event) → (o : Outcome) × (v' : Session) × Goes v e o v' × (o ≡ NoMemory → ⊥)

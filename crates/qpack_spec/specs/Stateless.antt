@@ -1,11 +1,14 @@
--- Field sections that name no entry: what is written with no table at hand, and read so (RFC 9204, sections 2.1 and 4.5).
-use Rattle.std.specs.Prelude.{◌≡◌, ℕ, zero, suc, ◌+◌, ◌-◌, ◌^◌, min, false, if◌then◌else◌, nat_lt, List, [], ◌∷◌, length, map, Option, None, Some, Result, Ok, Err}
+-- Field sections that name no entry: what is written with no table at hand, and read so (RFC 9204, sections 2.1 and
+-- 4.5).
+use Rattle.std.specs.Prelude.{◌≡◌, ℕ, zero, suc, ◌+◌, ◌-◌, ◌^◌, min, false, if◌then◌else◌, nat_lt, List, [], ◌∷◌}
+use Rattle.std.specs.Prelude.{length, map, Option, None, Some, Result, Ok, Err}
 use Rattle.std.specs.List.{AllByRecursion}
 use Rattle.qpack_spec.specs.Bytes.{◌>>=◌}
 use Rattle.qpack_spec.specs.Field.{Field, field_size}
 use Rattle.qpack_spec.specs.StaticTable.{static_place, static_name_place}
 use Rattle.qpack_spec.specs.Form.{FormFault, form_at}
-use Rattle.qpack_spec.specs.Line.{Line, IndexedStatic, IndexedDynamic, IndexedPostBase, NamedStatic, NamedDynamic, NamedPostBase, Literal, line_form}
+use Rattle.qpack_spec.specs.Line.{Line, IndexedStatic, IndexedDynamic, IndexedPostBase, NamedStatic, NamedDynamic}
+use Rattle.qpack_spec.specs.Line.{NamedPostBase, Literal, line_form}
 use Rattle.qpack_spec.specs.Prefix.{prefix_at}
 use Rattle.qpack_spec.specs.Reading.{Fault, BadForm, static_field, valued, Block}
 use Rattle.qpack_spec.specs.BlockReading.{written_block}
@@ -29,7 +32,8 @@ stateless_line f = line_alone f (static_place f)
 
 -- the block of fields where no entry is at hand: nothing is required
 abbrev pub stateless_block : List Field → Block
-stateless_block fs = record { prefix = record { count = 0; sign = false; delta = 0 }; lines = map (λ f. stateless_line f) fs }
+stateless_block fs =
+    record { prefix = record { count = 0; sign = false; delta = 0 }; lines = map (λ f. stateless_line f) fs }
 
 -- why a section can't be read alone: its bytes or a static index, a line that names an entry, or a sum of sizes that
 -- passes the limit
@@ -67,8 +71,8 @@ abbrev pub within_limit : ℕ → ℕ → Field → Result Field StatelessFault
 within_limit limit sum f =
     if nat_lt limit (held_size (sum + field_size f)) then Err (TooLong (held_size (sum + field_size f))) else Ok f
 
--- the fields of the lines in turn, in so many steps at most; a post-base line, whose first bits are 000, is refused by its
--- first byte alone
+-- the fields of the lines in turn, in so many steps at most; a post-base line, whose first bits are 000, is refused by
+-- its first byte alone
 unfoldable pub stateless_at : ℕ → ℕ → ℕ → List ℕ → Result (List Field) StatelessFault
 stateless_at steps limit sum [] = Ok []
 stateless_at zero limit sum (b ∷ bytes) = Ok []
@@ -85,12 +89,14 @@ stateless_reading limit bytes = or_bad_bytes (prefix_at bytes) >>= λ p. statele
 
 -- without a table, the rule writes just these lines
 abbrev pub RuleWithoutTable : Type 0
-RuleWithoutTable = (fs : List Field) → block_of (empty_table 0 None 0) (rule (empty_table 0 None 0) fs) ≡ stateless_block fs
+RuleWithoutTable =
+    (fs : List Field) → block_of (empty_table 0 None 0) (rule (empty_table 0 None 0) fs) ≡ stateless_block fs
 
 -- the fields themselves, or the sum at the first one that passes the limit
 abbrev pub up_to_limit : ℕ → ℕ → List Field → Result (List Field) StatelessFault
 up_to_limit limit sum [] = Ok []
-up_to_limit limit sum (f ∷ fs) = within_limit limit sum f >>= λ g. up_to_limit limit (sum + field_size g) fs >>= λ gs. Ok (g ∷ gs)
+up_to_limit limit sum (f ∷ fs) =
+    within_limit limit sum f >>= λ g. up_to_limit limit (sum + field_size g) fs >>= λ gs. Ok (g ∷ gs)
 
 -- what is written alone is read alone as the fields, up to the limit
 abbrev pub StatelessPairAgrees : Type 0

@@ -1,13 +1,17 @@
--- What a field section means where no table is at hand, up to a limit on the sum of sizes (RFC 9204, sections 2.2.1, 3.2.1
--- and 4.5): its prefix and its lines, or the first fault in reading order.
-use Rattle.std.specs.Prelude.{◌≡◌, ℕ, ◌+◌, ◌<◌, ◌≤◌, ◌↔◌, List, ◌∷◌, ◌++◌, Result, Ok, Err}
+-- What a field section means where no table is at hand, up to a limit on the sum of sizes (RFC 9204, sections 2.2.1,
+-- 3.2.1 and 4.5): its prefix and its lines, or the first fault in reading order.
+use Rattle.std.specs.Prelude.{◌≡◌, ℕ, ◌+◌, ◌<◌, ◌≤◌, ◌↔◌, Bool, false, List, [], ◌∷◌, ◌++◌, Option, Result, Ok, Err}
 use Rattle.qpack_spec.specs.Field.{Field, field_size, total_size}
 use Rattle.qpack_spec.specs.Form.{FormFault, form_at}
 use Rattle.qpack_spec.specs.Line.{Line, line_form, SpellsLine}
 use Rattle.qpack_spec.specs.Prefix.{Prefix, SpellsPrefix, prefix_at}
 use Rattle.qpack_spec.specs.Stream.{Joined}
-use Rattle.qpack_spec.specs.Reading.{BadForm}
-use Rattle.qpack_spec.specs.Stateless.{StatelessFault, BadSection, NamesEntry, TooLong, held_size, field_alone, stateless_reading}
+use Rattle.qpack_spec.specs.Window.{Window, agreed_maximum}
+use Rattle.qpack_spec.specs.Reading.{Fault, BadForm, BadPrefix, BelowWindow, AboveWindow, BehindBase, NotStatic}
+use Rattle.qpack_spec.specs.Reading.{Reading, Fields, Missing, Faulty}
+use Rattle.qpack_spec.specs.BlockReading.{reading_of_bytes}
+use Rattle.qpack_spec.specs.Stateless.{StatelessFault, BadSection, NamesEntry, TooLong, held_size, field_alone}
+use Rattle.qpack_spec.specs.Stateless.{stateless_reading, up_to_limit}
 
 -- the bytes are a line that means the field alone
 abbrev pub SpellsFieldAlone : List ℕ → Field → Type 0
@@ -23,14 +27,17 @@ pub record MeansAlone (limit : ℕ) (bytes : List ℕ) (fields : List Field) : T
   pub joined : Joined SpellsFieldAlone lines fields
   pub within : held_size (total_size fields) ≤ limit
 
--- why the next line gives no field, the sizes so far having this sum: its first byte says that it is a post-base line, its
--- bytes can't be read, it means nothing alone, or its field passes the limit
+-- why the next line gives no field, the sizes so far having this sum: its first byte says that it is a post-base line,
+-- its bytes can't be read, it means nothing alone, or its field passes the limit
 pub data StopsLine (limit sum first : ℕ) (more : List ℕ) (e : StatelessFault) : Type 0 where
   post_base : first < 32 → e ≡ NamesEntry → StopsLine limit sum first more e
-  in_bytes : 32 ≤ first → (fault : FormFault) → form_at line_form (first ∷ more) ≡ Err fault → e ≡ BadSection (BadForm fault) → StopsLine limit sum first more e
-  in_line : 32 ≤ first → (text rest : List ℕ) (l : Line) → first ∷ more ≡ text ++ rest → SpellsLine text l → field_alone l ≡ Err e → StopsLine limit sum first more e
+  in_bytes : 32 ≤ first → (fault : FormFault) → form_at line_form (first ∷ more) ≡ Err fault
+      → e ≡ BadSection (BadForm fault) → StopsLine limit sum first more e
+  in_line : 32 ≤ first → (text rest : List ℕ) (l : Line) → first ∷ more ≡ text ++ rest → SpellsLine text l
+      → field_alone l ≡ Err e → StopsLine limit sum first more e
   past_limit : (text rest : List ℕ) (f : Field) → first ∷ more ≡ text ++ rest → SpellsFieldAlone text f
-      → limit < held_size (sum + field_size f) → e ≡ TooLong (held_size (sum + field_size f)) → StopsLine limit sum first more e
+      → limit < held_size (sum + field_size f) → e ≡ TooLong (held_size (sum + field_size f))
+      → StopsLine limit sum first more e
 
 -- behind lines that mean fields, within the limit, the next line gives none
 pub record StopsBehind (limit sum : ℕ) (lines : List ℕ) (e : StatelessFault) : Type 0 where
@@ -45,8 +52,10 @@ pub record StopsBehind (limit sum : ℕ) (lines : List ℕ) (e : StatelessFault)
 
 -- why a section means nothing: its prefix can't be read, or a line stops it
 pub data StopsAlone (limit : ℕ) (bytes : List ℕ) (e : StatelessFault) : Type 0 where
-  in_prefix : (fault : FormFault) → prefix_at bytes ≡ Err fault → e ≡ BadSection (BadForm fault) → StopsAlone limit bytes e
-  in_lines : (head lines : List ℕ) (prefix : Prefix) → bytes ≡ head ++ lines → SpellsPrefix head prefix → StopsBehind limit 0 lines e → StopsAlone limit bytes e
+  in_prefix : (fault : FormFault) → prefix_at bytes ≡ Err fault → e ≡ BadSection (BadForm fault)
+      → StopsAlone limit bytes e
+  in_lines : (head lines : List ℕ) (prefix : Prefix) → bytes ≡ head ++ lines → SpellsPrefix head prefix
+      → StopsBehind limit 0 lines e → StopsAlone limit bytes e
 
 -- what a section gives: its fields, or the first fault
 abbrev pub GivesAlone : ℕ → List ℕ → Result (List Field) StatelessFault → Type 0
@@ -56,4 +65,38 @@ GivesAlone limit bytes (Err e) = StopsAlone limit bytes e
 -- reading from left to right gives exactly that
 abbrev pub ReadingAloneIsMeaning : Type 0
 ReadingAloneIsMeaning =
-    (limit : ℕ) (bytes : List ℕ) (r : Result (List Field) StatelessFault) → (stateless_reading limit bytes ≡ r) ↔ GivesAlone limit bytes r
+    (limit : ℕ) (bytes : List ℕ) (r : Result (List Field) StatelessFault)
+    → (stateless_reading limit bytes ≡ r) ↔ GivesAlone limit bytes r
+
+-- ---- the same under an empty table
+
+-- the window of an empty table of capacity 0
+abbrev pub no_table : Option ℕ → Window
+no_table agreed = record { capacity = 0; agreed = agreed; dropped = 0; live = [] }
+
+-- the fault under such a table where a line is refused alone because it names an entry: no entry is there; or the bytes
+-- of a post-base line can't be read, which is refused alone by its first byte
+abbrev pub IsNoEntry : Fault → Type 0
+IsNoEntry (BelowWindow index) = Unit {0}
+IsNoEntry (BehindBase index) = Unit {0}
+IsNoEntry (BadForm fault) = Unit {0}
+IsNoEntry (BadPrefix fault) = ⊥
+IsNoEntry (AboveWindow place) = ⊥
+IsNoEntry (NotStatic index) = ⊥
+
+-- what is read alone, with what is read under an empty table of capacity 0: the same fields, of which none requires an
+-- entry; the same fault; a fault for a line that names an entry. Past the limit fields or a fault may stand there
+abbrev pub AgreesWithoutTable : Result (List Field) StatelessFault → Reading → Type 0
+AgreesWithoutTable (Ok fs) r = r ≡ Fields fs false
+AgreesWithoutTable (Err (BadSection e)) r = r ≡ Faulty e
+AgreesWithoutTable (Err NamesEntry) r = (e : Fault) × (r ≡ Faulty e) × IsNoEntry e
+AgreesWithoutTable (Err (TooLong sum)) r = (required : ℕ) → r ≡ Missing required → ⊥
+
+-- reading alone is reading under an empty table of capacity 0, up to the limit; and where that reads fields, they are
+-- read alone, up to the limit. A prefix is refused by neither for what it says
+abbrev pub StatelessIsWithoutTable : Type 0
+StatelessIsWithoutTable =
+    (agreed : Option ℕ) → agreed_maximum agreed 0 ≡ 0 → (limit : ℕ) (bytes : List ℕ)
+    → AgreesWithoutTable (stateless_reading limit bytes) (reading_of_bytes (no_table agreed) bytes)
+    × ((fs : List Field) (is_dynamic : Bool) → reading_of_bytes (no_table agreed) bytes ≡ Fields fs is_dynamic
+    → (is_dynamic ≡ false) × (stateless_reading limit bytes ≡ up_to_limit limit 0 fs))

@@ -1,7 +1,8 @@
 -- What looking into the static table relies on, as statements; the crate's law functions promise them.
 use Rattle.std.specs.Prelude.{◌≡◌, ℕ, List, length, MatchOption}
 use Rattle.qpack_spec.specs.Field.{Field}
-use Rattle.qpack_spec.specs.StaticTable.{static_table, IsStaticAt, IsLeastStatic, NoStatic, static_place, static_name_place}
+use Rattle.qpack_spec.specs.StaticTable.{static_table, IsStaticAt, IsLeastStatic, NoStatic, static_place}
+use Rattle.qpack_spec.specs.StaticTable.{static_name_place}
 
 -- the table has 99 fields
 abbrev pub StaticTableHas99 : Type 0
@@ -18,4 +19,5 @@ StaticPlaceIsLeast = (f : Field) → MatchOption (static_place f) (NoStatic (λ 
 -- looking for a name finds the least index of a field with it, or there is none
 abbrev pub StaticNamePlaceIsLeast : Type 0
 StaticNamePlaceIsLeast =
-    (name : List ℕ) → MatchOption (static_name_place name) (NoStatic (λ g. g.name ≡ name)) (IsLeastStatic (λ g. g.name ≡ name))
+    (name : List ℕ) → MatchOption (static_name_place name) (NoStatic (λ g. g.name ≡ name))
+    (IsLeastStatic (λ g. g.name ≡ name))

@@ -1,24 +1,28 @@
--- The lines of a byte list: a stream of instructions that comes in pieces (RFC 9204, sections 4.2 to 4.4), or a block's.
+-- The lines of a byte list: a stream of instructions that comes in pieces (RFC 9204, sections 4.2 to 4.4), or a
+-- block's.
 use Rattle.std.specs.Prelude.{◌≡◌, ℕ, List, [], ◌∷◌, ◌++◌, length}
 
 -- the bytes are spellings of the lines, one behind the other
 abbrev pub Joined : {L : Type 0} → (List ℕ → L → Type 0) → List ℕ → List L → Type 0
 Joined Spells bytes [] = bytes ≡ []
-Joined Spells bytes (l ∷ ls) = (text : List ℕ) × (more : List ℕ) × (bytes ≡ text ++ more) × Spells text l × Joined Spells more ls
+Joined Spells bytes (l ∷ ls) =
+    (text : List ℕ) × (more : List ℕ) × (bytes ≡ text ++ more) × Spells text l × Joined Spells more ls
 
 -- no front of the rest is a spelling
 abbrev pub IsCutOff : {L : Type 0} → (List ℕ → L → Type 0) → List ℕ → Type 0
 IsCutOff {L} Spells rest = (text more : List ℕ) (l : L) → rest ≡ text ++ more → Spells text l → ⊥
 
 -- the lines of a byte list, and the rest behind them, of which no front is a line
-pub record Holds (L : Type 0) (Spells : List ℕ → L → Type 0) (bytes : List ℕ) (lines : List L) (rest : List ℕ) : Type 0 where
+pub record Holds (L : Type 0) (Spells : List ℕ → L
+    → Type 0) (bytes : List ℕ) (lines : List L) (rest : List ℕ) : Type 0 where
   pub front : List ℕ
   pub cut : bytes ≡ front ++ rest
   pub joined : Joined Spells front lines
   pub cut_off : IsCutOff Spells rest
 
 -- a stream of which the first lines were taken, up to a place, and the others are under way
-pub record Carried (L : Type 0) (Spells : List ℕ → L → Type 0) (bytes : List ℕ) (place : ℕ) (taken flying : List L) : Type 0 where
+pub record Carried (L : Type 0) (Spells : List ℕ → L
+    → Type 0) (bytes : List ℕ) (place : ℕ) (taken flying : List L) : Type 0 where
   pub front : List ℕ
   pub rest : List ℕ
   pub cut : bytes ≡ front ++ rest

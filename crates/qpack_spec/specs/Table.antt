@@ -1,12 +1,16 @@
 -- A dynamic table with what its encoder tracks (RFC 9204, sections 2.1 and 3.2).
-use Rattle.std.specs.Prelude.{ℕ, suc, ◌+◌, ◌-◌, ◌^◌, min, Bool, true, false, not, if◌then◌else◌, ◌&&◌, ◌||◌, nat_lt, nat_le, nat_eq, List, [], ◌∷◌, ◌++◌, length, take, drop, map, filter, Option, None, Some, slice_get, Result, Ok, Err}
+use Rattle.std.specs.Prelude.{ℕ, suc, ◌+◌, ◌-◌, ◌^◌, min, Bool, true, false, not, if◌then◌else◌, ◌&&◌, ◌||◌, nat_lt}
+use Rattle.std.specs.Prelude.{nat_le, nat_eq, List, [], ◌∷◌, ◌++◌, length, take, drop, map, filter, Option, None, Some}
+use Rattle.std.specs.Prelude.{slice_get, Result, Ok, Err}
 use Rattle.std.specs.Option.{option_map}
 use Rattle.std.specs.List.{list_any}
 use Rattle.qpack_spec.specs.Bytes.{◌>>=◌}
 use Rattle.qpack_spec.specs.Field.{Field, field_size}
 use Rattle.qpack_spec.specs.StaticTable.{static_table}
-use Rattle.qpack_spec.specs.Instruction.{Instruction, InsertStaticName, InsertDynamicName, InsertLiteralName, Duplicate, SetCapacity, Reply, Acknowledgment, Cancellation, Increment}
-use Rattle.qpack_spec.specs.Window.{Window, greatest_capacity, excess, recent, with_value, Refusal, NoEntry, NoStaticField, DoesNotFit, AboveMaximum, UnknownStream, or_refused}
+use Rattle.qpack_spec.specs.Instruction.{Instruction, InsertStaticName, InsertDynamicName, InsertLiteralName, Duplicate}
+use Rattle.qpack_spec.specs.Instruction.{SetCapacity, Reply, Acknowledgment, Cancellation, Increment}
+use Rattle.qpack_spec.specs.Window.{Window, greatest_capacity, excess, recent, with_value, Refusal, NoEntry}
+use Rattle.qpack_spec.specs.Window.{NoStaticField, DoesNotFit, AboveMaximum, UnknownStream, or_refused}
 
 -- a live entry, and whether an encoder sent it
 pub record Entry : Type 0 where
@@ -35,7 +39,17 @@ pub record Table : Type 0 where
 -- a table as it begins
 abbrev pub empty_table : ℕ → Option ℕ → ℕ → Table
 empty_table capacity agreed limit =
-    record { capacity = capacity; agreed = agreed; limit = limit; dropped = 0; live = []; known = 0; named = []; opened = []; waiting = [] }
+    record {
+      capacity = capacity;
+      agreed = agreed;
+      limit = limit;
+      dropped = 0;
+      live = [];
+      known = 0;
+      named = [];
+      opened = [];
+      waiting = [];
+    }
 
 -- an entry that an encoder's handle inserted
 abbrev pub sent_entry : Field → Entry
@@ -92,7 +106,8 @@ naming t a = record t { named = track t.named a }
 -- an entry may not go while the block in progress or an open block names it, or while it was sent and not yet known to
 -- be received (section 2.1.1)
 unfoldable pub is_held : Table → ℕ → Bool → Bool
-is_held t a sent = has_number a t.named || (list_any (λ b. has_number a b.entries) t.opened || (sent && nat_lt t.known a))
+is_held t a sent =
+    has_number a t.named || (list_any (λ b. has_number a b.entries) t.opened || (sent && nat_lt t.known a))
 
 -- none of these entries, the first of which has this absolute index, is held
 unfoldable pub none_held : Table → ℕ → List Entry → Bool
@@ -139,8 +154,8 @@ last_place p (x ∷ xs) = later (last_place p xs) (p x)
 unfoldable pub newest : Table → (Field → Bool) → Option ℕ
 newest t p = option_map (λ i. t.dropped + i + 1) (last_place p (fields_in t.live))
 
--- a field is put: passed over at capacity 0, behind the 2^62th insertion and where a held entry would have to go, refused
--- if it is larger than the capacity (section 3.2.2)
+-- a field is put: passed over at capacity 0, behind the 2^62th insertion and where a held entry would have to go,
+-- refused if it is larger than the capacity (section 3.2.2)
 unfoldable pub put : Table → Field → Result Table Refusal
 put t f =
     if nat_eq t.capacity 0 then Ok t
@@ -153,7 +168,8 @@ unfoldable pub resized : Table → ℕ → Result Table Refusal
 resized t n =
     let gone = excess n (fields_in t.live) in
     if nat_le n (greatest_capacity t.agreed)
-    then (if can_drop t gone then Ok (record t { capacity = n; dropped = t.dropped + gone; live = drop gone t.live }) else Err DoesNotFit)
+    then (if can_drop t gone then Ok (record t { capacity = n; dropped = t.dropped + gone; live = drop gone t.live })
+    else Err DoesNotFit)
     else Err AboveMaximum
 
 -- what an encoder instruction makes of a decoder's table (section 4.3)
@@ -198,11 +214,13 @@ without_stream s bs = filter (λ b. not (nat_eq b.stream s)) bs
 -- (section 4.4.3)
 unfoldable pub raised : Table → ℕ → Table
 raised t n =
-    let known = min (t.known + n) (2 ^ 64 - 1) in record t { known = known; waiting = filter (λ r. nat_lt known r) t.waiting }
+    let known =
+    min (t.known + n) (2 ^ 64 - 1) in record t { known = known; waiting = filter (λ r. nat_lt known r) t.waiting }
 
--- what a decoder instruction makes of the encoder's table (section 4.4): an acknowledgment releases the oldest open block
--- of its stream, a cancellation every one (section 2.2.2.2)
+-- what a decoder instruction makes of the encoder's table (section 4.4): an acknowledgment releases the oldest open
+-- block of its stream, a cancellation every one (section 2.2.2.2)
 unfoldable pub heard : Table → Reply → Result Table Refusal
-heard t (Acknowledgment s) = or_refused (without_oldest s t.opened) (UnknownStream s) >>= λ bs. Ok (record t { opened = bs })
+heard t (Acknowledgment s) =
+    or_refused (without_oldest s t.opened) (UnknownStream s) >>= λ bs. Ok (record t { opened = bs })
 heard t (Cancellation s) = Ok (record t { opened = without_stream s t.opened })
 heard t (Increment n) = Ok (raised t n)

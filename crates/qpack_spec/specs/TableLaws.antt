@@ -1,4 +1,5 @@
--- What a table with marks does to the window that both ends share, as statements; the crate's law functions promise them.
+-- What a table with marks does to the window that both ends share, as statements; the crate's law functions promise
+-- them.
 use Rattle.std.specs.Prelude.{◌≡◌, ℕ, Ok}
 use Rattle.qpack_spec.specs.Bytes.{◌>>=◌}
 use Rattle.qpack_spec.specs.Instruction.{Instruction}
@@ -15,4 +16,5 @@ CapacitiesAreOfTheWindow = (t u : Table) (n : ℕ) → resized t n ≡ Ok u → 
 
 -- a decoder's table, at which nothing is held, goes as its window: taken alike and refused alike
 abbrev pub DecodersTableGoesAsItsWindow : Type 0
-DecodersTableGoesAsItsWindow = (w : Window) (i : Instruction) → applied (table_of w) i ≡ (apply w i >>= λ x. Ok (table_of x))
+DecodersTableGoesAsItsWindow =
+    (w : Window) (i : Instruction) → applied (table_of w) i ≡ (apply w i >>= λ x. Ok (table_of x))

@@ -1,8 +1,11 @@
 -- String literals with a prefix of n bits, n from 2 to 8: a flag, a length, and so many bytes, plain or coded
 -- (RFC 7541, section 5.2; RFC 9204, section 4.1.2).
-use Rattle.std.specs.Prelude.{◌≡◌, ◌≢◌, ◌<◌, ℕ, ◌+◌, ◌-◌, ◌*◌, ◌/◌, ◌%◌, ◌⊎◌, List, ◌++◌, length, take, drop, Result, Ok, Err, [], nat_lt, ◌==◌, if◌then◌else◌}
-use Rattle.qpack_spec.specs.Integer.{IntegerFault, Overflow, UnexpectedEnd, SpellsInteger, OverflowsInteger, integer_at, written_integer}
-use Rattle.qpack_spec.specs.Huffman.{HuffmanFault, bits_of_bytes, PayloadMeans, PayloadMeansNothing, text_of_bits, payload_of}
+use Rattle.std.specs.Prelude.{◌≡◌, ℕ, ◌+◌, ◌-◌, ◌*◌, ◌/◌, ◌%◌, ◌⊎◌, List, ◌++◌, length, take, drop, Result, Ok, Err}
+use Rattle.std.specs.Prelude.{[], ◌≢◌, ◌<◌, nat_lt, ◌==◌, if◌then◌else◌}
+use Rattle.qpack_spec.specs.Integer.{IntegerFault, Overflow, UnexpectedEnd, SpellsInteger, OverflowsInteger, integer_at}
+use Rattle.qpack_spec.specs.Integer.{written_integer}
+use Rattle.qpack_spec.specs.Huffman.{HuffmanFault, bits_of_bytes, PayloadMeans, PayloadMeansNothing, text_of_bits}
+use Rattle.qpack_spec.specs.Huffman.{payload_of}
 
 -- why no string can be read
 pub data StringFault : Type 0 where
@@ -29,7 +32,8 @@ pub record HoldsPayload (n : ℕ) (text : List ℕ) : Type 0 where
 -- the bytes are a literal of the value, plain or coded
 abbrev pub SpellsString : ℕ → List ℕ → ℕ → List ℕ → Type 0
 SpellsString n text flags value =
-    IsLiteral n text flags 0 value ⊎ ((payload : List ℕ) × IsLiteral n text flags 1 payload × PayloadMeans payload value)
+    IsLiteral n text flags 0 value ⊎ ((payload : List ℕ) × IsLiteral n text flags 1 payload
+    × PayloadMeans payload value)
 
 -- the bytes are refused: the length overflows, or a whole coded payload means nothing
 abbrev pub RefusesString : ℕ → List ℕ → StringFault → Type 0
@@ -42,7 +46,8 @@ RefusesString n text (BadHuffman fault) =
 abbrev pub TruncatesString : ℕ → List ℕ → Type 0
 TruncatesString n bytes =
     (text rest : List ℕ) → bytes ≡ text ++ rest
-    → ((flags : ℕ) (value : List ℕ) → SpellsString n text flags value → ⊥) × ((fault : StringFault) → RefusesString n text fault → ⊥)
+    → ((flags : ℕ) (value : List ℕ) → SpellsString n text flags value → ⊥)
+    × ((fault : StringFault) → RefusesString n text fault → ⊥)
 
 -- ---- the same, as reading from left to right
 
@@ -55,7 +60,8 @@ value_before flags rest (Err fault) = Err (BadHuffman fault)
 abbrev pub payload_at : ℕ → ℕ → List ℕ → Result (ℕ × List ℕ × List ℕ) StringFault
 payload_at flags len bytes =
     if nat_lt (length bytes) len then Err EndsEarly
-    else value_before (flags / 2) (drop len bytes) (if flags % 2 == 0 then Ok (take len bytes) else text_of_bits (bits_of_bytes (take len bytes)))
+    else value_before (flags / 2) (drop len bytes)
+    (if flags % 2 == 0 then Ok (take len bytes) else text_of_bits (bits_of_bytes (take len bytes)))
 
 -- the string whose length was read so
 abbrev pub string_behind : Result (ℕ × ℕ × List ℕ) IntegerFault → Result (ℕ × List ℕ × List ℕ) StringFault

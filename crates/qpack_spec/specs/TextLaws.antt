@@ -3,16 +3,20 @@ use Rattle.std.specs.Prelude.{◌≡◌, ℕ, ◌+◌, ◌-◌, ◌^◌, ◌<◌
 use Rattle.qpack_spec.specs.Bytes.{Begins}
 use Rattle.qpack_spec.specs.Integer.{full}
 use Rattle.qpack_spec.specs.Huffman.{HuffmanFault, AreBytes, payload_of}
-use Rattle.qpack_spec.specs.Text.{StringFault, EndsEarly, LengthOverflows, BadHuffman, SpellsString, RefusesString, TruncatesString, string_at, written_string}
+use Rattle.qpack_spec.specs.Text.{StringFault, EndsEarly, LengthOverflows, BadHuffman, SpellsString, RefusesString}
+use Rattle.qpack_spec.specs.Text.{TruncatesString, string_at, written_string}
 
 -- one literal is of one value, under one list of flags
 abbrev pub StringsHaveOneValue : Type 0
 StringsHaveOneValue =
-    (n : ℕ) (text : List ℕ) (f g : ℕ) (v w : List ℕ) → SpellsString n text f v → SpellsString n text g w → (f ≡ g) × (v ≡ w)
+    (n : ℕ) (text : List ℕ) (f g : ℕ) (v w : List ℕ) → SpellsString n text f v → SpellsString n text g w
+    → (f ≡ g) × (v ≡ w)
 
 -- a literal or a refusal
 abbrev pub EndsString : ℕ → List ℕ → Type 0
-EndsString n text = ((flags : ℕ) × (value : List ℕ) × SpellsString n text flags value) ⊎ ((fault : StringFault) × RefusesString n text fault)
+EndsString n text =
+    ((flags : ℕ) × (value : List ℕ) × SpellsString n text flags value)
+    ⊎ ((fault : StringFault) × RefusesString n text fault)
 
 -- no literal or refusal begins another
 abbrev pub NoStringBeginsAnother : Type 0
@@ -30,7 +34,8 @@ pub record IsWritableString (n flags : ℕ) (value : List ℕ) : Type 0 where
 -- the written string is a literal of its value
 abbrev pub WrittenStringsAreLiterals : Type 0
 WrittenStringsAreLiterals =
-    (n flags : ℕ) (value : List ℕ) → IsWritableString n flags value → SpellsString n (written_string n flags value) flags value
+    (n flags : ℕ) (value : List ℕ) → IsWritableString n flags value
+    → SpellsString n (written_string n flags value) flags value
 
 -- and is read back whole, whatever follows
 abbrev pub WrittenStringsAreReadBack : Type 0
@@ -43,14 +48,16 @@ WrittenStringsAreReadBack =
 abbrev pub ReadingFindsStrings : Type 0
 ReadingFindsStrings =
     (n : ℕ) (bytes : List ℕ) (flags : ℕ) (value rest : List ℕ)
-    → (string_at n bytes ≡ Ok (flags, value, rest)) ↔ ((text : List ℕ) × (bytes ≡ text ++ rest) × SpellsString n text flags value)
+    → (string_at n bytes ≡ Ok (flags, value, rest)) ↔ ((text : List ℕ) × (bytes ≡ text ++ rest)
+    × SpellsString n text flags value)
 
 -- each refusal exactly where it stands
 abbrev pub ReadingFindsRefusals : Type 0
 ReadingFindsRefusals =
     (n : ℕ) (bytes : List ℕ)
     → ((string_at n bytes ≡ Err LengthOverflows) ↔ Begins (λ text. RefusesString n text LengthOverflows) bytes)
-    × ((fault : HuffmanFault) → (string_at n bytes ≡ Err (BadHuffman fault)) ↔ Begins (λ text. RefusesString n text (BadHuffman fault)) bytes)
+    × ((fault : HuffmanFault) → (string_at n bytes ≡ Err (BadHuffman fault)) ↔ Begins
+    (λ text. RefusesString n text (BadHuffman fault)) bytes)
 
 -- and the end exactly where no front is one or the other
 abbrev pub ReadingFindsTruncation : Type 0

@@ -1,9 +1,11 @@
 -- The part of a dynamic table that both ends share, and what an instruction does to it (RFC 9204, section 3.2).
-use Rattle.std.specs.Prelude.{ℕ, suc, ◌+◌, ◌-◌, ◌^◌, min, if◌then◌else◌, nat_lt, nat_le, nat_eq, List, [], ◌∷◌, ◌++◌, length, drop, Option, None, Some, slice_get, Result, Ok, Err}
+use Rattle.std.specs.Prelude.{ℕ, suc, ◌+◌, ◌-◌, ◌^◌, min, if◌then◌else◌, nat_lt, nat_le, nat_eq, List, [], ◌∷◌, ◌++◌}
+use Rattle.std.specs.Prelude.{length, drop, Option, None, Some, slice_get, Result, Ok, Err}
 use Rattle.qpack_spec.specs.Bytes.{◌>>=◌}
 use Rattle.qpack_spec.specs.Field.{Field, field_size, total_size}
 use Rattle.qpack_spec.specs.StaticTable.{static_table}
-use Rattle.qpack_spec.specs.Instruction.{Instruction, InsertStaticName, InsertDynamicName, InsertLiteralName, Duplicate, SetCapacity}
+use Rattle.qpack_spec.specs.Instruction.{Instruction, InsertStaticName, InsertDynamicName, InsertLiteralName, Duplicate}
+use Rattle.qpack_spec.specs.Instruction.{SetCapacity}
 
 -- capacity, agreed maximum, how many entries were dropped, and the live ones, the oldest first. Absolute indexes begin
 -- at 1: the live ones are dropped + 1 to dropped + length live (section 3.2.4, which begins at 0)

@@ -3,7 +3,8 @@ use Rattle.std.specs.Prelude.{◌≡◌, ℕ, ◌*◌, ◌≤◌, ◌↔◌, Lis
 use Rattle.std.specs.List.{AllByRecursion}
 use Rattle.qpack_spec.specs.Bytes.{◌>>=◌}
 use Rattle.qpack_spec.specs.Field.{Field, total_size}
-use Rattle.qpack_spec.specs.Instruction.{Instruction, InsertStaticName, InsertDynamicName, InsertLiteralName, Duplicate, SetCapacity}
+use Rattle.qpack_spec.specs.Instruction.{Instruction, InsertStaticName, InsertDynamicName, InsertLiteralName, Duplicate}
+use Rattle.qpack_spec.specs.Instruction.{SetCapacity}
 use Rattle.qpack_spec.specs.Window.{Window, excess, Refusal, apply}
 use Rattle.qpack_spec.specs.History.{History, window_of, begin, Leads}
 
@@ -17,7 +18,8 @@ LiveEntriesAreFew =
 abbrev pub ExcessIsLeast : Type 0
 ExcessIsLeast =
     (capacity : ℕ) (fs : List Field)
-    → (total_size (drop (excess capacity fs) fs) ≤ capacity) × ((k : ℕ) → total_size (drop k fs) ≤ capacity → excess capacity fs ≤ k)
+    → (total_size (drop (excess capacity fs) fs) ≤ capacity) × ((k : ℕ) → total_size (drop k fs) ≤ capacity
+    → excess capacity fs ≤ k)
 
 -- a front of a list of instructions, and where it leads
 pub record FrontLeads (from : History) (is : List Instruction) (m : History) : Type 0 where
@@ -64,4 +66,5 @@ all_taken w (i ∷ is) = apply w i >>= λ x. all_taken x is
 abbrev pub WindowsFollowHistories : Type 0
 WindowsFollowHistories =
     (capacity : ℕ) (agreed : Option ℕ) (is : List Instruction) (w : Window)
-    → (all_taken (window_of (begin capacity agreed)) is ≡ Ok w) ↔ ((h : History) × Leads (begin capacity agreed) is h × (w ≡ window_of h))
+    → (all_taken (window_of (begin capacity agreed)) is ≡ Ok w) ↔ ((h : History) × Leads (begin capacity agreed) is h
+    × (w ≡ window_of h))

@@ -8,8 +8,11 @@ use Rattle.qpack_spec.specs.Reading.{Block, reading}
 use Rattle.qpack_spec.specs.BlockReading.{reading_of_bytes, written_block}
 use Rattle.qpack_spec.specs.Field.{Field}
 use Rattle.qpack_spec.specs.Huffman.{AreBytes, payload_of}
-use Rattle.qpack_spec.specs.Line.{Line, IndexedStatic, IndexedDynamic, IndexedPostBase, NamedStatic, NamedDynamic, NamedPostBase, Literal, SpellsLine, written_line}
-use Rattle.qpack_spec.specs.Instruction.{Instruction, InsertStaticName, InsertDynamicName, InsertLiteralName, Duplicate, SetCapacity, Reply, Acknowledgment, Cancellation, Increment, SpellsInstruction, SpellsReply, written_instruction, written_reply}
+use Rattle.qpack_spec.specs.Line.{Line, IndexedStatic, IndexedDynamic, IndexedPostBase, NamedStatic, NamedDynamic}
+use Rattle.qpack_spec.specs.Line.{NamedPostBase, Literal, SpellsLine, written_line}
+use Rattle.qpack_spec.specs.Instruction.{Instruction, InsertStaticName, InsertDynamicName, InsertLiteralName, Duplicate}
+use Rattle.qpack_spec.specs.Instruction.{SetCapacity, Reply, Acknowledgment, Cancellation, Increment, SpellsInstruction}
+use Rattle.qpack_spec.specs.Instruction.{SpellsReply, written_instruction, written_reply}
 
 -- the numbers that are written are below 2^63; those of this layer end at 2^62
 abbrev pub IsSmall : ℕ → Type 0
@@ -86,7 +89,8 @@ WrittenLinesAreSpellings = (l : Line) → IsWritableLine l → SpellsLine (writt
 
 -- what is written of an encoder instruction is a spelling of it
 abbrev pub WrittenInstructionsAreSpellings : Type 0
-WrittenInstructionsAreSpellings = (i : Instruction) → IsWritableInstruction i → SpellsInstruction (written_instruction i) i
+WrittenInstructionsAreSpellings = (i : Instruction) → IsWritableInstruction i
+    → SpellsInstruction (written_instruction i) i
 
 -- what is written of a decoder instruction is a spelling of it
 abbrev pub WrittenRepliesAreSpellings : Type 0

@@ -1,6 +1,7 @@
 //! Laws of encoded field sections (RFC 9204, section 4.5).
 
-ghost use Rattle.qpack_spec.specs.BlockLaws.{ReadingFindsPrefixes, CountsHaveOneReading, CountsAreRead, ReadingLinesFindsFields};
+ghost use Rattle.qpack_spec.specs.BlockLaws.{ReadingFindsPrefixes, CountsHaveOneReading, CountsAreRead};
+ghost use Rattle.qpack_spec.specs.BlockLaws.{ReadingLinesFindsFields};
 ghost use Rattle.qpack_spec.specs.WrittenLaws.{WrittenPrefixesAreSpellings, WrittenBlocksAreRead};
 
 /// An encoded count stands for one required insert count at most, and that is the one that is computed.

@@ -1,9 +1,11 @@
 //! Laws of the bytes of lines, instructions and replies (RFC 9204, sections 4.3 to 4.5).
 
-ghost use Rattle.qpack_spec.specs.FormLaws.{FormsHaveOneValue, NoFormBeginsAnother, ReadingFindsForms, ReadingFindsFormRefusals, ReadingFindsFormTruncation};
+ghost use Rattle.qpack_spec.specs.FormLaws.{FormsHaveOneValue, NoFormBeginsAnother, ReadingFindsForms};
+ghost use Rattle.qpack_spec.specs.FormLaws.{ReadingFindsFormRefusals, ReadingFindsFormTruncation};
 ghost use Rattle.qpack_spec.specs.Line.{line_form};
 ghost use Rattle.qpack_spec.specs.Instruction.{instruction_form, reply_form};
-ghost use Rattle.qpack_spec.specs.WrittenLaws.{WrittenLinesAreSpellings, WrittenInstructionsAreSpellings, WrittenRepliesAreSpellings};
+ghost use Rattle.qpack_spec.specs.WrittenLaws.{WrittenLinesAreSpellings, WrittenInstructionsAreSpellings};
+ghost use Rattle.qpack_spec.specs.WrittenLaws.{WrittenRepliesAreSpellings};
 
 /// One spelling is of one line, one encoder instruction, one decoder instruction.
 pub fn spellings_have_one_value()
@@ -12,7 +14,8 @@ pub fn spellings_have_one_value()
     ensures replies { FormsHaveOneValue reply_form }
 {}
 
-/// No spelling or refusal begins another, so where a line or an instruction ends is never in doubt, however a stream is cut.
+/// No spelling or refusal begins another, so where a line or an instruction ends is never in doubt, however a stream
+/// is cut.
 pub fn no_spelling_begins_another()
     ensures lines { NoFormBeginsAnother line_form }
     ensures instructions { NoFormBeginsAnother instruction_form }

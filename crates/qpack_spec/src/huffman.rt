@@ -1,6 +1,9 @@
 //! Laws of the Huffman code (RFC 7541, section 5.2 and Appendix B).
 
-ghost use Rattle.qpack_spec.specs.HuffmanLaws.{NoWordBeginsAnother, NoWordBeginsEos, PayloadsHaveOneText, TextsHaveOnePayload, WrittenPayloadsMeanTheirText, PayloadsMeanOrDont, PayloadsDontMeanBoth, PayloadsHaveOneFault, ReadingFindsTexts, ReadingFindsPayloadFaults};
+ghost use Rattle.qpack_spec.specs.HuffmanLaws.{NoWordBeginsAnother, NoWordBeginsEos, PayloadsHaveOneText};
+ghost use Rattle.qpack_spec.specs.HuffmanLaws.{TextsHaveOnePayload, WrittenPayloadsMeanTheirText, PayloadsMeanOrDont};
+ghost use Rattle.qpack_spec.specs.HuffmanLaws.{PayloadsDontMeanBoth, PayloadsHaveOneFault, ReadingFindsTexts};
+ghost use Rattle.qpack_spec.specs.HuffmanLaws.{ReadingFindsPayloadFaults};
 
 /// No word begins another, and EOS begins with none.
 pub fn no_word_begins_another()

@@ -1,6 +1,8 @@
 //! Laws of integers with a prefix (RFC 7541, section 5.1).
 
-ghost use Rattle.qpack_spec.specs.IntegerLaws.{IntegersHaveOneValue, NoIntegerBeginsAnother, WrittenIntegersAreShortest, WrittenIntegersAreReadBack, ReadingFindsSpellings, ReadingFindsFaults};
+ghost use Rattle.qpack_spec.specs.IntegerLaws.{IntegersHaveOneValue, NoIntegerBeginsAnother};
+ghost use Rattle.qpack_spec.specs.IntegerLaws.{WrittenIntegersAreShortest, WrittenIntegersAreReadBack};
+ghost use Rattle.qpack_spec.specs.IntegerLaws.{ReadingFindsSpellings, ReadingFindsFaults};
 
 /// One spelling is of one value.
 pub fn integers_have_one_value()

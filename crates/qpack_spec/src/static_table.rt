@@ -1,6 +1,7 @@
 //! Laws of the static table (RFC 9204, Appendix A).
 
-ghost use Rattle.qpack_spec.specs.StaticTableLaws.{StaticTableHas99, StaticFieldsDiffer, StaticPlaceIsLeast, StaticNamePlaceIsLeast};
+ghost use Rattle.qpack_spec.specs.StaticTableLaws.{StaticTableHas99, StaticFieldsDiffer, StaticPlaceIsLeast};
+ghost use Rattle.qpack_spec.specs.StaticTableLaws.{StaticNamePlaceIsLeast};
 
 /// The table has 99 fields.
 pub fn static_table_has_99()

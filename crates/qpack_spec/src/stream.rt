@@ -1,6 +1,7 @@
 //! Laws of the two instruction streams, however they are cut (RFC 9204, sections 4.2 to 4.4).
 
-ghost use Rattle.qpack_spec.specs.StreamLaws.{StreamsHaveOneReading, PiecesHoldFronts, PiecesAreNeverRefused};
+ghost use Rattle.qpack_spec.specs.StreamLaws.{EveryStreamHasAReading, StreamsHaveOneReading, PiecesHoldFronts};
+ghost use Rattle.qpack_spec.specs.StreamLaws.{PiecesAreNeverRefused};
 ghost use Rattle.qpack_spec.specs.Instruction.{instruction_form, reply_form};
 
 /// A byte list holds one list of instructions, and leaves one rest.
@@ -19,4 +20,10 @@ pub fn pieces_hold_fronts()
 pub fn pieces_are_never_refused()
     ensures instructions { PiecesAreNeverRefused instruction_form }
     ensures replies { PiecesAreNeverRefused reply_form }
+{}
+
+/// Every byte list holds one list of instructions, and leaves a rest that is truncated or refused.
+pub fn every_stream_has_a_reading()
+    ensures instructions { EveryStreamHasAReading instruction_form }
+    ensures replies { EveryStreamHasAReading reply_form }
 {}

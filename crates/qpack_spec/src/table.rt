@@ -1,6 +1,7 @@
 //! Laws of a dynamic table with what its encoder tracks (RFC 9204, sections 2.1 and 3.2).
 
-ghost use Rattle.qpack_spec.specs.TableLaws.{EntriesAreInsertions, CapacitiesAreOfTheWindow, DecodersTableGoesAsItsWindow};
+ghost use Rattle.qpack_spec.specs.TableLaws.{EntriesAreInsertions, CapacitiesAreOfTheWindow};
+ghost use Rattle.qpack_spec.specs.TableLaws.{DecodersTableGoesAsItsWindow};
 
 /// A table's insertions and capacities are those of its window, whatever its entries are marked as.
 pub fn tables_go_as_their_windows()

@@ -1,6 +1,8 @@
 //! Laws of string literals (RFC 7541, section 5.2).
 
-ghost use Rattle.qpack_spec.specs.TextLaws.{StringsHaveOneValue, NoStringBeginsAnother, WrittenStringsAreLiterals, WrittenStringsAreReadBack, ReadingFindsStrings, ReadingFindsRefusals, ReadingFindsTruncation};
+ghost use Rattle.qpack_spec.specs.TextLaws.{StringsHaveOneValue, NoStringBeginsAnother, WrittenStringsAreLiterals};
+ghost use Rattle.qpack_spec.specs.TextLaws.{WrittenStringsAreReadBack, ReadingFindsStrings, ReadingFindsRefusals};
+ghost use Rattle.qpack_spec.specs.TextLaws.{ReadingFindsTruncation};
 
 /// One literal is of one value.
 pub fn strings_have_one_value()

@@ -1,6 +1,7 @@
 //! Laws of the window of a dynamic table, which both ends share (RFC 9204, section 3.2).
 
-ghost use Rattle.qpack_spec.specs.WindowLaws.{LiveEntriesAreFew, ExcessIsLeast, DroppedIsGreatest, LiveIsLongestTail, WindowsFollowHistories};
+ghost use Rattle.qpack_spec.specs.WindowLaws.{LiveEntriesAreFew, ExcessIsLeast, DroppedIsGreatest, LiveIsLongestTail};
+ghost use Rattle.qpack_spec.specs.WindowLaws.{WindowsFollowHistories};
 
 /// Live entries number at most a 32nd of the capacity.
 pub fn live_entries_are_few()

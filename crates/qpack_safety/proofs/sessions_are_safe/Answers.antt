@@ -1,4 +1,4 @@
-use Rattle.qpack_safety.proofs.SessionSafely.{sessions_safe}
+use Rattle.qpack_safety.proofs.FourParts.{sessions_safe}
 use Rattle.qpack_safety.proofs.sessions_are_safe.Goals as goal
 
 pub returns : goal.returns

@@ -1,11 +1,11 @@
--- A session in bytes, and the world of values that it shows.
+-- A session in bytes refines a session of values: what the proof of the session theorem keeps. No contract names it.
 use Rattle.std.specs.Prelude.{◌≡◌, ℕ, ◌≤◌, List, [], ◌∷◌, ◌++◌, length}
 use Rattle.qpack_spec.specs.Instruction.{Instruction, Reply, SpellsInstruction, SpellsReply}
 use Rattle.qpack_spec.specs.Stream.{Joined, Carried}
 use Rattle.qpack_spec.specs.BlockReading.{written_block}
 use Rattle.qpack_spec.specs.Table.{table_of}
-use Rattle.qpack_spec.specs.World.{SentBlock, required_count, Stream, stream_at, World}
-use Rattle.qpack_spec.specs.Session.{KeptBlock, KeptStream, kept_at, Session}
+use Rattle.qpack_safety.specs.AbstractSession.{AbstractBlock, required_count, AbstractStream, AbstractSession}
+use Rattle.qpack_spec.specs.Session.{KeptBlock, KeptStream, stream_at, Session}
 use Rattle.qpack_spec.specs.WrittenLaws.{IsWritableBlock}
 
 -- two lists agree, element by element
@@ -28,28 +28,31 @@ pub record EndsAt (sent : List ℕ) (instructions : List Instruction) (place man
   pub joined : Joined SpellsInstruction front first
 
 -- a block in bytes is the written one
-pub record ShowsBlock (sent : List ℕ) (instructions : List Instruction) (k : KeptBlock) (b : SentBlock) : Type 0 where
-  pub bytes_are : k.bytes ≡ written_block b.block
-  pub writable : IsWritableBlock b.block
-  pub required_is : k.required ≡ required_count b
-  pub handed_are : k.handed ≡ b.handed
-  pub ends : EndsAt sent instructions k.end b.end
+pub record RefinesBlock (sent : List ℕ) (instructions : List Instruction) (k : KeptBlock) (b : AbstractBlock) : Type 0
+  where
+    pub bytes_are : k.bytes ≡ written_block b.block
+    pub writable : IsWritableBlock b.block
+    pub required_is : k.required ≡ required_count b
+    pub handed_are : k.handed ≡ b.handed
+    pub ends : EndsAt sent instructions k.end b.end
 
 -- a stream's blocks are those, and it stands where that one does
-pub record ShowsStream (sent : List ℕ) (instructions : List Instruction) (k : KeptStream) (st : Stream) : Type 0 where
-  pub blocks_are : Agrees (ShowsBlock sent instructions) k.blocks st.blocks
+pub record RefinesStream (sent : List ℕ) (instructions : List Instruction) (k : KeptStream) (st : AbstractStream) :
+    Type 0 where
+  pub blocks_are : Agrees (RefinesBlock sent instructions) k.blocks st.blocks
   pub decoded_is : k.decoded ≡ st.decoded
   pub acknowledged_is : k.acknowledged ≡ st.acknowledged
   pub cancelled_is : k.cancelled ≡ st.cancelled
 
--- the session shows the world: its tables are those, and its bytes are the instructions and replies taken and under way
-pub record Shows (v : Session) (w : World) : Type 0 where
+-- the session refines that of values: its tables are those, and its bytes are the instructions taken and under way
+pub record Refines (v : Session) (w : AbstractSession) : Type 0 where
   pub encoder_is : v.encoder ≡ w.encoder
   pub decoder_is : v.decoder ≡ table_of w.decoder
   pub unreported_is : v.unreported ≡ w.unreported
-  pub sent_carried : Carried Instruction SpellsInstruction v.sent v.sent_taken w.taken w.flying
+  pub encoder_stream : Carried Instruction SpellsInstruction v.sent v.sent_taken w.taken w.in_flight
   pub sent_order : v.sent_taken ≤ v.sent_delivered
   pub heard_lines : List Reply
-  pub told_carried : Carried Reply SpellsReply v.told v.told_taken heard_lines w.replies
+  pub decoder_stream : Carried Reply SpellsReply v.told v.told_taken heard_lines w.decoder_in_flight
   pub told_order : v.told_taken ≤ v.told_delivered
-  pub streams_are : (s : ℕ) → ShowsStream v.sent (w.taken ++ w.flying) (kept_at v.streams s) (stream_at w.streams s)
+  pub streams_are : (s : ℕ) → RefinesStream v.sent (w.taken ++ w.in_flight) (stream_at v.streams s)
+      (stream_at w.streams s)
