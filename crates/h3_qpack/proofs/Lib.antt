@@ -1,4 +1,4 @@
 pub mod WrittenBlocks
-pub mod Faults
 pub mod ReadLines
 pub mod Meanings
+pub mod Asking

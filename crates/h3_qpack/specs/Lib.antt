@@ -6,3 +6,4 @@ pub use Rattle.qpack_base.specs.Cursor
 pub use Rattle.qpack_base.specs.HeaderFields
 pub mod Errors
 pub mod Stateless
+pub mod Memory

@@ -1,12 +1,16 @@
 //! Blocks to header fields (RFC 9204, section 2.2).
 
-ghost use Rattle.std.specs.Prelude.{◌≡◌, ◌∷◌, List, IfOk, IfErr, length, drop};
+ghost use Rattle.std.specs.Prelude.{◌≡◌, ◌∷◌, List, Err, IfOk, IfErr, OnOk, length, drop};
+ghost use Rattle.qpack_spec.specs.Bytes.{Begins};
 ghost use Rattle.qpack_spec.specs.Field.{Field};
 ghost use Rattle.qpack_spec.specs.Stateless.{StatelessFault, field_alone, stateless_at, stateless_reading};
 ghost use Rattle.qpack_spec.specs.StatelessMeaning.{MeansAlone, StopsAlone};
 ghost use Rattle.qpack_wire.specs.BlockLines.{line_of};
-ghost use Rattle.h3_qpack.specs.Errors.{decoder_error_of_parse, decoder_error_of_static, decoder_error_of_table, decoder_error_of_integer, decoder_error_of_string};
-ghost use Rattle.h3_qpack.specs.Stateless.{Decodes, GivesFields, GivesFault, FindsFields, FindsFault, ReadsFieldAlone, GivesFieldAlone, field_at};
+ghost use Rattle.h3_qpack.specs.Errors.{decoder_error_of_parse, decoder_error_of_static, decoder_error_of_table};
+ghost use Rattle.h3_qpack.specs.Errors.{decoder_error_of_integer, decoder_error_of_string};
+ghost use Rattle.h3_qpack.specs.Memory.{AsksLine, AsksSectionForMemory};
+ghost use Rattle.h3_qpack.specs.Stateless.{IsFinished, Decodes, GivesFields, GivesFault, FindsFields, FindsFault};
+ghost use Rattle.h3_qpack.specs.Stateless.{ReadsFieldAlone, GivesFieldAlone, field_at};
 ghost use Rattle.h3_qpack.specs.declared.decoder.DecoderError.TheVariants.{InvalidIndex, Memory};
 
 use qpack_base::coding::{Cursor, NoMemory};
@@ -15,7 +19,9 @@ use qpack_base::parse_error::ParseError;
 use qpack_base::static_::{self, StaticTable};
 use qpack_base::{prefix_int, prefix_string};
 use qpack_table::{dynamic, vas};
-use qpack_wire::block::{BlockLine, HeaderPrefix, Indexed, Literal, LiteralWithNameRef};
+use qpack_wire::block::{
+    BlockLine, HeaderBlockField, HeaderPrefix, Indexed, Literal, LiteralWithNameRef,
+};
 use std::alloc::{AllocError, AllocFailed, Global};
 use thiserror::Error;
 
@@ -178,6 +184,10 @@ pub fn decode_stateless(
     ensures refused { IfErr result (FindsFault max_size buf.old.rest) }
     // And why they mean nothing is told, unless memory is refused.
     ensures told { (fault : StatelessFault) → StopsAlone max_size buf.old.rest fault → GivesFault result fault }
+    // A block that is read is read to its end.
+    ensures finished { OnOk result (IsFinished buf.old buf.new) }
+    // Memory is refused only behind a prefix, and there only behind a line or a string whose payload is not empty.
+    ensures memory { result ≡ Err Memory → AsksSectionForMemory buf.old.rest }
     // The same, as reading from left to right.
     ensures exact { Decodes result (stateless_reading max_size buf.old.rest) }
 {
@@ -186,7 +196,9 @@ pub fn decode_stateless(
 
 #[tactic(auto, unfolding(qpack_spec::specs::Stateless::stateless_reading))]
 fn read_block(alloc: Global, buf: &mut Cursor, max_size: u64) -> Result<Decoded, DecoderError>
-    ensures { Decodes result (stateless_reading max_size buf.old.rest) }
+    ensures exact { Decodes result (stateless_reading max_size buf.old.rest) }
+    ensures finished { OnOk result (IsFinished buf.old buf.new) }
+    ensures memory { result ≡ Err Memory → AsksSectionForMemory buf.old.rest }
 {
     let _prefix = HeaderPrefix::decode(buf)?;
     read_lines(alloc, buf, max_size)
@@ -194,7 +206,9 @@ fn read_block(alloc: Global, buf: &mut Cursor, max_size: u64) -> Result<Decoded,
 
 /// Reads lines to the end of the cursor.
 fn read_lines(alloc: Global, buf: &mut Cursor, max_size: u64) -> Result<Decoded, DecoderError>
-    ensures { Decodes result (stateless_at (length buf.old.rest) max_size 0 buf.old.rest) }
+    ensures exact { Decodes result (stateless_at (length buf.old.rest) max_size 0 buf.old.rest) }
+    ensures finished { OnOk result (IsFinished buf.old buf.new) }
+    ensures memory { result ≡ Err Memory → Begins AsksLine buf.old.rest }
 {
     let mut fields = Vec::new(alloc);
     let mut mem_size = 0u64;
@@ -217,12 +231,15 @@ fn read_lines(alloc: Global, buf: &mut Cursor, max_size: u64) -> Result<Decoded,
 /// refused by this byte alone.
 fn read_field(alloc: Global, first: u8, buf: &mut Cursor) -> Result<HeaderField, DecoderError>
     requires { buf.old.rest ≡ first ∷ drop 1 buf.old.rest }
-    ensures { ReadsFieldAlone buf.old buf.new result (field_at first (drop 1 buf.old.rest)) }
+    ensures exact { ReadsFieldAlone buf.old buf.new result (field_at first (drop 1 buf.old.rest)) }
+    ensures memory { result ≡ Err Memory → Begins AsksLine buf.old.rest }
 {
-    if first < 0b0010_0000 {
-        return Err(DecoderError::MissingRefs(0));
+    match HeaderBlockField::decode(first) {
+        HeaderBlockField::IndexedWithPostBase | HeaderBlockField::LiteralWithPostBaseNameRef => {
+            Err(DecoderError::MissingRefs(0))
+        }
+        _ => field_of_line(BlockLine::decode(alloc, buf)?),
     }
-    field_of_line(BlockLine::decode(alloc, buf)?)
 }
 
 /// The field that a line means without a dynamic table.

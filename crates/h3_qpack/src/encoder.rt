@@ -8,6 +8,7 @@ ghost use Rattle.qpack_spec.specs.BlockReading.{written_block};
 ghost use Rattle.qpack_spec.specs.Stateless.{stateless_line, stateless_block, held_size};
 ghost use Rattle.qpack_base.specs.HeaderFields.{field_of, DrainsFields};
 ghost use Rattle.qpack_base.specs.declared.prefix_string.Error.TheVariants.{Memory as NoRoom};
+ghost use Rattle.qpack_wire.specs.Writes.{Writes};
 ghost use Rattle.h3_qpack.specs.Errors.{encoder_error_of_table, encoder_error_of_string, encoder_error_of_parse};
 ghost use Rattle.h3_qpack.specs.declared.encoder.EncoderError.TheVariants.{Memory};
 
@@ -17,7 +18,7 @@ use qpack_base::parse_error::ParseError;
 use qpack_base::static_::StaticTable;
 use qpack_base::{prefix_int, prefix_string};
 use qpack_table::dynamic;
-use qpack_wire::block::HeaderPrefix;
+use qpack_wire::block::{HeaderPrefix, Indexed, Literal, LiteralWithNameRef};
 use std::alloc::{AllocError, Allocator};
 use thiserror::Error;
 
@@ -105,7 +106,8 @@ pub fn encode_stateless<'a, A: Allocator, T: Iterator<Item = &'a HeaderField> + 
     requires can { T.can_next fields }
     requires ends { IsFinite (T.remaining fields) }
     ensures ok { IfOk result (λ size. DrainsFields T.next_gives fields (λ fs.
-        (block.new.items ≡ block.old.items ++ written_block (stateless_block fs)) × (size ≡ held_size (total_size fs)))) }
+        (block.new.items ≡ block.old.items ++ written_block (stateless_block fs))
+        × (size ≡ held_size (total_size fs)))) }
     ensures err { OnErr result (block.new.items ≡ block.old.items) }
     ensures memory { IfErr result (λ e. e ≡ Memory) }
     ensures capacity { vec_capacity block.old ≤ vec_capacity block.new }
@@ -126,7 +128,8 @@ fn append_block<'a, A: Allocator, T: Iterator<Item = &'a HeaderField> + Drop>(
     requires can { T.can_next fields }
     requires ends { IsFinite (T.remaining fields) }
     ensures ok { IfOk result (λ size. DrainsFields T.next_gives fields (λ fs.
-        (block.new.items ≡ block.old.items ++ written_block (stateless_block fs)) × (size ≡ held_size (total_size fs)))) }
+        (block.new.items ≡ block.old.items ++ written_block (stateless_block fs))
+        × (size ≡ held_size (total_size fs)))) }
     ensures err { OnErr result (take (vec_len block.old) block.new.items ≡ block.old.items) }
     ensures memory { IfErr result (λ e. e ≡ Memory) }
     ensures capacity { vec_capacity block.old ≤ vec_capacity block.new }
@@ -141,24 +144,19 @@ fn append_block<'a, A: Allocator, T: Iterator<Item = &'a HeaderField> + Drop>(
 }
 
 /// Appends the line of a field: a static index, a static name with the value, or both in full.
-/// Refused, what stood before is still at the front.
-#[tactic(auto, unfolding(qpack_spec::specs::Line::written_line))]
+/// Refused, the vector is as before.
 fn append_line<A: Allocator>(
     block: &mut Vec<u8, A>,
     field: &HeaderField,
 ) -> Result<(), prefix_string::Error>
-    ensures ok { OnOk result (block.new.items ≡ block.old.items ++ written_line (stateless_line (field_of field.now))) }
-    ensures err { OnErr result (take (vec_len block.old) block.new.items ≡ block.old.items) }
+    ensures writes { Writes (written_line (stateless_line (field_of field.now))) block.old block.new result }
     ensures memory { IfErr result (λ e. e ≡ NoRoom) }
-    ensures capacity { vec_capacity block.old ≤ vec_capacity block.new }
 {
     let Some(name_index) = StaticTable::find_name(field.name.as_slice()) else {
-        prefix_string::encode(4, 0b0010, field.name.as_slice(), block)?;
-        return prefix_string::encode(8, 0, field.value.as_slice(), block);
+        return Literal::write(field.name.as_slice(), field.value.as_slice(), block);
     };
     if let Some(index) = StaticTable::find(field) {
-        return Ok(prefix_int::encode(6, 0b11, index as u64, block)?);
+        return Ok(Indexed::Static(index).encode(block)?);
     }
-    prefix_int::encode(4, 0b0101, name_index as u64, block)?;
-    prefix_string::encode(8, 0, field.value.as_slice(), block)
+    LiteralWithNameRef::write_static(name_index, field.value.as_slice(), block)
 }

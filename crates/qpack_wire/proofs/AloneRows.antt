@@ -8,7 +8,8 @@ use Rattle.qpack_spec.specs.Line.{NamedStatic, NamedPostBase, Literal}
 use Rattle.qpack_spec.specs.Instruction.{Cancellation}
 use Rattle.qpack_wire.specs.Alone.{Unreadable, Foreign, alone_at}
 use Rattle.qpack_wire.specs.Lines.{indexed, literal_with_name_ref, literal_with_post_base_name_ref, literal}
-use Rattle.qpack_wire.specs.Instructions.{insert_without_name_ref, duplicate, dynamic_table_size_update, insert_count_increment, header_ack, stream_cancel}
+use Rattle.qpack_wire.specs.Instructions.{insert_without_name_ref, duplicate, dynamic_table_size_update}
+use Rattle.qpack_wire.specs.Instructions.{insert_count_increment, header_ack, stream_cancel}
 
 -- all that has to unfold
 rows : ℕ

@@ -1,12 +1,17 @@
 -- Reading a form alone from left to right is its relation: spellings, refusals, and what is cut off.
-use Rattle.std.proofs.Common.{◌≡◌, ℕ, ◌/◌, ◌^◌, Bool, true, false, List, [], ◌∷◌, ◌++◌, Option, None, Some, Result, Ok, Err, refl, sym, ap, subst, ◌∙◌, inl, inr}
+use Rattle.std.proofs.Common.{◌≡◌, ℕ, ◌/◌, ◌^◌, Bool, true, false, List, [], ◌∷◌, ◌++◌, Option, None, Some, Result, Ok}
+use Rattle.std.proofs.Common.{Err, refl, sym, ap, subst, ◌∙◌, inl, inr}
 use Rattle.qpack_spec.specs.Bytes.{Begins, ◌>>=◌}
 use Rattle.qpack_spec.specs.Integer.{IntegerFault, Overflow, UnexpectedEnd, StandsFor, OverflowsInteger, integer_at}
-use Rattle.qpack_spec.specs.Form.{FormFault, BadInteger, BadString, is_cut, Form, Index, IndexAndValue, NameAndValue, Spells, Refuses, or_bad_integer, made_at, form_at}
+use Rattle.qpack_spec.specs.Form.{FormFault, BadInteger, BadString, is_cut, Form, Index, IndexAndValue, NameAndValue}
+use Rattle.qpack_spec.specs.Form.{Spells, Refuses, or_bad_integer, made_at, form_at}
 use Rattle.qpack_spec.proofs.Integers.{integer_takes, integer_again, overflow_begins}
 use Rattle.qpack_spec.proofs.Forms.{index_refused, made_again, made_refused}
-use Rattle.qpack_spec.proofs.FormLaws.{TakesSpelling, form_takes, form_again, form_refused, form_refusal, reads_form_truncation}
-use Rattle.qpack_wire.specs.Alone.{Alone, ByFlags, ByFirstByte, AloneFault, Unreadable, Foreign, form_named, SpellsAlone, RefusesForeign, RefusesAlone, is_cut_alone, or_unreadable, made_or_foreign, alone_at}
+use Rattle.qpack_spec.proofs.FormLaws.{TakesSpelling, form_takes, form_again, form_refused, form_refusal}
+use Rattle.qpack_spec.proofs.FormLaws.{reads_form_truncation}
+use Rattle.qpack_wire.specs.Alone.{Alone, ByFlags, ByFirstByte, AloneFault, Unreadable, Foreign, form_named}
+use Rattle.qpack_wire.specs.Alone.{SpellsAlone, RefusesForeign, RefusesAlone, is_cut_alone, or_unreadable}
+use Rattle.qpack_wire.specs.Alone.{made_or_foreign, alone_at}
 use Rattle.qpack_wire.proofs.Readers.{Follows}
 
 -- the form begins with an integer with a prefix of n bits
@@ -22,32 +27,38 @@ Coherent (ByFirstByte named) = Unit {0}
 
 -- ---- one step of reading
 
-flags_above : (n b : ℕ) (bs : List ℕ) (i : ℕ × ℕ × List ℕ) → integer_at n (b ∷ bs) ≡ Ok i → i.0 ≡ b / 2 ^ n
+pub flags_above : (n b : ℕ) (bs : List ℕ) (i : ℕ × ℕ × List ℕ) → integer_at n (b ∷ bs) ≡ Ok i → i.0 ≡ b / 2 ^ n
 flags_above n b bs i e = let t = integer_takes n (b ∷ bs) i.0 i.1 i.2 e in go t.text t.parts t.spells.stands
   where
     go : (text : List ℕ) → b ∷ bs ≡ text ++ i.2 → StandsFor n text i.0 i.1 → i.0 ≡ b / 2 ^ n
     go [] p s = absurd s
     go (c ∷ cs) p s = let same : b ≡ c = cc in s.0 ∙ ap (λ (x : ℕ). x / 2 ^ n) (sym same)
 
-made_integer : {L : Type 0} (n : ℕ) (form : Form L) (bytes : List ℕ) (e : IntegerFault) → HasPrefix n form → integer_at n bytes ≡ Err e → made_at form bytes ≡ Err (BadInteger e)
+made_integer : {L : Type 0} (n : ℕ) (form : Form L) (bytes : List ℕ) (e : IntegerFault) → HasPrefix n form
+    → integer_at n bytes ≡ Err e → made_at form bytes ≡ Err (BadInteger e)
 unfolding made_at
 made_integer n (Index m make) bytes e h q = rw (h, q) refl
 made_integer n (IndexAndValue m make) bytes e h q = rw (h, q) refl
 made_integer n (NameAndValue m make) bytes e h q = absurd h
 
-own_read : {L : Type 0} (n : ℕ) (named : ℕ → Option (Form L)) (b : ℕ) (bs : List ℕ) (form : Form L) → named (b / 2 ^ n) ≡ Some form → HasPrefix n form
+own_read : {L : Type 0} (n : ℕ) (named : ℕ → Option (Form L)) (b : ℕ) (bs : List ℕ) (form : Form L)
+    → named (b / 2 ^ n) ≡ Some form → HasPrefix n form
     → (r : Result (ℕ × ℕ × List ℕ) IntegerFault) → integer_at n (b ∷ bs) ≡ r
-    → (or_unreadable (or_bad_integer r) >>= λ i. made_or_foreign i.0 (named i.0) (b ∷ bs)) ≡ or_unreadable (made_at form (b ∷ bs))
+    → (or_unreadable (or_bad_integer r) >>= λ i. made_or_foreign i.0 (named i.0) (b ∷ bs))
+    ≡ or_unreadable (made_at form (b ∷ bs))
 own_read n named b bs form h p (Ok i) q = let f = flags_above n b bs i q in rw (f, h) refl
 own_read n named b bs form h p (Err e) q = let m = made_integer n form (b ∷ bs) e p q in rw m refl
 
 -- where the first byte names a form, that is read
-pub alone_own : {L : Type 0} (a : Alone L) → Coherent a → (b : ℕ) (bs : List ℕ) (form : Form L) → form_named a b ≡ Some form → alone_at a (b ∷ bs) ≡ or_unreadable (made_at form (b ∷ bs))
+pub alone_own : {L : Type 0} (a : Alone L) → Coherent a → (b : ℕ) (bs : List ℕ) (form : Form L)
+    → form_named a b ≡ Some form → alone_at a (b ∷ bs) ≡ or_unreadable (made_at form (b ∷ bs))
 unfolding alone_at
-alone_own (ByFlags n named) c b bs form h = own_read n named b bs form h (c (b / 2 ^ n) form h) (integer_at n (b ∷ bs)) refl
+alone_own (ByFlags n named) c b bs form h =
+    own_read n named b bs form h (c (b / 2 ^ n) form h) (integer_at n (b ∷ bs)) refl
 alone_own (ByFirstByte named) c b bs form h = rw h refl
 
-pub form_own : {L : Type 0} (form_of : ℕ → Option (Form L)) (b : ℕ) (bs : List ℕ) (form : Form L) → form_of b ≡ Some form → form_at form_of (b ∷ bs) ≡ made_at form (b ∷ bs)
+pub form_own : {L : Type 0} (form_of : ℕ → Option (Form L)) (b : ℕ) (bs : List ℕ) (form : Form L)
+    → form_of b ≡ Some form → form_at form_of (b ∷ bs) ≡ made_at form (b ∷ bs)
 unfolding form_at
 form_own form_of b bs form h = rw h refl
 
@@ -68,11 +79,13 @@ foreign_step n named b bs h (Ok i) q =
     let f = flags_above n b bs i q in let g : named i.0 ≡ None = ap named f ∙ h in rw g refl
 foreign_step n named b bs h (Err e) q = refl
 
-foreign_read : {L : Type 0} (n : ℕ) (named : ℕ → Option (Form L)) (b : ℕ) (bs : List ℕ) → named (b / 2 ^ n) ≡ None → alone_at (ByFlags n named) (b ∷ bs) ≡ foreign_of (integer_at n (b ∷ bs))
+foreign_read : {L : Type 0} (n : ℕ) (named : ℕ → Option (Form L)) (b : ℕ) (bs : List ℕ) → named (b / 2 ^ n) ≡ None
+    → alone_at (ByFlags n named) (b ∷ bs) ≡ foreign_of (integer_at n (b ∷ bs))
 unfolding alone_at
 foreign_read n named b bs h = foreign_step n named b bs h (integer_at n (b ∷ bs)) refl
 
-foreign_byte : {L : Type 0} (named : ℕ → Option (Form L)) (b : ℕ) (bs : List ℕ) → named b ≡ None → alone_at (ByFirstByte named) (b ∷ bs) ≡ Err (Foreign b)
+foreign_byte : {L : Type 0} (named : ℕ → Option (Form L)) (b : ℕ) (bs : List ℕ) → named b ≡ None
+    → alone_at (ByFirstByte named) (b ∷ bs) ≡ Err (Foreign b)
 unfolding alone_at
 foreign_byte named b bs h = rw h refl
 
@@ -87,7 +100,8 @@ pub record Unread (A : Type 0) (r : Result A FormFault) (fault : AloneFault) : T
   pub told : fault ≡ Unreadable because
   pub is : r ≡ Err because
 
-pub readable_err : {A : Type 0} (r : Result A FormFault) (fault : AloneFault) → or_unreadable r ≡ Err fault → Unread A r fault
+pub readable_err : {A : Type 0} (r : Result A FormFault) (fault : AloneFault) → or_unreadable r ≡ Err fault
+    → Unread A r fault
 readable_err (Ok y) fault e = absurd cc
 readable_err (Err f) fault e = record { because = f; told = cc; is = refl }
 
@@ -95,11 +109,14 @@ foreign_fails : {L : Type 0} (r : Result (ℕ × ℕ × List ℕ) IntegerFault) 
 foreign_fails (Ok i) x e = absurd cc
 foreign_fails (Err f) x e = absurd cc
 
-no_foreign_value : {L : Type 0} (a : Alone L) (b : ℕ) (bs : List ℕ) (x : L × List ℕ) → form_named a b ≡ None → alone_at a (b ∷ bs) ≡ Ok x → ⊥
-no_foreign_value (ByFlags n named) b bs x h e = foreign_fails (integer_at n (b ∷ bs)) x (sym (foreign_read n named b bs h) ∙ e)
+no_foreign_value : {L : Type 0} (a : Alone L) (b : ℕ) (bs : List ℕ) (x : L × List ℕ) → form_named a b ≡ None
+    → alone_at a (b ∷ bs) ≡ Ok x → ⊥
+no_foreign_value (ByFlags n named) b bs x h e =
+    foreign_fails (integer_at n (b ∷ bs)) x (sym (foreign_read n named b bs h) ∙ e)
 no_foreign_value (ByFirstByte named) b bs x h e = let f = foreign_byte named b bs h in absurd cc
 
-pub alone_takes : {L : Type 0} (a : Alone L) → Coherent a → (bytes : List ℕ) (l : L) (rest : List ℕ) → alone_at a bytes ≡ Ok (l, rest) → TakesSpelling L (form_named a) bytes l rest
+alone_takes : {L : Type 0} (a : Alone L) → Coherent a → (bytes : List ℕ) (l : L) (rest : List ℕ)
+    → alone_at a bytes ≡ Ok (l, rest) → TakesSpelling L (form_named a) bytes l rest
 alone_takes a c [] l rest e = absurd (let n = alone_nothing a in cc)
 alone_takes {L} a c (b ∷ bs) l rest e = go (form_named a b) refl
   where
@@ -109,7 +126,8 @@ alone_takes {L} a c (b ∷ bs) l rest e = go (form_named a b) refl
         let m = readable_ok (made_at form (b ∷ bs)) (l, rest) (sym (alone_own a c b bs form q) ∙ e) in
         form_takes (form_named a) (b ∷ bs) l rest (form_own (form_named a) b bs form q ∙ m)
 
-pub alone_again : {L : Type 0} (a : Alone L) → Coherent a → (text rest : List ℕ) (l : L) → SpellsAlone a text l → alone_at a (text ++ rest) ≡ Ok (l, rest)
+alone_again : {L : Type 0} (a : Alone L) → Coherent a → (text rest : List ℕ) (l : L) → SpellsAlone a text l
+    → alone_at a (text ++ rest) ≡ Ok (l, rest)
 alone_again a c text rest l s =
     let m = made_again s.form text rest l s.spells in
     let n = rw s.begins at m in
@@ -118,7 +136,8 @@ alone_again a c text rest l s =
 
 -- ---- refusals
 
-pub alone_refused : {L : Type 0} (a : Alone L) → Coherent a → (text rest : List ℕ) (fault : AloneFault) → RefusesAlone a text fault → alone_at a (text ++ rest) ≡ Err fault
+alone_refused : {L : Type 0} (a : Alone L) → Coherent a → (text rest : List ℕ) (fault : AloneFault)
+    → RefusesAlone a text fault → alone_at a (text ++ rest) ≡ Err fault
 unfolding alone_at
 alone_refused a c text rest (Unreadable f) (inl r) =
     let m = made_refused r.form text rest f r.refuses in
@@ -132,29 +151,43 @@ alone_refused (ByFlags n named) c text rest (Foreign bits) r =
     let i = integer_again n text rest bits r.1.0 r.1.1 in let h = r.0 in rw (i, h) refl
 alone_refused (ByFirstByte named) c text rest (Foreign bits) r = let h = r.0 in rw (r.1, h) refl
 
-whole_overflow : {L : Type 0} (n : ℕ) (named : ℕ → Option (Form L)) (b : ℕ) (bs text rest : List ℕ) → named (b / 2 ^ n) ≡ None → b ∷ bs ≡ text ++ rest → OverflowsInteger n text
+whole_overflow : {L : Type 0} (n : ℕ) (named : ℕ → Option (Form L)) (b : ℕ) (bs text rest : List ℕ)
+    → named (b / 2 ^ n) ≡ None → b ∷ bs ≡ text ++ rest → OverflowsInteger n text
     → RefusesForeign (ByFlags n named) text (BadInteger Overflow)
 whole_overflow n named b bs [] rest h p o = absurd o
 whole_overflow n named b bs (d ∷ ds) rest h p o =
     let same : b ≡ d = cc in (ap (λ (x : ℕ). named (x / 2 ^ n)) (sym same) ∙ h, o)
 
-foreign_refusal : {L : Type 0} (n : ℕ) (named : ℕ → Option (Form L)) (b : ℕ) (bs : List ℕ) (fault : AloneFault) → named (b / 2 ^ n) ≡ None
-    → (r : Result (ℕ × ℕ × List ℕ) IntegerFault) → integer_at n (b ∷ bs) ≡ r → (let f : Result (L × List ℕ) AloneFault = foreign_of r in f ≡ Err fault) → is_cut_alone fault ≡ false
+foreign_refusal : {L : Type 0} (n : ℕ) (named : ℕ → Option (Form L)) (b : ℕ) (bs : List ℕ) (fault : AloneFault)
+    → named (b / 2 ^ n) ≡ None
+    → (r : Result (ℕ × ℕ × List ℕ) IntegerFault) → integer_at n (b ∷ bs) ≡ r
+    → (let f : Result (L × List ℕ) AloneFault = foreign_of r in f ≡ Err fault) → is_cut_alone fault ≡ false
     → Begins (λ t. RefusesAlone (ByFlags n named) t fault) (b ∷ bs)
 foreign_refusal n named b bs fault h (Ok i) q e c =
     let same : Foreign i.0 ≡ fault = cc in
     let t = integer_takes n (b ∷ bs) i.0 i.1 i.2 q in
     subst (λ (f : AloneFault). Begins (λ x. RefusesAlone (ByFlags n named) x f) (b ∷ bs)) same
-    (record { text = t.text; rest = i.2; parts = t.parts; holds = (ap named (flags_above n b bs i q) ∙ h, (i.1, t.spells)) })
+    (record {
+      text = t.text;
+      rest = i.2;
+      parts = t.parts;
+      holds = (ap named (flags_above n b bs i q) ∙ h, (i.1, t.spells));
+    })
 foreign_refusal n named b bs fault h (Err Overflow) q e c =
     let same : Unreadable (BadInteger Overflow) ≡ fault = cc in
     let t = overflow_begins n (b ∷ bs) q in
     subst (λ (f : AloneFault). Begins (λ x. RefusesAlone (ByFlags n named) x f) (b ∷ bs)) same
-    (record { text = t.text; rest = t.rest; parts = t.parts; holds = inr (whole_overflow n named b bs t.text t.rest h t.parts t.holds) })
+    (record {
+      text = t.text;
+      rest = t.rest;
+      parts = t.parts;
+      holds = inr (whole_overflow n named b bs t.text t.rest h t.parts t.holds);
+    })
 foreign_refusal n named b bs fault h (Err UnexpectedEnd) q e c =
     let same : Unreadable (BadInteger UnexpectedEnd) ≡ fault = cc in let d = ap is_cut_alone same in absurd cc
 
-other_refusal : {L : Type 0} (a : Alone L) (b : ℕ) (bs : List ℕ) (fault : AloneFault) → form_named a b ≡ None → alone_at a (b ∷ bs) ≡ Err fault → is_cut_alone fault ≡ false
+other_refusal : {L : Type 0} (a : Alone L) (b : ℕ) (bs : List ℕ) (fault : AloneFault) → form_named a b ≡ None
+    → alone_at a (b ∷ bs) ≡ Err fault → is_cut_alone fault ≡ false
     → Begins (λ t. RefusesAlone a t fault) (b ∷ bs)
 other_refusal (ByFlags n named) b bs fault h e c =
     foreign_refusal n named b bs fault h (integer_at n (b ∷ bs)) refl (sym (foreign_read n named b bs h) ∙ e) c
@@ -164,20 +197,24 @@ other_refusal {L} (ByFirstByte named) b bs fault h e c =
     subst (λ (g : AloneFault). Begins (λ x. RefusesAlone (ByFirstByte named) x g) (b ∷ bs)) same
     (record { text = b ∷ []; rest = bs; parts = refl; holds = (h, refl) })
 
-pub alone_refusal : {L : Type 0} (a : Alone L) → Coherent a → (bytes : List ℕ) (fault : AloneFault) → alone_at a bytes ≡ Err fault → is_cut_alone fault ≡ false → Begins (λ t. RefusesAlone a t fault) bytes
+alone_refusal : {L : Type 0} (a : Alone L) → Coherent a → (bytes : List ℕ) (fault : AloneFault)
+    → alone_at a bytes ≡ Err fault → is_cut_alone fault ≡ false → Begins (λ t. RefusesAlone a t fault) bytes
 alone_refusal a c [] fault e k =
-    absurd (let n = alone_nothing a in let same : Unreadable (BadInteger UnexpectedEnd) ≡ fault = cc in let d = ap is_cut_alone same in cc)
+    absurd (let n = alone_nothing a in let same : Unreadable (BadInteger UnexpectedEnd) ≡ fault = cc in
+    let d = ap is_cut_alone same in cc)
 alone_refusal {L} a c (b ∷ bs) fault e k = go (form_named a b) refl
   where
     go : (o : Option (Form L)) → form_named a b ≡ o → Begins (λ t. RefusesAlone a t fault) (b ∷ bs)
     go None q = other_refusal a b bs fault q e k
     go (Some form) q =
         let u = readable_err (made_at form (b ∷ bs)) fault (sym (alone_own a c b bs form q) ∙ e) in
-        let w = form_refusal (form_named a) (b ∷ bs) u.because (form_own (form_named a) b bs form q ∙ u.is) (sym (ap is_cut_alone u.told) ∙ k) in
+        let w = form_refusal (form_named a) (b ∷ bs) u.because (form_own (form_named a) b bs form q ∙ u.is)
+        (sym (ap is_cut_alone u.told) ∙ k) in
         subst (λ (g : AloneFault). Begins (λ x. RefusesAlone a x g) (b ∷ bs)) (sym u.told)
         (record { text = w.text; rest = w.rest; parts = w.parts; holds = inl w.holds })
 
-whole_form : {L : Type 0} (form_of : ℕ → Option (Form L)) (text : List ℕ) (f : FormFault) → Refuses L form_of text f → is_cut f ≡ false
+whole_form : {L : Type 0} (form_of : ℕ → Option (Form L)) (text : List ℕ) (f : FormFault) → Refuses L form_of text f
+    → is_cut f ≡ false
 whole_form form_of text f r = go (is_cut f) refl
   where
     go : (b : Bool) → is_cut f ≡ b → is_cut f ≡ false
@@ -187,7 +224,8 @@ whole_form form_of text f r = go (is_cut f) refl
         let cut = (reads_form_truncation form_of (text ++ [])).0 (f, q, m) in
         absurd ((cut text [] refl).1 f r)
 
-pub whole_text : {L : Type 0} (a : Alone L) → Coherent a → (text : List ℕ) (fault : AloneFault) → RefusesAlone a text fault → is_cut_alone fault ≡ false
+whole_text : {L : Type 0} (a : Alone L) → Coherent a → (text : List ℕ) (fault : AloneFault)
+    → RefusesAlone a text fault → is_cut_alone fault ≡ false
 whole_text a c text (Unreadable f) (inl r) = whole_form (form_named a) text f r
 whole_text (ByFlags n named) c [] (Unreadable f) (inr r) = absurd r
 whole_text (ByFlags n named) c (b ∷ bs) (Unreadable (BadInteger Overflow)) (inr r) = refl
@@ -210,11 +248,13 @@ alone_follows a c = record {
 -- ---- and so is the reading of all forms, whatever first bytes name them; no first bits are foreign
 
 pub forms_follow : {L : Type 0} (form_of : ℕ → Option (Form L)) (refuses : List ℕ → AloneFault → Type 0)
-    → ((text : List ℕ) (fault : FormFault) → (refuses text (Unreadable fault) → Refuses L form_of text fault) × (Refuses L form_of text fault → refuses text (Unreadable fault)))
+    → ((text : List ℕ) (fault : FormFault) → (refuses text (Unreadable fault) → Refuses L form_of text fault)
+    × (Refuses L form_of text fault → refuses text (Unreadable fault)))
     → ((text : List ℕ) (bits : ℕ) → refuses text (Foreign bits) → ⊥)
     → Follows L (λ text l. Spells L form_of text l) refuses (λ bytes. or_unreadable (form_at form_of bytes))
 forms_follow {L} form_of refuses same none = record {
-  takes = λ bytes l rest e. (let t = form_takes form_of bytes l rest (readable_ok (form_at form_of bytes) (l, rest) e) in (t.text, t.parts, t.spells));
+  takes = λ bytes l rest e. (let t = form_takes form_of bytes l rest
+      (readable_ok (form_at form_of bytes) (l, rest) e) in (t.text, t.parts, t.spells));
   again = λ text rest l s. ap or_unreadable (form_again form_of text rest l s);
   refusal = λ bytes fault e k. (
       let u = readable_err (form_at form_of bytes) fault e in
@@ -226,7 +266,8 @@ forms_follow {L} form_of refuses same none = record {
   whole = all_whole;
 }
   where
-    told_again : (text rest : List ℕ) (fault : AloneFault) → refuses text fault → (let r : Result (L × List ℕ) AloneFault = or_unreadable (form_at form_of (text ++ rest)) in r) ≡ Err fault
+    told_again : (text rest : List ℕ) (fault : AloneFault) → refuses text fault
+        → (let r : Result (L × List ℕ) AloneFault = or_unreadable (form_at form_of (text ++ rest)) in r) ≡ Err fault
     told_again text rest (Unreadable f) r = ap or_unreadable (form_refused form_of text rest f ((same text f).0 r))
     told_again text rest (Foreign bits) r = absurd (none text bits r)
 

@@ -1,18 +1,23 @@
 -- A line is that of the form which its first byte names.
-use Rattle.std.proofs.Common.{◌≡◌, ℕ, ◌/◌, ◌%◌, ◌<◌, ◌≤◌, Bool, true, false, List, [], ◌∷◌, Option, Some, Err, refl, sym, ap, subst, ◌∙◌, arith, drop, length, inl, inr, ◌⊎◌}
+use Rattle.std.proofs.Common.{◌≡◌, ℕ, ◌/◌, ◌%◌, ◌<◌, ◌≤◌, Bool, true, false, List, [], ◌∷◌, Option, Some, Err, refl}
+use Rattle.std.proofs.Common.{sym, ap, subst, ◌∙◌, arith, drop, length, inl, inr, ◌⊎◌}
 use Rattle.std.specs.Prelude.{nat_lt, nat_eq, if◌then◌else◌}
 use Rattle.std.proofs.lemmas.Bool.{lt-ltb, le-ltb, cases_lt}
 use Rattle.qpack_spec.specs.Integer.{UnexpectedEnd}
 use Rattle.qpack_spec.specs.Form.{BadInteger, Form, form_at}
 use Rattle.qpack_spec.specs.Line.{Line, SpellsLine, line_form}
 use Rattle.qpack_wire.specs.Alone.{Alone, Unreadable, form_named, or_unreadable, alone_at}
-use Rattle.qpack_wire.specs.Lines.{indexed, indexed_with_post_base, literal_with_name_ref, literal_with_post_base_name_ref, literal}
+use Rattle.qpack_wire.specs.Lines.{indexed, indexed_with_post_base, literal_with_name_ref}
+use Rattle.qpack_wire.specs.Lines.{literal_with_post_base_name_ref, literal}
 use Rattle.qpack_wire.specs.BlockLines.{field_of_first, RefusesBlockLine, line_at}
 use Rattle.qpack_wire.specs.declared.block.line.HeaderBlockField.{HeaderBlockField}
 use Rattle.qpack_wire.specs.declared.block.line.HeaderBlockField.TheVariants as field
+use Rattle.qpack_wire.specs.Memory.{AsksForMemory}
+use Rattle.qpack_wire.proofs.Asking.{asks_same}
 use Rattle.qpack_wire.proofs.Readers.{Follows}
 use Rattle.qpack_wire.proofs.Alones.{Coherent, alone_own, form_own, forms_follow}
-use Rattle.qpack_wire.proofs.LineForms.{coherent_indexed, coherent_post_base, coherent_name_ref, coherent_post_base_name_ref}
+use Rattle.qpack_wire.proofs.LineForms.{coherent_indexed, coherent_post_base, coherent_name_ref}
+use Rattle.qpack_wire.proofs.LineForms.{coherent_post_base_name_ref}
 
 -- ---- the forms alone name the line's form
 
@@ -40,7 +45,8 @@ line_named b h =
     (either_names (nat_lt b 192) _ _ (_, refl) (rw (below b 256 h) (_, refl))))))
 
 -- where a form alone names what a line's first byte does, it is read as the line
-alone_is_line : (a : Alone Line) → Coherent a → (b : ℕ) (bs : List ℕ) → b < 256 → form_named a b ≡ line_form b → alone_at a (b ∷ bs) ≡ line_at (b ∷ bs)
+alone_is_line : (a : Alone Line) → Coherent a → (b : ℕ) (bs : List ℕ) → b < 256 → form_named a b ≡ line_form b
+    → alone_at a (b ∷ bs) ≡ line_at (b ∷ bs)
 alone_is_line a c b bs h same =
     let named = line_named b h in
     alone_own a c b bs named.0 (same ∙ named.1) ∙ sym (ap or_unreadable (form_own line_form b bs named.0 named.1))
@@ -49,13 +55,28 @@ dynamic_index : (b : ℕ) → 128 ≤ b → b < 192 → form_named indexed b ≡
 unfolding line_form
 dynamic_index b low high =
     let q : b / 64 ≡ 2 = omega arith in
-    rw (q, above b 16 (omega arith), above b 32 (omega arith), above b 64 (omega arith), above b 128 low, below b 192 high) refl
+    rw (
+      q,
+      above b 16 (omega arith),
+      above b 32 (omega arith),
+      above b 64 (omega arith),
+      above b 128 low,
+      below b 192 high,
+    ) refl
 
 static_index : (b : ℕ) → 192 ≤ b → b < 256 → form_named indexed b ≡ line_form b
 unfolding line_form
 static_index b low high =
     let q : b / 64 ≡ 3 = omega arith in
-    rw (q, above b 16 (omega arith), above b 32 (omega arith), above b 64 (omega arith), above b 128 (omega arith), above b 192 low, below b 256 high) refl
+    rw (
+      q,
+      above b 16 (omega arith),
+      above b 32 (omega arith),
+      above b 64 (omega arith),
+      above b 128 (omega arith),
+      above b 192 low,
+      below b 256 high,
+    ) refl
 
 pub same_indexed : (b : ℕ) → 128 ≤ b → b < 256 → form_named indexed b ≡ line_form b
 same_indexed b low high = pick (cases_lt b 192)
@@ -80,12 +101,13 @@ same_post_base_name_ref b high = rw (below (b / 8) 2 (omega arith), below b 16 h
 
 pub same_literal : (b : ℕ) → 32 ≤ b → b < 64 → form_named literal b ≡ line_form b
 unfolding line_form
-same_literal b low high = let q : b / 32 ≡ 1 = omega arith in rw (q, above b 16 (omega arith), above b 32 low, below b 64 high) refl
+same_literal b low high =
+    let q : b / 32 ≡ 1 = omega arith in rw (q, above b 16 (omega arith), above b 32 low, below b 64 high) refl
 
 -- ---- each form, where the first byte tells it
 
 -- the first bytes of each form
-abbrev pub Told : ℕ → HeaderBlockField → Type 0
+abbrev Told : ℕ → HeaderBlockField → Type 0
 Told b field.LiteralWithPostBaseNameRef = b < 16
 Told b field.IndexedWithPostBase = (16 ≤ b) × (b < 32)
 Told b field.Literal = (32 ≤ b) × (b < 64)
@@ -103,12 +125,14 @@ told_literal : (b : ℕ) → 32 ≤ b → b < 64 → field_of_first b ≡ field.
 told_literal b low high = rw (above b 16 (omega arith), above b 32 low, below b 64 high) refl
 
 told_name_ref : (b : ℕ) → 64 ≤ b → b < 128 → field_of_first b ≡ field.LiteralWithNameRef
-told_name_ref b low high = rw (above b 16 (omega arith), above b 32 (omega arith), above b 64 low, below b 128 high) refl
+told_name_ref b low high =
+    rw (above b 16 (omega arith), above b 32 (omega arith), above b 64 low, below b 128 high) refl
 
 told_indexed : (b : ℕ) → 128 ≤ b → field_of_first b ≡ field.Indexed
-told_indexed b low = rw (above b 16 (omega arith), above b 32 (omega arith), above b 64 (omega arith), above b 128 low) refl
+told_indexed b low =
+    rw (above b 16 (omega arith), above b 32 (omega arith), above b 64 (omega arith), above b 128 low) refl
 
-pub told_at : (b : ℕ) → Told b (field_of_first b)
+told_at : (b : ℕ) → Told b (field_of_first b)
 told_at b =
     elim (cases_lt b 16) [
       | inl h ↦ subst (Told b) (sym (told_post_base_name_ref b h)) h
@@ -137,30 +161,72 @@ none_unknown b e = told b field.Unknown e
 abbrev BeginsWith : ℕ → List ℕ → Type 0
 BeginsWith b rest = rest ≡ b ∷ drop 1 rest
 
-as_line : (a : Alone Line) → Coherent a → (b : ℕ) (rest : List ℕ) → b < 256 → BeginsWith b rest → form_named a b ≡ line_form b → alone_at a rest ≡ line_at rest
+as_line : (a : Alone Line) → Coherent a → (b : ℕ) (rest : List ℕ) → b < 256 → BeginsWith b rest
+    → form_named a b ≡ line_form b → alone_at a rest ≡ line_at rest
 as_line a c b rest h e same = ap (alone_at a) e ∙ alone_is_line a c b (drop 1 rest) h same ∙ sym (ap line_at e)
 
-pub as_indexed : (b : ℕ) (rest : List ℕ) → b < 256 → BeginsWith b rest → field_of_first b ≡ field.Indexed → alone_at indexed rest ≡ line_at rest
+pub as_indexed : (b : ℕ) (rest : List ℕ) → b < 256 → BeginsWith b rest → field_of_first b ≡ field.Indexed
+    → alone_at indexed rest ≡ line_at rest
 as_indexed b rest h e f = as_line indexed coherent_indexed b rest h e (same_indexed b (told b field.Indexed f) h)
 
-pub as_post_base : (b : ℕ) (rest : List ℕ) → b < 256 → BeginsWith b rest → field_of_first b ≡ field.IndexedWithPostBase → alone_at indexed_with_post_base rest ≡ line_at rest
+pub as_post_base : (b : ℕ) (rest : List ℕ) → b < 256 → BeginsWith b rest → field_of_first b ≡ field.IndexedWithPostBase
+    → alone_at indexed_with_post_base rest ≡ line_at rest
 as_post_base b rest h e f =
-    let t = told b field.IndexedWithPostBase f in as_line indexed_with_post_base coherent_post_base b rest h e (same_post_base b t.0 t.1)
+    let t = told b field.IndexedWithPostBase f in as_line indexed_with_post_base coherent_post_base b rest h e
+    (same_post_base b t.0 t.1)
 
-pub as_name_ref : (b : ℕ) (rest : List ℕ) → b < 256 → BeginsWith b rest → field_of_first b ≡ field.LiteralWithNameRef → alone_at literal_with_name_ref rest ≡ line_at rest
+pub as_name_ref : (b : ℕ) (rest : List ℕ) → b < 256 → BeginsWith b rest → field_of_first b ≡ field.LiteralWithNameRef
+    → alone_at literal_with_name_ref rest ≡ line_at rest
 as_name_ref b rest h e f =
-    let t = told b field.LiteralWithNameRef f in as_line literal_with_name_ref coherent_name_ref b rest h e (same_name_ref b t.0 t.1)
+    let t = told b field.LiteralWithNameRef f in as_line literal_with_name_ref coherent_name_ref b rest h e
+    (same_name_ref b t.0 t.1)
 
-pub as_post_base_name_ref : (b : ℕ) (rest : List ℕ) → b < 256 → BeginsWith b rest → field_of_first b ≡ field.LiteralWithPostBaseNameRef → alone_at literal_with_post_base_name_ref rest ≡ line_at rest
+pub as_post_base_name_ref : (b : ℕ) (rest : List ℕ) → b < 256 → BeginsWith b rest
+    → field_of_first b ≡ field.LiteralWithPostBaseNameRef → alone_at literal_with_post_base_name_ref rest ≡ line_at rest
 as_post_base_name_ref b rest h e f =
-    as_line literal_with_post_base_name_ref coherent_post_base_name_ref b rest h e (same_post_base_name_ref b (told b field.LiteralWithPostBaseNameRef f))
+    as_line literal_with_post_base_name_ref coherent_post_base_name_ref b rest h e
+    (same_post_base_name_ref b (told b field.LiteralWithPostBaseNameRef f))
 
-pub as_literal : (b : ℕ) (rest : List ℕ) → b < 256 → BeginsWith b rest → field_of_first b ≡ field.Literal → alone_at literal rest ≡ line_at rest
+pub as_literal : (b : ℕ) (rest : List ℕ) → b < 256 → BeginsWith b rest → field_of_first b ≡ field.Literal
+    → alone_at literal rest ≡ line_at rest
 as_literal b rest h e f = let t = told b field.Literal f in as_line literal tt b rest h e (same_literal b t.0 t.1)
+
+-- memory is asked for the line where it is for its form
+
+pub asks_name_ref : (b : ℕ) (rest : List ℕ) → b < 256 → BeginsWith b rest → field_of_first b ≡ field.LiteralWithNameRef
+    → AsksForMemory (form_named literal_with_name_ref) rest → AsksForMemory line_form rest
+asks_name_ref b rest h e f a =
+    let t = told b field.LiteralWithNameRef f in asks_same (form_named literal_with_name_ref) line_form b rest e
+    (same_name_ref b t.0 t.1) a
+
+pub asks_post_base_name_ref : (b : ℕ) (rest : List ℕ) → b < 256 → BeginsWith b rest
+    → field_of_first b ≡ field.LiteralWithPostBaseNameRef
+    → AsksForMemory (form_named literal_with_post_base_name_ref) rest → AsksForMemory line_form rest
+asks_post_base_name_ref b rest h e f a =
+    asks_same (form_named literal_with_post_base_name_ref) line_form b rest e
+    (same_post_base_name_ref b (told b field.LiteralWithPostBaseNameRef f)) a
+
+pub asks_literal : (b : ℕ) (rest : List ℕ) → b < 256 → BeginsWith b rest → field_of_first b ≡ field.Literal
+    → AsksForMemory (form_named literal) rest → AsksForMemory line_form rest
+asks_literal b rest h e f a =
+    let t = told b field.Literal f in asks_same (form_named literal) line_form b rest e (same_literal b t.0 t.1) a
+
+-- each form, where the first byte tells it
+pub ruleset lines_by_first = (
+  as_indexed,
+  as_post_base,
+  as_name_ref,
+  as_post_base_name_ref,
+  as_literal,
+  none_unknown,
+  asks_name_ref,
+  asks_post_base_name_ref,
+)
 
 -- ---- the reading of lines is their relation
 
-pub line_of_nothing : (seen rest : List ℕ) → length seen ≡ 0 → seen ≡ rest → line_at rest ≡ Err (Unreadable (BadInteger UnexpectedEnd))
+pub line_of_nothing : (seen rest : List ℕ) → length seen ≡ 0 → seen ≡ rest
+    → line_at rest ≡ Err (Unreadable (BadInteger UnexpectedEnd))
 unfolding form_at
 line_of_nothing [] rest h e = ap line_at (sym e)
 line_of_nothing (x ∷ xs) rest h e = absurd (omega arith)

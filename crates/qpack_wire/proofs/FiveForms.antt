@@ -1,20 +1,25 @@
 -- The five forms of a line, each told by its own first bits, make up the lines.
-use Rattle.std.proofs.Common.{◌≡◌, ℕ, ◌/◌, ◌<◌, Bool, true, false, List, Option, None, Some, refl, sym, ◌∙◌, arith, inl, inr, ◌⊎◌}
+use Rattle.std.proofs.Common.{◌≡◌, ℕ, ◌/◌, ◌<◌, Bool, true, false, List, Option, None, Some, refl, sym, ◌∙◌, arith, inl}
+use Rattle.std.proofs.Common.{inr, ◌⊎◌}
 use Rattle.std.specs.Prelude.{nat_lt, nat_eq, if◌then◌else◌}
 use Rattle.std.proofs.lemmas.Bool.{ltb-true, eqb-true, le-ltb, cases_lt}
 use Rattle.qpack_spec.specs.Form.{Form}
 use Rattle.qpack_spec.specs.Line.{Line, SpellsLine, line_form}
 use Rattle.qpack_wire.specs.Alone.{Alone, form_named, SpellsAlone}
-use Rattle.qpack_wire.specs.Lines.{indexed, indexed_with_post_base, literal_with_name_ref, literal_with_post_base_name_ref, literal}
+use Rattle.qpack_wire.specs.Lines.{indexed, indexed_with_post_base, literal_with_name_ref}
+use Rattle.qpack_wire.specs.Lines.{literal_with_post_base_name_ref, literal}
 use Rattle.qpack_wire.specs.LineLaws.{LinesHaveFiveForms}
-use Rattle.qpack_wire.proofs.BlockLines.{same_indexed, same_post_base, same_name_ref, same_post_base_name_ref, same_literal}
+use Rattle.qpack_wire.proofs.BlockLines.{same_indexed, same_post_base, same_name_ref, same_post_base_name_ref}
+use Rattle.qpack_wire.proofs.BlockLines.{same_literal}
 
 -- a form is named only where one of the tests holds
-pub test_holds : {L : Type 0} (test : Bool) (x : Option (Form L)) (form : Form L) → (if test then x else None) ≡ Some form → test ≡ true
+pub test_holds : {L : Type 0} (test : Bool) (x : Option (Form L)) (form : Form L)
+    → (if test then x else None) ≡ Some form → test ≡ true
 test_holds true x form e = refl
 test_holds false x form e = absurd cc
 
-one_holds : {L : Type 0} (test other : Bool) (x y : Option (Form L)) (form : Form L) → (if test then x else if other then y else None) ≡ Some form → (test ≡ true) ⊎ (other ≡ true)
+one_holds : {L : Type 0} (test other : Bool) (x y : Option (Form L)) (form : Form L)
+    → (if test then x else if other then y else None) ≡ Some form → (test ≡ true) ⊎ (other ≡ true)
 one_holds true other x y form e = inl refl
 one_holds false other x y form e = inr (test_holds other y form e)
 
@@ -29,28 +34,50 @@ named_indexed b form e = pick (one_holds (nat_eq (b / 64) 3) (nat_eq (b / 64) 2)
 
 named_post_base : (b : ℕ) (form : Form Line) → form_named indexed_with_post_base b ≡ Some form → line_form b ≡ Some form
 named_post_base b form e =
-    let q = eqb-true (b / 16) 1 (test_holds (nat_eq (b / 16) 1) _ form e) in sym (same_post_base b (omega (arith, q)) (omega (arith, q))) ∙ e
+    let q = eqb-true (b / 16) 1 (test_holds (nat_eq (b / 16) 1) _ form e) in
+    sym (same_post_base b (omega (arith, q)) (omega (arith, q))) ∙ e
 
 named_name_ref : (b : ℕ) (form : Form Line) → form_named literal_with_name_ref b ≡ Some form → line_form b ≡ Some form
 named_name_ref b form e =
-    let q = eqb-true (b / 16 / 4) 1 (test_holds (nat_eq (b / 16 / 4) 1) _ form e) in sym (same_name_ref b (omega (arith, q)) (omega (arith, q))) ∙ e
+    let q = eqb-true (b / 16 / 4) 1 (test_holds (nat_eq (b / 16 / 4) 1) _ form e) in
+    sym (same_name_ref b (omega (arith, q)) (omega (arith, q))) ∙ e
 
-named_post_base_name_ref : (b : ℕ) (form : Form Line) → form_named literal_with_post_base_name_ref b ≡ Some form → line_form b ≡ Some form
+named_post_base_name_ref : (b : ℕ) (form : Form Line) → form_named literal_with_post_base_name_ref b ≡ Some form
+    → line_form b ≡ Some form
 named_post_base_name_ref b form e =
-    let q = ltb-true (b / 8) 2 (test_holds (nat_lt (b / 8) 2) _ form e) in sym (same_post_base_name_ref b (omega (arith, q))) ∙ e
+    let q = ltb-true (b / 8) 2 (test_holds (nat_lt (b / 8) 2) _ form e) in
+    sym (same_post_base_name_ref b (omega (arith, q))) ∙ e
 
 named_literal : (b : ℕ) (form : Form Line) → form_named literal b ≡ Some form → line_form b ≡ Some form
 named_literal b form e =
-    let q = eqb-true (b / 32) 1 (test_holds (nat_eq (b / 32) 1) _ form e) in sym (same_literal b (omega (arith, q)) (omega (arith, q))) ∙ e
+    let q = eqb-true (b / 32) 1 (test_holds (nat_eq (b / 32) 1) _ form e) in
+    sym (same_literal b (omega (arith, q)) (omega (arith, q))) ∙ e
 
 -- ---- spellings
 
 -- a spelling stays one where its first byte names the same form
-spelled : (a : Alone Line) (text : List ℕ) (l : Line) → ((b : ℕ) (form : Form Line) → form_named a b ≡ Some form → line_form b ≡ Some form) → SpellsAlone a text l → SpellsLine text l
-spelled a text l same s = record { first = s.first; more = s.more; form = s.form; begins = s.begins; names = same s.first s.form s.names; spells = s.spells }
+spelled : (a : Alone Line) (text : List ℕ) (l : Line)
+    → ((b : ℕ) (form : Form Line) → form_named a b ≡ Some form → line_form b ≡ Some form) → SpellsAlone a text l
+    → SpellsLine text l
+spelled a text l same s = record {
+  first = s.first;
+  more = s.more;
+  form = s.form;
+  begins = s.begins;
+  names = same s.first s.form s.names;
+  spells = s.spells;
+}
 
-alone : (a : Alone Line) (text : List ℕ) (l : Line) (s : SpellsLine text l) → form_named a s.first ≡ line_form s.first → SpellsAlone a text l
-alone a text l s same = record { first = s.first; more = s.more; form = s.form; begins = s.begins; names = same ∙ s.names; spells = s.spells }
+alone : (a : Alone Line) (text : List ℕ) (l : Line) (s : SpellsLine text l) → form_named a s.first ≡ line_form s.first
+    → SpellsAlone a text l
+alone a text l s same = record {
+  first = s.first;
+  more = s.more;
+  form = s.form;
+  begins = s.begins;
+  names = same ∙ s.names;
+  spells = s.spells;
+}
 
 -- no number past a byte begins a line
 byte_first : (b : ℕ) (form : Form Line) → line_form b ≡ Some form → b < 256
@@ -72,10 +99,12 @@ byte_first b form e =
 apart : (text : List ℕ) (l : Line) → SpellsLine text l
     → SpellsAlone indexed text l
     ⊎ (SpellsAlone indexed_with_post_base text l
-    ⊎ (SpellsAlone literal_with_name_ref text l ⊎ (SpellsAlone literal_with_post_base_name_ref text l ⊎ SpellsAlone literal text l)))
+    ⊎ (SpellsAlone literal_with_name_ref text l ⊎ (SpellsAlone literal_with_post_base_name_ref text l
+    ⊎ SpellsAlone literal text l)))
 apart text l s =
     elim (cases_lt s.first 16) [
-      | inl h ↦ inr (inr (inr (inl (alone literal_with_post_base_name_ref text l s (same_post_base_name_ref s.first h)))))
+      | inl h ↦ inr (inr (inr (inl (alone literal_with_post_base_name_ref text l s
+          (same_post_base_name_ref s.first h)))))
       | inr h16 ↦
           elim (cases_lt s.first 32) [
             | inl h ↦ inr (inl (alone indexed_with_post_base text l s (same_post_base s.first h16 h)))
@@ -85,7 +114,8 @@ apart text l s =
                   | inr h64 ↦
                       elim (cases_lt s.first 128) [
                         | inl h ↦ inr (inr (inl (alone literal_with_name_ref text l s (same_name_ref s.first h64 h))))
-                        | inr h128 ↦ inl (alone indexed text l s (same_indexed s.first h128 (byte_first s.first s.form s.names)))
+                        | inr h128 ↦ inl (alone indexed text l s (same_indexed s.first h128
+                            (byte_first s.first s.form s.names)))
                       ]
                 ]
           ]
@@ -96,7 +126,8 @@ five_forms text l = (apart text l, together)
   where
     together : SpellsAlone indexed text l
         ⊎ (SpellsAlone indexed_with_post_base text l
-        ⊎ (SpellsAlone literal_with_name_ref text l ⊎ (SpellsAlone literal_with_post_base_name_ref text l ⊎ SpellsAlone literal text l)))
+        ⊎ (SpellsAlone literal_with_name_ref text l ⊎ (SpellsAlone literal_with_post_base_name_ref text l
+        ⊎ SpellsAlone literal text l)))
         → SpellsLine text l
     together (inl s) = spelled indexed text l named_indexed s
     together (inr (inl s)) = spelled indexed_with_post_base text l named_post_base s

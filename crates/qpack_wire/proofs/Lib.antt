@@ -1,5 +1,6 @@
 pub mod Readers
 pub mod Alones
+pub mod Asking
 pub mod LineForms
 pub mod Prefixes
 pub mod BlockLines

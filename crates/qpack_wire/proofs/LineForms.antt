@@ -3,15 +3,18 @@ use Rattle.std.proofs.Common.{◌≡◌, ℕ, ◌/◌, ◌%◌, Bool, true, fals
 use Rattle.std.specs.Prelude.{nat_eq, nat_lt, if◌then◌else◌}
 use Rattle.std.proofs.lemmas.Option.{same_Some}
 use Rattle.qpack_spec.specs.Form.{Form, Index, IndexAndValue}
-use Rattle.qpack_spec.specs.Line.{Line, IndexedStatic, IndexedDynamic, IndexedPostBase, NamedStatic, NamedDynamic, NamedPostBase}
+use Rattle.qpack_spec.specs.Line.{Line, IndexedStatic, IndexedDynamic, IndexedPostBase, NamedStatic, NamedDynamic}
+use Rattle.qpack_spec.specs.Line.{NamedPostBase}
 use Rattle.qpack_wire.specs.Alone.{SpellsAlone, RefusesAlone, alone_at}
-use Rattle.qpack_wire.specs.Lines.{indexed, indexed_with_post_base, literal_with_name_ref, literal_with_post_base_name_ref, literal}
+use Rattle.qpack_wire.specs.Lines.{indexed, indexed_with_post_base, literal_with_name_ref}
+use Rattle.qpack_wire.specs.Lines.{literal_with_post_base_name_ref, literal}
 use Rattle.qpack_wire.proofs.Readers.{Follows}
 use Rattle.qpack_wire.proofs.Alones.{HasPrefix, Coherent, alone_follows}
 
 -- a form that is chosen by a test has the prefix that both choices have
 pub chosen_prefix : {L : Type 0} (n : ℕ) (test : Bool) (x y : Option (Form L)) (form : Form L)
-    → ((f : Form L) → x ≡ Some f → HasPrefix n f) → ((f : Form L) → y ≡ Some f → HasPrefix n f) → (if test then x else y) ≡ Some form → HasPrefix n form
+    → ((f : Form L) → x ≡ Some f → HasPrefix n f) → ((f : Form L) → y ≡ Some f → HasPrefix n f)
+    → (if test then x else y) ≡ Some form → HasPrefix n form
 chosen_prefix n true x y form p q e = p form e
 chosen_prefix n false x y form p q e = q form e
 
@@ -23,39 +26,49 @@ none_prefix n form e = absurd cc
 
 pub coherent_indexed : Coherent indexed
 coherent_indexed flags form e =
-    chosen_prefix 6 (nat_eq flags 3) (Some (Index 6 IndexedStatic)) (if nat_eq flags 2 then Some (Index 6 IndexedDynamic) else None) form
+    chosen_prefix 6 (nat_eq flags 3) (Some (Index 6 IndexedStatic))
+    (if nat_eq flags 2 then Some (Index 6 IndexedDynamic) else None) form
     (λ f. this_prefix 6 (Index 6 IndexedStatic) f refl)
-    (λ f. chosen_prefix 6 (nat_eq flags 2) (Some (Index 6 IndexedDynamic)) None f (λ g. this_prefix 6 (Index 6 IndexedDynamic) g refl) (λ g. none_prefix 6 g))
+    (λ f. chosen_prefix 6 (nat_eq flags 2) (Some (Index 6 IndexedDynamic)) None f
+    (λ g. this_prefix 6 (Index 6 IndexedDynamic) g refl) (λ g. none_prefix 6 g))
     e
 
 pub coherent_post_base : Coherent indexed_with_post_base
 coherent_post_base flags form e =
-    chosen_prefix 4 (nat_eq flags 1) (Some (Index 4 IndexedPostBase)) None form (λ f. this_prefix 4 (Index 4 IndexedPostBase) f refl) (λ f. none_prefix 4 f) e
+    chosen_prefix 4 (nat_eq flags 1) (Some (Index 4 IndexedPostBase)) None form
+    (λ f. this_prefix 4 (Index 4 IndexedPostBase) f refl) (λ f. none_prefix 4 f) e
 
 pub coherent_name_ref : Coherent literal_with_name_ref
 coherent_name_ref flags form e =
-    chosen_prefix 4 (nat_eq (flags / 4) 1) (if nat_eq (flags % 2) 1 then Some (IndexAndValue 4 NamedStatic) else Some (IndexAndValue 4 NamedDynamic)) None form
-    (λ f. chosen_prefix 4 (nat_eq (flags % 2) 1) (Some (IndexAndValue 4 NamedStatic)) (Some (IndexAndValue 4 NamedDynamic)) f
-    (λ g. this_prefix 4 (IndexAndValue 4 NamedStatic) g refl) (λ g. this_prefix 4 (IndexAndValue 4 NamedDynamic) g refl))
+    chosen_prefix 4 (nat_eq (flags / 4) 1) (if nat_eq (flags % 2) 1 then Some (IndexAndValue 4 NamedStatic) else Some
+    (IndexAndValue 4 NamedDynamic)) None form
+    (λ f. chosen_prefix 4 (nat_eq (flags % 2) 1) (Some (IndexAndValue 4 NamedStatic))
+    (Some (IndexAndValue 4 NamedDynamic)) f
+    (λ g. this_prefix 4 (IndexAndValue 4 NamedStatic) g refl)
+    (λ g. this_prefix 4 (IndexAndValue 4 NamedDynamic) g refl))
     (λ f. none_prefix 4 f)
     e
 
 pub coherent_post_base_name_ref : Coherent literal_with_post_base_name_ref
 coherent_post_base_name_ref flags form e =
-    chosen_prefix 3 (nat_lt flags 2) (Some (IndexAndValue 3 NamedPostBase)) None form (λ f. this_prefix 3 (IndexAndValue 3 NamedPostBase) f refl) (λ f. none_prefix 3 f) e
+    chosen_prefix 3 (nat_lt flags 2) (Some (IndexAndValue 3 NamedPostBase)) None form
+    (λ f. this_prefix 3 (IndexAndValue 3 NamedPostBase) f refl) (λ f. none_prefix 3 f) e
 
 -- ---- each form
 
 pub indexed_follows : Follows Line (SpellsAlone indexed) (RefusesAlone indexed) (alone_at indexed)
 indexed_follows = alone_follows indexed coherent_indexed
 
-pub post_base_follows : Follows Line (SpellsAlone indexed_with_post_base) (RefusesAlone indexed_with_post_base) (alone_at indexed_with_post_base)
+pub post_base_follows : Follows Line (SpellsAlone indexed_with_post_base) (RefusesAlone indexed_with_post_base)
+    (alone_at indexed_with_post_base)
 post_base_follows = alone_follows indexed_with_post_base coherent_post_base
 
-pub name_ref_follows : Follows Line (SpellsAlone literal_with_name_ref) (RefusesAlone literal_with_name_ref) (alone_at literal_with_name_ref)
+pub name_ref_follows : Follows Line (SpellsAlone literal_with_name_ref) (RefusesAlone literal_with_name_ref)
+    (alone_at literal_with_name_ref)
 name_ref_follows = alone_follows literal_with_name_ref coherent_name_ref
 
-pub post_base_name_ref_follows : Follows Line (SpellsAlone literal_with_post_base_name_ref) (RefusesAlone literal_with_post_base_name_ref) (alone_at literal_with_post_base_name_ref)
+pub post_base_name_ref_follows : Follows Line (SpellsAlone literal_with_post_base_name_ref)
+    (RefusesAlone literal_with_post_base_name_ref) (alone_at literal_with_post_base_name_ref)
 post_base_name_ref_follows = alone_follows literal_with_post_base_name_ref coherent_post_base_name_ref
 
 pub literal_follows : Follows Line (SpellsAlone literal) (RefusesAlone literal) (alone_at literal)

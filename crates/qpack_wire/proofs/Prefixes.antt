@@ -1,5 +1,6 @@
 -- A prefix is read from left to right as its relation, and its required count by residues.
-use Rattle.std.proofs.Common.{◌≡◌, ℕ, ◌+◌, ◌-◌, ◌*◌, ◌/◌, ◌%◌, ◌<◌, ◌≤◌, false, List, ◌++◌, Result, Ok, Err, refl, sym, ap, subst, ◌∙◌, append_assoc, arith, inl, inr, ◌⊎◌}
+use Rattle.std.proofs.Common.{◌≡◌, ℕ, ◌+◌, ◌-◌, ◌*◌, ◌/◌, ◌%◌, ◌<◌, ◌≤◌, false, List, ◌++◌, Result, Ok, Err, refl, sym}
+use Rattle.std.proofs.Common.{ap, subst, ◌∙◌, append_assoc, arith, inl, inr, ◌⊎◌}
 use Rattle.std.specs.Prelude.{nat_eq}
 use Rattle.std.proofs.Math.Nat.{div-add-mod, add-mul-mod_self_left}
 use Rattle.qpack_spec.specs.Bytes.{Begins, ◌>>=◌}
@@ -14,17 +15,21 @@ use Rattle.qpack_wire.proofs.Readers.{Follows}
 use Rattle.qpack_wire.proofs.Alones.{readable_ok, readable_err}
 
 -- the count less one away from the top, by residues alone
-pub window_at : (total m count : ℕ) → 0 < count → count ≤ 2 * m → required_at (total + m) m count ≡ total + m - (total % (2 * m) + m + 2 * m - (count - 1)) % (2 * m)
+pub window_at : (total m count : ℕ) → 0 < count → count ≤ 2 * m
+    → required_at (total + m) m count ≡ total + m - (total % (2 * m) + m + 2 * m - (count - 1)) % (2 * m)
 unfolding required_at
 window_at total m count some most =
     let split : (2 * m) * (total / (2 * m)) + total % (2 * m) ≡ total = div-add-mod total (2 * m) in
-    let shape : total + m + 2 * m - (count - 1) ≡ (total % (2 * m) + m + 2 * m - (count - 1)) + (2 * m) * (total / (2 * m)) = omega arith in
+    let shape : total + m + 2 * m - (count - 1) ≡ (total % (2 * m) + m + 2 * m - (count - 1)) + (2 * m) *
+    (total / (2 * m)) = omega arith in
     ap (λ (n : ℕ). total + m - n % (2 * m)) shape
-    ∙ ap (λ (n : ℕ). total + m - n) (add-mul-mod_self_left (total % (2 * m) + m + 2 * m - (count - 1)) (2 * m) (total / (2 * m)))
+    ∙ ap (λ (n : ℕ). total + m - n) (add-mul-mod_self_left (total % (2 * m) + m + 2 * m - (count - 1)) (2 * m)
+    (total / (2 * m)))
 
 -- ---- bytes
 
-prefix_refused : (text rest : List ℕ) (fault : AloneFault) → RefusesPrefix text fault → read_prefix_at (text ++ rest) ≡ Err fault
+prefix_refused : (text rest : List ℕ) (fault : AloneFault) → RefusesPrefix text fault
+    → read_prefix_at (text ++ rest) ≡ Err fault
 unfolding prefix_at
 prefix_refused text rest (Unreadable f) (inl r) = rw (index_refused 8 text rest f r) refl
 prefix_refused text rest (Unreadable f) (inr r) =
@@ -43,19 +48,25 @@ behind_fails : (count : ℕ) (read : Index) (f : FormFault) → behind count rea
 behind_fails count (Ok d) f e = absurd cc
 behind_fails count (Err g) f e = cc
 
-prefix_fails : (bytes : List ℕ) (f : FormFault) → prefix_at bytes ≡ Err f → (r : Index) → or_bad_integer (integer_at 8 bytes) ≡ r
-    → (r ≡ Err f) ⊎ ((i : ℕ × ℕ × List ℕ) × (or_bad_integer (integer_at 8 bytes) ≡ Ok i) × (or_bad_integer (integer_at 7 i.2) ≡ Err f))
+prefix_fails : (bytes : List ℕ) (f : FormFault) → prefix_at bytes ≡ Err f → (r : Index)
+    → or_bad_integer (integer_at 8 bytes) ≡ r
+    → (r ≡ Err f) ⊎ ((i : ℕ × ℕ × List ℕ) × (or_bad_integer (integer_at 8 bytes) ≡ Ok i)
+    × (or_bad_integer (integer_at 7 i.2) ≡ Err f))
 unfolding prefix_at
 prefix_fails bytes f e (Ok i) q =
     let h = rw q at e in inr (i, q, behind_fails i.1 (or_bad_integer (integer_at 7 i.2)) f h)
 prefix_fails bytes f e (Err g) q = let h = rw q at e in inl cc
 
-prefix_refusal : (bytes : List ℕ) (f : FormFault) → prefix_at bytes ≡ Err f → is_cut f ≡ false → Begins (λ text. RefusesPrefix text (Unreadable f)) bytes
+prefix_refusal : (bytes : List ℕ) (f : FormFault) → prefix_at bytes ≡ Err f → is_cut f ≡ false
+    → Begins (λ text. RefusesPrefix text (Unreadable f)) bytes
 prefix_refusal bytes f e k = pick (prefix_fails bytes f e (or_bad_integer (integer_at 8 bytes)) refl)
   where
-    pick : (or_bad_integer (integer_at 8 bytes) ≡ Err f) ⊎ ((i : ℕ × ℕ × List ℕ) × (or_bad_integer (integer_at 8 bytes) ≡ Ok i) × (or_bad_integer (integer_at 7 i.2) ≡ Err f))
+    pick : (or_bad_integer (integer_at 8 bytes) ≡ Err f)
+        ⊎ ((i : ℕ × ℕ × List ℕ) × (or_bad_integer (integer_at 8 bytes) ≡ Ok i)
+        × (or_bad_integer (integer_at 7 i.2) ≡ Err f))
         → Begins (λ text. RefusesPrefix text (Unreadable f)) bytes
-    pick (inl h) = let b = index_refusal 8 bytes f h k in record { text = b.text; rest = b.rest; parts = b.parts; holds = inl b.holds }
+    pick (inl h) = let b =
+        index_refusal 8 bytes f h k in record { text = b.text; rest = b.rest; parts = b.parts; holds = inl b.holds }
     pick (inr h) =
         let t = index_takes 8 bytes h.0 h.1 in
         let b = index_refusal 7 h.0.2 f h.2 k in
@@ -63,7 +74,13 @@ prefix_refusal bytes f e k = pick (prefix_fails bytes f e (or_bad_integer (integ
           text = t.text ++ b.text;
           rest = b.rest;
           parts = t.parts ∙ ap (λ x. t.text ++ x) b.parts ∙ sym (append_assoc t.text b.text b.rest);
-          holds = inr (record { head = t.text; tail = b.text; parts = refl; first = (h.0.1, t.holds); second = b.holds });
+          holds = inr (record {
+            head = t.text;
+            tail = b.text;
+            parts = refl;
+            first = (h.0.1, t.holds);
+            second = b.holds;
+          });
         }
 
 whole_index : (n : ℕ) (text : List ℕ) (f : FormFault) → RefusesIndex n text f → is_cut f ≡ false
@@ -77,7 +94,8 @@ prefix_follows = record {
   again = λ text rest p s. ap or_unreadable ((reads_prefixes (text ++ rest) p rest).1 (text, refl, s));
   refusal = λ bytes fault e k. (
       let u = readable_err (prefix_at bytes) fault e in
-      subst (λ (g : AloneFault). Begins (λ text. RefusesPrefix text g) bytes) (sym u.told) (prefix_refusal bytes u.because u.is (sym (ap is_cut_alone u.told) ∙ k))
+      subst (λ (g : AloneFault). Begins (λ text. RefusesPrefix text g) bytes) (sym u.told)
+      (prefix_refusal bytes u.because u.is (sym (ap is_cut_alone u.told) ∙ k))
       );
   refused = prefix_refused;
   whole = elim_whole;

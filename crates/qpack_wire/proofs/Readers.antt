@@ -1,27 +1,32 @@
 -- What a reader answers in terms of spellings and refusals, where it meets a reading function that follows them.
-use Rattle.std.proofs.Common.{◌≡◌, ℕ, Bool, true, false, List, ◌++◌, Result, Ok, Err, refl, sym, ap, ◌∙◌, inl, inr, ◌⊎◌}
+use Rattle.std.proofs.Common.{◌≡◌, ℕ, Bool, true, false, List, ◌++◌, Option, None, Some, Result, Ok, Err, refl, sym, ap}
+use Rattle.std.proofs.Common.{◌∙◌, inl, inr, ◌⊎◌}
 use Rattle.qpack_spec.specs.Bytes.{Begins}
 use Rattle.qpack_spec.proofs.Results.{ok_pair}
 use Rattle.qpack_base.specs.Cursor.{Reading}
-use Rattle.qpack_base.specs.declared.prefix_int.Error.TheVariants as integer
-use Rattle.qpack_base.specs.declared.prefix_string.Error.TheVariants as string
 use Rattle.qpack_base.specs.declared.parse_error.ParseError.{ParseError}
-use Rattle.qpack_base.specs.declared.parse_error.ParseError.TheVariants.{Integer, String, InvalidPrefix, InvalidBase, Memory}
+use Rattle.qpack_base.specs.declared.parse_error.ParseError.TheVariants.{Memory}
 use Rattle.qpack_wire.specs.Alone.{AloneFault, is_cut_alone}
-use Rattle.qpack_wire.specs.Answers.{Tells, FailsEarly, IsTruncated, FindsSpelling, ReadsSpelling, TellsRefusal, TellsEnd, FailsForm, ReadsForm}
+use Rattle.qpack_wire.specs.Answers.{fault_of, ReadAs, Tells, FailsEarly, IsTruncated, FindsSpelling, ReadsSpelling}
+use Rattle.qpack_wire.specs.Answers.{TellsRefusal, TellsEnd, FailsForm, ReadsForm, Decodes}
 
 -- reading from left to right is the relation of spellings and refusals
-pub record Follows (L : Type 0) (spells : List ℕ → L → Type 0) (refuses : List ℕ → AloneFault → Type 0) (read : List ℕ → Result (L × List ℕ) AloneFault) : Type 0 where
-  pub takes : (bytes : List ℕ) (l : L) (rest : List ℕ) → read bytes ≡ Ok (l, rest) → (text : List ℕ) × (bytes ≡ text ++ rest) × spells text l
+pub record Follows (L : Type 0) (spells : List ℕ → L → Type 0) (refuses : List ℕ → AloneFault → Type 0)
+    (read : List ℕ → Result (L × List ℕ) AloneFault) : Type 0 where
+  pub takes : (bytes : List ℕ) (l : L) (rest : List ℕ) → read bytes ≡ Ok (l, rest)
+      → (text : List ℕ) × (bytes ≡ text ++ rest) × spells text l
   pub again : (text rest : List ℕ) (l : L) → spells text l → read (text ++ rest) ≡ Ok (l, rest)
-  pub refusal : (bytes : List ℕ) (fault : AloneFault) → read bytes ≡ Err fault → is_cut_alone fault ≡ false → Begins (λ text. refuses text fault) bytes
+  pub refusal : (bytes : List ℕ) (fault : AloneFault) → read bytes ≡ Err fault → is_cut_alone fault ≡ false
+      → Begins (λ text. refuses text fault) bytes
   pub refused : (text rest : List ℕ) (fault : AloneFault) → refuses text fault → read (text ++ rest) ≡ Err fault
   pub whole : (text : List ℕ) (fault : AloneFault) → refuses text fault → is_cut_alone fault ≡ false
 
 -- ---- truncation
 
-pub follows_cut : (L : Type 0) (spells : List ℕ → L → Type 0) (refuses : List ℕ → AloneFault → Type 0) (read : List ℕ → Result (L × List ℕ) AloneFault) → Follows L spells refuses read
-    → (bytes : List ℕ) (fault : AloneFault) → is_cut_alone fault ≡ true → read bytes ≡ Err fault → IsTruncated spells refuses bytes
+follows_cut : (L : Type 0) (spells : List ℕ → L → Type 0) (refuses : List ℕ → AloneFault → Type 0)
+    (read : List ℕ → Result (L × List ℕ) AloneFault) → Follows L spells refuses read
+    → (bytes : List ℕ) (fault : AloneFault) → is_cut_alone fault ≡ true → read bytes ≡ Err fault
+    → IsTruncated spells refuses bytes
 follows_cut L spells refuses read w bytes fault k e text rest p = (
   λ l s. (let g = w.again text rest l s in let h = ap read p in absurd cc),
   λ f r. (
@@ -34,73 +39,73 @@ follows_cut L spells refuses read w bytes fault k e text rest p = (
       ),
 )
 
-pub cut_follows : (L : Type 0) (spells : List ℕ → L → Type 0) (refuses : List ℕ → AloneFault → Type 0) (read : List ℕ → Result (L × List ℕ) AloneFault) → Follows L spells refuses read
-    → (bytes : List ℕ) → IsTruncated spells refuses bytes → (fault : AloneFault) × (is_cut_alone fault ≡ true) × (read bytes ≡ Err fault)
+cut_follows : (L : Type 0) (spells : List ℕ → L → Type 0) (refuses : List ℕ → AloneFault → Type 0)
+    (read : List ℕ → Result (L × List ℕ) AloneFault) → Follows L spells refuses read
+    → (bytes : List ℕ) → IsTruncated spells refuses bytes
+    → (fault : AloneFault) × (is_cut_alone fault ≡ true) × (read bytes ≡ Err fault)
 cut_follows L spells refuses read w bytes t = go (read bytes) refl
   where
-    cut : (fault : AloneFault) → read bytes ≡ Err fault → (b : Bool) → is_cut_alone fault ≡ b → (fault : AloneFault) × (is_cut_alone fault ≡ true) × (read bytes ≡ Err fault)
+    cut : (fault : AloneFault) → read bytes ≡ Err fault → (b : Bool) → is_cut_alone fault ≡ b
+        → (fault : AloneFault) × (is_cut_alone fault ≡ true) × (read bytes ≡ Err fault)
     cut fault e true k = (fault, k, e)
     cut fault e false k = let b = w.refusal bytes fault e k in absurd ((t b.text b.rest b.parts).1 fault b.holds)
 
-    go : (r : Result (L × List ℕ) AloneFault) → read bytes ≡ r → (fault : AloneFault) × (is_cut_alone fault ≡ true) × (read bytes ≡ Err fault)
+    go : (r : Result (L × List ℕ) AloneFault) → read bytes ≡ r
+        → (fault : AloneFault) × (is_cut_alone fault ≡ true) × (read bytes ≡ Err fault)
     go (Ok x) e = let k = w.takes bytes x.0 x.1 e in absurd ((t k.0 x.1 k.1).0 x.0 k.2)
     go (Err fault) e = cut fault e (is_cut_alone fault) refl
 
 -- ---- errors
 
+-- a fault that was read is the one that an error tells
+read_same : {A : Type 0} (o : Option AloneFault) (read : Result A AloneFault) (fault : AloneFault) → ReadAs read o
+    → o ≡ Some fault → read ≡ Err fault
+read_same None read fault h t = absurd h
+read_same (Some f) read fault h t = cc
+
+same_read : {A : Type 0} (o : Option AloneFault) (read : Result A AloneFault) (fault : AloneFault) → ReadAs read o
+    → read ≡ Err fault → o ≡ Some fault
+same_read None read fault h t = absurd h
+same_read (Some f) read fault h t = let s : f ≡ fault = cc in ap (λ (x : AloneFault). Some x) s
+
+not_read : {A : Type 0} (o : Option AloneFault) (read : Result A AloneFault) (x : A) → ReadAs read o → read ≡ Ok x → ⊥
+not_read None read x h t = h
+not_read (Some f) read x h t = absurd cc
+
 -- an error that tells a fault was read as that fault
-pub told_read : {A : Type 0} (e : ParseError) (read : Result A AloneFault) (fault : AloneFault) → FailsForm e read → Tells e fault → read ≡ Err fault
-told_read (Integer e) read fault h t = cc
-told_read (String string.UnexpectedEnd) read fault h t = cc
-told_read (String (string.Integer integer.Overflow)) read fault h t = cc
-told_read (String (string.Integer integer.UnexpectedEnd)) read fault h t = absurd h
-told_read (String (string.HuffmanDecoding e)) read fault h t = cc
-told_read (String (string.HuffmanEncoding e)) read fault h t = absurd h
-told_read (String string.BufSize) read fault h t = absurd h
-told_read (String string.Memory) read fault h t = absurd h
-told_read (InvalidPrefix bits) read fault h t = cc
-told_read (InvalidBase base) read fault h t = absurd h
-told_read Memory read fault h t = absurd t
+told_read : {A : Type 0} (e : ParseError) (read : Result A AloneFault) (fault : AloneFault) → FailsForm e read
+    → Tells e fault → read ≡ Err fault
+told_read Memory read fault h t = absurd cc
+told_read e read fault h t = read_same (fault_of e) read fault h t
 
 -- what was read as a fault is told so, or memory was refused
-pub read_told : {A : Type 0} (e : ParseError) (read : Result A AloneFault) (fault : AloneFault) → FailsForm e read → read ≡ Err fault → Tells e fault ⊎ (e ≡ Memory)
-read_told (Integer e) read fault h t = inl cc
-read_told (String string.UnexpectedEnd) read fault h t = inl cc
-read_told (String (string.Integer integer.Overflow)) read fault h t = inl cc
-read_told (String (string.Integer integer.UnexpectedEnd)) read fault h t = absurd h
-read_told (String (string.HuffmanDecoding e)) read fault h t = inl cc
-read_told (String (string.HuffmanEncoding e)) read fault h t = absurd h
-read_told (String string.BufSize) read fault h t = absurd h
-read_told (String string.Memory) read fault h t = absurd h
-read_told (InvalidPrefix bits) read fault h t = inl cc
-read_told (InvalidBase base) read fault h t = absurd h
+read_told : {A : Type 0} (e : ParseError) (read : Result A AloneFault) (fault : AloneFault) → FailsForm e read
+    → read ≡ Err fault → Tells e fault ⊎ (e ≡ Memory)
 read_told Memory read fault h t = inr refl
+read_told e read fault h t = inl (same_read (fault_of e) read fault h t)
 
-pub no_value : {A : Type 0} (e : ParseError) (read : Result A AloneFault) (x : A) → FailsForm e read → read ≡ Ok x → e ≡ Memory
-no_value (Integer e) read x h t = absurd cc
-no_value (String string.UnexpectedEnd) read x h t = absurd cc
-no_value (String (string.Integer integer.Overflow)) read x h t = absurd cc
-no_value (String (string.Integer integer.UnexpectedEnd)) read x h t = absurd h
-no_value (String (string.HuffmanDecoding e)) read x h t = absurd cc
-no_value (String (string.HuffmanEncoding e)) read x h t = absurd h
-no_value (String string.BufSize) read x h t = absurd h
-no_value (String string.Memory) read x h t = absurd h
-no_value (InvalidPrefix bits) read x h t = absurd cc
-no_value (InvalidBase base) read x h t = absurd h
+no_value : {A : Type 0} (e : ParseError) (read : Result A AloneFault) (x : A) → FailsForm e read → read ≡ Ok x
+    → e ≡ Memory
 no_value Memory read x h t = refl
+no_value e read x h t = absurd (not_read (fault_of e) read x h t)
 
 -- ---- the clauses
 
 abbrev pub failed : {V : Type 0} → ParseError → Result V ParseError
 failed e = Err e
 
-pub found : {V L : Type 0} (view : V → L) (spells : List ℕ → L → Type 0) (refuses : List ℕ → AloneFault → Type 0) (read : List ℕ → Result (L × List ℕ) AloneFault) → Follows L spells refuses read
-    → (old new : Reading) (r : Result V ParseError) → ReadsForm view old new r (read old.rest) → FindsSpelling view spells old new r
-found view spells refuses read w old new (Ok v) h = let t = w.takes old.rest (view v) new.rest h.0 in (t.0, t.2, (t.1, h.1))
+pub found : {V L : Type 0} (view : V → L) (spells : List ℕ → L → Type 0) (refuses : List ℕ → AloneFault → Type 0)
+    (read : List ℕ → Result (L × List ℕ) AloneFault) → Follows L spells refuses read
+    → (old new : Reading) (r : Result V ParseError) → ReadsForm view old new r (read old.rest)
+    → FindsSpelling view spells old new r
+found view spells refuses read w old new (Ok v) h =
+    let t = w.takes old.rest (view v) new.rest h.0 in (t.0, t.2, (t.1, h.1))
 found view spells refuses read w old new (Err e) h = tt
 
-pub only : {V L : Type 0} (view : V → L) (spells : List ℕ → L → Type 0) (refuses : List ℕ → AloneFault → Type 0) (read : List ℕ → Result (L × List ℕ) AloneFault) → Follows L spells refuses read
-    → (old new : Reading) (r : Result V ParseError) → ReadsForm view old new r (read old.rest) → ReadsSpelling view spells old new r
+pub only : {V L : Type 0} (view : V → L) (spells : List ℕ → L → Type 0) (refuses : List ℕ → AloneFault → Type 0)
+    (read : List ℕ → Result (L × List ℕ) AloneFault) → Follows L spells refuses read
+    → (old new : Reading) (r : Result V ParseError) → ReadsForm view old new r (read old.rest)
+    → ReadsSpelling view spells old new r
 only view spells refuses read w old new (Ok v) h text rest l s parts =
     let e = ap read parts ∙ w.again text rest l s in
     let p = ok_pair (view v) l new.rest rest (sym h.0 ∙ e) in
@@ -109,14 +114,18 @@ only {V} view spells refuses read w old new (Err e) h text rest l s parts =
     let m = no_value e (read old.rest) (l, rest) h (ap read parts ∙ w.again text rest l s) in
     inr (ap (λ (x : ParseError). failed {V = V} x) m)
 
-refused_value : (L : Type 0) (read : Result (L × List ℕ) AloneFault) (x : L × List ℕ) (fault : AloneFault) → read ≡ Ok x → read ≡ Err fault → ⊥
+refused_value : (L : Type 0) (read : Result (L × List ℕ) AloneFault) (x : L × List ℕ) (fault : AloneFault) → read ≡ Ok x
+    → read ≡ Err fault → ⊥
 refused_value L read x fault p q = absurd cc
 
-pub refusals : {V L : Type 0} (view : V → L) (spells : List ℕ → L → Type 0) (refuses : List ℕ → AloneFault → Type 0) (read : List ℕ → Result (L × List ℕ) AloneFault) → Follows L spells refuses read
-    → (old new : Reading) (r : Result V ParseError) → ReadsForm view old new r (read old.rest) → TellsRefusal refuses old r
+pub refusals : {V L : Type 0} (view : V → L) (spells : List ℕ → L → Type 0) (refuses : List ℕ → AloneFault → Type 0)
+    (read : List ℕ → Result (L × List ℕ) AloneFault) → Follows L spells refuses read
+    → (old new : Reading) (r : Result V ParseError) → ReadsForm view old new r (read old.rest)
+    → TellsRefusal refuses old r
 refusals {V} {L} view spells refuses read w old new (Ok v) h fault = (
   λ k f. absurd f,
-  λ b. absurd (refused_value L (read old.rest) (view v, new.rest) fault h.0 (ap read b.parts ∙ w.refused b.text b.rest fault b.holds)),
+  λ b. absurd (refused_value L (read old.rest) (view v, new.rest) fault h.0
+      (ap read b.parts ∙ w.refused b.text b.rest fault b.holds)),
 )
 refusals {V} view spells refuses read w old new (Err e) h fault = (
   λ k f. w.refusal old.rest fault (told_read e (read old.rest) fault h f) k,
@@ -127,17 +136,34 @@ refusals {V} view spells refuses read w old new (Err e) h fault = (
     pick (inl t) = inl t
     pick (inr m) = inr (ap (λ (x : ParseError). failed {V = V} x) m)
 
-pub ends : {V L : Type 0} (view : V → L) (spells : List ℕ → L → Type 0) (refuses : List ℕ → AloneFault → Type 0) (read : List ℕ → Result (L × List ℕ) AloneFault) → Follows L spells refuses read
-    → (old new : Reading) (r : Result V ParseError) → ReadsForm view old new r (read old.rest) → TellsEnd spells refuses old r
+pub ends : {V L : Type 0} (view : V → L) (spells : List ℕ → L → Type 0) (refuses : List ℕ → AloneFault → Type 0)
+    (read : List ℕ → Result (L × List ℕ) AloneFault) → Follows L spells refuses read
+    → (old new : Reading) (r : Result V ParseError) → ReadsForm view old new r (read old.rest)
+    → TellsEnd spells refuses old r
 ends {V} {L} view spells refuses read w old new (Ok v) h = (
   λ f. absurd f.2,
-  λ t. absurd (let k = cut_follows L spells refuses read w old.rest t in refused_value L (read old.rest) (view v, new.rest) k.0 h.0 k.2),
+  λ t. absurd (let k = cut_follows L spells refuses read w old.rest t in
+      refused_value L (read old.rest) (view v, new.rest) k.0 h.0 k.2),
 )
 ends {V} {L} view spells refuses read w old new (Err e) h = (
   λ f. follows_cut L spells refuses read w old.rest f.0 f.1 (told_read e (read old.rest) f.0 h f.2),
   λ t. (let k = cut_follows L spells refuses read w old.rest t in pick k.0 k.1 (read_told e (read old.rest) k.0 h k.2)),
 )
   where
-    pick : (fault : AloneFault) → is_cut_alone fault ≡ true → Tells e fault ⊎ (e ≡ Memory) → FailsEarly (failed {V = V} e) ⊎ (failed {V = V} e ≡ Err Memory)
+    pick : (fault : AloneFault) → is_cut_alone fault ≡ true → Tells e fault ⊎ (e ≡ Memory)
+        → FailsEarly (failed {V = V} e) ⊎ (failed {V = V} e ≡ Err Memory)
     pick fault k (inl x) = inl (fault, k, x)
     pick fault k (inr m) = inr (ap (λ (x : ParseError). failed {V = V} x) m)
+
+-- a reader decodes its form, where it reads it from left to right
+pub decodes : {V L : Type 0} {view : V → L} {spells : List ℕ → L → Type 0} {refuses : List ℕ → AloneFault → Type 0}
+    {read : List ℕ → Result (L × List ℕ) AloneFault}
+    {old new : Reading} {r : Result V ParseError} → Follows L spells refuses read
+    → ReadsForm view old new r (read old.rest) → Decodes view spells refuses old new r
+decodes {V} {L} {view} {spells} {refuses} {read} {old} {new} {r} w h =
+    record {
+      found = found view spells refuses read w old new r h;
+      only = only view spells refuses read w old new r h;
+      refused = refusals view spells refuses read w old new r h;
+      truncated = ends view spells refuses read w old new r h;
+    }

@@ -1,21 +1,30 @@
 -- An instruction is that which its first byte names.
-use Rattle.std.proofs.Common.{◌≡◌, ℕ, ◌/◌, ◌<◌, ◌≤◌, true, false, List, [], ◌∷◌, Option, Some, Result, Err, refl, sym, ap, subst, ◌∙◌, arith, drop, length, inl, inr}
+use Rattle.std.proofs.Common.{◌≡◌, ℕ, ◌/◌, ◌<◌, ◌≤◌, true, false, List, [], ◌∷◌, Option, Some, Result, Err, refl, sym}
+use Rattle.std.proofs.Common.{ap, subst, ◌∙◌, arith, drop, length, inl, inr}
 use Rattle.std.specs.Prelude.{nat_lt}
 use Rattle.std.proofs.lemmas.Bool.{lt-ltb, le-ltb, cases_lt}
 use Rattle.qpack_spec.specs.Integer.{UnexpectedEnd}
 use Rattle.qpack_spec.specs.Form.{BadInteger, Form, Index, IndexAndValue, NameAndValue, form_at}
 use Rattle.qpack_spec.specs.Instruction as instruction
-use Rattle.qpack_spec.specs.Instruction.{Instruction, InsertStaticName, InsertDynamicName, InsertLiteralName, SetCapacity, Reply, Acknowledgment, Cancellation, Increment, instruction_form, reply_form, SpellsInstruction, SpellsReply}
+use Rattle.qpack_spec.specs.Instruction.{Instruction, InsertStaticName, InsertDynamicName, InsertLiteralName}
+use Rattle.qpack_spec.specs.Instruction.{SetCapacity, Reply, Acknowledgment, Cancellation, Increment, instruction_form}
+use Rattle.qpack_spec.specs.Instruction.{reply_form, SpellsInstruction, SpellsReply}
 use Rattle.qpack_wire.specs.Alone.{Alone, AloneFault, Unreadable, form_named, or_unreadable, alone_at}
-use Rattle.qpack_wire.specs.Instructions.{insert_with_name_ref, insert_without_name_ref, duplicate, dynamic_table_size_update, insert_count_increment, header_ack, stream_cancel}
-use Rattle.qpack_wire.specs.StreamLines.{encoder_instruction_of_first, decoder_instruction_of_first, RefusesEncoderLine, RefusesDecoderLine, instruction_at, reply_at}
+use Rattle.qpack_wire.specs.Instructions.{insert_with_name_ref, insert_without_name_ref, duplicate}
+use Rattle.qpack_wire.specs.Instructions.{dynamic_table_size_update, insert_count_increment, header_ack, stream_cancel}
+use Rattle.qpack_wire.specs.StreamLines.{encoder_instruction_of_first, decoder_instruction_of_first, RefusesEncoderLine}
+use Rattle.qpack_wire.specs.StreamLines.{RefusesDecoderLine, instruction_at, reply_at}
 use Rattle.qpack_wire.specs.declared.stream.encoder_stream.EncoderInstruction.{EncoderInstruction}
 use Rattle.qpack_wire.specs.declared.stream.encoder_stream.EncoderInstruction.TheVariants as encoder
 use Rattle.qpack_wire.specs.declared.stream.decoder_stream.DecoderInstruction.{DecoderInstruction}
 use Rattle.qpack_wire.specs.declared.stream.decoder_stream.DecoderInstruction.TheVariants as decoder
+use Rattle.qpack_wire.specs.Memory.{AsksForMemory, AsksAt}
+use Rattle.qpack_wire.proofs.Asking.{asks_alone, asks_same}
 use Rattle.qpack_wire.proofs.Readers.{Follows}
 use Rattle.qpack_wire.proofs.Alones.{Coherent, alone_own, form_own, forms_follow}
-use Rattle.qpack_wire.proofs.InstructionForms.{coherent_insert_with_name_ref, coherent_duplicate, coherent_dynamic_table_size_update, coherent_insert_count_increment, coherent_header_ack, coherent_stream_cancel}
+use Rattle.qpack_wire.proofs.InstructionForms.{coherent_insert_with_name_ref, coherent_duplicate}
+use Rattle.qpack_wire.proofs.InstructionForms.{coherent_dynamic_table_size_update, coherent_insert_count_increment}
+use Rattle.qpack_wire.proofs.InstructionForms.{coherent_header_ack, coherent_stream_cancel}
 
 below : (b k : ℕ) → b < k → nat_lt b k ≡ true
 below b k h = lt-ltb b k h
@@ -31,7 +40,8 @@ BeginsWith b rest = rest ≡ b ∷ drop 1 rest
 abbrev pub Shares : {L : Type 0} → (ℕ → Option (Form L)) → Alone L → ℕ → Type 0
 Shares {L} form_of a b = (form : Form L) × (form_named a b ≡ Some form) × (form_of b ≡ Some form)
 
-as_form : {L : Type 0} (form_of : ℕ → Option (Form L)) (a : Alone L) → Coherent a → (b : ℕ) (rest : List ℕ) → BeginsWith b rest → Shares form_of a b → alone_at a rest ≡ or_unreadable (form_at form_of rest)
+as_form : {L : Type 0} (form_of : ℕ → Option (Form L)) (a : Alone L) → Coherent a → (b : ℕ) (rest : List ℕ)
+    → BeginsWith b rest → Shares form_of a b → alone_at a rest ≡ or_unreadable (form_at form_of rest)
 as_form form_of a c b rest e s =
     ap (alone_at a) e ∙ alone_own a c b (drop 1 rest) s.0 s.1
     ∙ sym (ap or_unreadable (form_own form_of b (drop 1 rest) s.0 s.2))
@@ -41,26 +51,43 @@ as_form form_of a c b rest e s =
 
 pub shares_duplicate : (b : ℕ) → b < 32 → Shares instruction_form duplicate b
 unfolding instruction_form
-shares_duplicate b h = (Index 5 instruction.Duplicate, (let q : b / 32 ≡ 0 = omega arith in rw q refl), rw (below b 32 h) refl)
+shares_duplicate b h =
+    (Index 5 instruction.Duplicate, (let q : b / 32 ≡ 0 = omega arith in rw q refl), rw (below b 32 h) refl)
 
 pub shares_size_update : (b : ℕ) → 32 ≤ b → b < 64 → Shares instruction_form dynamic_table_size_update b
 unfolding instruction_form
-shares_size_update b low high = (Index 5 SetCapacity, (let q : b / 32 ≡ 1 = omega arith in rw q refl), rw (above b 32 low, below b 64 high) refl)
+shares_size_update b low high =
+    (Index 5 SetCapacity, (let q : b / 32 ≡ 1 = omega arith in rw q refl), rw (above b 32 low, below b 64 high) refl)
 
 pub shares_literal : (b : ℕ) → 64 ≤ b → b < 128 → Shares instruction_form insert_without_name_ref b
 unfolding instruction_form
-shares_literal b low high =
-    (NameAndValue 6 InsertLiteralName, (let q : b / 64 ≡ 1 = omega arith in rw q refl), rw (above b 32 (omega arith), above b 64 low, below b 128 high) refl)
+shares_literal b low high = (
+  NameAndValue 6 InsertLiteralName,
+  (let q : b / 64 ≡ 1 = omega arith in rw q refl),
+  rw (above b 32 (omega arith), above b 64 low, below b 128 high) refl,
+)
 
-pub shares_dynamic : (b : ℕ) → 128 ≤ b → b < 192 → Shares instruction_form insert_with_name_ref b
+shares_dynamic : (b : ℕ) → 128 ≤ b → b < 192 → Shares instruction_form insert_with_name_ref b
 unfolding instruction_form
-shares_dynamic b low high =
-    (IndexAndValue 6 InsertDynamicName, (let q : b / 64 ≡ 2 = omega arith in rw q refl), rw (above b 32 (omega arith), above b 64 (omega arith), above b 128 low, below b 192 high) refl)
+shares_dynamic b low high = (
+  IndexAndValue 6 InsertDynamicName,
+  (let q : b / 64 ≡ 2 = omega arith in rw q refl),
+  rw (above b 32 (omega arith), above b 64 (omega arith), above b 128 low, below b 192 high) refl,
+)
 
-pub shares_static : (b : ℕ) → 192 ≤ b → b < 256 → Shares instruction_form insert_with_name_ref b
+shares_static : (b : ℕ) → 192 ≤ b → b < 256 → Shares instruction_form insert_with_name_ref b
 unfolding instruction_form
-shares_static b low high =
-    (IndexAndValue 6 InsertStaticName, (let q : b / 64 ≡ 3 = omega arith in rw q refl), rw (above b 32 (omega arith), above b 64 (omega arith), above b 128 (omega arith), above b 192 low, below b 256 high) refl)
+shares_static b low high = (
+  IndexAndValue 6 InsertStaticName,
+  (let q : b / 64 ≡ 3 = omega arith in rw q refl),
+  rw (
+    above b 32 (omega arith),
+    above b 64 (omega arith),
+    above b 128 (omega arith),
+    above b 192 low,
+    below b 256 high,
+  ) refl,
+)
 
 pub shares_name : (b : ℕ) → 128 ≤ b → b < 256 → Shares instruction_form insert_with_name_ref b
 shares_name b low high =
@@ -108,21 +135,62 @@ told_encoder b i e =
 pub no_unknown_encoder : (b : ℕ) → encoder_instruction_of_first b ≡ encoder.Unknown → ⊥
 no_unknown_encoder b e = told_encoder b encoder.Unknown e
 
-pub as_duplicate : (b : ℕ) (rest : List ℕ) → b < 256 → BeginsWith b rest → encoder_instruction_of_first b ≡ encoder.Duplicate → alone_at duplicate rest ≡ instruction_at rest
-as_duplicate b rest h e f = as_form instruction_form duplicate coherent_duplicate b rest e (shares_duplicate b (told_encoder b encoder.Duplicate f))
+pub as_duplicate : (b : ℕ) (rest : List ℕ) → b < 256 → BeginsWith b rest
+    → encoder_instruction_of_first b ≡ encoder.Duplicate → alone_at duplicate rest ≡ instruction_at rest
+as_duplicate b rest h e f = as_form instruction_form duplicate coherent_duplicate b rest e
+    (shares_duplicate b (told_encoder b encoder.Duplicate f))
 
-pub as_size_update : (b : ℕ) (rest : List ℕ) → b < 256 → BeginsWith b rest → encoder_instruction_of_first b ≡ encoder.DynamicTableSizeUpdate → alone_at dynamic_table_size_update rest ≡ instruction_at rest
+pub as_size_update : (b : ℕ) (rest : List ℕ) → b < 256 → BeginsWith b rest
+    → encoder_instruction_of_first b ≡ encoder.DynamicTableSizeUpdate
+    → alone_at dynamic_table_size_update rest ≡ instruction_at rest
 as_size_update b rest h e f =
     let t = told_encoder b encoder.DynamicTableSizeUpdate f in
-    as_form instruction_form dynamic_table_size_update coherent_dynamic_table_size_update b rest e (shares_size_update b t.0 t.1)
+    as_form instruction_form dynamic_table_size_update coherent_dynamic_table_size_update b rest e
+    (shares_size_update b t.0 t.1)
 
-pub as_literal_insert : (b : ℕ) (rest : List ℕ) → b < 256 → BeginsWith b rest → encoder_instruction_of_first b ≡ encoder.InsertWithoutNameRef → alone_at insert_without_name_ref rest ≡ instruction_at rest
+pub as_literal_insert : (b : ℕ) (rest : List ℕ) → b < 256 → BeginsWith b rest
+    → encoder_instruction_of_first b ≡ encoder.InsertWithoutNameRef
+    → alone_at insert_without_name_ref rest ≡ instruction_at rest
 as_literal_insert b rest h e f =
-    let t = told_encoder b encoder.InsertWithoutNameRef f in as_form instruction_form insert_without_name_ref tt b rest e (shares_literal b t.0 t.1)
+    let t = told_encoder b encoder.InsertWithoutNameRef f in
+    as_form instruction_form insert_without_name_ref tt b rest e (shares_literal b t.0 t.1)
 
-pub as_name_insert : (b : ℕ) (rest : List ℕ) → b < 256 → BeginsWith b rest → encoder_instruction_of_first b ≡ encoder.InsertWithNameRef → alone_at insert_with_name_ref rest ≡ instruction_at rest
+pub as_name_insert : (b : ℕ) (rest : List ℕ) → b < 256 → BeginsWith b rest
+    → encoder_instruction_of_first b ≡ encoder.InsertWithNameRef
+    → alone_at insert_with_name_ref rest ≡ instruction_at rest
 as_name_insert b rest h e f =
-    as_form instruction_form insert_with_name_ref coherent_insert_with_name_ref b rest e (shares_name b (told_encoder b encoder.InsertWithNameRef f) h)
+    as_form instruction_form insert_with_name_ref coherent_insert_with_name_ref b rest e
+    (shares_name b (told_encoder b encoder.InsertWithNameRef f) h)
+
+-- memory is asked for the instruction where it is for its kind
+
+asks_form : {L : Type 0} (form_of : ℕ → Option (Form L)) (a : Alone L) (b : ℕ) (rest : List ℕ) → BeginsWith b rest
+    → Shares form_of a b → AsksAt a rest → AsksForMemory form_of rest
+asks_form form_of a b rest e s h = asks_same (form_named a) form_of b rest e (s.1 ∙ sym s.2) (asks_alone a rest h)
+
+pub asks_name_insert : (b : ℕ) (rest : List ℕ) → b < 256 → BeginsWith b rest
+    → encoder_instruction_of_first b ≡ encoder.InsertWithNameRef → AsksAt insert_with_name_ref rest
+    → AsksForMemory instruction_form rest
+asks_name_insert b rest h e f a = asks_form instruction_form insert_with_name_ref b rest e
+    (shares_name b (told_encoder b encoder.InsertWithNameRef f) h) a
+
+pub asks_literal_insert : (b : ℕ) (rest : List ℕ) → b < 256 → BeginsWith b rest
+    → encoder_instruction_of_first b ≡ encoder.InsertWithoutNameRef → AsksAt insert_without_name_ref rest
+    → AsksForMemory instruction_form rest
+asks_literal_insert b rest h e f a =
+    let t = told_encoder b encoder.InsertWithoutNameRef f in
+    asks_form instruction_form insert_without_name_ref b rest e (shares_literal b t.0 t.1) a
+
+-- each encoder instruction, where the first byte tells it
+pub ruleset encoder_by_first = (
+  as_duplicate,
+  as_size_update,
+  as_literal_insert,
+  as_name_insert,
+  no_unknown_encoder,
+  asks_name_insert,
+  asks_literal_insert,
+)
 
 -- ---- decoder instructions
 
@@ -132,12 +200,16 @@ shares_increment b h = (Index 6 Increment, (let q : b / 64 ≡ 0 = omega arith i
 
 pub shares_cancel : (b : ℕ) → 64 ≤ b → b < 128 → Shares reply_form stream_cancel b
 unfolding reply_form
-shares_cancel b low high = (Index 6 Cancellation, (let q : b / 64 ≡ 1 = omega arith in rw q refl), rw (above b 64 low, below b 128 high) refl)
+shares_cancel b low high =
+    (Index 6 Cancellation, (let q : b / 64 ≡ 1 = omega arith in rw q refl), rw (above b 64 low, below b 128 high) refl)
 
 pub shares_ack : (b : ℕ) → 128 ≤ b → b < 256 → Shares reply_form header_ack b
 unfolding reply_form
-shares_ack b low high =
-    (Index 7 Acknowledgment, (let q : b / 128 ≡ 1 = omega arith in rw q refl), rw (above b 64 (omega arith), above b 128 low, below b 256 high) refl)
+shares_ack b low high = (
+  Index 7 Acknowledgment,
+  (let q : b / 128 ≡ 1 = omega arith in rw q refl),
+  rw (above b 64 (omega arith), above b 128 low, below b 256 high) refl,
+)
 
 -- the first bytes of each decoder instruction
 abbrev ToldDecoder : ℕ → DecoderInstruction → Type 0
@@ -170,29 +242,42 @@ told_decoder b i e =
 pub no_unknown_decoder : (b : ℕ) → decoder_instruction_of_first b ≡ decoder.Unknown → ⊥
 no_unknown_decoder b e = told_decoder b decoder.Unknown e
 
-pub as_increment : (b : ℕ) (rest : List ℕ) → b < 256 → BeginsWith b rest → decoder_instruction_of_first b ≡ decoder.InsertCountIncrement → alone_at insert_count_increment rest ≡ reply_at rest
+pub as_increment : (b : ℕ) (rest : List ℕ) → b < 256 → BeginsWith b rest
+    → decoder_instruction_of_first b ≡ decoder.InsertCountIncrement
+    → alone_at insert_count_increment rest ≡ reply_at rest
 as_increment b rest h e f =
-    as_form reply_form insert_count_increment coherent_insert_count_increment b rest e (shares_increment b (told_decoder b decoder.InsertCountIncrement f))
+    as_form reply_form insert_count_increment coherent_insert_count_increment b rest e
+    (shares_increment b (told_decoder b decoder.InsertCountIncrement f))
 
-pub as_cancel : (b : ℕ) (rest : List ℕ) → b < 256 → BeginsWith b rest → decoder_instruction_of_first b ≡ decoder.StreamCancel → alone_at stream_cancel rest ≡ reply_at rest
+pub as_cancel : (b : ℕ) (rest : List ℕ) → b < 256 → BeginsWith b rest
+    → decoder_instruction_of_first b ≡ decoder.StreamCancel → alone_at stream_cancel rest ≡ reply_at rest
 as_cancel b rest h e f =
-    let t = told_decoder b decoder.StreamCancel f in as_form reply_form stream_cancel coherent_stream_cancel b rest e (shares_cancel b t.0 t.1)
+    let t = told_decoder b decoder.StreamCancel f in
+    as_form reply_form stream_cancel coherent_stream_cancel b rest e (shares_cancel b t.0 t.1)
 
-pub as_ack : (b : ℕ) (rest : List ℕ) → b < 256 → BeginsWith b rest → decoder_instruction_of_first b ≡ decoder.HeaderAck → alone_at header_ack rest ≡ reply_at rest
-as_ack b rest h e f = as_form reply_form header_ack coherent_header_ack b rest e (shares_ack b (told_decoder b decoder.HeaderAck f) h)
+pub as_ack : (b : ℕ) (rest : List ℕ) → b < 256 → BeginsWith b rest → decoder_instruction_of_first b ≡ decoder.HeaderAck
+    → alone_at header_ack rest ≡ reply_at rest
+as_ack b rest h e f =
+    as_form reply_form header_ack coherent_header_ack b rest e (shares_ack b (told_decoder b decoder.HeaderAck f) h)
+
+-- each decoder instruction, where the first byte tells it
+pub ruleset decoder_by_first = (as_increment, as_cancel, as_ack, no_unknown_decoder)
 
 -- ---- reading a stream's line is its relation
 
 nothing_at : {L : Type 0} (form_of : ℕ → Option (Form L)) (seen rest : List ℕ) → length seen ≡ 0 → seen ≡ rest
-    → (let r : Result (L × List ℕ) AloneFault = or_unreadable (form_at form_of rest) in r) ≡ Err (Unreadable (BadInteger UnexpectedEnd))
+    → (let r : Result (L × List ℕ) AloneFault = or_unreadable (form_at form_of rest) in r)
+    ≡ Err (Unreadable (BadInteger UnexpectedEnd))
 unfolding form_at
 nothing_at form_of [] rest h e = ap (λ bytes. or_unreadable (form_at form_of bytes)) (sym e)
 nothing_at form_of (x ∷ xs) rest h e = absurd (omega arith)
 
-pub no_instruction : (seen rest : List ℕ) → length seen ≡ 0 → seen ≡ rest → instruction_at rest ≡ Err (Unreadable (BadInteger UnexpectedEnd))
+pub no_instruction : (seen rest : List ℕ) → length seen ≡ 0 → seen ≡ rest
+    → instruction_at rest ≡ Err (Unreadable (BadInteger UnexpectedEnd))
 no_instruction seen rest h e = nothing_at instruction_form seen rest h e
 
-pub no_reply : (seen rest : List ℕ) → length seen ≡ 0 → seen ≡ rest → reply_at rest ≡ Err (Unreadable (BadInteger UnexpectedEnd))
+pub no_reply : (seen rest : List ℕ) → length seen ≡ 0 → seen ≡ rest
+    → reply_at rest ≡ Err (Unreadable (BadInteger UnexpectedEnd))
 no_reply seen rest h e = nothing_at reply_form seen rest h e
 
 pub instruction_follows : Follows Instruction SpellsInstruction RefusesEncoderLine instruction_at

@@ -1,6 +1,8 @@
--- What a reader of instructions answers in terms of spellings and refusals, where it reads a form alone and answers none of
--- an early end.
-use Rattle.std.proofs.Common.{◌≡◌, ℕ, true, false, List, Option, None, Result, Ok, Err, refl, sym, ap, subst, inl, inr, ◌⊎◌}
+-- What a reader of instructions answers in terms of spellings and refusals, where it reads a form alone and answers
+-- none of an early end.
+use Rattle.std.proofs.Common.{◌≡◌, ℕ, Bool, true, false, List, Option, None, Some, Result, Ok, Err, refl, sym, ap, ◌∙◌}
+use Rattle.std.proofs.Common.{subst, inl, inr, ◌⊎◌, rules}
+use Rattle.std.specs.Prelude.{IfSome}
 use Rattle.qpack_spec.specs.Integer.{UnexpectedEnd}
 use Rattle.qpack_spec.specs.Text.{EndsEarly}
 use Rattle.qpack_spec.specs.Form.{BadInteger, BadString}
@@ -8,10 +10,10 @@ use Rattle.qpack_base.specs.Cursor.{Reading}
 use Rattle.qpack_base.specs.declared.prefix_int.Error.TheVariants as integer
 use Rattle.qpack_base.specs.declared.prefix_string.Error.TheVariants as string
 use Rattle.qpack_base.specs.declared.parse_error.ParseError.{ParseError}
-use Rattle.qpack_base.specs.declared.parse_error.ParseError.TheVariants.{Integer, String, InvalidPrefix, InvalidBase, Memory}
+use Rattle.qpack_base.specs.declared.parse_error.ParseError.TheVariants.{Integer, String}
 use Rattle.qpack_wire.specs.Alone.{AloneFault, Unreadable, is_cut_alone}
-use Rattle.qpack_wire.specs.Answers.{Tells, Fails, FailsEarly, Gives, TellsRefusal, ReadsForm}
-use Rattle.qpack_wire.specs.StreamAnswers.{FindsLine, GivesLine, ReadsLine, TellsNone, without_end}
+use Rattle.qpack_wire.specs.Answers.{fault_of, Tells, Fails, FailsEarly, Gives, TellsRefusal, ReadsForm}
+use Rattle.qpack_wire.specs.StreamAnswers.{FindsLine, GivesLine, ReadsLine, TellsNone, DecodesInstruction, without_end}
 use Rattle.qpack_wire.proofs.Readers.{Follows, found, only, refusals, ends}
 
 abbrev failed : {V : Type 0} → ParseError → Result V ParseError
@@ -21,38 +23,48 @@ abbrev none : {V : Type 0} → Result (Option V) ParseError
 none = Ok None
 
 -- an error tells an early end, or it stays
-pub record IsEnd (V : Type 0) (e : ParseError) : Type 0 where
+record IsEnd (V : Type 0) (e : ParseError) : Type 0 where
   pub is : without_end {V = V} (failed e) ≡ none
   pub told : (fault : AloneFault) × (is_cut_alone fault ≡ true) × Tells e fault
   pub cut : (fault : AloneFault) → Tells e fault → is_cut_alone fault ≡ true
 
-pub record IsStaying (V : Type 0) (e : ParseError) : Type 0 where
+record IsStaying (V : Type 0) (e : ParseError) : Type 0 where
   pub is : without_end {V = V} (failed e) ≡ failed e
   pub whole : (fault : AloneFault) → Tells e fault → is_cut_alone fault ≡ false
 
+-- an error tells nothing but what its fault is
+cut_as_told : (e : ParseError) (o : Option AloneFault) (b : Bool) → fault_of e ≡ o → IfSome o (λ f. is_cut_alone f ≡ b)
+    → (fault : AloneFault) → Tells e fault → is_cut_alone fault ≡ b
+cut_as_told e None b is h fault t = absurd cc
+cut_as_told e (Some f) b is h fault t = let s : f ≡ fault = cc in ap is_cut_alone (sym s) ∙ h
+
 end_or_error : (V : Type 0) (e : ParseError) → IsEnd V e ⊎ IsStaying V e
-end_or_error V (Integer integer.Overflow) = inr (record { is = refl; whole = λ fault t. ap is_cut_alone t })
 end_or_error V (Integer integer.UnexpectedEnd) =
-    inl (record { is = refl; told = (Unreadable (BadInteger UnexpectedEnd), refl, refl); cut = λ fault t. ap is_cut_alone t })
+    let is = Unreadable (BadInteger UnexpectedEnd) in
+    inl (record {
+      is = refl;
+      told = (is, refl, refl);
+      cut = cut_as_told (Integer integer.UnexpectedEnd) (Some is) true refl refl;
+    })
 end_or_error V (String string.UnexpectedEnd) =
-    inl (record { is = refl; told = (Unreadable (BadString EndsEarly), refl, refl); cut = λ fault t. ap is_cut_alone t })
-end_or_error V (String (string.Integer integer.Overflow)) = inr (record { is = refl; whole = λ fault t. ap is_cut_alone t })
-end_or_error V (String (string.Integer integer.UnexpectedEnd)) = inr (record { is = refl; whole = λ fault t. absurd t })
-end_or_error V (String (string.HuffmanDecoding e)) = inr (record { is = refl; whole = λ fault t. ap is_cut_alone t })
-end_or_error V (String (string.HuffmanEncoding e)) = inr (record { is = refl; whole = λ fault t. absurd t })
-end_or_error V (String string.BufSize) = inr (record { is = refl; whole = λ fault t. absurd t })
-end_or_error V (String string.Memory) = inr (record { is = refl; whole = λ fault t. absurd t })
-end_or_error V (InvalidPrefix bits) = inr (record { is = refl; whole = λ fault t. ap is_cut_alone t })
-end_or_error V (InvalidBase base) = inr (record { is = refl; whole = λ fault t. absurd t })
-end_or_error V Memory = inr (record { is = refl; whole = λ fault t. absurd t })
+    let is = Unreadable (BadString EndsEarly) in inl
+    (record {
+      is = refl;
+      told = (is, refl, refl);
+      cut =
+          cut_as_told (String string.UnexpectedEnd) (Some is) true refl refl;
+    })
+end_or_error V e = inr (record { is = refl; whole = cut_as_told e (fault_of e) false refl (search rules) })
 
 not_both : (fault : AloneFault) → is_cut_alone fault ≡ true → is_cut_alone fault ≡ false → ⊥
 not_both fault p q = absurd cc
 
 -- ---- the clauses of an instruction's reader
 
-pub line_found : {V L : Type 0} (view : V → L) (spells : List ℕ → L → Type 0) (refuses : List ℕ → AloneFault → Type 0) (read : List ℕ → Result (L × List ℕ) AloneFault) → Follows L spells refuses read
-    → (old new : Reading) (r : Result V ParseError) → ReadsForm view old new r (read old.rest) → FindsLine view spells old new (without_end r)
+line_found : {V L : Type 0} (view : V → L) (spells : List ℕ → L → Type 0) (refuses : List ℕ → AloneFault → Type 0)
+    (read : List ℕ → Result (L × List ℕ) AloneFault) → Follows L spells refuses read
+    → (old new : Reading) (r : Result V ParseError) → ReadsForm view old new r (read old.rest)
+    → FindsLine view spells old new (without_end r)
 line_found view spells refuses read w old new (Ok v) h = found view spells refuses read w old new (Ok v) h
 line_found {V} view spells refuses read w old new (Err e) h = pick (end_or_error V e)
   where
@@ -60,12 +72,15 @@ line_found {V} view spells refuses read w old new (Err e) h = pick (end_or_error
     pick (inl p) = subst (FindsLine view spells old new) (sym p.is) tt
     pick (inr p) = subst (FindsLine view spells old new) (sym p.is) tt
 
-gives_line : {V L : Type 0} (view : V → L) (r : Result V ParseError) (l : L) (moved : Type 0) → Gives view r l moved → GivesLine view (without_end r) l moved
+gives_line : {V L : Type 0} (view : V → L) (r : Result V ParseError) (l : L) (moved : Type 0) → Gives view r l moved
+    → GivesLine view (without_end r) l moved
 gives_line view (Ok v) l moved g = g
 gives_line view (Err e) l moved g = absurd g
 
-pub line_only : {V L : Type 0} (view : V → L) (spells : List ℕ → L → Type 0) (refuses : List ℕ → AloneFault → Type 0) (read : List ℕ → Result (L × List ℕ) AloneFault) → Follows L spells refuses read
-    → (old new : Reading) (r : Result V ParseError) → ReadsForm view old new r (read old.rest) → ReadsLine view spells old new (without_end r)
+line_only : {V L : Type 0} (view : V → L) (spells : List ℕ → L → Type 0) (refuses : List ℕ → AloneFault → Type 0)
+    (read : List ℕ → Result (L × List ℕ) AloneFault) → Follows L spells refuses read
+    → (old new : Reading) (r : Result V ParseError) → ReadsForm view old new r (read old.rest)
+    → ReadsLine view spells old new (without_end r)
 line_only view spells refuses read w old new r h text rest l s parts =
     elim (only view spells refuses read w old new r h text rest l s parts) [
       | inl g ↦ inl (gives_line view r l _ g)
@@ -80,7 +95,8 @@ fails_whole {V} (Err e) fault f = pick (end_or_error V e)
     pick (inl p) = absurd (subst (λ x. Fails x fault) p.is f)
     pick (inr p) = subst (λ x. Fails x fault) p.is f
 
-whole_fails : {V : Type 0} (r : Result V ParseError) (fault : AloneFault) → is_cut_alone fault ≡ false → Fails r fault → Fails (without_end r) fault
+whole_fails : {V : Type 0} (r : Result V ParseError) (fault : AloneFault) → is_cut_alone fault ≡ false → Fails r fault
+    → Fails (without_end r) fault
 whole_fails (Ok v) fault k f = absurd f
 whole_fails {V} (Err e) fault k f = pick (end_or_error V e)
   where
@@ -88,8 +104,10 @@ whole_fails {V} (Err e) fault k f = pick (end_or_error V e)
     pick (inl p) = absurd (not_both fault (p.cut fault f) k)
     pick (inr p) = subst (λ x. Fails x fault) (sym p.is) f
 
-pub line_refusals : {V L : Type 0} (view : V → L) (spells : List ℕ → L → Type 0) (refuses : List ℕ → AloneFault → Type 0) (read : List ℕ → Result (L × List ℕ) AloneFault) → Follows L spells refuses read
-    → (old new : Reading) (r : Result V ParseError) → ReadsForm view old new r (read old.rest) → TellsRefusal refuses old (without_end r)
+line_refusals : {V L : Type 0} (view : V → L) (spells : List ℕ → L → Type 0) (refuses : List ℕ → AloneFault → Type 0)
+    (read : List ℕ → Result (L × List ℕ) AloneFault) → Follows L spells refuses read
+    → (old new : Reading) (r : Result V ParseError) → ReadsForm view old new r (read old.rest)
+    → TellsRefusal refuses old (without_end r)
 line_refusals view spells refuses read w old new r h fault = (
   λ k f. (refusals view spells refuses read w old new r h fault).0 k (fails_whole r fault f),
   λ b.
@@ -123,8 +141,10 @@ never_early {V} (Err e) f = pick (end_or_error V e)
     pick (inl p) = subst (λ x. Fails x f.0) p.is f.2
     pick (inr p) = not_both f.0 f.1 (p.whole f.0 (subst (λ x. Fails x f.0) p.is f.2))
 
-pub line_ends : {V L : Type 0} (view : V → L) (spells : List ℕ → L → Type 0) (refuses : List ℕ → AloneFault → Type 0) (read : List ℕ → Result (L × List ℕ) AloneFault) → Follows L spells refuses read
-    → (old new : Reading) (r : Result V ParseError) → ReadsForm view old new r (read old.rest) → TellsNone spells refuses old (without_end r)
+line_ends : {V L : Type 0} (view : V → L) (spells : List ℕ → L → Type 0) (refuses : List ℕ → AloneFault → Type 0)
+    (read : List ℕ → Result (L × List ℕ) AloneFault) → Follows L spells refuses read
+    → (old new : Reading) (r : Result V ParseError) → ReadsForm view old new r (read old.rest)
+    → TellsNone spells refuses old (without_end r)
 line_ends view spells refuses read w old new r h = (
   λ q. (ends view spells refuses read w old new r h).0 (none_ends r q),
   λ t.
@@ -134,3 +154,18 @@ line_ends view spells refuses read w old new r h = (
       ],
   never_early r,
 )
+
+-- a reader that answers none of an early end decodes its instruction, where it reads it from left to right
+pub decodes_instruction : {V L : Type 0} {view : V → L} {spells : List ℕ → L → Type 0}
+    {refuses : List ℕ → AloneFault → Type 0} {read : List ℕ → Result (L × List ℕ) AloneFault}
+    {old new : Reading} {answer : Result (Option V) ParseError} → Follows L spells refuses read
+    → (r : Result V ParseError) → answer ≡ without_end r
+    → ReadsForm view old new r (read old.rest) → DecodesInstruction view spells refuses old new answer
+decodes_instruction {V} {L} {view} {spells} {refuses} {read} {old} {new} w r is h =
+    subst (DecodesInstruction view spells refuses old new) (sym is)
+    (record {
+      found = line_found view spells refuses read w old new r h;
+      only = line_only view spells refuses read w old new r h;
+      refused = line_refusals view spells refuses read w old new r h;
+      truncated = line_ends view spells refuses read w old new r h;
+    })

@@ -2,10 +2,11 @@
 use Rattle.std.specs.Prelude.{◌≡◌, ℕ, ◌/◌, ◌^◌, ◌⊎◌, Bool, false, List, [], ◌∷◌, Option, None, Some, Result, Ok, Err}
 use Rattle.qpack_spec.specs.Bytes.{◌>>=◌}
 use Rattle.qpack_spec.specs.Integer.{UnexpectedEnd, SpellsInteger, integer_at}
-use Rattle.qpack_spec.specs.Form.{FormFault, BadInteger, is_cut, Form, RefusesIndex, Spells, Refuses, or_bad_integer, made_at}
+use Rattle.qpack_spec.specs.Form.{FormFault, BadInteger, is_cut, Form, RefusesIndex, Spells, Refuses, or_bad_integer}
+use Rattle.qpack_spec.specs.Form.{made_at}
 
--- how the forms are told from others: by the flags above a first integer with a prefix of n bits, once it is read, or by
--- the whole first byte
+-- how the forms are told from others: by the flags above a first integer with a prefix of n bits, once it is read, or
+-- by the whole first byte
 pub data Alone (L : Type 0) : Type 0 where
   ByFlags : (n : ℕ) (named : ℕ → Option (Form L)) → Alone L
   ByFirstByte : (named : ℕ → Option (Form L)) → Alone L
@@ -59,6 +60,7 @@ made_or_foreign bits (Some form) bytes = or_unreadable (made_at form bytes)
 
 -- what stands at the front of the bytes, and the bytes behind it
 unfoldable pub alone_at : {L : Type 0} → Alone L → List ℕ → Result (L × List ℕ) AloneFault
-alone_at (ByFlags n named) bytes = or_unreadable (or_bad_integer (integer_at n bytes)) >>= λ i. made_or_foreign i.0 (named i.0) bytes
+alone_at (ByFlags n named) bytes =
+    or_unreadable (or_bad_integer (integer_at n bytes)) >>= λ i. made_or_foreign i.0 (named i.0) bytes
 alone_at (ByFirstByte named) [] = Err (Unreadable (BadInteger UnexpectedEnd))
 alone_at (ByFirstByte named) (b ∷ bytes) = made_or_foreign b (named b) (b ∷ bytes)

@@ -1,5 +1,5 @@
 -- What readers of lines and instructions answer, as the definitions of their bytes have it.
-use Rattle.std.specs.Prelude.{◌≡◌, ℕ, ◌⊎◌, List, ◌++◌, Result, Ok, Err, true, false, IfOk}
+use Rattle.std.specs.Prelude.{◌≡◌, ℕ, ◌⊎◌, List, ◌++◌, Option, None, Some, Result, Ok, Err, true, false, IfOk}
 use Rattle.qpack_spec.specs.Bytes.{Begins}
 use Rattle.qpack_spec.specs.Text.{EndsEarly, LengthOverflows, BadHuffman}
 use Rattle.qpack_spec.specs.Form.{BadInteger, BadString}
@@ -9,22 +9,21 @@ use Rattle.qpack_base.specs.Payloads.{huffman_fault_of}
 use Rattle.qpack_base.specs.declared.prefix_int.Error.TheVariants as integer
 use Rattle.qpack_base.specs.declared.prefix_string.Error.TheVariants as string
 use Rattle.qpack_base.specs.declared.parse_error.ParseError.{ParseError}
-use Rattle.qpack_base.specs.declared.parse_error.ParseError.TheVariants.{Integer, String, InvalidPrefix, InvalidBase, Memory}
+use Rattle.qpack_base.specs.declared.parse_error.ParseError.TheVariants.{Integer, String, InvalidPrefix, Memory}
 use Rattle.qpack_wire.specs.Alone.{AloneFault, Unreadable, Foreign, is_cut_alone}
+
+-- the fault that an error tells, where a reader of forms can answer it
+abbrev pub fault_of : ParseError → Option AloneFault
+fault_of (Integer e) = Some (Unreadable (BadInteger (integer_fault_of e)))
+fault_of (String string.UnexpectedEnd) = Some (Unreadable (BadString EndsEarly))
+fault_of (String (string.Integer integer.Overflow)) = Some (Unreadable (BadString LengthOverflows))
+fault_of (String (string.HuffmanDecoding e)) = Some (Unreadable (BadString (BadHuffman (huffman_fault_of e))))
+fault_of (InvalidPrefix bits) = Some (Foreign bits)
+fault_of e = None
 
 -- the error tells this fault
 abbrev pub Tells : ParseError → AloneFault → Type 0
-Tells (Integer e) fault = fault ≡ Unreadable (BadInteger (integer_fault_of e))
-Tells (String string.UnexpectedEnd) fault = fault ≡ Unreadable (BadString EndsEarly)
-Tells (String (string.Integer integer.Overflow)) fault = fault ≡ Unreadable (BadString LengthOverflows)
-Tells (String (string.Integer integer.UnexpectedEnd)) fault = ⊥
-Tells (String (string.HuffmanDecoding e)) fault = fault ≡ Unreadable (BadString (BadHuffman (huffman_fault_of e)))
-Tells (String (string.HuffmanEncoding e)) fault = ⊥
-Tells (String string.BufSize) fault = ⊥
-Tells (String string.Memory) fault = ⊥
-Tells (InvalidPrefix bits) fault = fault ≡ Foreign bits
-Tells (InvalidBase base) fault = ⊥
-Tells Memory fault = ⊥
+Tells e fault = fault_of e ≡ Some fault
 
 -- the answer is a refusal for this fault
 abbrev pub Fails : {V : Type 0} → Result V ParseError → AloneFault → Type 0
@@ -49,11 +48,13 @@ IsTruncated {L} spells refuses bytes =
     → ((l : L) → spells text l → ⊥) × ((fault : AloneFault) → refuses text fault → ⊥)
 
 -- what is read is spelled so, and the cursor moves past exactly it
-abbrev pub FindsSpelling : {V L : Type 0} → (V → L) → (List ℕ → L → Type 0) → Reading → Reading → Result V ParseError → Type 0
+abbrev pub FindsSpelling : {V L : Type 0} → (V → L) → (List ℕ → L → Type 0) → Reading → Reading → Result V ParseError
+    → Type 0
 FindsSpelling view spells old new r = IfOk r (λ v. (text : List ℕ) × spells text (view v) × MovesPast text old new)
 
 -- what is spelled so is read, whatever follows, unless memory is refused
-abbrev pub ReadsSpelling : {V L : Type 0} → (V → L) → (List ℕ → L → Type 0) → Reading → Reading → Result V ParseError → Type 0
+abbrev pub ReadsSpelling : {V L : Type 0} → (V → L) → (List ℕ → L → Type 0) → Reading → Reading → Result V ParseError
+    → Type 0
 ReadsSpelling {V} {L} view spells old new r =
     (text rest : List ℕ) (l : L) → spells text l → old.rest ≡ text ++ rest
     → Gives view r l (MovesPast text old new) ⊎ (r ≡ Err Memory)
@@ -66,27 +67,34 @@ TellsRefusal refuses old r =
     × (Begins (λ text. refuses text fault) old.rest → Fails r fault ⊎ (r ≡ Err Memory))
 
 -- an early end exactly where the bytes are truncated, unless memory is refused
-abbrev pub TellsEnd : {V L : Type 0} → (List ℕ → L → Type 0) → (List ℕ → AloneFault → Type 0) → Reading → Result V ParseError → Type 0
+abbrev pub TellsEnd : {V L : Type 0} → (List ℕ → L → Type 0) → (List ℕ → AloneFault → Type 0) → Reading
+    → Result V ParseError → Type 0
 TellsEnd spells refuses old r =
-    (FailsEarly r → IsTruncated spells refuses old.rest) × (IsTruncated spells refuses old.rest → FailsEarly r ⊎ (r ≡ Err Memory))
+    (FailsEarly r → IsTruncated spells refuses old.rest)
+    × (IsTruncated spells refuses old.rest → FailsEarly r ⊎ (r ≡ Err Memory))
+
+-- a reader decodes exactly the spellings, and tells each refusal and each early end
+pub record Decodes {V L : Type 0} (view : V → L) (spells : List ℕ → L → Type 0) (refuses : List ℕ → AloneFault → Type 0)
+    (old new : Reading) (r : Result V ParseError) : Type 0 where
+  pub found : FindsSpelling view spells old new r
+  pub only : ReadsSpelling view spells old new r
+  pub refused : TellsRefusal refuses old r
+  pub truncated : TellsEnd spells refuses old r
 
 -- ---- the same, as reading from left to right
 
+-- what was read is this fault
+abbrev pub ReadAs : {A F : Type 0} → Result A F → Option F → Type 0
+ReadAs read None = ⊥
+ReadAs read (Some fault) = read ≡ Err fault
+
 -- the error is the fault that was read, or want of memory
 abbrev pub FailsForm : {A : Type 0} → ParseError → Result A AloneFault → Type 0
-FailsForm (Integer e) read = read ≡ Err (Unreadable (BadInteger (integer_fault_of e)))
-FailsForm (String string.UnexpectedEnd) read = read ≡ Err (Unreadable (BadString EndsEarly))
-FailsForm (String (string.Integer integer.Overflow)) read = read ≡ Err (Unreadable (BadString LengthOverflows))
-FailsForm (String (string.Integer integer.UnexpectedEnd)) read = ⊥
-FailsForm (String (string.HuffmanDecoding e)) read = read ≡ Err (Unreadable (BadString (BadHuffman (huffman_fault_of e))))
-FailsForm (String (string.HuffmanEncoding e)) read = ⊥
-FailsForm (String string.BufSize) read = ⊥
-FailsForm (String string.Memory) read = ⊥
-FailsForm (InvalidPrefix bits) read = read ≡ Err (Foreign bits)
-FailsForm (InvalidBase base) read = ⊥
 FailsForm Memory read = Unit {0}
+FailsForm e read = ReadAs read (fault_of e)
 
 -- the answer is what was read, and the cursor stands behind it; or it is the fault
-abbrev pub ReadsForm : {V L : Type 0} → (V → L) → Reading → Reading → Result V ParseError → Result (L × List ℕ) AloneFault → Type 0
+abbrev pub ReadsForm : {V L : Type 0} → (V → L) → Reading → Reading → Result V ParseError
+    → Result (L × List ℕ) AloneFault → Type 0
 ReadsForm view old new (Ok v) read = (read ≡ Ok (view v, new.rest)) × (new.total ≡ old.total)
 ReadsForm view old new (Err e) read = FailsForm e read

@@ -3,7 +3,8 @@ use Rattle.std.specs.Prelude.{ℕ, List, Result, if◌then◌else◌, nat_lt}
 use Rattle.qpack_spec.specs.Form.{form_at}
 use Rattle.qpack_spec.specs.Line.{Line, line_form, RefusesLine}
 use Rattle.qpack_wire.specs.Alone.{AloneFault, Unreadable, Foreign, or_unreadable}
-use Rattle.qpack_wire.specs.Lines.{line_of_indexed, line_of_indexed_with_post_base, line_of_literal_with_name_ref, line_of_literal_with_post_base_name_ref, line_of_literal}
+use Rattle.qpack_wire.specs.Lines.{line_of_indexed, line_of_indexed_with_post_base, line_of_literal_with_name_ref}
+use Rattle.qpack_wire.specs.Lines.{line_of_literal_with_post_base_name_ref, line_of_literal}
 use Rattle.qpack_wire.specs.declared.block.line.HeaderBlockField.{HeaderBlockField}
 use Rattle.qpack_wire.specs.declared.block.line.HeaderBlockField.TheVariants as field
 use Rattle.qpack_wire.specs.declared.block.line.BlockLine.{BlockLine}

@@ -1,5 +1,5 @@
--- A stream that comes in pieces, each offered behind what was left unread; the crate's law functions promise that the lines
--- don't depend on the pieces.
+-- A stream that comes in pieces, each offered behind what was left unread; the crate's law functions promise that the
+-- lines don't depend on the pieces.
 use Rattle.std.specs.Prelude.{◌≡◌, ℕ, List, [], ◌∷◌, ◌++◌}
 use Rattle.qpack_spec.specs.Stream.{Holds}
 
@@ -15,7 +15,7 @@ ReadInPieces {L} spells unread (piece ∷ pieces) lines rest =
     (first : List L) × (left : List ℕ) × (more : List L)
     × Holds L spells (unread ++ piece) first left × ReadInPieces spells left pieces more rest × (lines ≡ first ++ more)
 
--- however the bytes were cut, the lines are those of the whole, and so is the rest, where a refusal stands or a line is cut
+-- however the bytes were cut, the lines are those of the whole, and so is the rest, from a refusal or a cut line on
 abbrev pub CuttingChangesNothing : {L : Type 0} → (List ℕ → L → Type 0) → Type 0
 CuttingChangesNothing {L} spells =
     (pieces : List (List ℕ)) (lines whole : List L) (rest left : List ℕ)

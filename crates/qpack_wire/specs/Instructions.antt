@@ -2,7 +2,8 @@
 use Rattle.std.specs.Prelude.{ℕ, ◌/◌, ◌%◌, if◌then◌else◌, nat_eq, Option, None, Some}
 use Rattle.qpack_spec.specs.Form.{Form, Index, IndexAndValue, NameAndValue}
 use Rattle.qpack_spec.specs.Instruction as instruction
-use Rattle.qpack_spec.specs.Instruction.{Instruction, InsertStaticName, InsertDynamicName, InsertLiteralName, SetCapacity, Reply, Acknowledgment, Cancellation, Increment}
+use Rattle.qpack_spec.specs.Instruction.{Instruction, InsertStaticName, InsertDynamicName, InsertLiteralName}
+use Rattle.qpack_spec.specs.Instruction.{SetCapacity, Reply, Acknowledgment, Cancellation, Increment}
 use Rattle.qpack_wire.specs.Alone.{Alone, ByFlags, ByFirstByte}
 use Rattle.qpack_wire.specs.declared.stream.inserts.InsertWithNameRef.{InsertWithNameRef}
 use Rattle.qpack_wire.specs.declared.stream.inserts.InsertWithNameRef.TheVariants as names
@@ -16,7 +17,12 @@ use Rattle.qpack_wire.specs.declared.stream.replies.StreamCancel.{StreamCancel}
 -- the first bits 1T, T being 1 for the static table
 abbrev pub insert_with_name_ref_form : ℕ → Option (Form Instruction)
 insert_with_name_ref_form flags =
-    if nat_eq (flags / 2) 1 then (if nat_eq (flags % 2) 1 then Some (IndexAndValue 6 InsertStaticName) else Some (IndexAndValue 6 InsertDynamicName)) else None
+    if nat_eq (flags / 2) 1
+    then (
+    if nat_eq (flags % 2) 1 then Some (IndexAndValue 6 InsertStaticName)
+    else Some (IndexAndValue 6 InsertDynamicName)
+    )
+    else None
 
 -- an insertion with a name reference (section 4.3.2)
 abbrev pub insert_with_name_ref : Alone Instruction

@@ -11,3 +11,5 @@ pub mod WireLaws
 pub mod StreamLineLaws
 pub mod Cuttings
 pub mod KindLaws
+pub mod Writes
+pub mod Memory

@@ -2,7 +2,8 @@
 use Rattle.std.specs.Prelude.{ℕ, ◌⊎◌, ◌↔◌, List}
 use Rattle.qpack_spec.specs.Line.{Line, SpellsLine}
 use Rattle.qpack_wire.specs.Alone.{SpellsAlone}
-use Rattle.qpack_wire.specs.Lines.{indexed, indexed_with_post_base, literal_with_name_ref, literal_with_post_base_name_ref, literal}
+use Rattle.qpack_wire.specs.Lines.{indexed, indexed_with_post_base, literal_with_name_ref}
+use Rattle.qpack_wire.specs.Lines.{literal_with_post_base_name_ref, literal}
 
 -- a spelling of a line is one in one of the five forms
 abbrev pub LinesHaveFiveForms : Type 0
@@ -11,4 +12,5 @@ LinesHaveFiveForms =
     → SpellsLine text l
     ↔ (SpellsAlone indexed text l
     ⊎ (SpellsAlone indexed_with_post_base text l
-    ⊎ (SpellsAlone literal_with_name_ref text l ⊎ (SpellsAlone literal_with_post_base_name_ref text l ⊎ SpellsAlone literal text l))))
+    ⊎ (SpellsAlone literal_with_name_ref text l ⊎ (SpellsAlone literal_with_post_base_name_ref text l
+    ⊎ SpellsAlone literal text l))))

@@ -3,7 +3,8 @@
 use Rattle.std.specs.Prelude.{ℕ, ◌/◌, ◌%◌, if◌then◌else◌, nat_lt, nat_eq, Option, None, Some}
 use Rattle.qpack_spec.specs.Form.{Form, Index, IndexAndValue, NameAndValue}
 use Rattle.qpack_spec.specs.Line as line
-use Rattle.qpack_spec.specs.Line.{Line, IndexedStatic, IndexedDynamic, IndexedPostBase, NamedStatic, NamedDynamic, NamedPostBase}
+use Rattle.qpack_spec.specs.Line.{Line, IndexedStatic, IndexedDynamic, IndexedPostBase, NamedStatic, NamedDynamic}
+use Rattle.qpack_spec.specs.Line.{NamedPostBase}
 use Rattle.qpack_wire.specs.Alone.{Alone, ByFlags, ByFirstByte}
 use Rattle.qpack_wire.specs.declared.block.indexes.Indexed.{Indexed}
 use Rattle.qpack_wire.specs.declared.block.indexes.Indexed.TheVariants as indexes
@@ -15,7 +16,10 @@ use Rattle.qpack_wire.specs.declared.block.literals.Literal.{Literal}
 
 -- the first bits 1T, T being 1 for the static table
 abbrev pub indexed_form : ℕ → Option (Form Line)
-indexed_form flags = if nat_eq flags 3 then Some (Index 6 IndexedStatic) else if nat_eq flags 2 then Some (Index 6 IndexedDynamic) else None
+indexed_form flags =
+    if nat_eq flags 3 then Some (Index 6 IndexedStatic)
+    else if nat_eq flags 2 then Some (Index 6 IndexedDynamic)
+    else None
 
 -- an indexed field line (section 4.5.2)
 abbrev pub indexed : Alone Line
@@ -32,7 +36,9 @@ indexed_with_post_base = ByFlags 4 indexed_with_post_base_form
 -- the first bits 01NT, T being 1 for the static table; N is free
 abbrev pub literal_with_name_ref_form : ℕ → Option (Form Line)
 literal_with_name_ref_form flags =
-    if nat_eq (flags / 4) 1 then (if nat_eq (flags % 2) 1 then Some (IndexAndValue 4 NamedStatic) else Some (IndexAndValue 4 NamedDynamic)) else None
+    if nat_eq (flags / 4) 1
+    then (if nat_eq (flags % 2) 1 then Some (IndexAndValue 4 NamedStatic) else Some (IndexAndValue 4 NamedDynamic))
+    else None
 
 -- a literal field line with a name reference (section 4.5.4)
 abbrev pub literal_with_name_ref : Alone Line

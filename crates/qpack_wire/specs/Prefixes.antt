@@ -14,7 +14,8 @@ prefix_of p = record { count = p.encoded_insert_count; sign = p.sign_negative; d
 
 -- the bytes are refused: the count is, or the delta behind a whole count
 abbrev pub RefusesPrefix : List ℕ → AloneFault → Type 0
-RefusesPrefix text (Unreadable fault) = RefusesIndex 8 text fault ⊎ InTurn (λ t. (count : ℕ) × HoldsIndex 8 count t) (λ t. RefusesIndex 7 t fault) text
+RefusesPrefix text (Unreadable fault) =
+    RefusesIndex 8 text fault ⊎ InTurn (λ t. (count : ℕ) × HoldsIndex 8 count t) (λ t. RefusesIndex 7 t fault) text
 RefusesPrefix text (Foreign bits) = ⊥
 
 -- the prefix at the front of the bytes, and the bytes behind it

@@ -4,12 +4,13 @@ use Rattle.qpack_base.specs.Cursor.{Reading, MovesPast}
 use Rattle.qpack_base.specs.declared.prefix_int.Error.TheVariants as integer
 use Rattle.qpack_base.specs.declared.prefix_string.Error.TheVariants as string
 use Rattle.qpack_base.specs.declared.parse_error.ParseError.{ParseError}
-use Rattle.qpack_base.specs.declared.parse_error.ParseError.TheVariants.{Integer, String, InvalidPrefix, InvalidBase, Memory}
+use Rattle.qpack_base.specs.declared.parse_error.ParseError.TheVariants.{Integer, String, Memory}
 use Rattle.qpack_wire.specs.Alone.{AloneFault, is_cut_alone}
-use Rattle.qpack_wire.specs.Answers.{FailsEarly, IsTruncated, FailsForm}
+use Rattle.qpack_wire.specs.Answers.{FailsEarly, IsTruncated, TellsRefusal, FailsForm}
 
 -- what is read is spelled so, and the cursor moves past exactly it
-abbrev pub FindsLine : {V L : Type 0} → (V → L) → (List ℕ → L → Type 0) → Reading → Reading → Result (Option V) ParseError → Type 0
+abbrev pub FindsLine : {V L : Type 0} → (V → L) → (List ℕ → L → Type 0) → Reading → Reading
+    → Result (Option V) ParseError → Type 0
 FindsLine view spells old new (Ok None) = Unit {0}
 FindsLine view spells old new (Ok (Some v)) = (text : List ℕ) × spells text (view v) × MovesPast text old new
 FindsLine view spells old new (Err e) = Unit {0}
@@ -21,17 +22,27 @@ GivesLine view (Ok (Some v)) l moved = (view v ≡ l) × moved
 GivesLine view (Err e) l moved = ⊥
 
 -- what is spelled so is read, whatever follows, unless memory is refused
-abbrev pub ReadsLine : {V L : Type 0} → (V → L) → (List ℕ → L → Type 0) → Reading → Reading → Result (Option V) ParseError → Type 0
+abbrev pub ReadsLine : {V L : Type 0} → (V → L) → (List ℕ → L → Type 0) → Reading → Reading
+    → Result (Option V) ParseError → Type 0
 ReadsLine {V} {L} view spells old new r =
     (text rest : List ℕ) (l : L) → spells text l → old.rest ≡ text ++ rest
     → GivesLine view r l (MovesPast text old new) ⊎ (r ≡ Err Memory)
 
 -- none exactly where the bytes are truncated, unless memory is refused; an early end is no refusal
-abbrev pub TellsNone : {V L : Type 0} → (List ℕ → L → Type 0) → (List ℕ → AloneFault → Type 0) → Reading → Result (Option V) ParseError → Type 0
+abbrev pub TellsNone : {V L : Type 0} → (List ℕ → L → Type 0) → (List ℕ → AloneFault → Type 0) → Reading
+    → Result (Option V) ParseError → Type 0
 TellsNone spells refuses old r =
     (r ≡ Ok None → IsTruncated spells refuses old.rest)
     × (IsTruncated spells refuses old.rest → (r ≡ Ok None) ⊎ (r ≡ Err Memory))
     × (FailsEarly r → ⊥)
+
+-- a reader decodes exactly the spellings, tells each refusal, and answers none where the bytes are truncated
+pub record DecodesInstruction {V L : Type 0} (view : V → L) (spells : List ℕ → L → Type 0)
+    (refuses : List ℕ → AloneFault → Type 0) (old new : Reading) (r : Result (Option V) ParseError) : Type 0 where
+  pub found : FindsLine view spells old new r
+  pub only : ReadsLine view spells old new r
+  pub refused : TellsRefusal refuses old r
+  pub truncated : TellsNone spells refuses old r
 
 -- only a line that is read moves the cursor
 abbrev pub StaysUnlessRead : {V : Type 0} → Reading → Reading → Result (Option V) ParseError → Type 0
@@ -48,20 +59,13 @@ EndsEarly (Err fault) = is_cut_alone fault ≡ true
 
 -- the error is a fault other than an early end
 abbrev pub FailsWhole : {A : Type 0} → ParseError → Result A AloneFault → Type 0
-FailsWhole (Integer integer.Overflow) read = FailsForm (Integer integer.Overflow) read
 FailsWhole (Integer integer.UnexpectedEnd) read = ⊥
 FailsWhole (String string.UnexpectedEnd) read = ⊥
-FailsWhole (String (string.Integer e)) read = FailsForm (String (string.Integer e)) read
-FailsWhole (String (string.HuffmanDecoding e)) read = FailsForm (String (string.HuffmanDecoding e)) read
-FailsWhole (String (string.HuffmanEncoding e)) read = ⊥
-FailsWhole (String string.BufSize) read = ⊥
-FailsWhole (String string.Memory) read = ⊥
-FailsWhole (InvalidPrefix bits) read = FailsForm (InvalidPrefix bits) read
-FailsWhole (InvalidBase base) read = ⊥
-FailsWhole Memory read = Unit {0}
+FailsWhole e read = FailsForm e read
 
 -- the answer is what was read, and the cursor stands behind it; or none of an early end; or the fault
-abbrev pub ReadsStream : {V L : Type 0} → (V → L) → Reading → Reading → Result (Option V) ParseError → Result (L × List ℕ) AloneFault → Type 0
+abbrev pub ReadsStream : {V L : Type 0} → (V → L) → Reading → Reading → Result (Option V) ParseError
+    → Result (L × List ℕ) AloneFault → Type 0
 ReadsStream view old new (Ok None) read = EndsEarly read
 ReadsStream view old new (Ok (Some v)) read = (read ≡ Ok (view v, new.rest)) × (new.total ≡ old.total)
 ReadsStream view old new (Err e) read = FailsWhole e read
@@ -69,14 +73,6 @@ ReadsStream view old new (Err e) read = FailsWhole e read
 -- an answer with none in place of an early end
 abbrev pub without_end : {V : Type 0} → Result V ParseError → Result (Option V) ParseError
 without_end (Ok v) = Ok (Some v)
-without_end (Err (Integer integer.Overflow)) = Err (Integer integer.Overflow)
 without_end (Err (Integer integer.UnexpectedEnd)) = Ok None
 without_end (Err (String string.UnexpectedEnd)) = Ok None
-without_end (Err (String (string.Integer e))) = Err (String (string.Integer e))
-without_end (Err (String (string.HuffmanDecoding e))) = Err (String (string.HuffmanDecoding e))
-without_end (Err (String (string.HuffmanEncoding e))) = Err (String (string.HuffmanEncoding e))
-without_end (Err (String string.BufSize)) = Err (String string.BufSize)
-without_end (Err (String string.Memory)) = Err (String string.Memory)
-without_end (Err (InvalidPrefix bits)) = Err (InvalidPrefix bits)
-without_end (Err (InvalidBase base)) = Err (InvalidBase base)
-without_end (Err Memory) = Err Memory
+without_end (Err e) = Err e

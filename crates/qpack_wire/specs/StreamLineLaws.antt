@@ -3,12 +3,14 @@ use Rattle.std.specs.Prelude.{ℕ, List}
 use Rattle.std.proofs.Common.{ap, inl, inr}
 use Rattle.qpack_spec.specs.FormLaws.{EndsForm}
 use Rattle.qpack_spec.specs.WrittenLaws.{IsWritableInstruction, IsWritableReply}
-use Rattle.qpack_spec.specs.Instruction.{instruction_form, reply_form, SpellsInstruction, SpellsReply, written_instruction, written_reply}
+use Rattle.qpack_spec.specs.Instruction.{instruction_form, reply_form, SpellsInstruction, SpellsReply}
+use Rattle.qpack_spec.specs.Instruction.{written_instruction, written_reply}
 use Rattle.qpack_spec.proofs.FormLaws.{one_form, no_form_begins, form_again}
 use Rattle.qpack_spec.proofs.WrittenForms.{instructions_spelled, replies_spelled}
 use Rattle.qpack_wire.specs.Alone.{Unreadable, Foreign, or_unreadable}
 use Rattle.qpack_wire.specs.StreamLines.{RefusesEncoderLine, RefusesDecoderLine, instruction_at, reply_at}
-use Rattle.qpack_wire.specs.WireLaws.{WrittenIsSpelled, WrittenIsReadBack, SpellingsHaveOneLine, EndsLine, NoLineBeginsAnother}
+use Rattle.qpack_wire.specs.WireLaws.{WrittenIsSpelled, WrittenIsReadBack, SpellingsHaveOneLine, EndsLine}
+use Rattle.qpack_wire.specs.WireLaws.{NoLineBeginsAnother}
 
 instruction_ends : (text : List ℕ) → EndsLine SpellsInstruction RefusesEncoderLine text → EndsForm instruction_form text
 instruction_ends text (inl p) = inl p
@@ -33,7 +35,8 @@ pub spellings_have_one_instruction : SpellingsHaveOneLine SpellsInstruction
 spellings_have_one_instruction = one_form instruction_form
 
 pub no_instruction_begins_another : NoLineBeginsAnother SpellsInstruction RefusesEncoderLine
-no_instruction_begins_another a b x y p q e = no_form_begins instruction_form a b x y (instruction_ends a p) (instruction_ends b q) e
+no_instruction_begins_another a b x y p q e =
+    no_form_begins instruction_form a b x y (instruction_ends a p) (instruction_ends b q) e
 
 -- decoder instructions
 
@@ -41,7 +44,8 @@ pub written_replies_spelled : WrittenIsSpelled SpellsReply IsWritableReply writt
 written_replies_spelled l h = replies_spelled l h
 
 pub written_replies_read_back : WrittenIsReadBack reply_at IsWritableReply written_reply
-written_replies_read_back l rest h = ap or_unreadable (form_again reply_form (written_reply l) rest l (replies_spelled l h))
+written_replies_read_back l rest h =
+    ap or_unreadable (form_again reply_form (written_reply l) rest l (replies_spelled l h))
 
 pub spellings_have_one_reply : SpellingsHaveOneLine SpellsReply
 spellings_have_one_reply = one_form reply_form

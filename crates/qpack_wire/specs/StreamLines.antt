@@ -1,9 +1,13 @@
--- One line of a stream: an encoder instruction or a decoder instruction, whichever it is (RFC 9204, sections 4.3 and 4.4).
+-- One line of a stream: an encoder instruction or a decoder instruction, whichever it is
+-- (RFC 9204, sections 4.3 and 4.4).
 use Rattle.std.specs.Prelude.{ℕ, List, Result, if◌then◌else◌, nat_lt}
 use Rattle.qpack_spec.specs.Form.{form_at}
-use Rattle.qpack_spec.specs.Instruction.{Instruction, Reply, instruction_form, reply_form, RefusesInstruction, RefusesReply}
+use Rattle.qpack_spec.specs.Instruction.{Instruction, Reply, instruction_form, reply_form, RefusesInstruction}
+use Rattle.qpack_spec.specs.Instruction.{RefusesReply}
 use Rattle.qpack_wire.specs.Alone.{AloneFault, Unreadable, Foreign, or_unreadable}
-use Rattle.qpack_wire.specs.Instructions.{instruction_of_insert_with_name_ref, instruction_of_insert_without_name_ref, instruction_of_duplicate, instruction_of_dynamic_table_size_update, reply_of_insert_count_increment, reply_of_header_ack, reply_of_stream_cancel}
+use Rattle.qpack_wire.specs.Instructions.{instruction_of_insert_with_name_ref, instruction_of_insert_without_name_ref}
+use Rattle.qpack_wire.specs.Instructions.{instruction_of_duplicate, instruction_of_dynamic_table_size_update}
+use Rattle.qpack_wire.specs.Instructions.{reply_of_insert_count_increment, reply_of_header_ack, reply_of_stream_cancel}
 use Rattle.qpack_wire.specs.declared.stream.encoder_stream.EncoderInstruction.{EncoderInstruction}
 use Rattle.qpack_wire.specs.declared.stream.encoder_stream.EncoderInstruction.TheVariants as encoder
 use Rattle.qpack_wire.specs.declared.stream.encoder_stream.EncoderLine.{EncoderLine}

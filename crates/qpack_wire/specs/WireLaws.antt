@@ -7,8 +7,10 @@ abbrev pub WrittenIsSpelled : {L : Type 0} → (List ℕ → L → Type 0) → (
 WrittenIsSpelled {L} spells writable written = (l : L) → writable l → spells (written l) l
 
 -- and is read back whole, whatever follows
-abbrev pub WrittenIsReadBack : {L : Type 0} → (List ℕ → Result (L × List ℕ) AloneFault) → (L → Type 0) → (L → List ℕ) → Type 0
-WrittenIsReadBack {L} read writable written = (l : L) (rest : List ℕ) → writable l → read (written l ++ rest) ≡ Ok (l, rest)
+abbrev pub WrittenIsReadBack : {L : Type 0} → (List ℕ → Result (L × List ℕ) AloneFault) → (L → Type 0) → (L → List ℕ)
+    → Type 0
+WrittenIsReadBack {L} read writable written =
+    (l : L) (rest : List ℕ) → writable l → read (written l ++ rest) ≡ Ok (l, rest)
 
 -- one spelling is of one line
 abbrev pub SpellingsHaveOneLine : {L : Type 0} → (List ℕ → L → Type 0) → Type 0
@@ -20,4 +22,5 @@ EndsLine {L} spells refuses text = ((l : L) × spells text l) ⊎ ((fault : Alon
 
 -- no spelling or refusal begins another
 abbrev pub NoLineBeginsAnother : {L : Type 0} → (List ℕ → L → Type 0) → (List ℕ → AloneFault → Type 0) → Type 0
-NoLineBeginsAnother spells refuses = (a b x y : List ℕ) → EndsLine spells refuses a → EndsLine spells refuses b → a ++ x ≡ b ++ y → a ≡ b
+NoLineBeginsAnother spells refuses =
+    (a b x y : List ℕ) → EndsLine spells refuses a → EndsLine spells refuses b → a ++ x ≡ b ++ y → a ≡ b

@@ -3,6 +3,7 @@
 #![tactic(auto)]
 
 pub mod block;
+mod form;
 pub mod laws;
 pub mod stream;
 #[cfg(test)]

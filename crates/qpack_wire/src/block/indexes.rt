@@ -1,16 +1,30 @@
 //! Lines that are an index alone (RFC 9204, sections 4.5.2 and 4.5.3).
 
-ghost use Rattle.std.specs.Prelude.{◌≡◌, ◌+◌, ◌≤◌, ◌++◌, Err, OnOk, OnErr, IsOk, length, vec_len, vec_capacity};
+ghost use Rattle.std.specs.Prelude.{◌≡◌, Err};
 ghost use Rattle.qpack_spec.specs.Line.{written_line};
 ghost use Rattle.qpack_base.specs.declared.parse_error.ParseError.TheVariants.{Memory};
 ghost use Rattle.qpack_wire.specs.Alone.{SpellsAlone, RefusesAlone, alone_at};
-ghost use Rattle.qpack_wire.specs.Answers.{FindsSpelling, ReadsSpelling, TellsRefusal, TellsEnd, ReadsForm};
-ghost use Rattle.qpack_wire.specs.Lines.{indexed, indexed_with_post_base, line_of_indexed, line_of_indexed_with_post_base};
+ghost use Rattle.qpack_wire.specs.Answers.{Decodes, ReadsForm};
+ghost use Rattle.qpack_wire.specs.Lines.{indexed, indexed_with_post_base, line_of_indexed};
+ghost use Rattle.qpack_wire.specs.Lines.{line_of_indexed_with_post_base};
+ghost use Rattle.qpack_wire.specs.Writes.{Writes};
 
 use qpack_base::coding::{Cursor, NoMemory};
 use qpack_base::parse_error::ParseError;
 use qpack_base::prefix_int;
 use std::alloc::Allocator;
+
+// RFC 9204, section 4.5.2:
+//   0   1   2   3   4   5   6   7
+// +---+---+---+---+---+---+---+---+
+// | 1 | T |      Index (6+)       |
+// +---+---+-----------------------+
+// T is 1 for the static table.
+pub(crate) const INDEXED_SIZE: u8 = 6;
+
+pub(crate) const INDEXED_DYNAMIC: u8 = 0b10;
+
+const INDEXED_STATIC: u8 = 0b11;
 
 /// A field of the static table, or one of the dynamic table, counted down from the base.
 #[derive(Debug, PartialEq, Drop)]
@@ -25,10 +39,7 @@ impl Indexed {
     /// Reads such a line at the cursor. Takes no memory. Where it is refused, the cursor's place is
     /// not told.
     pub fn decode(buf: &mut Cursor) -> Result<Indexed, ParseError>
-        ensures found { FindsSpelling line_of_indexed (SpellsAlone indexed) buf.old buf.new result }
-        ensures only { ReadsSpelling line_of_indexed (SpellsAlone indexed) buf.old buf.new result }
-        ensures refused { TellsRefusal (RefusesAlone indexed) buf.old result }
-        ensures truncated { TellsEnd (SpellsAlone indexed) (RefusesAlone indexed) buf.old result }
+        ensures decodes { Decodes line_of_indexed (SpellsAlone indexed) (RefusesAlone indexed) buf.old buf.new result }
         ensures no_memory { result ≡ Err Memory → ⊥ }
         // The same, as reading from left to right.
         ensures exact { ReadsForm line_of_indexed buf.old buf.new result (alone_at indexed buf.old.rest) }
@@ -40,14 +51,15 @@ impl Indexed {
     /// the spelling it succeeds and takes no memory.
     #[tactic(auto, unfolding(qpack_spec::specs::Line::written_line))]
     pub fn encode<A: Allocator>(&self, buf: &mut Vec<u8, A>) -> Result<(), NoMemory>
-        ensures ok { OnOk result (buf.new.items ≡ buf.old.items ++ written_line (line_of_indexed self.now)) }
-        ensures err { OnErr result (buf.new.items ≡ buf.old.items) }
-        ensures succeeds { vec_len buf.old + length (written_line (line_of_indexed self.now)) ≤ vec_capacity buf.old → IsOk result }
-        ensures capacity { vec_capacity buf.old ≤ vec_capacity buf.new }
+        ensures writes { Writes (written_line (line_of_indexed self.now)) buf.old buf.new result }
     {
         match self {
-            Indexed::Static(index) => prefix_int::encode(6, 0b11, *index as u64, buf),
-            Indexed::Dynamic(index) => prefix_int::encode(6, 0b10, *index as u64, buf),
+            Indexed::Static(index) => {
+                prefix_int::encode(INDEXED_SIZE, INDEXED_STATIC, *index as u64, buf)
+            }
+            Indexed::Dynamic(index) => {
+                prefix_int::encode(INDEXED_SIZE, INDEXED_DYNAMIC, *index as u64, buf)
+            }
         }
     }
 }
@@ -57,12 +69,21 @@ fn read_indexed(buf: &mut Cursor) -> Result<Indexed, ParseError>
     ensures exact { ReadsForm line_of_indexed buf.old buf.new result (alone_at indexed buf.old.rest) }
     ensures no_memory { result ≡ Err Memory → ⊥ }
 {
-    match prefix_int::decode(6, buf)? {
-        (0b11, index) => Ok(Indexed::Static(index as usize)),
-        (0b10, index) => Ok(Indexed::Dynamic(index as usize)),
+    match prefix_int::decode(INDEXED_SIZE, buf)? {
+        (INDEXED_STATIC, index) => Ok(Indexed::Static(index as usize)),
+        (INDEXED_DYNAMIC, index) => Ok(Indexed::Dynamic(index as usize)),
         (flags, _) => Err(ParseError::InvalidPrefix(flags)),
     }
 }
+
+// RFC 9204, section 4.5.3:
+//   0   1   2   3   4   5   6   7
+// +---+---+---+---+---+---+---+---+
+// | 0 | 0 | 0 | 1 |  Index (4+)   |
+// +---+---+---+---+---------------+
+pub(crate) const POST_BASE_SIZE: u8 = 4;
+
+pub(crate) const POST_BASE: u8 = 0b0001;
 
 /// An entry of the dynamic table, counted up from the base.
 #[derive(Debug, PartialEq, Drop)]
@@ -72,13 +93,12 @@ impl IndexedWithPostBase {
     /// Reads such a line at the cursor. Takes no memory. Where it is refused, the cursor's place is
     /// not told.
     pub fn decode(buf: &mut Cursor) -> Result<IndexedWithPostBase, ParseError>
-        ensures found { FindsSpelling line_of_indexed_with_post_base (SpellsAlone indexed_with_post_base) buf.old buf.new result }
-        ensures only { ReadsSpelling line_of_indexed_with_post_base (SpellsAlone indexed_with_post_base) buf.old buf.new result }
-        ensures refused { TellsRefusal (RefusesAlone indexed_with_post_base) buf.old result }
-        ensures truncated { TellsEnd (SpellsAlone indexed_with_post_base) (RefusesAlone indexed_with_post_base) buf.old result }
+        ensures decodes { Decodes line_of_indexed_with_post_base (SpellsAlone indexed_with_post_base)
+            (RefusesAlone indexed_with_post_base) buf.old buf.new result }
         ensures no_memory { result ≡ Err Memory → ⊥ }
         // The same, as reading from left to right.
-        ensures exact { ReadsForm line_of_indexed_with_post_base buf.old buf.new result (alone_at indexed_with_post_base buf.old.rest) }
+        ensures exact { ReadsForm line_of_indexed_with_post_base buf.old buf.new result
+            (alone_at indexed_with_post_base buf.old.rest) }
     {
         read_indexed_with_post_base(buf)
     }
@@ -87,22 +107,20 @@ impl IndexedWithPostBase {
     /// the spelling it succeeds and takes no memory.
     #[tactic(auto, unfolding(qpack_spec::specs::Line::written_line))]
     pub fn encode<A: Allocator>(&self, buf: &mut Vec<u8, A>) -> Result<(), NoMemory>
-        ensures ok { OnOk result (buf.new.items ≡ buf.old.items ++ written_line (line_of_indexed_with_post_base self.now)) }
-        ensures err { OnErr result (buf.new.items ≡ buf.old.items) }
-        ensures succeeds { vec_len buf.old + length (written_line (line_of_indexed_with_post_base self.now)) ≤ vec_capacity buf.old → IsOk result }
-        ensures capacity { vec_capacity buf.old ≤ vec_capacity buf.new }
+        ensures writes { Writes (written_line (line_of_indexed_with_post_base self.now)) buf.old buf.new result }
     {
-        prefix_int::encode(4, 0b0001, self.0 as u64, buf)
+        prefix_int::encode(POST_BASE_SIZE, POST_BASE, self.0 as u64, buf)
     }
 }
 
 #[tactic(auto, unfolding(crate::specs::Alone::alone_at, qpack_spec::specs::Form::made_at))]
 fn read_indexed_with_post_base(buf: &mut Cursor) -> Result<IndexedWithPostBase, ParseError>
-    ensures exact { ReadsForm line_of_indexed_with_post_base buf.old buf.new result (alone_at indexed_with_post_base buf.old.rest) }
+    ensures exact { ReadsForm line_of_indexed_with_post_base buf.old buf.new result
+        (alone_at indexed_with_post_base buf.old.rest) }
     ensures no_memory { result ≡ Err Memory → ⊥ }
 {
-    match prefix_int::decode(4, buf)? {
-        (0b0001, index) => Ok(IndexedWithPostBase(index as usize)),
+    match prefix_int::decode(POST_BASE_SIZE, buf)? {
+        (POST_BASE, index) => Ok(IndexedWithPostBase(index as usize)),
         (flags, _) => Err(ParseError::InvalidPrefix(flags)),
     }
 }

@@ -1,13 +1,21 @@
 //! One line of an encoded field section, whichever form it has (RFC 9204, section 4.5).
 
-ghost use Rattle.std.specs.Prelude.{◌≡◌, ◌+◌, ◌≤◌, ◌∷◌, ◌++◌, drop, IfErr, OnOk, OnErr, IsOk, length, vec_len, vec_capacity};
-ghost use Rattle.qpack_spec.specs.Line.{SpellsLine, written_line};
+ghost use Rattle.std.specs.Prelude.{◌≡◌, ◌∷◌, drop, Err, IfErr};
+ghost use Rattle.qpack_spec.specs.Line.{SpellsLine, line_form, written_line};
 ghost use Rattle.qpack_base.specs.declared.prefix_string.Error.TheVariants.{Memory as NoRoom};
-ghost use Rattle.qpack_wire.specs.Answers.{FindsSpelling, ReadsSpelling, TellsRefusal, TellsEnd, ReadsForm};
+ghost use Rattle.qpack_base.specs.declared.parse_error.ParseError.TheVariants.{Memory};
+ghost use Rattle.qpack_wire.specs.Answers.{Decodes, ReadsForm};
 ghost use Rattle.qpack_wire.specs.BlockLines.{field_of_first, line_of, RefusesBlockLine, line_at};
+ghost use Rattle.qpack_wire.specs.Memory.{AsksForMemory};
+ghost use Rattle.qpack_wire.specs.Writes.{Writes};
 
-use crate::block::indexes::{Indexed, IndexedWithPostBase};
-use crate::block::literals::{Literal, LiteralWithNameRef, LiteralWithPostBaseNameRef};
+use crate::block::indexes::{
+    INDEXED_DYNAMIC, INDEXED_SIZE, Indexed, IndexedWithPostBase, POST_BASE, POST_BASE_SIZE,
+};
+use crate::block::literals::{
+    LITERAL, LITERAL_SIZE, Literal, LiteralWithNameRef, LiteralWithPostBaseNameRef, NAMED_DYNAMIC,
+    NAMED_SIZE,
+};
 use qpack_base::coding::Cursor;
 use qpack_base::parse_error::ParseError;
 use qpack_base::{prefix_int, prefix_string};
@@ -35,13 +43,13 @@ impl HeaderBlockField {
     pub fn decode(first: u8) -> HeaderBlockField
         ensures { result ≡ field_of_first first }
     {
-        if first >= 0b1000_0000 {
+        if first >= INDEXED_DYNAMIC << INDEXED_SIZE {
             HeaderBlockField::Indexed
-        } else if first >= 0b0100_0000 {
+        } else if first >= NAMED_DYNAMIC << NAMED_SIZE {
             HeaderBlockField::LiteralWithNameRef
-        } else if first >= 0b0010_0000 {
+        } else if first >= LITERAL << LITERAL_SIZE {
             HeaderBlockField::Literal
-        } else if first >= 0b0001_0000 {
+        } else if first >= POST_BASE << POST_BASE_SIZE {
             HeaderBlockField::IndexedWithPostBase
         } else {
             HeaderBlockField::LiteralWithPostBaseNameRef
@@ -68,10 +76,9 @@ impl BlockLine {
     /// Reads the line at the cursor, in the form that its first byte names. Where it is refused, the
     /// cursor's place is not told.
     pub fn decode(alloc: Global, buf: &mut Cursor) -> Result<BlockLine, ParseError>
-        ensures found { FindsSpelling line_of SpellsLine buf.old buf.new result }
-        ensures only { ReadsSpelling line_of SpellsLine buf.old buf.new result }
-        ensures refused { TellsRefusal RefusesBlockLine buf.old result }
-        ensures truncated { TellsEnd SpellsLine RefusesBlockLine buf.old result }
+        ensures decodes { Decodes line_of SpellsLine RefusesBlockLine buf.old buf.new result }
+        // Memory is refused only where a string whose payload is not empty stands whole.
+        ensures memory { result ≡ Err Memory → AsksForMemory line_form buf.old.rest }
         // The same, as reading from left to right.
         ensures exact { ReadsForm line_of buf.old buf.new result (line_at buf.old.rest) }
     {
@@ -81,11 +88,8 @@ impl BlockLine {
     /// Appends the written spelling of the line. Refused, the vector is as before; with free room for
     /// the spelling it succeeds and takes no memory.
     pub fn encode<A: Allocator>(&self, buf: &mut Vec<u8, A>) -> Result<(), prefix_string::Error>
-        ensures ok { OnOk result (buf.new.items ≡ buf.old.items ++ written_line (line_of self.now)) }
-        ensures err { OnErr result (buf.new.items ≡ buf.old.items) }
+        ensures writes { Writes (written_line (line_of self.now)) buf.old buf.new result }
         ensures memory { IfErr result (λ e. e ≡ NoRoom) }
-        ensures succeeds { vec_len buf.old + length (written_line (line_of self.now)) ≤ vec_capacity buf.old → IsOk result }
-        ensures capacity { vec_capacity buf.old ≤ vec_capacity buf.new }
     {
         match self {
             BlockLine::Indexed(line) => Ok(line.encode(buf)?),
@@ -97,8 +101,10 @@ impl BlockLine {
     }
 }
 
+#[tactic(auto, using(crate::proofs::BlockLines::line_of_nothing))]
 fn read_line(alloc: Global, buf: &mut Cursor) -> Result<BlockLine, ParseError>
-    ensures { ReadsForm line_of buf.old buf.new result (line_at buf.old.rest) }
+    ensures exact { ReadsForm line_of buf.old buf.new result (line_at buf.old.rest) }
+    ensures memory { result ≡ Err Memory → AsksForMemory line_form buf.old.rest }
 {
     let Some((first, _)) = buf.chunk().split_first() else {
         return Err(ParseError::Integer(prefix_int::Error::UnexpectedEnd));
@@ -107,9 +113,11 @@ fn read_line(alloc: Global, buf: &mut Cursor) -> Result<BlockLine, ParseError>
 }
 
 /// Reads the line, which begins with this byte.
+#[tactic(auto, using(crate::proofs::BlockLines::lines_by_first))]
 fn read_line_of(alloc: Global, first: u8, buf: &mut Cursor) -> Result<BlockLine, ParseError>
     requires { buf.old.rest ≡ first ∷ drop 1 buf.old.rest }
-    ensures { ReadsForm line_of buf.old buf.new result (line_at buf.old.rest) }
+    ensures exact { ReadsForm line_of buf.old buf.new result (line_at buf.old.rest) }
+    ensures memory { result ≡ Err Memory → AsksForMemory line_form buf.old.rest }
 {
     match HeaderBlockField::decode(first) {
         HeaderBlockField::Indexed => Ok(BlockLine::Indexed(Indexed::decode(buf)?)),

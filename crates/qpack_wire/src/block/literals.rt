@@ -1,16 +1,42 @@
 //! Lines with a value of their own (RFC 9204, sections 4.5.4 to 4.5.6).
 
-ghost use Rattle.std.specs.Prelude.{◌≡◌, ◌+◌, ◌≤◌, ◌++◌, IfErr, OnOk, OnErr, IsOk, length, take, vec_len, vec_capacity};
+ghost use Rattle.std.specs.Prelude.{◌≡◌, Err, IfErr};
 ghost use Rattle.qpack_spec.specs.Line.{NamedStatic, NamedDynamic, NamedPostBase, Literal as LiteralLine, written_line};
 ghost use Rattle.qpack_base.specs.declared.prefix_string.Error.TheVariants.{Memory as NoRoom};
-ghost use Rattle.qpack_wire.specs.Alone.{SpellsAlone, RefusesAlone, alone_at};
-ghost use Rattle.qpack_wire.specs.Answers.{FindsSpelling, ReadsSpelling, TellsRefusal, TellsEnd, ReadsForm};
-ghost use Rattle.qpack_wire.specs.Lines.{literal_with_name_ref, literal_with_post_base_name_ref, literal, line_of_literal_with_name_ref, line_of_literal_with_post_base_name_ref, line_of_literal};
+ghost use Rattle.qpack_base.specs.declared.parse_error.ParseError.TheVariants.{Memory};
+ghost use Rattle.qpack_wire.specs.Alone.{form_named, SpellsAlone, RefusesAlone, alone_at};
+ghost use Rattle.qpack_wire.specs.Answers.{Decodes, ReadsForm};
+ghost use Rattle.qpack_wire.specs.Lines.{literal_with_name_ref, literal_with_post_base_name_ref, literal};
+ghost use Rattle.qpack_wire.specs.Lines.{line_of_literal_with_name_ref, line_of_literal_with_post_base_name_ref};
+ghost use Rattle.qpack_wire.specs.Lines.{line_of_literal};
+ghost use Rattle.qpack_wire.specs.Memory.{AsksForMemory, AsksAt};
+ghost use Rattle.qpack_wire.specs.Writes.{Writes};
 
+use crate::form::{VALUE_SIZE, put_index_and_value, put_name_and_value};
 use qpack_base::coding::Cursor;
 use qpack_base::parse_error::ParseError;
 use qpack_base::{prefix_int, prefix_string};
 use std::alloc::{Allocator, Global};
+
+// RFC 9204, section 4.5.4:
+//   0   1   2   3   4   5   6   7
+// +---+---+---+---+---+---+---+---+
+// | 0 | 1 | N | T |Name Index (4+)|
+// +---+---+---+---+---------------+
+// | H |     Value Length (7+)     |
+// +---+---------------------------+
+// |  Value String (Length bytes)  |
+// +-------------------------------+
+// N asks that the field never be indexed: it is read and dropped, and written as 0. T is 1 for the static table.
+pub(crate) const NAMED_SIZE: u8 = 4;
+
+pub(crate) const NAMED_DYNAMIC: u8 = 0b0100;
+
+const NAMED_STATIC: u8 = 0b0101;
+
+const NAMED_DYNAMIC_NEVER_INDEXED: u8 = 0b0110;
+
+const NAMED_STATIC_NEVER_INDEXED: u8 = 0b0111;
 
 /// A value behind the name of a field of the static table, or of an entry of the dynamic table,
 /// counted down from the base.
@@ -49,12 +75,13 @@ impl LiteralWithNameRef {
 
     /// Reads such a line at the cursor. Where it is refused, the cursor's place is not told.
     pub fn decode(alloc: Global, buf: &mut Cursor) -> Result<LiteralWithNameRef, ParseError>
-        ensures found { FindsSpelling line_of_literal_with_name_ref (SpellsAlone literal_with_name_ref) buf.old buf.new result }
-        ensures only { ReadsSpelling line_of_literal_with_name_ref (SpellsAlone literal_with_name_ref) buf.old buf.new result }
-        ensures refused { TellsRefusal (RefusesAlone literal_with_name_ref) buf.old result }
-        ensures truncated { TellsEnd (SpellsAlone literal_with_name_ref) (RefusesAlone literal_with_name_ref) buf.old result }
+        ensures decodes { Decodes line_of_literal_with_name_ref (SpellsAlone literal_with_name_ref)
+            (RefusesAlone literal_with_name_ref) buf.old buf.new result }
+        // Memory is refused only where a string whose payload is not empty stands whole.
+        ensures memory { result ≡ Err Memory → AsksForMemory (form_named literal_with_name_ref) buf.old.rest }
         // The same, as reading from left to right.
-        ensures exact { ReadsForm line_of_literal_with_name_ref buf.old buf.new result (alone_at literal_with_name_ref buf.old.rest) }
+        ensures exact { ReadsForm line_of_literal_with_name_ref buf.old buf.new result
+            (alone_at literal_with_name_ref buf.old.rest) }
     {
         read_literal_with_name_ref(alloc, buf)
     }
@@ -62,18 +89,45 @@ impl LiteralWithNameRef {
     /// Appends the written spelling of the line, whose N is 0. Refused, the vector is as before; with
     /// free room for the spelling it succeeds and takes no memory.
     pub fn encode<A: Allocator>(&self, buf: &mut Vec<u8, A>) -> Result<(), prefix_string::Error>
-        ensures ok { OnOk result (buf.new.items ≡ buf.old.items ++ written_line (line_of_literal_with_name_ref self.now)) }
-        ensures err { OnErr result (buf.new.items ≡ buf.old.items) }
+        ensures writes { Writes (written_line (line_of_literal_with_name_ref self.now)) buf.old buf.new result }
         ensures memory { IfErr result (λ e. e ≡ NoRoom) }
-        ensures succeeds { vec_len buf.old + length (written_line (line_of_literal_with_name_ref self.now)) ≤ vec_capacity buf.old → IsOk result }
-        ensures capacity { vec_capacity buf.old ≤ vec_capacity buf.new }
     {
-        let len = buf.len();
-        let answer = put_literal_with_name_ref(self, buf);
-        if answer.is_err() {
-            buf.truncate(len);
+        match self {
+            LiteralWithNameRef::Static { index, value } => {
+                LiteralWithNameRef::write_static(*index, value, buf)
+            }
+            LiteralWithNameRef::Dynamic { index, value } => {
+                LiteralWithNameRef::write_dynamic(*index, value, buf)
+            }
         }
-        answer
+    }
+
+    /// Appends the written spelling of a line with a borrowed value behind a name of the static table, as
+    /// `encode` does.
+    #[tactic(auto, unfolding(qpack_spec::specs::Line::written_line))]
+    pub fn write_static<A: Allocator>(
+        index: usize,
+        value: &[u8],
+        buf: &mut Vec<u8, A>,
+    ) -> Result<(), prefix_string::Error>
+        ensures writes { Writes (written_line (NamedStatic index value.now)) buf.old buf.new result }
+        ensures memory { IfErr result (λ e. e ≡ NoRoom) }
+    {
+        put_index_and_value(NAMED_SIZE, NAMED_STATIC, index as u64, value, buf)
+    }
+
+    /// Appends the written spelling of a line with a borrowed value behind a name of the dynamic table, as
+    /// `encode` does.
+    #[tactic(auto, unfolding(qpack_spec::specs::Line::written_line))]
+    pub fn write_dynamic<A: Allocator>(
+        index: usize,
+        value: &[u8],
+        buf: &mut Vec<u8, A>,
+    ) -> Result<(), prefix_string::Error>
+        ensures writes { Writes (written_line (NamedDynamic index value.now)) buf.old buf.new result }
+        ensures memory { IfErr result (λ e. e ≡ NoRoom) }
+    {
+        put_index_and_value(NAMED_SIZE, NAMED_DYNAMIC, index as u64, value, buf)
     }
 }
 
@@ -82,44 +136,39 @@ fn read_literal_with_name_ref(
     alloc: Global,
     buf: &mut Cursor,
 ) -> Result<LiteralWithNameRef, ParseError>
-    ensures { ReadsForm line_of_literal_with_name_ref buf.old buf.new result (alone_at literal_with_name_ref buf.old.rest) }
+    ensures exact { ReadsForm line_of_literal_with_name_ref buf.old buf.new result
+        (alone_at literal_with_name_ref buf.old.rest) }
+    ensures memory { result ≡ Err Memory → AsksAt literal_with_name_ref buf.old.rest }
 {
-    let (flags, index) = prefix_int::decode(4, buf)?;
-    if flags / 4 != 0b01 {
-        return Err(ParseError::InvalidPrefix(flags));
-    }
-    let value = prefix_string::decode(alloc, 8, buf)?;
+    let (flags, index) = prefix_int::decode(NAMED_SIZE, buf)?;
+    let is_static = match flags {
+        NAMED_STATIC | NAMED_STATIC_NEVER_INDEXED => true,
+        NAMED_DYNAMIC | NAMED_DYNAMIC_NEVER_INDEXED => false,
+        _ => return Err(ParseError::InvalidPrefix(flags)),
+    };
     let index = index as usize;
-    if flags % 2 == 1 {
+    let value = prefix_string::decode(alloc, VALUE_SIZE, buf)?;
+    if is_static {
         Ok(LiteralWithNameRef::Static { index, value })
     } else {
         Ok(LiteralWithNameRef::Dynamic { index, value })
     }
 }
 
-/// Appends the line; refused, what stood before is still at the front.
-#[tactic(auto, unfolding(qpack_spec::specs::Line::written_line))]
-fn put_literal_with_name_ref<A: Allocator>(
-    line: &LiteralWithNameRef,
-    buf: &mut Vec<u8, A>,
-) -> Result<(), prefix_string::Error>
-    ensures ok { OnOk result (buf.new.items ≡ buf.old.items ++ written_line (line_of_literal_with_name_ref line.now)) }
-    ensures err { OnErr result (take (vec_len buf.old) buf.new.items ≡ buf.old.items) }
-    ensures memory { IfErr result (λ e. e ≡ NoRoom) }
-    ensures succeeds { vec_len buf.old + length (written_line (line_of_literal_with_name_ref line.now)) ≤ vec_capacity buf.old → IsOk result }
-    ensures capacity { vec_capacity buf.old ≤ vec_capacity buf.new }
-{
-    match line {
-        LiteralWithNameRef::Static { index, value } => {
-            prefix_int::encode(4, 0b0101, *index as u64, buf)?;
-            prefix_string::encode(8, 0, value, buf)
-        }
-        LiteralWithNameRef::Dynamic { index, value } => {
-            prefix_int::encode(4, 0b0100, *index as u64, buf)?;
-            prefix_string::encode(8, 0, value, buf)
-        }
-    }
-}
+// RFC 9204, section 4.5.5:
+//   0   1   2   3   4   5   6   7
+// +---+---+---+---+---+---+---+---+
+// | 0 | 0 | 0 | 0 | N |NameIdx(3+)|
+// +---+---+---+---+---+-----------+
+// | H |     Value Length (7+)     |
+// +---+---------------------------+
+// |  Value String (Length bytes)  |
+// +-------------------------------+
+pub(crate) const POST_BASE_NAMED_SIZE: u8 = 3;
+
+pub(crate) const POST_BASE_NAMED: u8 = 0b00000;
+
+const POST_BASE_NAMED_NEVER_INDEXED: u8 = 0b00001;
 
 /// A value behind the name of an entry of the dynamic table, counted up from the base.
 #[derive(Debug, PartialEq, Drop)]
@@ -140,12 +189,13 @@ impl LiteralWithPostBaseNameRef {
 
     /// Reads such a line at the cursor. Where it is refused, the cursor's place is not told.
     pub fn decode(alloc: Global, buf: &mut Cursor) -> Result<LiteralWithPostBaseNameRef, ParseError>
-        ensures found { FindsSpelling line_of_literal_with_post_base_name_ref (SpellsAlone literal_with_post_base_name_ref) buf.old buf.new result }
-        ensures only { ReadsSpelling line_of_literal_with_post_base_name_ref (SpellsAlone literal_with_post_base_name_ref) buf.old buf.new result }
-        ensures refused { TellsRefusal (RefusesAlone literal_with_post_base_name_ref) buf.old result }
-        ensures truncated { TellsEnd (SpellsAlone literal_with_post_base_name_ref) (RefusesAlone literal_with_post_base_name_ref) buf.old result }
+        ensures decodes { Decodes line_of_literal_with_post_base_name_ref (SpellsAlone literal_with_post_base_name_ref)
+            (RefusesAlone literal_with_post_base_name_ref) buf.old buf.new result }
+        // Memory is refused only where a string whose payload is not empty stands whole.
+        ensures memory { result ≡ Err Memory → AsksForMemory (form_named literal_with_post_base_name_ref) buf.old.rest }
         // The same, as reading from left to right.
-        ensures exact { ReadsForm line_of_literal_with_post_base_name_ref buf.old buf.new result (alone_at literal_with_post_base_name_ref buf.old.rest) }
+        ensures exact { ReadsForm line_of_literal_with_post_base_name_ref buf.old buf.new result
+            (alone_at literal_with_post_base_name_ref buf.old.rest) }
     {
         read_literal_with_post_base_name_ref(alloc, buf)
     }
@@ -153,18 +203,30 @@ impl LiteralWithPostBaseNameRef {
     /// Appends the written spelling of the line, whose N is 0. Refused, the vector is as before; with
     /// free room for the spelling it succeeds and takes no memory.
     pub fn encode<A: Allocator>(&self, buf: &mut Vec<u8, A>) -> Result<(), prefix_string::Error>
-        ensures ok { OnOk result (buf.new.items ≡ buf.old.items ++ written_line (line_of_literal_with_post_base_name_ref self.now)) }
-        ensures err { OnErr result (buf.new.items ≡ buf.old.items) }
+        ensures writes { Writes (written_line (line_of_literal_with_post_base_name_ref self.now))
+            buf.old buf.new result }
         ensures memory { IfErr result (λ e. e ≡ NoRoom) }
-        ensures succeeds { vec_len buf.old + length (written_line (line_of_literal_with_post_base_name_ref self.now)) ≤ vec_capacity buf.old → IsOk result }
-        ensures capacity { vec_capacity buf.old ≤ vec_capacity buf.new }
     {
-        let len = buf.len();
-        let answer = put_literal_with_post_base_name_ref(self, buf);
-        if answer.is_err() {
-            buf.truncate(len);
-        }
-        answer
+        LiteralWithPostBaseNameRef::write(self.index, &self.value, buf)
+    }
+
+    /// Appends the written spelling of a line with a borrowed value, as `encode` does.
+    #[tactic(auto, unfolding(qpack_spec::specs::Line::written_line))]
+    pub fn write<A: Allocator>(
+        index: usize,
+        value: &[u8],
+        buf: &mut Vec<u8, A>,
+    ) -> Result<(), prefix_string::Error>
+        ensures writes { Writes (written_line (NamedPostBase index value.now)) buf.old buf.new result }
+        ensures memory { IfErr result (λ e. e ≡ NoRoom) }
+    {
+        put_index_and_value(
+            POST_BASE_NAMED_SIZE,
+            POST_BASE_NAMED,
+            index as u64,
+            value,
+            buf,
+        )
     }
 }
 
@@ -173,34 +235,37 @@ fn read_literal_with_post_base_name_ref(
     alloc: Global,
     buf: &mut Cursor,
 ) -> Result<LiteralWithPostBaseNameRef, ParseError>
-    ensures { ReadsForm line_of_literal_with_post_base_name_ref buf.old buf.new result (alone_at literal_with_post_base_name_ref buf.old.rest) }
+    ensures exact { ReadsForm line_of_literal_with_post_base_name_ref buf.old buf.new result
+        (alone_at literal_with_post_base_name_ref buf.old.rest) }
+    ensures memory { result ≡ Err Memory → AsksAt literal_with_post_base_name_ref buf.old.rest }
 {
-    let (flags, index) = prefix_int::decode(3, buf)?;
-    if flags >= 0b00010 {
+    let (flags, index) = prefix_int::decode(POST_BASE_NAMED_SIZE, buf)?;
+    if !matches!(flags, POST_BASE_NAMED | POST_BASE_NAMED_NEVER_INDEXED) {
         return Err(ParseError::InvalidPrefix(flags));
     }
-    let value = prefix_string::decode(alloc, 8, buf)?;
+    let value = prefix_string::decode(alloc, VALUE_SIZE, buf)?;
     Ok(LiteralWithPostBaseNameRef {
         index: index as usize,
         value,
     })
 }
 
-/// Appends the line; refused, what stood before is still at the front.
-#[tactic(auto, unfolding(qpack_spec::specs::Line::written_line))]
-fn put_literal_with_post_base_name_ref<A: Allocator>(
-    line: &LiteralWithPostBaseNameRef,
-    buf: &mut Vec<u8, A>,
-) -> Result<(), prefix_string::Error>
-    ensures ok { OnOk result (buf.new.items ≡ buf.old.items ++ written_line (line_of_literal_with_post_base_name_ref line.now)) }
-    ensures err { OnErr result (take (vec_len buf.old) buf.new.items ≡ buf.old.items) }
-    ensures memory { IfErr result (λ e. e ≡ NoRoom) }
-    ensures succeeds { vec_len buf.old + length (written_line (line_of_literal_with_post_base_name_ref line.now)) ≤ vec_capacity buf.old → IsOk result }
-    ensures capacity { vec_capacity buf.old ≤ vec_capacity buf.new }
-{
-    prefix_int::encode(3, 0b00000, line.index as u64, buf)?;
-    prefix_string::encode(8, 0, &line.value, buf)
-}
+// RFC 9204, section 4.5.6:
+//   0   1   2   3   4   5   6   7
+// +---+---+---+---+---+---+---+---+
+// | 0 | 0 | 1 | N | H |NameLen(3+)|
+// +---+---+---+---+---+-----------+
+// |  Name String (Length bytes)   |
+// +---+---------------------------+
+// | H |     Value Length (7+)     |
+// +---+---------------------------+
+// |  Value String (Length bytes)  |
+// +-------------------------------+
+pub(crate) const LITERAL_SIZE: u8 = 4;
+
+pub(crate) const LITERAL: u8 = 0b0010;
+
+const LITERAL_NEVER_INDEXED: u8 = 0b0011;
 
 /// A name and a value.
 #[derive(Debug, PartialEq, Drop)]
@@ -222,10 +287,9 @@ impl Literal {
     /// Reads such a line at the cursor. A first byte of another form is refused whole, before
     /// anything is read. Where it is refused, the cursor's place is not told.
     pub fn decode(alloc: Global, buf: &mut Cursor) -> Result<Literal, ParseError>
-        ensures found { FindsSpelling line_of_literal (SpellsAlone literal) buf.old buf.new result }
-        ensures only { ReadsSpelling line_of_literal (SpellsAlone literal) buf.old buf.new result }
-        ensures refused { TellsRefusal (RefusesAlone literal) buf.old result }
-        ensures truncated { TellsEnd (SpellsAlone literal) (RefusesAlone literal) buf.old result }
+        ensures decodes { Decodes line_of_literal (SpellsAlone literal) (RefusesAlone literal) buf.old buf.new result }
+        // Memory is refused only where a string whose payload is not empty stands whole.
+        ensures memory { result ≡ Err Memory → AsksForMemory (form_named literal) buf.old.rest }
         // The same, as reading from left to right.
         ensures exact { ReadsForm line_of_literal buf.old buf.new result (alone_at literal buf.old.rest) }
     {
@@ -235,48 +299,38 @@ impl Literal {
     /// Appends the written spelling of the line, whose N is 0. Refused, the vector is as before; with
     /// free room for the spelling it succeeds and takes no memory.
     pub fn encode<A: Allocator>(&self, buf: &mut Vec<u8, A>) -> Result<(), prefix_string::Error>
-        ensures ok { OnOk result (buf.new.items ≡ buf.old.items ++ written_line (line_of_literal self.now)) }
-        ensures err { OnErr result (buf.new.items ≡ buf.old.items) }
+        ensures writes { Writes (written_line (line_of_literal self.now)) buf.old buf.new result }
         ensures memory { IfErr result (λ e. e ≡ NoRoom) }
-        ensures succeeds { vec_len buf.old + length (written_line (line_of_literal self.now)) ≤ vec_capacity buf.old → IsOk result }
-        ensures capacity { vec_capacity buf.old ≤ vec_capacity buf.new }
     {
-        let len = buf.len();
-        let answer = put_literal(self, buf);
-        if answer.is_err() {
-            buf.truncate(len);
-        }
-        answer
+        Literal::write(&self.name, &self.value, buf)
+    }
+
+    /// Appends the written spelling of a line with a borrowed name and value, as `encode` does.
+    #[tactic(auto, unfolding(qpack_spec::specs::Line::written_line))]
+    pub fn write<A: Allocator>(
+        name: &[u8],
+        value: &[u8],
+        buf: &mut Vec<u8, A>,
+    ) -> Result<(), prefix_string::Error>
+        ensures writes { Writes (written_line (LiteralLine name.now value.now)) buf.old buf.new result }
+        ensures memory { IfErr result (λ e. e ≡ NoRoom) }
+    {
+        put_name_and_value(LITERAL_SIZE, LITERAL, name, value, buf)
     }
 }
 
 #[tactic(auto, unfolding(crate::specs::Alone::alone_at, qpack_spec::specs::Form::made_at))]
 fn read_literal(alloc: Global, buf: &mut Cursor) -> Result<Literal, ParseError>
-    ensures { ReadsForm line_of_literal buf.old buf.new result (alone_at literal buf.old.rest) }
+    ensures exact { ReadsForm line_of_literal buf.old buf.new result (alone_at literal buf.old.rest) }
+    ensures memory { result ≡ Err Memory → AsksAt literal buf.old.rest }
 {
     let Some((first, _)) = buf.chunk().split_first() else {
         return Err(ParseError::Integer(prefix_int::Error::UnexpectedEnd));
     };
-    if *first / 32 != 0b001 {
+    if !matches!(*first >> LITERAL_SIZE, LITERAL | LITERAL_NEVER_INDEXED) {
         return Err(ParseError::InvalidPrefix(*first));
     }
-    let name = prefix_string::decode(alloc, 4, buf)?;
-    let value = prefix_string::decode(alloc, 8, buf)?;
+    let name = prefix_string::decode(alloc, LITERAL_SIZE, buf)?;
+    let value = prefix_string::decode(alloc, VALUE_SIZE, buf)?;
     Ok(Literal { name, value })
-}
-
-/// Appends the line; refused, what stood before is still at the front.
-#[tactic(auto, unfolding(qpack_spec::specs::Line::written_line))]
-fn put_literal<A: Allocator>(
-    line: &Literal,
-    buf: &mut Vec<u8, A>,
-) -> Result<(), prefix_string::Error>
-    ensures ok { OnOk result (buf.new.items ≡ buf.old.items ++ written_line (line_of_literal line.now)) }
-    ensures err { OnErr result (take (vec_len buf.old) buf.new.items ≡ buf.old.items) }
-    ensures memory { IfErr result (λ e. e ≡ NoRoom) }
-    ensures succeeds { vec_len buf.old + length (written_line (line_of_literal line.now)) ≤ vec_capacity buf.old → IsOk result }
-    ensures capacity { vec_capacity buf.old ≤ vec_capacity buf.new }
-{
-    prefix_string::encode(4, 0b0010, &line.name, buf)?;
-    prefix_string::encode(8, 0, &line.value, buf)
 }

@@ -1,15 +1,34 @@
 //! The prefix of an encoded field section (RFC 9204, section 4.5.1).
 
-ghost use Rattle.std.specs.Prelude.{◌≡◌, ◌+◌, ◌*◌, ◌^◌, ◌<◌, ◌≤◌, ◌++◌, Err, OnOk, OnErr, IsOk, length, take, vec_len, vec_capacity};
-ghost use Rattle.qpack_spec.specs.Prefix.{SpellsPrefix, prefix_for, required_at, read_required, read_base, read_prefix, written_prefix};
+ghost use Rattle.std.specs.Prelude.{◌≡◌, ◌+◌, ◌*◌, ◌^◌, ◌<◌, ◌≤◌, Err};
+ghost use Rattle.qpack_spec.specs.Prefix.{SpellsPrefix, prefix_for, required_at, read_required, read_base, read_prefix};
+ghost use Rattle.qpack_spec.specs.Prefix.{written_prefix};
 ghost use Rattle.qpack_base.specs.declared.parse_error.ParseError.TheVariants.{Memory};
-ghost use Rattle.qpack_wire.specs.Answers.{FindsSpelling, ReadsSpelling, TellsRefusal, TellsEnd, ReadsForm};
+ghost use Rattle.qpack_wire.specs.Answers.{Decodes, ReadsForm};
 ghost use Rattle.qpack_wire.specs.Prefixes.{prefix_of, RefusesPrefix, read_prefix_at, or_prefix_error};
+ghost use Rattle.qpack_wire.specs.Writes.{Writes};
 
 use qpack_base::coding::{Cursor, NoMemory};
 use qpack_base::parse_error::ParseError;
 use qpack_base::prefix_int;
 use std::alloc::Allocator;
+
+// RFC 9204, section 4.5.1:
+//   0   1   2   3   4   5   6   7
+// +---+---+---+---+---+---+---+---+
+// |   Required Insert Count (8+)  |
+// +---+---------------------------+
+// | S |      Delta Base (7+)      |
+// +---+---------------------------+
+const COUNT_SIZE: u8 = 8;
+
+const COUNT_FLAGS: u8 = 0;
+
+const BASE_SIZE: u8 = 7;
+
+const NOT_NEGATIVE: u8 = 0;
+
+const NEGATIVE: u8 = 1;
 
 /// The encoded required insert count, the sign bit and the delta base.
 #[derive(Debug, PartialEq, Drop)]
@@ -59,10 +78,7 @@ impl HeaderPrefix {
     /// Reads a prefix at the cursor. Takes no memory. Where it is refused, the cursor's place is not
     /// told.
     pub fn decode(buf: &mut Cursor) -> Result<HeaderPrefix, ParseError>
-        ensures found { FindsSpelling prefix_of SpellsPrefix buf.old buf.new result }
-        ensures only { ReadsSpelling prefix_of SpellsPrefix buf.old buf.new result }
-        ensures refused { TellsRefusal RefusesPrefix buf.old result }
-        ensures truncated { TellsEnd SpellsPrefix RefusesPrefix buf.old result }
+        ensures decodes { Decodes prefix_of SpellsPrefix RefusesPrefix buf.old buf.new result }
         ensures no_memory { result ≡ Err Memory → ⊥ }
         // The same, as reading from left to right.
         ensures exact { ReadsForm prefix_of buf.old buf.new result (read_prefix_at buf.old.rest) }
@@ -74,13 +90,21 @@ impl HeaderPrefix {
     /// for the spelling it succeeds and takes no memory.
     #[tactic(auto, unfolding(qpack_spec::specs::Prefix::written_prefix))]
     pub fn encode<A: Allocator>(&self, buf: &mut Vec<u8, A>) -> Result<(), NoMemory>
-        ensures ok { OnOk result (buf.new.items ≡ buf.old.items ++ written_prefix (prefix_of self.now)) }
-        ensures err { OnErr result (buf.new.items ≡ buf.old.items) }
-        ensures succeeds { vec_len buf.old + length (written_prefix (prefix_of self.now)) ≤ vec_capacity buf.old → IsOk result }
-        ensures capacity { vec_capacity buf.old ≤ vec_capacity buf.new }
+        ensures writes { Writes (written_prefix (prefix_of self.now)) buf.old buf.new result }
     {
+        let sign = if self.sign_negative {
+            NEGATIVE
+        } else {
+            NOT_NEGATIVE
+        };
         let len = buf.len();
-        let answer = put_header_prefix(self, buf);
+        prefix_int::encode(
+            COUNT_SIZE,
+            COUNT_FLAGS,
+            self.encoded_insert_count as u64,
+            buf,
+        )?;
+        let answer = prefix_int::encode(BASE_SIZE, sign, self.delta_base as u64, buf);
         if answer.is_err() {
             buf.truncate(len);
         }
@@ -111,29 +135,13 @@ fn read_header_prefix(buf: &mut Cursor) -> Result<HeaderPrefix, ParseError>
     ensures exact { ReadsForm prefix_of buf.old buf.new result (read_prefix_at buf.old.rest) }
     ensures no_memory { result ≡ Err Memory → ⊥ }
 {
-    let (_, count) = prefix_int::decode(8, buf)?;
-    let (sign, delta) = prefix_int::decode(7, buf)?;
+    let (_, count) = prefix_int::decode(COUNT_SIZE, buf)?;
+    let (sign, delta) = prefix_int::decode(BASE_SIZE, buf)?;
     Ok(HeaderPrefix {
         encoded_insert_count: count as usize,
-        sign_negative: sign == 1,
+        sign_negative: sign == NEGATIVE,
         delta_base: delta as usize,
     })
-}
-
-/// Appends the prefix; refused, what stood before is still at the front.
-#[tactic(auto, unfolding(qpack_spec::specs::Prefix::written_prefix))]
-fn put_header_prefix<A: Allocator>(
-    prefix: &HeaderPrefix,
-    buf: &mut Vec<u8, A>,
-) -> Result<(), NoMemory>
-    ensures ok { OnOk result (buf.new.items ≡ buf.old.items ++ written_prefix (prefix_of prefix.now)) }
-    ensures err { OnErr result (take (vec_len buf.old) buf.new.items ≡ buf.old.items) }
-    ensures succeeds { vec_len buf.old + length (written_prefix (prefix_of prefix.now)) ≤ vec_capacity buf.old → IsOk result }
-    ensures capacity { vec_capacity buf.old ≤ vec_capacity buf.new }
-{
-    prefix_int::encode(8, 0, prefix.encoded_insert_count as u64, buf)?;
-    let sign_bit = if prefix.sign_negative { 1 } else { 0 };
-    prefix_int::encode(7, sign_bit, prefix.delta_base as u64, buf)
 }
 
 /// The required insert count that an encoded one stands for.

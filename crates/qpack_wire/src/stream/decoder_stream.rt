@@ -7,7 +7,10 @@ ghost use Rattle.qpack_wire.specs.StreamLines.{decoder_instruction_of_first, rep
 
 use crate::stream::ends::or_none;
 use crate::stream::lines::Wire;
-use crate::stream::replies::{self, HeaderAck, InsertCountIncrement, StreamCancel};
+use crate::stream::replies::{
+    self, ACKNOWLEDGMENT, ACKNOWLEDGMENT_SIZE, CANCELLATION, CANCELLATION_SIZE, HeaderAck,
+    InsertCountIncrement, StreamCancel,
+};
 use qpack_base::coding::{Cursor, NoMemory};
 use qpack_base::parse_error::ParseError;
 use qpack_base::prefix_int;
@@ -31,9 +34,9 @@ impl DecoderInstruction {
     pub fn decode(first: u8) -> DecoderInstruction
         ensures { result ≡ decoder_instruction_of_first first }
     {
-        if first >= 0b1000_0000 {
+        if first >= ACKNOWLEDGMENT << ACKNOWLEDGMENT_SIZE {
             DecoderInstruction::HeaderAck
-        } else if first >= 0b0100_0000 {
+        } else if first >= CANCELLATION << CANCELLATION_SIZE {
             DecoderInstruction::StreamCancel
         } else {
             DecoderInstruction::InsertCountIncrement
@@ -56,7 +59,8 @@ impl Wire for DecoderLine {
     ghost use Rattle.qpack_spec.specs.Instruction.{Reply, SpellsReply, written_reply};
     ghost use Rattle.qpack_spec.specs.WrittenLaws.{IsWritableReply};
     ghost use Rattle.qpack_wire.specs.StreamLines.{RefusesDecoderLine};
-    ghost use Rattle.qpack_wire.specs.StreamLineLaws.{written_replies_spelled, written_replies_read_back, spellings_have_one_reply, no_reply_begins_another};
+    ghost use Rattle.qpack_wire.specs.StreamLineLaws.{written_replies_spelled, written_replies_read_back};
+    ghost use Rattle.qpack_wire.specs.StreamLineLaws.{spellings_have_one_reply, no_reply_begins_another};
 
     ghost Line = { Reply };
 
@@ -72,7 +76,7 @@ impl Wire for DecoderLine {
 
     ghost written = { written_reply };
 
-    ghost takes_memory = { ⊥ };
+    ghost asks_for_memory = { λ _. ⊥ };
 
     ghost written_is_spelled = { written_replies_spelled };
 
@@ -95,6 +99,7 @@ impl Wire for DecoderLine {
     }
 }
 
+#[tactic(auto, using(crate::proofs::StreamForms::no_reply))]
 fn read_line(buf: &mut Cursor) -> Result<DecoderLine, ParseError>
     ensures exact { ReadsForm reply_of buf.old buf.new result (reply_at buf.old.rest) }
     ensures no_memory { result ≡ Err Memory → ⊥ }
@@ -106,6 +111,7 @@ fn read_line(buf: &mut Cursor) -> Result<DecoderLine, ParseError>
 }
 
 /// Reads the instruction, which begins with this byte.
+#[tactic(auto, using(crate::proofs::StreamForms::decoder_by_first))]
 fn read_line_of(first: u8, buf: &mut Cursor) -> Result<DecoderLine, ParseError>
     requires { buf.old.rest ≡ first ∷ drop 1 buf.old.rest }
     ensures exact { ReadsForm reply_of buf.old buf.new result (reply_at buf.old.rest) }

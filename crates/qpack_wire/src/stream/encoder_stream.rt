@@ -1,13 +1,18 @@
 //! One encoder instruction, whichever it is (RFC 9204, section 4.3).
 
-ghost use Rattle.std.specs.Prelude.{◌≡◌, ◌∷◌, drop};
+ghost use Rattle.std.specs.Prelude.{◌≡◌, ◌∷◌, drop, Err};
+ghost use Rattle.qpack_spec.specs.Instruction.{instruction_form};
+ghost use Rattle.qpack_base.specs.declared.parse_error.ParseError.TheVariants.{Memory};
 ghost use Rattle.qpack_wire.specs.Answers.{ReadsForm};
+ghost use Rattle.qpack_wire.specs.Memory.{AsksForMemory};
 ghost use Rattle.qpack_wire.specs.StreamLines.{encoder_instruction_of_first, instruction_of, instruction_at};
 
 use crate::stream::ends::or_none;
-use crate::stream::inserts::{self, InsertWithNameRef, InsertWithoutNameRef};
+use crate::stream::inserts::{
+    self, InsertWithNameRef, InsertWithoutNameRef, LITERAL, LITERAL_SIZE, NAMED_DYNAMIC, NAMED_SIZE,
+};
 use crate::stream::lines::Wire;
-use crate::stream::updates::{self, Duplicate, DynamicTableSizeUpdate};
+use crate::stream::updates::{self, CAPACITY, CAPACITY_SIZE, Duplicate, DynamicTableSizeUpdate};
 use qpack_base::coding::{Cursor, NoMemory};
 use qpack_base::parse_error::ParseError;
 use qpack_base::prefix_int;
@@ -33,11 +38,11 @@ impl EncoderInstruction {
     pub fn decode(first: u8) -> EncoderInstruction
         ensures { result ≡ encoder_instruction_of_first first }
     {
-        if first >= 0b1000_0000 {
+        if first >= NAMED_DYNAMIC << NAMED_SIZE {
             EncoderInstruction::InsertWithNameRef
-        } else if first >= 0b0100_0000 {
+        } else if first >= LITERAL << LITERAL_SIZE {
             EncoderInstruction::InsertWithoutNameRef
-        } else if first >= 0b0010_0000 {
+        } else if first >= CAPACITY << CAPACITY_SIZE {
             EncoderInstruction::DynamicTableSizeUpdate
         } else {
             EncoderInstruction::Duplicate
@@ -62,7 +67,8 @@ impl Wire for EncoderLine {
     ghost use Rattle.qpack_spec.specs.Instruction.{Instruction, SpellsInstruction, written_instruction};
     ghost use Rattle.qpack_spec.specs.WrittenLaws.{IsWritableInstruction};
     ghost use Rattle.qpack_wire.specs.StreamLines.{RefusesEncoderLine};
-    ghost use Rattle.qpack_wire.specs.StreamLineLaws.{written_instructions_spelled, written_instructions_read_back, spellings_have_one_instruction, no_instruction_begins_another};
+    ghost use Rattle.qpack_wire.specs.StreamLineLaws.{written_instructions_spelled, written_instructions_read_back};
+    ghost use Rattle.qpack_wire.specs.StreamLineLaws.{spellings_have_one_instruction, no_instruction_begins_another};
 
     ghost Line = { Instruction };
 
@@ -78,7 +84,7 @@ impl Wire for EncoderLine {
 
     ghost written = { written_instruction };
 
-    ghost takes_memory = { Unit {0} };
+    ghost asks_for_memory = { AsksForMemory instruction_form };
 
     ghost written_is_spelled = { written_instructions_spelled };
 
@@ -112,8 +118,10 @@ impl Wire for EncoderLine {
     }
 }
 
+#[tactic(auto, using(crate::proofs::StreamForms::no_instruction))]
 fn read_line(alloc: Global, buf: &mut Cursor) -> Result<EncoderLine, ParseError>
-    ensures { ReadsForm instruction_of buf.old buf.new result (instruction_at buf.old.rest) }
+    ensures exact { ReadsForm instruction_of buf.old buf.new result (instruction_at buf.old.rest) }
+    ensures memory { result ≡ Err Memory → AsksForMemory instruction_form buf.old.rest }
 {
     let Some((first, _)) = buf.chunk().split_first() else {
         return Err(ParseError::Integer(prefix_int::Error::UnexpectedEnd));
@@ -122,9 +130,11 @@ fn read_line(alloc: Global, buf: &mut Cursor) -> Result<EncoderLine, ParseError>
 }
 
 /// Reads the instruction, which begins with this byte.
+#[tactic(auto, using(crate::proofs::StreamForms::encoder_by_first))]
 fn read_line_of(alloc: Global, first: u8, buf: &mut Cursor) -> Result<EncoderLine, ParseError>
     requires { buf.old.rest ≡ first ∷ drop 1 buf.old.rest }
-    ensures { ReadsForm instruction_of buf.old buf.new result (instruction_at buf.old.rest) }
+    ensures exact { ReadsForm instruction_of buf.old buf.new result (instruction_at buf.old.rest) }
+    ensures memory { result ≡ Err Memory → AsksForMemory instruction_form buf.old.rest }
 {
     match EncoderInstruction::decode(first) {
         EncoderInstruction::InsertWithNameRef => {

@@ -1,18 +1,41 @@
 //! Encoder instructions that insert a field (RFC 9204, sections 4.3.2 and 4.3.3).
 
-ghost use Rattle.std.specs.Prelude.{◌≡◌, ◌+◌, ◌≤◌, ◌++◌, IfErr, OnOk, OnErr, IsOk, length, take, vec_len, vec_capacity};
-ghost use Rattle.qpack_spec.specs.Instruction.{InsertStaticName, InsertDynamicName, InsertLiteralName, written_instruction};
+ghost use Rattle.std.specs.Prelude.{◌≡◌, Err, IfErr};
+ghost use Rattle.qpack_spec.specs.Instruction.{InsertStaticName, InsertDynamicName, InsertLiteralName};
+ghost use Rattle.qpack_spec.specs.Instruction.{written_instruction};
 ghost use Rattle.qpack_base.specs.declared.prefix_string.Error.TheVariants.{Memory as NoRoom};
-ghost use Rattle.qpack_wire.specs.Alone.{SpellsAlone, RefusesAlone, alone_at};
-ghost use Rattle.qpack_wire.specs.Answers.{TellsRefusal, ReadsForm};
-ghost use Rattle.qpack_wire.specs.StreamAnswers.{FindsLine, ReadsLine, TellsNone, ReadsStream};
-ghost use Rattle.qpack_wire.specs.Instructions.{insert_with_name_ref, insert_without_name_ref, instruction_of_insert_with_name_ref, instruction_of_insert_without_name_ref};
+ghost use Rattle.qpack_base.specs.declared.parse_error.ParseError.TheVariants.{Memory};
+ghost use Rattle.qpack_wire.specs.Alone.{form_named, SpellsAlone, RefusesAlone, alone_at};
+ghost use Rattle.qpack_wire.specs.Answers.{ReadsForm};
+ghost use Rattle.qpack_wire.specs.StreamAnswers.{DecodesInstruction, ReadsStream};
+ghost use Rattle.qpack_wire.specs.Instructions.{insert_with_name_ref, insert_without_name_ref};
+ghost use Rattle.qpack_wire.specs.Instructions.{instruction_of_insert_with_name_ref};
+ghost use Rattle.qpack_wire.specs.Instructions.{instruction_of_insert_without_name_ref};
+ghost use Rattle.qpack_wire.specs.Memory.{AsksForMemory, AsksAt};
+ghost use Rattle.qpack_wire.specs.Writes.{Writes};
 
+use crate::form::{VALUE_SIZE, put_index_and_value, put_name_and_value};
 use crate::stream::ends::or_none;
 use qpack_base::coding::Cursor;
 use qpack_base::parse_error::ParseError;
 use qpack_base::{prefix_int, prefix_string};
 use std::alloc::{Allocator, Global};
+
+// RFC 9204, section 4.3.2:
+//   0   1   2   3   4   5   6   7
+// +---+---+---+---+---+---+---+---+
+// | 1 | T |    Name Index (6+)    |
+// +---+---+-----------------------+
+// | H |     Value Length (7+)     |
+// +---+---------------------------+
+// |  Value String (Length bytes)  |
+// +-------------------------------+
+// T is 1 for the static table.
+pub(crate) const NAMED_SIZE: u8 = 6;
+
+pub(crate) const NAMED_DYNAMIC: u8 = 0b10;
+
+const NAMED_STATIC: u8 = 0b11;
 
 /// Inserts a value under the name of a field of the static table, or of an entry of the dynamic table.
 #[derive(Debug, PartialEq, Drop)]
@@ -51,12 +74,13 @@ impl InsertWithNameRef {
     /// Reads such an instruction at the cursor, or none of a truncated one. Where none is read, the
     /// cursor's place is not told.
     pub fn decode(alloc: Global, buf: &mut Cursor) -> Result<Option<InsertWithNameRef>, ParseError>
-        ensures found { FindsLine instruction_of_insert_with_name_ref (SpellsAlone insert_with_name_ref) buf.old buf.new result }
-        ensures only { ReadsLine instruction_of_insert_with_name_ref (SpellsAlone insert_with_name_ref) buf.old buf.new result }
-        ensures refused { TellsRefusal (RefusesAlone insert_with_name_ref) buf.old result }
-        ensures truncated { TellsNone (SpellsAlone insert_with_name_ref) (RefusesAlone insert_with_name_ref) buf.old result }
+        ensures decodes { DecodesInstruction instruction_of_insert_with_name_ref (SpellsAlone insert_with_name_ref)
+            (RefusesAlone insert_with_name_ref) buf.old buf.new result }
+        // Memory is refused only where a string whose payload is not empty stands whole.
+        ensures memory { result ≡ Err Memory → AsksForMemory (form_named insert_with_name_ref) buf.old.rest }
         // The same, as reading from left to right.
-        ensures exact { ReadsStream instruction_of_insert_with_name_ref buf.old buf.new result (alone_at insert_with_name_ref buf.old.rest) }
+        ensures exact { ReadsStream instruction_of_insert_with_name_ref buf.old buf.new result
+            (alone_at insert_with_name_ref buf.old.rest) }
     {
         or_none(read_insert_with_name_ref(alloc, buf))
     }
@@ -64,18 +88,46 @@ impl InsertWithNameRef {
     /// Appends the written spelling of the instruction. Refused, the vector is as before; with free
     /// room for the spelling it succeeds and takes no memory.
     pub fn encode<A: Allocator>(&self, buf: &mut Vec<u8, A>) -> Result<(), prefix_string::Error>
-        ensures ok { OnOk result (buf.new.items ≡ buf.old.items ++ written_instruction (instruction_of_insert_with_name_ref self.now)) }
-        ensures err { OnErr result (buf.new.items ≡ buf.old.items) }
+        ensures writes { Writes (written_instruction (instruction_of_insert_with_name_ref self.now))
+            buf.old buf.new result }
         ensures memory { IfErr result (λ e. e ≡ NoRoom) }
-        ensures succeeds { vec_len buf.old + length (written_instruction (instruction_of_insert_with_name_ref self.now)) ≤ vec_capacity buf.old → IsOk result }
-        ensures capacity { vec_capacity buf.old ≤ vec_capacity buf.new }
     {
-        let len = buf.len();
-        let answer = put_insert_with_name_ref(self, buf);
-        if answer.is_err() {
-            buf.truncate(len);
+        match self {
+            InsertWithNameRef::Static { index, value } => {
+                InsertWithNameRef::write_static(*index, value, buf)
+            }
+            InsertWithNameRef::Dynamic { index, value } => {
+                InsertWithNameRef::write_dynamic(*index, value, buf)
+            }
         }
-        answer
+    }
+
+    /// Appends the written spelling of the instruction with a borrowed value under a name of the static
+    /// table, as `encode` does.
+    #[tactic(auto, unfolding(qpack_spec::specs::Instruction::written_instruction))]
+    pub fn write_static<A: Allocator>(
+        index: usize,
+        value: &[u8],
+        buf: &mut Vec<u8, A>,
+    ) -> Result<(), prefix_string::Error>
+        ensures writes { Writes (written_instruction (InsertStaticName index value.now)) buf.old buf.new result }
+        ensures memory { IfErr result (λ e. e ≡ NoRoom) }
+    {
+        put_index_and_value(NAMED_SIZE, NAMED_STATIC, index as u64, value, buf)
+    }
+
+    /// Appends the written spelling of the instruction with a borrowed value under a name of the dynamic
+    /// table, as `encode` does.
+    #[tactic(auto, unfolding(qpack_spec::specs::Instruction::written_instruction))]
+    pub fn write_dynamic<A: Allocator>(
+        index: usize,
+        value: &[u8],
+        buf: &mut Vec<u8, A>,
+    ) -> Result<(), prefix_string::Error>
+        ensures writes { Writes (written_instruction (InsertDynamicName index value.now)) buf.old buf.new result }
+        ensures memory { IfErr result (λ e. e ≡ NoRoom) }
+    {
+        put_index_and_value(NAMED_SIZE, NAMED_DYNAMIC, index as u64, value, buf)
     }
 }
 
@@ -84,44 +136,39 @@ pub(crate) fn read_insert_with_name_ref(
     alloc: Global,
     buf: &mut Cursor,
 ) -> Result<InsertWithNameRef, ParseError>
-    ensures exact { ReadsForm instruction_of_insert_with_name_ref buf.old buf.new result (alone_at insert_with_name_ref buf.old.rest) }
+    ensures exact { ReadsForm instruction_of_insert_with_name_ref buf.old buf.new result
+        (alone_at insert_with_name_ref buf.old.rest) }
+    ensures memory { result ≡ Err Memory → AsksAt insert_with_name_ref buf.old.rest }
 {
-    let (flags, index) = prefix_int::decode(6, buf)?;
-    if flags / 2 != 0b1 {
-        return Err(ParseError::InvalidPrefix(flags));
-    }
-    let value = prefix_string::decode(alloc, 8, buf)?;
+    let (flags, index) = prefix_int::decode(NAMED_SIZE, buf)?;
+    let is_static = match flags {
+        NAMED_STATIC => true,
+        NAMED_DYNAMIC => false,
+        _ => return Err(ParseError::InvalidPrefix(flags)),
+    };
     let index = index as usize;
-    if flags % 2 == 1 {
+    let value = prefix_string::decode(alloc, VALUE_SIZE, buf)?;
+    if is_static {
         Ok(InsertWithNameRef::Static { index, value })
     } else {
         Ok(InsertWithNameRef::Dynamic { index, value })
     }
 }
 
-/// Appends the instruction; refused, what stood before is still at the front.
-#[tactic(auto, unfolding(qpack_spec::specs::Instruction::written_instruction))]
-fn put_insert_with_name_ref<A: Allocator>(
-    line: &InsertWithNameRef,
-    buf: &mut Vec<u8, A>,
-) -> Result<(), prefix_string::Error>
-    ensures ok { OnOk result (buf.new.items ≡ buf.old.items ++ written_instruction (instruction_of_insert_with_name_ref line.now)) }
-    ensures err { OnErr result (take (vec_len buf.old) buf.new.items ≡ buf.old.items) }
-    ensures memory { IfErr result (λ e. e ≡ NoRoom) }
-    ensures succeeds { vec_len buf.old + length (written_instruction (instruction_of_insert_with_name_ref line.now)) ≤ vec_capacity buf.old → IsOk result }
-    ensures capacity { vec_capacity buf.old ≤ vec_capacity buf.new }
-{
-    match line {
-        InsertWithNameRef::Static { index, value } => {
-            prefix_int::encode(6, 0b11, *index as u64, buf)?;
-            prefix_string::encode(8, 0, value, buf)
-        }
-        InsertWithNameRef::Dynamic { index, value } => {
-            prefix_int::encode(6, 0b10, *index as u64, buf)?;
-            prefix_string::encode(8, 0, value, buf)
-        }
-    }
-}
+// RFC 9204, section 4.3.3:
+//   0   1   2   3   4   5   6   7
+// +---+---+---+---+---+---+---+---+
+// | 0 | 1 | H | Name Length (5+)  |
+// +---+---+---+-------------------+
+// |  Name String (Length bytes)   |
+// +---+---------------------------+
+// | H |     Value Length (7+)     |
+// +---+---------------------------+
+// |  Value String (Length bytes)  |
+// +-------------------------------+
+pub(crate) const LITERAL_SIZE: u8 = 6;
+
+pub(crate) const LITERAL: u8 = 0b01;
 
 /// Inserts a name and a value.
 #[derive(Debug, PartialEq, Drop)]
@@ -146,12 +193,13 @@ impl InsertWithoutNameRef {
         alloc: Global,
         buf: &mut Cursor,
     ) -> Result<Option<InsertWithoutNameRef>, ParseError>
-        ensures found { FindsLine instruction_of_insert_without_name_ref (SpellsAlone insert_without_name_ref) buf.old buf.new result }
-        ensures only { ReadsLine instruction_of_insert_without_name_ref (SpellsAlone insert_without_name_ref) buf.old buf.new result }
-        ensures refused { TellsRefusal (RefusesAlone insert_without_name_ref) buf.old result }
-        ensures truncated { TellsNone (SpellsAlone insert_without_name_ref) (RefusesAlone insert_without_name_ref) buf.old result }
+        ensures decodes { DecodesInstruction instruction_of_insert_without_name_ref
+            (SpellsAlone insert_without_name_ref) (RefusesAlone insert_without_name_ref) buf.old buf.new result }
+        // Memory is refused only where a string whose payload is not empty stands whole.
+        ensures memory { result ≡ Err Memory → AsksForMemory (form_named insert_without_name_ref) buf.old.rest }
         // The same, as reading from left to right.
-        ensures exact { ReadsStream instruction_of_insert_without_name_ref buf.old buf.new result (alone_at insert_without_name_ref buf.old.rest) }
+        ensures exact { ReadsStream instruction_of_insert_without_name_ref buf.old buf.new result
+            (alone_at insert_without_name_ref buf.old.rest) }
     {
         or_none(read_insert_without_name_ref(alloc, buf))
     }
@@ -159,18 +207,24 @@ impl InsertWithoutNameRef {
     /// Appends the written spelling of the instruction. Refused, the vector is as before; with free
     /// room for the spelling it succeeds and takes no memory.
     pub fn encode<A: Allocator>(&self, buf: &mut Vec<u8, A>) -> Result<(), prefix_string::Error>
-        ensures ok { OnOk result (buf.new.items ≡ buf.old.items ++ written_instruction (instruction_of_insert_without_name_ref self.now)) }
-        ensures err { OnErr result (buf.new.items ≡ buf.old.items) }
+        ensures writes { Writes (written_instruction (instruction_of_insert_without_name_ref self.now))
+            buf.old buf.new result }
         ensures memory { IfErr result (λ e. e ≡ NoRoom) }
-        ensures succeeds { vec_len buf.old + length (written_instruction (instruction_of_insert_without_name_ref self.now)) ≤ vec_capacity buf.old → IsOk result }
-        ensures capacity { vec_capacity buf.old ≤ vec_capacity buf.new }
     {
-        let len = buf.len();
-        let answer = put_insert_without_name_ref(self, buf);
-        if answer.is_err() {
-            buf.truncate(len);
-        }
-        answer
+        InsertWithoutNameRef::write(&self.name, &self.value, buf)
+    }
+
+    /// Appends the written spelling of the instruction with a borrowed name and value, as `encode` does.
+    #[tactic(auto, unfolding(qpack_spec::specs::Instruction::written_instruction))]
+    pub fn write<A: Allocator>(
+        name: &[u8],
+        value: &[u8],
+        buf: &mut Vec<u8, A>,
+    ) -> Result<(), prefix_string::Error>
+        ensures writes { Writes (written_instruction (InsertLiteralName name.now value.now)) buf.old buf.new result }
+        ensures memory { IfErr result (λ e. e ≡ NoRoom) }
+    {
+        put_name_and_value(LITERAL_SIZE, LITERAL, name, value, buf)
     }
 }
 
@@ -179,31 +233,17 @@ pub(crate) fn read_insert_without_name_ref(
     alloc: Global,
     buf: &mut Cursor,
 ) -> Result<InsertWithoutNameRef, ParseError>
-    ensures exact { ReadsForm instruction_of_insert_without_name_ref buf.old buf.new result (alone_at insert_without_name_ref buf.old.rest) }
+    ensures exact { ReadsForm instruction_of_insert_without_name_ref buf.old buf.new result
+        (alone_at insert_without_name_ref buf.old.rest) }
+    ensures memory { result ≡ Err Memory → AsksAt insert_without_name_ref buf.old.rest }
 {
     let Some((first, _)) = buf.chunk().split_first() else {
         return Err(ParseError::Integer(prefix_int::Error::UnexpectedEnd));
     };
-    if *first / 64 != 0b01 {
+    if *first >> LITERAL_SIZE != LITERAL {
         return Err(ParseError::InvalidPrefix(*first));
     }
-    let name = prefix_string::decode(alloc, 6, buf)?;
-    let value = prefix_string::decode(alloc, 8, buf)?;
+    let name = prefix_string::decode(alloc, LITERAL_SIZE, buf)?;
+    let value = prefix_string::decode(alloc, VALUE_SIZE, buf)?;
     Ok(InsertWithoutNameRef { name, value })
-}
-
-/// Appends the instruction; refused, what stood before is still at the front.
-#[tactic(auto, unfolding(qpack_spec::specs::Instruction::written_instruction))]
-fn put_insert_without_name_ref<A: Allocator>(
-    line: &InsertWithoutNameRef,
-    buf: &mut Vec<u8, A>,
-) -> Result<(), prefix_string::Error>
-    ensures ok { OnOk result (buf.new.items ≡ buf.old.items ++ written_instruction (instruction_of_insert_without_name_ref line.now)) }
-    ensures err { OnErr result (take (vec_len buf.old) buf.new.items ≡ buf.old.items) }
-    ensures memory { IfErr result (λ e. e ≡ NoRoom) }
-    ensures succeeds { vec_len buf.old + length (written_instruction (instruction_of_insert_without_name_ref line.now)) ≤ vec_capacity buf.old → IsOk result }
-    ensures capacity { vec_capacity buf.old ≤ vec_capacity buf.new }
-{
-    prefix_string::encode(6, 0b01, &line.name, buf)?;
-    prefix_string::encode(8, 0, &line.value, buf)
 }

@@ -1,11 +1,12 @@
 //! Reading a stream line by line, however it is cut into pieces.
 
-ghost use Rattle.std.specs.Prelude.{◌≡◌, ℕ, ◌+◌, ◌≤◌, ◌++◌, List, Result, Err, OnOk, OnErr, IsOk, length, vec_len, vec_capacity};
+ghost use Rattle.std.specs.Prelude.{◌≡◌, ℕ, List, Result, Err};
 ghost use Rattle.qpack_base.specs.declared.parse_error.ParseError.TheVariants.{Memory};
 ghost use Rattle.qpack_wire.specs.Alone.{AloneFault};
-ghost use Rattle.qpack_wire.specs.Answers.{TellsRefusal};
-ghost use Rattle.qpack_wire.specs.StreamAnswers.{FindsLine, ReadsLine, TellsNone, StaysUnlessRead, ReadsStream};
-ghost use Rattle.qpack_wire.specs.WireLaws.{WrittenIsSpelled, WrittenIsReadBack, SpellingsHaveOneLine, NoLineBeginsAnother};
+ghost use Rattle.qpack_wire.specs.StreamAnswers.{DecodesInstruction, StaysUnlessRead, ReadsStream};
+ghost use Rattle.qpack_wire.specs.WireLaws.{WrittenIsSpelled, WrittenIsReadBack, SpellingsHaveOneLine};
+ghost use Rattle.qpack_wire.specs.WireLaws.{NoLineBeginsAnother};
+ghost use Rattle.qpack_wire.specs.Writes.{Writes};
 
 use qpack_base::coding::{Cursor, NoMemory};
 use qpack_base::parse_error::ParseError;
@@ -34,27 +35,21 @@ pub trait Wire: Sized + Drop {
     /// The one spelling that is written.
     ghost written: { Line → List ℕ };
 
-    /// Whether reading can want memory.
-    ghost takes_memory: { Type 0 };
+    /// Reading may ask for memory, where the bytes begin so.
+    ghost asks_for_memory: { List ℕ → Type 0 };
 
     /// Reads the line at the cursor, or none of a truncated one. Where none is read, the cursor's
     /// place is not told.
     fn decode(alloc: Global, buf: &mut Cursor) -> Result<Option<Self>, ParseError>
-        ensures found { FindsLine line_of spells buf.old buf.new result }
-        ensures only { ReadsLine line_of spells buf.old buf.new result }
-        ensures refused { TellsRefusal refuses buf.old result }
-        ensures truncated { TellsNone spells refuses buf.old result }
-        ensures memory { result ≡ Err Memory → takes_memory }
+        ensures decodes { DecodesInstruction line_of spells refuses buf.old buf.new result }
+        ensures memory { result ≡ Err Memory → asks_for_memory buf.old.rest }
         // The same, as reading from left to right.
         ensures exact { ReadsStream line_of buf.old buf.new result (read buf.old.rest) };
 
     /// Appends the written spelling of the line. Refused, the vector is as before; with free room for
     /// the spelling it succeeds and takes no memory.
     fn encode<A: Allocator>(&self, buf: &mut Vec<u8, A>) -> Result<(), NoMemory>
-        ensures ok { OnOk result (buf.new.items ≡ buf.old.items ++ written (line_of self.now)) }
-        ensures err { OnErr result (buf.new.items ≡ buf.old.items) }
-        ensures succeeds { vec_len buf.old + length (written (line_of self.now)) ≤ vec_capacity buf.old → IsOk result }
-        ensures capacity { vec_capacity buf.old ≤ vec_capacity buf.new };
+        ensures writes { Writes (written (line_of self.now)) buf.old buf.new result };
 
     /// What is written is a spelling.
     ghost written_is_spelled: { WrittenIsSpelled spells writable written };
@@ -72,12 +67,9 @@ pub trait Wire: Sized + Drop {
 /// Reads the line at the cursor and moves past exactly it. Where none is read, of a truncated line or
 /// at a refusal, the cursor stays where it was.
 pub fn next_line<W: Wire>(alloc: Global, cursor: &mut Cursor) -> Result<Option<W>, ParseError>
-    ensures found { FindsLine W.line_of W.spells cursor.old cursor.new result }
-    ensures only { ReadsLine W.line_of W.spells cursor.old cursor.new result }
-    ensures refused { TellsRefusal W.refuses cursor.old result }
-    ensures truncated { TellsNone W.spells W.refuses cursor.old result }
+    ensures decodes { DecodesInstruction W.line_of W.spells W.refuses cursor.old cursor.new result }
     ensures stays { StaysUnlessRead cursor.old cursor.new result }
-    ensures memory { result ≡ Err Memory → W.takes_memory }
+    ensures memory { result ≡ Err Memory → W.asks_for_memory cursor.old.rest }
     // The same, as reading from left to right.
     ensures exact { ReadsStream W.line_of cursor.old cursor.new result (W.read cursor.old.rest) }
 {

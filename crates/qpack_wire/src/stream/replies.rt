@@ -1,18 +1,30 @@
 //! Decoder instructions (RFC 9204, section 4.4).
 
-ghost use Rattle.std.specs.Prelude.{◌≡◌, ◌+◌, ◌≤◌, ◌++◌, Err, OnOk, OnErr, IsOk, length, vec_len, vec_capacity};
+ghost use Rattle.std.specs.Prelude.{◌≡◌, Err};
 ghost use Rattle.qpack_spec.specs.Instruction.{written_reply};
 ghost use Rattle.qpack_base.specs.declared.parse_error.ParseError.TheVariants.{Memory};
 ghost use Rattle.qpack_wire.specs.Alone.{SpellsAlone, RefusesAlone, alone_at};
-ghost use Rattle.qpack_wire.specs.Answers.{TellsRefusal, ReadsForm};
-ghost use Rattle.qpack_wire.specs.StreamAnswers.{FindsLine, ReadsLine, TellsNone, ReadsStream};
-ghost use Rattle.qpack_wire.specs.Instructions.{insert_count_increment, header_ack, stream_cancel, reply_of_insert_count_increment, reply_of_header_ack, reply_of_stream_cancel};
+ghost use Rattle.qpack_wire.specs.Answers.{ReadsForm};
+ghost use Rattle.qpack_wire.specs.StreamAnswers.{DecodesInstruction, ReadsStream};
+ghost use Rattle.qpack_wire.specs.Instructions.{insert_count_increment, header_ack, stream_cancel};
+ghost use Rattle.qpack_wire.specs.Instructions.{reply_of_insert_count_increment, reply_of_header_ack};
+ghost use Rattle.qpack_wire.specs.Instructions.{reply_of_stream_cancel};
+ghost use Rattle.qpack_wire.specs.Writes.{Writes};
 
 use crate::stream::ends::or_none;
 use qpack_base::coding::{Cursor, NoMemory};
 use qpack_base::parse_error::ParseError;
 use qpack_base::prefix_int;
 use std::alloc::Allocator;
+
+// RFC 9204, section 4.4.3:
+//   0   1   2   3   4   5   6   7
+// +---+---+---+---+---+---+---+---+
+// | 0 | 0 |     Increment (6+)    |
+// +---+---+-----------------------+
+const INCREMENT_SIZE: u8 = 6;
+
+const INCREMENT: u8 = 0b00;
 
 /// So many further insertions were received.
 #[derive(Debug, PartialEq, Drop)]
@@ -22,13 +34,12 @@ impl InsertCountIncrement {
     /// Reads such an instruction at the cursor, or none of a truncated one. Takes no memory. Where none is read, the
     /// cursor's place is not told.
     pub fn decode(buf: &mut Cursor) -> Result<Option<InsertCountIncrement>, ParseError>
-        ensures found { FindsLine reply_of_insert_count_increment (SpellsAlone insert_count_increment) buf.old buf.new result }
-        ensures only { ReadsLine reply_of_insert_count_increment (SpellsAlone insert_count_increment) buf.old buf.new result }
-        ensures refused { TellsRefusal (RefusesAlone insert_count_increment) buf.old result }
-        ensures truncated { TellsNone (SpellsAlone insert_count_increment) (RefusesAlone insert_count_increment) buf.old result }
+        ensures decodes { DecodesInstruction reply_of_insert_count_increment (SpellsAlone insert_count_increment)
+            (RefusesAlone insert_count_increment) buf.old buf.new result }
         ensures no_memory { result ≡ Err Memory → ⊥ }
         // The same, as reading from left to right.
-        ensures exact { ReadsStream reply_of_insert_count_increment buf.old buf.new result (alone_at insert_count_increment buf.old.rest) }
+        ensures exact { ReadsStream reply_of_insert_count_increment buf.old buf.new result
+            (alone_at insert_count_increment buf.old.rest) }
     {
         or_none(read_insert_count_increment(buf))
     }
@@ -37,12 +48,9 @@ impl InsertCountIncrement {
     /// room for the spelling it succeeds and takes no memory.
     #[tactic(auto, unfolding(qpack_spec::specs::Instruction::written_reply))]
     pub fn encode<A: Allocator>(&self, buf: &mut Vec<u8, A>) -> Result<(), NoMemory>
-        ensures ok { OnOk result (buf.new.items ≡ buf.old.items ++ written_reply (reply_of_insert_count_increment self.now)) }
-        ensures err { OnErr result (buf.new.items ≡ buf.old.items) }
-        ensures succeeds { vec_len buf.old + length (written_reply (reply_of_insert_count_increment self.now)) ≤ vec_capacity buf.old → IsOk result }
-        ensures capacity { vec_capacity buf.old ≤ vec_capacity buf.new }
+        ensures writes { Writes (written_reply (reply_of_insert_count_increment self.now)) buf.old buf.new result }
     {
-        prefix_int::encode(6, 0b00, self.0 as u64, buf)
+        prefix_int::encode(INCREMENT_SIZE, INCREMENT, self.0 as u64, buf)
     }
 }
 
@@ -50,14 +58,24 @@ impl InsertCountIncrement {
 pub(crate) fn read_insert_count_increment(
     buf: &mut Cursor,
 ) -> Result<InsertCountIncrement, ParseError>
-    ensures exact { ReadsForm reply_of_insert_count_increment buf.old buf.new result (alone_at insert_count_increment buf.old.rest) }
+    ensures exact { ReadsForm reply_of_insert_count_increment buf.old buf.new result
+        (alone_at insert_count_increment buf.old.rest) }
     ensures no_memory { result ≡ Err Memory → ⊥ }
 {
-    match prefix_int::decode(6, buf)? {
-        (0b00, value) => Ok(InsertCountIncrement(value as usize)),
+    match prefix_int::decode(INCREMENT_SIZE, buf)? {
+        (INCREMENT, value) => Ok(InsertCountIncrement(value as usize)),
         (flags, _) => Err(ParseError::InvalidPrefix(flags)),
     }
 }
+
+// RFC 9204, section 4.4.1:
+//   0   1   2   3   4   5   6   7
+// +---+---+---+---+---+---+---+---+
+// | 1 |      Stream ID (7+)       |
+// +---+---------------------------+
+pub(crate) const ACKNOWLEDGMENT_SIZE: u8 = 7;
+
+pub(crate) const ACKNOWLEDGMENT: u8 = 0b1;
 
 /// The oldest section of this stream that was not acknowledged was decoded.
 #[derive(Debug, PartialEq, Drop)]
@@ -67,10 +85,8 @@ impl HeaderAck {
     /// Reads such an instruction at the cursor, or none of a truncated one. Takes no memory. Where none is read, the
     /// cursor's place is not told.
     pub fn decode(buf: &mut Cursor) -> Result<Option<HeaderAck>, ParseError>
-        ensures found { FindsLine reply_of_header_ack (SpellsAlone header_ack) buf.old buf.new result }
-        ensures only { ReadsLine reply_of_header_ack (SpellsAlone header_ack) buf.old buf.new result }
-        ensures refused { TellsRefusal (RefusesAlone header_ack) buf.old result }
-        ensures truncated { TellsNone (SpellsAlone header_ack) (RefusesAlone header_ack) buf.old result }
+        ensures decodes { DecodesInstruction reply_of_header_ack (SpellsAlone header_ack)
+            (RefusesAlone header_ack) buf.old buf.new result }
         ensures no_memory { result ≡ Err Memory → ⊥ }
         // The same, as reading from left to right.
         ensures exact { ReadsStream reply_of_header_ack buf.old buf.new result (alone_at header_ack buf.old.rest) }
@@ -82,12 +98,9 @@ impl HeaderAck {
     /// room for the spelling it succeeds and takes no memory.
     #[tactic(auto, unfolding(qpack_spec::specs::Instruction::written_reply))]
     pub fn encode<A: Allocator>(&self, buf: &mut Vec<u8, A>) -> Result<(), NoMemory>
-        ensures ok { OnOk result (buf.new.items ≡ buf.old.items ++ written_reply (reply_of_header_ack self.now)) }
-        ensures err { OnErr result (buf.new.items ≡ buf.old.items) }
-        ensures succeeds { vec_len buf.old + length (written_reply (reply_of_header_ack self.now)) ≤ vec_capacity buf.old → IsOk result }
-        ensures capacity { vec_capacity buf.old ≤ vec_capacity buf.new }
+        ensures writes { Writes (written_reply (reply_of_header_ack self.now)) buf.old buf.new result }
     {
-        prefix_int::encode(7, 0b1, self.0, buf)
+        prefix_int::encode(ACKNOWLEDGMENT_SIZE, ACKNOWLEDGMENT, self.0, buf)
     }
 }
 
@@ -96,11 +109,20 @@ pub(crate) fn read_header_ack(buf: &mut Cursor) -> Result<HeaderAck, ParseError>
     ensures exact { ReadsForm reply_of_header_ack buf.old buf.new result (alone_at header_ack buf.old.rest) }
     ensures no_memory { result ≡ Err Memory → ⊥ }
 {
-    match prefix_int::decode(7, buf)? {
-        (0b1, value) => Ok(HeaderAck(value)),
+    match prefix_int::decode(ACKNOWLEDGMENT_SIZE, buf)? {
+        (ACKNOWLEDGMENT, value) => Ok(HeaderAck(value)),
         (flags, _) => Err(ParseError::InvalidPrefix(flags)),
     }
 }
+
+// RFC 9204, section 4.4.2:
+//   0   1   2   3   4   5   6   7
+// +---+---+---+---+---+---+---+---+
+// | 0 | 1 |     Stream ID (6+)    |
+// +---+---+-----------------------+
+pub(crate) const CANCELLATION_SIZE: u8 = 6;
+
+pub(crate) const CANCELLATION: u8 = 0b01;
 
 /// The sections of this stream that are left will not be decoded.
 #[derive(Debug, PartialEq, Drop)]
@@ -110,13 +132,12 @@ impl StreamCancel {
     /// Reads such an instruction at the cursor, or none of a truncated one. Takes no memory. Where none is read, the
     /// cursor's place is not told.
     pub fn decode(buf: &mut Cursor) -> Result<Option<StreamCancel>, ParseError>
-        ensures found { FindsLine reply_of_stream_cancel (SpellsAlone stream_cancel) buf.old buf.new result }
-        ensures only { ReadsLine reply_of_stream_cancel (SpellsAlone stream_cancel) buf.old buf.new result }
-        ensures refused { TellsRefusal (RefusesAlone stream_cancel) buf.old result }
-        ensures truncated { TellsNone (SpellsAlone stream_cancel) (RefusesAlone stream_cancel) buf.old result }
+        ensures decodes { DecodesInstruction reply_of_stream_cancel (SpellsAlone stream_cancel)
+            (RefusesAlone stream_cancel) buf.old buf.new result }
         ensures no_memory { result ≡ Err Memory → ⊥ }
         // The same, as reading from left to right.
-        ensures exact { ReadsStream reply_of_stream_cancel buf.old buf.new result (alone_at stream_cancel buf.old.rest) }
+        ensures exact { ReadsStream reply_of_stream_cancel buf.old buf.new result
+            (alone_at stream_cancel buf.old.rest) }
     {
         or_none(read_stream_cancel(buf))
     }
@@ -125,12 +146,9 @@ impl StreamCancel {
     /// room for the spelling it succeeds and takes no memory.
     #[tactic(auto, unfolding(qpack_spec::specs::Instruction::written_reply))]
     pub fn encode<A: Allocator>(&self, buf: &mut Vec<u8, A>) -> Result<(), NoMemory>
-        ensures ok { OnOk result (buf.new.items ≡ buf.old.items ++ written_reply (reply_of_stream_cancel self.now)) }
-        ensures err { OnErr result (buf.new.items ≡ buf.old.items) }
-        ensures succeeds { vec_len buf.old + length (written_reply (reply_of_stream_cancel self.now)) ≤ vec_capacity buf.old → IsOk result }
-        ensures capacity { vec_capacity buf.old ≤ vec_capacity buf.new }
+        ensures writes { Writes (written_reply (reply_of_stream_cancel self.now)) buf.old buf.new result }
     {
-        prefix_int::encode(6, 0b01, self.0, buf)
+        prefix_int::encode(CANCELLATION_SIZE, CANCELLATION, self.0, buf)
     }
 }
 
@@ -139,8 +157,8 @@ pub(crate) fn read_stream_cancel(buf: &mut Cursor) -> Result<StreamCancel, Parse
     ensures exact { ReadsForm reply_of_stream_cancel buf.old buf.new result (alone_at stream_cancel buf.old.rest) }
     ensures no_memory { result ≡ Err Memory → ⊥ }
 {
-    match prefix_int::decode(6, buf)? {
-        (0b01, value) => Ok(StreamCancel(value)),
+    match prefix_int::decode(CANCELLATION_SIZE, buf)? {
+        (CANCELLATION, value) => Ok(StreamCancel(value)),
         (flags, _) => Err(ParseError::InvalidPrefix(flags)),
     }
 }

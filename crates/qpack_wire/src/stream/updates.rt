@@ -1,18 +1,29 @@
 //! Encoder instructions that are a number alone (RFC 9204, sections 4.3.1 and 4.3.4).
 
-ghost use Rattle.std.specs.Prelude.{◌≡◌, ◌+◌, ◌≤◌, ◌++◌, Err, OnOk, OnErr, IsOk, length, vec_len, vec_capacity};
+ghost use Rattle.std.specs.Prelude.{◌≡◌, Err};
 ghost use Rattle.qpack_spec.specs.Instruction.{written_instruction};
 ghost use Rattle.qpack_base.specs.declared.parse_error.ParseError.TheVariants.{Memory};
 ghost use Rattle.qpack_wire.specs.Alone.{SpellsAlone, RefusesAlone, alone_at};
-ghost use Rattle.qpack_wire.specs.Answers.{TellsRefusal, ReadsForm};
-ghost use Rattle.qpack_wire.specs.StreamAnswers.{FindsLine, ReadsLine, TellsNone, ReadsStream};
-ghost use Rattle.qpack_wire.specs.Instructions.{duplicate, dynamic_table_size_update, instruction_of_duplicate, instruction_of_dynamic_table_size_update};
+ghost use Rattle.qpack_wire.specs.Answers.{ReadsForm};
+ghost use Rattle.qpack_wire.specs.StreamAnswers.{DecodesInstruction, ReadsStream};
+ghost use Rattle.qpack_wire.specs.Instructions.{duplicate, dynamic_table_size_update, instruction_of_duplicate};
+ghost use Rattle.qpack_wire.specs.Instructions.{instruction_of_dynamic_table_size_update};
+ghost use Rattle.qpack_wire.specs.Writes.{Writes};
 
 use crate::stream::ends::or_none;
 use qpack_base::coding::{Cursor, NoMemory};
 use qpack_base::parse_error::ParseError;
 use qpack_base::prefix_int;
 use std::alloc::Allocator;
+
+// RFC 9204, section 4.3.4:
+//   0   1   2   3   4   5   6   7
+// +---+---+---+---+---+---+---+---+
+// | 0 | 0 | 0 |    Index (5+)     |
+// +---+---+---+-------------------+
+const DUPLICATE_SIZE: u8 = 5;
+
+const DUPLICATE: u8 = 0b000;
 
 /// Inserts an entry of the table once more, the newest being 0.
 #[derive(Debug, PartialEq, Drop)]
@@ -22,10 +33,8 @@ impl Duplicate {
     /// Reads such an instruction at the cursor, or none of a truncated one. Takes no memory. Where none is read, the
     /// cursor's place is not told.
     pub fn decode(buf: &mut Cursor) -> Result<Option<Duplicate>, ParseError>
-        ensures found { FindsLine instruction_of_duplicate (SpellsAlone duplicate) buf.old buf.new result }
-        ensures only { ReadsLine instruction_of_duplicate (SpellsAlone duplicate) buf.old buf.new result }
-        ensures refused { TellsRefusal (RefusesAlone duplicate) buf.old result }
-        ensures truncated { TellsNone (SpellsAlone duplicate) (RefusesAlone duplicate) buf.old result }
+        ensures decodes { DecodesInstruction instruction_of_duplicate (SpellsAlone duplicate)
+            (RefusesAlone duplicate) buf.old buf.new result }
         ensures no_memory { result ≡ Err Memory → ⊥ }
         // The same, as reading from left to right.
         ensures exact { ReadsStream instruction_of_duplicate buf.old buf.new result (alone_at duplicate buf.old.rest) }
@@ -37,12 +46,9 @@ impl Duplicate {
     /// room for the spelling it succeeds and takes no memory.
     #[tactic(auto, unfolding(qpack_spec::specs::Instruction::written_instruction))]
     pub fn encode<A: Allocator>(&self, buf: &mut Vec<u8, A>) -> Result<(), NoMemory>
-        ensures ok { OnOk result (buf.new.items ≡ buf.old.items ++ written_instruction (instruction_of_duplicate self.now)) }
-        ensures err { OnErr result (buf.new.items ≡ buf.old.items) }
-        ensures succeeds { vec_len buf.old + length (written_instruction (instruction_of_duplicate self.now)) ≤ vec_capacity buf.old → IsOk result }
-        ensures capacity { vec_capacity buf.old ≤ vec_capacity buf.new }
+        ensures writes { Writes (written_instruction (instruction_of_duplicate self.now)) buf.old buf.new result }
     {
-        prefix_int::encode(5, 0b000, self.0 as u64, buf)
+        prefix_int::encode(DUPLICATE_SIZE, DUPLICATE, self.0 as u64, buf)
     }
 }
 
@@ -51,11 +57,20 @@ pub(crate) fn read_duplicate(buf: &mut Cursor) -> Result<Duplicate, ParseError>
     ensures exact { ReadsForm instruction_of_duplicate buf.old buf.new result (alone_at duplicate buf.old.rest) }
     ensures no_memory { result ≡ Err Memory → ⊥ }
 {
-    match prefix_int::decode(5, buf)? {
-        (0b000, value) => Ok(Duplicate(value as usize)),
+    match prefix_int::decode(DUPLICATE_SIZE, buf)? {
+        (DUPLICATE, value) => Ok(Duplicate(value as usize)),
         (flags, _) => Err(ParseError::InvalidPrefix(flags)),
     }
 }
+
+// RFC 9204, section 4.3.1:
+//   0   1   2   3   4   5   6   7
+// +---+---+---+---+---+---+---+---+
+// | 0 | 0 | 1 |   Capacity (5+)   |
+// +---+---+---+-------------------+
+pub(crate) const CAPACITY_SIZE: u8 = 5;
+
+pub(crate) const CAPACITY: u8 = 0b001;
 
 /// Sets the capacity of the dynamic table.
 #[derive(Debug, PartialEq, Drop)]
@@ -65,13 +80,12 @@ impl DynamicTableSizeUpdate {
     /// Reads such an instruction at the cursor, or none of a truncated one. Takes no memory. Where none is read, the
     /// cursor's place is not told.
     pub fn decode(buf: &mut Cursor) -> Result<Option<DynamicTableSizeUpdate>, ParseError>
-        ensures found { FindsLine instruction_of_dynamic_table_size_update (SpellsAlone dynamic_table_size_update) buf.old buf.new result }
-        ensures only { ReadsLine instruction_of_dynamic_table_size_update (SpellsAlone dynamic_table_size_update) buf.old buf.new result }
-        ensures refused { TellsRefusal (RefusesAlone dynamic_table_size_update) buf.old result }
-        ensures truncated { TellsNone (SpellsAlone dynamic_table_size_update) (RefusesAlone dynamic_table_size_update) buf.old result }
+        ensures decodes { DecodesInstruction instruction_of_dynamic_table_size_update
+            (SpellsAlone dynamic_table_size_update) (RefusesAlone dynamic_table_size_update) buf.old buf.new result }
         ensures no_memory { result ≡ Err Memory → ⊥ }
         // The same, as reading from left to right.
-        ensures exact { ReadsStream instruction_of_dynamic_table_size_update buf.old buf.new result (alone_at dynamic_table_size_update buf.old.rest) }
+        ensures exact { ReadsStream instruction_of_dynamic_table_size_update buf.old buf.new result
+            (alone_at dynamic_table_size_update buf.old.rest) }
     {
         or_none(read_dynamic_table_size_update(buf))
     }
@@ -80,12 +94,10 @@ impl DynamicTableSizeUpdate {
     /// room for the spelling it succeeds and takes no memory.
     #[tactic(auto, unfolding(qpack_spec::specs::Instruction::written_instruction))]
     pub fn encode<A: Allocator>(&self, buf: &mut Vec<u8, A>) -> Result<(), NoMemory>
-        ensures ok { OnOk result (buf.new.items ≡ buf.old.items ++ written_instruction (instruction_of_dynamic_table_size_update self.now)) }
-        ensures err { OnErr result (buf.new.items ≡ buf.old.items) }
-        ensures succeeds { vec_len buf.old + length (written_instruction (instruction_of_dynamic_table_size_update self.now)) ≤ vec_capacity buf.old → IsOk result }
-        ensures capacity { vec_capacity buf.old ≤ vec_capacity buf.new }
+        ensures writes { Writes (written_instruction (instruction_of_dynamic_table_size_update self.now)) buf.old
+            buf.new result }
     {
-        prefix_int::encode(5, 0b001, self.0 as u64, buf)
+        prefix_int::encode(CAPACITY_SIZE, CAPACITY, self.0 as u64, buf)
     }
 }
 
@@ -93,11 +105,12 @@ impl DynamicTableSizeUpdate {
 pub(crate) fn read_dynamic_table_size_update(
     buf: &mut Cursor,
 ) -> Result<DynamicTableSizeUpdate, ParseError>
-    ensures exact { ReadsForm instruction_of_dynamic_table_size_update buf.old buf.new result (alone_at dynamic_table_size_update buf.old.rest) }
+    ensures exact { ReadsForm instruction_of_dynamic_table_size_update buf.old buf.new result
+        (alone_at dynamic_table_size_update buf.old.rest) }
     ensures no_memory { result ≡ Err Memory → ⊥ }
 {
-    match prefix_int::decode(5, buf)? {
-        (0b001, value) => Ok(DynamicTableSizeUpdate(value as usize)),
+    match prefix_int::decode(CAPACITY_SIZE, buf)? {
+        (CAPACITY, value) => Ok(DynamicTableSizeUpdate(value as usize)),
         (flags, _) => Err(ParseError::InvalidPrefix(flags)),
     }
 }

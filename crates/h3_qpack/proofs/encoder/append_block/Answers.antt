@@ -5,28 +5,38 @@ use Rattle.qpack_spec.specs.Prefix.{Prefix, written_prefix}
 use Rattle.qpack_spec.specs.BlockReading.{written_block}
 use Rattle.qpack_spec.specs.Stateless.{stateless_block}
 use Rattle.qpack_base.specs.HeaderFields.{field_of, fields_behind}
-use Rattle.h3_qpack.proofs.WrittenBlocks.{begun, grown, still_front, behind_more}
+use Rattle.h3_qpack.proofs.WrittenBlocks.{begun, grown, take-append_front, behind_more}
 use Rattle.h3_qpack.proofs.ReadLines.{told_is, total_more}
 use Rattle.h3_qpack.proofs.encoder.append_block.Goals as goal
 
 pub loop-field-init : goal.loop-field-init
-loop-field-init g c = (begun c.args.block.now.items c.encode.new.buf.items (c.in_ok-encode.ensures.ok ∙ ap (λ (p : Prefix). c.args.block.now.items ++ written_prefix p) c.new.ensures), refl, c.encode.ensures.capacity)
+loop-field-init g c = (
+  begun c.args.block.now.items c.encode.new.buf.items
+      (c.in_ok-encode.ensures.writes.ok
+      ∙ ap (λ (p : Prefix). c.args.block.now.items ++ written_prefix p) c.new.ensures),
+  refl,
+  c.encode.ensures.writes.capacity,
+)
 
 pub returns-in_err-append_line-clause-err : goal.returns-in_err-append_line-clause-err
 returns-in_err-append_line-clause-err g c =
-    let p = err_from_is_err_and c.from_residual-in_err-append_line.result c.from_residual-in_err-append_line.ensures.1 in
+    let p = err_from_is_err_and c.from_residual-in_err-append_line.result c.from_residual-in_err-append_line.ensures.1
+    in
     rw p.1
-    (still_front c.args.block.now.items (written_block (stateless_block (fields_behind c.loop-field.yielded))) c.loop-field.block.items c.append_line.new.block.items _ _ (sym c.args.block.now.ok.0)
-    c.in_err-append_line.ensures.err c.loop-field.invariant.0)
+    (take-append_front c.args.block.now.items (written_block (stateless_block (fields_behind c.loop-field.yielded)))
+    c.loop-field.block.items c.append_line.new.block.items _ (sym c.args.block.now.ok.0)
+    c.in_err-append_line.ensures.writes.err c.loop-field.invariant.0)
 
 pub loop-field-preserved : goal.loop-field-preserved
 loop-field-preserved g c =
     let fs = fields_behind c.loop-field.yielded in
     let f = field_of c.in-Some.field.now in
     let more = behind_more c.loop-field.yielded c.in-Some.field in
-    let told = told_is (total_size fs) (field_size f) c.mem_size.result c.loop-field.size c.saturating_add-size.result c.loop-field.invariant.1 c.mem_size.ensures c.saturating_add-size.ensures in
+    let told = told_is (total_size fs) (field_size f) c.mem_size.result c.loop-field.size c.saturating_add-size.result
+    c.loop-field.invariant.1 c.mem_size.ensures c.saturating_add-size.ensures in
     rw (more, total_more fs f) (
-      grown c.args.block.now.items c.loop-field.block.items c.append_line.new.block.items fs f c.loop-field.invariant.0 c.in_ok-append_line.ensures.ok,
+      grown c.args.block.now.items c.loop-field.block.items c.append_line.new.block.items fs f c.loop-field.invariant.0
+          c.in_ok-append_line.ensures.writes.ok,
       told,
-      omega (arith, c.loop-field.invariant.2, c.append_line.ensures.capacity),
+      omega (arith, c.loop-field.invariant.2, c.append_line.ensures.writes.capacity),
     )

@@ -1,17 +1,11 @@
-use Rattle.qpack_wire.specs.Alone.{SpellsAlone, RefusesAlone, alone_at}
-use Rattle.qpack_wire.specs.Lines.{literal, line_of_literal}
-use Rattle.qpack_wire.proofs.Readers.{found, only, refusals, ends}
+use Rattle.qpack_wire.specs.Lines.{literal}
+use Rattle.qpack_wire.proofs.Asking.{asks_alone}
+use Rattle.qpack_wire.proofs.Readers.{decodes}
 use Rattle.qpack_wire.proofs.LineForms.{literal_follows}
 use Rattle.qpack_wire.proofs.block.literals.Literal.decode.Goals as goal
 
-pub returns-clause-found : goal.returns-clause-found
-returns-clause-found c = found line_of_literal (SpellsAlone literal) (RefusesAlone literal) (alone_at literal) literal_follows c.args.buf.now c.read_literal.new.buf c.read_literal.result c.read_literal.ensures
+pub returns-clause-decodes : goal.returns-clause-decodes
+returns-clause-decodes c = decodes literal_follows c.read_literal.ensures.exact
 
-pub returns-clause-only : goal.returns-clause-only
-returns-clause-only c = only line_of_literal (SpellsAlone literal) (RefusesAlone literal) (alone_at literal) literal_follows c.args.buf.now c.read_literal.new.buf c.read_literal.result c.read_literal.ensures
-
-pub returns-clause-refused : goal.returns-clause-refused
-returns-clause-refused c = refusals line_of_literal (SpellsAlone literal) (RefusesAlone literal) (alone_at literal) literal_follows c.args.buf.now c.read_literal.new.buf c.read_literal.result c.read_literal.ensures
-
-pub returns-clause-truncated : goal.returns-clause-truncated
-returns-clause-truncated c = ends line_of_literal (SpellsAlone literal) (RefusesAlone literal) (alone_at literal) literal_follows c.args.buf.now c.read_literal.new.buf c.read_literal.result c.read_literal.ensures
+pub returns-clause-memory : goal.returns-clause-memory
+returns-clause-memory c e = asks_alone literal c.args.buf.now.rest (c.read_literal.ensures.memory e)

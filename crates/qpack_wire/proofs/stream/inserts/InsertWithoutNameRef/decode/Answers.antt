@@ -1,20 +1,15 @@
-use Rattle.std.proofs.Common.{sym, subst}
-use Rattle.qpack_wire.specs.Alone.{SpellsAlone, RefusesAlone, alone_at}
-use Rattle.qpack_wire.specs.Answers.{TellsRefusal}
-use Rattle.qpack_wire.specs.StreamAnswers.{FindsLine, ReadsLine, TellsNone}
-use Rattle.qpack_wire.specs.Instructions.{insert_without_name_ref, instruction_of_insert_without_name_ref}
-use Rattle.qpack_wire.proofs.StreamReaders.{line_found, line_only, line_refusals, line_ends}
+use Rattle.std.proofs.Common.{sym, ◌∙◌}
+use Rattle.qpack_wire.specs.Instructions.{insert_without_name_ref}
+use Rattle.qpack_wire.proofs.Asking.{asks_alone, memory_kept}
+use Rattle.qpack_wire.proofs.StreamReaders.{decodes_instruction}
 use Rattle.qpack_wire.proofs.InstructionForms.{insert_without_name_ref_follows}
 use Rattle.qpack_wire.proofs.stream.inserts.InsertWithoutNameRef.decode.Goals as goal
 
-pub returns-clause-found : goal.returns-clause-found
-returns-clause-found c = subst (FindsLine instruction_of_insert_without_name_ref (SpellsAlone insert_without_name_ref) c.args.buf.now c.read_insert_without_name_ref.new.buf) (sym c.or_none.ensures) (line_found instruction_of_insert_without_name_ref (SpellsAlone insert_without_name_ref) (RefusesAlone insert_without_name_ref) (alone_at insert_without_name_ref) insert_without_name_ref_follows c.args.buf.now c.read_insert_without_name_ref.new.buf c.read_insert_without_name_ref.result c.read_insert_without_name_ref.ensures.exact)
+pub returns-clause-decodes : goal.returns-clause-decodes
+returns-clause-decodes c = decodes_instruction insert_without_name_ref_follows c.read_insert_without_name_ref.result
+    c.or_none.ensures c.read_insert_without_name_ref.ensures.exact
 
-pub returns-clause-only : goal.returns-clause-only
-returns-clause-only c = subst (ReadsLine instruction_of_insert_without_name_ref (SpellsAlone insert_without_name_ref) c.args.buf.now c.read_insert_without_name_ref.new.buf) (sym c.or_none.ensures) (line_only instruction_of_insert_without_name_ref (SpellsAlone insert_without_name_ref) (RefusesAlone insert_without_name_ref) (alone_at insert_without_name_ref) insert_without_name_ref_follows c.args.buf.now c.read_insert_without_name_ref.new.buf c.read_insert_without_name_ref.result c.read_insert_without_name_ref.ensures.exact)
-
-pub returns-clause-refused : goal.returns-clause-refused
-returns-clause-refused c = subst (TellsRefusal (RefusesAlone insert_without_name_ref) c.args.buf.now) (sym c.or_none.ensures) (line_refusals instruction_of_insert_without_name_ref (SpellsAlone insert_without_name_ref) (RefusesAlone insert_without_name_ref) (alone_at insert_without_name_ref) insert_without_name_ref_follows c.args.buf.now c.read_insert_without_name_ref.new.buf c.read_insert_without_name_ref.result c.read_insert_without_name_ref.ensures.exact)
-
-pub returns-clause-truncated : goal.returns-clause-truncated
-returns-clause-truncated c = subst (TellsNone (SpellsAlone insert_without_name_ref) (RefusesAlone insert_without_name_ref) c.args.buf.now) (sym c.or_none.ensures) (line_ends instruction_of_insert_without_name_ref (SpellsAlone insert_without_name_ref) (RefusesAlone insert_without_name_ref) (alone_at insert_without_name_ref) insert_without_name_ref_follows c.args.buf.now c.read_insert_without_name_ref.new.buf c.read_insert_without_name_ref.result c.read_insert_without_name_ref.ensures.exact)
+pub returns-clause-memory : goal.returns-clause-memory
+returns-clause-memory c e = asks_alone insert_without_name_ref c.args.buf.now.rest
+    (c.read_insert_without_name_ref.ensures.memory
+    (memory_kept c.read_insert_without_name_ref.result (sym c.or_none.ensures ∙ e)))

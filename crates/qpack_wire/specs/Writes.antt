@@ -1,0 +1,11 @@
+-- What the writers of a line, an instruction or a prefix leave in the vector.
+use Rattle.std.specs.Prelude.{◌≡◌, ℕ, ◌+◌, ◌≤◌, List, ◌++◌, length, vec_len, vec_capacity, Result, OnOk, OnErr, IsOk}
+use Rattle.std.specs.declared.vec.Vec.{Vec}
+
+-- the encoding is appended, or the vector is as before; free room for the encoding is enough, and then is not grown
+pub record Writes {A E : Type 0} (encoding : List ℕ) (old new : Vec ℕ A) (r : Result (Unit {0}) E) : Type 0 where
+  pub ok : OnOk r (new.items ≡ old.items ++ encoding)
+  pub err : OnErr r (new.items ≡ old.items)
+  pub succeeds : vec_len old + length encoding ≤ vec_capacity old → IsOk r
+  pub still : vec_len old + length encoding ≤ vec_capacity old → vec_capacity new ≡ vec_capacity old
+  pub capacity : vec_capacity old ≤ vec_capacity new
