@@ -5,9 +5,9 @@ use Rattle.qpack_spec.specs.Bytes.{Begins}
 use Rattle.qpack_spec.specs.Field.{Field}
 use Rattle.qpack_spec.specs.Line.{Line, line_form, SpellsLine}
 use Rattle.qpack_spec.specs.Prefix.{Prefix, SpellsPrefix}
-use Rattle.qpack_base.specs.Cursor.{Reading, MovesPast}
+use Rattle.qpack_base.specs.Cursor.{CursorView, MovesPast}
 use Rattle.qpack_wire.specs.Memory.{AsksForMemory}
-use Rattle.h3_qpack.specs.Stateless.{field_at}
+use Rattle.h3_qpack.specs.Stateless.{stateless_field_at}
 use Rattle.qpack_wire.proofs.Asking.{in_turn}
 use Rattle.h3_qpack.specs.Memory.{HoldsPrefix, HoldsLine, AsksLine, AsksSectionForMemory}
 use Rattle.h3_qpack.proofs.ReadLines.{first_is, line_taken}
@@ -17,18 +17,18 @@ abbrev pub HasBegun : List ℕ → List ℕ → Type 0
 HasBegun all rest = (rest ≡ all) ⊎ Begins HoldsLine all
 
 pub asks_held : (bytes : List ℕ) → Begins HoldsLine bytes → Begins AsksLine bytes
-asks_held bytes b = record { text = b.text; rest = b.rest; parts = b.parts; holds = inl b.holds }
+asks_held bytes b = record { encoding = b.encoding; rest = b.rest; parts = b.parts; holds = inl b.holds }
 
 pub asks_front : (bytes : List ℕ) → AsksForMemory line_form bytes → Begins AsksLine bytes
-asks_front bytes b = record { text = b.text; rest = b.rest; parts = b.parts; holds = inr b.holds }
+asks_front bytes b = record { encoding = b.encoding; rest = b.rest; parts = b.parts; holds = inr b.holds }
 
 -- a line that was found
-pub asks_found : (old new : Reading) (l : Line) → (text : List ℕ) × SpellsLine text l × MovesPast text old new
+pub asks_found : (old new : CursorView) (l : Line) → (encoding : List ℕ) × SpellsLine encoding l × MovesPast encoding old new
     → Begins AsksLine old.rest
-asks_found old new l f = record { text = f.0; rest = new.rest; parts = f.2.0; holds = inl (l, f.1) }
+asks_found old new l f = record { encoding = f.0; rest = new.rest; parts = f.2.0; holds = inl (l, f.1) }
 
 -- the lines behind a prefix that was found
-pub asks_section : (old mid : Reading) (p : Prefix) → (text : List ℕ) × SpellsPrefix text p × MovesPast text old mid
+pub asks_section : (old mid : CursorView) (p : Prefix) → (encoding : List ℕ) × SpellsPrefix encoding p × MovesPast encoding old mid
     → Begins AsksLine mid.rest → AsksSectionForMemory old.rest
 asks_section old mid p f b = in_turn {P = HoldsPrefix} old.rest f.0 mid.rest f.2.0 (p, f.1) b
 
@@ -39,7 +39,7 @@ asks_begun all rest (inr h) b = asks_held all h
 
 -- a line was read, so that the first was
 pub held_begun : (all rest : List ℕ) (b : ℕ) (f : Field) (more : List ℕ) → HasBegun all rest → Some b ≡ slice_get rest 0
-    → field_at b (drop 1 rest) ≡ Ok (f, more)
+    → stateless_field_at b (drop 1 rest) ≡ Ok (f, more)
     → Begins HoldsLine all
 held_begun all rest b f more (inl e) at read =
     subst (Begins HoldsLine) (sym (first_is rest b at) ∙ e) (line_taken b (drop 1 rest) f more read)

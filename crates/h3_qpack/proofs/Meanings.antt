@@ -3,21 +3,21 @@ use Rattle.std.proofs.Common.{◌≡◌, ℕ, zero, List, Option, None, Some, Re
 use Rattle.std.specs.Prelude.{◌≢◌, IfOk, IfErr}
 use Rattle.qpack_spec.specs.Field.{Field}
 use Rattle.qpack_spec.specs.Stateless.{StatelessFault, NamesEntry, stateless_reading}
-use Rattle.qpack_spec.specs.StatelessMeaning.{MeansAlone, StopsAlone}
+use Rattle.qpack_spec.specs.StatelessMeaning.{MeansStateless, StopsStateless}
 use Rattle.qpack_spec.proofs.Results.{ok_is}
 use Rattle.qpack_spec.proofs.StatelessMeanings.{reading_alone}
 use Rattle.qpack_wire.specs.Answers.{ReadAs}
 use Rattle.h3_qpack.specs.declared.decoder.Decoded.{Decoded}
 use Rattle.h3_qpack.specs.declared.decoder.DecoderError.{DecoderError}
 use Rattle.h3_qpack.specs.declared.decoder.DecoderError.TheVariants.{MissingRefs, Memory}
-use Rattle.h3_qpack.specs.Stateless.{fault_of, FailsAlone, Decodes, Tells, GivesFields, GivesFault, FindsFields}
+use Rattle.h3_qpack.specs.Stateless.{fault_of, FailsStateless, Decodes, Tells, GivesFields, GivesFault, FindsFields}
 use Rattle.h3_qpack.specs.Stateless.{FindsFault, fields_in}
 
 abbrev good : List Field → Result (List Field) StatelessFault
 good fs = Ok fs
 
 -- no error but want of memory tells of fields
-no_fault : (e : DecoderError) (fs : List Field) → FailsAlone e (good fs) → e ≡ Memory
+no_fault : (e : DecoderError) (fs : List Field) → FailsStateless e (good fs) → e ≡ Memory
 no_fault Memory fs h = refl
 no_fault (MissingRefs zero) fs h = absurd cc
 no_fault e fs h = absurd (as_none (fault_of e) fs h)
@@ -27,7 +27,7 @@ no_fault e fs h = absurd (as_none (fault_of e) fs h)
     as_none (Some f) fs h = absurd cc
 
 -- any other error tells a fault
-fault_told : (e : DecoderError) (read : Result (List Field) StatelessFault) → FailsAlone e read → (e ≢ Memory)
+fault_told : (e : DecoderError) (read : Result (List Field) StatelessFault) → FailsStateless e read → (e ≢ Memory)
     → (fault : StatelessFault) × Tells e fault × (read ≡ Err fault)
 fault_told Memory read h other = absurd (other refl)
 fault_told (MissingRefs zero) read h other = (NamesEntry, refl, h)
@@ -45,11 +45,11 @@ decoded_found limit bytes (Err e) h = tt
 
 pub decoded_only : (limit : ℕ) (bytes : List ℕ) (r : Result Decoded DecoderError)
     → Decodes r (stateless_reading limit bytes)
-    → (fields : List Field) → MeansAlone limit bytes fields → GivesFields r fields
+    → (fields : List Field) → MeansStateless limit bytes fields → GivesFields r fields
 decoded_only limit bytes (Ok d) h fields m =
     ok_is (fields_in d.fields.items) fields (sym h.0 ∙ (reading_alone limit bytes (Ok fields)).1 m)
 decoded_only limit bytes (Err e) h fields m =
-    no_fault e fields (subst (FailsAlone e) ((reading_alone limit bytes (Ok fields)).1 m) h)
+    no_fault e fields (subst (FailsStateless e) ((reading_alone limit bytes (Ok fields)).1 m) h)
 
 pub decoded_refused : (limit : ℕ) (bytes : List ℕ) (r : Result Decoded DecoderError)
     → Decodes r (stateless_reading limit bytes) → IfErr r (FindsFault limit bytes)
@@ -59,6 +59,6 @@ decoded_refused limit bytes (Err e) h = λ other. let t =
 
 pub decoded_told : (limit : ℕ) (bytes : List ℕ) (r : Result Decoded DecoderError)
     → Decodes r (stateless_reading limit bytes)
-    → (fault : StatelessFault) → StopsAlone limit bytes fault → GivesFault r fault
+    → (fault : StatelessFault) → StopsStateless limit bytes fault → GivesFault r fault
 decoded_told limit bytes (Ok d) h fault s = let e = sym h.0 ∙ (reading_alone limit bytes (Err fault)).1 s in cc
-decoded_told limit bytes (Err e) h fault s = subst (FailsAlone e) ((reading_alone limit bytes (Err fault)).1 s) h
+decoded_told limit bytes (Err e) h fault s = subst (FailsStateless e) ((reading_alone limit bytes (Err fault)).1 s) h

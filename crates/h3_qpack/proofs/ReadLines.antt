@@ -8,7 +8,7 @@ use Rattle.qpack_spec.specs.Bytes.{Begins, ◌>>=◌}
 use Rattle.qpack_spec.specs.Field.{Field, field_size, total_size}
 use Rattle.qpack_spec.specs.Form.{FormFault, form_at}
 use Rattle.qpack_spec.specs.Line.{Line, line_form}
-use Rattle.qpack_spec.specs.Stateless.{StatelessFault, NamesEntry, TooLong, held_size, field_alone, or_bad_bytes}
+use Rattle.qpack_spec.specs.Stateless.{StatelessFault, NamesEntry, TooLong, saturated_size, stateless_field, or_bad_bytes}
 use Rattle.qpack_spec.specs.Stateless.{within_limit, stateless_at}
 use Rattle.qpack_spec.proofs.Results.{bind_ok, chosen, ok_is, ok_pair}
 use Rattle.qpack_spec.proofs.Sizes.{total_last}
@@ -19,12 +19,12 @@ use Rattle.qpack_wire.specs.Answers.{ReadAs}
 use Rattle.h3_qpack.specs.declared.decoder.DecoderError.{DecoderError}
 use Rattle.h3_qpack.specs.declared.decoder.DecoderError.TheVariants.{MissingRefs, Memory}
 use Rattle.h3_qpack.specs.Memory.{HoldsLine}
-use Rattle.h3_qpack.specs.Stateless.{fault_of, FailsAlone, fields_in, field_at}
+use Rattle.h3_qpack.specs.Stateless.{fault_of, FailsStateless, fields_in, stateless_field_at}
 
 -- a fault of a part is the whole's
 fails_on : {A B : Type 0} (e : DecoderError) (read : Result A StatelessFault) (whole : Result B StatelessFault)
-    → FailsAlone e read
-    → ((x : StatelessFault) → read ≡ Err x → whole ≡ Err x) → FailsAlone e whole
+    → FailsStateless e read
+    → ((x : StatelessFault) → read ≡ Err x → whole ≡ Err x) → FailsStateless e whole
 fails_on Memory read whole h on = tt
 fails_on (MissingRefs zero) read whole h on = on NamesEntry h
 fails_on e read whole h on = as_on (fault_of e) h
@@ -45,15 +45,15 @@ pub record TakesLine (b : ℕ) (cs rest : List ℕ) : Type 0 where
   pub line : Line
   pub takes : TakesSpelling Line line_form (b ∷ cs) line rest
 
-field_takes : (b : ℕ) (cs : List ℕ) (f : Field) (rest : List ℕ) → field_at b cs ≡ Ok (f, rest) → TakesLine b cs rest
+field_takes : (b : ℕ) (cs : List ℕ) (f : Field) (rest : List ℕ) → stateless_field_at b cs ≡ Ok (f, rest) → TakesLine b cs rest
 field_takes b cs f rest e =
     elim (chosen (ltb b 32) (Err NamesEntry) (or_bad_bytes
-    (form_at line_form (b ∷ cs)) >>= λ r. field_alone r.0 >>= λ g. Ok (g, r.1)) (Ok (f, rest)) e) [
+    (form_at line_form (b ∷ cs)) >>= λ r. stateless_field r.0 >>= λ g. Ok (g, r.1)) (Ok (f, rest)) e) [
       | inl h ↦ absurd (let g = h.1 in cc)
       | inr h ↦
-          let r = bind_ok (or_bad_bytes (form_at line_form (b ∷ cs))) (λ r. field_alone r.0 >>= λ g. Ok (g, r.1))
+          let r = bind_ok (or_bad_bytes (form_at line_form (b ∷ cs))) (λ r. stateless_field r.0 >>= λ g. Ok (g, r.1))
           (f, rest) h.1 in
-          let g = bind_ok (field_alone r.0.0) (λ g. Ok (g, r.0.1)) (f, rest) r.2 in
+          let g = bind_ok (stateless_field r.0.0) (λ g. Ok (g, r.0.1)) (f, rest) r.2 in
           let p = ok_pair g.0 f r.0.1 rest g.2 in
           subst (TakesLine b cs) p.1
           (record {
@@ -67,18 +67,18 @@ field_takes b cs f rest e =
     bytes_ok (Ok x) r e = let s = ok_is x r e in ap (λ (y : Line × List ℕ). Ok y) s
     bytes_ok (Err x) r e = absurd cc
 
-pub line_taken : (b : ℕ) (cs : List ℕ) (f : Field) (rest : List ℕ) → field_at b cs ≡ Ok (f, rest)
+pub line_taken : (b : ℕ) (cs : List ℕ) (f : Field) (rest : List ℕ) → stateless_field_at b cs ≡ Ok (f, rest)
     → Begins HoldsLine (b ∷ cs)
 line_taken b cs f rest e =
     let t = field_takes b cs f rest e in
-    record { text = t.takes.text; rest = rest; parts = t.takes.parts; holds = (t.line, t.takes.spells) }
+    record { encoding = t.takes.encoding; rest = rest; parts = t.takes.parts; holds = (t.line, t.takes.spells) }
 
 -- a line takes a byte at least
-field_shortens : (b : ℕ) (cs : List ℕ) (f : Field) (rest : List ℕ) → field_at b cs ≡ Ok (f, rest)
+field_shortens : (b : ℕ) (cs : List ℕ) (f : Field) (rest : List ℕ) → stateless_field_at b cs ≡ Ok (f, rest)
     → length rest ≤ length cs
 field_shortens b cs f rest e =
     let t = (field_takes b cs f rest e).takes in
-    let parts : length (b ∷ cs) ≡ length t.text + length rest = ap length t.parts ∙ length-append t.text rest in
+    let parts : length (b ∷ cs) ≡ length t.encoding + length rest = ap length t.parts ∙ length-append t.encoding rest in
     omega (arith, parts, ap length t.spells.begins)
 
 -- ---- one turn of the loop: what was read stands in front, at most k lines are left
@@ -97,7 +97,7 @@ behind k limit sum r =
 
 -- with lines left, the one at the front decides
 turn : (k limit sum b : ℕ) (cs : List ℕ) → 0 < k
-    → stateless_at k limit sum (b ∷ cs) ≡ (field_at b cs >>= behind (k - 1) limit sum)
+    → stateless_at k limit sum (b ∷ cs) ≡ (stateless_field_at b cs >>= behind (k - 1) limit sum)
 unfolding stateless_at
 turn zero limit sum b cs h = absurd (omega arith)
 turn (suc k) limit sum b cs h = let e : suc k - 1 ≡ k = omega arith in rw e (go (ltb b 32) (form_at line_form (b ∷ cs)))
@@ -109,19 +109,19 @@ turn (suc k) limit sum b cs h = let e : suc k - 1 ≡ k = omega arith in rw e (g
     meant (Err e) rest = refl
 
     go : (t : Bool) (r : Result (Line × List ℕ) FormFault)
-        → cond t (Err NamesEntry) (or_bad_bytes r >>= λ r. field_alone r.0 >>= λ f. within_limit limit sum f >>= λ
+        → cond t (Err NamesEntry) (or_bad_bytes r >>= λ r. stateless_field r.0 >>= λ f. within_limit limit sum f >>= λ
         g. stateless_at k limit (sum + field_size g) r.1 >>= λ fs. Ok (g ∷ fs))
-        ≡ (cond t (Err NamesEntry) (or_bad_bytes r >>= λ r. field_alone r.0 >>= λ f. Ok (f, r.1)) >>= behind k limit
+        ≡ (cond t (Err NamesEntry) (or_bad_bytes r >>= λ r. stateless_field r.0 >>= λ f. Ok (f, r.1)) >>= behind k limit
         sum)
     go true r = refl
-    go false (Ok r) = meant (field_alone r.0) r.1
+    go false (Ok r) = meant (stateless_field r.0) r.1
     go false (Err e) = refl
 
-too_long : (limit sum : ℕ) (f : Field) → limit < held_size (sum + field_size f)
-    → within_limit limit sum f ≡ Err (TooLong (held_size (sum + field_size f)))
+too_long : (limit sum : ℕ) (f : Field) → limit < saturated_size (sum + field_size f)
+    → within_limit limit sum f ≡ Err (TooLong (saturated_size (sum + field_size f)))
 too_long limit sum f h = rw (lt-ltb _ _ h) refl
 
-fits_limit : (limit sum : ℕ) (f : Field) → held_size (sum + field_size f) ≤ limit → within_limit limit sum f ≡ Ok f
+fits_limit : (limit sum : ℕ) (f : Field) → saturated_size (sum + field_size f) ≤ limit → within_limit limit sum f ≡ Ok f
 fits_limit limit sum f h = rw (le-ltb _ _ h) refl
 
 front_more : (front : List Field) (f : Field) (read : Result (List Field) StatelessFault)
@@ -147,7 +147,7 @@ length_first bytes b cs e = let l = ap length e in omega (arith, l)
 -- what the whole is, by the line at the front
 by_line : (k limit sum : ℕ) (rest : List ℕ) (b : ℕ) (front : List Field) (whole : Result (List Field) StatelessFault)
     → length rest ≤ k → with_front front (stateless_at k limit sum rest) ≡ whole → Some b ≡ slice_get rest 0
-    → with_front front (field_at b (drop 1 rest) >>= behind (k - 1) limit sum) ≡ whole
+    → with_front front (stateless_field_at b (drop 1 rest) >>= behind (k - 1) limit sum) ≡ whole
 by_line k limit sum rest b front whole fits is at =
     let first = first_is rest b at in
     let len = length_first rest b (drop 1 rest) first in
@@ -159,17 +159,17 @@ by_line k limit sum rest b front whole fits is at =
 pub turn_bad : (k limit sum : ℕ) (rest : List ℕ) (b : ℕ) (front : List Field)
     (whole : Result (List Field) StatelessFault) (e : DecoderError)
     → length rest ≤ k → with_front front (stateless_at k limit sum rest) ≡ whole → Some b ≡ slice_get rest 0
-    → FailsAlone e (field_at b (drop 1 rest)) → FailsAlone e whole
+    → FailsStateless e (stateless_field_at b (drop 1 rest)) → FailsStateless e whole
 turn_bad k limit sum rest b front whole e fits is at bad =
     let line = by_line k limit sum rest b front whole fits is at in
-    fails_on e (field_at b (drop 1 rest)) whole bad
+    fails_on e (stateless_field_at b (drop 1 rest)) whole bad
     (λ x r. sym line ∙ ap (λ q. with_front front (q >>= behind (k - 1) limit sum)) r)
 
 pub turn_long : (k limit sum : ℕ) (rest : List ℕ) (b : ℕ) (front : List Field)
     (whole : Result (List Field) StatelessFault) (f : Field) (more : List ℕ)
     → length rest ≤ k → with_front front (stateless_at k limit sum rest) ≡ whole → Some b ≡ slice_get rest 0
-    → field_at b (drop 1 rest) ≡ Ok (f, more) → limit < held_size (sum + field_size f)
-    → whole ≡ Err (TooLong (held_size (sum + field_size f)))
+    → stateless_field_at b (drop 1 rest) ≡ Ok (f, more) → limit < saturated_size (sum + field_size f)
+    → whole ≡ Err (TooLong (saturated_size (sum + field_size f)))
 turn_long k limit sum rest b front whole f more fits is at read long =
     let line = by_line k limit sum rest b front whole fits is at in
     sym line ∙ ap (λ q. with_front front (q >>= behind (k - 1) limit sum)) read
@@ -186,7 +186,7 @@ pub record Goes (limit sum : ℕ) (rest : List ℕ) (front : List Field) (whole 
 pub turn_good : (k limit sum : ℕ) (rest : List ℕ) (b : ℕ) (front : List Field)
     (whole : Result (List Field) StatelessFault) (f : Field) (more : List ℕ)
     → length rest ≤ k → with_front front (stateless_at k limit sum rest) ≡ whole → Some b ≡ slice_get rest 0
-    → field_at b (drop 1 rest) ≡ Ok (f, more) → held_size (sum + field_size f) ≤ limit
+    → stateless_field_at b (drop 1 rest) ≡ Ok (f, more) → saturated_size (sum + field_size f) ≤ limit
     → Goes limit sum rest front whole f more
 turn_good k limit sum rest b front whole f more fits is at read low =
     let line = by_line k limit sum rest b front whole fits is at in
@@ -208,8 +208,8 @@ turn_good k limit sum rest b front whole f more fits is at read low =
 -- ---- sizes and fields, one by one
 
 -- the sum held so far, with one size more
-pub told_is : (sum size told held now : ℕ) → held ≡ held_size sum → told ≡ min size (2 ^ 64 - 1)
-    → now ≡ min (held + told) (2 ^ 64 - 1) → now ≡ held_size (sum + size)
+pub told_is : (sum size told held now : ℕ) → held ≡ saturated_size sum → told ≡ min size (2 ^ 64 - 1)
+    → now ≡ min (held + told) (2 ^ 64 - 1) → now ≡ saturated_size (sum + size)
 told_is sum size told held now h t n = rw (n, h, t) (omega arith)
 
 pub total_more : (fs : List Field) (f : Field) → total_size (fs ++ f ∷ []) ≡ total_size fs + field_size f

@@ -8,8 +8,8 @@ use Rattle.qpack_spec.specs.Field.{Field}
 use Rattle.qpack_spec.specs.Line.{Line, Literal, written_line, written_lines}
 use Rattle.qpack_spec.specs.Prefix.{written_prefix, prefix_for}
 use Rattle.qpack_spec.specs.BlockReading.{written_block}
-use Rattle.qpack_spec.specs.StaticTable.{static_place, static_name_place, IsLeastStatic, NoStatic}
-use Rattle.qpack_spec.specs.Stateless.{literal_alone, line_alone, stateless_line, stateless_block}
+use Rattle.qpack_spec.specs.StaticTable.{static_index, static_name_index, IsLeastStatic, NoStatic}
+use Rattle.qpack_spec.specs.Stateless.{stateless_literal, stateless_line_of, stateless_line, stateless_block}
 use Rattle.qpack_spec.proofs.StaticPlaces.{name_place_is_least}
 use Rattle.qpack_spec.proofs.Places.{static_found}
 use Rattle.qpack_base.specs.declared.field.HeaderField.{HeaderField}
@@ -71,18 +71,18 @@ behind_more (g ∷ fs) f = ap (λ (xs : List Field). field_of g.now ∷ xs) (beh
 
 -- ---- the line of a field
 
-none_named : (name : List ℕ) → static_name_place name ≡ None → NoStatic (λ g. g.name ≡ name)
+none_named : (name : List ℕ) → static_name_index name ≡ None → NoStatic (λ g. g.name ≡ name)
 none_named name e = subst (λ (o : Option ℕ). MatchOption o (NoStatic (λ g. g.name ≡ name))
     (IsLeastStatic (λ g. g.name ≡ name))) e (name_place_is_least name)
 
 -- where no static field has the name, none is the field
-no_name_no_field : (f : Field) → static_name_place f.name ≡ None → static_place f ≡ None
-no_name_no_field f e = go (static_place f) refl
+no_name_no_field : (f : Field) → static_name_index f.name ≡ None → static_index f ≡ None
+no_name_no_field f e = go (static_index f) refl
   where
-    go : (o : Option ℕ) → static_place f ≡ o → static_place f ≡ None
+    go : (o : Option ℕ) → static_index f ≡ o → static_index f ≡ None
     go None p = p
     go (Some i) p = absurd (none_named f.name e i f (static_found f i p) refl)
 
 -- the line where no static field has the name
-pub line_in_full : (f : Field) → None ≡ static_name_place f.name → stateless_line f ≡ Literal f.name f.value
-line_in_full f e = ap (line_alone f) (no_name_no_field f (sym e)) ∙ ap (literal_alone f) (sym e)
+pub line_in_full : (f : Field) → None ≡ static_name_index f.name → stateless_line f ≡ Literal f.name f.value
+line_in_full f e = ap (stateless_line_of f) (no_name_no_field f (sym e)) ∙ ap (stateless_literal f) (sym e)

@@ -8,15 +8,15 @@ use Rattle.qpack_wire.specs.Memory.{Asks}
 
 -- the bytes are a prefix
 abbrev pub HoldsPrefix : List ℕ → Type 0
-HoldsPrefix text = (p : Prefix) × SpellsPrefix text p
+HoldsPrefix encoding = (p : Prefix) × SpellsPrefix encoding p
 
 -- the bytes are a line
 abbrev pub HoldsLine : List ℕ → Type 0
-HoldsLine text = (l : Line) × SpellsLine text l
+HoldsLine encoding = (l : Line) × SpellsLine encoding l
 
 -- the bytes are a line, or the front of one to the end of a string whose payload is not empty
 abbrev pub AsksLine : List ℕ → Type 0
-AsksLine text = HoldsLine text ⊎ Asks Line line_form text
+AsksLine encoding = HoldsLine encoding ⊎ Asks Line line_form encoding
 
 -- memory may be asked for: such bytes stand behind a prefix
 abbrev pub AsksSectionForMemory : List ℕ → Type 0

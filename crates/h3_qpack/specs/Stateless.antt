@@ -7,14 +7,14 @@ use Rattle.qpack_spec.specs.Text.{EndsEarly, LengthOverflows, BadHuffman}
 use Rattle.qpack_spec.specs.Form.{BadInteger, BadString, form_at}
 use Rattle.qpack_spec.specs.Line.{line_form}
 use Rattle.qpack_spec.specs.Reading.{BadForm, NotStatic}
-use Rattle.qpack_spec.specs.Stateless.{StatelessFault, BadSection, NamesEntry, TooLong, held_size, field_alone}
+use Rattle.qpack_spec.specs.Stateless.{StatelessFault, BadSection, NamesEntry, TooLong, saturated_size, stateless_field}
 use Rattle.qpack_spec.specs.Stateless.{or_bad_bytes}
-use Rattle.qpack_spec.specs.StatelessMeaning.{MeansAlone, StopsAlone}
+use Rattle.qpack_spec.specs.StatelessMeaning.{MeansStateless, StopsStateless}
 use Rattle.qpack_base.specs.declared.field.HeaderField.{HeaderField}
 use Rattle.qpack_base.specs.HeaderFields.{field_of}
 use Rattle.qpack_base.specs.Integers.{integer_fault_of}
 use Rattle.qpack_base.specs.Payloads.{huffman_fault_of}
-use Rattle.qpack_base.specs.Cursor.{Reading}
+use Rattle.qpack_base.specs.Cursor.{CursorView}
 use Rattle.qpack_base.specs.declared.prefix_int.Error.TheVariants as integer
 use Rattle.qpack_base.specs.declared.prefix_string.Error.TheVariants as string
 use Rattle.qpack_wire.specs.Answers.{ReadAs}
@@ -40,26 +40,26 @@ fault_of (InvalidStaticIndex index) = Some (BadSection (NotStatic index))
 fault_of e = None
 
 -- the error tells the fault that was read, or want of memory
-abbrev pub FailsAlone : {A : Type 0} → DecoderError → Result A StatelessFault → Type 0
-FailsAlone Memory read = Unit {0}
-FailsAlone e read = ReadAs read (fault_of e)
+abbrev pub FailsStateless : {A : Type 0} → DecoderError → Result A StatelessFault → Type 0
+FailsStateless Memory read = Unit {0}
+FailsStateless e read = ReadAs read (fault_of e)
 
 -- the fields that were read and their size, nothing being required; or why there are none
 abbrev pub Decodes : Result Decoded DecoderError → Result (List Field) StatelessFault → Type 0
 Decodes (Ok d) read =
-    (read ≡ Ok (fields_in d.fields.items)) × (d.mem_size ≡ held_size (total_size (fields_in d.fields.items)))
+    (read ≡ Ok (fields_in d.fields.items)) × (d.mem_size ≡ saturated_size (total_size (fields_in d.fields.items)))
     × (d.dyn_ref ≡ false)
-Decodes (Err e) read = FailsAlone e read
+Decodes (Err e) read = FailsStateless e read
 
 -- nothing is left, of a list as long as before
-abbrev pub IsFinished : Reading → Reading → Type 0
+abbrev pub IsFinished : CursorView → CursorView → Type 0
 IsFinished old new = (new.rest ≡ []) × (new.total ≡ old.total)
 
 -- ---- the same by cases
 
 -- the error tells this fault, or want of memory
 abbrev pub Tells : DecoderError → StatelessFault → Type 0
-Tells e fault = FailsAlone {A = List Field} e (Err fault)
+Tells e fault = FailsStateless {A = List Field} e (Err fault)
 
 -- the answer is these fields, or memory was refused
 abbrev pub GivesFields : Result Decoded DecoderError → List Field → Type 0
@@ -74,28 +74,28 @@ GivesFault (Err e) fault = Tells e fault
 -- the answer's fields are what the bytes mean, with their size, and nothing is required
 abbrev pub FindsFields : ℕ → List ℕ → Decoded → Type 0
 FindsFields limit bytes d =
-    MeansAlone limit bytes (fields_in d.fields.items) × (d.mem_size ≡ held_size (total_size (fields_in d.fields.items)))
+    MeansStateless limit bytes (fields_in d.fields.items) × (d.mem_size ≡ saturated_size (total_size (fields_in d.fields.items)))
     × (d.dyn_ref ≡ false)
 
 -- the error tells why the bytes mean nothing, or memory was refused
 abbrev pub FindsFault : ℕ → List ℕ → DecoderError → Type 0
-FindsFault limit bytes e = (e ≢ Memory) → (fault : StatelessFault) × Tells e fault × StopsAlone limit bytes fault
+FindsFault limit bytes e = (e ≢ Memory) → (fault : StatelessFault) × Tells e fault × StopsStateless limit bytes fault
 
 -- ---- a line alone
 
 -- the field of the line at the front, and the bytes behind it; a post-base line is told by its first byte
-abbrev pub field_at : ℕ → List ℕ → Result (Field × List ℕ) StatelessFault
-field_at b bytes =
+abbrev pub stateless_field_at : ℕ → List ℕ → Result (Field × List ℕ) StatelessFault
+stateless_field_at b bytes =
     if nat_lt b 32 then Err NamesEntry
-    else (or_bad_bytes (form_at line_form (b ∷ bytes)) >>= λ r. field_alone r.0 >>= λ f. Ok (f, r.1))
+    else (or_bad_bytes (form_at line_form (b ∷ bytes)) >>= λ r. stateless_field r.0 >>= λ f. Ok (f, r.1))
 
 -- a line that was read, and where the cursor stands
-abbrev pub ReadsFieldAlone : Reading → Reading → Result HeaderField DecoderError
+abbrev pub ReadsStatelessField : CursorView → CursorView → Result HeaderField DecoderError
     → Result (Field × List ℕ) StatelessFault → Type 0
-ReadsFieldAlone old new (Ok f) read = (read ≡ Ok (field_of f, new.rest)) × (new.total ≡ old.total)
-ReadsFieldAlone old new (Err e) read = FailsAlone e read
+ReadsStatelessField old new (Ok f) read = (read ≡ Ok (field_of f, new.rest)) × (new.total ≡ old.total)
+ReadsStatelessField old new (Err e) read = FailsStateless e read
 
 -- the field that a line means
-abbrev pub GivesFieldAlone : Result HeaderField DecoderError → Result Field StatelessFault → Type 0
-GivesFieldAlone (Ok f) read = read ≡ Ok (field_of f)
-GivesFieldAlone (Err e) read = FailsAlone e read
+abbrev pub GivesStatelessField : Result HeaderField DecoderError → Result Field StatelessFault → Type 0
+GivesStatelessField (Ok f) read = read ≡ Ok (field_of f)
+GivesStatelessField (Err e) read = FailsStateless e read

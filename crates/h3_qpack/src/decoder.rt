@@ -3,14 +3,14 @@
 ghost use Rattle.std.specs.Prelude.{◌≡◌, ◌∷◌, List, Err, IfOk, IfErr, OnOk, length, drop};
 ghost use Rattle.qpack_spec.specs.Bytes.{Begins};
 ghost use Rattle.qpack_spec.specs.Field.{Field};
-ghost use Rattle.qpack_spec.specs.Stateless.{StatelessFault, field_alone, stateless_at, stateless_reading};
-ghost use Rattle.qpack_spec.specs.StatelessMeaning.{MeansAlone, StopsAlone};
+ghost use Rattle.qpack_spec.specs.Stateless.{StatelessFault, stateless_field, stateless_at, stateless_reading};
+ghost use Rattle.qpack_spec.specs.StatelessMeaning.{MeansStateless, StopsStateless};
 ghost use Rattle.qpack_wire.specs.BlockLines.{line_of};
 ghost use Rattle.h3_qpack.specs.Errors.{decoder_error_of_parse, decoder_error_of_static, decoder_error_of_table};
 ghost use Rattle.h3_qpack.specs.Errors.{decoder_error_of_integer, decoder_error_of_string};
 ghost use Rattle.h3_qpack.specs.Memory.{AsksLine, AsksSectionForMemory};
 ghost use Rattle.h3_qpack.specs.Stateless.{IsFinished, Decodes, GivesFields, GivesFault, FindsFields, FindsFault};
-ghost use Rattle.h3_qpack.specs.Stateless.{ReadsFieldAlone, GivesFieldAlone, field_at};
+ghost use Rattle.h3_qpack.specs.Stateless.{ReadsStatelessField, GivesStatelessField, stateless_field_at};
 ghost use Rattle.h3_qpack.specs.declared.decoder.DecoderError.TheVariants.{InvalidIndex, Memory};
 
 use qpack_base::coding::{Cursor, NoMemory};
@@ -179,11 +179,11 @@ pub fn decode_stateless(
     // What is answered is what the bytes mean, within the limit.
     ensures found { IfOk result (FindsFields max_size buf.old.rest) }
     // What they mean is answered, unless memory is refused.
-    ensures only { (fields : List Field) → MeansAlone max_size buf.old.rest fields → GivesFields result fields }
+    ensures only { (fields : List Field) → MeansStateless max_size buf.old.rest fields → GivesFields result fields }
     // A refusal tells why they mean nothing: the first fault in reading order.
     ensures refused { IfErr result (FindsFault max_size buf.old.rest) }
     // And why they mean nothing is told, unless memory is refused.
-    ensures told { (fault : StatelessFault) → StopsAlone max_size buf.old.rest fault → GivesFault result fault }
+    ensures told { (fault : StatelessFault) → StopsStateless max_size buf.old.rest fault → GivesFault result fault }
     // A block that is read is read to its end.
     ensures finished { OnOk result (IsFinished buf.old buf.new) }
     // Memory is refused only behind a prefix, and there only behind a line or a string whose payload is not empty.
@@ -231,7 +231,7 @@ fn read_lines(alloc: Global, buf: &mut Cursor, max_size: u64) -> Result<Decoded,
 /// refused by this byte alone.
 fn read_field(alloc: Global, first: u8, buf: &mut Cursor) -> Result<HeaderField, DecoderError>
     requires { buf.old.rest ≡ first ∷ drop 1 buf.old.rest }
-    ensures exact { ReadsFieldAlone buf.old buf.new result (field_at first (drop 1 buf.old.rest)) }
+    ensures exact { ReadsStatelessField buf.old buf.new result (stateless_field_at first (drop 1 buf.old.rest)) }
     ensures memory { result ≡ Err Memory → Begins AsksLine buf.old.rest }
 {
     match HeaderBlockField::decode(first) {
@@ -245,7 +245,7 @@ fn read_field(alloc: Global, first: u8, buf: &mut Cursor) -> Result<HeaderField,
 /// The field that a line means without a dynamic table.
 #[tactic(auto, unfolding(qpack_spec::specs::Reading::static_field))]
 fn field_of_line(line: BlockLine) -> Result<HeaderField, DecoderError>
-    ensures { GivesFieldAlone result (field_alone (line_of line)) }
+    ensures { GivesStatelessField result (stateless_field (line_of line)) }
 {
     match line {
         BlockLine::Indexed(Indexed::Static(index)) => Ok(StaticTable::get(index)?),

@@ -5,7 +5,7 @@ ghost use Rattle.std.specs.Iterator.{IsFinite};
 ghost use Rattle.qpack_spec.specs.Field.{total_size};
 ghost use Rattle.qpack_spec.specs.Line.{written_line};
 ghost use Rattle.qpack_spec.specs.BlockReading.{written_block};
-ghost use Rattle.qpack_spec.specs.Stateless.{stateless_line, stateless_block, held_size};
+ghost use Rattle.qpack_spec.specs.Stateless.{stateless_line, stateless_block, saturated_size};
 ghost use Rattle.qpack_base.specs.HeaderFields.{field_of, DrainsFields};
 ghost use Rattle.qpack_base.specs.declared.prefix_string.Error.TheVariants.{Memory as NoRoom};
 ghost use Rattle.qpack_wire.specs.Writes.{Writes};
@@ -107,7 +107,7 @@ pub fn encode_stateless<'a, A: Allocator, T: Iterator<Item = &'a HeaderField> + 
     requires ends { IsFinite (T.remaining fields) }
     ensures ok { IfOk result (λ size. DrainsFields T.next_gives fields (λ fs.
         (block.new.items ≡ block.old.items ++ written_block (stateless_block fs))
-        × (size ≡ held_size (total_size fs)))) }
+        × (size ≡ saturated_size (total_size fs)))) }
     ensures err { OnErr result (block.new.items ≡ block.old.items) }
     ensures memory { IfErr result (λ e. e ≡ Memory) }
     ensures capacity { vec_capacity block.old ≤ vec_capacity block.new }
@@ -129,7 +129,7 @@ fn append_block<'a, A: Allocator, T: Iterator<Item = &'a HeaderField> + Drop>(
     requires ends { IsFinite (T.remaining fields) }
     ensures ok { IfOk result (λ size. DrainsFields T.next_gives fields (λ fs.
         (block.new.items ≡ block.old.items ++ written_block (stateless_block fs))
-        × (size ≡ held_size (total_size fs)))) }
+        × (size ≡ saturated_size (total_size fs)))) }
     ensures err { OnErr result (take (vec_len block.old) block.new.items ≡ block.old.items) }
     ensures memory { IfErr result (λ e. e ≡ Memory) }
     ensures capacity { vec_capacity block.old ≤ vec_capacity block.new }

@@ -29,15 +29,15 @@ bytes_join [] b p q = q
 bytes_join (x ∷ a) b p q = (p.0, bytes_join a b p.1 q)
 
 -- the number grows by bits behind it
-pub added_word : (whole : List ℕ) (left number n word : ℕ) (old new : List ℕ) → HasAdded whole left number old new
-    → word < 2 ^ n → HasAdded (whole ++ bits_of n word) (left + n) (number * 2 ^ n + word) old new
-added_word whole left number n word old new a h = record {
+pub added_code : (whole : List ℕ) (left number n code : ℕ) (old new : List ℕ) → HasAdded whole left number old new
+    → code < 2 ^ n → HasAdded (whole ++ bits_of n code) (left + n) (number * 2 ^ n + code) old new
+added_code whole left number n code old new a h = record {
   bytes = a.bytes;
   are = a.are;
   items = a.items;
-  bits = ap (λ (l : List ℕ). bits_of_bytes a.bytes ++ l) (bits_push left n number word h)
-      ∙ sym (append_assoc (bits_of_bytes a.bytes) (bits_of left number) (bits_of n word))
-      ∙ ap (λ (l : List ℕ). l ++ bits_of n word) a.bits;
+  bits = ap (λ (l : List ℕ). bits_of_bytes a.bytes ++ l) (bits_push left n number code h)
+      ∙ sym (append_assoc (bits_of_bytes a.bytes) (bits_of left number) (bits_of n code))
+      ∙ ap (λ (l : List ℕ). l ++ bits_of n code) a.bits;
 }
 
 -- its highest bits are appended

@@ -2,7 +2,7 @@
 use Rattle.std.proofs.Common.{◌≡◌, ℕ, List, Option, Some, None}
 use Rattle.std.specs.Prelude.{IfSome, IfNone, MatchOption}
 use Rattle.qpack_spec.specs.Field.{Field}
-use Rattle.qpack_spec.specs.StaticTable.{static_place, static_name_place, IsLeastStatic, NoStatic}
+use Rattle.qpack_spec.specs.StaticTable.{static_index, static_name_index, IsLeastStatic, NoStatic}
 use Rattle.qpack_spec.proofs.StaticPlaces.{place_is_least, name_place_is_least}
 
 some_part : (r : Option ℕ) (No : Type 0) (Yes : ℕ → Type 0) → MatchOption r No Yes → IfSome r Yes
@@ -13,22 +13,22 @@ none_part : (r : Option ℕ) (No : Type 0) (Yes : ℕ → Type 0) → MatchOptio
 none_part None No Yes h = h
 none_part (Some i) No Yes h = tt
 
-pub field_found : (f : Field) (r : Option ℕ) → r ≡ static_place f → IfSome r (IsLeastStatic (λ g. g ≡ f))
+pub field_found : (f : Field) (r : Option ℕ) → r ≡ static_index f → IfSome r (IsLeastStatic (λ g. g ≡ f))
 field_found f r e =
-    rw e (some_part (static_place f) (NoStatic (λ g. g ≡ f)) (IsLeastStatic (λ g. g ≡ f)) (place_is_least f))
+    rw e (some_part (static_index f) (NoStatic (λ g. g ≡ f)) (IsLeastStatic (λ g. g ≡ f)) (place_is_least f))
 
-pub field_missing : (f : Field) (r : Option ℕ) → r ≡ static_place f → IfNone r (NoStatic (λ g. g ≡ f))
+pub field_missing : (f : Field) (r : Option ℕ) → r ≡ static_index f → IfNone r (NoStatic (λ g. g ≡ f))
 field_missing f r e =
-    rw e (none_part (static_place f) (NoStatic (λ g. g ≡ f)) (IsLeastStatic (λ g. g ≡ f)) (place_is_least f))
+    rw e (none_part (static_index f) (NoStatic (λ g. g ≡ f)) (IsLeastStatic (λ g. g ≡ f)) (place_is_least f))
 
-pub name_found : (name : List ℕ) (r : Option ℕ) → r ≡ static_name_place name
+pub name_found : (name : List ℕ) (r : Option ℕ) → r ≡ static_name_index name
     → IfSome r (IsLeastStatic (λ g. g.name ≡ name))
 name_found name r e =
-    rw e (some_part (static_name_place name) (NoStatic (λ g. g.name ≡ name)) (IsLeastStatic (λ g. g.name ≡ name))
+    rw e (some_part (static_name_index name) (NoStatic (λ g. g.name ≡ name)) (IsLeastStatic (λ g. g.name ≡ name))
     (name_place_is_least name))
 
-pub name_missing : (name : List ℕ) (r : Option ℕ) → r ≡ static_name_place name
+pub name_missing : (name : List ℕ) (r : Option ℕ) → r ≡ static_name_index name
     → IfNone r (NoStatic (λ g. g.name ≡ name))
 name_missing name r e =
-    rw e (none_part (static_name_place name) (NoStatic (λ g. g.name ≡ name)) (IsLeastStatic (λ g. g.name ≡ name))
+    rw e (none_part (static_name_index name) (NoStatic (λ g. g.name ≡ name)) (IsLeastStatic (λ g. g.name ≡ name))
     (name_place_is_least name))

@@ -1,20 +1,20 @@
--- What comes next of the bits that are left: a word's byte, a fault, or the end.
+-- What comes next of the bits that are left: a code's byte, a fault, or the end.
 use Rattle.std.proofs.Common.{◌≡◌, ℕ, ◌+◌, ◌-◌, ◌/◌, ◌^◌, ◌<◌, ◌≤◌, Bool, true, false, cond, List, [], ◌∷◌, ◌++◌}
 use Rattle.std.proofs.Common.{length, Option, Some, None, Result, Ok, Err, refl, sym, ap, subst, ◌∙◌, arith}
 use Rattle.std.proofs.Common.{append_assoc, inl, inr, ◌⊎◌}
 use Rattle.std.proofs.lemmas.Nat.{shr-shr}
 use Rattle.std.specs.Iterator.{MakesProgress, at_most}
 use Rattle.std.proofs.lemmas.List.{length-append}
-use Rattle.qpack_spec.specs.Huffman.{HuffmanFault, bits_of, bits_of_bytes, ones, word_of, bytes_by_length, word_at}
+use Rattle.qpack_spec.specs.Huffman.{HuffmanFault, bits_of, bits_of_bytes, ones, code_of, bytes_by_length, code_at}
 use Rattle.qpack_spec.specs.Huffman.{is_padding, item_at}
 use Rattle.qpack_spec.specs.Huffman as huffman
 use Rattle.qpack_spec.proofs.Bits.{bits_append, bits_cut, bits_length, ones_length}
-use Rattle.qpack_spec.proofs.Words.{word_again, word_shorter}
-use Rattle.qpack_spec.proofs.Payloads.{word_no_end, end_is}
+use Rattle.qpack_spec.proofs.Codes.{code_again, code_shorter}
+use Rattle.qpack_spec.proofs.Payloads.{code_no_end, end_is}
 use Rattle.qpack_base.specs.declared.prefix_string.decoding.Bits.{Bits}
 use Rattle.qpack_base.specs.declared.prefix_string.decoding.HuffmanDecodingError.{HuffmanDecodingError}
-use Rattle.qpack_base.specs.HuffmanTables.{BeginsWithWord}
-use Rattle.qpack_base.specs.Payloads.{huffman_fault_of, item_of, bits_left, IsFull, KeepsRest, ReadsWord, GivesItem}
+use Rattle.qpack_base.specs.HuffmanTables.{BeginsWithCode}
+use Rattle.qpack_base.specs.Payloads.{huffman_fault_of, item_of, bits_left, IsFull, KeepsRest, ReadsCode, GivesItem}
 
 -- what is left after so many bits
 pub kept : (n : ℕ) (old new : Bits) → KeepsRest n old new
@@ -25,7 +25,7 @@ kept n old new k =
     ∙ ap (λ (l : List ℕ). l ++ bits_of_bytes new.rest.now) (bits_cut (old.count - n) old.loaded)
     ∙ ap (λ (l : List ℕ). bits_of (old.count - n) old.loaded ++ bits_of_bytes l) k.rest
 
--- enough bits for every word, or none behind those that are loaded
+-- enough bits for every code, or none behind those that are loaded
 pub enough : (b : Bits) → IsFull b → (30 ≤ b.count) ⊎ (bits_of_bytes b.rest.now ≡ [])
 enough b (inl h) = inl (omega (arith, h))
 enough b (inr e) = inr (ap bits_of_bytes e)
@@ -37,21 +37,21 @@ unfolding item_at
 item_end old new h e = record { is = rw h refl; left = rw h e }
 
 pub item_fault : (old new : List ℕ) (e : HuffmanDecodingError) → is_padding 8 old ≡ false
-    → word_at bytes_by_length 0 0 old ≡ Err (huffman_fault_of e) → new ≡ [] → GivesItem old (Some (Err e)) new
+    → code_at bytes_by_length 0 0 old ≡ Err (huffman_fault_of e) → new ≡ [] → GivesItem old (Some (Err e)) new
 unfolding item_at
 item_fault old new e p w n = record { is = rw (p, w) refl; left = rw (p, w) n }
 
-item_read : (old new : List ℕ) (b : ℕ) → is_padding 8 old ≡ false → word_at bytes_by_length 0 0 old ≡ Ok (b, new)
+item_read : (old new : List ℕ) (b : ℕ) → is_padding 8 old ≡ false → code_at bytes_by_length 0 0 old ≡ Ok (b, new)
     → GivesItem old (Some (Ok b)) new
 unfolding item_at
 item_read old new b p w = record { is = rw (p, w) refl; left = rw (p, w) refl }
 
-item_byte : (old new : List ℕ) (b : ℕ) → word_at bytes_by_length 0 0 old ≡ Ok (b, new) → GivesItem old (Some (Ok b)) new
-item_byte old new b w = item_read old new b (word_no_end old b new w) w
+item_byte : (old new : List ℕ) (b : ℕ) → code_at bytes_by_length 0 0 old ≡ Ok (b, new) → GivesItem old (Some (Ok b)) new
+item_byte old new b w = item_read old new b (code_no_end old b new w) w
 
--- a word in front gives its byte
-pub item_word : (old new : List ℕ) (b : ℕ) → b < 256 → old ≡ word_of b ++ new → GivesItem old (Some (Ok b)) new
-item_word old new b h e = item_byte old new b (ap (word_at bytes_by_length 0 0) e ∙ word_again b new h)
+-- a code in front gives its byte
+pub item_code : (old new : List ℕ) (b : ℕ) → b < 256 → old ≡ code_of b ++ new → GivesItem old (Some (Ok b)) new
+item_code old new b h e = item_byte old new b (ap (code_at bytes_by_length 0 0) e ∙ code_again b new h)
 
 -- ---- where eight bits or more are left
 
@@ -71,14 +71,14 @@ long_no_end count loaded more h = go (is_padding 8 (bits_of count loaded ++ more
         ))
     go false e = refl
 
--- the loaded bits begin with a word that is their highest n
+-- the loaded bits begin with a code that is their highest n
 pub begins_with : (count loaded n b : ℕ) (more : List ℕ) → n ≤ count
-    → word_of b ≡ bits_of n (loaded / 2 ^ (count - n))
-    → bits_of count loaded ++ more ≡ word_of b ++ (bits_of (count - n) loaded ++ more)
+    → code_of b ≡ bits_of n (loaded / 2 ^ (count - n))
+    → bits_of count loaded ++ more ≡ code_of b ++ (bits_of (count - n) loaded ++ more)
 begins_with count loaded n b more le w =
     ap (λ (l : List ℕ). l ++ more) (bits_append n (count - n) count loaded (omega arith)
     ∙ ap (λ (l : List ℕ). l ++ bits_of (count - n) loaded) (sym w))
-    ∙ append_assoc (word_of b) (bits_of (count - n) loaded) more
+    ∙ append_assoc (code_of b) (bits_of (count - n) loaded) more
 
 -- the highest n of the highest eight bits are the highest n
 highest : (count loaded n : ℕ) → n ≤ 8 → 8 ≤ count → loaded / 2 ^ (count - 8) / 2 ^ (8 - n) ≡ loaded / 2 ^ (count - n)
@@ -87,23 +87,23 @@ highest count loaded n le eight =
     shr-shr loaded (count - 8) (8 - n) ∙ ap (λ (k : ℕ). loaded / 2 ^ k) e
 
 short_item : (old new : Bits) (entry : ℕ × ℕ) → 8 ≤ old.count
-    → BeginsWithWord (old.loaded / 2 ^ (old.count - 8)) entry → KeepsRest entry.1 old new
+    → BeginsWithCode (old.loaded / 2 ^ (old.count - 8)) entry → KeepsRest entry.1 old new
     → GivesItem (bits_left old) (Some (Ok entry.0)) (bits_left new)
 short_item old new entry eight w k =
     let is = w.is ∙ ap (bits_of entry.1) (highest old.count old.loaded entry.1 w.most eight) in
     let le : entry.1 ≤ old.count = omega (arith, w.most) in
-    item_word (bits_left old) (bits_left new) entry.0 w.byte
+    item_code (bits_left old) (bits_left new) entry.0 w.byte
     (begins_with old.count old.loaded entry.1 entry.0 (bits_of_bytes old.rest.now) le is
-    ∙ ap (λ (l : List ℕ). word_of entry.0 ++ l) (sym (kept entry.1 old new k)))
+    ∙ ap (λ (l : List ℕ). code_of entry.0 ++ l) (sym (kept entry.1 old new k)))
 
 pub short_item_of : (old new : Bits) (entry : ℕ × ℕ) (n : ℕ) → 8 ≤ old.count
-    → BeginsWithWord (old.loaded / 2 ^ (old.count - 8)) entry → n ≡ entry.1 → KeepsRest n old new
+    → BeginsWithCode (old.loaded / 2 ^ (old.count - 8)) entry → n ≡ entry.1 → KeepsRest n old new
     → GivesItem (bits_left old) (Some (Ok entry.0)) (bits_left new)
 short_item_of old new entry n eight w e k = short_item old new entry eight w
     (subst (λ (m : ℕ). KeepsRest m old new) e k)
 
 pub long_item : (old new : Bits) (r : Result ℕ HuffmanDecodingError) → 8 ≤ old.count
-    → ReadsWord (bits_left old) (bits_left new) r (word_at bytes_by_length 0 0 (bits_left old))
+    → ReadsCode (bits_left old) (bits_left new) r (code_at bytes_by_length 0 0 (bits_left old))
     → GivesItem (bits_left old) (Some r) (bits_left new)
 long_item old new (Ok b) eight w = item_byte (bits_left old) (bits_left new) b w
 long_item old new (Err e) eight w = item_fault (bits_left old) (bits_left new) e
@@ -117,8 +117,8 @@ some_bits [] h = absurd cc
 some_bits (b ∷ bits) h = omega arith
 
 read_shorter : (bits : List ℕ) (r : Result (ℕ × List ℕ) HuffmanFault) → is_padding 8 bits ≡ false
-    → word_at bytes_by_length 0 0 bits ≡ r → length (huffman.item_of r).1 < length bits
-read_shorter bits (Ok x) p e = word_shorter bytes_by_length 0 0 bits x.1 x.0 e
+    → code_at bytes_by_length 0 0 bits ≡ r → length (huffman.item_of r).1 < length bits
+read_shorter bits (Ok x) p e = code_shorter bytes_by_length 0 0 bits x.1 x.0 e
 read_shorter bits (Err f) p e = some_bits bits p
 
 pub item_shorter : (bits : List ℕ) (x : Result ℕ HuffmanFault) → (item_at bits).0 ≡ Some x
@@ -127,10 +127,10 @@ unfolding item_at
 item_shorter bits x e = go (is_padding 8 bits) refl e
   where
     go : (p : Bool) → is_padding 8 bits ≡ p
-        → (cond p (None, []) (huffman.item_of (word_at bytes_by_length 0 0 bits))).0 ≡ Some x
-        → length (cond p (None, []) (huffman.item_of (word_at bytes_by_length 0 0 bits))).1 < length bits
+        → (cond p (None, []) (huffman.item_of (code_at bytes_by_length 0 0 bits))).0 ≡ Some x
+        → length (cond p (None, []) (huffman.item_of (code_at bytes_by_length 0 0 bits))).1 < length bits
     go true h s = absurd cc
-    go false h s = read_shorter bits (word_at bytes_by_length 0 0 bits) h refl
+    go false h s = read_shorter bits (code_at bytes_by_length 0 0 bits) h refl
 
 given_shorter : (old new : List ℕ) (r : Result ℕ HuffmanDecodingError) (x : Result ℕ HuffmanFault)
     → item_of (Some r) ≡ Some x → GivesItem old (Some r) new → length new < length old

@@ -5,18 +5,18 @@ use Rattle.std.specs.Prelude.{nat_lt, slice_index}
 use Rattle.std.proofs.Math.Nat.{mod-eq_of_lt}
 use Rattle.std.proofs.lemmas.Nat.{shr-shr, div-mul-add, pow_pos}
 use Rattle.std.proofs.lemmas.List.{length-append}
-use Rattle.qpack_spec.specs.Huffman.{HuffmanFault, MissingBits, bits_of, bits_of_bytes, ones, word_of}
-use Rattle.qpack_spec.specs.Huffman.{bytes_by_length, word_at, is_padding, number_from}
+use Rattle.qpack_spec.specs.Huffman.{HuffmanFault, MissingBits, bits_of, bits_of_bytes, ones, code_of}
+use Rattle.qpack_spec.specs.Huffman.{bytes_by_length, code_at, is_padding, number_from}
 use Rattle.qpack_spec.proofs.Results.{chosen, ok_pair}
 use Rattle.qpack_spec.proofs.Bits.{bits_append, bits_length, ones_length, ones_number, number_bits}
-use Rattle.qpack_spec.proofs.Words.{word_read}
+use Rattle.qpack_spec.proofs.Codes.{code_read}
 use Rattle.qpack_spec.proofs.Payloads.{ones_end, end_is}
 use Rattle.qpack_base.specs.declared.prefix_string.bitwin.BitWindow.{BitWindow}
 use Rattle.qpack_base.specs.declared.prefix_string.decoding.Bits.{Bits}
 use Rattle.qpack_base.specs.declared.prefix_string.decoding.HuffmanDecodingError.{HuffmanDecodingError}
-use Rattle.qpack_base.specs.HuffmanTables.{BeginsWithWord}
+use Rattle.qpack_base.specs.HuffmanTables.{BeginsWithCode}
 use Rattle.qpack_base.specs.Payloads.{huffman_fault_of, bits_left, KeepsRest, GivesItem}
-use Rattle.qpack_base.proofs.Items.{kept, item_end, item_fault, item_word, begins_with}
+use Rattle.qpack_base.proofs.Items.{kept, item_end, item_fault, item_code, begins_with}
 
 -- eight bits of which the last are ones
 abbrev pub filled : ℕ → ℕ → ℕ
@@ -97,29 +97,29 @@ highest count loaded n le few =
     ap (λ (k : ℕ). filled count loaded / 2 ^ k) e ∙ sym (shr-shr (filled count loaded) (8 - count) (count - n))
     ∙ ap (λ (k : ℕ). k / 2 ^ (count - n)) (div-mul-add loaded (2 ^ (8 - count)) (2 ^ (8 - count) - 1) (omega arith))
 
-pub last_word : (old new : Bits) (entry : ℕ × ℕ) (n : ℕ) → old.count < 8
-    → BeginsWithWord (filled old.count old.loaded) entry → n ≡ entry.1 → n ≤ old.count → KeepsRest n old new
+pub last_code : (old new : Bits) (entry : ℕ × ℕ) (n : ℕ) → old.count < 8
+    → BeginsWithCode (filled old.count old.loaded) entry → n ≡ entry.1 → n ≤ old.count → KeepsRest n old new
     → GivesItem (bits_left old) (Some (Ok entry.0)) (bits_left new)
-last_word old new entry n few w e le k =
+last_code old new entry n few w e le k =
     let n' : n ≡ entry.1 = e in
-    let is : word_of entry.0 ≡ bits_of n (old.loaded / 2 ^ (old.count - n)) =
+    let is : code_of entry.0 ≡ bits_of n (old.loaded / 2 ^ (old.count - n)) =
     w.is ∙ ap (λ (m : ℕ). bits_of m (filled old.count old.loaded / 2 ^ (8 - m))) (sym e)
     ∙ ap (bits_of n) (highest old.count old.loaded n le few) in
-    item_word (bits_left old) (bits_left new) entry.0 w.byte
+    item_code (bits_left old) (bits_left new) entry.0 w.byte
     (begins_with old.count old.loaded n entry.0 (bits_of_bytes old.rest.now) le is
-    ∙ ap (λ (l : List ℕ). word_of entry.0 ++ l) (sym (kept n old new k)))
+    ∙ ap (λ (l : List ℕ). code_of entry.0 ++ l) (sym (kept n old new k)))
 
--- a word that is cut is missing bits
+-- a code that is cut is missing bits
 cut_missing : (rs : List (List ℕ)) (number next b : ℕ) (bits tail : List ℕ)
-    → word_at rs number next (bits ++ tail) ≡ Ok (b, []) → 0 < length tail
-    → word_at rs number next bits ≡ Err MissingBits
-unfolding word_at
+    → code_at rs number next (bits ++ tail) ≡ Ok (b, []) → 0 < length tail
+    → code_at rs number next bits ≡ Err MissingBits
+unfolding code_at
 cut_missing [] number next b bits tail e h = absurd cc
 cut_missing (r ∷ rs) number next b [] tail e h = refl
 cut_missing (r ∷ rs) number next b (bit ∷ bits) tail e h =
     elim (chosen (nat_lt (2 * number + bit) (2 * next + length r))
     (Ok (slice_index r (2 * number + bit - 2 * next), bits ++ tail))
-    (word_at rs (2 * number + bit) (2 * next + length r) (bits ++ tail)) (Ok (b, [])) e) [
+    (code_at rs (2 * number + bit) (2 * next + length r) (bits ++ tail)) (Ok (b, [])) e) [
       | inl t ↦
           let p = ok_pair (slice_index r (2 * number + bit - 2 * next)) b (bits ++ tail) [] t.1 in
           absurd (omega (arith, length-append bits tail, ap length p.1))
@@ -128,7 +128,7 @@ cut_missing (r ∷ rs) number next b (bit ∷ bits) tail e h =
 
 pub last_cut : (old new : Bits) (entry : ℕ × ℕ) (n : ℕ) (window : BitWindow) (error : HuffmanDecodingError)
     → old.count < 8 → old.loaded < 2 ^ old.count → old.rest.now ≡ [] → (filled old.count old.loaded ≡ 255 → ⊥)
-    → BeginsWithWord (filled old.count old.loaded) entry → n ≡ entry.1 → old.count < n
+    → BeginsWithCode (filled old.count old.loaded) entry → n ≡ entry.1 → old.count < n
     → huffman_fault_of error ≡ MissingBits → bits_left new ≡ []
     → GivesItem (bits_left old) (Some (Err error)) (bits_left new)
 last_cut old new entry n window error few fits none not_all w e lt is stop =
@@ -141,11 +141,11 @@ last_cut old new entry n window error few fits none not_all w e lt is stop =
     let head : x / 2 ^ m ≡ loaded =
     shr-shr (filled count loaded) (8 - entry.1) m ∙ ap (λ (j : ℕ). filled count loaded / 2 ^ j) k
     ∙ div-mul-add loaded (2 ^ (8 - count)) (2 ^ (8 - count) - 1) (omega arith) in
-    let parts : word_of entry.0 ≡ bits_of count loaded ++ bits_of m x = w.is
+    let parts : code_of entry.0 ≡ bits_of count loaded ++ bits_of m x = w.is
     ∙ bits_append count m entry.1 x (omega arith) ∙ ap (λ (j : ℕ). bits_of count j ++ bits_of m x) head in
-    let read = ap (word_at bytes_by_length 0 0) (sym parts) ∙ word_read entry.0 w.byte in
+    let read = ap (code_at bytes_by_length 0 0) (sym parts) ∙ code_read entry.0 w.byte in
     let missing = cut_missing bytes_by_length 0 0 entry.0 (bits_of count loaded) (bits_of m x) read
     (omega (arith, bits_length m x)) in
     let alone = bits_alone old none in
     item_fault (bits_left old) (bits_left new) error (ap (is_padding 8) alone ∙ no_end count loaded few fits not_all)
-    (ap (word_at bytes_by_length 0 0) alone ∙ missing ∙ ap (λ (f : HuffmanFault). Err f) (sym is)) stop
+    (ap (code_at bytes_by_length 0 0) alone ∙ missing ∙ ap (λ (f : HuffmanFault). Err f) (sym is)) stop

@@ -20,8 +20,8 @@ load_one count loaded first rest h =
     ∙ append_assoc (bits_of count loaded) (bits_of 8 first) (bits_of_bytes rest)
     ∙ ap (λ (l : List ℕ). bits_of count loaded ++ l) (sym (flat_map-cons (bits_of 8) first rest))
 
-word_times : (loaded word P : ℕ) → loaded < P → word < 4294967296 → loaded * 4294967296 + word < P * 4294967296
-word_times loaded word P h f = omega arith
+code_times : (loaded code P : ℕ) → loaded < P → code < 4294967296 → loaded * 4294967296 + code < P * 4294967296
+code_times loaded code P h f = omega arith
 
 eight_times : (count loaded first P : ℕ) → loaded < P → first < 256 → loaded * 256 + first < P * 256
 eight_times count loaded first P h f = omega arith
@@ -34,14 +34,14 @@ pub one_small : (count loaded first : ℕ) → loaded < 2 ^ count → count < 56
 one_small count loaded first h few f =
     let le : count + 8 ≤ 63 = omega arith in omega (arith, one_fits count loaded first h f, pow_mono le)
 
--- four bytes more, of which the word is made
-pub record IsFour (bytes : List ℕ) (word : ℕ) : Type 0 where
+-- four bytes more, of which the code is made
+pub record IsFour (bytes : List ℕ) (code : ℕ) : Type 0 where
   pub four : length bytes ≡ 4
   pub first : slice_index bytes 0 < 256
   pub second : slice_index bytes 1 < 256
   pub third : slice_index bytes 2 < 256
   pub fourth : slice_index bytes 3 < 256
-  pub is : word ≡ slice_index bytes 0 * 16777216 + slice_index bytes 1 * 65536 + slice_index bytes 2 * 256 +
+  pub is : code ≡ slice_index bytes 0 * 16777216 + slice_index bytes 1 * 65536 + slice_index bytes 2 * 256 +
       slice_index bytes 3
 
 together : (count loaded a b c d : ℕ) (rest : List ℕ) → a < 256 → b < 256 → c < 256 → d < 256
@@ -53,19 +53,19 @@ together count loaded a b c d rest ha hb hc hd =
     ∙ load_one (count + 8) (loaded * 256 + a) b (c ∷ d ∷ rest) hb
     ∙ load_one count loaded a (b ∷ c ∷ d ∷ rest) ha
 
-pub load_four : (count loaded word : ℕ) (bytes rest : List ℕ) → IsFour bytes word
-    → bits_of (count + 32) (loaded * 4294967296 + word) ++ bits_of_bytes rest
+pub load_four : (count loaded code : ℕ) (bytes rest : List ℕ) → IsFour bytes code
+    → bits_of (count + 32) (loaded * 4294967296 + code) ++ bits_of_bytes rest
     ≡ bits_of count loaded ++ bits_of_bytes (bytes ++ rest)
-load_four count loaded word [] rest h = absurd (omega (arith, h.four))
-load_four count loaded word (a ∷ []) rest h = absurd (omega (arith, h.four))
-load_four count loaded word (a ∷ b ∷ []) rest h = absurd (omega (arith, h.four))
-load_four count loaded word (a ∷ b ∷ c ∷ []) rest h = absurd (omega (arith, h.four))
-load_four count loaded word (a ∷ b ∷ c ∷ d ∷ []) rest h =
+load_four count loaded code [] rest h = absurd (omega (arith, h.four))
+load_four count loaded code (a ∷ []) rest h = absurd (omega (arith, h.four))
+load_four count loaded code (a ∷ b ∷ []) rest h = absurd (omega (arith, h.four))
+load_four count loaded code (a ∷ b ∷ c ∷ []) rest h = absurd (omega (arith, h.four))
+load_four count loaded code (a ∷ b ∷ c ∷ d ∷ []) rest h =
     let n : count + 32 ≡ count + 8 + 8 + 8 + 8 = omega arith in
-    let e : loaded * 4294967296 + word ≡ (((loaded * 256 + a) * 256 + b) * 256 + c) * 256 + d = omega (arith, h.is) in
+    let e : loaded * 4294967296 + code ≡ (((loaded * 256 + a) * 256 + b) * 256 + c) * 256 + d = omega (arith, h.is) in
     rw (n, e) (together count loaded a b c d rest h.first h.second h.third h.fourth)
-load_four count loaded word (a ∷ b ∷ c ∷ d ∷ x ∷ bytes) rest h = absurd (omega (arith, h.four))
+load_four count loaded code (a ∷ b ∷ c ∷ d ∷ x ∷ bytes) rest h = absurd (omega (arith, h.four))
 
-pub four_fit : (count loaded word : ℕ) → loaded < 2 ^ count → word < 4294967296
-    → loaded * 4294967296 + word < 2 ^ (count + 32)
-four_fit count loaded word h f = let p = pow-add 2 count 32 in rw p (word_times loaded word (2 ^ count) h f)
+pub four_fit : (count loaded code : ℕ) → loaded < 2 ^ count → code < 4294967296
+    → loaded * 4294967296 + code < 2 ^ (count + 32)
+four_fit count loaded code h f = let p = pow-add 2 count 32 in rw p (code_times loaded code (2 ^ count) h f)

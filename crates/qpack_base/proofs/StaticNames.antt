@@ -12,8 +12,8 @@ use Rattle.std.proofs.lemmas.List.Elements.{All-contains, All-head, All-tail, Al
 use Rattle.std.proofs.lemmas.List.Sums.{AllPass-from_list_all}
 use Rattle.std.proofs.lemmas.Slice.Eq.{bytes_eq-Decides}
 use Rattle.qpack_spec.specs.Field.{Field, has_name, is_field}
-use Rattle.qpack_spec.specs.StaticTable.{static_table, static_place, static_name_place}
-use Rattle.qpack_base.specs.StaticFields.{places_with_name, has_value_at, is_value_of, names_at, name_rows_at}
+use Rattle.qpack_spec.specs.StaticTable.{static_table, static_index, static_name_index}
+use Rattle.qpack_base.specs.StaticFields.{indexes_with_name, has_value_at, is_value_of, names_at, name_rows_at}
 use Rattle.qpack_base.specs.StaticFields.{AreNamesOfLength, AreNamesBetween}
 
 -- a name and its places
@@ -24,7 +24,7 @@ Entry = List ℕ × List ℕ
 
 -- whether the entry has its places
 abbrev entry_test : Entry → Bool
-entry_test e = bytes_eq e.1 (places_with_name e.0)
+entry_test e = bytes_eq e.1 (indexes_with_name e.0)
 
 -- whether the field's name stands in the row of its length, if that is one of the part
 abbrev field_test : ℕ → ℕ → List (List Entry) → Field → Bool
@@ -62,24 +62,24 @@ some_passes : {X : Type 0} (test : X → Bool) (xs : List X) → list_any test x
 some_passes test [] t = absurd cc
 some_passes test (y ∷ ys) t = some_first test y ys (test y) refl t (some_passes test ys)
 
-entries_agree : (row : List Entry) → list_all entry_test row ≡ true → All (λ e. e.1 ≡ places_with_name e.0) row
+entries_agree : (row : List Entry) → list_all entry_test row ≡ true → All (λ e. e.1 ≡ indexes_with_name e.0) row
 entries_agree row t =
-    All-weaker (λ e. entry_test e ≡ true) (λ e. e.1 ≡ places_with_name e.0)
-    (λ e h. (bytes_eq-Decides e.1 (places_with_name e.0)).0 h) row (AllPass-from_list_all entry_test row t)
+    All-weaker (λ e. entry_test e ≡ true) (λ e. e.1 ≡ indexes_with_name e.0)
+    (λ e h. (bytes_eq-Decides e.1 (indexes_with_name e.0)).0 h) row (AllPass-from_list_all entry_test row t)
 
 entry_is : (n m : List ℕ) (p q : List ℕ) → n ≡ m → p ≡ q → (let e : Entry = (n, p) in let f : Entry = (m, q) in e ≡ f)
 entry_is n m p q same_name same_places = cc
 
 -- an entry of the name, where entries have their places
-entry_there : (row : List Entry) (name : List ℕ) → All (λ e. e.1 ≡ places_with_name e.0) row
-    → list_any (λ e. bytes_eq e.0 name) row ≡ true → Contains row (name, places_with_name name)
+entry_there : (row : List Entry) (name : List ℕ) → All (λ e. e.1 ≡ indexes_with_name e.0) row
+    → list_any (λ e. bytes_eq e.0 name) row ≡ true → Contains row (name, indexes_with_name name)
 entry_there row name places t =
     let some = some_passes (λ e. bytes_eq e.0 name) row t in
     let is_name : some.0.0 ≡ name = (bytes_eq-Decides some.0.0 name).0 some.2 in
-    let has_places : some.0.1 ≡ places_with_name some.0.0 =
-    All-contains (λ e. e.1 ≡ places_with_name e.0) row some.0 places some.1 in
-    let is = entry_is some.0.0 name some.0.1 (places_with_name name) is_name (has_places
-    ∙ ap (λ (n : List ℕ). places_with_name n) is_name) in
+    let has_places : some.0.1 ≡ indexes_with_name some.0.0 =
+    All-contains (λ e. e.1 ≡ indexes_with_name e.0) row some.0 places some.1 in
+    let is = entry_is some.0.0 name some.0.1 (indexes_with_name name) is_name (has_places
+    ∙ ap (λ (n : List ℕ). indexes_with_name n) is_name) in
     subst (λ (e : Entry). Contains row e) is some.1
 
 -- what is tested of a field whose length is one of the part
@@ -168,19 +168,19 @@ entry_at e = (e.0.now, e.1.now)
 
 pub places_found : (name : List ℕ) (names : List (Bor (List ℕ) × Bor (List ℕ))) (e : Bor (List ℕ) × Bor (List ℕ))
     → AreNamesOfLength (length name) (names_at names)
-    → Some e ≡ find (λ e. bytes_eq name e.0.now) names → e.1.now ≡ places_with_name name
+    → Some e ≡ find (λ e. bytes_eq name e.0.now) names → e.1.now ≡ indexes_with_name name
 unfolding entry_at
 places_found name names e are h =
     let test = λ (e : Entry). bytes_eq name e.0 in
     let at : find test (names_at names) ≡ Some (entry_at e) = find-map test entry_at names
     ∙ ap (λ (o : Option (Bor (List ℕ) × Bor (List ℕ))). option_map entry_at o) (sym h) in
-    let r = found (λ (e : Entry). e.1 ≡ places_with_name e.0) test (names_at names) (entry_at e) are.places at in
-    r.0 ∙ ap (λ (n : List ℕ). places_with_name n) (sym ((bytes_eq-Decides name e.0.now).0 r.1))
+    let r = found (λ (e : Entry). e.1 ≡ indexes_with_name e.0) test (names_at names) (entry_at e) are.places at in
+    r.0 ∙ ap (λ (n : List ℕ). indexes_with_name n) (sym ((bytes_eq-Decides name e.0.now).0 r.1))
 
 pub places_missing : (name : List ℕ) (names : List (Bor (List ℕ) × Bor (List ℕ)))
     → AreNamesOfLength (length name) (names_at names)
-    → None ≡ find (λ e. bytes_eq name e.0.now) names → [] ≡ places_with_name name
-unfolding entry_at places_with_name
+    → None ≡ find (λ e. bytes_eq name e.0.now) names → [] ≡ indexes_with_name name
+unfolding entry_at indexes_with_name
 places_missing name names are h =
     let test = λ (e : Entry). bytes_eq name e.0 in
     let at : find test (names_at names) ≡ None = find-map test entry_at names
@@ -188,10 +188,10 @@ places_missing name names are h =
     sym (no_places (has_name name) 0 static_table (λ k f is. false_from_ne_true (has_name name f) (λ same.
     let same_name : name ≡ f.name = (bytes_eq-Decides name f.name).0 same in
     let there = are.complete k f is (ap (λ (n : List ℕ). length n) (sym same_name)) in
-    both_ways (test (f.name, places_with_name f.name))
+    both_ways (test (f.name, indexes_with_name f.name))
     (All-contains (λ e. test e ≡ false) (names_at names) (
       f.name,
-      places_with_name f.name,
+      indexes_with_name f.name,
     ) (missing test (names_at names) at) there) same)))
 
 -- ---- the first place
@@ -263,8 +263,8 @@ from_front : (o : Option ℕ) → option_map (λ n. 0 + n) o ≡ o
 from_front None = refl
 from_front (Some n) = let e : 0 + n ≡ n = omega arith in rw e refl
 
-pub first_is_name_place : (name : List ℕ) → slice_get (places_with_name name) 0 ≡ static_name_place name
-unfolding places_with_name static_name_place
+pub first_is_name_place : (name : List ℕ) → slice_get (indexes_with_name name) 0 ≡ static_name_index name
+unfolding indexes_with_name static_name_index
 first_is_name_place name =
     first_place (has_name name) 0 static_table ∙ first_from_position (has_name name) 0 static_table
     ∙ from_front (position (has_name name) static_table)
@@ -273,8 +273,8 @@ value_there : (f : Field) (k : ℕ) (g : Field) → slice_get static_table k ≡
     → has_value_at f.value (0 + k) ≡ bytes_eq f.value g.value
 value_there f k g is = let e : 0 + k ≡ k = omega arith in rw e (ap (λ (o : Option Field). is_value_of f.value o) is)
 
-found_is_place : (f : Field) → find (has_value_at f.value) (places_with_name f.name) ≡ static_place f
-unfolding places_with_name static_place
+found_is_place : (f : Field) → find (has_value_at f.value) (indexes_with_name f.name) ≡ static_index f
+unfolding indexes_with_name static_index
 found_is_place f =
     first_of_both (has_name f.name) (λ g. bytes_eq f.value g.value) (has_value_at f.value) 0 static_table
     (value_there f)
@@ -283,8 +283,8 @@ found_is_place f =
 
 -- where the names and values are handed over apart
 pub place_is_first : (f : Field) (name value : List ℕ) (places : List ℕ) (r : Option ℕ) → name ≡ f.name
-    → value ≡ f.value → places ≡ places_with_name name → r ≡ find (has_value_at value) places
-    → r ≡ static_place f
+    → value ≡ f.value → places ≡ indexes_with_name name → r ≡ find (has_value_at value) places
+    → r ≡ static_index f
 place_is_first f name value places r n v p is = rw (is, p, n, v) (found_is_place f)
 
 -- ---- the row of a length

@@ -7,7 +7,7 @@ use Rattle.std.specs.Prelude.{slice_get}
 use Rattle.std.specs.Option.{option_map}
 use Rattle.std.specs.Borrow.{Bor}
 use Rattle.qpack_spec.specs.Field.{Field}
-use Rattle.qpack_spec.specs.StaticTable.{static_table, static_place, static_name_place}
+use Rattle.qpack_spec.specs.StaticTable.{static_table, static_index, static_name_index}
 use Rattle.qpack_spec.proofs.Lists.{get_drop}
 use Rattle.qpack_base.specs.StaticFields.{field_at, fields_at, match_of}
 use Rattle.qpack_base.specs.declared.static_.StaticMatch.TheVariants as found
@@ -44,15 +44,15 @@ no_row index past = sym (slice_get_past static_table index (omega (arith, static
 
 -- ---- what a look for a field finds
 
-pub match_field : (f : Field) (r : Option ℕ) (i : ℕ) → r ≡ static_place f → r ≡ Some i
-    → Some (found.Field i) ≡ match_of (static_place f) (static_name_place f.name)
+pub match_field : (f : Field) (r : Option ℕ) (i : ℕ) → r ≡ static_index f → r ≡ Some i
+    → Some (found.Field i) ≡ match_of (static_index f) (static_name_index f.name)
 match_field f r i is some =
-    ap (λ (o : Option ℕ). match_of o (static_name_place f.name)) (sym some ∙ is)
+    ap (λ (o : Option ℕ). match_of o (static_name_index f.name)) (sym some ∙ is)
 
-pub match_name : (f : Field) (r first : Option ℕ) → r ≡ static_place f → r ≡ None → first ≡ static_name_place f.name
-    → option_map (λ i. found.Name i) first ≡ match_of (static_place f) (static_name_place f.name)
+pub match_name : (f : Field) (r first : Option ℕ) → r ≡ static_index f → r ≡ None → first ≡ static_name_index f.name
+    → option_map (λ i. found.Name i) first ≡ match_of (static_index f) (static_name_index f.name)
 match_name f r first is none name =
-    let place : static_place f ≡ None = sym is ∙ none in
+    let place : static_index f ≡ None = sym is ∙ none in
     rw (place, sym name) (names first)
   where
     names : (o : Option ℕ) → option_map (λ i. found.Name i) o ≡ match_of None o

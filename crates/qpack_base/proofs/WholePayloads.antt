@@ -14,7 +14,7 @@ use Rattle.qpack_spec.proofs.PayloadFaults.{fault_again}
 use Rattle.qpack_spec.proofs.Texts.{string_takes, reads_refusals}
 use Rattle.qpack_base.specs.declared.prefix_string.Error.{Error}
 use Rattle.qpack_base.specs.declared.prefix_string.Error.TheVariants.{Memory}
-use Rattle.qpack_base.specs.Cursor.{Reading}
+use Rattle.qpack_base.specs.Cursor.{CursorView}
 use Rattle.qpack_base.specs.Strings.{IsWhole, TakesMemory, ReadsString, meaning}
 
 -- no bits mean the empty text
@@ -45,8 +45,8 @@ pub takes_memory : (payload : List ℕ) → payload ≢ [] → TakesMemory (text
 takes_memory payload some = go (text_of_bits (bits_of_bytes payload)) refl
   where
     go : (r : Result (List ℕ) HuffmanFault) → text_of_bits (bits_of_bytes payload) ≡ r → TakesMemory r
-    go (Ok text) e = λ z.
-        let means = text_means (bits_of_bytes payload) text (bytes_bits payload) e in
+    go (Ok encoding) e = λ z.
+        let means = text_means (bits_of_bytes payload) encoding (bytes_bits payload) e in
         some (payload_of_no_text payload (subst (PayloadMeans payload) z means))
     go (Err fault) e = tt
 
@@ -63,9 +63,9 @@ no_fault payload fault m e =
     let g = subst (λ (p : List ℕ). text_of_bits (bits_of_bytes p) ≡ Err fault) e f in
     absurd (let q = sym g ∙ text_of_no_bits in cc)
 
-some_payload : (n flags : ℕ) (text value : List ℕ) → SpellsString n text flags value → value ≢ []
-    → HoldsPayload n text
-some_payload n flags text value (inl plain) some = record {
+some_payload : (n flags : ℕ) (encoding value : List ℕ) → SpellsString n encoding flags value → value ≢ []
+    → HoldsPayload n encoding
+some_payload n flags encoding value (inl plain) some = record {
   flags = flags;
   huffman = 0;
   payload = value;
@@ -73,7 +73,7 @@ some_payload n flags text value (inl plain) some = record {
   coding = omega arith;
   some = some;
 }
-some_payload n flags text value (inr coded) some = record {
+some_payload n flags encoding value (inr coded) some = record {
   flags = flags;
   huffman = 1;
   payload = coded.0;
@@ -82,9 +82,9 @@ some_payload n flags text value (inr coded) some = record {
   some = λ z. some (no_text coded.0 value z coded.2);
 }
 
-faulty_payload : (n : ℕ) (fault : HuffmanFault) (text : List ℕ) → RefusesString n text (BadHuffman fault)
-    → HoldsPayload n text
-faulty_payload n fault text r = record {
+faulty_payload : (n : ℕ) (fault : HuffmanFault) (encoding : List ℕ) → RefusesString n encoding (BadHuffman fault)
+    → HoldsPayload n encoding
+faulty_payload n fault encoding r = record {
   flags = r.0;
   huffman = 1;
   payload = r.1;
@@ -101,15 +101,15 @@ whole_payload n bytes h = go (string_at n bytes) refl h
         → Begins (HoldsPayload n) bytes
     go (Ok x) e some =
         let t = string_takes n bytes x.0 x.1 x.2 e in
-        record { text = t.text; rest = x.2; parts = t.parts; holds = some_payload n x.0 t.text x.1 t.spells some }
+        record { encoding = t.encoding; rest = x.2; parts = t.parts; holds = some_payload n x.0 t.encoding x.1 t.spells some }
     go (Err EndsEarly) e some = absurd some
     go (Err LengthOverflows) e some = absurd some
     go (Err (BadHuffman fault)) e some =
         let b = ((reads_refusals n bytes).1 fault).0 e in
-        record { text = b.text; rest = b.rest; parts = b.parts; holds = faulty_payload n fault b.text b.holds }
+        record { encoding = b.encoding; rest = b.rest; parts = b.parts; holds = faulty_payload n fault b.encoding b.holds }
 
 -- memory is refused only to a whole payload
-pub string_memory : (n : ℕ) (old new : Reading) (r : Result (Vec ℕ) Error)
+pub string_memory : (n : ℕ) (old new : CursorView) (r : Result (Vec ℕ) Error)
     → ReadsString old new r (string_at n old.rest)
     → r ≡ Err Memory → Begins (HoldsPayload n) old.rest
 string_memory n old new r h e =

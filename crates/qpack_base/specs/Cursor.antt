@@ -3,19 +3,19 @@ use Rattle.std.specs.Prelude.{◌≡◌, ℕ, List, [], ◌∷◌, ◌++◌, Res
 use Rattle.qpack_base.specs.declared.coding.UnexpectedEnd.{UnexpectedEnd}
 
 -- the bytes that are left of a list of so many
-pub record Reading : Type 0 where
+pub record CursorView : Type 0 where
   pub rest : List ℕ
   pub total : ℕ
 
 -- the text at the front was passed, and nothing else
-abbrev pub MovesPast : List ℕ → Reading → Reading → Type 0
-MovesPast text old new = (old.rest ≡ text ++ new.rest) × (new.total ≡ old.total)
+abbrev pub MovesPast : List ℕ → CursorView → CursorView → Type 0
+MovesPast encoding old new = (old.rest ≡ encoding ++ new.rest) × (new.total ≡ old.total)
 
 -- the next byte, or the end with nothing read
-abbrev pub ReadsByte : Reading → Result ℕ UnexpectedEnd → Reading → Type 0
+abbrev pub ReadsByte : CursorView → Result ℕ UnexpectedEnd → CursorView → Type 0
 ReadsByte old (Ok b) new = MovesPast (b ∷ []) old new
 ReadsByte old (Err e) new = (old.rest ≡ []) × (e ≡ record { 0 = 1 }) × (new ≡ old)
 
 -- how reading a value relates what was left, the answer, and what is left
 abbrev pub Reads : Type 0 → Type 1
-Reads T = Reading → Result T UnexpectedEnd → Reading → Type 0
+Reads T = CursorView → Result T UnexpectedEnd → CursorView → Type 0

@@ -1,37 +1,37 @@
 -- What the crate's tables of the Huffman code say of the code.
 use Rattle.std.specs.Prelude.{◌≡◌, ℕ, ◌-◌, ◌/◌, ◌^◌, ◌<◌, ◌≤◌, List, [], ◌∷◌, map, slice_index_or}
 use Rattle.std.specs.Borrow.{Bor}
-use Rattle.qpack_spec.specs.Huffman.{bits_of, bytes_of_length, first_word, word_of}
+use Rattle.qpack_spec.specs.Huffman.{bits_of, bytes_of_length, first_code, code_of}
 
--- the eight bits begin with the word of the entry's byte, which has as many bits as the entry says
-pub record BeginsWithWord (window : ℕ) (entry : ℕ × ℕ) : Type 0 where
+-- the eight bits begin with the code of the entry's byte, which has as many bits as the entry says
+pub record BeginsWithCode (window : ℕ) (entry : ℕ × ℕ) : Type 0 where
   pub byte : entry.0 < 256
   pub least : 1 ≤ entry.1
   pub most : entry.1 ≤ 8
-  pub is : word_of entry.0 ≡ bits_of entry.1 (window / 2 ^ (8 - entry.1))
+  pub is : code_of entry.0 ≡ bits_of entry.1 (window / 2 ^ (8 - entry.1))
 
--- the entry is the byte's word: how many bits it has, and which number they are
-pub record IsWordOf (byte : ℕ) (entry : ℕ × ℕ) : Type 0 where
+-- the entry is the byte's code: how many bits it has, and which number they are
+pub record IsCodeOf (byte : ℕ) (entry : ℕ × ℕ) : Type 0 where
   pub least : 1 ≤ entry.0
   pub most : entry.0 ≤ 30
   pub fits : entry.1 < 2 ^ entry.0
-  pub is : word_of byte ≡ bits_of entry.0 entry.1
+  pub is : code_of byte ≡ bits_of entry.0 entry.1
 
--- the table of eight bits: each entry's word begins the bits of its place, below FE
-pub record AreShortWords (table : List (ℕ × ℕ)) : Type 0 where
-  pub at : (window : ℕ) → window < 254 → BeginsWithWord window (slice_index_or table window (0, 0))
+-- the table of eight bits: each entry's code begins the bits of its place, below FE
+pub record AreShortCodes (table : List (ℕ × ℕ)) : Type 0 where
+  pub at : (window : ℕ) → window < 254 → BeginsWithCode window (slice_index_or table window (0, 0))
 
--- the table of words: each entry is the word of the byte of its place
-pub record AreWords (table : List (ℕ × ℕ)) : Type 0 where
-  pub at : (byte : ℕ) → byte < 256 → IsWordOf byte (slice_index_or table byte (0, 0))
+-- the table of codes: each entry is the code of the byte of its place
+pub record AreCodes (table : List (ℕ × ℕ)) : Type 0 where
+  pub at : (byte : ℕ) → byte < 256 → IsCodeOf byte (slice_index_or table byte (0, 0))
 
--- the lengths of words beyond eight bits
+-- the lengths of codes beyond eight bits
 abbrev pub long_lengths : List ℕ
 long_lengths = 10 ∷ 11 ∷ 12 ∷ 13 ∷ 14 ∷ 15 ∷ 19 ∷ 20 ∷ 21 ∷ 22 ∷ 23 ∷ 24 ∷ 25 ∷ 26 ∷ 27 ∷ 28 ∷ 30 ∷ []
 
--- a length with its first word, and the bytes whose words have it
+-- a length with its first code, and the bytes whose codes have it
 abbrev pub long_row : ℕ → ℕ × ℕ × List ℕ
-long_row n = (n, first_word n, bytes_of_length n)
+long_row n = (n, first_code n, bytes_of_length n)
 
 -- the code beyond eight bits
 unfoldable pub long_rows : List (ℕ × ℕ × List ℕ)

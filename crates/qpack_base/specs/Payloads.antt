@@ -20,7 +20,7 @@ pub record IsLoaded (b : Bits) : Type 0 where
   pub fits : b.loaded < 2 ^ b.count
   pub few : b.count < 64
 
--- enough bits for every word are loaded, or all that are left
+-- enough bits for every code are loaded, or all that are left
 abbrev pub IsFull : Bits → Type 0
 IsFull b = (32 ≤ b.count) ⊎ (b.rest.now ≡ [])
 
@@ -30,10 +30,10 @@ pub record KeepsRest (bits : ℕ) (old new : Bits) : Type 0 where
   pub loaded : new.loaded ≡ old.loaded % 2 ^ (old.count - bits)
   pub rest : new.rest.now ≡ old.rest.now
 
--- what a reader of a word answers, and which bits it leaves
-abbrev pub ReadsWord : List ℕ → List ℕ → Result ℕ HuffmanDecodingError → Result (ℕ × List ℕ) HuffmanFault → Type 0
-ReadsWord old new (Ok b) read = read ≡ Ok (b, new)
-ReadsWord old new (Err e) read = (read ≡ Err (huffman_fault_of e)) × (new ≡ [])
+-- what a reader of a code answers, and which bits it leaves
+abbrev pub ReadsCode : List ℕ → List ℕ → Result ℕ HuffmanDecodingError → Result (ℕ × List ℕ) HuffmanFault → Type 0
+ReadsCode old new (Ok b) read = read ≡ Ok (b, new)
+ReadsCode old new (Err e) read = (read ≡ Err (huffman_fault_of e)) × (new ≡ [])
 
 -- an item of the iterator, as the definition of payloads has it
 abbrev pub item_of : Option (Result ℕ HuffmanDecodingError) → Option (Result ℕ HuffmanFault)

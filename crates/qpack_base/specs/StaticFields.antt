@@ -18,8 +18,8 @@ abbrev pub fields_at : List (Bor (List ℕ) × Bor (List ℕ)) → List Field
 fields_at fs = map field_at fs
 
 -- all places of the static table with the name, rising
-unfoldable pub places_with_name : List ℕ → List ℕ
-places_with_name name = map (λ e. e.0) (filter (λ e. has_name name e.1) (enumerate_from 0 static_table))
+unfoldable pub indexes_with_name : List ℕ → List ℕ
+indexes_with_name name = map (λ e. e.0) (filter (λ e. has_name name e.1) (enumerate_from 0 static_table))
 
 -- whether a field is there and has the value
 abbrev pub is_value_of : List ℕ → Option Field → Bool
@@ -32,9 +32,9 @@ has_value_at value place = is_value_of value (slice_get static_table place)
 
 -- names of one length: each stands with all its places, and no name of that length in the static table is missing
 pub record AreNamesOfLength (n : ℕ) (names : List (List ℕ × List ℕ)) : Type 0 where
-  pub places : All (λ e. e.1 ≡ places_with_name e.0) names
+  pub places : All (λ e. e.1 ≡ indexes_with_name e.0) names
   pub complete : (k : ℕ) (f : Field) → IsStaticAt k f → length f.name ≡ n
-      → Contains names (f.name, places_with_name f.name)
+      → Contains names (f.name, indexes_with_name f.name)
 
 -- rows of names, one for each length from `first` up to below `limit` (RFC 9204, Appendix A)
 pub record AreNamesBetween (first limit : ℕ) (rows : List (List (List ℕ × List ℕ))) : Type 0 where

@@ -8,7 +8,7 @@ use Rattle.qpack_base.specs.declared.prefix_int.Error.TheVariants as integer
 use Rattle.qpack_base.specs.declared.prefix_string.Error.{Error}
 use Rattle.qpack_base.specs.declared.prefix_string.Error.TheVariants.{UnexpectedEnd, Integer, HuffmanDecoding}
 use Rattle.qpack_base.specs.declared.prefix_string.Error.TheVariants.{Memory}
-use Rattle.qpack_base.specs.Cursor.{Reading}
+use Rattle.qpack_base.specs.Cursor.{CursorView}
 use Rattle.qpack_base.specs.Payloads.{huffman_fault_of}
 use Rattle.qpack_base.specs.Refusals.{IsRefusedFor}
 
@@ -38,7 +38,7 @@ FailsString Memory read = IsWhole read
 FailsString e read = IsRefusedFor read (string_fault_of e)
 
 -- the answer is the value that was read, under some flags, and the cursor stands behind it; or it is the fault
-abbrev pub ReadsString : Reading → Reading → Result (Vec ℕ) Error → Result (ℕ × List ℕ × List ℕ) StringFault → Type 0
+abbrev pub ReadsString : CursorView → CursorView → Result (Vec ℕ) Error → Result (ℕ × List ℕ × List ℕ) StringFault → Type 0
 ReadsString old new (Ok v) read = ((flags : ℕ) × (read ≡ Ok (flags, v.items, new.rest))) × (new.total ≡ old.total)
 ReadsString old new (Err e) read = FailsString e read
 

@@ -2,7 +2,7 @@
 
 ghost use Rattle.std.specs.Prelude.{◌≡◌, ℕ, ◌+◌, ◌^◌, ◌<◌, ◌≤◌, ◌++◌, ◌∷◌, [], List, OnOk, OnErr, IsOk, length, drop};
 ghost use Rattle.std.specs.Prelude.{vec_len, vec_capacity};
-ghost use Rattle.qpack_base.specs.Cursor.{Reading, ReadsByte};
+ghost use Rattle.qpack_base.specs.Cursor.{CursorView, ReadsByte};
 
 use std::alloc::{AllocError, AllocFailed, Allocator};
 use std::marker::Model;
@@ -41,7 +41,7 @@ pub struct Cursor<'a> {
 }
 
 impl<'a> Model for Cursor<'a> {
-    ghost Value = { Reading };
+    ghost Value = { CursorView };
 
     ghost view = { λ c. record { rest = c.rest.now; total = c.passed + length c.rest.now } };
 

@@ -42,12 +42,12 @@ pub fn decode(size: u8, buf: &mut Cursor) -> Result<(u8, u64), Error>
     requires least { 1 ≤ size }
     requires most { size ≤ 8 }
     // What is read is spelled so, and the cursor moves past exactly it.
-    ensures found { IfOk result (λ x. (text : List ℕ) × SpellsInteger size text x.0 x.1
-        × MovesPast text buf.old buf.new) }
+    ensures found { IfOk result (λ x. (encoding : List ℕ) × SpellsInteger size encoding x.0 x.1
+        × MovesPast encoding buf.old buf.new) }
     // What is spelled so is read, whatever follows.
-    ensures only { (text rest : List ℕ) (flags value : ℕ) → SpellsInteger size text flags value
-        → buf.old.rest ≡ text ++ rest →
-        (result ≡ Ok (flags, value)) × MovesPast text buf.old buf.new }
+    ensures only { (encoding rest : List ℕ) (flags value : ℕ) → SpellsInteger size encoding flags value
+        → buf.old.rest ≡ encoding ++ rest →
+        (result ≡ Ok (flags, value)) × MovesPast encoding buf.old buf.new }
     ensures overflow { (result ≡ Err Overflow) ↔ Begins (OverflowsInteger size) buf.old.rest }
     ensures truncated { (result ≡ Err Truncated) ↔ TruncatesInteger size buf.old.rest }
     // The same, as reading from left to right.

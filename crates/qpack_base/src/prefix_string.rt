@@ -112,20 +112,20 @@ pub fn decode(alloc: Global, size: u8, buf: &mut Cursor) -> Result<Vec<u8>, Erro
     requires least { 2 ≤ size }
     requires most { size ≤ 8 }
     // What is read is spelled so, and the cursor moves past exactly it.
-    ensures found { IfOk result (λ v. (text : List ℕ) × (flags : ℕ) × SpellsString size text flags v.items
-        × MovesPast text buf.old buf.new) }
+    ensures found { IfOk result (λ v. (encoding : List ℕ) × (flags : ℕ) × SpellsString size encoding flags v.items
+        × MovesPast encoding buf.old buf.new) }
     // What is spelled so is read, whatever follows, unless memory is refused.
-    ensures only { (text rest : List ℕ) (flags : ℕ) (value : List ℕ) → SpellsString size text flags value
-        → buf.old.rest ≡ text ++ rest →
-        GivesValue result value (MovesPast text buf.old buf.new) }
+    ensures only { (encoding rest : List ℕ) (flags : ℕ) (value : List ℕ) → SpellsString size encoding flags value
+        → buf.old.rest ≡ encoding ++ rest →
+        GivesValue result value (MovesPast encoding buf.old buf.new) }
     ensures overflow { (result ≡ Err (BadLength Overflow)) ↔ Begins
-        (λ text. RefusesString size text LengthOverflows) buf.old.rest }
+        (λ encoding. RefusesString size encoding LengthOverflows) buf.old.rest }
     ensures truncated { (result ≡ Err Truncated) ↔ TruncatesString size buf.old.rest }
     // A coded payload that means nothing is refused for its fault, unless memory is refused.
     ensures faulty { (fault : HuffmanFault) → IsFaulty result fault
-        → Begins (λ text. RefusesString size text (BadHuffman fault)) buf.old.rest }
+        → Begins (λ encoding. RefusesString size encoding (BadHuffman fault)) buf.old.rest }
     ensures refused { (fault : HuffmanFault) → Begins
-        (λ text. RefusesString size text (BadHuffman fault)) buf.old.rest → GivesFault result fault }
+        (λ encoding. RefusesString size encoding (BadHuffman fault)) buf.old.rest → GivesFault result fault }
     // Memory is refused only to a whole payload.
     ensures memory { result ≡ Err NoRoom → Begins (HoldsPayload size) buf.old.rest }
     // The same, as reading from left to right.

@@ -2,10 +2,10 @@
 
 ghost use Rattle.std.specs.Prelude.{◌≡◌, ◌≤◌, IfOk, IfErr, IfSome, IfNone, find, length, option_copied};
 ghost use Rattle.std.specs.Str.{bytes_eq};
-ghost use Rattle.qpack_spec.specs.StaticTable.{field, static_table, static_place, static_name_place, IsStaticAt};
+ghost use Rattle.qpack_spec.specs.StaticTable.{field, static_table, static_index, static_name_index, IsStaticAt};
 ghost use Rattle.qpack_spec.specs.StaticTable.{IsLeastStatic, NoStatic};
 ghost use Rattle.qpack_base.specs.HeaderFields.{field_of};
-ghost use Rattle.qpack_base.specs.StaticFields.{match_of, places_with_name, has_value_at};
+ghost use Rattle.qpack_base.specs.StaticFields.{match_of, indexes_with_name, has_value_at};
 ghost use Rattle.qpack_base.specs.declared.static_.Error.TheVariants.{Unknown};
 
 use crate::field::HeaderField;
@@ -54,7 +54,7 @@ impl StaticTable {
 
     /// The equal field, or else the first one with the name, in one search.
     pub fn lookup(name: &[u8], value: &[u8]) -> Option<StaticMatch>
-        ensures { result ≡ match_of (static_place (field name.now value.now)) (static_name_place name.now) }
+        ensures { result ≡ match_of (static_index (field name.now value.now)) (static_name_index name.now) }
     {
         let places = places_of(name);
         match (place_of_value(places, value), places.first()) {
@@ -68,7 +68,7 @@ impl StaticTable {
     pub fn find(field: &HeaderField) -> Option<usize>
         ensures found { IfSome result (IsLeastStatic (λ f. f ≡ field_of field.now)) }
         ensures none { IfNone result (NoStatic (λ f. f ≡ field_of field.now)) }
-        ensures exact { result ≡ static_place (field_of field.now) }
+        ensures exact { result ≡ static_index (field_of field.now) }
     {
         place_of_value(places_of(field.name.as_slice()), field.value.as_slice())
     }
@@ -77,7 +77,7 @@ impl StaticTable {
     pub fn find_name(name: &[u8]) -> Option<usize>
         ensures found { IfSome result (IsLeastStatic (λ f. f.name ≡ name.now)) }
         ensures none { IfNone result (NoStatic (λ f. f.name ≡ name.now)) }
-        ensures exact { result ≡ static_name_place name.now }
+        ensures exact { result ≡ static_name_index name.now }
     {
         places_of(name).first().copied()
     }
@@ -85,7 +85,7 @@ impl StaticTable {
 
 /// All places with this name, rising.
 fn places_of(name: &[u8]) -> &'static [usize]
-    ensures { result.now ≡ places_with_name name.now }
+    ensures { result.now ≡ indexes_with_name name.now }
 {
     let Some(entry) = entry_of(names_of_length(name.len()), name) else {
         return &[];

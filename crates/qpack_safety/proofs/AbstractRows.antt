@@ -2,25 +2,25 @@
 use Rattle.std.proofs.Common.{ℕ, ◌≡◌, true, List, [], ◌∷◌, Option, None, Some, refl}
 use Rattle.std.specs.Prelude.{codes}
 use Rattle.qpack_spec.specs.Integer.{written_groups, groups_at, integer_at, written_integer}
-use Rattle.qpack_spec.specs.Huffman.{bits_of, ones, bytes_by_length, bytes_of_length, first_word, word_length, word_of}
-use Rattle.qpack_spec.specs.Huffman.{number_from, packed, payload_of, word_at, is_padding, item_at, text_at}
+use Rattle.qpack_spec.specs.Huffman.{bits_of, ones, bytes_by_length, bytes_of_length, first_code, code_length, code_of}
+use Rattle.qpack_spec.specs.Huffman.{number_from, bytes_of_bits, payload_of, code_at, is_padding, item_at, text_at}
 use Rattle.qpack_spec.specs.Huffman.{text_of_bits}
 use Rattle.qpack_spec.specs.Text.{string_at, written_string}
-use Rattle.qpack_spec.specs.StaticTable.{field, static_table, static_place, static_name_place}
+use Rattle.qpack_spec.specs.StaticTable.{field, static_table, static_index, static_name_index}
 use Rattle.qpack_spec.specs.Form.{made_at, form_at}
 use Rattle.qpack_spec.specs.Line.{line_form, written_line, written_lines}
-use Rattle.qpack_spec.specs.Instruction.{instruction_form, reply_form, written_instruction, written_instructions}
-use Rattle.qpack_spec.specs.Instruction.{written_reply, written_replies}
+use Rattle.qpack_spec.specs.Instruction.{encoder_instruction_form, decoder_instruction_form, written_encoder_instruction, written_encoder_instructions}
+use Rattle.qpack_spec.specs.Instruction.{written_decoder_instruction, written_decoder_instructions}
 use Rattle.qpack_spec.specs.Prefix.{prefix_for, required_at, read_required, read_base, read_prefix, written_prefix}
 use Rattle.qpack_spec.specs.Prefix.{prefix_at}
-use Rattle.qpack_spec.specs.Window.{excess, entry, recent, insertion, effect, after}
-use Rattle.qpack_spec.specs.History.{window_of, whole, grown}
-use Rattle.qpack_spec.specs.Reading.{static_field, relative_field, post_base_field, line_field, fields_of, names_of}
-use Rattle.qpack_spec.specs.Reading.{references_of, greatest, Fields, Missing, reading}
+use Rattle.qpack_spec.specs.Window.{eviction_count, absolute_entry, relative_entry, insertion, effect, window_after}
+use Rattle.qpack_spec.specs.History.{window_of, whole_window, history_after}
+use Rattle.qpack_spec.specs.Reading.{static_field, relative_field, post_base_field, line_field, fields_of, references_of_line}
+use Rattle.qpack_spec.specs.Reading.{references_of, greatest_of, Fields, Missing, reading}
 use Rattle.qpack_spec.specs.BlockReading.{fields_at, reading_of_bytes, written_block}
-use Rattle.qpack_spec.specs.Table.{window, track, naming, is_held, none_held, has_room, may_name, with_entry}
-use Rattle.qpack_spec.specs.Table.{last_place, newest, put, resized, applied, commit, unnamed, without_oldest}
-use Rattle.qpack_spec.specs.Table.{without_stream, raised, heard}
+use Rattle.qpack_spec.specs.Table.{window, with_number, with_reference, is_evictable, all_evictable, has_room, may_reference, with_entry}
+use Rattle.qpack_spec.specs.Table.{last_position, newest_index, put, with_capacity, apply_encoder_instruction, commit, without_references, without_oldest}
+use Rattle.qpack_spec.specs.Table.{without_stream, with_increment, apply_decoder_instruction}
 use Rattle.qpack_spec.specs.Rule.{instruction_for, rule_field, rule}
 use Rattle.qpack_spec.specs.Session.{stream_at}
 use Rattle.qpack_safety.specs.AbstractSession.{AbstractBlock, AbstractSession, SmallStep, Encode, Abandon, Resize, Take}
@@ -41,25 +41,25 @@ block_on : AbstractSession → ℕ → List ℕ
 block_on w s = bytes_of (last_block (stream_at w.streams s).blocks)
 
 in_flight_of : AbstractSession → List ℕ
-in_flight_of w = written_instructions w.in_flight
+in_flight_of w = written_encoder_instructions w.in_flight
 
-replies_of : AbstractSession → List ℕ
-replies_of w = written_replies w.decoder_in_flight
+decoder_instructions_of : AbstractSession → List ℕ
+decoder_instructions_of w = written_decoder_instructions w.decoder_in_flight
 
 session_after : ℕ → ℕ → List SmallStep → AbstractSession
 session_after capacity limit steps = after_steps steps (abstract_start capacity limit)
 
 -- all that has to unfold
 rows : ℕ
-unfolding excess written_groups groups_at integer_at written_integer bits_of ones bytes_by_length bytes_of_length
-    first_word word_length word_of number_from packed payload_of word_at is_padding item_at text_at text_of_bits
-    string_at written_string static_table static_place static_name_place line_form written_line written_lines
-    instruction_form reply_form written_instruction written_instructions written_reply written_replies made_at form_at
-    prefix_for required_at read_required read_base read_prefix written_prefix prefix_at entry recent insertion effect
-    after window_of whole grown static_field relative_field post_base_field line_field fields_of names_of references_of
-    greatest reading fields_at reading_of_bytes written_block window track naming is_held none_held has_room may_name
-    with_entry last_place newest put resized applied commit unnamed without_oldest without_stream raised heard
-    instruction_for rule_field rule last_block bytes_of block_on in_flight_of replies_of session_after
+unfolding eviction_count written_groups groups_at integer_at written_integer bits_of ones bytes_by_length bytes_of_length
+    first_code code_length code_of number_from bytes_of_bits payload_of code_at is_padding item_at text_at text_of_bits
+    string_at written_string static_table static_index static_name_index line_form written_line written_lines
+    encoder_instruction_form decoder_instruction_form written_encoder_instruction written_encoder_instructions written_decoder_instruction written_decoder_instructions made_at form_at
+    prefix_for required_at read_required read_base read_prefix written_prefix prefix_at absolute_entry relative_entry insertion effect
+    window_after window_of whole_window history_after static_field relative_field post_base_field line_field fields_of references_of_line references_of
+    greatest_of reading fields_at reading_of_bytes written_block window with_number with_reference is_evictable all_evictable has_room may_reference
+    with_entry last_position newest_index put with_capacity apply_encoder_instruction commit without_references without_oldest without_stream with_increment apply_decoder_instruction
+    instruction_for rule_field rule last_block bytes_of block_on in_flight_of decoder_instructions_of session_after
 rows = 0
 
 -- one field is inserted
@@ -87,10 +87,10 @@ unfolding rows
 first_reads = refl
 
 -- the increment and the acknowledgment: 01 84
-first_replies : (replies_of (session_after 4096 1 (Encode 4 ((field (codes "foo") (codes "bar")) ∷ []) ∷ Take
+first_decoder_instructions : (decoder_instructions_of (session_after 4096 1 (Encode 4 ((field (codes "foo") (codes "bar")) ∷ []) ∷ Take
     ∷ Report (1 ∷ []) ∷ Decode 4 ∷ Acknowledge 4 ∷ []))) ≡ 1 ∷ 132 ∷ []
 unfolding rows
-first_replies = refl
+first_decoder_instructions = refl
 
 -- no block is left to decode
 nothing_to_decode : (next_reading (session_after 4096 1 (Encode 4 ((field (codes "foo") (codes "bar")) ∷ []) ∷ Take
@@ -99,13 +99,13 @@ unfolding rows
 nothing_to_decode = refl
 
 -- a block is acknowledged once
-acknowledged_once : (replies_of (session_after 4096 1 (Encode 4 ((field (codes "foo") (codes "bar")) ∷ []) ∷ Take
+acknowledged_once : (decoder_instructions_of (session_after 4096 1 (Encode 4 ((field (codes "foo") (codes "bar")) ∷ []) ∷ Take
     ∷ Decode 4 ∷ Acknowledge 4 ∷ Acknowledge 4 ∷ []))) ≡ 132 ∷ []
 unfolding rows
 acknowledged_once = refl
 
 -- and not before it was decoded
-acknowledged_late : (replies_of (session_after 4096 1 (Encode 4 ((field (codes "foo") (codes "bar")) ∷ []) ∷ Take
+acknowledged_late : (decoder_instructions_of (session_after 4096 1 (Encode 4 ((field (codes "foo") (codes "bar")) ∷ []) ∷ Take
     ∷ Acknowledge 4 ∷ []))) ≡ []
 unfolding rows
 acknowledged_late = refl
@@ -188,7 +188,7 @@ unfolding rows
 equal_before_start = refl
 
 -- a cancellation: 44
-cancelled : (replies_of (session_after 64 4 (Encode 4 ((field (codes "foo") (codes "bar")) ∷ []) ∷ Cancel 4 ∷ [])))
+cancelled : (decoder_instructions_of (session_after 64 4 (Encode 4 ((field (codes "foo") (codes "bar")) ∷ []) ∷ Cancel 4 ∷ [])))
     ≡ 68 ∷ []
 unfolding rows
 cancelled = refl
@@ -370,7 +370,7 @@ unfolding rows
 third_block = refl
 
 -- the cancellation and the increment
-cancelled_and_reported : (replies_of (session_after 64 4 (Encode 4 ((field (codes "foo") (codes "bar")) ∷ [])
+cancelled_and_reported : (decoder_instructions_of (session_after 64 4 (Encode 4 ((field (codes "foo") (codes "bar")) ∷ [])
     ∷ Encode 4 ((field (codes "foo") (codes "bar")) ∷ []) ∷ Encode 4 ((field (codes "foo") (codes "bar")) ∷ [])
     ∷ Cancel 4 ∷ Take ∷ Report (1 ∷ []) ∷ []))) ≡ 68 ∷ 1 ∷ []
 unfolding rows

@@ -6,13 +6,13 @@ use Rattle.std.specs.List.{filter}
 use Rattle.std.specs.Prelude.{nat_lt, nat_eq, ◌||◌}
 use Rattle.std.proofs.lemmas.Bool.{eq-eqb, ne_eqb, cases_eq, lt-ltb, le-ltb, ltb-true, ltb-false}
 use Rattle.std.proofs.lemmas.List.Elements.{filter-append}
-use Rattle.qpack_spec.specs.Table.{OpenBlock, Table, has_number, commit, without_oldest, raised, heard}
+use Rattle.qpack_spec.specs.Table.{UnacknowledgedBlock, Table, has_number, commit, without_oldest, with_increment, apply_decoder_instruction}
 use Rattle.qpack_spec.specs.Bytes.{◌>>=◌}
-use Rattle.qpack_spec.specs.Instruction.{Reply, Acknowledgment, Cancellation, Increment}
-use Rattle.qpack_spec.specs.Window.{Refusal, UnknownStream, or_refused}
+use Rattle.qpack_spec.specs.Instruction.{DecoderInstruction, Acknowledgment, Cancellation, Increment}
+use Rattle.qpack_spec.specs.Window.{TableRefusal, UnknownStream, or_refusal}
 use Rattle.qpack_spec.proofs.Results.{ok_is}
 use Rattle.qpack_spec.specs.Session.{KeptBlock, KeptStream, stream_at, blocked_on, blocked_among}
-use Rattle.qpack_spec.specs.Session.{all_heard}
+use Rattle.qpack_spec.specs.Session.{apply_decoder_instructions}
 
 -- ---- the count of the streams
 
@@ -115,17 +115,17 @@ among_fewer n m seen (p ∷ ps) le =
 
 -- the required counts that the table holds are those of the blocks kept, at any count from the known one on
 pub record CountsBlocked (t : Table) (ps : List (ℕ × KeptStream)) : Type 0 where
-  pub small : t.known ≤ 2 ^ 64 - 1
-  pub above : length (filter (λ r. nat_lt t.known r) t.waiting) ≡ length t.waiting
-  pub counts : (n : ℕ) → t.known ≤ n → length (filter (λ r. nat_lt n r) t.waiting) ≡ blocked_among n [] ps
+  pub small : t.known_received_count ≤ 2 ^ 64 - 1
+  pub above : length (filter (λ r. nat_lt t.known_received_count r) t.blocked) ≡ length t.blocked
+  pub counts : (n : ℕ) → t.known_received_count ≤ n → length (filter (λ r. nat_lt n r) t.blocked) ≡ blocked_among n [] ps
 
 -- the table counts the blocked blocks
 pub counts_all : (t : Table) (ps : List (ℕ × KeptStream)) → CountsBlocked t ps
-    → length t.waiting ≡ blocked_among t.known [] ps
-counts_all t ps c = sym c.above ∙ c.counts t.known (omega arith)
+    → length t.blocked ≡ blocked_among t.known_received_count [] ps
+counts_all t ps c = sym c.above ∙ c.counts t.known_received_count (omega arith)
 
 -- a table with the same counts
-pub counts_table : (t u : Table) (ps : List (ℕ × KeptStream)) → u.known ≡ t.known → u.waiting ≡ t.waiting
+pub counts_table : (t u : Table) (ps : List (ℕ × KeptStream)) → u.known_received_count ≡ t.known_received_count → u.blocked ≡ t.blocked
     → CountsBlocked t ps → CountsBlocked u ps
 counts_table t u ps k w c =
     record {
@@ -155,11 +155,11 @@ one_required n r = length (filter (λ x. nat_lt n x) (r ∷ []))
 
 -- a block more, and the table behind it
 pub counts_pushed : (t u : Table) (s : ℕ) (k : KeptStream) (b : KeptBlock) (ps : List (ℕ × KeptStream))
-    → u.known ≡ t.known → u.waiting ≡ t.waiting
+    → u.known_received_count ≡ t.known_received_count → u.blocked ≡ t.blocked
     → k.blocks ≡ (stream_at ps s).blocks ++ b ∷ [] → CountsBlocked t ps
     → CountsBlocked (commit u s b.required) ((s, k) ∷ ps)
 unfolding commit
-counts_pushed t u s k b ps e w more c = pick (nat_lt u.known b.required) refl
+counts_pushed t u s k b ps e w more c = pick (nat_lt u.known_received_count b.required) refl
   where
     block_one : (n : ℕ) → (x : Bool) → length (cond x (b ∷ []) []) ≡ length (cond x (b.required ∷ []) [])
     block_one n true = refl
@@ -173,11 +173,11 @@ counts_pushed t u s k b ps e w more c = pick (nat_lt u.known b.required) refl
         (filter (λ x. nat_lt n x.required) (b ∷ []))
         ∙ ap (λ m. blocked_on n (stream_at ps s) + m) (block_one n (nat_lt n b.required))
 
-    pushed : (n : ℕ) → length (filter (λ r. nat_lt n r) (u.waiting ++ b.required ∷ []))
-        ≡ length (filter (λ r. nat_lt n r) t.waiting) + one_required n b.required
+    pushed : (n : ℕ) → length (filter (λ r. nat_lt n r) (u.blocked ++ b.required ∷ []))
+        ≡ length (filter (λ r. nat_lt n r) t.blocked) + one_required n b.required
     pushed n =
-        ap length (filter-append (λ r. nat_lt n r) u.waiting (b.required ∷ []))
-        ∙ length-append (filter (λ r. nat_lt n r) u.waiting) (filter (λ r. nat_lt n r) (b.required ∷ []))
+        ap length (filter-append (λ r. nat_lt n r) u.blocked (b.required ∷ []))
+        ∙ length-append (filter (λ r. nat_lt n r) u.blocked) (filter (λ r. nat_lt n r) (b.required ∷ []))
         ∙ ap (λ ws. length (filter (λ r. nat_lt n r) ws) + one_required n b.required) w
 
     total : (n : ℕ) → blocked_among n [] ((s, k) ∷ ps) ≡ blocked_among n [] ps + one_required n b.required
@@ -189,26 +189,26 @@ counts_pushed t u s k b ps e w more c = pick (nat_lt u.known b.required) refl
     none_above : (n : ℕ) → b.required ≤ n → one_required n b.required ≡ 0
     none_above n le = rw (le-ltb n b.required le) refl
 
-    pick : (x : Bool) → nat_lt u.known b.required ≡ x
-        → CountsBlocked (record (commit u s b.required) { waiting = cond x (u.waiting ++ b.required ∷ []) u.waiting })
+    pick : (x : Bool) → nat_lt u.known_received_count b.required ≡ x
+        → CountsBlocked (record (commit u s b.required) { blocked = cond x (u.blocked ++ b.required ∷ []) u.blocked })
         ((s, k) ∷ ps)
     pick true q =
-        let lt : u.known < b.required = ltb-true _ _ q in
+        let lt : u.known_received_count < b.required = ltb-true _ _ q in
         record {
           small = omega (arith, c.small, e);
-          above = ap (λ m. length (filter (λ r. nat_lt m r) (u.waiting ++ b.required ∷ []))) e
+          above = ap (λ m. length (filter (λ r. nat_lt m r) (u.blocked ++ b.required ∷ []))) e
               ∙ omega (
                 arith,
-                pushed t.known,
+                pushed t.known_received_count,
                 c.above,
-                one_above t.known (omega (arith, lt, e)),
-                length-append u.waiting (b.required ∷ []),
+                one_above t.known_received_count (omega (arith, lt, e)),
+                length-append u.blocked (b.required ∷ []),
                 ap length w,
               );
           counts = λ n le. omega (arith, pushed n, total n, c.counts n (omega (arith, le, e)));
         }
     pick false q =
-        let le' : b.required ≤ u.known = ltb-false _ _ q in
+        let le' : b.required ≤ u.known_received_count = ltb-false _ _ q in
         record {
           small = omega (arith, c.small, e);
           above = rw (e, w) c.above;
@@ -231,23 +231,23 @@ filter_again n m (r ∷ ws) le = pick (nat_lt n r) refl (filter_again n m ws le)
     pick false e h = let low : nat_lt m r ≡ false = le-ltb m r (omega (arith, ltb-false _ _ e)) in rw low h
 
 -- the encoder's table takes a decoder instruction
-counts_raised : (t : Table) (n : ℕ) (ps : List (ℕ × KeptStream)) → CountsBlocked t ps → CountsBlocked (raised t n) ps
-unfolding raised
+counts_raised : (t : Table) (n : ℕ) (ps : List (ℕ × KeptStream)) → CountsBlocked t ps → CountsBlocked (with_increment t n) ps
+unfolding with_increment
 counts_raised t n ps c =
-    let known = min (t.known + n) (2 ^ 64 - 1) in
-    let more : t.known ≤ known = omega (arith, c.small) in
+    let known_received_count = min (t.known_received_count + n) (2 ^ 64 - 1) in
+    let more : t.known_received_count ≤ known_received_count = omega (arith, c.small) in
     record {
       small = omega arith;
-      above = ap length (filter_again known known t.waiting (omega arith));
-      counts = λ m le. ap length (filter_again known m t.waiting le) ∙ c.counts m (omega (arith, le, more));
+      above = ap length (filter_again known_received_count known_received_count t.blocked (omega arith));
+      counts = λ m le. ap length (filter_again known_received_count m t.blocked le) ∙ c.counts m (omega (arith, le, more));
     }
 
-counts_heard : (t u : Table) (r : Reply) (ps : List (ℕ × KeptStream)) → heard t r ≡ Ok u → CountsBlocked t ps
+counts_heard : (t u : Table) (r : DecoderInstruction) (ps : List (ℕ × KeptStream)) → apply_decoder_instruction t r ≡ Ok u → CountsBlocked t ps
     → CountsBlocked u ps
-unfolding heard
-counts_heard t u (Acknowledgment s) ps e c = pick (without_oldest s t.opened) e
+unfolding apply_decoder_instruction
+counts_heard t u (Acknowledgment s) ps e c = pick (without_oldest s t.unacknowledged) e
   where
-    pick : (o : Option (List OpenBlock)) → (or_refused o (UnknownStream s) >>= λ bs. Ok (record t { opened = bs }))
+    pick : (o : Option (List UnacknowledgedBlock)) → (or_refusal o (UnknownStream s) >>= λ bs. Ok (record t { unacknowledged = bs }))
         ≡ Ok u → CountsBlocked u ps
     pick None q = absurd cc
     pick (Some bs) q =
@@ -256,12 +256,12 @@ counts_heard t u (Cancellation s) ps e c =
     subst (λ x. CountsBlocked x ps) (ok_is _ _ e) (record { small = c.small; above = c.above; counts = c.counts })
 counts_heard t u (Increment n) ps e c = subst (λ x. CountsBlocked x ps) (ok_is _ _ e) (counts_raised t n ps c)
 
-pub counts_all_heard : (t u : Table) (rs : List Reply) (ps : List (ℕ × KeptStream)) → all_heard t rs ≡ Ok u
+pub counts_all_heard : (t u : Table) (rs : List DecoderInstruction) (ps : List (ℕ × KeptStream)) → apply_decoder_instructions t rs ≡ Ok u
     → CountsBlocked t ps → CountsBlocked u ps
 counts_all_heard t u [] ps e c = subst (λ x. CountsBlocked x ps) (ok_is _ _ e) c
-counts_all_heard t u (r ∷ rs) ps e c = pick (heard t r) refl e (λ x. counts_all_heard x u rs ps)
+counts_all_heard t u (r ∷ rs) ps e c = pick (apply_decoder_instruction t r) refl e (λ x. counts_all_heard x u rs ps)
   where
-    pick : (o : Result Table Refusal) → heard t r ≡ o → (o >>= λ x. all_heard x rs) ≡ Ok u
-        → ((x : Table) → all_heard x rs ≡ Ok u → CountsBlocked x ps → CountsBlocked u ps) → CountsBlocked u ps
+    pick : (o : Result Table TableRefusal) → apply_decoder_instruction t r ≡ o → (o >>= λ x. apply_decoder_instructions x rs) ≡ Ok u
+        → ((x : Table) → apply_decoder_instructions x rs ≡ Ok u → CountsBlocked x ps → CountsBlocked u ps) → CountsBlocked u ps
     pick (Err f) h q rest = absurd cc
     pick (Ok x) h q rest = rest x q (counts_heard t x r ps h c)

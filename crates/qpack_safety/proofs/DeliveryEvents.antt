@@ -5,16 +5,16 @@ use Rattle.std.specs.Prelude.{IsOk}
 use Rattle.std.proofs.lemmas.List.{append_assoc, length-take}
 use Rattle.qpack_spec.specs.Bytes.{Begins, ◌>>=◌}
 use Rattle.qpack_spec.specs.Form.{FormFault, Form, Spells}
-use Rattle.qpack_spec.specs.Instruction.{Instruction, instruction_form, SpellsInstruction, RefusesInstruction, Reply}
-use Rattle.qpack_spec.specs.Instruction.{reply_form, SpellsReply, RefusesReply, written_replies}
+use Rattle.qpack_spec.specs.Instruction.{EncoderInstruction, encoder_instruction_form, SpellsEncoderInstruction, RefusesEncoderInstruction, DecoderInstruction}
+use Rattle.qpack_spec.specs.Instruction.{decoder_instruction_form, SpellsDecoderInstruction, RefusesDecoderInstruction, written_decoder_instructions}
 use Rattle.qpack_spec.specs.Stream.{Joined}
-use Rattle.qpack_spec.specs.Window.{Window, Refusal, total, apply}
-use Rattle.qpack_spec.specs.Table.{Table, table_of, count, applied, heard}
+use Rattle.qpack_spec.specs.Window.{Window, TableRefusal, window_insert_count, apply}
+use Rattle.qpack_spec.specs.Table.{Table, table_of, insert_count, apply_encoder_instruction, apply_decoder_instruction}
 use Rattle.qpack_safety.specs.AbstractSession.{AbstractSession, after_steps}
-use Rattle.qpack_spec.specs.Session.{Session, Outcome, Refused, StreamFault, all_applied, all_heard, decoder_moved}
-use Rattle.qpack_spec.specs.Session.{encoder_moved, to_report, DeliveryEnds, takes_all, no_memory, bad_bytes}
-use Rattle.qpack_spec.specs.Session.{bad_instruction, DeliversTo, HearingEnds, hears_all, bad_bytes_heard, bad_reply}
-use Rattle.qpack_spec.specs.Session.{HearsFrom, increments}
+use Rattle.qpack_spec.specs.Session.{Session, Outcome, Refused, StreamFault, apply_encoder_instructions, apply_decoder_instructions, with_decoder_moved}
+use Rattle.qpack_spec.specs.Session.{with_encoder_moved, unreported_after, EndsAtDecoder, takes_all, no_memory, bad_bytes}
+use Rattle.qpack_spec.specs.Session.{bad_instruction, DeliversToDecoder, EndsAtEncoder, takes_all_at_encoder, bad_bytes_at_encoder, bad_decoder_instruction}
+use Rattle.qpack_spec.specs.Session.{DeliversToEncoder, increments}
 use Rattle.qpack_spec.proofs.Results.{ok_is}
 use Rattle.qpack_spec.proofs.PutTables.{applied_put, count_put}
 use Rattle.qpack_safety.specs.Refines.{Refines}
@@ -25,7 +25,7 @@ use Rattle.qpack_safety.proofs.Safely.{inv_safe}
 use Rattle.qpack_spec.proofs.Cuttings.{wire, refusal_apart, nothing_left, CarriesOn, carried_on, carried_more}
 use Rattle.qpack_safety.proofs.Deliveries.{taking_all, Took, takes_all as takes_lines, hearing_all, Listens}
 use Rattle.qpack_safety.proofs.Deliveries.{hears_all as hears_lines}
-use Rattle.qpack_safety.proofs.Shown.{replies_joined, increments_writable}
+use Rattle.qpack_safety.proofs.Shown.{decoder_instructions_joined, increments_writable}
 use Rattle.qpack_safety.proofs.WritingEvents.{RefinesSome}
 
 -- how long a piece is, and where it ends
@@ -37,34 +37,34 @@ piece_ends bytes front rest place most e order within =
 -- ---- to the decoder
 
 -- what a delivery's lines make of the session of values
-pub record Moved (capacity limit : ℕ) (v : Session) (w : AbstractSession) (n : ℕ) (lines : List Instruction)
+pub record Moved (capacity limit : ℕ) (v : Session) (w : AbstractSession) (n : ℕ) (lines : List EncoderInstruction)
     (front rest : List ℕ) (table : Table) : Type 0 where
-  pub on : CarriesOn Instruction SpellsInstruction v.sent v.sent_taken w.taken w.in_flight lines front rest
+  pub on : CarriesOn EncoderInstruction SpellsEncoderInstruction v.encoder_stream v.encoder_stream_taken w.taken w.in_flight lines front rest
   pub took : Took w (after_steps (taking_all lines) w) lines on.still
   pub keeps : Invariant capacity limit (after_steps (taking_all lines) w)
   pub table_is : table ≡ table_of (after_steps (taking_all lines) w).decoder
-  pub place : v.sent_taken + length front + length rest ≡ min (v.sent_delivered + n) (length v.sent)
-  pub unreported_is : to_report v table ≡ (after_steps (taking_all lines) w).unreported
+  pub place : v.encoder_stream_taken + length front + length rest ≡ min (v.encoder_stream_delivered + n) (length v.encoder_stream)
+  pub unreported_is : unreported_after v table ≡ (after_steps (taking_all lines) w).unreported
 
 pub moved : (capacity limit : ℕ) (v : Session) (w : AbstractSession) (n : ℕ) (o : Outcome) (v' : Session) → Refines v w
-    → Invariant capacity limit w → (c : DeliversTo v n o v') → Moved capacity limit v w n c.lines c.front c.rest c.table
+    → Invariant capacity limit w → (c : DeliversToDecoder v n o v') → Moved capacity limit v w n c.lines c.front c.rest c.table
 moved capacity limit v w n o v' sh k c =
     let on =
-    carried_on SpellsInstruction (wire instruction_form) v.sent v.sent_taken (v.sent_delivered + n) w.taken
+    carried_on SpellsEncoderInstruction (wire encoder_instruction_form) v.encoder_stream v.encoder_stream_taken (v.encoder_stream_delivered + n) w.taken
     w.in_flight c.lines c.front c.rest sh.encoder_stream (omega (arith, sh.sent_order)) c.offered c.joined in
     let t : Took w (after_steps (taking_all c.lines) w) c.lines on.still =
     takes_lines capacity limit w c.lines on.still k on.goes_on in
     let table_is : c.table ≡ table_of (after_steps (taking_all c.lines) w).decoder =
-    ok_is _ _ (sym c.applies ∙ ap (λ (x : Table). all_applied x c.lines) sh.decoder_is ∙ t.t_decoder) in
-    let before : count v.decoder ≡ total w.decoder = ap count sh.decoder_is ∙ count_put w.decoder in
-    let behind : count c.table ≡ total (after_steps (taking_all c.lines) w).decoder =
-    ap count table_is ∙ count_put (after_steps (taking_all c.lines) w).decoder in
+    ok_is _ _ (sym c.applies ∙ ap (λ (x : Table). apply_encoder_instructions x c.lines) sh.decoder_is ∙ t.t_decoder) in
+    let before : insert_count v.decoder ≡ window_insert_count w.decoder = ap insert_count sh.decoder_is ∙ count_put w.decoder in
+    let behind : insert_count c.table ≡ window_insert_count (after_steps (taking_all c.lines) w).decoder =
+    ap insert_count table_is ∙ count_put (after_steps (taking_all c.lines) w).decoder in
     record {
       on = on;
       took = t;
       keeps = inv_run capacity limit (taking_all c.lines) w k;
       table_is = table_is;
-      place = piece_ends v.sent c.front c.rest v.sent_taken (v.sent_delivered + n) c.offered
+      place = piece_ends v.encoder_stream c.front c.rest v.encoder_stream_taken (v.encoder_stream_delivered + n) c.offered
           (omega (arith, sh.sent_order))
           (omega (
             arith,
@@ -76,9 +76,9 @@ moved capacity limit v w n o v' sh k c =
     }
 
 -- the session with what was taken, and with what was told behind it
-moved_shown : (capacity limit : ℕ) (v : Session) (w : AbstractSession) (n : ℕ) (lines : List Instruction)
+moved_shown : (capacity limit : ℕ) (v : Session) (w : AbstractSession) (n : ℕ) (lines : List EncoderInstruction)
     (front rest : List ℕ) (table : Table) → Refines v w → Moved capacity limit v w n lines front rest table
-    → Refines (decoder_moved v n table (length front) (to_report v table) v.told) (after_steps (taking_all lines) w)
+    → Refines (with_decoder_moved v n table (length front) (unreported_after v table) v.decoder_stream) (after_steps (taking_all lines) w)
 moved_shown capacity limit v w n lines front rest table sh m =
     let t = m.took in
     let same : (after_steps (taking_all lines) w).taken ++ (after_steps (taking_all lines) w).in_flight
@@ -93,64 +93,64 @@ moved_shown capacity limit v w n lines front rest table sh m =
       encoder_stream = rw (t.t_taken, t.t_in_flight) m.on.carried;
       sent_order = omega (arith, m.place);
       heard_lines = sh.heard_lines;
-      decoder_stream = rw t.t_replies sh.decoder_stream;
+      decoder_stream = rw t.t_decoder_instructions sh.decoder_stream;
       told_order = sh.told_order;
       streams_are = λ s. rw (same, t.t_streams) (sh.streams_are s);
     }
 
 -- what is left begins with no refusal
-no_bad_bytes : (capacity limit : ℕ) (v : Session) (w : AbstractSession) (n : ℕ) (lines : List Instruction)
+no_bad_bytes : (capacity limit : ℕ) (v : Session) (w : AbstractSession) (n : ℕ) (lines : List EncoderInstruction)
     (front rest : List ℕ) (table : Table) (fault : FormFault) → Moved capacity limit v w n lines front rest table
-    → Begins (λ text. RefusesInstruction text fault) rest → ⊥
+    → Begins (λ encoding. RefusesEncoderInstruction encoding fault) rest → ⊥
 no_bad_bytes capacity limit v w n lines front rest table fault m b =
-    nothing_left SpellsInstruction (λ text. RefusesInstruction text fault)
-    (λ text r e. (let q = r.begins in absurd cc))
-    (λ a b x y l r s e. refusal_apart instruction_form fault a b x y l r s e)
-    m.on.still rest m.on.more b.text b.rest m.on.left b.parts b.holds
+    nothing_left SpellsEncoderInstruction (λ encoding. RefusesEncoderInstruction encoding fault)
+    (λ encoding r e. (let q = r.begins in absurd cc))
+    (λ a b x y l r s e. refusal_apart encoder_instruction_form fault a b x y l r s e)
+    m.on.still rest m.on.more b.encoding b.rest m.on.left b.parts b.holds
 
 -- what stands at the front of bytes that are lines is the first of them
-first_line : {L : Type 0} (form_of : ℕ → Option (Form L)) (still : List L) (rest more text behind : List ℕ) (l : L)
-    → Joined (λ t x. Spells L form_of t x) (rest ++ more) still → rest ≡ text ++ behind → Spells L form_of text l
+first_line : {L : Type 0} (form_of : ℕ → Option (Form L)) (still : List L) (rest more encoding behind : List ℕ) (l : L)
+    → Joined (λ t x. Spells L form_of t x) (rest ++ more) still → rest ≡ encoding ++ behind → Spells L form_of encoding l
     → (others : List L) × (still ≡ l ∷ others)
-first_line form_of [] rest more text behind l j e s = let q =
-    s.begins in absurd (let r : text ++ (behind ++ more) ≡ [] = sym (append_assoc text behind more)
+first_line form_of [] rest more encoding behind l j e s = let q =
+    s.begins in absurd (let r : encoding ++ (behind ++ more) ≡ [] = sym (append_assoc encoding behind more)
     ∙ ap (λ x. x ++ more) (sym e) ∙ j in cc)
-first_line form_of (i ∷ still) rest more text behind l j e s =
+first_line form_of (i ∷ still) rest more encoding behind l j e s =
     let same =
-    (wire form_of).one_spelling text j.0 (behind ++ more) j.1 l i s j.3 (sym (append_assoc text behind more)
+    (wire form_of).one_spelling encoding j.0 (behind ++ more) j.1 l i s j.3 (sym (append_assoc encoding behind more)
     ∙ ap (λ x. x ++ more) (sym e) ∙ j.2) in
     (still, ap (λ x. x ∷ still) (sym same.1))
 
-ok_not_err : (r : Result Window Refusal) (e : Refusal) → IsOk r
-    → (r >>= λ x. (let q : Result Table Refusal = Ok (table_of x) in q)) ≡ Err e → ⊥
+ok_not_err : (r : Result Window TableRefusal) (e : TableRefusal) → IsOk r
+    → (r >>= λ x. (let q : Result Table TableRefusal = Ok (table_of x) in q)) ≡ Err e → ⊥
 ok_not_err (Ok x) e h q = absurd cc
 ok_not_err (Err d) e h q = absurd cc
 
-no_bad_instruction : (capacity limit : ℕ) (v : Session) (w : AbstractSession) (n : ℕ) (lines : List Instruction)
-    (front rest : List ℕ) (table : Table) (text more : List ℕ) (i : Instruction) (e : Refusal)
+no_bad_instruction : (capacity limit : ℕ) (v : Session) (w : AbstractSession) (n : ℕ) (lines : List EncoderInstruction)
+    (front rest : List ℕ) (table : Table) (encoding more : List ℕ) (i : EncoderInstruction) (e : TableRefusal)
     → Moved capacity limit v w n lines front rest table
-    → rest ≡ text ++ more → SpellsInstruction text i → applied table i ≡ Err e → ⊥
-no_bad_instruction capacity limit v w n lines front rest table text more i e m cut s bad =
-    let f = first_line instruction_form m.on.still rest m.on.more text more i m.on.left cut s in
+    → rest ≡ encoding ++ more → SpellsEncoderInstruction encoding i → apply_encoder_instruction table i ≡ Err e → ⊥
+no_bad_instruction capacity limit v w n lines front rest table encoding more i e m cut s bad =
+    let f = first_line encoder_instruction_form m.on.still rest m.on.more encoding more i m.on.left cut s in
     let next =
     (inv_safe capacity limit (after_steps (taking_all lines) w) m.keeps).takes_next i f.0 (m.took.t_in_flight
     ∙ f.1) in
     ok_not_err (apply (after_steps (taking_all lines) w).decoder i) e next
-    (sym (applied_put (after_steps (taking_all lines) w).decoder i) ∙ ap (λ x. applied x i) (sym m.table_is) ∙ bad)
+    (sym (applied_put (after_steps (taking_all lines) w).decoder i) ∙ ap (λ x. apply_encoder_instruction x i) (sym m.table_is) ∙ bad)
 
 pub lands_delivered : (capacity limit : ℕ) (v : Session) (w : AbstractSession) (n : ℕ) (o : Outcome) (v' : Session)
-    → Refines v w → Invariant capacity limit w → DeliversTo v n o v' → RefinesSome capacity limit v'
+    → Refines v w → Invariant capacity limit w → DeliversToDecoder v n o v' → RefinesSome capacity limit v'
 lands_delivered capacity limit v w n o v' sh k c = go (moved capacity limit v w n o v' sh k c) c.ends
   where
     at : (u : Session) → v' ≡ u → RefinesSome capacity limit u → RefinesSome capacity limit v'
     at u e l = subst (RefinesSome capacity limit) (sym e) l
 
-    go : Moved capacity limit v w n c.lines c.front c.rest c.table → DeliveryEnds v n c.table c.front c.rest o v'
+    go : Moved capacity limit v w n c.lines c.front c.rest c.table → EndsAtDecoder v n c.table c.front c.rest o v'
         → RefinesSome capacity limit v'
     go m (takes_all pieces cut sizes sum is goes) =
         let shown = moved_shown capacity limit v w n c.lines c.front c.rest c.table sh m in
         let w1 = after_steps (taking_all c.lines) w in
-        at (decoder_moved v n c.table (length c.front) 0 (v.told ++ written_replies (increments pieces))) goes (record {
+        at (with_decoder_moved v n c.table (length c.front) 0 (v.decoder_stream ++ written_decoder_instructions (increments pieces))) goes (record {
           abstract = record w1 { decoder_in_flight = w1.decoder_in_flight ++ increments pieces; unreported = 0 };
           refines = record {
             encoder_is = shown.encoder_is;
@@ -160,16 +160,16 @@ lands_delivered capacity limit v w n o v' sh k c = go (moved capacity limit v w 
             sent_order = shown.sent_order;
             heard_lines = shown.heard_lines;
             decoder_stream =
-                carried_more SpellsReply v.told (written_replies (increments pieces)) v.told_taken shown.heard_lines
+                carried_more SpellsDecoderInstruction v.decoder_stream (written_decoder_instructions (increments pieces)) v.decoder_stream_taken shown.heard_lines
                 w1.decoder_in_flight (increments pieces) shown.decoder_stream
-                (replies_joined (increments pieces) (increments_writable pieces sizes));
+                (decoder_instructions_joined (increments pieces) (increments_writable pieces sizes));
             told_order = shown.told_order;
             streams_are = shown.streams_are;
           };
           keeps = inv_reported capacity limit w1 pieces (sum ∙ m.unreported_is) m.keeps;
         })
     go m (no_memory is goes) =
-        at (decoder_moved v n c.table (length c.front) (to_report v c.table) v.told) goes
+        at (with_decoder_moved v n c.table (length c.front) (unreported_after v c.table) v.decoder_stream) goes
         (record {
           abstract = after_steps (taking_all c.lines) w;
           refines = moved_shown capacity limit v w n c.lines c.front c.rest c.table sh m;
@@ -177,37 +177,37 @@ lands_delivered capacity limit v w n o v' sh k c = go (moved capacity limit v w 
         })
     go m (bad_bytes fault b is goes) =
         absurd (no_bad_bytes capacity limit v w n c.lines c.front c.rest c.table fault m b)
-    go m (bad_instruction text more i e cut s bad is goes) =
-        absurd (no_bad_instruction capacity limit v w n c.lines c.front c.rest c.table text more i e m cut s bad)
+    go m (bad_instruction encoding more i e cut s bad is goes) =
+        absurd (no_bad_instruction capacity limit v w n c.lines c.front c.rest c.table encoding more i e m cut s bad)
 
 pub delivered_lawful : (capacity limit : ℕ) (v : Session) (w : AbstractSession) (n : ℕ) (fault : StreamFault)
-    (v' : Session) → Refines v w → Invariant capacity limit w → DeliversTo v n (Refused fault) v' → ⊥
+    (v' : Session) → Refines v w → Invariant capacity limit w → DeliversToDecoder v n (Refused fault) v' → ⊥
 delivered_lawful capacity limit v w n fault v' sh k c = go (moved capacity limit v w n (Refused fault) v' sh k c) c.ends
   where
     go : Moved capacity limit v w n c.lines c.front c.rest c.table
-        → DeliveryEnds v n c.table c.front c.rest (Refused fault) v' → ⊥
+        → EndsAtDecoder v n c.table c.front c.rest (Refused fault) v' → ⊥
     go m (takes_all pieces cut sizes sum is goes) = absurd cc
     go m (no_memory is goes) = absurd cc
     go m (bad_bytes f b is goes) = no_bad_bytes capacity limit v w n c.lines c.front c.rest c.table f m b
-    go m (bad_instruction text more i e cut s bad is goes) =
-        no_bad_instruction capacity limit v w n c.lines c.front c.rest c.table text more i e m cut s bad
+    go m (bad_instruction encoding more i e cut s bad is goes) =
+        no_bad_instruction capacity limit v w n c.lines c.front c.rest c.table encoding more i e m cut s bad
 
 -- ---- to the encoder
 
-record Reached (capacity limit : ℕ) (v : Session) (w : AbstractSession) (n : ℕ) (lines : List Reply)
-    (front rest : List ℕ) (table : Table) (before : List Reply) : Type 0 where
-  pub on : CarriesOn Reply SpellsReply v.told v.told_taken before w.decoder_in_flight lines front rest
+record Reached (capacity limit : ℕ) (v : Session) (w : AbstractSession) (n : ℕ) (lines : List DecoderInstruction)
+    (front rest : List ℕ) (table : Table) (before : List DecoderInstruction) : Type 0 where
+  pub on : CarriesOn DecoderInstruction SpellsDecoderInstruction v.decoder_stream v.decoder_stream_taken before w.decoder_in_flight lines front rest
   pub listens : Listens w (after_steps (hearing_all lines) w) lines on.still
   pub keeps : Invariant capacity limit (after_steps (hearing_all lines) w)
   pub table_is : table ≡ (after_steps (hearing_all lines) w).encoder
-  pub place : v.told_taken + length front + length rest ≡ min (v.told_delivered + n) (length v.told)
+  pub place : v.decoder_stream_taken + length front + length rest ≡ min (v.decoder_stream_delivered + n) (length v.decoder_stream)
 
 reached : (capacity limit : ℕ) (v : Session) (w : AbstractSession) (n : ℕ) (o : Outcome) (v' : Session)
-    (sh : Refines v w) → Invariant capacity limit w → (c : HearsFrom v n o v')
+    (sh : Refines v w) → Invariant capacity limit w → (c : DeliversToEncoder v n o v')
     → Reached capacity limit v w n c.lines c.front c.rest c.table sh.heard_lines
 reached capacity limit v w n o v' sh k c =
     let on =
-    carried_on SpellsReply (wire reply_form) v.told v.told_taken (v.told_delivered + n) sh.heard_lines
+    carried_on SpellsDecoderInstruction (wire decoder_instruction_form) v.decoder_stream v.decoder_stream_taken (v.decoder_stream_delivered + n) sh.heard_lines
     w.decoder_in_flight c.lines c.front c.rest sh.decoder_stream (omega (arith, sh.told_order)) c.offered c.joined
     in
     let t : Listens w (after_steps (hearing_all c.lines) w) c.lines on.still =
@@ -216,8 +216,8 @@ reached capacity limit v w n o v' sh k c =
       on = on;
       listens = t;
       keeps = inv_run capacity limit (hearing_all c.lines) w k;
-      table_is = ok_is _ _ (sym c.hears ∙ ap (λ (x : Table). all_heard x c.lines) sh.encoder_is ∙ t.l_encoder);
-      place = piece_ends v.told c.front c.rest v.told_taken (v.told_delivered + n) c.offered
+      table_is = ok_is _ _ (sym c.hears ∙ ap (λ (x : Table). apply_decoder_instructions x c.lines) sh.encoder_is ∙ t.l_encoder);
+      place = piece_ends v.decoder_stream c.front c.rest v.decoder_stream_taken (v.decoder_stream_delivered + n) c.offered
           (omega (arith, sh.told_order))
           (omega (
             arith,
@@ -227,37 +227,37 @@ reached capacity limit v w n o v' sh k c =
           ));
     }
 
-no_bad_reply_bytes : (capacity limit : ℕ) (v : Session) (w : AbstractSession) (n : ℕ) (lines : List Reply)
-    (front rest : List ℕ) (table : Table) (before : List Reply) (fault : FormFault)
+no_bad_decoder_instruction_bytes : (capacity limit : ℕ) (v : Session) (w : AbstractSession) (n : ℕ) (lines : List DecoderInstruction)
+    (front rest : List ℕ) (table : Table) (before : List DecoderInstruction) (fault : FormFault)
     → Reached capacity limit v w n lines front rest table before
-    → Begins (λ text. RefusesReply text fault) rest → ⊥
-no_bad_reply_bytes capacity limit v w n lines front rest table before fault m b =
-    nothing_left SpellsReply (λ text. RefusesReply text fault)
-    (λ text r e. (let q = r.begins in absurd cc)) (λ a b x y l r s e. refusal_apart reply_form fault a b x y l r s e)
-    m.on.still rest m.on.more b.text b.rest m.on.left b.parts b.holds
+    → Begins (λ encoding. RefusesDecoderInstruction encoding fault) rest → ⊥
+no_bad_decoder_instruction_bytes capacity limit v w n lines front rest table before fault m b =
+    nothing_left SpellsDecoderInstruction (λ encoding. RefusesDecoderInstruction encoding fault)
+    (λ encoding r e. (let q = r.begins in absurd cc)) (λ a b x y l r s e. refusal_apart decoder_instruction_form fault a b x y l r s e)
+    m.on.still rest m.on.more b.encoding b.rest m.on.left b.parts b.holds
 
-ok_not_refused : (r : Result Table Refusal) (e : Refusal) → IsOk r → r ≡ Err e → ⊥
+ok_not_refused : (r : Result Table TableRefusal) (e : TableRefusal) → IsOk r → r ≡ Err e → ⊥
 ok_not_refused (Ok x) e h q = absurd cc
 ok_not_refused (Err d) e h q = absurd cc
 
-no_bad_reply : (capacity limit : ℕ) (v : Session) (w : AbstractSession) (n : ℕ) (lines : List Reply)
-    (front rest : List ℕ) (table : Table) (before : List Reply) (text more : List ℕ) (r : Reply) (e : Refusal)
+no_bad_decoder_instruction : (capacity limit : ℕ) (v : Session) (w : AbstractSession) (n : ℕ) (lines : List DecoderInstruction)
+    (front rest : List ℕ) (table : Table) (before : List DecoderInstruction) (encoding more : List ℕ) (r : DecoderInstruction) (e : TableRefusal)
     → Reached capacity limit v w n lines front rest table before
-    → rest ≡ text ++ more → SpellsReply text r → heard table r ≡ Err e → ⊥
-no_bad_reply capacity limit v w n lines front rest table before text more r e m cut s bad =
-    let f = first_line reply_form m.on.still rest m.on.more text more r m.on.left cut s in
+    → rest ≡ encoding ++ more → SpellsDecoderInstruction encoding r → apply_decoder_instruction table r ≡ Err e → ⊥
+no_bad_decoder_instruction capacity limit v w n lines front rest table before encoding more r e m cut s bad =
+    let f = first_line decoder_instruction_form m.on.still rest m.on.more encoding more r m.on.left cut s in
     let next =
-    (inv_safe capacity limit (after_steps (hearing_all lines) w) m.keeps).hears_next r f.0 (m.listens.l_replies
+    (inv_safe capacity limit (after_steps (hearing_all lines) w) m.keeps).hears_next r f.0 (m.listens.l_decoder_instructions
     ∙ f.1) in
-    ok_not_refused (heard (after_steps (hearing_all lines) w).encoder r) e next (ap (λ x. heard x r) (sym m.table_is)
+    ok_not_refused (apply_decoder_instruction (after_steps (hearing_all lines) w).encoder r) e next (ap (λ x. apply_decoder_instruction x r) (sym m.table_is)
     ∙ bad)
 
 pub lands_heard : (capacity limit : ℕ) (v : Session) (w : AbstractSession) (n : ℕ) (o : Outcome) (v' : Session)
-    → Refines v w → Invariant capacity limit w → HearsFrom v n o v' → RefinesSome capacity limit v'
+    → Refines v w → Invariant capacity limit w → DeliversToEncoder v n o v' → RefinesSome capacity limit v'
 lands_heard capacity limit v w n o v' sh k c = go (reached capacity limit v w n o v' sh k c) c.ends
   where
     shown : Reached capacity limit v w n c.lines c.front c.rest c.table sh.heard_lines
-        → Refines (encoder_moved v n c.table (length c.front)) (after_steps (hearing_all c.lines) w)
+        → Refines (with_encoder_moved v n c.table (length c.front)) (after_steps (hearing_all c.lines) w)
     shown m =
         let t = m.listens in
         record {
@@ -267,30 +267,30 @@ lands_heard capacity limit v w n o v' sh k c = go (reached capacity limit v w n 
           encoder_stream = rw (t.l_taken, t.l_in_flight) sh.encoder_stream;
           sent_order = sh.sent_order;
           heard_lines = sh.heard_lines ++ c.lines;
-          decoder_stream = rw t.l_replies m.on.carried;
+          decoder_stream = rw t.l_decoder_instructions m.on.carried;
           told_order = omega (arith, m.place);
           streams_are = λ s. rw (t.l_taken, t.l_in_flight, t.l_streams) (sh.streams_are s);
         }
 
     go : Reached capacity limit v w n c.lines c.front c.rest c.table sh.heard_lines
-        → HearingEnds v n c.table c.front c.rest o v' → RefinesSome capacity limit v'
-    go m (hears_all cut is goes) =
+        → EndsAtEncoder v n c.table c.front c.rest o v' → RefinesSome capacity limit v'
+    go m (takes_all_at_encoder cut is goes) =
         subst (RefinesSome capacity limit) (sym goes)
         (record { abstract = after_steps (hearing_all c.lines) w; refines = shown m; keeps = m.keeps })
-    go m (bad_bytes_heard fault b is goes) =
-        absurd (no_bad_reply_bytes capacity limit v w n c.lines c.front c.rest c.table sh.heard_lines fault m b)
-    go m (bad_reply text more r e cut s bad is goes) =
-        absurd (no_bad_reply capacity limit v w n c.lines c.front c.rest c.table sh.heard_lines text more r e m cut s
+    go m (bad_bytes_at_encoder fault b is goes) =
+        absurd (no_bad_decoder_instruction_bytes capacity limit v w n c.lines c.front c.rest c.table sh.heard_lines fault m b)
+    go m (bad_decoder_instruction encoding more r e cut s bad is goes) =
+        absurd (no_bad_decoder_instruction capacity limit v w n c.lines c.front c.rest c.table sh.heard_lines encoding more r e m cut s
         bad)
 
 pub heard_lawful : (capacity limit : ℕ) (v : Session) (w : AbstractSession) (n : ℕ) (fault : StreamFault)
-    (v' : Session) → Refines v w → Invariant capacity limit w → HearsFrom v n (Refused fault) v' → ⊥
+    (v' : Session) → Refines v w → Invariant capacity limit w → DeliversToEncoder v n (Refused fault) v' → ⊥
 heard_lawful capacity limit v w n fault v' sh k c = go (reached capacity limit v w n (Refused fault) v' sh k c) c.ends
   where
     go : Reached capacity limit v w n c.lines c.front c.rest c.table sh.heard_lines
-        → HearingEnds v n c.table c.front c.rest (Refused fault) v' → ⊥
-    go m (hears_all cut is goes) = absurd cc
-    go m (bad_bytes_heard f b is goes) =
-        no_bad_reply_bytes capacity limit v w n c.lines c.front c.rest c.table sh.heard_lines f m b
-    go m (bad_reply text more r e cut s bad is goes) =
-        no_bad_reply capacity limit v w n c.lines c.front c.rest c.table sh.heard_lines text more r e m cut s bad
+        → EndsAtEncoder v n c.table c.front c.rest (Refused fault) v' → ⊥
+    go m (takes_all_at_encoder cut is goes) = absurd cc
+    go m (bad_bytes_at_encoder f b is goes) =
+        no_bad_decoder_instruction_bytes capacity limit v w n c.lines c.front c.rest c.table sh.heard_lines f m b
+    go m (bad_decoder_instruction encoding more r e cut s bad is goes) =
+        no_bad_decoder_instruction capacity limit v w n c.lines c.front c.rest c.table sh.heard_lines encoding more r e m cut s bad

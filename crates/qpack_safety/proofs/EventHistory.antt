@@ -5,16 +5,16 @@ use Rattle.std.specs.Prelude.{nat_eq}
 use Rattle.std.proofs.lemmas.Bool.{cases_eq, eq-eqb, ne_eqb}
 use Rattle.std.proofs.lemmas.List.{append-nil, append_assoc, map-append}
 use Rattle.qpack_spec.specs.Field.{Field}
-use Rattle.qpack_spec.specs.Instruction.{written_instructions}
+use Rattle.qpack_spec.specs.Instruction.{written_encoder_instructions}
 use Rattle.qpack_spec.specs.Reading.{Reading, Fields, Missing, Faulty}
 use Rattle.qpack_spec.specs.BlockReading.{reading_of_bytes, written_block}
 use Rattle.qpack_spec.specs.Table.{Table, window}
-use Rattle.qpack_spec.specs.Rule.{rule, required_of, block_of}
+use Rattle.qpack_spec.specs.Rule.{rule, required_insert_count, block_of}
 use Rattle.qpack_spec.specs.Session.{KeptBlock, KeptStream, stream_at, Session, Event, Encode, Decode, ToDecoder}
 use Rattle.qpack_spec.specs.Session.{ToEncoder, Acknowledge, Cancel, ChangeCapacity, Outcome, Encoded}
-use Rattle.qpack_spec.specs.Session.{Skipped, decode_outcome, with_block, with_decoded, is_read, DeliveryEnds}
-use Rattle.qpack_spec.specs.Session.{takes_all, no_memory, bad_bytes, bad_instruction, HearingEnds}
-use Rattle.qpack_spec.specs.Session.{hears_all, bad_bytes_heard, bad_reply, Happens, Goes, Runs}
+use Rattle.qpack_spec.specs.Session.{Skipped, decode_outcome, with_block, with_decoded, is_read, EndsAtDecoder}
+use Rattle.qpack_spec.specs.Session.{takes_all, no_memory, bad_bytes, bad_instruction, EndsAtEncoder}
+use Rattle.qpack_spec.specs.Session.{takes_all_at_encoder, bad_bytes_at_encoder, bad_decoder_instruction, LawfulStep, Step, Run}
 use Rattle.qpack_safety.specs.SessionSafety.{AnsweredEncode, encode_of, decode_of, encodes_on, decodes_on}
 use Rattle.qpack_safety.specs.SessionSafety.{encode_behind}
 
@@ -69,10 +69,10 @@ adds_none v v' s e =
     }
 
 -- a stream with as many blocks, of which so many more are decoded
-adds_decoded : (v : Session) (t s : ℕ) (k : KeptStream) (n : ℕ) (told : List ℕ)
+adds_decoded : (v : Session) (t s : ℕ) (k : KeptStream) (n : ℕ) (decoder_stream : List ℕ)
     → k.blocks ≡ (stream_at v.streams t).blocks → k.decoded ≡ (stream_at v.streams t).decoded + n
-    → Adds v (record v { streams = (t, k) ∷ v.streams; told = told }) s [] (cond (nat_eq t s) n 0)
-adds_decoded v t s k n told b d =
+    → Adds v (record v { streams = (t, k) ∷ v.streams; decoder_stream = decoder_stream }) s [] (cond (nat_eq t s) n 0)
+adds_decoded v t s k n decoder_stream b d =
     record {
       more = [];
       blocks = blocks_changed v.streams t k [] (b ∙ sym (append-nil (stream_at v.streams t).blocks)) s
@@ -82,24 +82,24 @@ adds_decoded v t s k n told b d =
     }
 
 -- a stream that only stands elsewhere
-same_stream : (v : Session) (t s : ℕ) (k : KeptStream) (told : List ℕ) → k.blocks ≡ (stream_at v.streams t).blocks
+same_stream : (v : Session) (t s : ℕ) (k : KeptStream) (decoder_stream : List ℕ) → k.blocks ≡ (stream_at v.streams t).blocks
     → k.decoded ≡ (stream_at v.streams t).decoded
-    → Adds v (record v { streams = (t, k) ∷ v.streams; told = told }) s [] 0
-same_stream v t s k told b d =
-    subst (Adds v (record v { streams = (t, k) ∷ v.streams; told = told }) s []) (cond_zero (nat_eq t s))
-    (adds_decoded v t s k 0 told b (d ∙ omega arith))
+    → Adds v (record v { streams = (t, k) ∷ v.streams; decoder_stream = decoder_stream }) s [] 0
+same_stream v t s k decoder_stream b d =
+    subst (Adds v (record v { streams = (t, k) ∷ v.streams; decoder_stream = decoder_stream }) s []) (cond_zero (nat_eq t s))
+    (adds_decoded v t s k 0 decoder_stream b (d ∙ omega arith))
 
 adds_block : (v : Session) (t : ℕ) (fs : List Field) (s : ℕ)
-    → Adds v (with_block v t fs) s (encode_of s (Encode t fs) (Encoded (required_of (rule v.encoder fs)))) 0
+    → Adds v (with_block v t fs) s (encode_of s (Encode t fs) (Encoded (required_insert_count (rule v.encoder fs)))) 0
 adds_block v t fs s =
     let d = rule v.encoder fs in
     let old = stream_at v.streams t in
     let b : KeptBlock =
     record {
       bytes = written_block (block_of v.encoder d);
-      required = required_of d;
-      end = length (v.sent ++ written_instructions d.instructions);
-      handed = fs;
+      required = required_insert_count d;
+      end = length (v.encoder_stream ++ written_encoder_instructions d.instructions);
+      fields = fs;
     } in
     let k : KeptStream = record old { blocks = old.blocks ++ b ∷ [] } in
     record {
@@ -119,28 +119,28 @@ adds_block v t fs s =
 -- what a decode of a stream answers, and what it moves
 adds_read : (v : Session) (t : ℕ) (r : Reading) (s : ℕ)
     → Adds v (cond (is_read (Some r)) (with_decoded v t) v) s [] (decode_of s (Decode t) (decode_outcome r))
-adds_read v t (Fields fs d) s = adds_decoded v t s _ 1 v.told refl refl
+adds_read v t (Fields fs d) s = adds_decoded v t s _ 1 v.decoder_stream refl refl
 adds_read v t (Missing n) s = adds_none v v s refl
 adds_read v t (Faulty f) s = adds_none v v s refl
 
 adds_delivery : (v : Session) (n : ℕ) (t : Table) (front rest : List ℕ) (o : Outcome) (v' : Session) (s : ℕ)
-    → DeliveryEnds v n t front rest o v' → Adds v v' s [] 0
+    → EndsAtDecoder v n t front rest o v' → Adds v v' s [] 0
 adds_delivery v n t front rest o v' s (takes_all pieces cut sizes sum is goes) =
     adds_none v v' s (ap (λ (x : Session). stream_at x.streams s) goes)
 adds_delivery v n t front rest o v' s (no_memory is goes) =
     adds_none v v' s (ap (λ (x : Session). stream_at x.streams s) goes)
 adds_delivery v n t front rest o v' s (bad_bytes fault b is goes) =
     adds_none v v' s (ap (λ (x : Session). stream_at x.streams s) goes)
-adds_delivery v n t front rest o v' s (bad_instruction text more i e cut x bad is goes) =
+adds_delivery v n t front rest o v' s (bad_instruction encoding more i e cut x bad is goes) =
     adds_none v v' s (ap (λ (x : Session). stream_at x.streams s) goes)
 
 adds_hearing : (v : Session) (n : ℕ) (t : Table) (front rest : List ℕ) (o : Outcome) (v' : Session) (s : ℕ)
-    → HearingEnds v n t front rest o v' → Adds v v' s [] 0
-adds_hearing v n t front rest o v' s (hears_all cut is goes) =
+    → EndsAtEncoder v n t front rest o v' → Adds v v' s [] 0
+adds_hearing v n t front rest o v' s (takes_all_at_encoder cut is goes) =
     adds_none v v' s (ap (λ (x : Session). stream_at x.streams s) goes)
-adds_hearing v n t front rest o v' s (bad_bytes_heard fault b is goes) =
+adds_hearing v n t front rest o v' s (bad_bytes_at_encoder fault b is goes) =
     adds_none v v' s (ap (λ (x : Session). stream_at x.streams s) goes)
-adds_hearing v n t front rest o v' s (bad_reply text more r e cut x bad is goes) =
+adds_hearing v n t front rest o v' s (bad_decoder_instruction encoding more r e cut x bad is goes) =
     adds_none v v' s (ap (λ (x : Session). stream_at x.streams s) goes)
 
 -- where the answer and the session behind it are known
@@ -152,8 +152,8 @@ known_as : (v : Session) (e : Event) (s : ℕ) (o o1 : Outcome) (v' v1 : Session
 known_as v e s o o1 v' v1 p q h =
     subst (λ (x : Outcome). EventAdds v e s x v') (sym p) (subst (λ (x : Session). EventAdds v e s o1 x) (sym q) h)
 
-happens_adds : (v : Session) (e : Event) (o : Outcome) (v' : Session) (s : ℕ) → Happens v e o v' → EventAdds v e s o v'
-unfolding Happens
+happens_adds : (v : Session) (e : Event) (o : Outcome) (v' : Session) (s : ℕ) → LawfulStep v e o v' → EventAdds v e s o v'
+unfolding LawfulStep
 happens_adds v (Encode t fs) o v' s (inl h) = known_as v (Encode t fs) s o _ v' _ h.0 h.1 (adds_block v t fs s)
 happens_adds v (Encode t fs) o v' s (inr (inl h)) =
     known_as v (Encode t fs) s o _ v' _ h.answers h.leads (adds_none v _ s refl)
@@ -186,7 +186,7 @@ skipped_adds v (Acknowledge t) reason s = adds_none v v s refl
 skipped_adds v (Cancel t) reason s = adds_none v v s refl
 skipped_adds v (ChangeCapacity n) reason s = adds_none v v s refl
 
-pub goes_adds : (v : Session) (e : Event) (o : Outcome) (v' : Session) (s : ℕ) → Goes v e o v'
+pub goes_adds : (v : Session) (e : Event) (o : Outcome) (v' : Session) (s : ℕ) → Step v e o v'
     → Adds v v' s (encode_of s e o) (decode_of s e o)
 goes_adds v e o v' s (inl h) = known_as v e s o _ v' v h.answers h.stays (skipped_adds v e h.reason s)
 goes_adds v e o v' s (inr h) = happens_adds v e o v' s h.1
@@ -194,7 +194,7 @@ goes_adds v e o v' s (inr h) = happens_adds v e o v' s h.1
 -- ---- a run
 
 -- the blocks of a stream are those of its encodes that were answered, and as many are decoded as answered fields
-pub runs_add : (v : Session) (events : List (Event × Outcome)) (v' : Session) (s : ℕ) → Runs v events v'
+pub runs_add : (v : Session) (events : List (Event × Outcome)) (v' : Session) (s : ℕ) → Run v events v'
     → Adds v v' s (encodes_on s events) (decodes_on s events)
 runs_add v [] v' s r = subst (λ (x : Session). Adds v x s [] 0) r (adds_none v v s refl)
 runs_add v (p ∷ events) v' s r =

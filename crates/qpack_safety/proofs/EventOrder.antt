@@ -5,52 +5,52 @@ use Rattle.std.proofs.lemmas.List.{append-nil, append_assoc}
 use Rattle.qpack_spec.specs.BlockReading.{reading_of_bytes}
 use Rattle.qpack_spec.specs.Table.{Table, window}
 use Rattle.qpack_spec.specs.Session.{Session, Event, Encode, Decode, ToDecoder, ToEncoder, Acknowledge, Cancel}
-use Rattle.qpack_spec.specs.Session.{ChangeCapacity, Outcome, with_decoded, is_read, is_consumed, decoder_moved}
-use Rattle.qpack_spec.specs.Session.{encoder_moved, DeliveryEnds, takes_all, no_memory, bad_bytes, bad_instruction}
-use Rattle.qpack_spec.specs.Session.{HearingEnds, hears_all, bad_bytes_heard, bad_reply, Happens}
-use Rattle.qpack_spec.specs.Session.{Goes, Runs}
+use Rattle.qpack_spec.specs.Session.{ChangeCapacity, Outcome, with_decoded, is_read, is_consumed, with_decoder_moved}
+use Rattle.qpack_spec.specs.Session.{with_encoder_moved, EndsAtDecoder, takes_all, no_memory, bad_bytes, bad_instruction}
+use Rattle.qpack_spec.specs.Session.{EndsAtEncoder, takes_all_at_encoder, bad_bytes_at_encoder, bad_decoder_instruction, LawfulStep}
+use Rattle.qpack_spec.specs.Session.{Step, Run}
 use Rattle.qpack_safety.specs.SessionSafety.{IsOrdered, Extends, Advances}
 use Rattle.qpack_safety.proofs.DeliveryEvents.{piece_ends}
 use Rattle.qpack_safety.proofs.EventHistory.{goes_adds}
 
 -- what an event does to both streams
 pub record Moves (v v' : Session) : Type 0 where
-  pub sent : Extends v.sent v'.sent
-  pub told : Extends v.told v'.told
-  pub sent_taken : v.sent_taken ≤ v'.sent_taken
-  pub sent_delivered : v.sent_delivered ≤ v'.sent_delivered
-  pub told_taken : v.told_taken ≤ v'.told_taken
-  pub told_delivered : v.told_delivered ≤ v'.told_delivered
+  pub encoder_stream : Extends v.encoder_stream v'.encoder_stream
+  pub decoder_stream : Extends v.decoder_stream v'.decoder_stream
+  pub encoder_stream_taken : v.encoder_stream_taken ≤ v'.encoder_stream_taken
+  pub encoder_stream_delivered : v.encoder_stream_delivered ≤ v'.encoder_stream_delivered
+  pub decoder_stream_taken : v.decoder_stream_taken ≤ v'.decoder_stream_taken
+  pub decoder_stream_delivered : v.decoder_stream_delivered ≤ v'.decoder_stream_delivered
   pub ordered : IsOrdered v'
 
 extends_none : {X : Type 0} (xs : List X) → Extends xs xs
 extends_none xs = ([], sym (append-nil xs))
 
 -- more is written, and nothing moves
-record Writes (v v' : Session) (sent told : List ℕ) : Type 0 where
-  pub sent_is : v'.sent ≡ v.sent ++ sent
-  pub told_is : v'.told ≡ v.told ++ told
-  pub sent_taken_is : v'.sent_taken ≡ v.sent_taken
-  pub sent_delivered_is : v'.sent_delivered ≡ v.sent_delivered
-  pub told_taken_is : v'.told_taken ≡ v.told_taken
-  pub told_delivered_is : v'.told_delivered ≡ v.told_delivered
+record Writes (v v' : Session) (encoder_stream decoder_stream : List ℕ) : Type 0 where
+  pub sent_is : v'.encoder_stream ≡ v.encoder_stream ++ encoder_stream
+  pub told_is : v'.decoder_stream ≡ v.decoder_stream ++ decoder_stream
+  pub sent_taken_is : v'.encoder_stream_taken ≡ v.encoder_stream_taken
+  pub sent_delivered_is : v'.encoder_stream_delivered ≡ v.encoder_stream_delivered
+  pub told_taken_is : v'.decoder_stream_taken ≡ v.decoder_stream_taken
+  pub told_delivered_is : v'.decoder_stream_delivered ≡ v.decoder_stream_delivered
 
-writes_moves : (v v' : Session) (sent told : List ℕ) → IsOrdered v → Writes v v' sent told → Moves v v'
-writes_moves v v' sent told o w =
+writes_moves : (v v' : Session) (encoder_stream decoder_stream : List ℕ) → IsOrdered v → Writes v v' encoder_stream decoder_stream → Moves v v'
+writes_moves v v' encoder_stream decoder_stream o w =
     record {
-      sent = (sent, w.sent_is);
-      told = (told, w.told_is);
-      sent_taken = omega (arith, w.sent_taken_is);
-      sent_delivered = omega (arith, w.sent_delivered_is);
-      told_taken = omega (arith, w.told_taken_is);
-      told_delivered = omega (arith, w.told_delivered_is);
+      encoder_stream = (encoder_stream, w.sent_is);
+      decoder_stream = (decoder_stream, w.told_is);
+      encoder_stream_taken = omega (arith, w.sent_taken_is);
+      encoder_stream_delivered = omega (arith, w.sent_delivered_is);
+      decoder_stream_taken = omega (arith, w.told_taken_is);
+      decoder_stream_delivered = omega (arith, w.told_delivered_is);
       ordered = record {
-        sent_taken = omega (arith, o.sent_taken, w.sent_taken_is, w.sent_delivered_is);
-        sent_delivered =
-            omega (arith, o.sent_delivered, w.sent_delivered_is, ap length w.sent_is, length-append v.sent sent);
-        told_taken = omega (arith, o.told_taken, w.told_taken_is, w.told_delivered_is);
-        told_delivered =
-            omega (arith, o.told_delivered, w.told_delivered_is, ap length w.told_is, length-append v.told told);
+        encoder_stream_taken = omega (arith, o.encoder_stream_taken, w.sent_taken_is, w.sent_delivered_is);
+        encoder_stream_delivered =
+            omega (arith, o.encoder_stream_delivered, w.sent_delivered_is, ap length w.sent_is, length-append v.encoder_stream encoder_stream);
+        decoder_stream_taken = omega (arith, o.decoder_stream_taken, w.told_taken_is, w.told_delivered_is);
+        decoder_stream_delivered =
+            omega (arith, o.decoder_stream_delivered, w.told_delivered_is, ap length w.told_is, length-append v.decoder_stream decoder_stream);
       };
     }
 
@@ -59,8 +59,8 @@ stays_ordered : (v v' : Session) → IsOrdered v → v' ≡ v → Moves v v'
 stays_ordered v v' o e =
     subst (Moves v) (sym e) (writes_moves v v [] [] o
     (record {
-      sent_is = sym (append-nil v.sent);
-      told_is = sym (append-nil v.told);
+      sent_is = sym (append-nil v.encoder_stream);
+      told_is = sym (append-nil v.decoder_stream);
       sent_taken_is = refl;
       sent_delivered_is = refl;
       told_taken_is = refl;
@@ -69,93 +69,93 @@ stays_ordered v v' o e =
 
 -- the decoder is delivered bytes
 delivers_moves : (v : Session) (n : ℕ) (t : Table) (consumed unreported : ℕ) (more : List ℕ) → IsOrdered v
-    → v.sent_taken + consumed ≤ min (v.sent_delivered + n) (length v.sent)
-    → Moves v (decoder_moved v n t consumed unreported (v.told ++ more))
+    → v.encoder_stream_taken + consumed ≤ min (v.encoder_stream_delivered + n) (length v.encoder_stream)
+    → Moves v (with_decoder_moved v n t consumed unreported (v.decoder_stream ++ more))
 delivers_moves v n t consumed unreported more o within =
     record {
-      sent = extends_none v.sent;
-      told = (more, refl);
-      sent_taken = omega arith;
-      sent_delivered = omega (arith, o.sent_delivered);
-      told_taken = omega arith;
-      told_delivered = omega arith;
+      encoder_stream = extends_none v.encoder_stream;
+      decoder_stream = (more, refl);
+      encoder_stream_taken = omega arith;
+      encoder_stream_delivered = omega (arith, o.encoder_stream_delivered);
+      decoder_stream_taken = omega arith;
+      decoder_stream_delivered = omega arith;
       ordered =
           record {
-            sent_taken = within;
-            sent_delivered = omega arith;
-            told_taken = o.told_taken;
-            told_delivered = omega (arith, o.told_delivered, length-append v.told more);
+            encoder_stream_taken = within;
+            encoder_stream_delivered = omega arith;
+            decoder_stream_taken = o.decoder_stream_taken;
+            decoder_stream_delivered = omega (arith, o.decoder_stream_delivered, length-append v.decoder_stream more);
           };
     }
 
 delivery_quiet : (v : Session) (n : ℕ) (t : Table) (consumed unreported : ℕ) → IsOrdered v
-    → v.sent_taken + consumed ≤ min (v.sent_delivered + n) (length v.sent)
-    → Moves v (decoder_moved v n t consumed unreported v.told)
+    → v.encoder_stream_taken + consumed ≤ min (v.encoder_stream_delivered + n) (length v.encoder_stream)
+    → Moves v (with_decoder_moved v n t consumed unreported v.decoder_stream)
 delivery_quiet v n t consumed unreported o within =
-    subst (λ (l : List ℕ). Moves v (decoder_moved v n t consumed unreported l)) (append-nil v.told)
+    subst (λ (l : List ℕ). Moves v (with_decoder_moved v n t consumed unreported l)) (append-nil v.decoder_stream)
     (delivers_moves v n t consumed unreported [] o within)
 
-consumed_within : (b : Bool) (front text more rest : ℕ) → rest ≡ text + more → front + cond b text 0 ≤ front + rest
-consumed_within true front text more rest e = omega (arith, e)
-consumed_within false front text more rest e = omega arith
+consumed_within : (b : Bool) (front encoding more rest : ℕ) → rest ≡ encoding + more → front + cond b encoding 0 ≤ front + rest
+consumed_within true front encoding more rest e = omega (arith, e)
+consumed_within false front encoding more rest e = omega arith
 
 delivery_moves : (v : Session) (n : ℕ) (t : Table) (front rest : List ℕ) (o : Outcome) (v' : Session) → IsOrdered v
-    → v.sent_taken + length front + length rest ≡ min (v.sent_delivered + n) (length v.sent)
-    → DeliveryEnds v n t front rest o v' → Moves v v'
+    → v.encoder_stream_taken + length front + length rest ≡ min (v.encoder_stream_delivered + n) (length v.encoder_stream)
+    → EndsAtDecoder v n t front rest o v' → Moves v v'
 delivery_moves v n t front rest o v' d place (takes_all pieces cut sizes sum is goes) =
     subst (Moves v) (sym goes) (delivers_moves v n t (length front) 0 _ d (omega (arith, place)))
 delivery_moves v n t front rest o v' d place (no_memory is goes) =
     subst (Moves v) (sym goes) (delivery_quiet v n t (length front) _ d (omega (arith, place)))
 delivery_moves v n t front rest o v' d place (bad_bytes fault b is goes) =
     subst (Moves v) (sym goes) (delivery_quiet v n t (length front) _ d (omega (arith, place)))
-delivery_moves v n t front rest o v' d place (bad_instruction text more i e cut s bad is goes) =
+delivery_moves v n t front rest o v' d place (bad_instruction encoding more i e cut s bad is goes) =
     let within =
-    consumed_within (is_consumed e) (length front) (length text) (length more) (length rest) (ap length cut
-    ∙ length-append text more) in
-    subst (Moves v) (sym goes) (delivery_quiet v n t (length front + cond (is_consumed e) (length text) 0) _ d
+    consumed_within (is_consumed e) (length front) (length encoding) (length more) (length rest) (ap length cut
+    ∙ length-append encoding more) in
+    subst (Moves v) (sym goes) (delivery_quiet v n t (length front + cond (is_consumed e) (length encoding) 0) _ d
     (omega (arith, place, within)))
 
 -- the encoder is delivered bytes
 hearing_one : (v : Session) (n : ℕ) (t : Table) (consumed : ℕ) → IsOrdered v
-    → v.told_taken + consumed ≤ min (v.told_delivered + n) (length v.told) → Moves v (encoder_moved v n t consumed)
+    → v.decoder_stream_taken + consumed ≤ min (v.decoder_stream_delivered + n) (length v.decoder_stream) → Moves v (with_encoder_moved v n t consumed)
 hearing_one v n t consumed o within =
     record {
-      sent = extends_none v.sent;
-      told = extends_none v.told;
-      sent_taken = omega arith;
-      sent_delivered = omega arith;
-      told_taken = omega arith;
-      told_delivered = omega (arith, o.told_delivered);
+      encoder_stream = extends_none v.encoder_stream;
+      decoder_stream = extends_none v.decoder_stream;
+      encoder_stream_taken = omega arith;
+      encoder_stream_delivered = omega arith;
+      decoder_stream_taken = omega arith;
+      decoder_stream_delivered = omega (arith, o.decoder_stream_delivered);
       ordered =
           record {
-            sent_taken = o.sent_taken;
-            sent_delivered = o.sent_delivered;
-            told_taken = within;
-            told_delivered = omega arith;
+            encoder_stream_taken = o.encoder_stream_taken;
+            encoder_stream_delivered = o.encoder_stream_delivered;
+            decoder_stream_taken = within;
+            decoder_stream_delivered = omega arith;
           };
     }
 
 hearing_moves : (v : Session) (n : ℕ) (t : Table) (front rest : List ℕ) (o : Outcome) (v' : Session) → IsOrdered v
-    → v.told_taken + length front + length rest ≡ min (v.told_delivered + n) (length v.told)
-    → HearingEnds v n t front rest o v' → Moves v v'
-hearing_moves v n t front rest o v' d place (hears_all cut is goes) =
+    → v.decoder_stream_taken + length front + length rest ≡ min (v.decoder_stream_delivered + n) (length v.decoder_stream)
+    → EndsAtEncoder v n t front rest o v' → Moves v v'
+hearing_moves v n t front rest o v' d place (takes_all_at_encoder cut is goes) =
     subst (Moves v) (sym goes) (hearing_one v n t (length front) d (omega (arith, place)))
-hearing_moves v n t front rest o v' d place (bad_bytes_heard fault b is goes) =
+hearing_moves v n t front rest o v' d place (bad_bytes_at_encoder fault b is goes) =
     subst (Moves v) (sym goes) (hearing_one v n t (length front) d (omega (arith, place)))
-hearing_moves v n t front rest o v' d place (bad_reply text more r e cut s bad is goes) =
-    subst (Moves v) (sym goes) (hearing_one v n t (length front + length text) d
-    (omega (arith, place, ap length cut, length-append text more)))
+hearing_moves v n t front rest o v' d place (bad_decoder_instruction encoding more r e cut s bad is goes) =
+    subst (Moves v) (sym goes) (hearing_one v n t (length front + length encoding) d
+    (omega (arith, place, ap length cut, length-append encoding more)))
 
 -- a session that only wrote
-wrote : (v v' u : Session) (sent told : List ℕ) → IsOrdered v → v' ≡ u → Writes v u sent told → Moves v v'
-wrote v v' u sent told o e w = subst (Moves v) (sym e) (writes_moves v u sent told o w)
+wrote : (v v' u : Session) (encoder_stream decoder_stream : List ℕ) → IsOrdered v → v' ≡ u → Writes v u encoder_stream decoder_stream → Moves v v'
+wrote v v' u encoder_stream decoder_stream o e w = subst (Moves v) (sym e) (writes_moves v u encoder_stream decoder_stream o w)
 
-happens_moves : (v : Session) (e : Event) (o : Outcome) (v' : Session) → IsOrdered v → Happens v e o v' → Moves v v'
-unfolding Happens
+happens_moves : (v : Session) (e : Event) (o : Outcome) (v' : Session) → IsOrdered v → LawfulStep v e o v' → Moves v v'
+unfolding LawfulStep
 happens_moves v (Encode t fs) o v' d (inl h) =
     wrote v v' _ _ [] d h.1 (record {
       sent_is = refl;
-      told_is = sym (append-nil v.told);
+      told_is = sym (append-nil v.decoder_stream);
       sent_taken_is = refl;
       sent_delivered_is = refl;
       told_taken_is = refl;
@@ -164,7 +164,7 @@ happens_moves v (Encode t fs) o v' d (inl h) =
 happens_moves v (Encode t fs) o v' d (inr (inl h)) =
     wrote v v' _ _ [] d h.leads (record {
       sent_is = refl;
-      told_is = sym (append-nil v.told);
+      told_is = sym (append-nil v.decoder_stream);
       sent_taken_is = refl;
       sent_delivered_is = refl;
       told_taken_is = refl;
@@ -178,8 +178,8 @@ happens_moves v (Decode t) o v' d (inl h) =
     both true =
         writes_moves v (with_decoded v t) [] [] d
         (record {
-          sent_is = sym (append-nil v.sent);
-          told_is = sym (append-nil v.told);
+          sent_is = sym (append-nil v.encoder_stream);
+          told_is = sym (append-nil v.decoder_stream);
           sent_taken_is = refl;
           sent_delivered_is = refl;
           told_taken_is = refl;
@@ -189,15 +189,15 @@ happens_moves v (Decode t) o v' d (inl h) =
 happens_moves v (Decode t) o v' d (inr h) = stays_ordered v v' d h.1
 happens_moves v (ToDecoder n) o v' d h =
     delivery_moves v n h.table h.front h.rest o v' d
-    (piece_ends v.sent h.front h.rest v.sent_taken (v.sent_delivered + n) h.offered (omega (arith, d.sent_taken))
-    (omega (arith, d.sent_taken, d.sent_delivered))) h.ends
+    (piece_ends v.encoder_stream h.front h.rest v.encoder_stream_taken (v.encoder_stream_delivered + n) h.offered (omega (arith, d.encoder_stream_taken))
+    (omega (arith, d.encoder_stream_taken, d.encoder_stream_delivered))) h.ends
 happens_moves v (ToEncoder n) o v' d h =
     hearing_moves v n h.table h.front h.rest o v' d
-    (piece_ends v.told h.front h.rest v.told_taken (v.told_delivered + n) h.offered (omega (arith, d.told_taken))
-    (omega (arith, d.told_taken, d.told_delivered))) h.ends
+    (piece_ends v.decoder_stream h.front h.rest v.decoder_stream_taken (v.decoder_stream_delivered + n) h.offered (omega (arith, d.decoder_stream_taken))
+    (omega (arith, d.decoder_stream_taken, d.decoder_stream_delivered))) h.ends
 happens_moves v (Acknowledge t) o v' d (inl h) =
     wrote v v' _ [] _ d h.1 (record {
-      sent_is = sym (append-nil v.sent);
+      sent_is = sym (append-nil v.encoder_stream);
       told_is = refl;
       sent_taken_is = refl;
       sent_delivered_is = refl;
@@ -207,7 +207,7 @@ happens_moves v (Acknowledge t) o v' d (inl h) =
 happens_moves v (Acknowledge t) o v' d (inr h) = stays_ordered v v' d h.1
 happens_moves v (Cancel t) o v' d (inl h) =
     wrote v v' _ [] _ d h.1 (record {
-      sent_is = sym (append-nil v.sent);
+      sent_is = sym (append-nil v.encoder_stream);
       told_is = refl;
       sent_taken_is = refl;
       sent_delivered_is = refl;
@@ -218,7 +218,7 @@ happens_moves v (Cancel t) o v' d (inr h) = stays_ordered v v' d h.1
 happens_moves v (ChangeCapacity n) o v' d (inl h) =
     wrote v v' _ _ [] d h.leads (record {
       sent_is = refl;
-      told_is = sym (append-nil v.told);
+      told_is = sym (append-nil v.decoder_stream);
       sent_taken_is = refl;
       sent_delivered_is = refl;
       told_taken_is = refl;
@@ -227,21 +227,21 @@ happens_moves v (ChangeCapacity n) o v' d (inl h) =
 happens_moves v (ChangeCapacity n) o v' d (inr (inl h)) = stays_ordered v v' d h.stays
 happens_moves v (ChangeCapacity n) o v' d (inr (inr h)) = stays_ordered v v' d h.1
 
-pub goes_moves : (v : Session) (e : Event) (o : Outcome) (v' : Session) → IsOrdered v → Goes v e o v' → Moves v v'
+pub goes_moves : (v : Session) (e : Event) (o : Outcome) (v' : Session) → IsOrdered v → Step v e o v' → Moves v v'
 goes_moves v e o v' d (inl h) = stays_ordered v v' d h.stays
 goes_moves v e o v' d (inr h) = happens_moves v e o v' d h.1
 
 -- over any event both streams and the blocks only grow, and nothing taken or delivered goes back
-pub goes_advances : (v : Session) (e : Event) (o : Outcome) (v' : Session) → IsOrdered v → Goes v e o v' → Advances v v'
+pub goes_advances : (v : Session) (e : Event) (o : Outcome) (v' : Session) → IsOrdered v → Step v e o v' → Advances v v'
 goes_advances v e o v' d g =
     let m = goes_moves v e o v' d g in
     record {
-      sent = m.sent;
-      told = m.told;
-      sent_taken = m.sent_taken;
-      sent_delivered = m.sent_delivered;
-      told_taken = m.told_taken;
-      told_delivered = m.told_delivered;
+      encoder_stream = m.encoder_stream;
+      decoder_stream = m.decoder_stream;
+      encoder_stream_taken = m.encoder_stream_taken;
+      encoder_stream_delivered = m.encoder_stream_delivered;
+      decoder_stream_taken = m.decoder_stream_taken;
+      decoder_stream_delivered = m.decoder_stream_delivered;
       blocks = λ s. let a = goes_adds v e o v' s g in (a.more, a.blocks);
     }
 
@@ -249,7 +249,7 @@ pub extends_both : {X : Type 0} (xs ys zs : List X) → Extends xs ys → Extend
 extends_both xs ys zs p q = (p.0 ++ q.0, q.1 ∙ ap (λ l. l ++ q.0) p.1 ∙ append_assoc xs p.0 q.0)
 
 -- and over any list of them
-pub runs_advance : (v : Session) (events : List (Event × Outcome)) (v' : Session) → IsOrdered v → Runs v events v'
+pub runs_advance : (v : Session) (events : List (Event × Outcome)) (v' : Session) → IsOrdered v → Run v events v'
     → Moves v v'
 runs_advance v [] v' d r = stays_ordered v v' d (sym r)
 runs_advance v (p ∷ events) v' d r =
@@ -257,11 +257,11 @@ runs_advance v (p ∷ events) v' d r =
     let rest = runs_advance r.0 events v' one.ordered r.2 in
     let u : Session = r.0 in
     record {
-      sent = extends_both v.sent u.sent v'.sent one.sent rest.sent;
-      told = extends_both v.told u.told v'.told one.told rest.told;
-      sent_taken = omega (arith, one.sent_taken, rest.sent_taken);
-      sent_delivered = omega (arith, one.sent_delivered, rest.sent_delivered);
-      told_taken = omega (arith, one.told_taken, rest.told_taken);
-      told_delivered = omega (arith, one.told_delivered, rest.told_delivered);
+      encoder_stream = extends_both v.encoder_stream u.encoder_stream v'.encoder_stream one.encoder_stream rest.encoder_stream;
+      decoder_stream = extends_both v.decoder_stream u.decoder_stream v'.decoder_stream one.decoder_stream rest.decoder_stream;
+      encoder_stream_taken = omega (arith, one.encoder_stream_taken, rest.encoder_stream_taken);
+      encoder_stream_delivered = omega (arith, one.encoder_stream_delivered, rest.encoder_stream_delivered);
+      decoder_stream_taken = omega (arith, one.decoder_stream_taken, rest.decoder_stream_taken);
+      decoder_stream_delivered = omega (arith, one.decoder_stream_delivered, rest.decoder_stream_delivered);
       ordered = rest.ordered;
     }

@@ -7,18 +7,18 @@ use Rattle.std.specs.Prelude.{nat_lt, nat_eq}
 use Rattle.std.proofs.lemmas.Bool.{cases_lt, eq-eqb}
 use Rattle.std.proofs.lemmas.Option.{slice_get-map}
 use Rattle.qpack_spec.specs.Field.{Field, total_size}
-use Rattle.qpack_spec.specs.Instruction.{written_instructions}
-use Rattle.qpack_spec.specs.Window.{Window, total}
+use Rattle.qpack_spec.specs.Instruction.{written_encoder_instructions}
+use Rattle.qpack_spec.specs.Window.{Window, window_insert_count}
 use Rattle.qpack_spec.specs.BlockReading.{reading_of_bytes, written_block}
-use Rattle.qpack_spec.specs.Table.{Table, table_of, fields_in, window, count}
-use Rattle.qpack_spec.specs.Rule.{rule, required_of, block_of}
-use Rattle.qpack_spec.specs.Stateless.{held_size}
+use Rattle.qpack_spec.specs.Table.{Table, table_of, fields_in, window, insert_count}
+use Rattle.qpack_spec.specs.Rule.{rule, required_insert_count, block_of}
+use Rattle.qpack_spec.specs.Stateless.{saturated_size}
 use Rattle.qpack_spec.specs.Session.{blocked_blocks, KeptBlock, stream_at, Session, Event, Encode, Decode, ToDecoder}
 use Rattle.qpack_spec.specs.Session.{ToEncoder, Outcome, Encoded, Decoded, MissingReferences, Delivered}
-use Rattle.qpack_spec.specs.Session.{Heard, Refused, NoMemory, StreamFault, decode_outcome, opened, next_block}
-use Rattle.qpack_spec.specs.Session.{skip_reason, with_block, DeliveryEnds, takes_all, no_memory}
-use Rattle.qpack_spec.specs.Session.{bad_bytes, bad_instruction, DeliversTo, HearingEnds, hears_all, bad_bytes_heard}
-use Rattle.qpack_spec.specs.Session.{bad_reply, HearsFrom, Happens, Goes, IsByteEvent, FitsMemory, Runs}
+use Rattle.qpack_spec.specs.Session.{Heard, Refused, NoMemory, StreamFault, decode_outcome, initial_session, next_block}
+use Rattle.qpack_spec.specs.Session.{skip_reason, with_block, EndsAtDecoder, takes_all, no_memory}
+use Rattle.qpack_spec.specs.Session.{bad_bytes, bad_instruction, DeliversToDecoder, EndsAtEncoder, takes_all_at_encoder, bad_bytes_at_encoder}
+use Rattle.qpack_spec.specs.Session.{bad_decoder_instruction, DeliversToEncoder, LawfulStep, Step, IsByteEvent, FitsMemory, Run}
 use Rattle.qpack_spec.proofs.PutTables.{window_put, count_put}
 use Rattle.qpack_spec.proofs.References.{blocks_require}
 use Rattle.qpack_safety.specs.AbstractSafety.{Safe}
@@ -46,14 +46,14 @@ record SessionInvariant (capacity limit : ℕ) (v : Session) : Type 0 where
   pub counted : CountsItsBlocks v
   pub ordered : IsOrdered v
 
-goes_counted : (v : Session) (e : Event) (o : Outcome) (v' : Session) → Goes v e o v' → CountsItsBlocks v
+goes_counted : (v : Session) (e : Event) (o : Outcome) (v' : Session) → Step v e o v' → CountsItsBlocks v
     → CountsItsBlocks v'
 goes_counted v e o v' (inl h) c = subst CountsItsBlocks (sym h.stays) c
 goes_counted v e o v' (inr h) c = counted_happens v e o v' h.1 c
 
 goes_invariant : (capacity limit : ℕ) (v : Session) (e : Event) (o : Outcome) (v' : Session)
     → SessionInvariant capacity limit v
-    → IsByteEvent e → FitsMemory v' → Goes v e o v' → SessionInvariant capacity limit v'
+    → IsByteEvent e → FitsMemory v' → Step v e o v' → SessionInvariant capacity limit v'
 goes_invariant capacity limit v e o v' r bytes fits g =
     record {
       some = goes_lands capacity limit v r.some.abstract e o v' r.some.refines r.some.keeps bytes fits g;
@@ -62,33 +62,33 @@ goes_invariant capacity limit v e o v' r bytes fits g =
     }
 
 runs_invariant : (capacity limit : ℕ) (v : Session) (events : List (Event × Outcome)) (v' : Session)
-    → SessionInvariant capacity limit v → Runs v events v' → SessionInvariant capacity limit v'
+    → SessionInvariant capacity limit v → Run v events v' → SessionInvariant capacity limit v'
 runs_invariant capacity limit v [] v' r e = subst (SessionInvariant capacity limit) e r
 runs_invariant capacity limit v (p ∷ events) v' r e =
     runs_invariant capacity limit e.0 events v'
     (goes_invariant capacity limit v p.0 p.1 e.0 r e.1.has_bytes e.1.fits e.1.goes) e.2
 
-opened_invariant : (capacity limit : ℕ) → SessionInvariant capacity limit (opened capacity limit)
+opened_invariant : (capacity limit : ℕ) → SessionInvariant capacity limit (initial_session capacity limit)
 opened_invariant capacity limit =
     record {
       some = opened_lands capacity limit;
       counted = record { small = lit≤ tt; above = refl; counts = λ n le. refl };
       ordered =
-          record { sent_taken = lit≤ tt; sent_delivered = lit≤ tt; told_taken = lit≤ tt; told_delivered = lit≤ tt };
+          record { encoder_stream_taken = lit≤ tt; encoder_stream_delivered = lit≤ tt; decoder_stream_taken = lit≤ tt; decoder_stream_delivered = lit≤ tt };
     }
 
 -- ---- (a)
 
 writes_block : (v : Session) (s : ℕ) (fields : List Field)
-    → WritesBlock v s fields (required_of (rule v.encoder fields)) (with_block v s fields)
+    → WritesBlock v s fields (required_insert_count (rule v.encoder fields)) (with_block v s fields)
 writes_block v s fields =
     let d = rule v.encoder fields in
     let b : KeptBlock =
     record {
       bytes = written_block (block_of v.encoder d);
-      required = required_of d;
-      end = length (v.sent ++ written_instructions d.instructions);
-      handed = fields;
+      required = required_insert_count d;
+      end = length (v.encoder_stream ++ written_encoder_instructions d.instructions);
+      fields = fields;
     } in
     let own : nat_eq s s ≡ true = eq-eqb s s refl in
     let law = blocks_require v.encoder s fields in
@@ -109,13 +109,13 @@ required_answered : (n m : ℕ) → Encoded n ≡ Encoded m → n ≡ m
 required_answered n m e = cc
 
 encode_writes : (v : Session) (s : ℕ) (fields : List Field) (required : ℕ) (v' : Session)
-    → Goes v (Encode s fields) (Encoded required) v' → WritesBlock v s fields required v'
-unfolding Happens
+    → Step v (Encode s fields) (Encoded required) v' → WritesBlock v s fields required v'
+unfolding LawfulStep
 encode_writes v s fields required v' (inl h) = absurd (let e = h.answers in cc)
 encode_writes v s fields required v' (inr (none, inl h)) =
     subst (λ (n : ℕ). WritesBlock v s fields n v')
-    (sym (required_answered required (required_of (rule v.encoder fields)) h.0))
-    (subst (WritesBlock v s fields (required_of (rule v.encoder fields))) (sym h.1) (writes_block v s fields))
+    (sym (required_answered required (required_insert_count (rule v.encoder fields)) h.0))
+    (subst (WritesBlock v s fields (required_insert_count (rule v.encoder fields))) (sym h.1) (writes_block v s fields))
 encode_writes v s fields required v' (inr (none, inr (inl h))) = absurd (let e = h.answers in cc)
 encode_writes v s fields required v' (inr (none, inr (inr h))) = absurd (let e = h.0 in cc)
 
@@ -144,7 +144,7 @@ in_accounts capacity limit v r =
     let w = r.abstract in
     let k = r.keeps in
     let sh = r.refines in
-    let many : count v.decoder ≡ total w.decoder = ap count sh.decoder_is ∙ count_put w.decoder in
+    let many : insert_count v.decoder ≡ window_insert_count w.decoder = ap insert_count sh.decoder_is ∙ count_put w.decoder in
     record {
       heard = sh.heard_lines;
       in_flight = w.decoder_in_flight;
@@ -152,25 +152,25 @@ in_accounts capacity limit v r =
       adds_up =
           omega (
             arith,
-            k.known,
-            ap total k.decoder,
+            k.known_received_count,
+            ap window_insert_count k.decoder,
             total_window k.received (sound_received capacity limit w k),
             many,
-            ap (λ (t : Table). t.known) sh.encoder_is,
+            ap (λ (t : Table). t.known_received_count) sh.encoder_is,
             sh.unreported_is,
           );
     }
 
 by_the_rule : (capacity limit : ℕ) (events : List (Event × Outcome)) (v : Session)
-    → Runs (opened capacity limit) events v → SessionInvariant capacity limit v → RunsByTheRule capacity limit events v
+    → Run (initial_session capacity limit) events v → SessionInvariant capacity limit v → RunsByTheRule capacity limit events v
 by_the_rule capacity limit events v run r =
     let w = r.some.abstract in
     let sh = r.some.refines in
     let safe : Safe capacity limit w = inv_safe capacity limit w r.some.keeps in
-    let many : count v.decoder ≡ total w.decoder = ap count sh.decoder_is ∙ count_put w.decoder in
-    let known : v.encoder.known ≤ count v.decoder =
-    omega (arith, safe.received, many, ap (λ (t : Table). t.known) sh.encoder_is) in
-    let counted : length v.encoder.waiting ≡ blocked_blocks v = counts_all v.encoder v.streams r.counted in
+    let many : insert_count v.decoder ≡ window_insert_count w.decoder = ap insert_count sh.decoder_is ∙ count_put w.decoder in
+    let known_received_count : v.encoder.known_received_count ≤ insert_count v.decoder =
+    omega (arith, safe.received, many, ap (λ (t : Table). t.known_received_count) sh.encoder_is) in
+    let counted : length v.encoder.blocked ≡ blocked_blocks v = counts_all v.encoder v.streams r.counted in
     let limit_is : v.encoder.limit ≡ limit = ap (λ (t : Table). t.limit) sh.encoder_is ∙ r.some.keeps.same_limit in
     record {
       run = run;
@@ -181,12 +181,12 @@ by_the_rule capacity limit events v run r =
       decoder_fits =
           subst (λ (t : Table). total_size (fields_in t.live) ≤ t.capacity) (sym sh.decoder_is)
           (fits_put w.decoder safe.decoder_fits);
-      blocked = omega (arith, counted, safe.blocked, ap (λ (t : Table). length t.waiting) sh.encoder_is);
+      blocked = omega (arith, counted, safe.blocked, ap (λ (t : Table). length t.blocked) sh.encoder_is);
       counts_blocked = counted;
-      unreadable_within = among_fewer v.encoder.known (count v.decoder) [] v.streams known;
+      unreadable_within = among_fewer v.encoder.known_received_count (insert_count v.decoder) [] v.streams known_received_count;
       may_block_more = rw (counted, limit_is) refl;
       limit_is = limit_is;
-      received = known;
+      received = known_received_count;
       accounts = in_accounts capacity limit v r.some;
       ordered = r.ordered;
       advances = λ e o v' g. goes_advances v e o v' r.ordered g;
@@ -194,50 +194,50 @@ by_the_rule capacity limit events v run r =
 
 -- ---- (b)
 
-refused_of : (v : Session) (e : Event) (fault : StreamFault) (v' : Session) → Goes v e (Refused fault) v'
-    → Happens v e (Refused fault) v'
+refused_of : (v : Session) (e : Event) (fault : StreamFault) (v' : Session) → Step v e (Refused fault) v'
+    → LawfulStep v e (Refused fault) v'
 refused_of v e fault v' (inl h) = absurd (let x = h.answers in cc)
 refused_of v e fault v' (inr h) = h.1
 
-delivery_of : (v : Session) (n : ℕ) (o : Outcome) (v' : Session) → Goes v (ToDecoder n) o v' → DeliversTo v n o v'
-unfolding Happens skip_reason
+delivery_of : (v : Session) (n : ℕ) (o : Outcome) (v' : Session) → Step v (ToDecoder n) o v' → DeliversToDecoder v n o v'
+unfolding LawfulStep skip_reason
 delivery_of v n o v' (inl h) = absurd (let e = h.is_reason in cc)
 delivery_of v n o v' (inr h) = h.1
 
-hearing_of : (v : Session) (n : ℕ) (o : Outcome) (v' : Session) → Goes v (ToEncoder n) o v' → HearsFrom v n o v'
-unfolding Happens skip_reason
+hearing_of : (v : Session) (n : ℕ) (o : Outcome) (v' : Session) → Step v (ToEncoder n) o v' → DeliversToEncoder v n o v'
+unfolding LawfulStep skip_reason
 hearing_of v n o v' (inl h) = absurd (let e = h.is_reason in cc)
 hearing_of v n o v' (inr h) = h.1
 
 delivery_answers : (capacity limit : ℕ) (v : Session) (n : ℕ) (o : Outcome) (v' : Session)
-    → RefinesSome capacity limit v → DeliversTo v n o v' → (o ≡ Delivered (count v'.decoder)) ⊎ (o ≡ NoMemory)
+    → RefinesSome capacity limit v → DeliversToDecoder v n o v' → (o ≡ Delivered (insert_count v'.decoder)) ⊎ (o ≡ NoMemory)
 delivery_answers capacity limit v n o v' r c = go c.ends
   where
     refused : (fault : StreamFault) → o ≡ Refused fault → ⊥
     refused fault is =
         delivered_lawful capacity limit v r.abstract n fault v' r.refines r.keeps
-        (subst (λ (x : Outcome). DeliversTo v n x v') is c)
+        (subst (λ (x : Outcome). DeliversToDecoder v n x v') is c)
 
-    go : DeliveryEnds v n c.table c.front c.rest o v' → (o ≡ Delivered (count v'.decoder)) ⊎ (o ≡ NoMemory)
+    go : EndsAtDecoder v n c.table c.front c.rest o v' → (o ≡ Delivered (insert_count v'.decoder)) ⊎ (o ≡ NoMemory)
     go (takes_all pieces cut sizes sum is goes) =
-        inl (is ∙ ap (λ (x : Session). Delivered (count x.decoder)) (sym goes))
+        inl (is ∙ ap (λ (x : Session). Delivered (insert_count x.decoder)) (sym goes))
     go (no_memory is goes) = inr is
     go (bad_bytes fault b is goes) = absurd (refused _ is)
-    go (bad_instruction text more i e cut s bad is goes) = absurd (refused _ is)
+    go (bad_instruction encoding more i e cut s bad is goes) = absurd (refused _ is)
 
 hearing_answers : (capacity limit : ℕ) (v : Session) (n : ℕ) (o : Outcome) (v' : Session)
-    → RefinesSome capacity limit v → HearsFrom v n o v' → o ≡ Heard
+    → RefinesSome capacity limit v → DeliversToEncoder v n o v' → o ≡ Heard
 hearing_answers capacity limit v n o v' r c = go c.ends
   where
     refused : (fault : StreamFault) → o ≡ Refused fault → ⊥
     refused fault is =
         heard_lawful capacity limit v r.abstract n fault v' r.refines r.keeps
-        (subst (λ (x : Outcome). HearsFrom v n x v') is c)
+        (subst (λ (x : Outcome). DeliversToEncoder v n x v') is c)
 
-    go : HearingEnds v n c.table c.front c.rest o v' → o ≡ Heard
-    go (hears_all cut is goes) = is
-    go (bad_bytes_heard fault b is goes) = absurd (refused _ is)
-    go (bad_reply text more x e cut s bad is goes) = absurd (refused _ is)
+    go : EndsAtEncoder v n c.table c.front c.rest o v' → o ≡ Heard
+    go (takes_all_at_encoder cut is goes) = is
+    go (bad_bytes_at_encoder fault b is goes) = absurd (refused _ is)
+    go (bad_decoder_instruction encoding more x e cut s bad is goes) = absurd (refused _ is)
 
 refuses_nothing : (capacity limit : ℕ) (v : Session) → RefinesSome capacity limit v → RefusesNothing v
 refuses_nothing capacity limit v r =
@@ -252,12 +252,12 @@ refuses_nothing capacity limit v r =
 -- ---- (c) and (d)
 
 -- the next block of a stream was written by the next encode
-next_of : (capacity limit : ℕ) (events : List (Event × Outcome)) (v : Session) → Runs (opened capacity limit) events v
+next_of : (capacity limit : ℕ) (events : List (Event × Outcome)) (v : Session) → Run (initial_session capacity limit) events v
     → (s : ℕ) (b : KeptBlock) → next_block v s ≡ Some b
     → next_encode s events ≡ Some (encode_behind b)
 next_of capacity limit events v run s b next =
-    let a : Adds (opened capacity limit) v s (encodes_on s events) (decodes_on s events) =
-    runs_add (opened capacity limit) events v s run in
+    let a : Adds (initial_session capacity limit) v s (encodes_on s events) (decodes_on s events) =
+    runs_add (initial_session capacity limit) events v s run in
     let decoded : decodes_on s events ≡ (stream_at v.streams s).decoded = omega (arith, a.decoded) in
     ap (λ (l : List AnsweredEncode). slice_get l (decodes_on s events)) (sym a.written
     ∙ ap (map (λ (x : KeptBlock). encode_behind x)) (sym a.blocks))
@@ -272,12 +272,12 @@ decode_live v s none =
     let k = stream_at v.streams s in (lawful_on s k (nat_lt k.decoded (length k.blocks)) 2 none).live
 
 -- what a decode answers for its block: fields behind all insertions that it requires, else that they are missing
-answer_fields : (v : Session) (b : KeptBlock) → ReadsExactly v b → b.required ≤ count v.decoder
+answer_fields : (v : Session) (b : KeptBlock) → ReadsExactly v b → b.required ≤ insert_count v.decoder
     → decode_outcome (reading_of_bytes (window v.decoder) b.bytes)
-    ≡ Decoded b.handed (held_size (total_size b.handed)) (nat_lt 0 b.required)
+    ≡ Decoded b.fields (saturated_size (total_size b.fields)) (nat_lt 0 b.required)
 answer_fields v b r le = ap decode_outcome (r.exact le)
 
-answer_missing : (v : Session) (b : KeptBlock) → ReadsExactly v b → count v.decoder < b.required
+answer_missing : (v : Session) (b : KeptBlock) → ReadsExactly v b → insert_count v.decoder < b.required
     → decode_outcome (reading_of_bytes (window v.decoder) b.bytes) ≡ MissingReferences b.required
 answer_missing v b r lt = ap decode_outcome (r.missing lt)
 
@@ -285,7 +285,7 @@ answer_missing v b r lt = ap decode_outcome (r.missing lt)
 fields_answered : (events : List (Event × Outcome)) (s : ℕ) (b : KeptBlock) (fields : List Field) (size : ℕ)
     (is_dynamic : Bool)
     → next_encode s events ≡ Some (encode_behind b)
-    → Decoded fields size is_dynamic ≡ Decoded b.handed (held_size (total_size b.handed)) (nat_lt 0 b.required)
+    → Decoded fields size is_dynamic ≡ Decoded b.fields (saturated_size (total_size b.fields)) (nat_lt 0 b.required)
     → AnswersFields events s fields size is_dynamic
 fields_answered events s b fields size is_dynamic next e =
     record { encode = encode_behind b; is_next = next; fields_are = cc; size_is = cc; dynamic_is = cc }
@@ -299,15 +299,15 @@ reads_next : (capacity limit : ℕ) (v : Session) → RefinesSome capacity limit
 reads_next capacity limit v r s b live next = reads_exactly capacity limit v r.abstract r.refines r.keeps s b live next
 
 decode_gives : (capacity limit : ℕ) (events : List (Event × Outcome)) (v : Session)
-    → Runs (opened capacity limit) events v → RefinesSome capacity limit v
+    → Run (initial_session capacity limit) events v → RefinesSome capacity limit v
     → (s : ℕ) (fields : List Field) (size : ℕ) (is_dynamic : Bool) (v' : Session)
-    → Goes v (Decode s) (Decoded fields size is_dynamic) v'
+    → Step v (Decode s) (Decoded fields size is_dynamic) v'
     → AnswersFields events s fields size is_dynamic
-unfolding Happens
+unfolding LawfulStep
 decode_gives capacity limit events v run r s fields size is_dynamic v' (inl h) = absurd (let e = h.answers in cc)
 decode_gives capacity limit events v run r s fields size is_dynamic v' (inr (none, inr h)) = absurd (let e = h.0 in cc)
 decode_gives capacity limit events v run r s fields size is_dynamic v' (inr (none, inl h)) =
-    pick (cases_lt (count v.decoder) b.required)
+    pick (cases_lt (insert_count v.decoder) b.required)
   where
     b : KeptBlock
     b = h.block
@@ -315,7 +315,7 @@ decode_gives capacity limit events v run r s fields size is_dynamic v' (inr (non
     reads : ReadsExactly v b
     reads = reads_next capacity limit v r s b (decode_live v s none) h.is_next
 
-    pick : (count v.decoder < b.required) ⊎ (b.required ≤ count v.decoder)
+    pick : (insert_count v.decoder < b.required) ⊎ (b.required ≤ insert_count v.decoder)
         → AnswersFields events s fields size is_dynamic
     pick (inl lt) =
         absurd (fields_not_missing fields size is_dynamic b.required (h.answers ∙ answer_missing v b reads lt))
@@ -324,9 +324,9 @@ decode_gives capacity limit events v run r s fields size is_dynamic v' (inr (non
         (h.answers ∙ answer_fields v b reads le)
 
 decodes_handed : (capacity limit : ℕ) (events : List (Event × Outcome)) (v : Session)
-    → Runs (opened capacity limit) events v → RefinesSome capacity limit v → DecodesWhatWasHanded capacity events v
+    → Run (initial_session capacity limit) events v → RefinesSome capacity limit v → DecodesWhatWasHanded capacity events v
 decodes_handed capacity limit events v run r =
-    let a = λ (s : ℕ). runs_add (opened capacity limit) events v s run in
+    let a = λ (s : ℕ). runs_add (initial_session capacity limit) events v s run in
     record {
       answers = decode_gives capacity limit events v run r;
       blocks_are = λ s. ap (map (λ (x : KeptBlock). encode_behind x)) (a s).blocks ∙ (a s).written;
@@ -336,12 +336,12 @@ decodes_handed capacity limit events v run r =
     }
 
 decode_answers : (capacity limit : ℕ) (events : List (Event × Outcome)) (v : Session)
-    → Runs (opened capacity limit) events v → RefinesSome capacity limit v
-    → (s : ℕ) (o : Outcome) (v' : Session) → Goes v (Decode s) o v' → DecodeAnswer events v s o
-unfolding Happens
+    → Run (initial_session capacity limit) events v → RefinesSome capacity limit v
+    → (s : ℕ) (o : Outcome) (v' : Session) → Step v (Decode s) o v' → DecodeAnswer events v s o
+unfolding LawfulStep
 decode_answers capacity limit events v run r s o v' (inl h) = is_skipped h.reason h.is_reason h.answers
 decode_answers capacity limit events v run r s o v' (inr (none, inr h)) = wants_memory h.0
-decode_answers capacity limit events v run r s o v' (inr (none, inl h)) = pick (cases_lt (count v.decoder) b.required)
+decode_answers capacity limit events v run r s o v' (inr (none, inl h)) = pick (cases_lt (insert_count v.decoder) b.required)
   where
     b : KeptBlock
     b = h.block
@@ -349,12 +349,12 @@ decode_answers capacity limit events v run r s o v' (inr (none, inl h)) = pick (
     reads : ReadsExactly v b
     reads = reads_next capacity limit v r s b (decode_live v s none) h.is_next
 
-    pick : (count v.decoder < b.required) ⊎ (b.required ≤ count v.decoder) → DecodeAnswer events v s o
+    pick : (insert_count v.decoder < b.required) ⊎ (b.required ≤ insert_count v.decoder) → DecodeAnswer events v s o
     pick (inl lt) =
         waits_for (encode_behind b) (next_of capacity limit events v run s b h.is_next) lt (h.answers
         ∙ answer_missing v b reads lt)
     pick (inr le) =
-        gives_fields b.handed (held_size (total_size b.handed)) (nat_lt 0 b.required) (h.answers
+        gives_fields b.fields (saturated_size (total_size b.fields)) (nat_lt 0 b.required) (h.answers
         ∙ answer_fields v b reads le)
 
 same_some : (b c : KeptBlock) → Some b ≡ Some c → b ≡ c
@@ -362,23 +362,23 @@ same_some b c e = cc
 
 -- where its block's instructions are taken, a decode doesn't answer that anything is missing
 not_missing : (capacity limit : ℕ) (u : Session) → RefinesSome capacity limit u → (s : ℕ) (b : KeptBlock)
-    → next_block u s ≡ Some b → b.end ≤ u.sent_taken
-    → (required : ℕ) (u' : Session) → Goes u (Decode s) (MissingReferences required) u' → ⊥
-unfolding Happens
+    → next_block u s ≡ Some b → b.end ≤ u.encoder_stream_taken
+    → (required : ℕ) (u' : Session) → Step u (Decode s) (MissingReferences required) u' → ⊥
+unfolding LawfulStep
 not_missing capacity limit u r s b next taken required u' (inl h) = absurd (let e = h.answers in cc)
 not_missing capacity limit u r s b next taken required u' (inr (none, inr h)) = absurd (let e = h.0 in cc)
 not_missing capacity limit u r s b next taken required u' (inr (none, inl h)) =
     let c : KeptBlock = h.block in
     let same : c ≡ b = same_some c b (sym h.is_next ∙ next) in
     let reads : ReadsExactly u c = reads_next capacity limit u r s c (decode_live u s none) h.is_next in
-    let le : c.required ≤ count u.decoder = reads.in_time (omega (arith, taken, ap (λ (x : KeptBlock). x.end) same)) in
-    absurd (fields_not_missing c.handed (held_size (total_size c.handed)) (nat_lt 0 c.required) required
+    let le : c.required ≤ insert_count u.decoder = reads.in_time (omega (arith, taken, ap (λ (x : KeptBlock). x.end) same)) in
+    absurd (fields_not_missing c.fields (saturated_size (total_size c.fields)) (nat_lt 0 c.required) required
     (sym (answer_fields u c reads le) ∙ sym h.answers))
 
 -- the session behind a delivery
 delivery_invariant : (capacity limit : ℕ) (v : Session) (n : ℕ) (o : Outcome) (m : Session)
     → SessionInvariant capacity limit v
-    → Goes v (ToDecoder n) o m → SessionInvariant capacity limit m
+    → Step v (ToDecoder n) o m → SessionInvariant capacity limit m
 delivery_invariant capacity limit v n o m r g =
     record {
       some = lands_delivered capacity limit v r.some.abstract n o m r.some.refines r.some.keeps (delivery_of v n o m g);
@@ -387,10 +387,10 @@ delivery_invariant capacity limit v n o m r g =
     }
 
 never_missing : (capacity limit : ℕ) (v : Session) → SessionInvariant capacity limit v → (n received : ℕ) (m : Session)
-    → Goes v (ToDecoder n) (Delivered received) m
-    → (later : List (Event × Outcome)) (u : Session) → Runs m later u → (s : ℕ) (b : KeptBlock)
-    → next_block u s ≡ Some b → b.end ≤ m.sent_delivered
-    → (required : ℕ) (u' : Session) → Goes u (Decode s) (MissingReferences required) u' → ⊥
+    → Step v (ToDecoder n) (Delivered received) m
+    → (later : List (Event × Outcome)) (u : Session) → Run m later u → (s : ℕ) (b : KeptBlock)
+    → next_block u s ≡ Some b → b.end ≤ m.encoder_stream_delivered
+    → (required : ℕ) (u' : Session) → Step u (Decode s) (MissingReferences required) u' → ⊥
 never_missing capacity limit v r n received m g later u run s b next reached required u' miss =
     let rm = delivery_invariant capacity limit v n (Delivered received) m r g in
     let ru = runs_invariant capacity limit m later u rm run in
@@ -399,22 +399,22 @@ never_missing capacity limit v r n received m g later u run s b next reached req
     let taken =
     delivers_whole capacity limit v r.some.abstract n received m r.some.refines r.some.keeps
     (delivery_of v n (Delivered received) m g)
-    u ru.some.abstract ru.some.refines (extends_both v.sent m.sent u.sent first.sent since.sent) s
+    u ru.some.abstract ru.some.refines (extends_both v.encoder_stream m.encoder_stream u.encoder_stream first.encoder_stream since.encoder_stream) s
     (stream_at u.streams s).decoded b next reached in
-    not_missing capacity limit u ru.some s b next (omega (arith, taken, since.sent_taken)) required u' miss
+    not_missing capacity limit u ru.some s b next (omega (arith, taken, since.encoder_stream_taken)) required u' miss
 
 delivery_takes : (capacity limit : ℕ) (v : Session) → SessionInvariant capacity limit v → (n received : ℕ) (m : Session)
-    → Goes v (ToDecoder n) (Delivered received) m
+    → Step v (ToDecoder n) (Delivered received) m
     → (s position : ℕ) (b : KeptBlock) → slice_get (stream_at m.streams s).blocks position ≡ Some b
-    → b.end ≤ m.sent_delivered → b.end ≤ m.sent_taken
+    → b.end ≤ m.encoder_stream_delivered → b.end ≤ m.encoder_stream_taken
 delivery_takes capacity limit v r n received m g =
     let rm = delivery_invariant capacity limit v n (Delivered received) m r g in
     delivers_whole capacity limit v r.some.abstract n received m r.some.refines r.some.keeps
     (delivery_of v n (Delivered received) m g)
-    m rm.some.abstract rm.some.refines (goes_moves v (ToDecoder n) (Delivered received) m r.ordered g).sent
+    m rm.some.abstract rm.some.refines (goes_moves v (ToDecoder n) (Delivered received) m r.ordered g).encoder_stream
 
 waits_only : (capacity limit : ℕ) (events : List (Event × Outcome)) (v : Session)
-    → Runs (opened capacity limit) events v → SessionInvariant capacity limit v → WaitsOnlyForInsertions events v
+    → Run (initial_session capacity limit) events v → SessionInvariant capacity limit v → WaitsOnlyForInsertions events v
 waits_only capacity limit events v run r =
     record {
       answers = decode_answers capacity limit events v run r.some;
@@ -427,7 +427,7 @@ waits_only capacity limit events v run r =
 -- THE SESSION THEOREM, in bytes
 pub sessions_safe : SessionsAreSafe
 sessions_safe capacity limit events v run =
-    let r = runs_invariant capacity limit (opened capacity limit) events v (opened_invariant capacity limit) run in
+    let r = runs_invariant capacity limit (initial_session capacity limit) events v (opened_invariant capacity limit) run in
     record {
       follows = by_the_rule capacity limit events v run r;
       refuses = refuses_nothing capacity limit v r.some;

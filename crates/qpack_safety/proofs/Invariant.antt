@@ -5,12 +5,12 @@ use Rattle.std.specs.List.{AllByRecursion, filter}
 use Rattle.std.specs.Prelude.{nat_eq}
 use Rattle.std.proofs.lemmas.Bool.{cond_both, eqb-true, eqb-false}
 use Rattle.std.proofs.lemmas.List.{append_assoc}
-use Rattle.qpack_spec.specs.Instruction.{Instruction, Reply}
-use Rattle.qpack_spec.specs.Window.{total}
-use Rattle.qpack_spec.specs.History.{History, window_of, whole, start, Leads}
+use Rattle.qpack_spec.specs.Instruction.{EncoderInstruction, DecoderInstruction}
+use Rattle.qpack_spec.specs.Window.{window_insert_count}
+use Rattle.qpack_spec.specs.History.{History, window_of, whole_window, initial_history, Leads}
 use Rattle.qpack_spec.specs.Prefix.{prefix_for}
-use Rattle.qpack_spec.specs.Reading.{fields_of, references_of, greatest}
-use Rattle.qpack_spec.specs.Table.{OpenBlock, window, tracked}
+use Rattle.qpack_spec.specs.Reading.{fields_of, references_of, greatest_of}
+use Rattle.qpack_spec.specs.Table.{UnacknowledgedBlock, window, with_numbers}
 use Rattle.qpack_spec.specs.Session.{with_stream, increment_sum, stream_at}
 use Rattle.qpack_safety.specs.AbstractSession.{AbstractBlock, is_dynamic, AbstractStream, AbstractSession}
 use Rattle.qpack_safety.specs.AbstractSession.{abstract_start}
@@ -20,37 +20,37 @@ use Rattle.qpack_spec.proofs.Windows.{kept_growing}
 use Rattle.qpack_spec.proofs.Readings.{fields_kept}
 use Rattle.qpack_spec.proofs.Drafts.{KeepsTable}
 use Rattle.qpack_safety.proofs.OpenBlocks.{open_of}
-use Rattle.qpack_safety.proofs.Replies.{acks_in, cancels_in, AcksFit}
+use Rattle.qpack_safety.proofs.DecoderInstructions.{acks_in, cancels_in, AcksFit}
 
 -- a block: its prefix and lines are written, it means what was handed, and its count is among the insertions by its end
-pub record KeepsBlock (capacity : ℕ) (h : History) (sent : List Instruction) (b : AbstractBlock) : Type 0 where
+pub record KeepsBlock (capacity : ℕ) (h : History) (encoder_stream : List EncoderInstruction) (b : AbstractBlock) : Type 0 where
   pub base : ℕ
   pub few : base ≤ 2 ^ 62
-  pub written : b.block.prefix ≡ prefix_for capacity (greatest b.named) base
-  pub means : fields_of (whole h) base b.block.lines ≡ Ok b.handed
-  pub references : tracked [] (references_of base b.block.lines) ≡ b.named
-  pub plain : greatest b.named ≡ 0 → b.named ≡ []
-  pub front : List Instruction
-  pub rest : List Instruction
-  pub cut : front ++ rest ≡ sent
+  pub written : b.block.prefix ≡ prefix_for capacity (greatest_of b.referenced) base
+  pub means : fields_of (whole_window h) base b.block.lines ≡ Ok b.fields
+  pub references : with_numbers [] (references_of base b.block.lines) ≡ b.referenced
+  pub plain : greatest_of b.referenced ≡ 0 → b.referenced ≡ []
+  pub front : List EncoderInstruction
+  pub rest : List EncoderInstruction
+  pub cut : front ++ rest ≡ encoder_stream
   pub ends : length front ≡ b.end
   pub at_end : History
-  pub leads : Leads (start capacity) front at_end
-  pub within : greatest b.named ≤ length at_end.inserted
+  pub leads : Leads (initial_history capacity) front at_end
+  pub within : greatest_of b.referenced ≤ length at_end.inserted
 
 every_all : {X : Type 0} (P : X → Type 0) → ((x : X) → P x) → (xs : List X) → AllByRecursion P xs
 every_all P f [] = tt
 every_all P f (x ∷ xs) = (f x, every_all P f xs)
 
-block_grows : (capacity : ℕ) (h h' : History) (sent more : List Instruction) (b : AbstractBlock) → Grows h h'
-    → KeepsBlock capacity h sent b → KeepsBlock capacity h' (sent ++ more) b
-block_grows capacity h h' sent more b g k =
+block_grows : (capacity : ℕ) (h h' : History) (encoder_stream more : List EncoderInstruction) (b : AbstractBlock) → Grows h h'
+    → KeepsBlock capacity h encoder_stream b → KeepsBlock capacity h' (encoder_stream ++ more) b
+block_grows capacity h h' encoder_stream more b g k =
     record {
       base = k.base;
       few = k.few;
       written = k.written;
-      means = fields_kept (whole h) (whole h') k.base b.block.lines b.handed
-          (every_all (Kept (whole h) (whole h')) (λ a. kept_growing h h' a g) (references_of k.base b.block.lines))
+      means = fields_kept (whole_window h) (whole_window h') k.base b.block.lines b.fields
+          (every_all (Kept (whole_window h) (whole_window h')) (λ a. kept_growing h h' a g) (references_of k.base b.block.lines))
           k.means;
       references = k.references;
       plain = k.plain;
@@ -64,36 +64,36 @@ block_grows capacity h h' sent more b g k =
     }
 
 -- a stream: acknowledgements never outrun decodes, and what wasn't acknowledged is open
-pub record KeepsStream (capacity : ℕ) (h : History) (sent : List Instruction) (opened : List OpenBlock)
-    (decoder_in_flight : List Reply) (s : ℕ) (st : AbstractStream) : Type 0 where
+pub record KeepsStream (capacity : ℕ) (h : History) (encoder_stream : List EncoderInstruction) (unacknowledged : List UnacknowledgedBlock)
+    (decoder_in_flight : List DecoderInstruction) (s : ℕ) (st : AbstractStream) : Type 0 where
   pub acknowledged : st.acknowledged ≤ length (filter is_dynamic (take st.decoded st.blocks))
-  pub fits : AcksFit s decoder_in_flight (length (open_of s opened))
-  pub stays_open : st.cancelled ≡ false → drop (acks_in s decoder_in_flight) (open_of s opened)
-      ≡ map (λ (b : AbstractBlock). b.named) (drop st.acknowledged (filter is_dynamic st.blocks))
+  pub fits : AcksFit s decoder_in_flight (length (open_of s unacknowledged))
+  pub stays_open : st.cancelled ≡ false → drop (acks_in s decoder_in_flight) (open_of s unacknowledged)
+      ≡ map (λ (b : AbstractBlock). b.referenced) (drop st.acknowledged (filter is_dynamic st.blocks))
   pub quiet : st.cancelled ≡ false → cancels_in s decoder_in_flight ≡ 0
-  pub blocks : AllByRecursion (KeepsBlock capacity h sent) st.blocks
+  pub blocks : AllByRecursion (KeepsBlock capacity h encoder_stream) st.blocks
 
-pub stream_grows : (capacity : ℕ) (h h' : History) (sent more : List Instruction) (opened : List OpenBlock)
-    (decoder_in_flight : List Reply) (s : ℕ) (st : AbstractStream)
-    → Grows h h' → KeepsStream capacity h sent opened decoder_in_flight s st
-    → KeepsStream capacity h' (sent ++ more) opened decoder_in_flight s st
-stream_grows capacity h h' sent more opened decoder_in_flight s st g k =
+pub stream_grows : (capacity : ℕ) (h h' : History) (encoder_stream more : List EncoderInstruction) (unacknowledged : List UnacknowledgedBlock)
+    (decoder_in_flight : List DecoderInstruction) (s : ℕ) (st : AbstractStream)
+    → Grows h h' → KeepsStream capacity h encoder_stream unacknowledged decoder_in_flight s st
+    → KeepsStream capacity h' (encoder_stream ++ more) unacknowledged decoder_in_flight s st
+stream_grows capacity h h' encoder_stream more unacknowledged decoder_in_flight s st g k =
     record {
       acknowledged = k.acknowledged;
       fits = k.fits;
       stays_open = k.stays_open;
       quiet = k.quiet;
       blocks =
-          every_weaker (KeepsBlock capacity h sent) (KeepsBlock capacity h' (sent ++ more))
-          (λ b. block_grows capacity h h' sent more b g) st.blocks k.blocks;
+          every_weaker (KeepsBlock capacity h encoder_stream) (KeepsBlock capacity h' (encoder_stream ++ more))
+          (λ b. block_grows capacity h h' encoder_stream more b g) st.blocks k.blocks;
     }
 
 -- the same where the open blocks of the stream are the same
-pub stream_opened : (capacity : ℕ) (h : History) (sent : List Instruction) (opened opened' : List OpenBlock)
-    (decoder_in_flight : List Reply) (s : ℕ) (st : AbstractStream)
-    → open_of s opened' ≡ open_of s opened → KeepsStream capacity h sent opened decoder_in_flight s st
-    → KeepsStream capacity h sent opened' decoder_in_flight s st
-stream_opened capacity h sent opened opened' decoder_in_flight s st e k =
+pub stream_opened : (capacity : ℕ) (h : History) (encoder_stream : List EncoderInstruction) (unacknowledged opened' : List UnacknowledgedBlock)
+    (decoder_in_flight : List DecoderInstruction) (s : ℕ) (st : AbstractStream)
+    → open_of s opened' ≡ open_of s unacknowledged → KeepsStream capacity h encoder_stream unacknowledged decoder_in_flight s st
+    → KeepsStream capacity h encoder_stream opened' decoder_in_flight s st
+stream_opened capacity h encoder_stream unacknowledged opened' decoder_in_flight s st e k =
     record {
       acknowledged = k.acknowledged;
       fits = rw e k.fits;
@@ -105,18 +105,18 @@ stream_opened capacity h sent opened opened' decoder_in_flight s st e k =
 pub record Invariant (capacity limit : ℕ) (w : AbstractSession) : Type 0 where
   pub received : History
   pub made : History
-  pub taken_leads : Leads (start capacity) w.taken received
+  pub taken_leads : Leads (initial_history capacity) w.taken received
   pub in_flight_leads : Leads received w.in_flight made
   pub decoder : w.decoder ≡ window_of received
   pub encoder : KeepsTable made w.encoder
   pub same_limit : w.encoder.limit ≡ limit
-  pub known : w.encoder.known + increment_sum w.decoder_in_flight + w.unreported ≡ length received.inserted
-  pub blocked : length w.encoder.waiting ≤ limit
-  pub streams : (s : ℕ) → KeepsStream capacity made (w.taken ++ w.in_flight) w.encoder.opened w.decoder_in_flight s
+  pub known_received_count : w.encoder.known_received_count + increment_sum w.decoder_in_flight + w.unreported ≡ length received.inserted
+  pub blocked : length w.encoder.blocked ≤ limit
+  pub streams : (s : ℕ) → KeepsStream capacity made (w.taken ++ w.in_flight) w.encoder.unacknowledged w.decoder_in_flight s
       (stream_at w.streams s)
 
 pub sound_received : (capacity limit : ℕ) (w : AbstractSession) (k : Invariant capacity limit w) → Sound k.received
-sound_received capacity limit w k = leads_sound (start capacity) w.taken k.received k.taken_leads (sound_start capacity)
+sound_received capacity limit w k = leads_sound (initial_history capacity) w.taken k.received k.taken_leads (sound_start capacity)
 
 pub sound_made : (capacity limit : ℕ) (w : AbstractSession) (k : Invariant capacity limit w) → Sound k.made
 sound_made capacity limit w k =
@@ -125,13 +125,13 @@ sound_made capacity limit w k =
 pub agreed_received : (capacity limit : ℕ) (w : AbstractSession) (k : Invariant capacity limit w)
     → Agreed capacity k.received
 agreed_received capacity limit w k =
-    leads_agreed capacity (start capacity) w.taken k.received k.taken_leads (agreed_start capacity)
+    leads_agreed capacity (initial_history capacity) w.taken k.received k.taken_leads (agreed_start capacity)
 
 pub agreed_made : (capacity limit : ℕ) (w : AbstractSession) (k : Invariant capacity limit w) → Agreed capacity k.made
 agreed_made capacity limit w k =
     leads_agreed capacity k.received w.in_flight k.made k.in_flight_leads (agreed_received capacity limit w k)
 
-pub total_window : (h : History) → Sound h → total (window_of h) ≡ length h.inserted
+pub total_window : (h : History) → Sound h → window_insert_count (window_of h) ≡ length h.inserted
 unfolding window_of
 total_window h s = omega (arith, length-drop h.dropped h.inserted, s.in_range)
 
@@ -139,14 +139,14 @@ pub inv_started : (capacity limit : ℕ) → Invariant capacity limit (abstract_
 unfolding window window_of AcksFit acks_in cancels_in open_of increment_sum
 inv_started capacity limit =
     record {
-      received = start capacity;
-      made = start capacity;
+      received = initial_history capacity;
+      made = initial_history capacity;
       taken_leads = refl;
       in_flight_leads = refl;
       decoder = refl;
       encoder = record { shares = refl; marked = tt; behind = omega arith; held = tt };
       same_limit = refl;
-      known = refl;
+      known_received_count = refl;
       blocked = omega arith;
       streams =
           λ s. record { acknowledged = omega arith; fits = tt; stays_open = λ _. refl; quiet = λ _. refl; blocks = tt };

@@ -1,5 +1,5 @@
 pub mod OpenBlocks
-pub mod Replies
+pub mod DecoderInstructions
 pub mod Fronts
 pub mod Invariant
 pub mod Encoding

@@ -8,19 +8,19 @@ use Rattle.std.proofs.lemmas.Bool.{cases_lt, eq-eqb, ne_eqb}
 use Rattle.std.proofs.lemmas.List.{append_assoc, append_cancel_left}
 use Rattle.qpack_spec.specs.Field.{Field}
 use Rattle.qpack_spec.specs.Form.{Truncates}
-use Rattle.qpack_spec.specs.Instruction.{Instruction, instruction_form, SpellsInstruction}
+use Rattle.qpack_spec.specs.Instruction.{EncoderInstruction, encoder_instruction_form, SpellsEncoderInstruction}
 use Rattle.qpack_spec.specs.Stream.{Joined, IsCutOff}
-use Rattle.qpack_spec.specs.Window.{Window, total}
+use Rattle.qpack_spec.specs.Window.{Window, window_insert_count}
 use Rattle.qpack_spec.specs.Reading.{Fault, Reading, Faulty, Fields, Missing, reading, fields_of, references_of}
-use Rattle.qpack_spec.specs.History.{History, whole, start, Leads}
+use Rattle.qpack_spec.specs.History.{History, whole_window, initial_history, Leads}
 use Rattle.qpack_spec.specs.BlockReading.{reading_of_bytes, base_behind, meaning_over_all, written_block}
-use Rattle.qpack_spec.specs.Table.{Table, window, count}
+use Rattle.qpack_spec.specs.Table.{Table, window, insert_count}
 use Rattle.qpack_safety.specs.AbstractSession.{AbstractBlock, required_count, AbstractSession, abstract_start}
 use Rattle.qpack_spec.specs.Session.{KeptBlock, stream_at, Session, Event, Encode, Decode, ToDecoder, ToEncoder}
 use Rattle.qpack_spec.specs.Session.{Acknowledge, Cancel, ChangeCapacity, Outcome, decode_outcome, Delivered, Refused}
-use Rattle.qpack_spec.specs.Session.{StreamFault, opened, next_block, requires_entry, waits, skip_reason, with_block}
-use Rattle.qpack_spec.specs.Session.{given_up, with_decoded, DeliveryEnds, takes_all, no_memory, bad_bytes}
-use Rattle.qpack_spec.specs.Session.{bad_instruction, DeliversTo, Happens, Goes, IsByteEvent, FitsMemory, is_read}
+use Rattle.qpack_spec.specs.Session.{StreamFault, initial_session, next_block, requires_entry, awaits_acknowledgment, skip_reason, with_block}
+use Rattle.qpack_spec.specs.Session.{after_refused_encode, with_decoded, EndsAtDecoder, takes_all, no_memory, bad_bytes}
+use Rattle.qpack_spec.specs.Session.{bad_instruction, DeliversToDecoder, LawfulStep, Step, IsByteEvent, FitsMemory, is_read}
 use Rattle.qpack_spec.specs.WrittenLaws.{IsByteField}
 use Rattle.qpack_spec.proofs.Places.{every_take}
 use Rattle.qpack_spec.proofs.BlockReadings.{written_read, written_means}
@@ -55,13 +55,13 @@ moves capacity limit v' u e l = subst (RefinesSome capacity limit) (sym e) l
 
 happens_lands : (capacity limit : ℕ) (v : Session) (w : AbstractSession) (e : Event) (o : Outcome) (v' : Session)
     → Refines v w → Invariant capacity limit w → IsByteEvent e → FitsMemory v' → skip_reason v e ≡ None
-    → Happens v e o v' → RefinesSome capacity limit v'
-unfolding Happens skip_reason
+    → LawfulStep v e o v' → RefinesSome capacity limit v'
+unfolding LawfulStep skip_reason
 happens_lands capacity limit v w (Encode s fs) o v' sh k wr fits none (inl h) =
     moves capacity limit v' (with_block v s fs) h.1
     (lands_encoded capacity limit v w s fs sh k wr (subst FitsMemory h.1 fits))
 happens_lands capacity limit v w (Encode s fs) o v' sh k wr fits none (inr (inl h)) =
-    moves capacity limit v' (given_up v (take h.many fs)) h.leads
+    moves capacity limit v' (after_refused_encode v (take h.many fs)) h.leads
     (lands_given_up capacity limit v w (take h.many fs) sh k (every_take IsByteField h.many fs wr)
     (subst FitsMemory h.leads fits))
 happens_lands capacity limit v w (Encode s fs) o v' sh k wr fits none (inr (inr h)) =
@@ -78,7 +78,7 @@ happens_lands capacity limit v w (ToDecoder n) o v' sh k wr fits none h =
 happens_lands capacity limit v w (ToEncoder n) o v' sh k wr fits none h = lands_heard capacity limit v w n o v' sh k h
 happens_lands capacity limit v w (Acknowledge s) o v' sh k wr fits none (inl h) =
     moves capacity limit v' _ h.1 (lands_acknowledged capacity limit v w s sh k
-    (lawful_on s (stream_at v.streams s) (waits requires_entry (stream_at v.streams s)) 4 none))
+    (lawful_on s (stream_at v.streams s) (awaits_acknowledgment requires_entry (stream_at v.streams s)) 4 none))
 happens_lands capacity limit v w (Acknowledge s) o v' sh k wr fits none (inr h) = stays capacity limit v v' w sh k h.1
 happens_lands capacity limit v w (Cancel s) o v' sh k wr fits none (inl h) =
     moves capacity limit v' _ h.1 (lands_cancelled capacity limit v w s sh k
@@ -93,12 +93,12 @@ happens_lands capacity limit v w (ChangeCapacity n) o v' sh k wr fits none (inr 
 
 -- each event leads to a session that refines one of values again
 pub goes_lands : (capacity limit : ℕ) (v : Session) (w : AbstractSession) (e : Event) (o : Outcome) (v' : Session)
-    → Refines v w → Invariant capacity limit w → IsByteEvent e → FitsMemory v' → Goes v e o v'
+    → Refines v w → Invariant capacity limit w → IsByteEvent e → FitsMemory v' → Step v e o v'
     → RefinesSome capacity limit v'
 goes_lands capacity limit v w e o v' sh k wr fits (inl h) = stays capacity limit v v' w sh k h.stays
 goes_lands capacity limit v w e o v' sh k wr fits (inr h) = happens_lands capacity limit v w e o v' sh k wr fits h.0 h.1
 
-pub opened_lands : (capacity limit : ℕ) → RefinesSome capacity limit (opened capacity limit)
+pub opened_lands : (capacity limit : ℕ) → RefinesSome capacity limit (initial_session capacity limit)
 opened_lands capacity limit =
     record {
       abstract = abstract_start capacity limit;
@@ -127,8 +127,8 @@ no_refused_reading (Missing n) fault e = absurd cc
 no_refused_reading (Faulty f) fault e = absurd cc
 
 pub never_refused : (capacity limit : ℕ) (v : Session) (w : AbstractSession) (e : Event) (fault : StreamFault)
-    (v' : Session) → Refines v w → Invariant capacity limit w → Happens v e (Refused fault) v' → ⊥
-unfolding Happens
+    (v' : Session) → Refines v w → Invariant capacity limit w → LawfulStep v e (Refused fault) v' → ⊥
+unfolding LawfulStep
 never_refused capacity limit v w (Encode s fs) fault v' sh k (inl h) = absurd (let e = h.0 in cc)
 never_refused capacity limit v w (Encode s fs) fault v' sh k (inr (inl h)) = absurd (let e = h.answers in cc)
 never_refused capacity limit v w (Encode s fs) fault v' sh k (inr (inr h)) = absurd (let e = h.0 in cc)
@@ -149,7 +149,7 @@ never_refused capacity limit v w (ChangeCapacity n) fault v' sh k (inr (inr h)) 
 
 -- no spelling is a front of no bytes
 nothing_cut_off : {L : Type 0} (S : List ℕ → L → Type 0) (W : Wire L S) → IsCutOff S []
-nothing_cut_off S W text more l e s = W.spells_some l (subst (λ (b : List ℕ). S b l) (nil_front text more (sym e)) s)
+nothing_cut_off S W encoding more l e s = W.spells_some l (subst (λ (b : List ℕ). S b l) (nil_front encoding more (sym e)) s)
   where
     nil_front : (a b : List ℕ) → a ++ b ≡ [] → a ≡ []
     nil_front [] b h = refl
@@ -171,12 +171,12 @@ fronts_order S W (l ∷ ls) (m ∷ ms) a b x y j k e le =
 
 -- instructions that end within what was taken were taken
 taken_within : (v : Session) (w : AbstractSession) (place many : ℕ) → Refines v w
-    → EndsAt v.sent (w.taken ++ w.in_flight) place many → place ≤ v.sent_taken → many ≤ length w.taken
+    → EndsAt v.encoder_stream (w.taken ++ w.in_flight) place many → place ≤ v.encoder_stream_taken → many ≤ length w.taken
 taken_within v w place many sh e le =
     let c = sh.encoder_stream in
     let same : e.front ++ e.rest ≡ c.front ++ ([] ++ c.rest) = sym e.cut ∙ c.cut in
-    let r = reads_delivered SpellsInstruction (wire instruction_form) w.taken e.first [] c.front [] c.rest e.front
-    e.rest c.front_joined (nothing_cut_off SpellsInstruction (wire instruction_form)) e.joined same
+    let r = reads_delivered SpellsEncoderInstruction (wire encoder_instruction_form) w.taken e.first [] c.front [] c.rest e.front
+    e.rest c.front_joined (nothing_cut_off SpellsEncoderInstruction (wire encoder_instruction_form)) e.joined same
     (omega (arith, le, e.place_is, c.ends)) in
     omega (arith, r, e.many_is)
 
@@ -184,23 +184,23 @@ taken_within v w place many sh e le =
 
 -- what the decoder answers for the next block of a stream
 pub record ReadsExactly (v : Session) (b : KeptBlock) : Type 0 where
-  pub missing : count v.decoder < b.required → reading_of_bytes (window v.decoder) b.bytes ≡ Missing b.required
-  pub exact : b.required ≤ count v.decoder
-      → reading_of_bytes (window v.decoder) b.bytes ≡ Fields b.handed (nat_lt 0 b.required)
-  pub in_time : b.end ≤ v.sent_taken → b.required ≤ count v.decoder
+  pub missing : insert_count v.decoder < b.required → reading_of_bytes (window v.decoder) b.bytes ≡ Missing b.required
+  pub exact : b.required ≤ insert_count v.decoder
+      → reading_of_bytes (window v.decoder) b.bytes ≡ Fields b.fields (nat_lt 0 b.required)
+  pub in_time : b.end ≤ v.encoder_stream_taken → b.required ≤ insert_count v.decoder
 
 pub reads_exactly : (capacity limit : ℕ) (v : Session) (w : AbstractSession) → Refines v w → Invariant capacity limit w
     → (s : ℕ) (b : KeptBlock) → (stream_at v.streams s).cancelled ≡ false → next_block v s ≡ Some b → ReadsExactly v b
 reads_exactly capacity limit v w sh k s b live next =
     let old = sh.streams_are s in
     let at =
-    agrees_get (RefinesBlock v.sent (w.taken ++ w.in_flight)) (stream_at v.streams s).blocks
+    agrees_get (RefinesBlock v.encoder_stream (w.taken ++ w.in_flight)) (stream_at v.streams s).blocks
     (stream_at w.streams s).blocks (stream_at v.streams s).decoded b old.blocks_are next in
     let there : slice_get (stream_at w.streams s).blocks (stream_at w.streams s).decoded ≡ Some at.0 =
     ap (slice_get (stream_at w.streams s).blocks) (sym old.decoded_is) ∙ at.1 in
     let d : DecodesExactly w at.0 = (inv_safe capacity limit w k).decodes s at.0 (sym old.cancelled_is ∙ live) there in
     let shown = at.2 in
-    let many : count v.decoder ≡ total w.decoder = ap count sh.decoder_is ∙ count_put w.decoder in
+    let many : insert_count v.decoder ≡ window_insert_count w.decoder = ap insert_count sh.decoder_is ∙ count_put w.decoder in
     let same : reading_of_bytes (window v.decoder) b.bytes ≡ reading w.decoder at.0.block =
     ap (λ (t : Table). reading_of_bytes (window t) b.bytes) sh.decoder_is
     ∙ ap (λ (x : Window). reading_of_bytes x b.bytes) (window_put w.decoder)
@@ -211,7 +211,7 @@ reads_exactly capacity limit v w sh k s b live next =
           ∙ ap (λ n. Missing n) (sym shown.required_is);
       exact = λ le. same ∙ d.exact (omega (arith, le, many, shown.required_is))
           ∙ ap (λ (fs : List Field). Fields fs (nat_lt 0 (required_count at.0))) (sym shown.handed_are)
-          ∙ ap (λ (n : ℕ). Fields b.handed (nat_lt 0 n)) (sym shown.required_is);
+          ∙ ap (λ (n : ℕ). Fields b.fields (nat_lt 0 n)) (sym shown.required_is);
       in_time =
           λ le. omega (arith, d.in_time (taken_within v w b.end at.0.end sh shown.ends le), many, shown.required_is);
     }
@@ -219,18 +219,18 @@ reads_exactly capacity limit v w sh k s b live next =
 -- ---- what blocks mean
 
 -- the base of a block that requires an entry is the one that was written; where nothing is required, none counts
-base_known : (capacity : ℕ) (made : History) (sent : List Instruction) (b : AbstractBlock)
-    (ok : KeepsBlock capacity made sent b)
+base_known : (capacity : ℕ) (made : History) (encoder_stream : List EncoderInstruction) (b : AbstractBlock)
+    (ok : KeepsBlock capacity made encoder_stream b)
     → (base : ℕ) × (base_behind b.block.prefix (required_count b) ≡ Ok base)
-    × (fields_of (whole made) base b.block.lines ≡ Ok b.handed)
-base_known capacity made sent b ok = pick (cases_lt 0 (required_count b))
+    × (fields_of (whole_window made) base b.block.lines ≡ Ok b.fields)
+base_known capacity made encoder_stream b ok = pick (cases_lt 0 (required_count b))
   where
     pick : (0 < required_count b) ⊎ (required_count b ≤ 0)
         → (base : ℕ) × (base_behind b.block.prefix (required_count b) ≡ Ok base)
-        × (fields_of (whole made) base b.block.lines ≡ Ok b.handed)
+        × (fields_of (whole_window made) base b.block.lines ≡ Ok b.fields)
     pick (inl positive) =
         let a : Agreed capacity ok.at_end =
-        leads_agreed capacity (start capacity) ok.front ok.at_end ok.leads (agreed_start capacity) in
+        leads_agreed capacity (initial_history capacity) ok.front ok.at_end ok.leads (agreed_start capacity) in
         let room : 32 ≤ capacity = a.roomy (omega (arith, ok.within, positive)) in
         let apart : nat_eq (required_count b) 0 ≡ false = ne_eqb (required_count b) 0 (λ e. absurd (omega arith)) in
         let read : read_base b.block.prefix.sign (required_count b) b.block.prefix.delta ≡ Ok ok.base =
@@ -242,58 +242,58 @@ base_known capacity made sent b ok = pick (cases_lt 0 (required_count b))
         let is : nat_eq (required_count b) 0 ≡ true = eq-eqb (required_count b) 0 zero_count in
         let plain : references_of ok.base b.block.lines ≡ [] =
         tracked_none (references_of ok.base b.block.lines) (ok.references ∙ ok.plain zero_count) in
-        (0, rw is refl, sym (fields_plain (whole made) (whole made) ok.base 0 b.block.lines plain) ∙ ok.means)
+        (0, rw is refl, sym (fields_plain (whole_window made) (whole_window made) ok.base 0 b.block.lines plain) ∙ ok.means)
 
 -- bytes that are lines are one list of them
-lines_same : (bytes : List ℕ) (ls ms : List Instruction) → Joined SpellsInstruction bytes ls
-    → Joined SpellsInstruction bytes ms → ls ≡ ms
+lines_same : (bytes : List ℕ) (ls ms : List EncoderInstruction) → Joined SpellsEncoderInstruction bytes ls
+    → Joined SpellsEncoderInstruction bytes ms → ls ≡ ms
 lines_same bytes ls ms j k =
-    let W = wire instruction_form in
-    (one_reading SpellsInstruction W ls ms bytes bytes [] [] j k (nothing_cut_off SpellsInstruction W)
-    (nothing_cut_off SpellsInstruction W) refl).0
+    let W = wire encoder_instruction_form in
+    (one_reading SpellsEncoderInstruction W ls ms bytes bytes [] [] j k (nothing_cut_off SpellsEncoderInstruction W)
+    (nothing_cut_off SpellsEncoderInstruction W) refl).0
 
 pub means_handed : (capacity limit : ℕ) (v : Session) (w : AbstractSession) → Refines v w → Invariant capacity limit w
-    → (instructions : List Instruction) (all : History) → Joined SpellsInstruction v.sent instructions
-    → Leads (start capacity) instructions all
+    → (instructions : List EncoderInstruction) (all : History) → Joined SpellsEncoderInstruction v.encoder_stream instructions
+    → Leads (initial_history capacity) instructions all
     → (s place : ℕ) (b : KeptBlock) → slice_get (stream_at v.streams s).blocks place ≡ Some b
-    → meaning_over_all all b.bytes b.required ≡ Ok b.handed
+    → meaning_over_all all b.bytes b.required ≡ Ok b.fields
 means_handed capacity limit v w sh k instructions all j l s place b there =
     let found =
-    agrees_get (RefinesBlock v.sent (w.taken ++ w.in_flight)) (stream_at v.streams s).blocks
+    agrees_get (RefinesBlock v.encoder_stream (w.taken ++ w.in_flight)) (stream_at v.streams s).blocks
     (stream_at w.streams s).blocks place b (sh.streams_are s).blocks_are there in
     let ok : KeepsBlock capacity k.made (w.taken ++ w.in_flight) found.0 =
     every_get (KeepsBlock capacity k.made (w.taken ++ w.in_flight)) (stream_at w.streams s).blocks place found.0
     found.1 (k.streams s).blocks in
     let lines : instructions ≡ w.taken ++ w.in_flight =
-    lines_same v.sent instructions (w.taken ++ w.in_flight) j
-    (whole_sent v.sent v.sent_taken w.taken w.in_flight sh.encoder_stream) in
-    let made : Leads (start capacity) (w.taken ++ w.in_flight) k.made =
-    leads_append (start capacity) w.taken w.in_flight k.received k.made k.taken_leads k.in_flight_leads in
+    lines_same v.encoder_stream instructions (w.taken ++ w.in_flight) j
+    (whole_sent v.encoder_stream v.encoder_stream_taken w.taken w.in_flight sh.encoder_stream) in
+    let made : Leads (initial_history capacity) (w.taken ++ w.in_flight) k.made =
+    leads_append (initial_history capacity) w.taken w.in_flight k.received k.made k.taken_leads k.in_flight_leads in
     let same : all ≡ k.made =
-    leads_unique (start capacity) (w.taken ++ w.in_flight) all k.made
-    (subst (λ (x : List Instruction). Leads (start capacity) x all) lines l) made in
+    leads_unique (initial_history capacity) (w.taken ++ w.in_flight) all k.made
+    (subst (λ (x : List EncoderInstruction). Leads (initial_history capacity) x all) lines l) made in
     let base = base_known capacity k.made (w.taken ++ w.in_flight) found.0 ok in
     ap (λ (h : History). meaning_over_all h b.bytes b.required) same
     ∙ ap (λ (x : List ℕ). meaning_over_all k.made x b.required) found.2.bytes_are
     ∙ ap (meaning_over_all k.made (written_block found.0.block)) found.2.required_is
-    ∙ written_means k.made found.0.block (required_count found.0) base.0 found.0.handed found.2.writable base.1 base.2
+    ∙ written_means k.made found.0.block (required_count found.0) base.0 found.0.fields found.2.writable base.1 base.2
     ∙ ap (λ (fs : List Field). let r : Result (List Field) Fault = Ok fs in r) (sym found.2.handed_are)
 
 -- ---- what a delivery takes
 
 -- a delivery that is answered takes the instructions of each block whose end it reached, of those written since too
 pub delivers_whole : (capacity limit : ℕ) (v : Session) (w : AbstractSession) (n received : ℕ) (v' : Session)
-    → Refines v w → Invariant capacity limit w → DeliversTo v n (Delivered received) v'
-    → (u : Session) (x : AbstractSession) → Refines u x → Extends v.sent u.sent → (s position : ℕ) (b : KeptBlock)
-    → slice_get (stream_at u.streams s).blocks position ≡ Some b → b.end ≤ v'.sent_delivered → b.end ≤ v'.sent_taken
+    → Refines v w → Invariant capacity limit w → DeliversToDecoder v n (Delivered received) v'
+    → (u : Session) (x : AbstractSession) → Refines u x → Extends v.encoder_stream u.encoder_stream → (s position : ℕ) (b : KeptBlock)
+    → slice_get (stream_at u.streams s).blocks position ≡ Some b → b.end ≤ v'.encoder_stream_delivered → b.end ≤ v'.encoder_stream_taken
 delivers_whole capacity limit v w n received v' sh k c u x su more s position b there le =
     go (moved capacity limit v w n (Delivered received) v' sh k c) c.ends
   where
-    whole : (m : Moved capacity limit v w n c.lines c.front c.rest c.table) → Truncates instruction_form c.rest
-        → b.end ≤ min (v.sent_delivered + n) (length v.sent) → b.end ≤ v.sent_taken + length c.front
-    whole m cut within =
+    whole_window : (m : Moved capacity limit v w n c.lines c.front c.rest c.table) → Truncates encoder_instruction_form c.rest
+        → b.end ≤ min (v.encoder_stream_delivered + n) (length v.encoder_stream) → b.end ≤ v.encoder_stream_taken + length c.front
+    whole_window m cut within =
         let found =
-        agrees_get (RefinesBlock u.sent (x.taken ++ x.in_flight)) (stream_at u.streams s).blocks
+        agrees_get (RefinesBlock u.encoder_stream (x.taken ++ x.in_flight)) (stream_at u.streams s).blocks
         (stream_at x.streams s).blocks position b (su.streams_are s).blocks_are there in
         let e = found.2.ends in
         let carried = m.on.carried in
@@ -303,20 +303,20 @@ delivers_whole capacity limit v w n received v' sh k c u x su more s position b 
         ∙ append_assoc carried.front (c.rest ++ m.on.more) more.0
         ∙ ap (λ l. carried.front ++ l) (append_assoc c.rest m.on.more more.0) in
         let few =
-        reads_delivered SpellsInstruction (wire instruction_form) (w.taken ++ c.lines) e.first [] carried.front
-        c.rest behind e.front e.rest carried.front_joined (λ text l i q y. (cut text l q).0 i y) e.joined same
+        reads_delivered SpellsEncoderInstruction (wire encoder_instruction_form) (w.taken ++ c.lines) e.first [] carried.front
+        c.rest behind e.front e.rest carried.front_joined (λ encoding l i q y. (cut encoding l q).0 i y) e.joined same
         (omega (arith, e.place_is, within, m.place, carried.ends)) in
         let short =
-        fronts_order SpellsInstruction (wire instruction_form) e.first (w.taken ++ c.lines) e.front carried.front
+        fronts_order SpellsEncoderInstruction (wire encoder_instruction_form) e.first (w.taken ++ c.lines) e.front carried.front
         e.rest (c.rest ++ behind) e.joined carried.front_joined same few in
         omega (arith, short, e.place_is, carried.ends)
 
     go : Moved capacity limit v w n c.lines c.front c.rest c.table
-        → DeliveryEnds v n c.table c.front c.rest (Delivered received) v' → b.end ≤ v'.sent_taken
+        → EndsAtDecoder v n c.table c.front c.rest (Delivered received) v' → b.end ≤ v'.encoder_stream_taken
     go m (takes_all pieces cut sizes sum is goes) =
-        let within : b.end ≤ min (v.sent_delivered + n) (length v.sent) =
-        omega (arith, le, ap (λ (y : Session). y.sent_delivered) goes) in
-        omega (arith, whole m cut within, ap (λ (y : Session). y.sent_taken) goes)
+        let within : b.end ≤ min (v.encoder_stream_delivered + n) (length v.encoder_stream) =
+        omega (arith, le, ap (λ (y : Session). y.encoder_stream_delivered) goes) in
+        omega (arith, whole_window m cut within, ap (λ (y : Session). y.encoder_stream_taken) goes)
     go m (no_memory is goes) = absurd cc
     go m (bad_bytes f y is goes) = absurd cc
-    go m (bad_instruction text l i e cut y bad is goes) = absurd cc
+    go m (bad_instruction encoding l i e cut y bad is goes) = absurd cc

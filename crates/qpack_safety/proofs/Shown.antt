@@ -6,14 +6,14 @@ use Rattle.std.specs.Prelude.{nat_eq, nat_le, not, ◌||◌}
 use Rattle.std.proofs.Math.Nat.{mod-le}
 use Rattle.std.proofs.lemmas.Bool.{cond_both}
 use Rattle.std.proofs.lemmas.List.{append_assoc}
-use Rattle.qpack_spec.specs.Instruction.{Instruction, Reply, SpellsInstruction, SpellsReply, written_instruction}
-use Rattle.qpack_spec.specs.Instruction.{written_instructions, written_reply, written_replies}
+use Rattle.qpack_spec.specs.Instruction.{EncoderInstruction, DecoderInstruction, SpellsEncoderInstruction, SpellsDecoderInstruction, written_encoder_instruction}
+use Rattle.qpack_spec.specs.Instruction.{written_encoder_instructions, written_decoder_instruction, written_decoder_instructions}
 use Rattle.qpack_spec.specs.Stream.{Joined}
 use Rattle.qpack_spec.specs.Prefix.{prefix_for}
-use Rattle.qpack_spec.specs.WrittenLaws.{IsWritableInstruction, IsWritableReply, IsWritablePrefix}
+use Rattle.qpack_spec.specs.WrittenLaws.{IsWritableEncoderInstruction, IsWritableDecoderInstruction, IsWritablePrefix}
 use Rattle.qpack_safety.specs.AbstractSession.{AbstractBlock, is_dynamic, AbstractStream}
 use Rattle.qpack_spec.specs.Session.{KeptBlock, KeptStream, requires_entry, increments}
-use Rattle.qpack_spec.proofs.WrittenForms.{instructions_spelled, replies_spelled}
+use Rattle.qpack_spec.proofs.WrittenForms.{instructions_spelled, decoder_instructions_spelled}
 use Rattle.qpack_safety.specs.Refines.{Agrees, EndsAt, RefinesBlock, RefinesStream}
 
 -- ---- lists that agree
@@ -42,9 +42,9 @@ agrees_get P (z ∷ xs) (u ∷ ys) (suc i) x h e = agrees_get P xs ys i x h.1 e
 
 -- ---- more is written
 
-ends_grow : (sent more : List ℕ) (lines behind : List Instruction) (place many : ℕ) → EndsAt sent lines place many
-    → EndsAt (sent ++ more) (lines ++ behind) place many
-ends_grow sent more lines behind place many e =
+ends_grow : (encoder_stream more : List ℕ) (lines behind : List EncoderInstruction) (place many : ℕ) → EndsAt encoder_stream lines place many
+    → EndsAt (encoder_stream ++ more) (lines ++ behind) place many
+ends_grow encoder_stream more lines behind place many e =
     record {
       front = e.front;
       rest = e.rest ++ more;
@@ -57,17 +57,17 @@ ends_grow sent more lines behind place many e =
       joined = e.joined;
     }
 
-pub shows_grow : (sent more : List ℕ) (lines behind : List Instruction) (k : KeptStream) (st : AbstractStream)
-    → RefinesStream sent lines k st → RefinesStream (sent ++ more) (lines ++ behind) k st
-shows_grow sent more lines behind k st s =
+pub shows_grow : (encoder_stream more : List ℕ) (lines behind : List EncoderInstruction) (k : KeptStream) (st : AbstractStream)
+    → RefinesStream encoder_stream lines k st → RefinesStream (encoder_stream ++ more) (lines ++ behind) k st
+shows_grow encoder_stream more lines behind k st s =
     record {
-      blocks_are = agrees_weaker (RefinesBlock sent lines) (RefinesBlock (sent ++ more) (lines ++ behind))
+      blocks_are = agrees_weaker (RefinesBlock encoder_stream lines) (RefinesBlock (encoder_stream ++ more) (lines ++ behind))
           (λ x y h. record {
             bytes_are = h.bytes_are;
             writable = h.writable;
             required_is = h.required_is;
             handed_are = h.handed_are;
-            ends = ends_grow sent more lines behind x.end y.end h.ends;
+            ends = ends_grow encoder_stream more lines behind x.end y.end h.ends;
           })
           k.blocks st.blocks s.blocks_are;
       decoded_is = s.decoded_is;
@@ -82,19 +82,19 @@ shows_update P true k k' st st' h g = h
 shows_update P false k k' st st' h g = g
 
 -- the blocks that require an entry are as many on both sides
-dynamic_same : (sent : List ℕ) (lines : List Instruction) (x : KeptBlock) (y : AbstractBlock)
-    → RefinesBlock sent lines x y → requires_entry x ≡ is_dynamic y
-dynamic_same sent lines x y h = ap (λ n. not (nat_eq n 0)) h.required_is
+dynamic_same : (encoder_stream : List ℕ) (lines : List EncoderInstruction) (x : KeptBlock) (y : AbstractBlock)
+    → RefinesBlock encoder_stream lines x y → requires_entry x ≡ is_dynamic y
+dynamic_same encoder_stream lines x y h = ap (λ n. not (nat_eq n 0)) h.required_is
 
-pub dynamic_many : (sent : List ℕ) (lines : List Instruction) (n : ℕ) (xs : List KeptBlock) (ys : List AbstractBlock)
-    → Agrees (RefinesBlock sent lines) xs ys
+pub dynamic_many : (encoder_stream : List ℕ) (lines : List EncoderInstruction) (n : ℕ) (xs : List KeptBlock) (ys : List AbstractBlock)
+    → Agrees (RefinesBlock encoder_stream lines) xs ys
     → length (filter requires_entry (take n xs)) ≡ length (filter is_dynamic (take n ys))
-dynamic_many sent lines zero xs ys h = refl
-dynamic_many sent lines (suc n) [] [] h = refl
-dynamic_many sent lines (suc n) [] (y ∷ ys) h = absurd h
-dynamic_many sent lines (suc n) (x ∷ xs) [] h = absurd h
-dynamic_many sent lines (suc n) (x ∷ xs) (y ∷ ys) h =
-    rw (dynamic_same sent lines x y h.0) (both (is_dynamic y) (dynamic_many sent lines n xs ys h.1))
+dynamic_many encoder_stream lines zero xs ys h = refl
+dynamic_many encoder_stream lines (suc n) [] [] h = refl
+dynamic_many encoder_stream lines (suc n) [] (y ∷ ys) h = absurd h
+dynamic_many encoder_stream lines (suc n) (x ∷ xs) [] h = absurd h
+dynamic_many encoder_stream lines (suc n) (x ∷ xs) (y ∷ ys) h =
+    rw (dynamic_same encoder_stream lines x y h.0) (both (is_dynamic y) (dynamic_many encoder_stream lines n xs ys h.1))
   where
     both : (b : Bool) → length (filter requires_entry (take n xs)) ≡ length (filter is_dynamic (take n ys))
         → length (cond b (x ∷ filter requires_entry (take n xs)) (filter requires_entry (take n xs)))
@@ -104,23 +104,23 @@ dynamic_many sent lines (suc n) (x ∷ xs) (y ∷ ys) h =
 
 -- ---- what is written is joined
 
-pub instructions_joined : (is : List Instruction) → AllByRecursion IsWritableInstruction is
-    → Joined SpellsInstruction (written_instructions is) is
-unfolding written_instructions
+pub instructions_joined : (is : List EncoderInstruction) → AllByRecursion IsWritableEncoderInstruction is
+    → Joined SpellsEncoderInstruction (written_encoder_instructions is) is
+unfolding written_encoder_instructions
 instructions_joined [] w = refl
 instructions_joined (i ∷ is) w =
-    (written_instruction i, written_instructions is, refl, instructions_spelled i w.0, instructions_joined is w.1)
+    (written_encoder_instruction i, written_encoder_instructions is, refl, instructions_spelled i w.0, instructions_joined is w.1)
 
-pub replies_joined : (rs : List Reply) → AllByRecursion IsWritableReply rs → Joined SpellsReply (written_replies rs) rs
-unfolding written_replies
-replies_joined [] w = refl
-replies_joined (r ∷ rs) w = (written_reply r, written_replies rs, refl, replies_spelled r w.0, replies_joined rs w.1)
+pub decoder_instructions_joined : (rs : List DecoderInstruction) → AllByRecursion IsWritableDecoderInstruction rs → Joined SpellsDecoderInstruction (written_decoder_instructions rs) rs
+unfolding written_decoder_instructions
+decoder_instructions_joined [] w = refl
+decoder_instructions_joined (r ∷ rs) w = (written_decoder_instruction r, written_decoder_instructions rs, refl, decoder_instructions_spelled r w.0, decoder_instructions_joined rs w.1)
 
-pub one_joined : {L : Type 0} (S : List ℕ → L → Type 0) (text : List ℕ) (l : L) → S text l → Joined S text (l ∷ [])
-one_joined S text l s = (text, [], sym (Rattle.std.proofs.lemmas.List.append-nil text), s, refl)
+pub one_joined : {L : Type 0} (S : List ℕ → L → Type 0) (encoding : List ℕ) (l : L) → S encoding l → Joined S encoding (l ∷ [])
+one_joined S encoding l s = (encoding, [], sym (Rattle.std.proofs.lemmas.List.append-nil encoding), s, refl)
 
 pub increments_writable : (ns : List ℕ) → AllByRecursion (λ n. (1 ≤ n) × (n ≤ 64)) ns
-    → AllByRecursion IsWritableReply (increments ns)
+    → AllByRecursion IsWritableDecoderInstruction (increments ns)
 increments_writable [] h = tt
 increments_writable (n ∷ ns) h = (omega (arith, h.0.1), increments_writable ns h.1)
 

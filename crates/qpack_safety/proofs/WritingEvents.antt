@@ -7,25 +7,25 @@ use Rattle.std.specs.Prelude.{nat_eq, nat_le, nat_lt}
 use Rattle.std.proofs.lemmas.Bool.{eq-eqb, leb-false}
 use Rattle.std.proofs.lemmas.List.{append-nil, append_assoc}
 use Rattle.qpack_spec.specs.Field.{Field}
-use Rattle.qpack_spec.specs.Instruction.{Instruction, SetCapacity, Acknowledgment, Cancellation, SpellsInstruction}
-use Rattle.qpack_spec.specs.Instruction.{SpellsReply, written_instruction, written_instructions, written_reply}
+use Rattle.qpack_spec.specs.Instruction.{EncoderInstruction, SetCapacity, Acknowledgment, Cancellation, SpellsEncoderInstruction}
+use Rattle.qpack_spec.specs.Instruction.{SpellsDecoderInstruction, written_encoder_instruction, written_encoder_instructions, written_decoder_instruction}
 use Rattle.qpack_spec.specs.Stream.{Joined, Carried}
-use Rattle.qpack_spec.specs.Window.{agreed_maximum, greatest_capacity, Refusal}
-use Rattle.qpack_spec.specs.Reading.{Block, greatest}
+use Rattle.qpack_spec.specs.Window.{maximum_capacity, greatest_capacity, TableRefusal}
+use Rattle.qpack_spec.specs.Reading.{Block, greatest_of}
 use Rattle.qpack_spec.specs.Prefix.{written_prefix}
 use Rattle.qpack_spec.specs.Line.{written_lines}
 use Rattle.qpack_spec.specs.BlockReading.{written_block}
-use Rattle.qpack_spec.specs.Table.{Table, count, resized}
-use Rattle.qpack_spec.specs.Rule.{rule, required_of, block_of}
+use Rattle.qpack_spec.specs.Table.{Table, insert_count, with_capacity}
+use Rattle.qpack_spec.specs.Rule.{rule, required_insert_count, block_of}
 use Rattle.qpack_safety.specs.AbstractSession.{AbstractBlock, is_dynamic, AbstractSession, after_encode, after_abandon}
 use Rattle.qpack_safety.specs.AbstractSession.{after_resize, waits_for_acknowledgment}
-use Rattle.qpack_spec.specs.Session.{KeptBlock, KeptStream, stream_at, with_kept, Session, FitsMemory, waits}
-use Rattle.qpack_spec.specs.Session.{requires_entry, unless_cancelled, with_block, given_up, with_decoded}
+use Rattle.qpack_spec.specs.Session.{KeptBlock, KeptStream, stream_at, with_kept_stream, Session, FitsMemory, awaits_acknowledgment}
+use Rattle.qpack_spec.specs.Session.{requires_entry, unless_cancelled, with_block, after_refused_encode, with_decoded}
 use Rattle.qpack_spec.specs.WrittenLaws.{IsByteField, IsWritableBlock}
 use Rattle.qpack_spec.proofs.Lists.{every_right, every_weaker}
 use Rattle.qpack_spec.proofs.Readings.{greatest_bound}
 use Rattle.qpack_spec.proofs.Drafts.{IsLive, Drafting, count_inserted, rule_drafts}
-use Rattle.qpack_spec.proofs.WrittenForms.{instructions_spelled, replies_spelled}
+use Rattle.qpack_spec.proofs.WrittenForms.{instructions_spelled, decoder_instructions_spelled}
 use Rattle.qpack_spec.proofs.WrittenDrafts.{WrittenDraft, rule_written, lines_fit, instructions_fit}
 use Rattle.qpack_safety.specs.Refines.{EndsAt, RefinesBlock, RefinesStream, Refines}
 use Rattle.qpack_safety.proofs.Invariant.{Invariant, sound_made}
@@ -42,25 +42,25 @@ pub record RefinesSome (capacity limit : ℕ) (v : Session) : Type 0 where
   pub refines : Refines v abstract
   pub keeps : Invariant capacity limit abstract
 
-few_insertions : (capacity limit : ℕ) (w : AbstractSession) → Invariant capacity limit w → count w.encoder ≤ 2 ^ 62
+few_insertions : (capacity limit : ℕ) (w : AbstractSession) → Invariant capacity limit w → insert_count w.encoder ≤ 2 ^ 62
 few_insertions capacity limit w k =
     let s = sound_made capacity limit w k in omega (arith, count_inserted w.encoder k.made k.encoder.shares s, s.few)
 
 -- all that is sent is the instructions written
-pub whole_sent : (sent : List ℕ) (place : ℕ) (taken in_flight : List Instruction)
-    → Carried Instruction SpellsInstruction sent place taken in_flight
-    → Joined SpellsInstruction sent (taken ++ in_flight)
-whole_sent sent place taken in_flight c =
-    subst (λ (b : List ℕ). Joined SpellsInstruction b (taken ++ in_flight)) (sym c.cut)
-    (joined_append SpellsInstruction c.front c.rest taken in_flight c.front_joined c.rest_joined)
+pub whole_sent : (encoder_stream : List ℕ) (place : ℕ) (taken in_flight : List EncoderInstruction)
+    → Carried EncoderInstruction SpellsEncoderInstruction encoder_stream place taken in_flight
+    → Joined SpellsEncoderInstruction encoder_stream (taken ++ in_flight)
+whole_sent encoder_stream place taken in_flight c =
+    subst (λ (b : List ℕ). Joined SpellsEncoderInstruction b (taken ++ in_flight)) (sym c.cut)
+    (joined_append SpellsEncoderInstruction c.front c.rest taken in_flight c.front_joined c.rest_joined)
 
-ends_here : (sent : List ℕ) (lines : List Instruction) → Joined SpellsInstruction sent lines
-    → EndsAt sent lines (length sent) (length lines)
-ends_here sent lines j =
+ends_here : (encoder_stream : List ℕ) (lines : List EncoderInstruction) → Joined SpellsEncoderInstruction encoder_stream lines
+    → EndsAt encoder_stream lines (length encoder_stream) (length lines)
+ends_here encoder_stream lines j =
     record {
-      front = sent;
+      front = encoder_stream;
       rest = [];
-      cut = sym (append-nil sent);
+      cut = sym (append-nil encoder_stream);
       place_is = refl;
       first = lines;
       others = [];
@@ -73,9 +73,9 @@ lines_short : (b : Block) → length (written_block b) < 2 ^ 63 → length (writ
 unfolding written_block
 lines_short b h = omega (arith, h, length-append (written_prefix b.prefix) (written_lines b.lines))
 
-instructions_short : (sent : List ℕ) (is : List Instruction) → length (sent ++ written_instructions is) < 2 ^ 63
-    → length (written_instructions is) < 2 ^ 63
-instructions_short sent is h = omega (arith, h, length-append sent (written_instructions is))
+instructions_short : (encoder_stream : List ℕ) (is : List EncoderInstruction) → length (encoder_stream ++ written_encoder_instructions is) < 2 ^ 63
+    → length (written_encoder_instructions is) < 2 ^ 63
+instructions_short encoder_stream is h = omega (arith, h, length-append encoder_stream (written_encoder_instructions is))
 
 -- the block of the rule can be written
 block_writable : (capacity limit : ℕ) (w : AbstractSession) (fs : List Field) → Invariant capacity limit w
@@ -87,12 +87,12 @@ block_writable capacity limit w fs k wr fits =
     let wd : WrittenDraft d = rule_written w.encoder fs few wr in
     let p : Drafting w.encoder k.made fs d =
     rule_drafts w.encoder k.made fs (sound_made capacity limit w k) k.encoder in
-    let required : greatest d.table.named ≤ count d.table =
-    greatest_bound (count d.table) d.table.named
-    (every_weaker (IsLive d.table) (λ a. a ≤ count d.table) (λ a q. q.1) d.table.named p.named) in
+    let required : greatest_of d.table.referenced ≤ insert_count d.table =
+    greatest_bound (insert_count d.table) d.table.referenced
+    (every_weaker (IsLive d.table) (λ a. a ≤ insert_count d.table) (λ a q. q.1) d.table.referenced p.referenced) in
     record {
-      prefix = prefix_small (agreed_maximum w.encoder.agreed w.encoder.capacity) (required_of d)
-          (count w.encoder) (omega (arith, required, wd.few)) few;
+      prefix = prefix_small (maximum_capacity w.encoder.agreed_max w.encoder.capacity) (required_insert_count d)
+          (insert_count w.encoder) (omega (arith, required, wd.few)) few;
       lines =
           lines_fit d.lines wd.lines (lines_short (block_of w.encoder d) fits);
     }
@@ -101,24 +101,24 @@ block_writable capacity limit w fs k wr fits =
 
 -- what an encode writes has fewer than 2^63 bytes
 abbrev EncodeFits : List ℕ → Table → List Field → Type 0
-EncodeFits sent t fs =
-    (length (sent ++ written_instructions (rule t fs).instructions) < 2 ^ 63)
+EncodeFits encoder_stream t fs =
+    (length (encoder_stream ++ written_encoder_instructions (rule t fs).instructions) < 2 ^ 63)
     × (length (written_block (block_of t (rule t fs))) < 2 ^ 63)
 
 last_fits : (bs : List KeptBlock) (b : KeptBlock)
     → AllByRecursion (λ (x : KeptBlock). length x.bytes < 2 ^ 63) (bs ++ b ∷ []) → length b.bytes < 2 ^ 63
 last_fits bs b h = (every_right (λ (x : KeptBlock). length x.bytes < 2 ^ 63) bs (b ∷ []) h).0
 
-block_fits : (v : Session) (s : ℕ) (fs : List Field) → FitsMemory (with_block v s fs) → EncodeFits v.sent v.encoder fs
+block_fits : (v : Session) (s : ℕ) (fs : List Field) → FitsMemory (with_block v s fs) → EncodeFits v.encoder_stream v.encoder fs
 block_fits v s fs f =
     let d = rule v.encoder fs in
     let k = stream_at v.streams s in
     let b : KeptBlock =
     record {
       bytes = written_block (block_of v.encoder d);
-      required = required_of d;
-      end = length (v.sent ++ written_instructions d.instructions);
-      handed = fs;
+      required = required_insert_count d;
+      end = length (v.encoder_stream ++ written_encoder_instructions d.instructions);
+      fields = fs;
     } in
     let all : AllByRecursion (λ (x : KeptBlock). length x.bytes < 2 ^ 63)
     (stream_at ((s, record k { blocks = k.blocks ++ b ∷ [] }) ∷ v.streams) s).blocks = f.blocks_fit s in
@@ -129,66 +129,66 @@ block_fits v s fs f =
           blocks = (stream_at v.streams s).blocks
               ++ record {
                 bytes = written_block (block_of v.encoder (rule v.encoder fs));
-                required = required_of (rule v.encoder fs);
+                required = required_insert_count (rule v.encoder fs);
                 end =
-                    length (v.sent ++ written_instructions (rule v.encoder fs).instructions);
-                handed = fs;
+                    length (v.encoder_stream ++ written_encoder_instructions (rule v.encoder fs).instructions);
+                fields = fs;
               } ∷ [];
         })
         (stream_at v.streams s)).blocks
         → AllByRecursion (λ (x : KeptBlock). length x.bytes < 2 ^ 63)
         ((stream_at v.streams s).blocks ++ record {
           bytes = written_block (block_of v.encoder (rule v.encoder fs));
-          required = required_of (rule v.encoder fs);
+          required = required_insert_count (rule v.encoder fs);
           end =
-              length (v.sent ++ written_instructions (rule v.encoder fs).instructions);
-          handed = fs;
+              length (v.encoder_stream ++ written_encoder_instructions (rule v.encoder fs).instructions);
+          fields = fs;
         } ∷ [])
     own true e h = h
     own false e h = absurd cc
 
 encoded_shown : (capacity limit : ℕ) (v : Session) (w : AbstractSession) (s : ℕ) (fs : List Field) → Refines v w
     → Invariant capacity limit w → AllByRecursion IsByteField fs
-    → EncodeFits v.sent w.encoder fs → RefinesSome capacity limit (with_block (record v { encoder = w.encoder }) s fs)
+    → EncodeFits v.encoder_stream w.encoder fs → RefinesSome capacity limit (with_block (record v { encoder = w.encoder }) s fs)
 encoded_shown capacity limit v w s fs sh k wr fits =
     let d = rule w.encoder fs in
     let wd : WrittenDraft d = rule_written w.encoder fs (few_insertions capacity limit w k) wr in
-    let more = written_instructions d.instructions in
-    let sent = v.sent ++ more in
+    let more = written_encoder_instructions d.instructions in
+    let encoder_stream = v.encoder_stream ++ more in
     let lines = w.taken ++ (w.in_flight ++ d.instructions) in
     let regroup : (w.taken ++ w.in_flight) ++ d.instructions ≡ lines =
     append_assoc w.taken w.in_flight d.instructions in
     let carried =
-    carried_more SpellsInstruction v.sent more v.sent_taken w.taken w.in_flight d.instructions sh.encoder_stream
+    carried_more SpellsEncoderInstruction v.encoder_stream more v.encoder_stream_taken w.taken w.in_flight d.instructions sh.encoder_stream
     (instructions_joined d.instructions (instructions_fit d.instructions wd.instructions
-    (instructions_short v.sent d.instructions fits.0))) in
+    (instructions_short v.encoder_stream d.instructions fits.0))) in
     let grown =
-    λ (q : ℕ). subst (λ (l : List Instruction). RefinesStream sent l (stream_at v.streams q)
+    λ (q : ℕ). subst (λ (l : List EncoderInstruction). RefinesStream encoder_stream l (stream_at v.streams q)
     (stream_at w.streams q)) regroup
-    (shows_grow v.sent more (w.taken ++ w.in_flight) d.instructions (stream_at v.streams q) (stream_at w.streams q)
+    (shows_grow v.encoder_stream more (w.taken ++ w.in_flight) d.instructions (stream_at v.streams q) (stream_at w.streams q)
     (sh.streams_are q)) in
     let kept = stream_at v.streams s in
     let st = stream_at w.streams s in
     let b : KeptBlock =
     record {
       bytes = written_block (block_of w.encoder d);
-      required = required_of d;
-      end = length sent;
-      handed = fs;
+      required = required_insert_count d;
+      end = length encoder_stream;
+      fields = fs;
     } in
     let x : AbstractBlock =
-    record { block = block_of w.encoder d; named = d.table.named; end = length lines; handed = fs } in
-    let shown : RefinesBlock sent lines b x = record {
+    record { block = block_of w.encoder d; referenced = d.table.referenced; end = length lines; fields = fs } in
+    let shown : RefinesBlock encoder_stream lines b x = record {
       bytes_are = refl;
       writable = block_writable capacity limit w fs k wr fits.1;
       required_is = refl;
       handed_are = refl;
-      ends = ends_here sent lines (whole_sent sent v.sent_taken w.taken (w.in_flight ++ d.instructions) carried);
+      ends = ends_here encoder_stream lines (whole_sent encoder_stream v.encoder_stream_taken w.taken (w.in_flight ++ d.instructions) carried);
     } in
-    let old : RefinesStream sent lines kept st = grown s in
-    let new : RefinesStream sent lines (record kept { blocks = kept.blocks ++ b ∷ [] })
+    let old : RefinesStream encoder_stream lines kept st = grown s in
+    let new : RefinesStream encoder_stream lines (record kept { blocks = kept.blocks ++ b ∷ [] })
     (record st { blocks = st.blocks ++ x ∷ [] }) = record {
-      blocks_are = agrees_push (RefinesBlock sent lines) kept.blocks st.blocks b x old.blocks_are shown;
+      blocks_are = agrees_push (RefinesBlock encoder_stream lines) kept.blocks st.blocks b x old.blocks_are shown;
       decoded_is = old.decoded_is;
       acknowledged_is = old.acknowledged_is;
       cancelled_is = old.cancelled_is;
@@ -205,7 +205,7 @@ encoded_shown capacity limit v w s fs sh k wr fits =
         decoder_stream = sh.decoder_stream;
         told_order = sh.told_order;
         streams_are =
-            λ q. shows_update (RefinesStream sent lines) (nat_eq s q) (stream_at v.streams q)
+            λ q. shows_update (RefinesStream encoder_stream lines) (nat_eq s q) (stream_at v.streams q)
             (record kept { blocks = kept.blocks ++ b ∷ [] }) (stream_at w.streams q)
             (record st { blocks = st.blocks ++ x ∷ [] }) new (grown q);
       };
@@ -216,8 +216,8 @@ pub lands_encoded : (capacity limit : ℕ) (v : Session) (w : AbstractSession) (
     → Invariant capacity limit w → AllByRecursion IsByteField fs → FitsMemory (with_block v s fs)
     → RefinesSome capacity limit (with_block v s fs)
 lands_encoded capacity limit v w s fs sh k wr f =
-    let fits : EncodeFits v.sent w.encoder fs =
-    subst (λ (t : Table). EncodeFits v.sent t fs) sh.encoder_is (block_fits v s fs f) in
+    let fits : EncodeFits v.encoder_stream w.encoder fs =
+    subst (λ (t : Table). EncodeFits v.encoder_stream t fs) sh.encoder_is (block_fits v s fs f) in
     subst (λ (t : Table). RefinesSome capacity limit (with_block (record v { encoder = t }) s fs)) (sym sh.encoder_is)
     (encoded_shown capacity limit v w s fs sh k wr fits)
 
@@ -225,12 +225,12 @@ lands_encoded capacity limit v w s fs sh k wr f =
 
 abandoned_shown : (capacity limit : ℕ) (v : Session) (w : AbstractSession) (fs : List Field) → Refines v w
     → Invariant capacity limit w → AllByRecursion IsByteField fs
-    → length (v.sent ++ written_instructions (rule w.encoder fs).instructions) < 2 ^ 63
-    → RefinesSome capacity limit (given_up (record v { encoder = w.encoder }) fs)
+    → length (v.encoder_stream ++ written_encoder_instructions (rule w.encoder fs).instructions) < 2 ^ 63
+    → RefinesSome capacity limit (after_refused_encode (record v { encoder = w.encoder }) fs)
 abandoned_shown capacity limit v w fs sh k wr fits =
     let d = rule w.encoder fs in
     let wd : WrittenDraft d = rule_written w.encoder fs (few_insertions capacity limit w k) wr in
-    let more = written_instructions d.instructions in
+    let more = written_encoder_instructions d.instructions in
     let regroup : (w.taken ++ w.in_flight) ++ d.instructions ≡ w.taken ++ (w.in_flight ++ d.instructions) =
     append_assoc w.taken w.in_flight d.instructions in
     record {
@@ -240,30 +240,30 @@ abandoned_shown capacity limit v w fs sh k wr fits =
         decoder_is = sh.decoder_is;
         unreported_is = sh.unreported_is;
         encoder_stream =
-            carried_more SpellsInstruction v.sent more v.sent_taken w.taken w.in_flight d.instructions
+            carried_more SpellsEncoderInstruction v.encoder_stream more v.encoder_stream_taken w.taken w.in_flight d.instructions
             sh.encoder_stream (instructions_joined d.instructions
-            (instructions_fit d.instructions wd.instructions (instructions_short v.sent d.instructions fits)));
+            (instructions_fit d.instructions wd.instructions (instructions_short v.encoder_stream d.instructions fits)));
         sent_order = sh.sent_order;
         heard_lines = sh.heard_lines;
         decoder_stream = sh.decoder_stream;
         told_order = sh.told_order;
         streams_are =
-            λ q. subst (λ (l : List Instruction). RefinesStream (v.sent ++ more) l (stream_at v.streams q)
+            λ q. subst (λ (l : List EncoderInstruction). RefinesStream (v.encoder_stream ++ more) l (stream_at v.streams q)
             (stream_at w.streams q)) regroup
-            (shows_grow v.sent more (w.taken ++ w.in_flight) d.instructions (stream_at v.streams q)
+            (shows_grow v.encoder_stream more (w.taken ++ w.in_flight) d.instructions (stream_at v.streams q)
             (stream_at w.streams q) (sh.streams_are q));
       };
       keeps = inv_abandoned capacity limit w fs k;
     }
 
 pub lands_given_up : (capacity limit : ℕ) (v : Session) (w : AbstractSession) (fs : List Field) → Refines v w
-    → Invariant capacity limit w → AllByRecursion IsByteField fs → FitsMemory (given_up v fs)
-    → RefinesSome capacity limit (given_up v fs)
+    → Invariant capacity limit w → AllByRecursion IsByteField fs → FitsMemory (after_refused_encode v fs)
+    → RefinesSome capacity limit (after_refused_encode v fs)
 lands_given_up capacity limit v w fs sh k wr f =
-    let fits : length (v.sent ++ written_instructions (rule w.encoder fs).instructions) < 2 ^ 63 =
-    subst (λ (t : Table). length (v.sent ++ written_instructions (rule t fs).instructions) < 2 ^ 63) sh.encoder_is
+    let fits : length (v.encoder_stream ++ written_encoder_instructions (rule w.encoder fs).instructions) < 2 ^ 63 =
+    subst (λ (t : Table). length (v.encoder_stream ++ written_encoder_instructions (rule t fs).instructions) < 2 ^ 63) sh.encoder_is
     f.sent_fits in
-    subst (λ (t : Table). RefinesSome capacity limit (given_up (record v { encoder = t }) fs)) (sym sh.encoder_is)
+    subst (λ (t : Table). RefinesSome capacity limit (after_refused_encode (record v { encoder = t }) fs)) (sym sh.encoder_is)
     (abandoned_shown capacity limit v w fs sh k wr fits)
 
 -- ---- a capacity is set
@@ -272,22 +272,22 @@ bounded : (o : Option ℕ) → greatest_capacity o ≤ 2 ^ 30 - 1
 bounded None = omega arith
 bounded (Some m) = omega arith
 
-small_capacity : (t u : Table) (n : ℕ) → resized t n ≡ Ok u → n < 2 ^ 63
+small_capacity : (t u : Table) (n : ℕ) → with_capacity t n ≡ Ok u → n < 2 ^ 63
 small_capacity t u n e = pick (resized_cases t n)
   where
-    pick : (CanResize t n × (resized t n ≡ Ok (resized_table t n))) ⊎ ((r : Refusal) × (resized t n ≡ Err r))
+    pick : (CanResize t n × (with_capacity t n ≡ Ok (resized_table t n))) ⊎ ((r : TableRefusal) × (with_capacity t n ≡ Err r))
         → n < 2 ^ 63
-    pick (inl p) = omega (arith, p.0.within, bounded t.agreed)
+    pick (inl p) = omega (arith, p.0.within, bounded t.agreed_max)
     pick (inr p) = absurd (let q = p.1 in cc)
 
 pub lands_resized : (capacity limit : ℕ) (v : Session) (w : AbstractSession) (n : ℕ) (t : Table) → Refines v w
-    → Invariant capacity limit w → resized v.encoder n ≡ Ok t
-    → RefinesSome capacity limit (record v { encoder = t; sent = v.sent ++ written_instruction (SetCapacity n) })
+    → Invariant capacity limit w → with_capacity v.encoder n ≡ Ok t
+    → RefinesSome capacity limit (record v { encoder = t; encoder_stream = v.encoder_stream ++ written_encoder_instruction (SetCapacity n) })
 lands_resized capacity limit v w n t sh k e =
-    let same : resized w.encoder n ≡ Ok t = ap (λ x. resized x n) (sym sh.encoder_is) ∙ e in
-    let more = written_instruction (SetCapacity n) in
+    let same : with_capacity w.encoder n ≡ Ok t = ap (λ x. with_capacity x n) (sym sh.encoder_is) ∙ e in
+    let more = written_encoder_instruction (SetCapacity n) in
     let spelled =
-    one_joined SpellsInstruction more (SetCapacity n)
+    one_joined SpellsEncoderInstruction more (SetCapacity n)
     (instructions_spelled (SetCapacity n) (small_capacity w.encoder t n same)) in
     let regroup : (w.taken ++ w.in_flight) ++ SetCapacity n ∷ [] ≡ w.taken ++ (w.in_flight ++ SetCapacity n ∷ []) =
     append_assoc w.taken w.in_flight (SetCapacity n ∷ []) in
@@ -298,19 +298,19 @@ lands_resized capacity limit v w n t sh k e =
         decoder_is = sh.decoder_is;
         unreported_is = sh.unreported_is;
         encoder_stream =
-            carried_more SpellsInstruction v.sent more v.sent_taken w.taken w.in_flight (SetCapacity n ∷ [])
+            carried_more SpellsEncoderInstruction v.encoder_stream more v.encoder_stream_taken w.taken w.in_flight (SetCapacity n ∷ [])
             sh.encoder_stream spelled;
         sent_order = sh.sent_order;
         heard_lines = sh.heard_lines;
         decoder_stream = sh.decoder_stream;
         told_order = sh.told_order;
         streams_are =
-            λ q. subst (λ (l : List Instruction). RefinesStream (v.sent ++ more) l (stream_at v.streams q)
+            λ q. subst (λ (l : List EncoderInstruction). RefinesStream (v.encoder_stream ++ more) l (stream_at v.streams q)
             (stream_at w.streams q)) regroup
-            (shows_grow v.sent more (w.taken ++ w.in_flight) (SetCapacity n ∷ []) (stream_at v.streams q)
+            (shows_grow v.encoder_stream more (w.taken ++ w.in_flight) (SetCapacity n ∷ []) (stream_at v.streams q)
             (stream_at w.streams q) (sh.streams_are q));
       };
-      keeps = subst (λ (r : Result Table Refusal). Invariant capacity limit (after_resize w n r)) same
+      keeps = subst (λ (r : Result Table TableRefusal). Invariant capacity limit (after_resize w n r)) same
           (inv_with_resized capacity limit w n k);
     }
 
@@ -323,7 +323,7 @@ lands_decoded capacity limit v w s sh k =
     let st = stream_at w.streams s in
     let old = sh.streams_are s in
     let lines = w.taken ++ w.in_flight in
-    let new : RefinesStream v.sent lines (record kept { decoded = kept.decoded + 1 })
+    let new : RefinesStream v.encoder_stream lines (record kept { decoded = kept.decoded + 1 })
     (record st { decoded = st.decoded + 1 }) =
     record {
       blocks_are = old.blocks_are;
@@ -343,7 +343,7 @@ lands_decoded capacity limit v w s sh k =
         decoder_stream = sh.decoder_stream;
         told_order = sh.told_order;
         streams_are =
-            λ q. shows_update (RefinesStream v.sent lines) (nat_eq s q) (stream_at v.streams q)
+            λ q. shows_update (RefinesStream v.encoder_stream lines) (nat_eq s q) (stream_at v.streams q)
             (record kept { decoded = kept.decoded + 1 }) (stream_at w.streams q)
             (record st { decoded = st.decoded + 1 }) new (sh.streams_are q);
       };
@@ -368,7 +368,7 @@ lawful_on s k lawful reason = one (nat_le (2 ^ 62) s) refl k.cancelled refl lawf
     one false p false q false r h = absurd cc
 
 waits_same : (v : Session) (w : AbstractSession) (s : ℕ) → Refines v w → (stream_at v.streams s).cancelled ≡ false
-    → waits requires_entry (stream_at v.streams s) ≡ true → waits_for_acknowledgment (stream_at w.streams s) ≡ true
+    → awaits_acknowledgment requires_entry (stream_at v.streams s) ≡ true → waits_for_acknowledgment (stream_at w.streams s) ≡ true
 waits_same v w s sh live h =
     let kept = stream_at v.streams s in
     let st = stream_at w.streams s in
@@ -376,7 +376,7 @@ waits_same v w s sh live h =
     let c : st.cancelled ≡ false = sym old.cancelled_is ∙ live in
     let n : length (filter requires_entry (take kept.decoded kept.blocks))
     ≡ length (filter is_dynamic (take st.decoded st.blocks)) =
-    dynamic_many v.sent (w.taken ++ w.in_flight) kept.decoded kept.blocks st.blocks old.blocks_are
+    dynamic_many v.encoder_stream (w.taken ++ w.in_flight) kept.decoded kept.blocks st.blocks old.blocks_are
     ∙ ap (λ m. length (filter is_dynamic (take m st.blocks))) old.decoded_is in
     let t : nat_lt st.acknowledged (length (filter is_dynamic (take st.decoded st.blocks))) ≡ true =
     ap (λ m. nat_lt m (length (filter is_dynamic (take st.decoded st.blocks)))) (sym old.acknowledged_is)
@@ -384,19 +384,19 @@ waits_same v w s sh live h =
     rw (c, t) refl
 
 pub lands_acknowledged : (capacity limit : ℕ) (v : Session) (w : AbstractSession) (s : ℕ) → Refines v w
-    → Invariant capacity limit w → Lawful s (stream_at v.streams s) (waits requires_entry (stream_at v.streams s))
+    → Invariant capacity limit w → Lawful s (stream_at v.streams s) (awaits_acknowledgment requires_entry (stream_at v.streams s))
     → (let k = stream_at v.streams s in RefinesSome capacity limit
-    (record (with_kept v s (record k { acknowledged = k.acknowledged + 1 }))
-    { told = v.told ++ written_reply (Acknowledgment s) }))
+    (record (with_kept_stream v s (record k { acknowledged = k.acknowledged + 1 }))
+    { decoder_stream = v.decoder_stream ++ written_decoder_instruction (Acknowledgment s) }))
 lands_acknowledged capacity limit v w s sh k ok =
     let kept = stream_at v.streams s in
     let st = stream_at w.streams s in
     let old = sh.streams_are s in
     let lines = w.taken ++ w.in_flight in
-    let more = written_reply (Acknowledgment s) in
+    let more = written_decoder_instruction (Acknowledgment s) in
     let spelled =
-    one_joined SpellsReply more (Acknowledgment s) (replies_spelled (Acknowledgment s) (omega (arith, ok.small))) in
-    let new : RefinesStream v.sent lines (record kept { acknowledged = kept.acknowledged + 1 })
+    one_joined SpellsDecoderInstruction more (Acknowledgment s) (decoder_instructions_spelled (Acknowledgment s) (omega (arith, ok.small))) in
+    let new : RefinesStream v.encoder_stream lines (record kept { acknowledged = kept.acknowledged + 1 })
     (record st { acknowledged = st.acknowledged + 1 }) =
     record {
       blocks_are = old.blocks_are;
@@ -418,11 +418,11 @@ lands_acknowledged capacity limit v w s sh k ok =
         sent_order = sh.sent_order;
         heard_lines = sh.heard_lines;
         decoder_stream =
-            carried_more SpellsReply v.told more v.told_taken sh.heard_lines w.decoder_in_flight
+            carried_more SpellsDecoderInstruction v.decoder_stream more v.decoder_stream_taken sh.heard_lines w.decoder_in_flight
             (Acknowledgment s ∷ []) sh.decoder_stream spelled;
         told_order = sh.told_order;
         streams_are =
-            λ q. shows_update (RefinesStream v.sent lines) (nat_eq s q) (stream_at v.streams q)
+            λ q. shows_update (RefinesStream v.encoder_stream lines) (nat_eq s q) (stream_at v.streams q)
             (record kept { acknowledged = kept.acknowledged + 1 }) (stream_at w.streams q)
             (record st { acknowledged = st.acknowledged + 1 }) new (sh.streams_are q);
       };
@@ -432,16 +432,16 @@ lands_acknowledged capacity limit v w s sh k ok =
 pub lands_cancelled : (capacity limit : ℕ) (v : Session) (w : AbstractSession) (s : ℕ) → Refines v w
     → Invariant capacity limit w → s < 2 ^ 62
     → (let k = stream_at v.streams s in RefinesSome capacity limit
-    (record (with_kept v s (record k { cancelled = true })) { told = v.told ++ written_reply (Cancellation s) }))
+    (record (with_kept_stream v s (record k { cancelled = true })) { decoder_stream = v.decoder_stream ++ written_decoder_instruction (Cancellation s) }))
 lands_cancelled capacity limit v w s sh k small =
     let kept = stream_at v.streams s in
     let st = stream_at w.streams s in
     let old = sh.streams_are s in
     let lines = w.taken ++ w.in_flight in
-    let more = written_reply (Cancellation s) in
+    let more = written_decoder_instruction (Cancellation s) in
     let spelled =
-    one_joined SpellsReply more (Cancellation s) (replies_spelled (Cancellation s) (omega (arith, small))) in
-    let new : RefinesStream v.sent lines (record kept { cancelled = true }) (record st { cancelled = true }) =
+    one_joined SpellsDecoderInstruction more (Cancellation s) (decoder_instructions_spelled (Cancellation s) (omega (arith, small))) in
+    let new : RefinesStream v.encoder_stream lines (record kept { cancelled = true }) (record st { cancelled = true }) =
     record {
       blocks_are = old.blocks_are;
       decoded_is = old.decoded_is;
@@ -462,11 +462,11 @@ lands_cancelled capacity limit v w s sh k small =
         sent_order = sh.sent_order;
         heard_lines = sh.heard_lines;
         decoder_stream =
-            carried_more SpellsReply v.told more v.told_taken sh.heard_lines w.decoder_in_flight (Cancellation s ∷ [])
+            carried_more SpellsDecoderInstruction v.decoder_stream more v.decoder_stream_taken sh.heard_lines w.decoder_in_flight (Cancellation s ∷ [])
             sh.decoder_stream spelled;
         told_order = sh.told_order;
         streams_are =
-            λ q. shows_update (RefinesStream v.sent lines) (nat_eq s q) (stream_at v.streams q)
+            λ q. shows_update (RefinesStream v.encoder_stream lines) (nat_eq s q) (stream_at v.streams q)
             (record kept { cancelled = true }) (stream_at w.streams q) (record st { cancelled = true }) new
             (sh.streams_are q);
       };

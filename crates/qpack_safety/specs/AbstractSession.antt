@@ -3,26 +3,26 @@
 use Rattle.std.specs.Prelude.{ℕ, ◌+◌, ◌-◌, Bool, true, if◌then◌else◌, ◌&&◌, not, nat_eq, List, [], ◌∷◌, ◌++◌, length}
 use Rattle.std.specs.Prelude.{Option, None, Some, Result, Ok, Err}
 use Rattle.qpack_spec.specs.Field.{Field}
-use Rattle.qpack_spec.specs.Instruction.{Instruction, SetCapacity, Reply, Acknowledgment, Cancellation}
-use Rattle.qpack_spec.specs.Window.{Window, total, Refusal, apply}
-use Rattle.qpack_spec.specs.History.{start, window_of}
-use Rattle.qpack_spec.specs.Reading.{Block, Reading, reading, greatest}
-use Rattle.qpack_spec.specs.Table.{Table, empty_table, unnamed, heard, resized}
-use Rattle.qpack_spec.specs.Rule.{Draft, rule, block_of, committed}
-use Rattle.qpack_spec.specs.Session.{RequestStream, stream_at, with_stream, oldest_undecoded, waits, is_read, sum_of}
+use Rattle.qpack_spec.specs.Instruction.{EncoderInstruction, SetCapacity, DecoderInstruction, Acknowledgment, Cancellation}
+use Rattle.qpack_spec.specs.Window.{Window, window_insert_count, TableRefusal, apply}
+use Rattle.qpack_spec.specs.History.{initial_history, window_of}
+use Rattle.qpack_spec.specs.Reading.{Block, Reading, reading, greatest_of}
+use Rattle.qpack_spec.specs.Table.{Table, empty_table, without_references, apply_decoder_instruction, with_capacity}
+use Rattle.qpack_spec.specs.Rule.{Draft, rule, block_of, committed_table}
+use Rattle.qpack_spec.specs.Session.{RequestStream, stream_at, with_stream, oldest_undecoded, awaits_acknowledgment, is_read, sum_of}
 use Rattle.qpack_spec.specs.Session.{increments}
 
 -- a block that was written: the entries that it references, how many instructions were written by its end, and the
 -- fields that were handed to the encoder
 pub record AbstractBlock : Type 0 where
   pub block : Block
-  pub named : List ℕ
+  pub referenced : List ℕ
   pub end : ℕ
-  pub handed : List Field
+  pub fields : List Field
 
 -- the required insert count of a block
 abbrev pub required_count : AbstractBlock → ℕ
-required_count b = greatest b.named
+required_count b = greatest_of b.referenced
 
 -- it requires an entry, so it is to be acknowledged (section 2.2.2.1)
 abbrev pub is_dynamic : AbstractBlock → Bool
@@ -38,9 +38,9 @@ pub record AbstractSession : Type 0 where
   pub encoder : Table
   pub decoder : Window
   pub unreported : ℕ
-  pub taken : List Instruction
-  pub in_flight : List Instruction
-  pub decoder_in_flight : List Reply
+  pub taken : List EncoderInstruction
+  pub in_flight : List EncoderInstruction
+  pub decoder_in_flight : List DecoderInstruction
   pub streams : List (ℕ × AbstractStream)
 
 -- the small steps: the encoder writes a block; it is refused memory behind some fields of a block; it sets a capacity;
@@ -62,7 +62,7 @@ abbrev pub abstract_start : ℕ → ℕ → AbstractSession
 abstract_start capacity limit =
     record {
       encoder = empty_table capacity (Some capacity) limit;
-      decoder = window_of (start capacity);
+      decoder = window_of (initial_history capacity);
       unreported = 0;
       taken = [];
       in_flight = [];
@@ -76,53 +76,53 @@ after_encode w s fs d =
     let st = stream_at w.streams s in
     let in_flight = w.in_flight ++ d.instructions in
     record w {
-      encoder = committed d s;
+      encoder = committed_table d s;
       in_flight = in_flight;
       streams = with_stream w.streams s (record st {
         blocks =
             st.blocks ++ record {
               block = block_of w.encoder d;
-              named = d.table.named;
+              referenced = d.table.referenced;
               end = length (w.taken ++ in_flight);
-              handed = fs;
+              fields = fs;
             } ∷ [];
       });
     }
 
 -- the session after a block was given up: its insertions stand, what it named is named no more
 abbrev pub after_abandon : AbstractSession → Draft → AbstractSession
-after_abandon w d = record w { encoder = unnamed d.table; in_flight = w.in_flight ++ d.instructions }
+after_abandon w d = record w { encoder = without_references d.table; in_flight = w.in_flight ++ d.instructions }
 
 -- the session after a capacity was set, or refused
-abbrev pub after_resize : AbstractSession → ℕ → Result Table Refusal → AbstractSession
+abbrev pub after_resize : AbstractSession → ℕ → Result Table TableRefusal → AbstractSession
 after_resize w n (Err e) = w
 after_resize w n (Ok t) = record w { encoder = t; in_flight = w.in_flight ++ SetCapacity n ∷ [] }
 
 -- the session after the decoder took an instruction, or refused it
-abbrev pub after_take : AbstractSession → Instruction → List Instruction → Result Window Refusal → AbstractSession
+abbrev pub after_take : AbstractSession → EncoderInstruction → List EncoderInstruction → Result Window TableRefusal → AbstractSession
 after_take w i rest (Err e) = w
 after_take w i rest (Ok new) =
     record w {
       decoder = new;
-      unreported = w.unreported + (total new - total w.decoder);
+      unreported = w.unreported + (window_insert_count new - window_insert_count w.decoder);
       taken = w.taken ++ i ∷ [];
       in_flight = rest;
     }
 
 -- the decoder takes the next instruction
-abbrev pub take_next : AbstractSession → List Instruction → AbstractSession
+abbrev pub take_next : AbstractSession → List EncoderInstruction → AbstractSession
 take_next w [] = w
 take_next w (i ∷ rest) = after_take w i rest (apply w.decoder i)
 
 -- the session after the encoder took a decoder instruction, or refused it
-abbrev pub after_hear : AbstractSession → List Reply → Result Table Refusal → AbstractSession
+abbrev pub after_hear : AbstractSession → List DecoderInstruction → Result Table TableRefusal → AbstractSession
 after_hear w rest (Err e) = w
 after_hear w rest (Ok t) = record w { encoder = t; decoder_in_flight = rest }
 
 -- the encoder takes the next decoder instruction
-abbrev pub hear_next : AbstractSession → List Reply → AbstractSession
+abbrev pub hear_next : AbstractSession → List DecoderInstruction → AbstractSession
 hear_next w [] = w
-hear_next w (r ∷ rest) = after_hear w rest (heard w.encoder r)
+hear_next w (r ∷ rest) = after_hear w rest (apply_decoder_instruction w.encoder r)
 
 -- what a block reads as, if there is one
 abbrev pub read_block : Window → Option AbstractBlock → Option Reading
@@ -137,13 +137,13 @@ next_reading w s =
 
 -- a decoded dynamic block of the stream waits for its acknowledgment
 abbrev pub waits_for_acknowledgment : AbstractStream → Bool
-waits_for_acknowledgment st = not st.cancelled && waits is_dynamic st
+waits_for_acknowledgment st = not st.cancelled && awaits_acknowledgment is_dynamic st
 
 -- the session after a small step
 abbrev pub after_step : AbstractSession → SmallStep → AbstractSession
 after_step w (Encode s fs) = after_encode w s fs (rule w.encoder fs)
 after_step w (Abandon fs) = after_abandon w (rule w.encoder fs)
-after_step w (Resize n) = after_resize w n (resized w.encoder n)
+after_step w (Resize n) = after_resize w n (with_capacity w.encoder n)
 after_step w Take = take_next w w.in_flight
 after_step w (Report ps) =
     if nat_eq (sum_of ps) w.unreported then record w {

@@ -1,6 +1,6 @@
 -- A session in bytes refines a session of values: what the proof of the session theorem keeps. No contract names it.
 use Rattle.std.specs.Prelude.{◌≡◌, ℕ, ◌≤◌, List, [], ◌∷◌, ◌++◌, length}
-use Rattle.qpack_spec.specs.Instruction.{Instruction, Reply, SpellsInstruction, SpellsReply}
+use Rattle.qpack_spec.specs.Instruction.{EncoderInstruction, DecoderInstruction, SpellsEncoderInstruction, SpellsDecoderInstruction}
 use Rattle.qpack_spec.specs.Stream.{Joined, Carried}
 use Rattle.qpack_spec.specs.BlockReading.{written_block}
 use Rattle.qpack_spec.specs.Table.{table_of}
@@ -16,30 +16,30 @@ Agrees P (x ∷ xs) [] = ⊥
 Agrees P (x ∷ xs) (y ∷ ys) = P x y × Agrees P xs ys
 
 -- so many first instructions end at a place of the bytes sent
-pub record EndsAt (sent : List ℕ) (instructions : List Instruction) (place many : ℕ) : Type 0 where
+pub record EndsAt (encoder_stream : List ℕ) (instructions : List EncoderInstruction) (place many : ℕ) : Type 0 where
   pub front : List ℕ
   pub rest : List ℕ
-  pub cut : sent ≡ front ++ rest
+  pub cut : encoder_stream ≡ front ++ rest
   pub place_is : length front ≡ place
-  pub first : List Instruction
-  pub others : List Instruction
+  pub first : List EncoderInstruction
+  pub others : List EncoderInstruction
   pub split : instructions ≡ first ++ others
   pub many_is : length first ≡ many
-  pub joined : Joined SpellsInstruction front first
+  pub joined : Joined SpellsEncoderInstruction front first
 
 -- a block in bytes is the written one
-pub record RefinesBlock (sent : List ℕ) (instructions : List Instruction) (k : KeptBlock) (b : AbstractBlock) : Type 0
+pub record RefinesBlock (encoder_stream : List ℕ) (instructions : List EncoderInstruction) (k : KeptBlock) (b : AbstractBlock) : Type 0
   where
     pub bytes_are : k.bytes ≡ written_block b.block
     pub writable : IsWritableBlock b.block
     pub required_is : k.required ≡ required_count b
-    pub handed_are : k.handed ≡ b.handed
-    pub ends : EndsAt sent instructions k.end b.end
+    pub handed_are : k.fields ≡ b.fields
+    pub ends : EndsAt encoder_stream instructions k.end b.end
 
 -- a stream's blocks are those, and it stands where that one does
-pub record RefinesStream (sent : List ℕ) (instructions : List Instruction) (k : KeptStream) (st : AbstractStream) :
+pub record RefinesStream (encoder_stream : List ℕ) (instructions : List EncoderInstruction) (k : KeptStream) (st : AbstractStream) :
     Type 0 where
-  pub blocks_are : Agrees (RefinesBlock sent instructions) k.blocks st.blocks
+  pub blocks_are : Agrees (RefinesBlock encoder_stream instructions) k.blocks st.blocks
   pub decoded_is : k.decoded ≡ st.decoded
   pub acknowledged_is : k.acknowledged ≡ st.acknowledged
   pub cancelled_is : k.cancelled ≡ st.cancelled
@@ -49,10 +49,10 @@ pub record Refines (v : Session) (w : AbstractSession) : Type 0 where
   pub encoder_is : v.encoder ≡ w.encoder
   pub decoder_is : v.decoder ≡ table_of w.decoder
   pub unreported_is : v.unreported ≡ w.unreported
-  pub encoder_stream : Carried Instruction SpellsInstruction v.sent v.sent_taken w.taken w.in_flight
-  pub sent_order : v.sent_taken ≤ v.sent_delivered
-  pub heard_lines : List Reply
-  pub decoder_stream : Carried Reply SpellsReply v.told v.told_taken heard_lines w.decoder_in_flight
-  pub told_order : v.told_taken ≤ v.told_delivered
-  pub streams_are : (s : ℕ) → RefinesStream v.sent (w.taken ++ w.in_flight) (stream_at v.streams s)
+  pub encoder_stream : Carried EncoderInstruction SpellsEncoderInstruction v.encoder_stream v.encoder_stream_taken w.taken w.in_flight
+  pub sent_order : v.encoder_stream_taken ≤ v.encoder_stream_delivered
+  pub heard_lines : List DecoderInstruction
+  pub decoder_stream : Carried DecoderInstruction SpellsDecoderInstruction v.decoder_stream v.decoder_stream_taken heard_lines w.decoder_in_flight
+  pub told_order : v.decoder_stream_taken ≤ v.decoder_stream_delivered
+  pub streams_are : (s : ℕ) → RefinesStream v.encoder_stream (w.taken ++ w.in_flight) (stream_at v.streams s)
       (stream_at w.streams s)

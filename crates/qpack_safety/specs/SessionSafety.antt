@@ -4,18 +4,18 @@
 use Rattle.std.specs.Prelude.{◌≡◌, ℕ, ◌+◌, ◌<◌, ◌≤◌, ◌⊎◌, Bool, false, if◌then◌else◌, nat_lt, nat_eq, List, [], ◌∷◌}
 use Rattle.std.specs.Prelude.{◌++◌, length, map, Option, Some, Ok, slice_get}
 use Rattle.qpack_spec.specs.Field.{Field, total_size}
-use Rattle.qpack_spec.specs.Instruction.{Instruction, Reply, SpellsInstruction, SpellsReply, written_instructions}
+use Rattle.qpack_spec.specs.Instruction.{EncoderInstruction, DecoderInstruction, SpellsEncoderInstruction, SpellsDecoderInstruction, written_encoder_instructions}
 use Rattle.qpack_spec.specs.Stream.{Joined, Carried}
-use Rattle.qpack_spec.specs.History.{History, start, window_of, Leads}
-use Rattle.qpack_spec.specs.Reading.{Fields, Missing, references_of, greatest}
+use Rattle.qpack_spec.specs.History.{History, initial_history, window_of, Leads}
+use Rattle.qpack_spec.specs.Reading.{Fields, Missing, references_of, greatest_of}
 use Rattle.qpack_spec.specs.BlockReading.{reading_of_bytes, meaning_over_all, written_block}
-use Rattle.qpack_spec.specs.Table.{table_of, fields_in, window, count, tracked, opens, below_limit}
+use Rattle.qpack_spec.specs.Table.{table_of, fields_in, window, insert_count, with_numbers, with_unacknowledged, below_limit}
 use Rattle.qpack_spec.specs.Rule.{rule, block_of}
 use Rattle.qpack_spec.specs.Session.{KeptBlock, stream_at, Session, Event, Encode, Decode, ToDecoder, ToEncoder}
 use Rattle.qpack_spec.specs.Session.{Outcome, Encoded, Decoded, MissingReferences, Delivered, Heard, Refused, NoMemory}
-use Rattle.qpack_spec.specs.Session.{Skipped, StreamFault, opened, next_block, increment_sum, blocked_blocks}
-use Rattle.qpack_spec.specs.Session.{unreadable_blocks, skip_reason, Goes, Runs}
-use Rattle.qpack_spec.specs.Stateless.{held_size}
+use Rattle.qpack_spec.specs.Session.{Skipped, StreamFault, initial_session, next_block, increment_sum, blocked_blocks}
+use Rattle.qpack_spec.specs.Session.{unreadable_blocks, skip_reason, Step, Run}
+use Rattle.qpack_spec.specs.Stateless.{saturated_size}
 
 -- ---- (a) the run
 
@@ -27,39 +27,39 @@ pub record WritesBlock (v : Session) (s : ℕ) (fields : List Field) (required :
   pub kept : (stream_at v'.streams s).blocks ≡ (stream_at v.streams s).blocks ++ block ∷ []
   pub bytes_are : block.bytes ≡ written_block (block_of v.encoder (rule v.encoder fields))
   pub required_is : block.required ≡ required
-  pub is_greatest : greatest (references_of (count v.encoder) (rule v.encoder fields).lines) ≡ required
-  pub handed_are : block.handed ≡ fields
-  pub ends : block.end ≡ length v'.sent
-  pub stream_gains : v'.sent ≡ v.sent ++ written_instructions (rule v.encoder fields).instructions
-  pub keeps_references : v'.encoder.opened ≡ opens v.encoder.opened s
-      (tracked [] (references_of (count v.encoder) (rule v.encoder fields).lines))
+  pub is_greatest : greatest_of (references_of (insert_count v.encoder) (rule v.encoder fields).lines) ≡ required
+  pub handed_are : block.fields ≡ fields
+  pub ends : block.end ≡ length v'.encoder_stream
+  pub stream_gains : v'.encoder_stream ≡ v.encoder_stream ++ written_encoder_instructions (rule v.encoder fields).instructions
+  pub keeps_references : v'.encoder.unacknowledged ≡ with_unacknowledged v.encoder.unacknowledged s
+      (with_numbers [] (references_of (insert_count v.encoder) (rule v.encoder fields).lines))
 
 -- lockstep: the bytes sent are instructions, of which the first are taken; what those make of an empty table is the
 -- decoder's, and what all of them make of it the encoder's
 pub record Lockstep (capacity : ℕ) (v : Session) : Type 0 where
-  pub taken : List Instruction
-  pub in_flight : List Instruction
+  pub taken : List EncoderInstruction
+  pub in_flight : List EncoderInstruction
   pub received : History
   pub made : History
-  pub carried : Carried Instruction SpellsInstruction v.sent v.sent_taken taken in_flight
-  pub taken_lead : Leads (start capacity) taken received
+  pub carried : Carried EncoderInstruction SpellsEncoderInstruction v.encoder_stream v.encoder_stream_taken taken in_flight
+  pub taken_lead : Leads (initial_history capacity) taken received
   pub in_flight_lead : Leads received in_flight made
   pub decoder_is : v.decoder ≡ table_of (window_of received)
   pub encoder_is : window v.encoder ≡ window_of made
 
 -- every insertion received is reported and heard, reported and under way as an increment, or not reported yet
 pub record Accounts (v : Session) : Type 0 where
-  pub heard : List Reply
-  pub in_flight : List Reply
-  pub carried : Carried Reply SpellsReply v.told v.told_taken heard in_flight
-  pub adds_up : v.encoder.known + increment_sum in_flight + v.unreported ≡ count v.decoder
+  pub heard : List DecoderInstruction
+  pub in_flight : List DecoderInstruction
+  pub carried : Carried DecoderInstruction SpellsDecoderInstruction v.decoder_stream v.decoder_stream_taken heard in_flight
+  pub adds_up : v.encoder.known_received_count + increment_sum in_flight + v.unreported ≡ insert_count v.decoder
 
 -- of both streams no more is taken than was delivered, and no more delivered than written
 pub record IsOrdered (v : Session) : Type 0 where
-  pub sent_taken : v.sent_taken ≤ v.sent_delivered
-  pub sent_delivered : v.sent_delivered ≤ length v.sent
-  pub told_taken : v.told_taken ≤ v.told_delivered
-  pub told_delivered : v.told_delivered ≤ length v.told
+  pub encoder_stream_taken : v.encoder_stream_taken ≤ v.encoder_stream_delivered
+  pub encoder_stream_delivered : v.encoder_stream_delivered ≤ length v.encoder_stream
+  pub decoder_stream_taken : v.decoder_stream_taken ≤ v.decoder_stream_delivered
+  pub decoder_stream_delivered : v.decoder_stream_delivered ≤ length v.decoder_stream
 
 -- one list begins with the other
 abbrev pub Extends : {X : Type 0} → List X → List X → Type 0
@@ -67,12 +67,12 @@ Extends {X} xs ys = (more : List X) × (ys ≡ xs ++ more)
 
 -- from one session to a later one: both streams and the blocks only grow, and nothing taken or delivered goes back
 pub record Advances (v v' : Session) : Type 0 where
-  pub sent : Extends v.sent v'.sent
-  pub told : Extends v.told v'.told
-  pub sent_taken : v.sent_taken ≤ v'.sent_taken
-  pub sent_delivered : v.sent_delivered ≤ v'.sent_delivered
-  pub told_taken : v.told_taken ≤ v'.told_taken
-  pub told_delivered : v.told_delivered ≤ v'.told_delivered
+  pub encoder_stream : Extends v.encoder_stream v'.encoder_stream
+  pub decoder_stream : Extends v.decoder_stream v'.decoder_stream
+  pub encoder_stream_taken : v.encoder_stream_taken ≤ v'.encoder_stream_taken
+  pub encoder_stream_delivered : v.encoder_stream_delivered ≤ v'.encoder_stream_delivered
+  pub decoder_stream_taken : v.decoder_stream_taken ≤ v'.decoder_stream_taken
+  pub decoder_stream_delivered : v.decoder_stream_delivered ≤ v'.decoder_stream_delivered
   pub blocks : (s : ℕ) → Extends (stream_at v.streams s).blocks (stream_at v'.streams s).blocks
 
 -- (a) The outcomes and the state are a run of the session. Each block and the encoder stream are the rule's. Both
@@ -81,32 +81,32 @@ pub record Advances (v v' : Session) : Type 0 where
 -- knows to be received. It is their number that the encoder holds against its limit, and no more are unreadable at the
 -- decoder, which received what is known to be received.
 pub record RunsByTheRule (capacity limit : ℕ) (events : List (Event × Outcome)) (v : Session) : Type 0 where
-  pub run : Runs (opened capacity limit) events v
+  pub run : Run (initial_session capacity limit) events v
   pub writes : (s : ℕ) (fields : List Field) (required : ℕ) (v' : Session)
-      → Goes v (Encode s fields) (Encoded required) v'
+      → Step v (Encode s fields) (Encoded required) v'
       → WritesBlock v s fields required v'
   pub lockstep : Lockstep capacity v
   pub encoder_fits : total_size (fields_in v.encoder.live) ≤ v.encoder.capacity
   pub decoder_fits : total_size (fields_in v.decoder.live) ≤ v.decoder.capacity
   pub blocked : blocked_blocks v ≤ limit
-  pub counts_blocked : length v.encoder.waiting ≡ blocked_blocks v
+  pub counts_blocked : length v.encoder.blocked ≡ blocked_blocks v
   pub unreadable_within : unreadable_blocks v ≤ blocked_blocks v
   pub may_block_more : below_limit v.encoder ≡ nat_lt (blocked_blocks v) limit
   pub limit_is : v.encoder.limit ≡ limit
-  pub received : v.encoder.known ≤ count v.decoder
+  pub received : v.encoder.known_received_count ≤ insert_count v.decoder
   pub accounts : Accounts v
   pub ordered : IsOrdered v
-  pub advances : (e : Event) (o : Outcome) (v' : Session) → Goes v e o v' → Advances v v'
+  pub advances : (e : Event) (o : Outcome) (v' : Session) → Step v e o v' → Advances v v'
 
 -- ---- (b) no refusal
 
 -- (b) No instruction is refused but for memory: whatever happens next, no event is answered by a refusal of a stream. A
 -- delivery to the decoder answers how many insertions were received, or is refused memory; one to the encoder is heard.
 pub record RefusesNothing (v : Session) : Type 0 where
-  pub no_refusal : (e : Event) (fault : StreamFault) (v' : Session) → Goes v e (Refused fault) v' → ⊥
-  pub delivers : (n : ℕ) (o : Outcome) (v' : Session) → Goes v (ToDecoder n) o v'
-      → (o ≡ Delivered (count v'.decoder)) ⊎ (o ≡ NoMemory)
-  pub hears : (n : ℕ) (o : Outcome) (v' : Session) → Goes v (ToEncoder n) o v' → o ≡ Heard
+  pub no_refusal : (e : Event) (fault : StreamFault) (v' : Session) → Step v e (Refused fault) v' → ⊥
+  pub delivers : (n : ℕ) (o : Outcome) (v' : Session) → Step v (ToDecoder n) o v'
+      → (o ≡ Delivered (insert_count v'.decoder)) ⊎ (o ≡ NoMemory)
+  pub hears : (n : ℕ) (o : Outcome) (v' : Session) → Step v (ToEncoder n) o v' → o ≡ Heard
 
 -- ---- (c) the fields
 
@@ -147,12 +147,12 @@ pub record AnswersFields (events : List (Event × Outcome)) (s : ℕ) (fields : 
   pub encode : AnsweredEncode
   pub is_next : next_encode s events ≡ Some encode
   pub fields_are : fields ≡ encode.fields
-  pub size_is : size ≡ held_size (total_size encode.fields)
+  pub size_is : size ≡ saturated_size (total_size encode.fields)
   pub dynamic_is : is_dynamic ≡ nat_lt 0 encode.required
 
 -- what was handed to the encode that wrote a block, and what it answered
 abbrev pub encode_behind : KeptBlock → AnsweredEncode
-encode_behind b = record { fields = b.handed; required = b.required }
+encode_behind b = record { fields = b.fields; required = b.required }
 
 -- (c) A decode that answers fields answers exactly the fields that were handed to the encode that wrote its block, in
 -- order, with the sum of their sizes, and whether any entry is required. So are the bytes of the next block read under
@@ -160,17 +160,17 @@ encode_behind b = record { fields = b.handed; required = b.required }
 -- insertions ever made, those of the bytes sent.
 pub record DecodesWhatWasHanded (capacity : ℕ) (events : List (Event × Outcome)) (v : Session) : Type 0 where
   pub answers : (s : ℕ) (fields : List Field) (size : ℕ) (is_dynamic : Bool) (v' : Session)
-      → Goes v (Decode s) (Decoded fields size is_dynamic) v'
+      → Step v (Decode s) (Decoded fields size is_dynamic) v'
       → AnswersFields events s fields size is_dynamic
   pub blocks_are : (s : ℕ) → map (λ b. encode_behind b) (stream_at v.streams s).blocks ≡ encodes_on s events
   pub decoded_are : (s : ℕ) → (stream_at v.streams s).decoded ≡ decodes_on s events
   pub reads : (s : ℕ) (b : KeptBlock) → (stream_at v.streams s).cancelled ≡ false → next_block v s ≡ Some b
-      → b.required ≤ count v.decoder
-      → reading_of_bytes (window v.decoder) b.bytes ≡ Fields b.handed (nat_lt 0 b.required)
-  pub meanings : (instructions : List Instruction) (all : History) → Joined SpellsInstruction v.sent instructions
-      → Leads (start capacity) instructions all
+      → b.required ≤ insert_count v.decoder
+      → reading_of_bytes (window v.decoder) b.bytes ≡ Fields b.fields (nat_lt 0 b.required)
+  pub meanings : (instructions : List EncoderInstruction) (all : History) → Joined SpellsEncoderInstruction v.encoder_stream instructions
+      → Leads (initial_history capacity) instructions all
       → (s position : ℕ) (b : KeptBlock) → slice_get (stream_at v.streams s).blocks position ≡ Some b
-      → meaning_over_all all b.bytes b.required ≡ Ok b.handed
+      → meaning_over_all all b.bytes b.required ≡ Ok b.fields
 
 -- ---- (d) the other answers
 
@@ -181,28 +181,28 @@ pub data DecodeAnswer (events : List (Event × Outcome)) (v : Session) (s : ℕ)
   wants_memory : o ≡ NoMemory → DecodeAnswer events v s o
   gives_fields : (fields : List Field) (size : ℕ) (is_dynamic : Bool) → o ≡ Decoded fields size is_dynamic
       → DecodeAnswer events v s o
-  waits_for : (encode : AnsweredEncode) → next_encode s events ≡ Some encode → count v.decoder < encode.required
+  waits_for : (encode : AnsweredEncode) → next_encode s events ≡ Some encode → insert_count v.decoder < encode.required
       → o ≡ MissingReferences encode.required → DecodeAnswer events v s o
 
 -- (d) The only other answers of a decode are want of memory, or that the required insert count of its block is missing
 -- while that exceeds the insertions received; and never once the encoder bytes that were written by the block's end
 -- were delivered by a delivery that was answered, whatever happened since.
 pub record WaitsOnlyForInsertions (events : List (Event × Outcome)) (v : Session) : Type 0 where
-  pub answers : (s : ℕ) (o : Outcome) (v' : Session) → Goes v (Decode s) o v' → DecodeAnswer events v s o
-  pub never_again : (n received : ℕ) (delivered : Session) → Goes v (ToDecoder n) (Delivered received) delivered
-      → (later : List (Event × Outcome)) (u : Session) → Runs delivered later u
-      → (s : ℕ) (b : KeptBlock) → next_block u s ≡ Some b → b.end ≤ delivered.sent_delivered
-      → (required : ℕ) (u' : Session) → Goes u (Decode s) (MissingReferences required) u' → ⊥
+  pub answers : (s : ℕ) (o : Outcome) (v' : Session) → Step v (Decode s) o v' → DecodeAnswer events v s o
+  pub never_again : (n received : ℕ) (delivered : Session) → Step v (ToDecoder n) (Delivered received) delivered
+      → (later : List (Event × Outcome)) (u : Session) → Run delivered later u
+      → (s : ℕ) (b : KeptBlock) → next_block u s ≡ Some b → b.end ≤ delivered.encoder_stream_delivered
+      → (required : ℕ) (u' : Session) → Step u (Decode s) (MissingReferences required) u' → ⊥
   -- such a delivery takes the instructions of each block whose end it reached, and behind them nothing is missing
-  pub takes : (n received : ℕ) (v' : Session) → Goes v (ToDecoder n) (Delivered received) v'
+  pub takes : (n received : ℕ) (v' : Session) → Step v (ToDecoder n) (Delivered received) v'
       → (s position : ℕ) (b : KeptBlock) → slice_get (stream_at v'.streams s).blocks position ≡ Some b
-      → b.end ≤ v'.sent_delivered → b.end ≤ v'.sent_taken
+      → b.end ≤ v'.encoder_stream_delivered → b.end ≤ v'.encoder_stream_taken
   pub in_time : (s : ℕ) (b : KeptBlock) → (stream_at v.streams s).cancelled ≡ false → next_block v s ≡ Some b
-      → b.end ≤ v.sent_taken
-      → b.required ≤ count v.decoder
+      → b.end ≤ v.encoder_stream_taken
+      → b.required ≤ insert_count v.decoder
   -- the bytes of the next block are read so under the decoder's table
   pub missing : (s : ℕ) (b : KeptBlock) → (stream_at v.streams s).cancelled ≡ false → next_block v s ≡ Some b
-      → count v.decoder < b.required
+      → insert_count v.decoder < b.required
       → reading_of_bytes (window v.decoder) b.bytes ≡ Missing b.required
 
 -- ---- the theorem
@@ -217,5 +217,5 @@ pub record IsSafe (capacity limit : ℕ) (events : List (Event × Outcome)) (v :
 -- for every capacity, every limit and every list of events with their answers, events refused for memory among them
 abbrev pub SessionsAreSafe : Type 0
 SessionsAreSafe =
-    (capacity limit : ℕ) (events : List (Event × Outcome)) (v : Session) → Runs (opened capacity limit) events v
+    (capacity limit : ℕ) (events : List (Event × Outcome)) (v : Session) → Run (initial_session capacity limit) events v
     → IsSafe capacity limit events v

@@ -9,7 +9,7 @@ use Rattle.std.proofs.lemmas.List.{length-drop}
 use Rattle.std.proofs.Math.Seq.{take-append-add}
 use Rattle.std.proofs.lemmas.List.Concat.{flat_map-cons}
 use Rattle.std.proofs.lemmas.Bool.{cases_lt}
-use Rattle.qpack_spec.specs.Huffman.{bits_of, bits_of_bytes, ones, AreBytes, number_from, packed}
+use Rattle.qpack_spec.specs.Huffman.{bits_of, bits_of_bytes, ones, AreBytes, number_from, bytes_of_bits}
 
 abbrev pub AreBits : List ℕ → Type 0
 AreBits bits = AllByRecursion (λ bit. bit < 2) bits
@@ -46,7 +46,7 @@ unfolding bits_of
 bits_length zero n = refl
 bits_length (suc k) n = ap suc (bits_length k n)
 
-bytes_length : (bytes : List ℕ) → length (bits_of_bytes bytes) ≡ 8 * length bytes
+pub bytes_length : (bytes : List ℕ) → length (bits_of_bytes bytes) ≡ 8 * length bytes
 bytes_length [] = refl
 bytes_length (b ∷ bytes) = rw (flat_map-cons, length-append) (omega (arith, bits_length 8 b, bytes_length bytes))
 
@@ -230,16 +230,16 @@ front_length bits = length-take-le 8 (bits ++ ones 8) (omega (arith, length-appe
 rest_bits : (bits : List ℕ) → AreBits bits → AreBits (drop 8 bits)
 rest_bits bits ok = bits_behind (take 8 bits) (drop 8 bits) (rw (take-append-drop 8 bits) ok)
 
-pub packed_bytes : (k : ℕ) (bits : List ℕ) → AreBits bits → AreBytes (packed k bits)
-unfolding packed
+pub packed_bytes : (k : ℕ) (bits : List ℕ) → AreBits bits → AreBytes (bytes_of_bits k bits)
+unfolding bytes_of_bits
 packed_bytes zero bits ok = tt
 packed_bytes (suc k) bits ok =
     let t = number_splits 0 (take 8 (bits ++ ones 8)) (front_bits bits ok) in
     let small = rw (front_length bits) at t.small in
     (omega (arith, t.is, small), packed_bytes k (drop 8 bits) (rest_bits bits ok))
 
-pub packed_length : (k : ℕ) (bits : List ℕ) → length (packed k bits) ≡ k
-unfolding packed
+pub packed_length : (k : ℕ) (bits : List ℕ) → length (bytes_of_bits k bits) ≡ k
+unfolding bytes_of_bits
 packed_length zero bits = refl
 packed_length (suc k) bits = ap suc (packed_length k (drop 8 bits))
 
@@ -274,8 +274,8 @@ eight_more k bits le =
 
 -- the bits of packed bits are these, and ones behind them
 pub packed_bits : (k : ℕ) (bits : List ℕ) → AreBits bits → length bits ≤ 8 * k
-    → bits_of_bytes (packed k bits) ≡ bits ++ ones (8 * k - length bits)
-unfolding packed
+    → bits_of_bytes (bytes_of_bits k bits) ≡ bits ++ ones (8 * k - length bits)
+unfolding bytes_of_bits
 packed_bits zero [] ok le = let e : 8 * 0 - length {A = ℕ} [] ≡ 0 = omega arith in rw e (sym (ones_none))
 packed_bits zero (b ∷ bits) ok le = absurd (omega arith)
 packed_bits (suc k) bits ok le =
@@ -283,19 +283,19 @@ packed_bits (suc k) bits ok le =
     let f : bits_of 8 (number_from 0 front) ≡ front =
     ap (λ (j : ℕ). bits_of j (number_from 0 front)) (sym (front_length bits))
     ∙ bits_number 0 front (front_bits bits ok) in
-    flat_map-cons (bits_of 8) (number_from 0 front) (packed k (drop 8 bits))
-    ∙ ap (λ (l : List ℕ). l ++ bits_of_bytes (packed k (drop 8 bits))) f
+    flat_map-cons (bits_of 8) (number_from 0 front) (bytes_of_bits k (drop 8 bits))
+    ∙ ap (λ (l : List ℕ). l ++ bits_of_bytes (bytes_of_bits k (drop 8 bits))) f
     ∙ ap (λ (l : List ℕ). front ++ l) (packed_bits k (drop 8 bits) (rest_bits bits ok)
     (omega (arith, length-drop 8 bits)))
     ∙ eight_more k bits le
 
 -- bytes whose bits are these and fewer than eight ones behind them are these bits, packed
 pub packed_is : (bytes bits : List ℕ) (padding : ℕ) → AreBytes bytes → AreBits bits → padding < 8
-    → bits_of_bytes bytes ≡ bits ++ ones padding → bytes ≡ packed ((length bits + 7) / 8) bits
+    → bits_of_bytes bytes ≡ bits ++ ones padding → bytes ≡ bytes_of_bits ((length bits + 7) / 8) bits
 packed_is bytes bits padding ok are few e =
     let len : 8 * length bytes ≡ length bits + padding =
     omega (arith, bytes_length bytes, ap length e, length-append bits (ones padding), ones_length padding) in
     let k : (length bits + 7) / 8 ≡ length bytes = omega arith in
     let pad : 8 * length bytes - length bits ≡ padding = omega arith in
-    rw k (bytes_same bytes (packed (length bytes) bits) ok (packed_bytes (length bytes) bits are)
+    rw k (bytes_same bytes (bytes_of_bits (length bytes) bits) ok (packed_bytes (length bytes) bits are)
     (e ∙ ap (λ (j : ℕ). bits ++ ones j) (sym pad) ∙ sym (packed_bits (length bytes) bits are (omega arith))))

@@ -11,7 +11,7 @@ use Rattle.qpack_spec.proofs.BlockReadings.{prefix_takes, prefix_again, fields_f
 
 pub reads_prefixes : ReadingFindsPrefixes
 reads_prefixes bytes p rest = (
-  λ e. let t = prefix_takes bytes p rest e in (t.text, t.parts, t.spells),
+  λ e. let t = prefix_takes bytes p rest e in (t.encoding, t.parts, t.spells),
   λ q. ap prefix_at q.1 ∙ prefix_again q.0 rest p q.2,
 )
 

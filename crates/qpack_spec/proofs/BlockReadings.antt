@@ -12,9 +12,9 @@ use Rattle.qpack_spec.specs.Line.{Line, line_form, SpellsLine, written_line, wri
 use Rattle.qpack_spec.specs.WrittenLaws.{IsWritableLine, IsWritablePrefix, IsWritableBlock}
 use Rattle.qpack_spec.specs.Stream.{Joined}
 use Rattle.qpack_spec.specs.Prefix.{Prefix, PrefixFault, SpellsPrefix, sign_bit, written_prefix, prefix_at, read_prefix}
-use Rattle.qpack_spec.specs.Window.{Window, agreed_maximum, total}
-use Rattle.qpack_spec.specs.History.{History, whole}
-use Rattle.qpack_spec.specs.Reading.{Fault, BadForm, line_field, followed, fields_of, Block, reading_behind, reading}
+use Rattle.qpack_spec.specs.Window.{Window, maximum_capacity, window_insert_count}
+use Rattle.qpack_spec.specs.History.{History, whole_window}
+use Rattle.qpack_spec.specs.Reading.{Fault, BadForm, line_field, prepend_field, fields_of, Block, reading_behind, reading}
 use Rattle.qpack_spec.specs.BlockReading.{base_behind, meaning_over_all, StopsAt, in_bytes, in_line, ReadsSome, ReadsTo}
 use Rattle.qpack_spec.specs.BlockReading.{or_bad_form, fields_at, fields_in_bytes, bytes_behind, reading_of_bytes}
 use Rattle.qpack_spec.specs.BlockReading.{written_block}
@@ -33,23 +33,23 @@ joined_written [] w = refl
 joined_written (l ∷ ls) w = (written_line l, written_lines ls, refl, lines_spelled l w.0, joined_written ls w.1)
 
 followed_is : (r : Result Field Fault) (rs : Result (List Field) Fault)
-    → (r >>= λ f. rs >>= λ fs. Ok (f ∷ fs)) ≡ followed r rs
+    → (r >>= λ f. rs >>= λ fs. Ok (f ∷ fs)) ≡ prepend_field r rs
 followed_is (Ok f) (Ok fs) = refl
 followed_is (Ok f) (Err e) = refl
 followed_is (Err e) rs = refl
 
 -- one line in front
-step_at : (steps : ℕ) (w : Window) (base : ℕ) (text more : List ℕ) (l : Line) → SpellsLine text l
-    → fields_at (suc steps) w base (text ++ more) ≡ followed (line_field w base l) (fields_at steps w base more)
+step_at : (steps : ℕ) (w : Window) (base : ℕ) (encoding more : List ℕ) (l : Line) → SpellsLine encoding l
+    → fields_at (suc steps) w base (encoding ++ more) ≡ prepend_field (line_field w base l) (fields_at steps w base more)
 unfolding fields_at
-step_at steps w base text more l s =
-    let again : form_at line_form (text ++ more) ≡ Ok (l, more) = form_again line_form text more l s in
-    let e : text ++ more ≡ s.first ∷ (s.more ++ more) = ap (λ x. x ++ more) s.begins in
+step_at steps w base encoding more l s =
+    let again : form_at line_form (encoding ++ more) ≡ Ok (l, more) = form_again line_form encoding more l s in
+    let e : encoding ++ more ≡ s.first ∷ (s.more ++ more) = ap (λ x. x ++ more) s.begins in
     let again' = rw e at again in
     rw (e, again') (followed_is (line_field w base l) (fields_at steps w base more))
 
-spelled_length : (text more : List ℕ) (l : Line) → SpellsLine text l → length more < length (text ++ more)
-spelled_length text more l s = omega (arith, length-append text more, ap length s.begins)
+spelled_length : (encoding more : List ℕ) (l : Line) → SpellsLine encoding l → length more < length (encoding ++ more)
+spelled_length encoding more l s = omega (arith, length-append encoding more, ap length s.begins)
 
 no_bytes : (steps : ℕ) (w : Window) (base : ℕ) → fields_at steps w base [] ≡ Ok []
 unfolding fields_at
@@ -61,7 +61,7 @@ unfolding fields_of
 no_lines w base = refl
 
 one_line : (w : Window) (base : ℕ) (l : Line) (ls : List Line)
-    → fields_of w base (l ∷ ls) ≡ followed (line_field w base l) (fields_of w base ls)
+    → fields_of w base (l ∷ ls) ≡ prepend_field (line_field w base l) (fields_of w base ls)
 unfolding fields_of
 one_line w base l ls = refl
 
@@ -73,28 +73,28 @@ fields_read zero w base bytes (l ∷ ls) j h = absurd (omega (arith, ap length j
 fields_read (suc steps) w base bytes (l ∷ ls) j h =
     let short : length j.1 ≤ steps = omega (arith, ap length j.2, spelled_length j.0 j.1 l j.3) in
     ap (fields_at (suc steps) w base) j.2 ∙ step_at steps w base j.0 j.1 l j.3
-    ∙ ap (followed (line_field w base l)) (fields_read steps w base j.1 ls j.4 short) ∙ sym (one_line w base l ls)
+    ∙ ap (prepend_field (line_field w base l)) (fields_read steps w base j.1 ls j.4 short) ∙ sym (one_line w base l ls)
 
 -- ---- reading line by line finds what the relation says
 
-line_more : (w : Window) (base : ℕ) (text more : List ℕ) (l : Line) (f : Field) (r : Result (List Field) Fault)
-    → SpellsLine text l → line_field w base l ≡ Ok f → ReadsTo w base more r
-    → ReadsTo w base (text ++ more) (followed (Ok f) r)
-line_more w base text more l f (Ok fs) s e k =
+line_more : (w : Window) (base : ℕ) (encoding more : List ℕ) (l : Line) (f : Field) (r : Result (List Field) Fault)
+    → SpellsLine encoding l → line_field w base l ≡ Ok f → ReadsTo w base more r
+    → ReadsTo w base (encoding ++ more) (prepend_field (Ok f) r)
+line_more w base encoding more l f (Ok fs) s e k =
     record {
       lines = l ∷ k.lines;
-      joined = (text, more, refl, s, k.joined);
+      joined = (encoding, more, refl, s, k.joined);
       means = one_line w base l k.lines
           ∙ (rw (e, k.means) refl);
     }
-line_more w base text more l f (Err d) s e k =
+line_more w base encoding more l f (Err d) s e k =
     record {
       lines = l ∷ k.lines;
-      front = text ++ k.front;
+      front = encoding ++ k.front;
       next = k.next;
       more = k.more;
-      cut = ap (λ x. text ++ x) k.cut ∙ sym (append_assoc text k.front (k.next ∷ k.more));
-      joined = (text, k.front, refl, s, k.joined);
+      cut = ap (λ x. encoding ++ x) k.cut ∙ sym (append_assoc encoding k.front (k.next ∷ k.more));
+      joined = (encoding, k.front, refl, s, k.joined);
       so_far = f ∷ k.so_far;
       means = one_line w base l k.lines ∙ (rw (e, k.means) refl);
       stops = k.stops;
@@ -131,7 +131,7 @@ unfolding next_line
 next_bad steps w base e = refl
 
 next_read : (steps : ℕ) (w : Window) (base : ℕ) (l : Line) (rest : List ℕ)
-    → next_line steps w base (Ok (l, rest)) ≡ followed (line_field w base l) (fields_at steps w base rest)
+    → next_line steps w base (Ok (l, rest)) ≡ prepend_field (line_field w base l) (fields_at steps w base rest)
 unfolding next_line
 next_read steps w base l rest = followed_is (line_field w base l) (fields_at steps w base rest)
 
@@ -145,13 +145,13 @@ fields_found (suc steps) w base (b ∷ bytes) h =
     subst (ReadsTo w base (b ∷ bytes)) (sym (next_is steps w base b bytes))
     (go (λ x le. fields_found steps w base x le) (form_at line_form (b ∷ bytes)) refl)
   where
-    line : (l : Line) (rest text : List ℕ) → b ∷ bytes ≡ text ++ rest → SpellsLine text l → (r : Result Field Fault)
+    line : (l : Line) (rest encoding : List ℕ) → b ∷ bytes ≡ encoding ++ rest → SpellsLine encoding l → (r : Result Field Fault)
         → line_field w base l ≡ r → ReadsTo w base rest (fields_at steps w base rest)
-        → ReadsTo w base (b ∷ bytes) (followed r (fields_at steps w base rest))
-    line l rest text p s (Err e) q k = stops_at w base b bytes e (in_line text rest l p s q)
-    line l rest text p s (Ok f) q k =
-        subst (λ (x : List ℕ). ReadsTo w base x (followed (Ok f) (fields_at steps w base rest))) (sym p)
-        (line_more w base text rest l f (fields_at steps w base rest) s q k)
+        → ReadsTo w base (b ∷ bytes) (prepend_field r (fields_at steps w base rest))
+    line l rest encoding p s (Err e) q k = stops_at w base b bytes e (in_line encoding rest l p s q)
+    line l rest encoding p s (Ok f) q k =
+        subst (λ (x : List ℕ). ReadsTo w base x (prepend_field (Ok f) (fields_at steps w base rest))) (sym p)
+        (line_more w base encoding rest l f (fields_at steps w base rest) s q k)
 
     go : ((x : List ℕ) → length x ≤ steps → ReadsTo w base x (fields_at steps w base x))
         → (r : Result (Line × List ℕ) FormFault) → form_at line_form (b ∷ bytes) ≡ r
@@ -161,9 +161,9 @@ fields_found (suc steps) w base (b ∷ bytes) h =
         (stops_at w base b bytes (BadForm e) (in_bytes e q refl))
     go found (Ok r) q =
         let t = form_takes line_form (b ∷ bytes) r.0 r.1 q in
-        let short : length r.1 ≤ steps = omega (arith, ap length t.parts, spelled_length t.text r.1 r.0 t.spells) in
+        let short : length r.1 ≤ steps = omega (arith, ap length t.parts, spelled_length t.encoding r.1 r.0 t.spells) in
         subst (ReadsTo w base (b ∷ bytes)) (sym (next_read steps w base r.0 r.1))
-        (line r.0 r.1 t.text t.parts t.spells (line_field w base r.0) refl (found r.1 short))
+        (line r.0 r.1 t.encoding t.parts t.spells (line_field w base r.0) refl (found r.1 short))
 
 -- ---- and nothing else
 
@@ -190,9 +190,9 @@ stops_read zero w base b bytes e s h = absurd (omega arith)
 stops_read (suc steps) w base b bytes e (in_bytes fault q same) h =
     next_is steps w base b bytes ∙ ap (next_line steps w base) q ∙ next_bad steps w base fault
     ∙ ap (λ (x : Fault). let r : Result (List Field) Fault = Err x in r) (sym same)
-stops_read (suc steps) w base b bytes e (in_line text more l cut s bad) h =
-    ap (fields_at (suc steps) w base) cut ∙ step_at steps w base text more l s
-    ∙ ap (λ r. followed r (fields_at steps w base more)) bad
+stops_read (suc steps) w base b bytes e (in_line encoding more l cut s bad) h =
+    ap (fields_at (suc steps) w base) cut ∙ step_at steps w base encoding more l s
+    ∙ ap (λ r. prepend_field r (fields_at steps w base more)) bad
 
 pub fields_only : (w : Window) (base : ℕ) (bytes : List ℕ) (r : Result (List Field) Fault) → ReadsTo w base bytes r
     → fields_in_bytes w base bytes ≡ r
@@ -231,9 +231,9 @@ prefix_spelled p w = go p.sign refl
 
 -- an integer with its flags
 record TakesNumber (n : ℕ) (bytes : List ℕ) (flags value : ℕ) (rest : List ℕ) : Type 0 where
-  pub text : List ℕ
-  pub parts : bytes ≡ text ++ rest
-  pub spells : SpellsInteger n text flags value
+  pub encoding : List ℕ
+  pub parts : bytes ≡ encoding ++ rest
+  pub spells : SpellsInteger n encoding flags value
 
 number_takes : (n : ℕ) (bytes : List ℕ) (i : ℕ × ℕ × List ℕ) → or_bad_integer (integer_at n bytes) ≡ Ok i
     → TakesNumber n bytes i.0 i.1 i.2
@@ -245,7 +245,7 @@ number_takes n bytes i e = go (integer_at n bytes) refl e
         let same : j ≡ i = cc in
         let t = integer_takes n bytes i.0 i.1 i.2 (q
         ∙ ap (λ (x : ℕ × ℕ × List ℕ). let r : Result (ℕ × ℕ × List ℕ) IntegerFault = Ok x in r) same) in
-        record { text = t.text; parts = t.parts; spells = t.spells }
+        record { encoding = t.encoding; parts = t.parts; spells = t.spells }
     go (Err f) q h = absurd cc
 
 abbrev prefix_of : ℕ → ℕ → ℕ → Prefix
@@ -256,18 +256,18 @@ prefix_same : (p : Prefix) (sign : Bool) → p.sign ≡ sign
 prefix_same p sign e =
     ap (λ (b : Bool). let q : Prefix = record { count = p.count; sign = b; delta = p.delta } in q) (sym e)
 
-pub prefix_again : (text rest : List ℕ) (p : Prefix) → SpellsPrefix text p → prefix_at (text ++ rest) ≡ Ok (p, rest)
+pub prefix_again : (encoding rest : List ℕ) (p : Prefix) → SpellsPrefix encoding p → prefix_at (encoding ++ rest) ≡ Ok (p, rest)
 unfolding prefix_at
-prefix_again text rest p s =
-    let e : text ++ rest ≡ s.head ++ (s.tail ++ rest) = ap (λ x. x ++ rest) s.parts ∙ append_assoc s.head s.tail rest in
+prefix_again encoding rest p s =
+    let e : encoding ++ rest ≡ s.head ++ (s.tail ++ rest) = ap (λ x. x ++ rest) s.parts ∙ append_assoc s.head s.tail rest in
     rw (e, index_again 8 s.head (s.tail ++ rest) p.count s.count, index_again 7 s.tail rest p.delta (s.sign, s.delta))
     (ap (λ (q : Prefix). let r : Result (Prefix × List ℕ) FormFault = Ok (q, rest) in
     r) (prefix_same p (nat_eq s.sign 1) s.is_sign))
 
 pub record TakesPrefix (bytes : List ℕ) (p : Prefix) (rest : List ℕ) : Type 0 where
-  pub text : List ℕ
-  pub parts : bytes ≡ text ++ rest
-  pub spells : SpellsPrefix text p
+  pub encoding : List ℕ
+  pub parts : bytes ≡ encoding ++ rest
+  pub spells : SpellsPrefix encoding p
 
 pub prefix_takes : (bytes : List ℕ) (p : Prefix) (rest : List ℕ) → prefix_at bytes ≡ Ok (p, rest)
     → TakesPrefix bytes p rest
@@ -280,13 +280,13 @@ prefix_takes bytes p rest e =
     let u = number_takes 7 b.0.2 c.0 c.1 in
     let q = ok_pair (prefix_of b.0.1 c.0.0 c.0.1) p c.0.2 rest c.2 in
     record {
-      text = t.text ++ u.text;
-      parts = t.parts ∙ ap (λ x. t.text ++ x) (u.parts ∙ ap (λ x. u.text ++ x) q.1)
-          ∙ sym (append_assoc t.text u.text rest);
-      spells = subst (λ (x : Prefix). SpellsPrefix (t.text ++ u.text) x) q.0
+      encoding = t.encoding ++ u.encoding;
+      parts = t.parts ∙ ap (λ x. t.encoding ++ x) (u.parts ∙ ap (λ x. u.encoding ++ x) q.1)
+          ∙ sym (append_assoc t.encoding u.encoding rest);
+      spells = subst (λ (x : Prefix). SpellsPrefix (t.encoding ++ u.encoding) x) q.0
           (record {
-            head = t.text;
-            tail = u.text;
+            head = t.encoding;
+            tail = u.encoding;
             parts = refl;
             count = t.holds;
             sign = c.0.0;
@@ -302,7 +302,7 @@ pub written_read : (w : Window) (b : Block) → IsWritableBlock b → reading_of
 unfolding reading_of_bytes written_block reading
 written_read w b k =
     rw (prefix_again (written_prefix b.prefix) (written_lines b.lines) b.prefix (prefix_spelled b.prefix k.prefix))
-    (behind (read_prefix (total w) (agreed_maximum w.agreed w.capacity) b.prefix))
+    (behind (read_prefix (window_insert_count w) (maximum_capacity w.agreed_max w.capacity) b.prefix))
   where
     behind : (r : Result (ℕ × ℕ) PrefixFault) → bytes_behind w (written_lines b.lines) r ≡ reading_behind w b.lines r
     behind (Err e) = refl
@@ -312,10 +312,10 @@ written_read w b k =
 
 -- what the lines of a written block mean over all insertions, where its base is the one that was written
 pub written_means : (all : History) (b : Block) (required base : ℕ) (fs : List Field) → IsWritableBlock b
-    → base_behind b.prefix required ≡ Ok base → fields_of (whole all) base b.lines ≡ Ok fs
+    → base_behind b.prefix required ≡ Ok base → fields_of (whole_window all) base b.lines ≡ Ok fs
     → meaning_over_all all (written_block b) required ≡ Ok fs
 unfolding meaning_over_all written_block
 written_means all b required base fs k e m =
     rw (prefix_again (written_prefix b.prefix) (written_lines b.lines) b.prefix (prefix_spelled b.prefix k.prefix), e)
-    (fields_read (length (written_lines b.lines)) (whole all) base (written_lines b.lines) b.lines
+    (fields_read (length (written_lines b.lines)) (whole_window all) base (written_lines b.lines) b.lines
     (joined_written b.lines k.lines) (omega arith) ∙ m)

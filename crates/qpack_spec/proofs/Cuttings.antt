@@ -16,7 +16,7 @@ pub record Wire (L : Type 0) (S : List ℕ → L → Type 0) : Type 0 where
   pub one_spelling : (a b x y : List ℕ) (l m : L) → S a l → S b m → a ++ x ≡ b ++ y → (a ≡ b) × (l ≡ m)
 
 -- whatever first bytes name the forms
-pub wire : {L : Type 0} (form_of : ℕ → Option (Form L)) → Wire L (λ text l. Spells L form_of text l)
+pub wire : {L : Type 0} (form_of : ℕ → Option (Form L)) → Wire L (λ encoding l. Spells L form_of encoding l)
 wire form_of = record {
   spells_some = λ l s. absurd (let e = s.begins in cc);
   one_spelling = λ a b x y l m s t e. (
@@ -37,32 +37,32 @@ nil_append [] ys h = refl
 nil_append (x ∷ xs) ys h = absurd (cc)
 
 -- what was read of a piece, and what stays in flight
-record Read (L : Type 0) (S : List ℕ → L → Type 0) (lines flying : List L) (rest more : List ℕ) : Type 0 where
+record Read (L : Type 0) (S : List ℕ → L → Type 0) (lines in_flight : List L) (rest more : List ℕ) : Type 0 where
   pub still : List L
-  pub goes_on : flying ≡ lines ++ still
+  pub goes_on : in_flight ≡ lines ++ still
   pub left : Joined S (rest ++ more) still
 
-reads_front : {L : Type 0} (S : List ℕ → L → Type 0) (W : Wire L S) (lines flying : List L) (front rest more : List ℕ)
-    → Joined S front lines → Joined S (front ++ (rest ++ more)) flying → Read L S lines flying rest more
-reads_front S W [] flying front rest more j f =
-    record { still = flying; goes_on = refl; left = subst (λ (b : List ℕ). Joined S (b ++ (rest ++ more)) flying) j f }
+reads_front : {L : Type 0} (S : List ℕ → L → Type 0) (W : Wire L S) (lines in_flight : List L) (front rest more : List ℕ)
+    → Joined S front lines → Joined S (front ++ (rest ++ more)) in_flight → Read L S lines in_flight rest more
+reads_front S W [] in_flight front rest more j f =
+    record { still = in_flight; goes_on = refl; left = subst (λ (b : List ℕ). Joined S (b ++ (rest ++ more)) in_flight) j f }
 reads_front S W (l ∷ lines) [] front rest more j f =
     let none : front ≡ [] = nil_append front (rest ++ more) f in
     let a : j.0 ≡ [] = nil_append j.0 j.1 (sym j.2 ∙ none) in
     absurd (W.spells_some l (subst (λ (b : List ℕ). S b l) a j.3))
-reads_front S W (l ∷ lines) (i ∷ flying) front rest more j f =
+reads_front S W (l ∷ lines) (i ∷ in_flight) front rest more j f =
     let both : j.0 ++ (j.1 ++ (rest ++ more)) ≡ f.0 ++ f.1 =
     sym (append_assoc j.0 j.1 (rest ++ more)) ∙ ap (λ b. b ++ (rest ++ more)) (sym j.2) ∙ f.2 in
     let same = W.one_spelling j.0 f.0 (j.1 ++ (rest ++ more)) f.1 l i j.3 f.3 both in
     let tail : j.1 ++ (rest ++ more) ≡ f.1 =
     append_cancel_left f.0 (j.1 ++ (rest ++ more)) f.1 (ap (λ b. b ++ (j.1 ++ (rest ++ more))) (sym same.0)
     ∙ both) in
-    let r = reads_front S W lines flying j.1 rest more j.4 (subst (λ (b : List ℕ). Joined S b flying) (sym tail) f.4) in
+    let r = reads_front S W lines in_flight j.1 rest more j.4 (subst (λ (b : List ℕ). Joined S b in_flight) (sym tail) f.4) in
     record { still = r.still; goes_on = (λ n. (sym same.1) n ∷ r.goes_on n); left = r.left }
 
 -- what is left of a piece begins with nothing that begins no line
 pub nothing_left : {L : Type 0} (S : List ℕ → L → Type 0) (R : List ℕ → Type 0)
-    → ((text : List ℕ) → R text → text ≡ [] → ⊥) → ((a b x y : List ℕ) (l : L) → R a → S b l → a ++ x ≡ b ++ y → ⊥)
+    → ((encoding : List ℕ) → R encoding → encoding ≡ [] → ⊥) → ((a b x y : List ℕ) (l : L) → R a → S b l → a ++ x ≡ b ++ y → ⊥)
     → (still : List L) (rest more a b : List ℕ) → Joined S (rest ++ more) still → rest ≡ a ++ b → R a → ⊥
 nothing_left S R some apart [] rest more a b j e r = some a r (nil_append a b (sym e ∙ nil_append rest more j))
 nothing_left S R some apart (l ∷ still) rest more a b j e r =
@@ -103,20 +103,20 @@ joined_append S as' bs (l ∷ ls) ms j k =
 -- of a piece of the bytes under way a front was consumed as these lines: so they are the next ones, and what is behind
 -- them stays under way
 pub record CarriesOn (L : Type 0) (S : List ℕ → L
-    → Type 0) (bytes : List ℕ) (place : ℕ) (taken flying lines : List L) (front rest : List ℕ) : Type 0 where
+    → Type 0) (bytes : List ℕ) (place : ℕ) (taken in_flight lines : List L) (front rest : List ℕ) : Type 0 where
   pub still : List L
   pub more : List ℕ
-  pub goes_on : flying ≡ lines ++ still
+  pub goes_on : in_flight ≡ lines ++ still
   pub left : Joined S (rest ++ more) still
   pub carried : Carried L S bytes (place + length front) (taken ++ lines) still
   pub rest_is : carried.rest ≡ rest ++ more
 
 pub carried_on : {L : Type 0} (S : List ℕ → L
-    → Type 0) (W : Wire L S) (bytes : List ℕ) (place most : ℕ) (taken flying lines : List L) (front rest : List ℕ)
-    → Carried L S bytes place taken flying → place ≤ most → drop place (take most bytes) ≡ front ++ rest
+    → Type 0) (W : Wire L S) (bytes : List ℕ) (place most : ℕ) (taken in_flight lines : List L) (front rest : List ℕ)
+    → Carried L S bytes place taken in_flight → place ≤ most → drop place (take most bytes) ≡ front ++ rest
     → Joined S front lines
-    → CarriesOn L S bytes place taken flying lines front rest
-carried_on {L} S W bytes place most taken flying lines front rest c order piece joined =
+    → CarriesOn L S bytes place taken in_flight lines front rest
+carried_on {L} S W bytes place most taken in_flight lines front rest c order piece joined =
     let behind : drop place bytes ≡ c.rest = ap (drop place) c.cut ∙ drop_at c.front c.rest place c.ends in
     let more = drop most bytes in
     let within : place ≤ length (take most bytes) =
@@ -125,9 +125,9 @@ carried_on {L} S W bytes place most taken flying lines front rest c order piece 
     ap (drop place) (sym (take-append-drop most bytes)) ∙ drop-append-le place (take most bytes) more within in
     let whole : c.rest ≡ front ++ (rest ++ more) =
     sym behind ∙ split ∙ ap (λ b. b ++ more) piece ∙ append_assoc front rest more in
-    let r : Read L S lines flying rest more =
-    reads_front S W lines flying front rest more joined
-    (subst (λ (b : List ℕ). Joined S b flying) whole c.rest_joined) in
+    let r : Read L S lines in_flight rest more =
+    reads_front S W lines in_flight front rest more joined
+    (subst (λ (b : List ℕ). Joined S b in_flight) whole c.rest_joined) in
     record {
       still = r.still;
       more = more;
@@ -146,16 +146,16 @@ carried_on {L} S W bytes place most taken flying lines front rest c order piece 
 
 -- more is written behind what is under way
 pub carried_more : {L : Type 0} (S : List ℕ → L
-    → Type 0) (bytes more : List ℕ) (place : ℕ) (taken flying lines : List L) → Carried L S bytes place taken flying
-    → Joined S more lines → Carried L S (bytes ++ more) place taken (flying ++ lines)
-carried_more S bytes more place taken flying lines c j =
+    → Type 0) (bytes more : List ℕ) (place : ℕ) (taken in_flight lines : List L) → Carried L S bytes place taken in_flight
+    → Joined S more lines → Carried L S (bytes ++ more) place taken (in_flight ++ lines)
+carried_more S bytes more place taken in_flight lines c j =
     record {
       front = c.front;
       rest = c.rest ++ more;
       cut = ap (λ b. b ++ more) c.cut ∙ append_assoc c.front c.rest more;
       ends = c.ends;
       front_joined = c.front_joined;
-      rest_joined = joined_append S c.rest more flying lines c.rest_joined j;
+      rest_joined = joined_append S c.rest more in_flight lines c.rest_joined j;
     }
 
 -- ---- the laws
@@ -194,8 +194,8 @@ pieces_hold {L} form_of piece behind all ls rest j h =
     (r.still, r.goes_on, r.left)
 
 pub pieces_lawful : {L : Type 0} (form_of : ℕ → Option (Form L)) → PiecesAreNeverRefused form_of
-pieces_lawful {L} form_of piece behind all ls rest text more fault j h e r =
+pieces_lawful {L} form_of piece behind all ls rest encoding more fault j h e r =
     let k = pieces_hold form_of piece behind all ls rest j h in
     nothing_left (λ t l. Spells L form_of t l) (λ t. Refuses L form_of t fault) (λ t x q. (let y = x.begins in
     absurd cc))
-    (λ a b x y l p s q. refusal_apart form_of fault a b x y l p s q) k.0 rest behind text more k.2 e r
+    (λ a b x y l p s q. refusal_apart form_of fault a b x y l p s q) k.0 rest behind encoding more k.2 e r

@@ -38,25 +38,25 @@ nothing_cut (NameAndValue n make) = refl
 spelled_some : {L : Type 0} (form : Form L) (l : L) → SpellsForm form [] l → ⊥
 spelled_some form l s = let a = made_again form [] [] l s in let b = nothing_made form in absurd cc
 
-whole_string : (n : ℕ) (text : List ℕ) (f : StringFault) → RefusesString n text f → is_cut (BadString f) ≡ true → ⊥
-whole_string n text EndsEarly r c = r
-whole_string n text LengthOverflows r c = absurd cc
-whole_string n text (BadHuffman g) r c = absurd cc
+whole_string : (n : ℕ) (encoding : List ℕ) (f : StringFault) → RefusesString n encoding f → is_cut (BadString f) ≡ true → ⊥
+whole_string n encoding EndsEarly r c = r
+whole_string n encoding LengthOverflows r c = absurd cc
+whole_string n encoding (BadHuffman g) r c = absurd cc
 
-no_cut_refusal : {L : Type 0} (form : Form L) (text : List ℕ) (e : FormFault) → RefusesForm form text e
+no_cut_refusal : {L : Type 0} (form : Form L) (encoding : List ℕ) (e : FormFault) → RefusesForm form encoding e
     → is_cut e ≡ true → ⊥
-no_cut_refusal (Index n make) text (BadInteger Overflow) r c = absurd cc
-no_cut_refusal (Index n make) text (BadInteger UnexpectedEnd) r c = r
-no_cut_refusal (Index n make) text (BadString f) r c = r
-no_cut_refusal (IndexAndValue n make) text (BadInteger Overflow) r c = absurd cc
-no_cut_refusal (IndexAndValue n make) text (BadInteger UnexpectedEnd) (inl r) c = r
-no_cut_refusal (IndexAndValue n make) text (BadInteger UnexpectedEnd) (inr r) c = r.second
-no_cut_refusal (IndexAndValue n make) text (BadString f) (inl r) c = r
-no_cut_refusal (IndexAndValue n make) text (BadString f) (inr r) c = whole_string 8 r.tail f r.second c
-no_cut_refusal (NameAndValue n make) text (BadInteger f) (inl r) c = r
-no_cut_refusal (NameAndValue n make) text (BadInteger f) (inr r) c = r.second
-no_cut_refusal (NameAndValue n make) text (BadString f) (inl r) c = whole_string n text f r c
-no_cut_refusal (NameAndValue n make) text (BadString f) (inr r) c = whole_string 8 r.tail f r.second c
+no_cut_refusal (Index n make) encoding (BadInteger Overflow) r c = absurd cc
+no_cut_refusal (Index n make) encoding (BadInteger UnexpectedEnd) r c = r
+no_cut_refusal (Index n make) encoding (BadString f) r c = r
+no_cut_refusal (IndexAndValue n make) encoding (BadInteger Overflow) r c = absurd cc
+no_cut_refusal (IndexAndValue n make) encoding (BadInteger UnexpectedEnd) (inl r) c = r
+no_cut_refusal (IndexAndValue n make) encoding (BadInteger UnexpectedEnd) (inr r) c = r.second
+no_cut_refusal (IndexAndValue n make) encoding (BadString f) (inl r) c = r
+no_cut_refusal (IndexAndValue n make) encoding (BadString f) (inr r) c = whole_string 8 r.tail f r.second c
+no_cut_refusal (NameAndValue n make) encoding (BadInteger f) (inl r) c = r
+no_cut_refusal (NameAndValue n make) encoding (BadInteger f) (inr r) c = r.second
+no_cut_refusal (NameAndValue n make) encoding (BadString f) (inl r) c = whole_string n encoding f r c
+no_cut_refusal (NameAndValue n make) encoding (BadString f) (inr r) c = whole_string 8 r.tail f r.second c
 
 refused_some : {L : Type 0} (form : Form L) (e : FormFault) → RefusesForm form [] e → ⊥
 refused_some form e r =
@@ -69,9 +69,9 @@ refused_some form e r =
 
 pub record TakesSpelling (L : Type 0) (form_of : ℕ
     → Option (Form L)) (bytes : List ℕ) (l : L) (rest : List ℕ) : Type 0 where
-  pub text : List ℕ
-  pub parts : bytes ≡ text ++ rest
-  pub spells : Spells L form_of text l
+  pub encoding : List ℕ
+  pub parts : bytes ≡ encoding ++ rest
+  pub spells : Spells L form_of encoding l
 
 pub form_takes : {L : Type 0} (form_of : ℕ → Option (Form L)) (bytes : List ℕ) (l : L) (rest : List ℕ)
     → form_at form_of bytes ≡ Ok (l, rest) → TakesSpelling L form_of bytes l rest
@@ -79,13 +79,13 @@ unfolding form_at
 form_takes form_of [] l rest e = absurd cc
 form_takes {L} form_of (b ∷ bs) l rest e = go (form_of b) refl e
   where
-    named : (form : Form L) → form_of b ≡ Some form → (text : List ℕ) → b ∷ bs ≡ text ++ rest → SpellsForm form text l
+    named : (form : Form L) → form_of b ≡ Some form → (encoding : List ℕ) → b ∷ bs ≡ encoding ++ rest → SpellsForm form encoding l
         → TakesSpelling L form_of (b ∷ bs) l rest
     named form q [] p s = absurd (spelled_some form l s)
     named form q (c ∷ cs) p s =
         let same : b ≡ c = cc in
         record {
-          text = c ∷ cs;
+          encoding = c ∷ cs;
           parts = p;
           spells = record {
             first = c;
@@ -100,21 +100,21 @@ form_takes {L} form_of (b ∷ bs) l rest e = go (form_of b) refl e
     go : (o : Option (Form L)) → form_of b ≡ o → in_form o (b ∷ bs) ≡ Ok (l, rest)
         → TakesSpelling L form_of (b ∷ bs) l rest
     go None q h = absurd cc
-    go (Some form) q h = let t = made_takes form (b ∷ bs) l rest h in named form q t.text t.parts t.spells
+    go (Some form) q h = let t = made_takes form (b ∷ bs) l rest h in named form q t.encoding t.parts t.spells
 
-pub form_again : {L : Type 0} (form_of : ℕ → Option (Form L)) (text rest : List ℕ) (l : L) → Spells L form_of text l
-    → form_at form_of (text ++ rest) ≡ Ok (l, rest)
+pub form_again : {L : Type 0} (form_of : ℕ → Option (Form L)) (encoding rest : List ℕ) (l : L) → Spells L form_of encoding l
+    → form_at form_of (encoding ++ rest) ≡ Ok (l, rest)
 unfolding form_at
-form_again form_of text rest l s =
-    let m = made_again s.form text rest l s.spells in
+form_again form_of encoding rest l s =
+    let m = made_again s.form encoding rest l s.spells in
     let n = rw s.begins at m in
     rw (s.begins, s.names) n
 
-pub form_refused : {L : Type 0} (form_of : ℕ → Option (Form L)) (text rest : List ℕ) (e : FormFault)
-    → Refuses L form_of text e → form_at form_of (text ++ rest) ≡ Err e
+pub form_refused : {L : Type 0} (form_of : ℕ → Option (Form L)) (encoding rest : List ℕ) (e : FormFault)
+    → Refuses L form_of encoding e → form_at form_of (encoding ++ rest) ≡ Err e
 unfolding form_at
-form_refused form_of text rest e s =
-    let m = made_refused s.form text rest e s.refuses in
+form_refused form_of encoding rest e s =
+    let m = made_refused s.form encoding rest e s.refuses in
     let n = rw s.begins at m in
     rw (s.begins, s.names) n
 
@@ -124,13 +124,13 @@ unfolding form_at
 form_refusal form_of [] e h c = let same : BadInteger UnexpectedEnd ≡ e = cc in let d = ap is_cut same in absurd cc
 form_refusal {L} form_of (b ∷ bs) e h c = go (form_of b) refl h
   where
-    named : (form : Form L) → form_of b ≡ Some form → (text rest : List ℕ) → b ∷ bs ≡ text ++ rest
-        → RefusesForm form text e → Begins (λ t. Refuses L form_of t e) (b ∷ bs)
+    named : (form : Form L) → form_of b ≡ Some form → (encoding rest : List ℕ) → b ∷ bs ≡ encoding ++ rest
+        → RefusesForm form encoding e → Begins (λ t. Refuses L form_of t e) (b ∷ bs)
     named form q [] rest p r = absurd (refused_some form e r)
     named form q (d ∷ ds) rest p r =
         let same : b ≡ d = cc in
         record {
-          text = d ∷ ds;
+          encoding = d ∷ ds;
           rest = rest;
           parts = p;
           holds = record {
@@ -147,42 +147,42 @@ form_refusal {L} form_of (b ∷ bs) e h c = go (form_of b) refl h
     go : (o : Option (Form L)) → form_of b ≡ o → in_form o (b ∷ bs) ≡ Err e
         → Begins (λ t. Refuses L form_of t e) (b ∷ bs)
     go None q k = let same : BadInteger UnexpectedEnd ≡ e = cc in let d = ap is_cut same in absurd cc
-    go (Some form) q k = let m = made_refusal form (b ∷ bs) e k c in named form q m.text m.rest m.parts m.holds
+    go (Some form) q k = let m = made_refusal form (b ∷ bs) e k c in named form q m.encoding m.rest m.parts m.holds
 
 -- ---- the laws
 
 pub one_form : {L : Type 0} (form_of : ℕ → Option (Form L)) → FormsHaveOneValue form_of
-one_form form_of text l m s t =
-    let a = form_again form_of text [] l s in
-    let b = form_again form_of text [] m t in
+one_form form_of encoding l m s t =
+    let a = form_again form_of encoding [] l s in
+    let b = form_again form_of encoding [] m t in
     (ok_pair l m [] [] (sym a ∙ b)).0
 
 pub reads_forms : {L : Type 0} (form_of : ℕ → Option (Form L)) → ReadingFindsForms form_of
 reads_forms form_of bytes l rest = (
-  λ e. let t = form_takes form_of bytes l rest e in (t.text, t.parts, t.spells),
+  λ e. let t = form_takes form_of bytes l rest e in (t.encoding, t.parts, t.spells),
   λ p. ap (form_at form_of) p.1 ∙ form_again form_of p.0 rest l p.2,
 )
 
 pub reads_form_refusals : {L : Type 0} (form_of : ℕ → Option (Form L)) → ReadingFindsFormRefusals form_of
 reads_form_refusals form_of bytes e c = (
   λ h. form_refusal form_of bytes e h c,
-  λ b. ap (form_at form_of) b.parts ∙ form_refused form_of b.text b.rest e b.holds,
+  λ b. ap (form_at form_of) b.parts ∙ form_refused form_of b.encoding b.rest e b.holds,
 )
 
-refuses_whole : {L : Type 0} (form_of : ℕ → Option (Form L)) (text : List ℕ) (e : FormFault) → Refuses L form_of text e
+refuses_whole : {L : Type 0} (form_of : ℕ → Option (Form L)) (encoding : List ℕ) (e : FormFault) → Refuses L form_of encoding e
     → is_cut e ≡ false
-refuses_whole form_of text e r = go (is_cut e) refl
+refuses_whole form_of encoding e r = go (is_cut e) refl
   where
     go : (b : Bool) → is_cut e ≡ b → b ≡ false
-    go true q = absurd (no_cut_refusal r.form text e r.refuses q)
+    go true q = absurd (no_cut_refusal r.form encoding e r.refuses q)
     go false q = refl
 
 pub reads_form_truncation : {L : Type 0} (form_of : ℕ → Option (Form L)) → ReadingFindsFormTruncation form_of
 reads_form_truncation {L} form_of bytes = (
-  λ h text rest p. (
-    λ l s. (let a = form_again form_of text rest l s in let b = ap (form_at form_of) p in let c = h.2 in absurd cc),
-    λ e r. (let a = form_refused form_of text rest e r in let b = ap (form_at form_of) p in let c = h.2 in
-        let d : h.0 ≡ e = cc in let f = refuses_whole form_of text e r in let g = h.1 in absurd cc),
+  λ h encoding rest p. (
+    λ l s. (let a = form_again form_of encoding rest l s in let b = ap (form_at form_of) p in let c = h.2 in absurd cc),
+    λ e r. (let a = form_refused form_of encoding rest e r in let b = ap (form_at form_of) p in let c = h.2 in
+        let d : h.0 ≡ e = cc in let f = refuses_whole form_of encoding e r in let g = h.1 in absurd cc),
   ),
   λ t. back t (form_at form_of bytes) refl,
 )
@@ -190,11 +190,11 @@ reads_form_truncation {L} form_of bytes = (
     cut : Truncates form_of bytes → (e : FormFault) → form_at form_of bytes ≡ Err e → (b : Bool) → is_cut e ≡ b
         → (fault : FormFault) × (is_cut fault ≡ true) × (form_at form_of bytes ≡ Err fault)
     cut t e q true c = (e, c, q)
-    cut t e q false c = let b = form_refusal form_of bytes e q c in absurd ((t b.text b.rest b.parts).1 e b.holds)
+    cut t e q false c = let b = form_refusal form_of bytes e q c in absurd ((t b.encoding b.rest b.parts).1 e b.holds)
 
     back : Truncates form_of bytes → (r : Result (L × List ℕ) FormFault) → form_at form_of bytes ≡ r
         → (fault : FormFault) × (is_cut fault ≡ true) × (form_at form_of bytes ≡ Err fault)
-    back t (Ok x) q = let k = form_takes form_of bytes x.0 x.1 q in absurd ((t k.text x.1 k.parts).0 x.0 k.spells)
+    back t (Ok x) q = let k = form_takes form_of bytes x.0 x.1 q in absurd ((t k.encoding x.1 k.parts).0 x.0 k.spells)
     back t (Err e) q = cut t e q (is_cut e) refl
 
 -- ---- no spelling or refusal begins another

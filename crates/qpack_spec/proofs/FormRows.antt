@@ -1,102 +1,102 @@
--- Worked rows of lines, instructions, replies and prefixes in bytes, computed by the definitions.
+-- Worked rows of lines, instructions, decoder_instructions and prefixes in bytes, computed by the definitions.
 use Rattle.std.proofs.Common.{ℕ, ◌-◌, ◌^◌, ◌≡◌, true, false, List, [], ◌∷◌, None, Some, Result, Ok, Err, refl}
 use Rattle.std.specs.Prelude.{codes, negsuc}
 use Rattle.qpack_spec.specs.Integer.{written_groups, groups_at, integer_at, written_integer, Overflow, UnexpectedEnd}
-use Rattle.qpack_spec.specs.Huffman.{bits_of, ones, bytes_by_length, bytes_of_length, first_word, word_length, word_of}
-use Rattle.qpack_spec.specs.Huffman.{number_from, packed, payload_of, word_at, is_padding, item_at, text_at}
+use Rattle.qpack_spec.specs.Huffman.{bits_of, ones, bytes_by_length, bytes_of_length, first_code, code_length, code_of}
+use Rattle.qpack_spec.specs.Huffman.{number_from, bytes_of_bits, payload_of, code_at, is_padding, item_at, text_at}
 use Rattle.qpack_spec.specs.Huffman.{text_of_bits, MissingBits, Unhandled}
 use Rattle.qpack_spec.specs.Text.{string_at, written_string, EndsEarly, LengthOverflows, BadHuffman}
-use Rattle.qpack_spec.specs.StaticTable.{static_table, static_place, static_name_place}
+use Rattle.qpack_spec.specs.StaticTable.{static_table, static_index, static_name_index}
 use Rattle.qpack_spec.specs.Form.{Index, IndexAndValue, NameAndValue, FormFault, BadInteger, BadString, made_at}
 use Rattle.qpack_spec.specs.Form.{form_at}
 use Rattle.qpack_spec.specs.Line.{Line, IndexedStatic, IndexedDynamic, IndexedPostBase, NamedStatic, NamedDynamic}
 use Rattle.qpack_spec.specs.Line.{NamedPostBase, Literal, line_form, written_line, written_lines}
-use Rattle.qpack_spec.specs.Instruction.{Instruction, InsertStaticName, InsertDynamicName, InsertLiteralName, Duplicate}
-use Rattle.qpack_spec.specs.Instruction.{SetCapacity, Reply, Acknowledgment, Cancellation, Increment, instruction_form}
-use Rattle.qpack_spec.specs.Instruction.{reply_form, written_instruction, written_instructions, written_reply}
-use Rattle.qpack_spec.specs.Instruction.{written_replies}
+use Rattle.qpack_spec.specs.Instruction.{EncoderInstruction, InsertStaticName, InsertDynamicName, InsertLiteralName, Duplicate}
+use Rattle.qpack_spec.specs.Instruction.{SetCapacity, DecoderInstruction, Acknowledgment, Cancellation, Increment, encoder_instruction_form}
+use Rattle.qpack_spec.specs.Instruction.{decoder_instruction_form, written_encoder_instruction, written_encoder_instructions, written_decoder_instruction}
+use Rattle.qpack_spec.specs.Instruction.{written_decoder_instructions}
 use Rattle.qpack_spec.specs.Prefix.{Prefix, OutOfRange, BelowZero, prefix_for, required_at, read_required, read_base}
 use Rattle.qpack_spec.specs.Prefix.{read_prefix, written_prefix, prefix_at}
-use Rattle.qpack_spec.specs.Window.{excess, entry, recent, insertion, effect, after}
-use Rattle.qpack_spec.specs.History.{window_of, whole, grown}
-use Rattle.qpack_spec.specs.Reading.{static_field, relative_field, post_base_field, line_field, fields_of, names_of}
-use Rattle.qpack_spec.specs.Reading.{references_of, greatest, reading}
+use Rattle.qpack_spec.specs.Window.{eviction_count, absolute_entry, relative_entry, insertion, effect, window_after}
+use Rattle.qpack_spec.specs.History.{window_of, whole_window, history_after}
+use Rattle.qpack_spec.specs.Reading.{static_field, relative_field, post_base_field, line_field, fields_of, references_of_line}
+use Rattle.qpack_spec.specs.Reading.{references_of, greatest_of, reading}
 use Rattle.qpack_spec.specs.BlockReading.{fields_at, reading_of_bytes, written_block}
-use Rattle.qpack_spec.specs.Table.{window, track, naming, is_held, none_held, has_room, may_name, with_entry}
-use Rattle.qpack_spec.specs.Table.{last_place, newest, put, resized, applied, commit, unnamed, without_oldest}
-use Rattle.qpack_spec.specs.Table.{without_stream, raised, heard, count}
+use Rattle.qpack_spec.specs.Table.{window, with_number, with_reference, is_evictable, all_evictable, has_room, may_reference, with_entry}
+use Rattle.qpack_spec.specs.Table.{last_position, newest_index, put, with_capacity, apply_encoder_instruction, commit, without_references, without_oldest}
+use Rattle.qpack_spec.specs.Table.{without_stream, with_increment, apply_decoder_instruction, insert_count}
 use Rattle.qpack_spec.specs.Rule.{instruction_for, rule_field, rule}
 
 -- what was read, and how many bytes were left
 line_at : List ℕ → Result (Line × List ℕ) FormFault
 line_at bytes = form_at line_form bytes
 
-instruction_at : List ℕ → Result (Instruction × List ℕ) FormFault
-instruction_at bytes = form_at instruction_form bytes
+instruction_at : List ℕ → Result (EncoderInstruction × List ℕ) FormFault
+instruction_at bytes = form_at encoder_instruction_form bytes
 
-reply_at : List ℕ → Result (Reply × List ℕ) FormFault
-reply_at bytes = form_at reply_form bytes
+decoder_instruction_at : List ℕ → Result (DecoderInstruction × List ℕ) FormFault
+decoder_instruction_at bytes = form_at decoder_instruction_form bytes
 
 prefix_of : ℕ → ℕ → Prefix
-prefix_of count delta = record { count = count; sign = false; delta = delta }
+prefix_of insert_count delta = record { count = insert_count; sign = false; delta = delta }
 
 -- all that has to unfold
 rows : ℕ
-unfolding excess written_groups groups_at integer_at written_integer bits_of ones bytes_by_length bytes_of_length
-    first_word word_length word_of number_from packed payload_of word_at is_padding item_at text_at text_of_bits
-    string_at written_string static_table static_place static_name_place line_form written_line written_lines
-    instruction_form reply_form written_instruction written_instructions written_reply written_replies made_at form_at
-    prefix_for required_at read_required read_base read_prefix written_prefix prefix_at entry recent insertion effect
-    after window_of whole grown static_field relative_field post_base_field line_field fields_of names_of references_of
-    greatest reading fields_at reading_of_bytes written_block window track naming is_held none_held has_room may_name
-    with_entry last_place newest put resized applied commit unnamed without_oldest without_stream raised heard
-    instruction_for rule_field rule line_at instruction_at reply_at prefix_of
+unfolding eviction_count written_groups groups_at integer_at written_integer bits_of ones bytes_by_length bytes_of_length
+    first_code code_length code_of number_from bytes_of_bits payload_of code_at is_padding item_at text_at text_of_bits
+    string_at written_string static_table static_index static_name_index line_form written_line written_lines
+    encoder_instruction_form decoder_instruction_form written_encoder_instruction written_encoder_instructions written_decoder_instruction written_decoder_instructions made_at form_at
+    prefix_for required_at read_required read_base read_prefix written_prefix prefix_at absolute_entry relative_entry insertion effect
+    window_after window_of whole_window history_after static_field relative_field post_base_field line_field fields_of references_of_line references_of
+    greatest_of reading fields_at reading_of_bytes written_block window with_number with_reference is_evictable all_evictable has_room may_reference
+    with_entry last_position newest_index put with_capacity apply_encoder_instruction commit without_references without_oldest without_stream with_increment apply_decoder_instruction
+    instruction_for rule_field rule line_at instruction_at decoder_instruction_at prefix_of
 rows = 0
 
 -- an insertion without a name reference
-write_insert : (written_instruction (InsertLiteralName (codes "foo") (codes "bar")))
+write_insert : (written_encoder_instruction (InsertLiteralName (codes "foo") (codes "bar")))
     ≡ 98 ∷ 148 ∷ 231 ∷ 131 ∷ 140 ∷ 118 ∷ 127 ∷ []
 unfolding rows
 write_insert = refl
 
 -- the capacity 4096
-write_capacity : (written_instruction (SetCapacity 4096)) ≡ 63 ∷ 225 ∷ 31 ∷ []
+write_capacity : (written_encoder_instruction (SetCapacity 4096)) ≡ 63 ∷ 225 ∷ 31 ∷ []
 unfolding rows
 write_capacity = refl
 
 -- a duplicate
-write_duplicate : (written_instruction (Duplicate 0)) ≡ 0 ∷ []
+write_duplicate : (written_encoder_instruction (Duplicate 0)) ≡ 0 ∷ []
 unfolding rows
 write_duplicate = refl
 
 -- an insertion by a static name
-write_insert_static : (written_instruction (InsertStaticName 1 (codes "bar"))) ≡ 193 ∷ 131 ∷ 140 ∷ 118 ∷ 127 ∷ []
+write_insert_static : (written_encoder_instruction (InsertStaticName 1 (codes "bar"))) ≡ 193 ∷ 131 ∷ 140 ∷ 118 ∷ 127 ∷ []
 unfolding rows
 write_insert_static = refl
 
 -- an insertion by the name of an entry
-write_insert_dynamic : (written_instruction (InsertDynamicName 1 (codes "new bar3")))
+write_insert_dynamic : (written_encoder_instruction (InsertDynamicName 1 (codes "new bar3")))
     ≡ 129 ∷ 134 ∷ 168 ∷ 190 ∷ 20 ∷ 140 ∷ 118 ∷ 51 ∷ []
 unfolding rows
 write_insert_dynamic = refl
 
 -- a cancellation
-write_cancellation : (written_reply (Cancellation 2321)) ≡ 127 ∷ 210 ∷ 17 ∷ []
+write_cancellation : (written_decoder_instruction (Cancellation 2321)) ≡ 127 ∷ 210 ∷ 17 ∷ []
 unfolding rows
 write_cancellation = refl
 
 -- an acknowledgment
-write_acknowledgment : (written_reply (Acknowledgment 4)) ≡ 132 ∷ []
+write_acknowledgment : (written_decoder_instruction (Acknowledgment 4)) ≡ 132 ∷ []
 unfolding rows
 write_acknowledgment = refl
 
 -- an increment of 64
-write_increment_64 : (written_reply (Increment 64)) ≡ 63 ∷ 1 ∷ []
+write_increment_64 : (written_decoder_instruction (Increment 64)) ≡ 63 ∷ 1 ∷ []
 unfolding rows
 write_increment_64 = refl
 
 -- an increment of 63
-write_increment_63 : (written_reply (Increment 63)) ≡ 63 ∷ 0 ∷ []
+write_increment_63 : (written_decoder_instruction (Increment 63)) ≡ 63 ∷ 0 ∷ []
 unfolding rows
 write_increment_63 = refl
 
@@ -152,38 +152,38 @@ unfolding rows
 read_index = refl
 
 -- an increment of 64
-read_replies_64 : (reply_at (63 ∷ 1 ∷ [])) ≡ Ok (Increment 64, [])
+read_decoder_instructions_64 : (decoder_instruction_at (63 ∷ 1 ∷ [])) ≡ Ok (Increment 64, [])
 unfolding rows
-read_replies_64 = refl
+read_decoder_instructions_64 = refl
 
 -- trailing groups of zero are accepted
-read_replies_63 : (reply_at (63 ∷ 128 ∷ 0 ∷ [])) ≡ Ok (Increment 63, [])
+read_decoder_instructions_63 : (decoder_instruction_at (63 ∷ 128 ∷ 0 ∷ [])) ≡ Ok (Increment 63, [])
 unfolding rows
-read_replies_63 = refl
+read_decoder_instructions_63 = refl
 
 -- an increment of 65
-read_replies_65 : (reply_at (63 ∷ 2 ∷ [])) ≡ Ok (Increment 65, [])
+read_decoder_instructions_65 : (decoder_instruction_at (63 ∷ 2 ∷ [])) ≡ Ok (Increment 65, [])
 unfolding rows
-read_replies_65 = refl
+read_decoder_instructions_65 = refl
 
 -- nine further bytes that go on
-read_overflow : (reply_at (63 ∷ 255 ∷ 255 ∷ 255 ∷ 255 ∷ 255 ∷ 255 ∷ 255 ∷ 255 ∷ 255 ∷ [])) ≡ Err (BadInteger Overflow)
+read_overflow : (decoder_instruction_at (63 ∷ 255 ∷ 255 ∷ 255 ∷ 255 ∷ 255 ∷ 255 ∷ 255 ∷ 255 ∷ 255 ∷ [])) ≡ Err (BadInteger Overflow)
 unfolding rows
 read_overflow = refl
 
 -- eight of them are truncation
-read_truncated_overflow : (reply_at (63 ∷ 255 ∷ 255 ∷ 255 ∷ 255 ∷ 255 ∷ 255 ∷ 255 ∷ 255 ∷ []))
+read_truncated_overflow : (decoder_instruction_at (63 ∷ 255 ∷ 255 ∷ 255 ∷ 255 ∷ 255 ∷ 255 ∷ 255 ∷ 255 ∷ []))
     ≡ Err (BadInteger UnexpectedEnd)
 unfolding rows
 read_truncated_overflow = refl
 
 -- a cut increment
-read_cut : (reply_at (63 ∷ [])) ≡ Err (BadInteger UnexpectedEnd)
+read_cut : (decoder_instruction_at (63 ∷ [])) ≡ Err (BadInteger UnexpectedEnd)
 unfolding rows
 read_cut = refl
 
 -- a cut cancellation
-read_cut_cancellation : (reply_at (127 ∷ 210 ∷ [])) ≡ Err (BadInteger UnexpectedEnd)
+read_cut_cancellation : (decoder_instruction_at (127 ∷ 210 ∷ [])) ≡ Err (BadInteger UnexpectedEnd)
 unfolding rows
 read_cut_cancellation = refl
 

@@ -14,9 +14,9 @@ use Rattle.qpack_spec.proofs.Texts.{string_takes, string_again, string_refused, 
 -- ---- the parts
 
 pub record TakesIndex (n : ℕ) (bytes : List ℕ) (index : ℕ) (rest : List ℕ) : Type 0 where
-  pub text : List ℕ
-  pub parts : bytes ≡ text ++ rest
-  pub holds : HoldsIndex n index text
+  pub encoding : List ℕ
+  pub parts : bytes ≡ encoding ++ rest
+  pub holds : HoldsIndex n index encoding
 
 pub index_takes : (n : ℕ) (bytes : List ℕ) (i : ℕ × ℕ × List ℕ) → or_bad_integer (integer_at n bytes) ≡ Ok i
     → TakesIndex n bytes i.1 i.2
@@ -28,18 +28,18 @@ index_takes n bytes i e = go (integer_at n bytes) refl e
         let same : j ≡ i = cc in
         let t = integer_takes n bytes i.0 i.1 i.2 (q
         ∙ ap (λ (x : ℕ × ℕ × List ℕ). let r : Result (ℕ × ℕ × List ℕ) IntegerFault = Ok x in r) same) in
-        record { text = t.text; parts = t.parts; holds = (i.0, t.spells) }
+        record { encoding = t.encoding; parts = t.parts; holds = (i.0, t.spells) }
     go (Err f) q h = absurd cc
 
-pub index_again : (n : ℕ) (text rest : List ℕ) (index : ℕ) (h : HoldsIndex n index text)
-    → or_bad_integer (integer_at n (text ++ rest)) ≡ Ok (h.0, index, rest)
-index_again n text rest index h = rw (integer_again n text rest h.0 index h.1) refl
+pub index_again : (n : ℕ) (encoding rest : List ℕ) (index : ℕ) (h : HoldsIndex n index encoding)
+    → or_bad_integer (integer_at n (encoding ++ rest)) ≡ Ok (h.0, index, rest)
+index_again n encoding rest index h = rw (integer_again n encoding rest h.0 index h.1) refl
 
-pub index_refused : (n : ℕ) (text rest : List ℕ) (e : FormFault) → RefusesIndex n text e
-    → or_bad_integer (integer_at n (text ++ rest)) ≡ Err e
-index_refused n text rest (BadInteger Overflow) h = rw (integer_overflows n text rest h) refl
-index_refused n text rest (BadInteger UnexpectedEnd) h = absurd h
-index_refused n text rest (BadString f) h = absurd h
+pub index_refused : (n : ℕ) (encoding rest : List ℕ) (e : FormFault) → RefusesIndex n encoding e
+    → or_bad_integer (integer_at n (encoding ++ rest)) ≡ Err e
+index_refused n encoding rest (BadInteger Overflow) h = rw (integer_overflows n encoding rest h) refl
+index_refused n encoding rest (BadInteger UnexpectedEnd) h = absurd h
+index_refused n encoding rest (BadString f) h = absurd h
 
 pub index_refusal : (n : ℕ) (bytes : List ℕ) (e : FormFault) → or_bad_integer (integer_at n bytes) ≡ Err e
     → is_cut e ≡ false → Begins (λ t. RefusesIndex n t e) bytes
@@ -51,13 +51,13 @@ index_refusal n bytes e h c = go (integer_at n bytes) refl h
     go (Err Overflow) q k =
         let same : BadInteger Overflow ≡ e = cc in
         subst (λ (f : FormFault). Begins (λ t. RefusesIndex n t f) bytes) same
-        (let b = overflow_begins n bytes q in record { text = b.text; rest = b.rest; parts = b.parts; holds = b.holds })
+        (let b = overflow_begins n bytes q in record { encoding = b.encoding; rest = b.rest; parts = b.parts; holds = b.holds })
     go (Err UnexpectedEnd) q k = let same : BadInteger UnexpectedEnd ≡ e = cc in let d = ap is_cut same in absurd cc
 
 record TakesText (n : ℕ) (bytes : List ℕ) (value : List ℕ) (rest : List ℕ) : Type 0 where
-  pub text : List ℕ
-  pub parts : bytes ≡ text ++ rest
-  pub holds : HoldsText n value text
+  pub encoding : List ℕ
+  pub parts : bytes ≡ encoding ++ rest
+  pub holds : HoldsText n value encoding
 
 text_takes : (n : ℕ) (bytes : List ℕ) (v : ℕ × List ℕ × List ℕ) → or_bad_string (string_at n bytes) ≡ Ok v
     → TakesText n bytes v.1 v.2
@@ -69,17 +69,17 @@ text_takes n bytes v e = go (string_at n bytes) refl e
         let same : j ≡ v = cc in
         let t = string_takes n bytes v.0 v.1 v.2 (q
         ∙ ap (λ (x : ℕ × List ℕ × List ℕ). let r : Result (ℕ × List ℕ × List ℕ) StringFault = Ok x in r) same) in
-        record { text = t.text; parts = t.parts; holds = (v.0, t.spells) }
+        record { encoding = t.encoding; parts = t.parts; holds = (v.0, t.spells) }
     go (Err f) q h = absurd cc
 
-pub text_again : (n : ℕ) (text rest value : List ℕ) (h : HoldsText n value text)
-    → or_bad_string (string_at n (text ++ rest)) ≡ Ok (h.0, value, rest)
-text_again n text rest value h = rw (string_again n text rest h.0 value h.1) refl
+pub text_again : (n : ℕ) (encoding rest value : List ℕ) (h : HoldsText n value encoding)
+    → or_bad_string (string_at n (encoding ++ rest)) ≡ Ok (h.0, value, rest)
+text_again n encoding rest value h = rw (string_again n encoding rest h.0 value h.1) refl
 
-pub text_refused : (n : ℕ) (text rest : List ℕ) (e : FormFault) → RefusesText n text e
-    → or_bad_string (string_at n (text ++ rest)) ≡ Err e
-text_refused n text rest (BadInteger f) h = absurd h
-text_refused n text rest (BadString f) h = rw (string_refused n text rest f h) refl
+pub text_refused : (n : ℕ) (encoding rest : List ℕ) (e : FormFault) → RefusesText n encoding e
+    → or_bad_string (string_at n (encoding ++ rest)) ≡ Err e
+text_refused n encoding rest (BadInteger f) h = absurd h
+text_refused n encoding rest (BadString f) h = rw (string_refused n encoding rest f h) refl
 
 text_refusal : (n : ℕ) (bytes : List ℕ) (e : FormFault) → or_bad_string (string_at n bytes) ≡ Err e → is_cut e ≡ false
     → Begins (λ t. RefusesText n t e) bytes
@@ -94,14 +94,14 @@ text_refusal n bytes e h c = go (string_at n bytes) refl h
         λ d. (let x = ap is_cut same in let y = ap (λ (z : StringFault). is_cut (BadString z)) d in cc) in
         subst (λ (x : FormFault). Begins (λ t. RefusesText n t x) bytes) same
         (let b = refusal_begins n bytes f q apart in
-        record { text = b.text; rest = b.rest; parts = b.parts; holds = b.holds })
+        record { encoding = b.encoding; rest = b.rest; parts = b.parts; holds = b.holds })
 
 -- ---- a form
 
 pub record TakesForm (L : Type 0) (form : Form L) (bytes : List ℕ) (l : L) (rest : List ℕ) : Type 0 where
-  pub text : List ℕ
-  pub parts : bytes ≡ text ++ rest
-  pub spells : SpellsForm form text l
+  pub encoding : List ℕ
+  pub parts : bytes ≡ encoding ++ rest
+  pub spells : SpellsForm form encoding l
 
 pub made_takes : {L : Type 0} (form : Form L) (bytes : List ℕ) (l : L) (rest : List ℕ)
     → made_at form bytes ≡ Ok (l, rest) → TakesForm L form bytes l rest
@@ -110,7 +110,7 @@ made_takes {L} (Index n make) bytes l rest e =
     let b = bind_ok (or_bad_integer (integer_at n bytes)) (λ i. Ok (make i.1, i.2)) (l, rest) e in
     let t = index_takes n bytes b.0 b.1 in
     let p = ok_pair (make b.0.1) l b.0.2 rest b.2 in
-    record { text = t.text; parts = t.parts ∙ ap (λ x. t.text ++ x) p.1; spells = (b.0.1, t.holds, sym p.0) }
+    record { encoding = t.encoding; parts = t.parts ∙ ap (λ x. t.encoding ++ x) p.1; spells = (b.0.1, t.holds, sym p.0) }
 made_takes {L} (IndexAndValue n make) bytes l rest e =
     let b = bind_ok (or_bad_integer (integer_at n bytes)) (λ i. value_at (make i.1) i.2) (l, rest) e in
     let c = bind_ok (or_bad_string (string_at 8 b.0.2)) (λ v. Ok (make b.0.1 v.1, v.2)) (l, rest) b.2 in
@@ -118,13 +118,13 @@ made_takes {L} (IndexAndValue n make) bytes l rest e =
     let u = text_takes 8 b.0.2 c.0 c.1 in
     let p = ok_pair (make b.0.1 c.0.1) l c.0.2 rest c.2 in
     record {
-      text = t.text ++ u.text;
-      parts = t.parts ∙ ap (λ x. t.text ++ x) (u.parts ∙ ap (λ x. u.text ++ x) p.1)
-          ∙ sym (append_assoc t.text u.text rest);
+      encoding = t.encoding ++ u.encoding;
+      parts = t.parts ∙ ap (λ x. t.encoding ++ x) (u.parts ∙ ap (λ x. u.encoding ++ x) p.1)
+          ∙ sym (append_assoc t.encoding u.encoding rest);
       spells = (
         b.0.1,
         c.0.1,
-        record { head = t.text; tail = u.text; parts = refl; first = t.holds; second = u.holds },
+        record { head = t.encoding; tail = u.encoding; parts = refl; first = t.holds; second = u.holds },
         sym p.0,
       );
     }
@@ -135,41 +135,41 @@ made_takes {L} (NameAndValue n make) bytes l rest e =
     let u = text_takes 8 b.0.2 c.0 c.1 in
     let p = ok_pair (make b.0.1 c.0.1) l c.0.2 rest c.2 in
     record {
-      text = t.text ++ u.text;
-      parts = t.parts ∙ ap (λ x. t.text ++ x) (u.parts ∙ ap (λ x. u.text ++ x) p.1)
-          ∙ sym (append_assoc t.text u.text rest);
+      encoding = t.encoding ++ u.encoding;
+      parts = t.parts ∙ ap (λ x. t.encoding ++ x) (u.parts ∙ ap (λ x. u.encoding ++ x) p.1)
+          ∙ sym (append_assoc t.encoding u.encoding rest);
       spells = (
         b.0.1,
         c.0.1,
-        record { head = t.text; tail = u.text; parts = refl; first = t.holds; second = u.holds },
+        record { head = t.encoding; tail = u.encoding; parts = refl; first = t.holds; second = u.holds },
         sym p.0,
       );
     }
 
-pub made_again : {L : Type 0} (form : Form L) (text rest : List ℕ) (l : L) → SpellsForm form text l
-    → made_at form (text ++ rest) ≡ Ok (l, rest)
+pub made_again : {L : Type 0} (form : Form L) (encoding rest : List ℕ) (l : L) → SpellsForm form encoding l
+    → made_at form (encoding ++ rest) ≡ Ok (l, rest)
 unfolding made_at
-made_again (Index n make) text rest l s = rw (index_again n text rest s.0 s.1, s.2) refl
-made_again (IndexAndValue n make) text rest l s =
-    let e : text ++ rest ≡ s.2.head ++ (s.2.tail ++ rest) =
+made_again (Index n make) encoding rest l s = rw (index_again n encoding rest s.0 s.1, s.2) refl
+made_again (IndexAndValue n make) encoding rest l s =
+    let e : encoding ++ rest ≡ s.2.head ++ (s.2.tail ++ rest) =
     ap (λ x. x ++ rest) s.2.parts ∙ append_assoc s.2.head s.2.tail rest in
     rw (e, index_again n s.2.head (s.2.tail ++ rest) s.0 s.2.first, text_again 8 s.2.tail rest s.1 s.2.second, s.3) refl
-made_again (NameAndValue n make) text rest l s =
-    let e : text ++ rest ≡ s.2.head ++ (s.2.tail ++ rest) =
+made_again (NameAndValue n make) encoding rest l s =
+    let e : encoding ++ rest ≡ s.2.head ++ (s.2.tail ++ rest) =
     ap (λ x. x ++ rest) s.2.parts ∙ append_assoc s.2.head s.2.tail rest in
     rw (e, text_again n s.2.head (s.2.tail ++ rest) s.0 s.2.first, text_again 8 s.2.tail rest s.1 s.2.second, s.3) refl
 
-pub made_refused : {L : Type 0} (form : Form L) (text rest : List ℕ) (e : FormFault) → RefusesForm form text e
-    → made_at form (text ++ rest) ≡ Err e
+pub made_refused : {L : Type 0} (form : Form L) (encoding rest : List ℕ) (e : FormFault) → RefusesForm form encoding e
+    → made_at form (encoding ++ rest) ≡ Err e
 unfolding made_at
-made_refused (Index n make) text rest e s = rw (index_refused n text rest e s) refl
-made_refused (IndexAndValue n make) text rest e (inl s) = rw (index_refused n text rest e s) refl
-made_refused (IndexAndValue n make) text rest e (inr s) =
-    let q : text ++ rest ≡ s.head ++ (s.tail ++ rest) = ap (λ x. x ++ rest) s.parts ∙ append_assoc s.head s.tail rest in
+made_refused (Index n make) encoding rest e s = rw (index_refused n encoding rest e s) refl
+made_refused (IndexAndValue n make) encoding rest e (inl s) = rw (index_refused n encoding rest e s) refl
+made_refused (IndexAndValue n make) encoding rest e (inr s) =
+    let q : encoding ++ rest ≡ s.head ++ (s.tail ++ rest) = ap (λ x. x ++ rest) s.parts ∙ append_assoc s.head s.tail rest in
     rw (q, index_again n s.head (s.tail ++ rest) s.first.0 s.first.1, text_refused 8 s.tail rest e s.second) refl
-made_refused (NameAndValue n make) text rest e (inl s) = rw (text_refused n text rest e s) refl
-made_refused (NameAndValue n make) text rest e (inr s) =
-    let q : text ++ rest ≡ s.head ++ (s.tail ++ rest) = ap (λ x. x ++ rest) s.parts ∙ append_assoc s.head s.tail rest in
+made_refused (NameAndValue n make) encoding rest e (inl s) = rw (text_refused n encoding rest e s) refl
+made_refused (NameAndValue n make) encoding rest e (inr s) =
+    let q : encoding ++ rest ≡ s.head ++ (s.tail ++ rest) = ap (λ x. x ++ rest) s.parts ∙ append_assoc s.head s.tail rest in
     rw (q, text_again n s.head (s.tail ++ rest) s.first.0 s.first.1, text_refused 8 s.tail rest e s.second) refl
 
 -- a refusal is that of the first reading, or of the second behind it
@@ -202,7 +202,7 @@ pub made_refusal : {L : Type 0} (form : Form L) (bytes : List ℕ) (e : FormFaul
 unfolding made_at
 made_refusal (Index n make) bytes e h c =
     let b = index_refusal n bytes e (index_whole make n bytes e h) c in
-    record { text = b.text; rest = b.rest; parts = b.parts; holds = b.holds }
+    record { encoding = b.encoding; rest = b.rest; parts = b.parts; holds = b.holds }
 made_refusal (IndexAndValue n make) bytes e h c =
     pick (err_cases (or_bad_integer (integer_at n bytes)) (λ i. value_at (make i.1) i.2) e h)
   where
@@ -210,17 +210,17 @@ made_refusal (IndexAndValue n make) bytes e h c =
         ⊎ ((i : ℕ × ℕ × List ℕ) × (or_bad_integer (integer_at n bytes) ≡ Ok i) × (value_at (make i.1) i.2 ≡ Err e))
         → Begins (λ t. RefusesForm (IndexAndValue n make) t e) bytes
     pick (inl k) = let b =
-        index_refusal n bytes e k c in record { text = b.text; rest = b.rest; parts = b.parts; holds = inl b.holds }
+        index_refusal n bytes e k c in record { encoding = b.encoding; rest = b.rest; parts = b.parts; holds = inl b.holds }
     pick (inr k) =
         let t = index_takes n bytes k.0 k.1 in
         let b = text_refusal 8 k.0.2 e (value_whole (make k.0.1) k.0.2 e k.2) c in
         record {
-          text = t.text ++ b.text;
+          encoding = t.encoding ++ b.encoding;
           rest = b.rest;
-          parts = t.parts ∙ ap (λ x. t.text ++ x) b.parts ∙ sym (append_assoc t.text b.text b.rest);
+          parts = t.parts ∙ ap (λ x. t.encoding ++ x) b.parts ∙ sym (append_assoc t.encoding b.encoding b.rest);
           holds = inr (record {
-            head = t.text;
-            tail = b.text;
+            head = t.encoding;
+            tail = b.encoding;
             parts = refl;
             first = (k.0.1, t.holds);
             second = b.holds;
@@ -233,17 +233,17 @@ made_refusal (NameAndValue n make) bytes e h c =
         ⊎ ((m : ℕ × List ℕ × List ℕ) × (or_bad_string (string_at n bytes) ≡ Ok m) × (value_at (make m.1) m.2 ≡ Err e))
         → Begins (λ t. RefusesForm (NameAndValue n make) t e) bytes
     pick (inl k) = let b =
-        text_refusal n bytes e k c in record { text = b.text; rest = b.rest; parts = b.parts; holds = inl b.holds }
+        text_refusal n bytes e k c in record { encoding = b.encoding; rest = b.rest; parts = b.parts; holds = inl b.holds }
     pick (inr k) =
         let t = text_takes n bytes k.0 k.1 in
         let b = text_refusal 8 k.0.2 e (value_whole (make k.0.1) k.0.2 e k.2) c in
         record {
-          text = t.text ++ b.text;
+          encoding = t.encoding ++ b.encoding;
           rest = b.rest;
-          parts = t.parts ∙ ap (λ x. t.text ++ x) b.parts ∙ sym (append_assoc t.text b.text b.rest);
+          parts = t.parts ∙ ap (λ x. t.encoding ++ x) b.parts ∙ sym (append_assoc t.encoding b.encoding b.rest);
           holds = inr (record {
-            head = t.text;
-            tail = b.text;
+            head = t.encoding;
+            tail = b.encoding;
             parts = refl;
             first = (k.0.1, t.holds);
             second = b.holds;

@@ -2,26 +2,26 @@
 use Rattle.std.proofs.Common.{ℕ, ◌≡◌, List, [], ◌∷◌, None, Err, refl}
 use Rattle.std.specs.Prelude.{codes}
 use Rattle.qpack_spec.specs.Integer.{written_groups, groups_at, integer_at, written_integer}
-use Rattle.qpack_spec.specs.Huffman.{bits_of, ones, bytes_by_length, bytes_of_length, first_word, word_length, word_of}
-use Rattle.qpack_spec.specs.Huffman.{number_from, packed, payload_of, word_at, is_padding, item_at, text_at}
+use Rattle.qpack_spec.specs.Huffman.{bits_of, ones, bytes_by_length, bytes_of_length, first_code, code_length, code_of}
+use Rattle.qpack_spec.specs.Huffman.{number_from, bytes_of_bits, payload_of, code_at, is_padding, item_at, text_at}
 use Rattle.qpack_spec.specs.Huffman.{text_of_bits}
 use Rattle.qpack_spec.specs.Text.{string_at, written_string}
 use Rattle.qpack_spec.specs.Field.{Field}
-use Rattle.qpack_spec.specs.StaticTable.{field, static_table, static_place, static_name_place}
+use Rattle.qpack_spec.specs.StaticTable.{field, static_table, static_index, static_name_index}
 use Rattle.qpack_spec.specs.Form.{made_at, form_at}
 use Rattle.qpack_spec.specs.Line.{line_form, written_line, written_lines}
-use Rattle.qpack_spec.specs.Instruction.{Acknowledgment, instruction_form, reply_form, written_instruction}
-use Rattle.qpack_spec.specs.Instruction.{written_instructions, written_reply, written_replies}
+use Rattle.qpack_spec.specs.Instruction.{Acknowledgment, encoder_instruction_form, decoder_instruction_form, written_encoder_instruction}
+use Rattle.qpack_spec.specs.Instruction.{written_encoder_instructions, written_decoder_instruction, written_decoder_instructions}
 use Rattle.qpack_spec.specs.Prefix.{prefix_for, required_at, read_required, read_base, read_prefix, written_prefix}
 use Rattle.qpack_spec.specs.Prefix.{prefix_at}
-use Rattle.qpack_spec.specs.Window.{excess, entry, recent, insertion, effect, after, UnknownStream}
-use Rattle.qpack_spec.specs.History.{window_of, whole, grown}
-use Rattle.qpack_spec.specs.Reading.{static_field, relative_field, post_base_field, line_field, fields_of, names_of}
-use Rattle.qpack_spec.specs.Reading.{references_of, greatest, reading}
+use Rattle.qpack_spec.specs.Window.{eviction_count, absolute_entry, relative_entry, insertion, effect, window_after, UnknownStream}
+use Rattle.qpack_spec.specs.History.{window_of, whole_window, history_after}
+use Rattle.qpack_spec.specs.Reading.{static_field, relative_field, post_base_field, line_field, fields_of, references_of_line}
+use Rattle.qpack_spec.specs.Reading.{references_of, greatest_of, reading}
 use Rattle.qpack_spec.specs.BlockReading.{fields_at, reading_of_bytes, written_block}
-use Rattle.qpack_spec.specs.Table.{Table, empty_table, window, track, naming, is_held, none_held, has_room, may_name}
-use Rattle.qpack_spec.specs.Table.{with_entry, last_place, newest, put, resized, applied, commit, unnamed}
-use Rattle.qpack_spec.specs.Table.{without_oldest, without_stream, raised, heard, put_entry}
+use Rattle.qpack_spec.specs.Table.{Table, empty_table, window, with_number, with_reference, is_evictable, all_evictable, has_room, may_reference}
+use Rattle.qpack_spec.specs.Table.{with_entry, last_position, newest_index, put, with_capacity, apply_encoder_instruction, commit, without_references}
+use Rattle.qpack_spec.specs.Table.{without_oldest, without_stream, with_increment, apply_decoder_instruction, put_entry}
 use Rattle.qpack_spec.specs.Rule.{instruction_for, rule_field, rule}
 use Rattle.qpack_spec.specs.Handle.{AtRelative, NotFound, find_field, Insertion, Duplicated, InsertedWithStaticName}
 use Rattle.qpack_spec.specs.Handle.{InsertedWithName, Inserted, NotInserted, insert_field}
@@ -48,7 +48,7 @@ names_ab =
 -- a table at which a block was given up behind an insertion, and one at which a block was written
 given_up_once : Table
 given_up_once =
-    unnamed (behind 0 (empty_table 64 None 100)
+    without_references (behind 0 (empty_table 64 None 100)
     ((field (codes "foo") (codes "bar")) ∷ (field (codes "foo2") (codes "bar")) ∷ []))
 
 written_once : Table
@@ -56,14 +56,14 @@ written_once = commit (behind 0 (empty_table 4096 None 1) ((field (codes "foo") 
 
 -- all that has to unfold
 rows : ℕ
-unfolding excess written_groups groups_at integer_at written_integer bits_of ones bytes_by_length bytes_of_length
-    first_word word_length word_of number_from packed payload_of word_at is_padding item_at text_at text_of_bits
-    string_at written_string static_table static_place static_name_place line_form written_line written_lines
-    instruction_form reply_form written_instruction written_instructions written_reply written_replies made_at form_at
-    prefix_for required_at read_required read_base read_prefix written_prefix prefix_at entry recent insertion effect
-    after window_of whole grown static_field relative_field post_base_field line_field fields_of names_of references_of
-    greatest reading fields_at reading_of_bytes written_block window track naming is_held none_held has_room may_name
-    with_entry last_place newest put resized applied commit unnamed without_oldest without_stream raised heard
+unfolding eviction_count written_groups groups_at integer_at written_integer bits_of ones bytes_by_length bytes_of_length
+    first_code code_length code_of number_from bytes_of_bits payload_of code_at is_padding item_at text_at text_of_bits
+    string_at written_string static_table static_index static_name_index line_form written_line written_lines
+    encoder_instruction_form decoder_instruction_form written_encoder_instruction written_encoder_instructions written_decoder_instruction written_decoder_instructions made_at form_at
+    prefix_for required_at read_required read_base read_prefix written_prefix prefix_at absolute_entry relative_entry insertion effect
+    window_after window_of whole_window history_after static_field relative_field post_base_field line_field fields_of references_of_line references_of
+    greatest_of reading fields_at reading_of_bytes written_block window with_number with_reference is_evictable all_evictable has_room may_reference
+    with_entry last_position newest_index put with_capacity apply_encoder_instruction commit without_references without_oldest without_stream with_increment apply_decoder_instruction
     instruction_for rule_field rule putting asked behind names_ab given_up_once written_once find_field insert_field
 rows = 0
 
@@ -93,7 +93,7 @@ unfolding rows
 no_room_unreceived = refl
 
 -- once it is received there is room
-room_received : (asked 1 (raised given_up_once 1) ((field (codes "foo2") (codes "bar")) ∷ [])) ≡ Inserted 0 2 ∷ []
+room_received : (asked 1 (with_increment given_up_once 1) ((field (codes "foo2") (codes "bar")) ∷ [])) ≡ Inserted 0 2 ∷ []
 unfolding rows
 room_received = refl
 
@@ -108,7 +108,7 @@ unfolding rows
 at_limit_insert = refl
 
 -- once it is received it is found
-at_limit_received : ((find_field (raised written_once 1) 1 (field (codes "foo") (codes "bar"))).lookup) ≡ AtRelative 0 1
+at_limit_received : ((find_field (with_increment written_once 1) 1 (field (codes "foo") (codes "bar"))).lookup) ≡ AtRelative 0 1
 unfolding rows
 at_limit_received = refl
 
@@ -138,6 +138,6 @@ unfolding rows
 static_name = refl
 
 -- a block that names nothing is not open
-not_opened : (heard (commit (empty_table 4096 None 100) 4 0) (Acknowledgment 4)) ≡ Err (UnknownStream 4)
+not_opened : (apply_decoder_instruction (commit (empty_table 4096 None 100) 4 0) (Acknowledgment 4)) ≡ Err (UnknownStream 4)
 unfolding rows
 not_opened = refl

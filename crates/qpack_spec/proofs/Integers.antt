@@ -15,11 +15,11 @@ use Rattle.qpack_spec.proofs.Results.{bind_ok, bind_err, chosen, ok_pair, ok_tri
 -- ---- groups
 
 record TakesGroups (k : ℕ) (cs : List ℕ) (sum : ℕ) (rest : List ℕ) : Type 0 where
-  pub text : List ℕ
-  pub parts : cs ≡ text ++ rest
-  pub ends : EndsAtLast text
-  pub few : length text ≤ k
-  pub sum_is : sum ≡ groups_sum text
+  pub encoding : List ℕ
+  pub parts : cs ≡ encoding ++ rest
+  pub ends : EndsAtLast encoding
+  pub few : length encoding ≤ k
+  pub sum_is : sum ≡ groups_sum encoding
 
 pub ends_cons : (c : ℕ) (cs : List ℕ) → 128 ≤ c → EndsAtLast cs → EndsAtLast (c ∷ cs)
 ends_cons c [] h e = absurd e
@@ -36,7 +36,7 @@ groups_take (suc k) (c ∷ cs) sum rest e =
           let low : c < 128 = ltb-true _ _ h.0 in
           let p = ok_pair c sum cs rest h.1 in
           record {
-            text = c ∷ [];
+            encoding = c ∷ [];
             parts = ap (λ (t : List ℕ). c ∷ t) p.1;
             ends = low;
             few = omega arith;
@@ -50,18 +50,18 @@ groups_take (suc k) (c ∷ cs) sum rest e =
           let s = p.0 in
           let r = p.1 in
           record {
-            text = c ∷ t.text;
+            encoding = c ∷ t.encoding;
             parts = ap (λ (u : List ℕ). c ∷ u) t.parts
-                ∙ ap (λ (u : List ℕ). c ∷ (t.text ++ u)) r;
-            ends = ends_cons c t.text high t.ends;
+                ∙ ap (λ (u : List ℕ). c ∷ (t.encoding ++ u)) r;
+            ends = ends_cons c t.encoding high t.ends;
             few =
                 omega (arith, t.few);
             sum_is = sym s ∙ ap (λ (n : ℕ). c % 128 + 128 * n) t.sum_is;
           }
     ]
 
-groups_again : (k : ℕ) (text rest : List ℕ) → EndsAtLast text → length text ≤ k
-    → groups_at k (text ++ rest) ≡ Ok (groups_sum text, rest)
+groups_again : (k : ℕ) (encoding rest : List ℕ) → EndsAtLast encoding → length encoding ≤ k
+    → groups_at k (encoding ++ rest) ≡ Ok (groups_sum encoding, rest)
 unfolding groups_at
 groups_again k [] rest e few = absurd e
 groups_again zero (c ∷ cs) rest e few = absurd (omega arith)
@@ -71,8 +71,8 @@ groups_again (suc k) (c ∷ []) rest e few =
 groups_again (suc k) (c ∷ d ∷ cs) rest e few =
     rw (le-ltb c 128 e.0, groups_again k (d ∷ cs) rest e.1 (omega arith)) refl
 
-groups_overflow : (k : ℕ) (text rest : List ℕ) → length text ≡ k → AllByRecursion (λ c. 128 ≤ c) text
-    → groups_at k (text ++ rest) ≡ Err Overflow
+groups_overflow : (k : ℕ) (encoding rest : List ℕ) → length encoding ≡ k → AllByRecursion (λ c. 128 ≤ c) encoding
+    → groups_at k (encoding ++ rest) ≡ Err Overflow
 unfolding groups_at
 groups_overflow zero [] rest len all = refl
 groups_overflow zero (c ∷ cs) rest len all = absurd (omega arith)
@@ -81,15 +81,15 @@ groups_overflow (suc k) (c ∷ cs) rest len all =
     rw (le-ltb c 128 all.0, groups_overflow k cs rest (omega arith) all.1) refl
 
 record PassesGroups (k : ℕ) (cs : List ℕ) : Type 0 where
-  pub text : List ℕ
+  pub encoding : List ℕ
   pub rest : List ℕ
-  pub parts : cs ≡ text ++ rest
-  pub len : length text ≡ k
-  pub high : AllByRecursion (λ c. 128 ≤ c) text
+  pub parts : cs ≡ encoding ++ rest
+  pub len : length encoding ≡ k
+  pub high : AllByRecursion (λ c. 128 ≤ c) encoding
 
 groups_pass : (k : ℕ) (cs : List ℕ) → groups_at k cs ≡ Err Overflow → PassesGroups k cs
 unfolding groups_at
-groups_pass zero cs e = record { text = []; rest = cs; parts = refl; len = refl; high = tt }
+groups_pass zero cs e = record { encoding = []; rest = cs; parts = refl; len = refl; high = tt }
 groups_pass (suc k) [] e = absurd cc
 groups_pass (suc k) (c ∷ cs) e =
     elim (chosen (ltb c 128) (Ok (c, cs)) (groups_at k cs >>= λ r. Ok (c % 128 + 128 * r.0, r.1)) (Err Overflow) e) [
@@ -97,7 +97,7 @@ groups_pass (suc k) (c ∷ cs) e =
       | inr h ↦
           let p = groups_pass k cs (bind_err (groups_at k cs) (λ r. (c % 128 + 128 * r.0, r.1)) Overflow h.1) in
           record {
-            text = c ∷ p.text;
+            encoding = c ∷ p.encoding;
             rest = p.rest;
             parts = ap (λ (u : List ℕ). c ∷ u) p.parts;
             len = omega (arith, p.len);
@@ -111,9 +111,9 @@ full_prefix : (n b : ℕ) → full n ≤ b % 2 ^ n → b % 2 ^ n ≡ full n
 full_prefix n b h = let p = pow_pos n in let m = mod_below b (2 ^ n) p in omega arith
 
 pub record TakesInteger (n : ℕ) (bytes : List ℕ) (flags value : ℕ) (rest : List ℕ) : Type 0 where
-  pub text : List ℕ
-  pub parts : bytes ≡ text ++ rest
-  pub spells : SpellsInteger n text flags value
+  pub encoding : List ℕ
+  pub parts : bytes ≡ encoding ++ rest
+  pub spells : SpellsInteger n encoding flags value
 
 pub integer_takes : (n : ℕ) (bytes : List ℕ) (flags value : ℕ) (rest : List ℕ)
     → integer_at n bytes ≡ Ok (flags, value, rest) → TakesInteger n bytes flags value rest
@@ -125,7 +125,7 @@ integer_takes n (b ∷ cs) flags value rest e =
       | inl h ↦
           let p = ok_triple (b / 2 ^ n) flags (b % 2 ^ n) value cs rest h.1 in
           record {
-            text = b ∷ [];
+            encoding = b ∷ [];
             parts = ap (λ (t : List ℕ). b ∷ t) p.2;
             spells = record {
               stands = (
@@ -145,9 +145,9 @@ integer_takes n (b ∷ cs) flags value rest e =
           let t = groups_take 9 cs k.0.0 k.0.1 k.1 in
           let p : b % 2 ^ n ≡ full n = full_prefix n b (ltb-false _ _ h.0) in
           record {
-            text = b ∷ t.text;
+            encoding = b ∷ t.encoding;
             parts = ap (λ (u : List ℕ). b ∷ u) t.parts
-                ∙ ap (λ (u : List ℕ). b ∷ (t.text ++ u)) r;
+                ∙ ap (λ (u : List ℕ). b ∷ (t.encoding ++ u)) r;
             spells =
                 record {
                   stands = (
@@ -164,8 +164,8 @@ integer_takes n (b ∷ cs) flags value rest e =
           }
     ]
 
-pub integer_again : (n : ℕ) (text rest : List ℕ) (flags value : ℕ) → SpellsInteger n text flags value
-    → integer_at n (text ++ rest) ≡ Ok (flags, value, rest)
+pub integer_again : (n : ℕ) (encoding rest : List ℕ) (flags value : ℕ) → SpellsInteger n encoding flags value
+    → integer_at n (encoding ++ rest) ≡ Ok (flags, value, rest)
 unfolding integer_at
 integer_again n [] rest flags value s = absurd s.stands
 integer_again n (b ∷ cs) rest flags value s =
@@ -181,8 +181,8 @@ integer_again n (b ∷ cs) rest flags value s =
           ) refl
     ]
 
-pub integer_overflows : (n : ℕ) (text rest : List ℕ) → OverflowsInteger n text
-    → integer_at n (text ++ rest) ≡ Err Overflow
+pub integer_overflows : (n : ℕ) (encoding rest : List ℕ) → OverflowsInteger n encoding
+    → integer_at n (encoding ++ rest) ≡ Err Overflow
 unfolding integer_at
 integer_overflows n [] rest o = absurd o
 integer_overflows n (b ∷ cs) rest o =
@@ -198,7 +198,7 @@ overflow_begins n (b ∷ cs) e =
       | inr h ↦
           let p = groups_pass 9 cs (bind_err (groups_at 9 cs) (λ r. (b / 2 ^ n, full n + r.0, r.1)) Overflow h.1) in
           record {
-            text = b ∷ p.text;
+            encoding = b ∷ p.encoding;
             rest = p.rest;
             parts = ap (λ (u : List ℕ). b ∷ u) p.parts;
             holds = (full_prefix n b (ltb-false _ _ h.0), p.len, p.high);
@@ -216,15 +216,15 @@ truncated_end : (n : ℕ) (bytes : List ℕ) → TruncatesInteger n bytes → in
 truncated_end n bytes t = go (integer_at n bytes) refl
   where
     go : (r : Result (ℕ × ℕ × List ℕ) IntegerFault) → integer_at n bytes ≡ r → r ≡ Err UnexpectedEnd
-    go (Ok x) e = let k = integer_takes n bytes x.0 x.1 x.2 e in absurd ((t k.text x.2 k.parts).0 x.0 x.1 k.spells)
-    go (Err Overflow) e = let k = overflow_begins n bytes e in absurd ((t k.text k.rest k.parts).1 k.holds)
+    go (Ok x) e = let k = integer_takes n bytes x.0 x.1 x.2 e in absurd ((t k.encoding x.2 k.parts).0 x.0 x.1 k.spells)
+    go (Err Overflow) e = let k = overflow_begins n bytes e in absurd ((t k.encoding k.rest k.parts).1 k.holds)
     go (Err UnexpectedEnd) e = refl
 
 -- ---- the laws
 
 pub reads_spellings : ReadingFindsSpellings
 reads_spellings n bytes flags value rest = (
-  λ e. let t = integer_takes n bytes flags value rest e in (t.text, t.parts, t.spells),
+  λ e. let t = integer_takes n bytes flags value rest e in (t.encoding, t.parts, t.spells),
   λ p. ap (integer_at n) p.1 ∙ integer_again n p.0 rest flags value p.2,
 )
 
@@ -232,15 +232,15 @@ pub reads_faults : ReadingFindsFaults
 reads_faults n bytes = (
   (
     overflow_begins n bytes,
-    λ b. ap (integer_at n) b.parts ∙ integer_overflows n b.text b.rest b.holds,
+    λ b. ap (integer_at n) b.parts ∙ integer_overflows n b.encoding b.rest b.holds,
   ),
   (end_truncated n bytes, truncated_end n bytes),
 )
 
 pub one_value : IntegersHaveOneValue
-one_value n text f g v w p q =
-    let r = integer_again n text [] f v p in
-    let s = integer_again n text [] g w q in
+one_value n encoding f g v w p q =
+    let r = integer_again n encoding [] f v p in
+    let s = integer_again n encoding [] g w q in
     let t = ok_triple f g v w [] [] (sym r ∙ s) in
     (t.0, t.1)
 

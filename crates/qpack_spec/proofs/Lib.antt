@@ -9,9 +9,9 @@ pub mod Prefixes
 pub mod Places
 pub mod References
 pub mod Drafts
-pub mod WordTable
+pub mod CodeTable
 pub mod Bits
-pub mod Words
+pub mod Codes
 pub mod Payloads
 pub mod PayloadFaults
 pub mod WrittenPayloads

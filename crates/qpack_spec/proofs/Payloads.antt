@@ -4,13 +4,13 @@ use Rattle.std.proofs.Common.{Result, Ok, Err, refl, sym, ap, subst, ◌∙◌, 
 use Rattle.std.specs.Prelude.{◌==◌}
 use Rattle.std.proofs.lemmas.Bool.{eqb-true}
 use Rattle.std.proofs.lemmas.List.Concat.{flat_map-cons}
-use Rattle.qpack_spec.specs.Huffman.{HuffmanFault, MissingBits, bytes_by_length, word_of, word_at, is_padding, item_of}
+use Rattle.qpack_spec.specs.Huffman.{HuffmanFault, MissingBits, bytes_by_length, code_of, code_at, is_padding, item_of}
 use Rattle.qpack_spec.specs.Huffman.{item_at, with_front, text_after, text_at, text_of_bits, ones, AreBytes}
 use Rattle.qpack_spec.specs.Huffman.{bits_of_text, BitsMean}
 use Rattle.qpack_spec.proofs.Results.{chosen, ok_is}
 use Rattle.qpack_spec.proofs.Bits.{AreBits, AreOnes, bits_behind, ones_are, ones_all, ones_length}
-use Rattle.qpack_spec.proofs.WordTable.{ones_missing}
-use Rattle.qpack_spec.proofs.Words.{word_again, word_found, word_shorter}
+use Rattle.qpack_spec.proofs.CodeTable.{ones_missing}
+use Rattle.qpack_spec.proofs.Codes.{code_again, code_found, code_shorter}
 
 -- ---- padding
 
@@ -42,13 +42,13 @@ pub record IsEnd (bits : List ℕ) : Type 0 where
 pub end_is : (bits : List ℕ) → is_padding 8 bits ≡ true → IsEnd bits
 end_is bits e = let p = pad_is 8 bits e in record { count = length bits; few = p.0; is = ones_are bits p.1 }
 
-pad_missing : (bits : List ℕ) → is_padding 8 bits ≡ true → word_at bytes_by_length 0 0 bits ≡ Err MissingBits
-pad_missing bits e = let p = end_is bits e in ap (word_at bytes_by_length 0 0) p.is ∙ ones_missing p.count p.few
+pad_missing : (bits : List ℕ) → is_padding 8 bits ≡ true → code_at bytes_by_length 0 0 bits ≡ Err MissingBits
+pad_missing bits e = let p = end_is bits e in ap (code_at bytes_by_length 0 0) p.is ∙ ones_missing p.count p.few
 
--- what begins with a word is not the end
-pub word_no_end : (bits : List ℕ) (b : ℕ) (rest : List ℕ) → word_at bytes_by_length 0 0 bits ≡ Ok (b, rest)
+-- what begins with a code is not the end
+pub code_no_end : (bits : List ℕ) (b : ℕ) (rest : List ℕ) → code_at bytes_by_length 0 0 bits ≡ Ok (b, rest)
     → is_padding 8 bits ≡ false
-word_no_end bits b rest e = go (is_padding 8 bits) refl
+code_no_end bits b rest e = go (is_padding 8 bits) refl
   where
     go : (p : Bool) → is_padding 8 bits ≡ p → p ≡ false
     go true h = absurd (let m = pad_missing bits h in cc)
@@ -61,41 +61,41 @@ front_is : (b : ℕ) (r : Result (List ℕ) HuffmanFault) (text : List ℕ) → 
 front_is b (Ok t) text e = (t, refl, ok_is (b ∷ t) text e)
 front_is b (Err f) text e = absurd cc
 
--- a word, and then bits that mean a text
-more_text : (bits rest text : List ℕ) (b : ℕ) → b < 256 → bits ≡ word_of b ++ rest → BitsMean rest text
+-- a code, and then bits that mean a text
+more_text : (bits rest text : List ℕ) (b : ℕ) → b < 256 → bits ≡ code_of b ++ rest → BitsMean rest text
     → BitsMean bits (b ∷ text)
 more_text bits rest text b h e m = record {
   bytes = (h, m.bytes);
   padding = m.padding;
   few = m.few;
-  parts = e ∙ ap (λ (l : List ℕ). word_of b ++ l) m.parts
-      ∙ sym (append_assoc (word_of b) (bits_of_text text) (ones m.padding))
-      ∙ ap (λ (l : List ℕ). l ++ ones m.padding) (sym (flat_map-cons word_of b text));
+  parts = e ∙ ap (λ (l : List ℕ). code_of b ++ l) m.parts
+      ∙ sym (append_assoc (code_of b) (bits_of_text text) (ones m.padding))
+      ∙ ap (λ (l : List ℕ). l ++ ones m.padding) (sym (flat_map-cons code_of b text));
 }
 
 abbrev TakesAt : ℕ → Type 0
 TakesAt k = (bits text : List ℕ) → length bits < k → AreBits bits → text_at k bits ≡ Ok text → BitsMean bits text
 
-at_word : (k : ℕ) (bits text : List ℕ) (r : Result (ℕ × List ℕ) HuffmanFault) → TakesAt k → length bits < suc k
-    → AreBits bits → word_at bytes_by_length 0 0 bits ≡ r
+at_code : (k : ℕ) (bits text : List ℕ) (r : Result (ℕ × List ℕ) HuffmanFault) → TakesAt k → length bits < suc k
+    → AreBits bits → code_at bytes_by_length 0 0 bits ≡ r
     → text_after (item_of r).0 (text_at k (item_of r).1) ≡ Ok text → BitsMean bits text
-at_word k bits text (Ok x) ih lt ok w h =
+at_code k bits text (Ok x) ih lt ok w h =
     let f = front_is x.0 (text_at k x.1) text h in
-    let t = word_found bits x.0 x.1 ok w in
-    let s = word_shorter bytes_by_length 0 0 bits x.1 x.0 w in
-    let left = bits_behind (word_of x.0) x.1 (subst AreBits t.parts ok) in
+    let t = code_found bits x.0 x.1 ok w in
+    let s = code_shorter bytes_by_length 0 0 bits x.1 x.0 w in
+    let left = bits_behind (code_of x.0) x.1 (subst AreBits t.parts ok) in
     subst (BitsMean bits) f.2 (more_text bits x.1 f.0 x.0 t.byte t.parts (ih x.1 f.0 (omega arith) left f.1))
-at_word k bits text (Err f) ih lt ok w h = absurd cc
+at_code k bits text (Err f) ih lt ok w h = absurd cc
 
 at_item : (k : ℕ) (bits text : List ℕ) (p : Bool) → TakesAt k → length bits < suc k → AreBits bits
     → is_padding 8 bits ≡ p
-    → text_after (cond p (None, []) (item_of (word_at bytes_by_length 0 0 bits))).0
-    (text_at k (cond p (None, []) (item_of (word_at bytes_by_length 0 0 bits))).1) ≡ Ok text
+    → text_after (cond p (None, []) (item_of (code_at bytes_by_length 0 0 bits))).0
+    (text_at k (cond p (None, []) (item_of (code_at bytes_by_length 0 0 bits))).1) ≡ Ok text
     → BitsMean bits text
 at_item k bits text true ih lt ok p h =
     let q = end_is bits p in
     subst (BitsMean bits) (ok_is [] text h) (record { bytes = tt; padding = q.count; few = q.few; parts = q.is })
-at_item k bits text false ih lt ok p h = at_word k bits text (word_at bytes_by_length 0 0 bits) ih lt ok refl h
+at_item k bits text false ih lt ok p h = at_code k bits text (code_at bytes_by_length 0 0 bits) ih lt ok refl h
 
 text_takes : (k : ℕ) (bits text : List ℕ) → length bits < k → AreBits bits → text_at k bits ≡ Ok text
     → BitsMean bits text
@@ -108,7 +108,7 @@ pub text_means : (bits text : List ℕ) → AreBits bits → text_of_bits bits �
 unfolding text_of_bits
 text_means bits text ok e = text_takes (suc (length bits)) bits text (omega arith) ok e
 
--- The words of a text in front of a rest are read, and then the rest.
+-- The codes of a text in front of a rest are read, and then the rest.
 pub record ReadsOn (k : ℕ) (text rest bits : List ℕ) : Type 0 where
   pub left : ℕ
   pub enough : length rest < left
@@ -123,33 +123,33 @@ front_none : (r : Result (List ℕ) HuffmanFault) → r ≡ with_front [] r
 front_none (Ok t) = refl
 front_none (Err f) = refl
 
-word_step : (k b : ℕ) (bits rest : List ℕ) → is_padding 8 bits ≡ false
-    → word_at bytes_by_length 0 0 bits ≡ Ok (b, rest) → text_at (suc k) bits ≡ with_front (b ∷ []) (text_at k rest)
+code_step : (k b : ℕ) (bits rest : List ℕ) → is_padding 8 bits ≡ false
+    → code_at bytes_by_length 0 0 bits ≡ Ok (b, rest) → text_at (suc k) bits ≡ with_front (b ∷ []) (text_at k rest)
 unfolding text_at item_at
-word_step k b bits rest p e = rw (p, e) refl
+code_step k b bits rest p e = rw (p, e) refl
 
-pub words_read : (k : ℕ) (text rest bits : List ℕ) → length bits < k → AreBytes text → bits ≡ bits_of_text text ++ rest
+pub codes_read : (k : ℕ) (text rest bits : List ℕ) → length bits < k → AreBytes text → bits ≡ bits_of_text text ++ rest
     → ReadsOn k text rest bits
-words_read zero text rest bits lt ok e = absurd (omega arith)
-words_read (suc k) [] rest bits lt ok e =
+codes_read zero text rest bits lt ok e = absurd (omega arith)
+codes_read (suc k) [] rest bits lt ok e =
     record {
       left = suc k;
       enough = omega (arith, ap length e);
       is = ap (text_at (suc k)) e
           ∙ front_none (text_at (suc k) rest);
     }
-words_read (suc k) (b ∷ text) rest bits lt ok e =
-    let parts : bits ≡ word_of b ++ (bits_of_text text ++ rest) =
-    e ∙ ap (λ (l : List ℕ). l ++ rest) (flat_map-cons word_of b text)
-    ∙ append_assoc (word_of b) (bits_of_text text) rest in
-    let read : word_at bytes_by_length 0 0 bits ≡ Ok (b, bits_of_text text ++ rest) =
-    ap (word_at bytes_by_length 0 0) parts ∙ word_again b (bits_of_text text ++ rest) ok.0 in
-    let shorter = word_shorter bytes_by_length 0 0 bits (bits_of_text text ++ rest) b read in
-    let t = words_read k text rest (bits_of_text text ++ rest) (omega arith) ok.1 refl in
+codes_read (suc k) (b ∷ text) rest bits lt ok e =
+    let parts : bits ≡ code_of b ++ (bits_of_text text ++ rest) =
+    e ∙ ap (λ (l : List ℕ). l ++ rest) (flat_map-cons code_of b text)
+    ∙ append_assoc (code_of b) (bits_of_text text) rest in
+    let read : code_at bytes_by_length 0 0 bits ≡ Ok (b, bits_of_text text ++ rest) =
+    ap (code_at bytes_by_length 0 0) parts ∙ code_again b (bits_of_text text ++ rest) ok.0 in
+    let shorter = code_shorter bytes_by_length 0 0 bits (bits_of_text text ++ rest) b read in
+    let t = codes_read k text rest (bits_of_text text ++ rest) (omega arith) ok.1 refl in
     record {
       left = t.left;
       enough = t.enough;
-      is = word_step k b bits (bits_of_text text ++ rest) (word_no_end bits b (bits_of_text text ++ rest) read) read
+      is = code_step k b bits (bits_of_text text ++ rest) (code_no_end bits b (bits_of_text text ++ rest) read) read
           ∙ ap (with_front (b ∷ [])) t.is ∙ fronts_join b text (text_at t.left rest);
     }
 
@@ -162,6 +162,6 @@ end_read (suc k) bits lt e = rw e refl
 pub text_again : (bits text : List ℕ) → BitsMean bits text → text_of_bits bits ≡ Ok text
 unfolding text_of_bits
 text_again bits text m =
-    let t = words_read (suc (length bits)) text (ones m.padding) bits (omega arith) m.bytes m.parts in
+    let t = codes_read (suc (length bits)) text (ones m.padding) bits (omega arith) m.bytes m.parts in
     let e = end_read t.left (ones m.padding) t.enough (ones_end m.padding m.few) in
     t.is ∙ ap (with_front text) e ∙ ap (λ (l : List ℕ). Ok l) (append-nil text)

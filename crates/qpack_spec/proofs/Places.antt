@@ -1,10 +1,10 @@
--- Places found in lists and tables, the instruction of an insertion, and what is not held.
+-- Positions found in lists and tables, the instruction of an insertion, and which entries are evictable.
 use Rattle.std.proofs.Common.{length-append, ℕ, zero, suc, ◌+◌, ◌-◌, ◌^◌, ◌<◌, ◌≤◌, ◌≡◌, Bool, true, false, List, []}
 use Rattle.std.proofs.Common.{◌∷◌, ◌++◌, length, drop, take, Option, None, Some, Ok, refl, sym, ap, ◌∙◌, subst, inl}
 use Rattle.std.proofs.Common.{inr, ◌⊎◌, arith, length-drop}
 use Rattle.std.specs.List.{AllByRecursion, slice_get, list_any}
 use Rattle.std.specs.Option.{option_map}
-use Rattle.std.specs.Prelude.{nat_eq, MatchOption}
+use Rattle.std.specs.Prelude.{nat_eq, not, MatchOption}
 use Rattle.std.specs.Str.{bytes_eq}
 use Rattle.std.proofs.lemmas.Slice.Eq.{bytes_eq-Decides}
 use Rattle.std.proofs.lemmas.Bool.{or_cases, eqb-true, cond_both, lt-ltb, le-leb, eq-eqb, ne_eqb, or_parts, and_parts}
@@ -12,10 +12,10 @@ use Rattle.std.proofs.lemmas.Bool.{or_right, or_left, cases_lt, ltb-false}
 use Rattle.std.proofs.lemmas.Option.{slice_get_within, same_Some}
 use Rattle.std.proofs.lemmas.List.{length-map, length-take-le, drop-map, map-append}
 use Rattle.qpack_spec.specs.Field.{Field, field_size, has_name, is_field}
-use Rattle.qpack_spec.specs.StaticTable.{static_table, IsLeastStatic, NoStatic, static_place, static_name_place}
-use Rattle.qpack_spec.specs.Window.{Window, total, recent, insertion, effect, with_value, after, Inserts}
-use Rattle.qpack_spec.specs.Table.{Entry, OpenBlock, Table, fields_in, window, count, has_number, track, tracked}
-use Rattle.qpack_spec.specs.Table.{is_held, none_held, can_drop, evicted_for, with_entry, later, last_place, newest}
+use Rattle.qpack_spec.specs.StaticTable.{static_table, IsLeastStatic, NoStatic, static_index, static_name_index}
+use Rattle.qpack_spec.specs.Window.{Window, window_insert_count, relative_entry, insertion, effect, with_value, window_after, Inserts}
+use Rattle.qpack_spec.specs.Table.{Entry, UnacknowledgedBlock, Table, fields_in, window, insert_count, has_number, with_number, with_numbers}
+use Rattle.qpack_spec.specs.Table.{is_evictable, all_evictable, can_evict, eviction_count_for, with_entry, later_position, last_position, newest_index}
 use Rattle.qpack_spec.specs.Rule.{by_name, by_static_name, by_equal, instruction_for}
 use Rattle.qpack_spec.proofs.StaticPlaces.{place_is_least, name_place_is_least}
 use Rattle.qpack_spec.proofs.Lists.{every_append, every_left, every_right, get_drop, every_both, every_weaker}
@@ -27,13 +27,13 @@ record FoundAt (X : Type 0) (p : X → Bool) (xs : List X) (i : ℕ) : Type 0 wh
   pub there : slice_get xs i ≡ Some item
   pub passes : p item ≡ true
 
-last_found : {X : Type 0} (p : X → Bool) (xs : List X) (i : ℕ) → last_place p xs ≡ Some i → FoundAt X p xs i
-unfolding last_place
+last_found : {X : Type 0} (p : X → Bool) (xs : List X) (i : ℕ) → last_position p xs ≡ Some i → FoundAt X p xs i
+unfolding last_position
 last_found p [] i h = absurd (cc)
-last_found {X} p (x ∷ xs) i h = pick (last_place p xs) refl (p x) refl (last_found p xs) i h
+last_found {X} p (x ∷ xs) i h = pick (last_position p xs) refl (p x) refl (last_found p xs) i h
   where
-    pick : (o : Option ℕ) → last_place p xs ≡ o → (b : Bool) → p x ≡ b
-        → ((j : ℕ) → last_place p xs ≡ Some j → FoundAt X p xs j) → (n : ℕ) → later o b ≡ Some n
+    pick : (o : Option ℕ) → last_position p xs ≡ o → (b : Bool) → p x ≡ b
+        → ((j : ℕ) → last_position p xs ≡ Some j → FoundAt X p xs j) → (n : ℕ) → later_position o b ≡ Some n
         → FoundAt X p (x ∷ xs) n
     pick (Some j) e b q rest n k = let r = rest j e in let s : suc j ≡ n =
         cc in subst (FoundAt X p (x ∷ xs)) s (record { item = r.item; there = r.there; passes = r.passes })
@@ -42,13 +42,13 @@ last_found {X} p (x ∷ xs) i h = pick (last_place p xs) refl (p x) refl (last_f
     pick None e false q rest n k = absurd (cc)
 
 -- the static field of a place that was found
-pub static_found : (f : Field) (i : ℕ) → static_place f ≡ Some i → slice_get static_table i ≡ Some f
+pub static_found : (f : Field) (i : ℕ) → static_index f ≡ Some i → slice_get static_table i ≡ Some f
 static_found f i e =
     let is : IsLeastStatic (λ g. g ≡ f) i =
     subst (λ (o : Option ℕ). MatchOption o (NoStatic (λ g. g ≡ f)) (IsLeastStatic (λ g. g ≡ f))) e (place_is_least f) in
     is.at.1 ∙ ap Some is.at.2
 
-pub static_name_found : (name : List ℕ) (i : ℕ) → static_name_place name ≡ Some i
+pub static_name_found : (name : List ℕ) (i : ℕ) → static_name_index name ≡ Some i
     → (g : Field) × (slice_get static_table i ≡ Some g) × (name ≡ g.name)
 static_name_found name i e =
     let is : IsLeastStatic (λ g. g.name ≡ name) i =
@@ -80,13 +80,13 @@ pub record FoundEntry (t : Table) (p : Field → Bool) (a : ℕ) : Type 0 where
   pub there : slice_get (fields_in t.live) place ≡ Some item
   pub passes : p item ≡ true
   pub above : t.dropped < a
-  pub within : a ≤ count t
+  pub within : a ≤ insert_count t
 
-pub newest_found : (t : Table) (p : Field → Bool) (a : ℕ) → newest t p ≡ Some a → FoundEntry t p a
-unfolding newest
-newest_found t p a h = pick (last_place p (fields_in t.live)) refl h
+pub newest_found : (t : Table) (p : Field → Bool) (a : ℕ) → newest_index t p ≡ Some a → FoundEntry t p a
+unfolding newest_index
+newest_found t p a h = pick (last_position p (fields_in t.live)) refl h
   where
-    pick : (o : Option ℕ) → last_place p (fields_in t.live) ≡ o → option_map (λ i. t.dropped + i + 1) o ≡ Some a
+    pick : (o : Option ℕ) → last_position p (fields_in t.live) ≡ o → option_map (λ i. t.dropped + i + 1) o ≡ Some a
         → FoundEntry t p a
     pick None e k = absurd cc
     pick (Some i) e k =
@@ -106,8 +106,8 @@ newest_found t p a h = pick (last_place p (fields_in t.live)) refl h
 
 -- an entry that stays, as instructions name it
 recent_kept : (w : Window) (k i : ℕ) (g : Field) → k ≤ length w.live → slice_get (drop k w.live) i ≡ Some g
-    → recent w (length (drop k w.live) - 1 - i) ≡ Some g
-unfolding recent
+    → relative_entry w (length (drop k w.live) - 1 - i) ≡ Some g
+unfolding relative_entry
 recent_kept w k i g le h =
     let within : i < length (drop k w.live) = slice_get_within (drop k w.live) i g h in
     let n : length (drop k w.live) ≡ length w.live - k = length-drop k w.live in
@@ -116,7 +116,7 @@ recent_kept w k i g le h =
     rw (lt-ltb _ _ lt, e, ← get_drop) h
 
 name_effect : (w : Window) (f : Field) (k : ℕ) → k ≤ length w.live → (o : Option ℕ)
-    → last_place (has_name f.name) (drop k w.live) ≡ o → effect w (by_name f (length (drop k w.live)) o) ≡ insertion w f
+    → last_position (has_name f.name) (drop k w.live) ≡ o → effect w (by_name f (length (drop k w.live)) o) ≡ insertion w f
 unfolding effect
 name_effect w f k le (Some i) e =
     let at = last_found (has_name f.name) (drop k w.live) i e in
@@ -124,77 +124,81 @@ name_effect w f k le (Some i) e =
     (ap (insertion w) (named_field f at.item (same_name f.name at.item at.passes)))
 name_effect w f k le None e = refl
 
-static_effect : (w : Window) (f : Field) (k : ℕ) → k ≤ length w.live → (o : Option ℕ) → static_name_place f.name ≡ o
+static_effect : (w : Window) (f : Field) (k : ℕ) → k ≤ length w.live → (o : Option ℕ) → static_name_index f.name ≡ o
     → effect w (by_static_name f (drop k w.live) o) ≡ insertion w f
 unfolding effect
 static_effect w f k le (Some i) e =
     let at = static_name_found f.name i e in
     rw at.1 (ap (insertion w) (named_field f at.0 at.2))
-static_effect w f k le None e = name_effect w f k le (last_place (has_name f.name) (drop k w.live)) refl
+static_effect w f k le None e = name_effect w f k le (last_position (has_name f.name) (drop k w.live)) refl
 
 equal_effect : (w : Window) (f : Field) (k : ℕ) → k ≤ length w.live → (o : Option ℕ)
-    → last_place (is_field f) (drop k w.live) ≡ o → effect w (by_equal f (drop k w.live) o) ≡ insertion w f
+    → last_position (is_field f) (drop k w.live) ≡ o → effect w (by_equal f (drop k w.live) o) ≡ insertion w f
 unfolding effect
 equal_effect w f k le (Some i) e =
     let at = last_found (is_field f) (drop k w.live) i e in
     rw (recent_kept w k i at.item le at.there) (ap (insertion w) (sym (same_field f at.item at.passes)))
-equal_effect w f k le None e = static_effect w f k le (static_name_place f.name) refl
+equal_effect w f k le None e = static_effect w f k le (static_name_index f.name) refl
 
 -- the instruction inserts the field, whichever form it has
 pub instruction_effect : (w : Window) (f : Field) (k : ℕ) → k ≤ length w.live → field_size f ≤ w.capacity
-    → total w < 2 ^ 62 → effect w (instruction_for f (drop k w.live)) ≡ Ok (Inserts f)
+    → window_insert_count w < 2 ^ 62 → effect w (instruction_for f (drop k w.live)) ≡ Ok (Inserts f)
 unfolding instruction_for insertion
 instruction_effect w f k le fits few =
-    equal_effect w f k le (last_place (is_field f) (drop k w.live)) refl
+    equal_effect w f k le (last_position (is_field f) (drop k w.live)) refl
     ∙ (rw (
       ne_eqb w.capacity 0 (λ e. absurd (omega (arith, size_least f))),
       le-leb (field_size f) w.capacity fits,
-      lt-ltb (total w) (2 ^ 62) few,
+      lt-ltb (window_insert_count w) (2 ^ 62) few,
     ) refl)
 
-pub window_entered : (t : Table) (e : Entry) → window (with_entry t e) ≡ after (window t) (Inserts e.field)
-unfolding window with_entry after
+pub window_entered : (t : Table) (e : Entry) → window (with_entry t e) ≡ window_after (window t) (Inserts e.field)
+unfolding window with_entry window_after
 window_entered t x =
     let f = x.field in
-    let k = evicted_for t f in
+    let k = eviction_count_for t f in
     let e : fields_in (drop k (t.live ++ x ∷ [])) ≡ drop k (fields_in t.live ++ f ∷ []) =
     sym (drop-map (λ (y : Entry). y.field) k (t.live ++ x ∷ []))
     ∙ ap (drop k) (map-append (λ (y : Entry). y.field) t.live (x ∷ [])) in
     ap (λ (l : List Field). let w : Window = record {
       capacity = t.capacity;
-      agreed = t.agreed;
+      agreed_max = t.agreed_max;
       dropped = t.dropped + k;
       live = l;
     } in w) e
 
--- what stands among the first live entries is neither named nor unreceived
-pub record NotHeld (t : Table) (x : ℕ) : Type 0 where
-  pub unnamed : has_number x t.named ≡ false
-  pub unopened : list_any (λ (b : OpenBlock). has_number x b.entries) t.opened ≡ false
-  pub received : x ≤ t.known
+-- no block references the entry, and it was received
+pub record IsFree (t : Table) (x : ℕ) : Type 0 where
+  pub unnamed : has_number x t.referenced ≡ false
+  pub unopened : list_any (λ (b : UnacknowledgedBlock). has_number x b.entries) t.unacknowledged ≡ false
+  pub received : x ≤ t.known_received_count
 
-not_held : (t : Table) (x : ℕ) → is_held t x true ≡ false → NotHeld t x
-unfolding is_held
-not_held t x h =
-    let p = or_parts (has_number x t.named) _ h in
-    let q = or_parts (list_any (λ (b : OpenBlock). has_number x b.entries) t.opened) _ p.1 in
+not-true : (b : Bool) → not b ≡ true → b ≡ false
+not-true true h = absurd cc
+not-true false h = refl
+
+evictable_free : (t : Table) (x : ℕ) → is_evictable t x true ≡ true → IsFree t x
+unfolding is_evictable
+evictable_free t x h =
+    let p = or_parts (has_number x t.referenced) _ (not-true _ h) in
+    let q = or_parts (list_any (λ (b : UnacknowledgedBlock). has_number x b.entries) t.unacknowledged) _ p.1 in
     record { unnamed = p.0; unopened = q.0; received = ltb-false _ _ q.1 }
 
-none_held_at : (t : Table) (a : ℕ) (es : List Entry) → none_held t a es ≡ true
-    → AllByRecursion (λ (e : Entry). e.sent ≡ true) es → (x : ℕ) → a ≤ x → x < a + length es → NotHeld t x
-unfolding none_held
-none_held_at t a [] h m x low high = absurd (omega arith)
-none_held_at t a (e ∷ es) h m x low high =
-    let rest = none_held_at t (suc a) es in
-    cond_both (is_held t a e.sent) false (none_held t (suc a) es) (λ b. b ≡ true → NotHeld t x)
-    (λ _ q. absurd (cc))
+all_evictable_at : (t : Table) (a : ℕ) (es : List Entry) → all_evictable t a es ≡ true
+    → AllByRecursion (λ (e : Entry). e.sent ≡ true) es → (x : ℕ) → a ≤ x → x < a + length es → IsFree t x
+unfolding all_evictable
+all_evictable_at t a [] h m x low high = absurd (omega arith)
+all_evictable_at t a (e ∷ es) h m x low high =
+    let rest = all_evictable_at t (suc a) es in
+    cond_both (is_evictable t a e.sent) (all_evictable t (suc a) es) false (λ b. b ≡ true → IsFree t x)
     (λ free q. pick free (rest q m.1) (cases_lt a x))
+    (λ _ q. absurd (cc))
     h
   where
-    pick : is_held t a e.sent ≡ false → ((y : ℕ) → suc a ≤ y → y < suc a + length es → NotHeld t y) → (a < x) ⊎ (x ≤ a)
-        → NotHeld t x
+    pick : is_evictable t a e.sent ≡ true → ((y : ℕ) → suc a ≤ y → y < suc a + length es → IsFree t y) → (a < x) ⊎ (x ≤ a)
+        → IsFree t x
     pick free rest (inl lt) = rest x (omega arith) (omega arith)
-    pick free rest (inr le) = let same : a ≡ x = omega arith in subst (NotHeld t) same (not_held t a (rw m.0 at free))
+    pick free rest (inr le) = let same : a ≡ x = omega arith in subst (IsFree t) same (evictable_free t a (rw m.0 at free))
 
 pub every_take : {X : Type 0} (P : X → Type 0) (n : ℕ) (xs : List X) → AllByRecursion P xs
     → AllByRecursion P (take n xs)
@@ -202,10 +206,10 @@ every_take P zero xs h = tt
 every_take P (suc n) [] h = tt
 every_take P (suc n) (x ∷ xs) h = (h.0, every_take P n xs h.1)
 
-pub dropped_not_held : (t : Table) (k : ℕ) → can_drop t k ≡ true → k ≤ length t.live
-    → AllByRecursion (λ (e : Entry). e.sent ≡ true) t.live → (x : ℕ) → t.dropped < x → x ≤ t.dropped + k → NotHeld t x
-dropped_not_held t k h le m x low high =
-    none_held_at t (suc t.dropped) (take k t.live) h (every_take (λ (e : Entry). e.sent ≡ true) k t.live m) x
+pub evicted_free : (t : Table) (k : ℕ) → can_evict t k ≡ true → k ≤ length t.live
+    → AllByRecursion (λ (e : Entry). e.sent ≡ true) t.live → (x : ℕ) → t.dropped < x → x ≤ t.dropped + k → IsFree t x
+evicted_free t k h le m x low high =
+    all_evictable_at t (suc t.dropped) (take k t.live) h (every_take (λ (e : Entry). e.sent ≡ true) k t.live m) x
     (omega arith) (omega (arith, length-take-le k t.live le))
 
 has_each : (xs : List ℕ) → AllByRecursion (λ x. has_number x xs ≡ true) xs
@@ -217,14 +221,14 @@ has_each (a ∷ xs) = (
 )
 
 -- what holds of the numbers named and of one more
-pub every_track : (P : ℕ → Type 0) (named : List ℕ) (a : ℕ) → AllByRecursion P named → P a
-    → AllByRecursion P (track named a)
-unfolding track
-every_track P named a h k =
-    cond_both (has_number a named) named (named ++ a ∷ []) (AllByRecursion P) (λ _. h)
-    (λ _. every_append P named (a ∷ []) h (k, tt))
+pub every_track : (P : ℕ → Type 0) (referenced : List ℕ) (a : ℕ) → AllByRecursion P referenced → P a
+    → AllByRecursion P (with_number referenced a)
+unfolding with_number
+every_track P referenced a h k =
+    cond_both (has_number a referenced) referenced (referenced ++ a ∷ []) (AllByRecursion P) (λ _. h)
+    (λ _. every_append P referenced (a ∷ []) h (k, tt))
 
-every_has : (P : ℕ → Type 0) (named : List ℕ) (a : ℕ) → has_number a named ≡ true → AllByRecursion P named → P a
+every_has : (P : ℕ → Type 0) (referenced : List ℕ) (a : ℕ) → has_number a referenced ≡ true → AllByRecursion P referenced → P a
 every_has P [] a t h = absurd (cc)
 every_has P (x ∷ xs) a t h = let rest = λ (m : has_number a xs ≡ true). every_has P xs a m h.1 in
     pick rest (or_cases (nat_eq x a) (has_number a xs) t)
@@ -233,46 +237,46 @@ every_has P (x ∷ xs) a t h = let rest = λ (m : has_number a xs ≡ true). eve
     pick rest (inl e) = subst P (eqb-true x a e) h.0
     pick rest (inr m) = rest m
 
-every_untrack : (P : ℕ → Type 0) (named : List ℕ) (a : ℕ) → AllByRecursion P (track named a)
-    → AllByRecursion P named × P a
-unfolding track
-every_untrack P named a =
-    cond_both (has_number a named) named (named ++ a ∷ []) (λ xs. AllByRecursion P xs → AllByRecursion P named × P a)
-    (λ t h. (h, every_has P named a t h))
-    (λ _ h. (every_left P named (a ∷ []) h, (every_right P named (a ∷ []) h).0))
+every_untrack : (P : ℕ → Type 0) (referenced : List ℕ) (a : ℕ) → AllByRecursion P (with_number referenced a)
+    → AllByRecursion P referenced × P a
+unfolding with_number
+every_untrack P referenced a =
+    cond_both (has_number a referenced) referenced (referenced ++ a ∷ []) (λ xs. AllByRecursion P xs → AllByRecursion P referenced × P a)
+    (λ t h. (h, every_has P referenced a t h))
+    (λ _ h. (every_left P referenced (a ∷ []) h, (every_right P referenced (a ∷ []) h).0))
 
-pub every_tracked : (P : ℕ → Type 0) (xs named : List ℕ) → AllByRecursion P (tracked named xs)
-    → AllByRecursion P named × AllByRecursion P xs
-every_tracked P [] named h = (h, tt)
-every_tracked P (x ∷ xs) named h =
-    let r = every_tracked P xs (track named x) h in
-    let q = every_untrack P named x r.0 in
+pub every_tracked : (P : ℕ → Type 0) (xs referenced : List ℕ) → AllByRecursion P (with_numbers referenced xs)
+    → AllByRecursion P referenced × AllByRecursion P xs
+every_tracked P [] referenced h = (h, tt)
+every_tracked P (x ∷ xs) referenced h =
+    let r = every_tracked P xs (with_number referenced x) h in
+    let q = every_untrack P referenced x r.0 in
     (q.0, (q.1, r.1))
 
-pub tracked_append : (named xs ys : List ℕ) → tracked named (xs ++ ys) ≡ tracked (tracked named xs) ys
-tracked_append named [] ys = refl
-tracked_append named (x ∷ xs) ys = tracked_append (track named x) xs ys
+pub tracked_append : (referenced xs ys : List ℕ) → with_numbers referenced (xs ++ ys) ≡ with_numbers (with_numbers referenced xs) ys
+tracked_append referenced [] ys = refl
+tracked_append referenced (x ∷ xs) ys = tracked_append (with_number referenced x) xs ys
 
-track_some : (named : List ℕ) (a : ℕ) → 0 < length (track named a)
-unfolding track
+track_some : (referenced : List ℕ) (a : ℕ) → 0 < length (with_number referenced a)
+unfolding with_number
 track_some [] a = omega arith
 track_some (x ∷ xs) a =
     cond_both (has_number a (x ∷ xs)) (x ∷ xs) ((x ∷ xs) ++ a ∷ []) (λ l. 0 < length l) (λ _. omega arith)
     (λ _. omega arith)
 
-track_longer : (named : List ℕ) (a : ℕ) → length named ≤ length (track named a)
-unfolding track
-track_longer named a =
-    cond_both (has_number a named) named (named ++ a ∷ []) (λ l. length named ≤ length l) (λ _. omega arith)
-    (λ _. omega (arith, length-append named (a ∷ [])))
+track_longer : (referenced : List ℕ) (a : ℕ) → length referenced ≤ length (with_number referenced a)
+unfolding with_number
+track_longer referenced a =
+    cond_both (has_number a referenced) referenced (referenced ++ a ∷ []) (λ l. length referenced ≤ length l) (λ _. omega arith)
+    (λ _. omega (arith, length-append referenced (a ∷ [])))
 
-tracked_longer : (xs named : List ℕ) → length named ≤ length (tracked named xs)
-tracked_longer [] named = omega arith
-tracked_longer (x ∷ xs) named = omega (arith, track_longer named x, tracked_longer xs (track named x))
+tracked_longer : (xs referenced : List ℕ) → length referenced ≤ length (with_numbers referenced xs)
+tracked_longer [] referenced = omega arith
+tracked_longer (x ∷ xs) referenced = omega (arith, track_longer referenced x, tracked_longer xs (with_number referenced x))
 
-pub tracked_none : (xs : List ℕ) → tracked [] xs ≡ [] → xs ≡ []
+pub tracked_none : (xs : List ℕ) → with_numbers [] xs ≡ [] → xs ≡ []
 tracked_none [] e = refl
-tracked_none (x ∷ xs) e = absurd (omega (arith, track_some [] x, tracked_longer xs (track [] x), ap length e))
+tracked_none (x ∷ xs) e = absurd (omega (arith, track_some [] x, tracked_longer xs (with_number [] x), ap length e))
 
 -- numbers that stood above d stand above d + k where none between is among them
 pub above_dropped : (d n k : ℕ) (xs : List ℕ) → ((x : ℕ) → d < x → x ≤ d + k → has_number x xs ≡ false)
@@ -288,10 +292,10 @@ above_dropped d n k xs none h =
     up : (a : ℕ) → d < a → has_number a xs ≡ true → d + k < a
     up a lt t = pick a lt t (cases_lt (d + k) a)
 
-pub opened_above : (d n k : ℕ) (bs : List OpenBlock)
-    → ((x : ℕ) → d < x → x ≤ d + k → list_any (λ (b : OpenBlock). has_number x b.entries) bs ≡ false)
-    → AllByRecursion (λ (b : OpenBlock). AllByRecursion (λ a. (d < a) × (a ≤ n)) b.entries) bs
-    → AllByRecursion (λ (b : OpenBlock). AllByRecursion (λ a. (d + k < a) × (a ≤ n)) b.entries) bs
+pub opened_above : (d n k : ℕ) (bs : List UnacknowledgedBlock)
+    → ((x : ℕ) → d < x → x ≤ d + k → list_any (λ (b : UnacknowledgedBlock). has_number x b.entries) bs ≡ false)
+    → AllByRecursion (λ (b : UnacknowledgedBlock). AllByRecursion (λ a. (d < a) × (a ≤ n)) b.entries) bs
+    → AllByRecursion (λ (b : UnacknowledgedBlock). AllByRecursion (λ a. (d + k < a) × (a ≤ n)) b.entries) bs
 opened_above d n k [] none h = tt
 opened_above d n k (b ∷ bs) none h = (
   above_dropped d n k b.entries (λ x low high. (or_parts (has_number x b.entries) _ (none x low high)).0) h.0,
@@ -299,7 +303,7 @@ opened_above d n k (b ∷ bs) none h = (
 )
 
 -- what goes was received
-pub drops_received : (t : Table) (k : ℕ) → t.dropped ≤ t.known
-    → ((x : ℕ) → t.dropped < x → x ≤ t.dropped + k → NotHeld t x) → t.dropped + k ≤ t.known
+pub drops_received : (t : Table) (k : ℕ) → t.dropped ≤ t.known_received_count
+    → ((x : ℕ) → t.dropped < x → x ≤ t.dropped + k → IsFree t x) → t.dropped + k ≤ t.known_received_count
 drops_received t zero b none = omega arith
 drops_received t (suc k) b none = omega (arith, (none (t.dropped + suc k) (omega arith) (omega arith)).received)

@@ -7,7 +7,7 @@ use Rattle.std.proofs.lemmas.Bool.{lt-ltb, le-ltb, le-leb, lt-leb, ne_eqb, or_ri
 use Rattle.qpack_spec.specs.Field.{Field}
 use Rattle.qpack_spec.specs.Prefix.{Prefix, PrefixFault, prefix_for, IsRequired, required_at, read_required, read_base}
 use Rattle.qpack_spec.specs.Prefix.{read_prefix}
-use Rattle.qpack_spec.specs.Window.{Window, agreed_maximum, total}
+use Rattle.qpack_spec.specs.Window.{Window, maximum_capacity, window_insert_count}
 use Rattle.qpack_spec.specs.Reading.{fields_of, Block, Fields, Missing, reading}
 
 -- ---- the required count
@@ -172,31 +172,31 @@ prefix_plain received maximum base p a = rw a.reads_count refl
 -- ---- blocks
 
 abbrev pub maximum_of : Window → ℕ
-maximum_of w = agreed_maximum w.agreed w.capacity
+maximum_of w = maximum_capacity w.agreed_max w.capacity
 
 -- a block that requires more than was received
 pub reading_missing : (w : Window) (b : Block) (required base : ℕ)
-    → ReadsAs (total w) (maximum_of w) required base b.prefix → total w < required → reading w b ≡ Missing required
+    → ReadsAs (window_insert_count w) (maximum_of w) required base b.prefix → window_insert_count w < required → reading w b ≡ Missing required
 unfolding reading
 reading_missing w b required base p lt =
-    rw (prefix_dynamic (total w) (maximum_of w) required base b.prefix p (omega arith), lt-ltb (total w) required lt)
+    rw (prefix_dynamic (window_insert_count w) (maximum_of w) required base b.prefix p (omega arith), lt-ltb (window_insert_count w) required lt)
     refl
 
 -- a block whose lines mean fs
 pub reading_fields : (w : Window) (b : Block) (required base : ℕ) (fs : List Field)
-    → ReadsAs (total w) (maximum_of w) required base b.prefix → required ≤ total w → 0 < required
+    → ReadsAs (window_insert_count w) (maximum_of w) required base b.prefix → required ≤ window_insert_count w → 0 < required
     → fields_of w base b.lines ≡ Ok fs → reading w b ≡ Fields fs true
 unfolding reading
 reading_fields w b required base fs p le r h =
     rw (
-      prefix_dynamic (total w) (maximum_of w) required base b.prefix p r,
-      le-ltb (total w) required le,
+      prefix_dynamic (window_insert_count w) (maximum_of w) required base b.prefix p r,
+      le-ltb (window_insert_count w) required le,
       h,
       lt-ltb 0 required r,
     ) refl
 
 pub reading_plain : (w : Window) (b : Block) (base : ℕ) (fs : List Field)
-    → ReadsAs (total w) (maximum_of w) 0 base b.prefix → fields_of w 0 b.lines ≡ Ok fs → reading w b ≡ Fields fs false
+    → ReadsAs (window_insert_count w) (maximum_of w) 0 base b.prefix → fields_of w 0 b.lines ≡ Ok fs → reading w b ≡ Fields fs false
 unfolding reading
 reading_plain w b base fs p h =
-    rw (prefix_plain (total w) (maximum_of w) base b.prefix p, le-ltb (total w) 0 (omega arith), h) refl
+    rw (prefix_plain (window_insert_count w) (maximum_of w) base b.prefix p, le-ltb (window_insert_count w) 0 (omega arith), h) refl

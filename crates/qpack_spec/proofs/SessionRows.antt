@@ -5,38 +5,38 @@ use Rattle.std.specs.Prelude.{codes, nat_eq}
 use Rattle.std.specs.List.{AllByRecursion}
 use Rattle.std.proofs.lemmas.Bool.{cond_both}
 use Rattle.qpack_spec.specs.Integer.{written_groups, groups_at, integer_at, written_integer, UnexpectedEnd}
-use Rattle.qpack_spec.specs.Huffman.{bits_of, ones, bytes_by_length, bytes_of_length, first_word, word_length, word_of}
-use Rattle.qpack_spec.specs.Huffman.{number_from, packed, payload_of, word_at, is_padding, item_at, text_at}
+use Rattle.qpack_spec.specs.Huffman.{bits_of, ones, bytes_by_length, bytes_of_length, first_code, code_length, code_of}
+use Rattle.qpack_spec.specs.Huffman.{number_from, bytes_of_bits, payload_of, code_at, is_padding, item_at, text_at}
 use Rattle.qpack_spec.specs.Huffman.{text_of_bits}
 use Rattle.qpack_spec.specs.Text.{string_at, written_string, EndsEarly}
 use Rattle.qpack_spec.specs.Field.{Field}
-use Rattle.qpack_spec.specs.StaticTable.{field, static_table, static_place, static_name_place}
+use Rattle.qpack_spec.specs.StaticTable.{field, static_table, static_index, static_name_index}
 use Rattle.qpack_spec.specs.Form.{BadInteger, BadString, Truncates, Form, Spells, made_at, form_at}
 use Rattle.qpack_spec.specs.Line.{line_form, written_line, written_lines}
 use Rattle.qpack_spec.specs.Instruction.{InsertLiteralName, Acknowledgment, Increment}
-use Rattle.qpack_spec.specs.Instruction.{instruction_form, reply_form}
-use Rattle.qpack_spec.specs.Instruction.{written_instruction, written_instructions, written_reply, written_replies}
+use Rattle.qpack_spec.specs.Instruction.{encoder_instruction_form, decoder_instruction_form}
+use Rattle.qpack_spec.specs.Instruction.{written_encoder_instruction, written_encoder_instructions, written_decoder_instruction, written_decoder_instructions}
 use Rattle.qpack_spec.specs.Prefix.{prefix_for, required_at, read_required, read_base, read_prefix, written_prefix}
 use Rattle.qpack_spec.specs.Prefix.{prefix_at}
-use Rattle.qpack_spec.specs.Window.{Window, excess, entry, recent, insertion, effect, after}
+use Rattle.qpack_spec.specs.Window.{Window, eviction_count, absolute_entry, relative_entry, insertion, effect, window_after}
 use Rattle.qpack_spec.specs.Window.{AboveMaximum}
-use Rattle.qpack_spec.specs.History.{window_of, whole, grown}
-use Rattle.qpack_spec.specs.Reading.{static_field, relative_field, post_base_field, line_field, fields_of, names_of}
-use Rattle.qpack_spec.specs.Reading.{references_of, greatest, reading}
+use Rattle.qpack_spec.specs.History.{window_of, whole_window, history_after}
+use Rattle.qpack_spec.specs.Reading.{static_field, relative_field, post_base_field, line_field, fields_of, references_of_line}
+use Rattle.qpack_spec.specs.Reading.{references_of, greatest_of, reading}
 use Rattle.qpack_spec.specs.BlockReading.{fields_at, reading_of_bytes, written_block}
-use Rattle.qpack_spec.specs.Table.{Table, empty_table, table_of, count, window, track, naming, is_held, none_held}
-use Rattle.qpack_spec.specs.Table.{has_room, may_name, with_entry, last_place, newest, put, resized, applied, commit}
-use Rattle.qpack_spec.specs.Table.{unnamed, without_oldest, without_stream, raised, heard}
+use Rattle.qpack_spec.specs.Table.{Table, empty_table, table_of, insert_count, window, with_number, with_reference, is_evictable, all_evictable}
+use Rattle.qpack_spec.specs.Table.{has_room, may_reference, with_entry, last_position, newest_index, put, with_capacity, apply_encoder_instruction, commit}
+use Rattle.qpack_spec.specs.Table.{without_references, without_oldest, without_stream, with_increment, apply_decoder_instruction}
 use Rattle.qpack_spec.specs.Rule.{instruction_for, rule_field, rule}
 use Rattle.qpack_spec.specs.Stream.{Joined}
 use Rattle.qpack_spec.specs.Session.{KeptBlock, KeptStream, stream_at, Session, Encode, Decode, ToDecoder}
 use Rattle.qpack_spec.specs.Session.{ToEncoder, Acknowledge, Cancel, Encoded, Decoded, MissingReferences}
-use Rattle.qpack_spec.specs.Session.{Delivered, Heard, Acknowledged, Skipped, NoMemory, opened}
+use Rattle.qpack_spec.specs.Session.{Delivered, Heard, Acknowledged, Skipped, NoMemory, initial_session}
 use Rattle.qpack_spec.specs.Session.{begin_session, CapacityTooLarge, LimitTooLarge, with_block, with_decoded}
-use Rattle.qpack_spec.specs.Session.{with_kept, blocked_among, skip_reason, increment_sum, IsPiece}
-use Rattle.qpack_spec.specs.Session.{decoder_moved, encoder_moved, DeliveryEnds, takes_all}
-use Rattle.qpack_spec.specs.Session.{no_memory, bad_bytes, bad_instruction, hears_all}
-use Rattle.qpack_spec.specs.Session.{Happens, Goes, FitsMemory, Runs}
+use Rattle.qpack_spec.specs.Session.{with_kept_stream, blocked_among, skip_reason, increment_sum, IsPiece}
+use Rattle.qpack_spec.specs.Session.{with_decoder_moved, with_encoder_moved, EndsAtDecoder, takes_all}
+use Rattle.qpack_spec.specs.Session.{no_memory, bad_bytes, bad_instruction, takes_all_at_encoder}
+use Rattle.qpack_spec.specs.Session.{LawfulStep, Step, FitsMemory, Run}
 use Rattle.qpack_spec.specs.WrittenLaws.{IsByteField}
 use Rattle.qpack_spec.proofs.FormLaws.{form_takes, reads_form_truncation}
 
@@ -48,45 +48,45 @@ foo_bar : Field
 foo_bar = field (codes "foo") (codes "bar")
 
 begun : Session
-begun = opened 4096 1
+begun = initial_session 4096 1
 
 written : Session
 written = with_block begun 4 (foo_bar ∷ [])
 
 delivered_part : Session
-delivered_part = decoder_moved written 6 written.decoder 0 0 []
+delivered_part = with_decoder_moved written 6 written.decoder 0 0 []
 
 -- the decoder's table behind the instruction
 filled : Table
-filled = let w : Window = record { capacity = 4096; agreed = Some 4096; dropped = 0; live = foo_bar ∷ [] } in table_of w
+filled = let w : Window = record { capacity = 4096; agreed_max = Some 4096; dropped = 0; live = foo_bar ∷ [] } in table_of w
 
 delivered : Session
-delivered = decoder_moved delivered_part 1 filled 7 0 (1 ∷ [])
+delivered = with_decoder_moved delivered_part 1 filled 7 0 (1 ∷ [])
 
 decoded : Session
 decoded = with_decoded delivered 4
 
 acknowledged : Session
 acknowledged =
-    record (with_kept decoded 4 (record (stream_at decoded.streams 4) { acknowledged = 1 })) { told = 1 ∷ 132 ∷ [] }
+    record (with_kept_stream decoded 4 (record (stream_at decoded.streams 4) { acknowledged = 1 })) { decoder_stream = 1 ∷ 132 ∷ [] }
 
 -- the encoder's table behind both decoder instructions
 released : Table
-released = record acknowledged.encoder { known = 1; opened = []; waiting = [] }
+released = record acknowledged.encoder { known_received_count = 1; unacknowledged = []; blocked = [] }
 
 heard_all : Session
-heard_all = encoder_moved acknowledged 2 released 2
+heard_all = with_encoder_moved acknowledged 2 released 2
 
 -- all that has to unfold
 rows : ℕ
-unfolding excess written_groups groups_at integer_at written_integer bits_of ones bytes_by_length bytes_of_length
-    first_word word_length word_of number_from packed payload_of word_at is_padding item_at text_at text_of_bits
-    string_at written_string static_table static_place static_name_place line_form written_line written_lines
-    instruction_form reply_form written_instruction written_instructions written_reply written_replies made_at form_at
-    prefix_for required_at read_required read_base read_prefix written_prefix prefix_at entry recent insertion effect
-    after window_of whole grown static_field relative_field post_base_field line_field fields_of names_of references_of
-    greatest reading fields_at reading_of_bytes written_block window track naming is_held none_held has_room may_name
-    with_entry last_place newest put resized applied commit unnamed without_oldest without_stream raised heard
+unfolding eviction_count written_groups groups_at integer_at written_integer bits_of ones bytes_by_length bytes_of_length
+    first_code code_length code_of number_from bytes_of_bits payload_of code_at is_padding item_at text_at text_of_bits
+    string_at written_string static_table static_index static_name_index line_form written_line written_lines
+    encoder_instruction_form decoder_instruction_form written_encoder_instruction written_encoder_instructions written_decoder_instruction written_decoder_instructions made_at form_at
+    prefix_for required_at read_required read_base read_prefix written_prefix prefix_at absolute_entry relative_entry insertion effect
+    window_after window_of whole_window history_after static_field relative_field post_base_field line_field fields_of references_of_line references_of
+    greatest_of reading fields_at reading_of_bytes written_block window with_number with_reference is_evictable all_evictable has_room may_reference
+    with_entry last_position newest_index put with_capacity apply_encoder_instruction commit without_references without_oldest without_stream with_increment apply_decoder_instruction
     instruction_for rule_field rule table_of increment_sum foo_bar filled released begun written delivered_part
     delivered decoded acknowledged heard_all skip_reason
 rows = 0
@@ -94,7 +94,7 @@ rows = 0
 -- ---- where a session begins
 
 -- the greatest capacity and the greatest limit
-begins : begin_session 1073741823 65534 ≡ Ok (opened 1073741823 65534)
+begins : begin_session 1073741823 65534 ≡ Ok (initial_session 1073741823 65534)
 unfolding rows
 begins = refl
 
@@ -121,12 +121,12 @@ unfolding rows
 block_ends = refl
 
 -- no more is delivered than was written
-delivered_within : (decoder_moved written 100 written.decoder 0 0 []).sent_delivered ≡ 7
+delivered_within : (with_decoder_moved written 100 written.decoder 0 0 []).encoder_stream_delivered ≡ 7
 unfolding rows
 delivered_within = refl
 
 -- to the encoder neither
-heard_within : (encoder_moved acknowledged 100 acknowledged.encoder 0).told_delivered ≡ 2
+heard_within : (with_encoder_moved acknowledged 100 acknowledged.encoder 0).decoder_stream_delivered ≡ 2
 unfolding rows
 heard_within = refl
 
@@ -136,7 +136,7 @@ heard_within = refl
 stream_of : List ℕ → KeptStream
 stream_of required =
     record {
-      blocks = map (λ r. (let b : KeptBlock = record { bytes = []; required = r; end = 0; handed = [] } in b))
+      blocks = map (λ r. (let b : KeptBlock = record { bytes = []; required = r; end = 0; fields = [] } in b))
           required;
       decoded = 0;
       acknowledged = 0;
@@ -170,31 +170,31 @@ piece_0 h = absurd (omega (arith, h.0))
 
 -- insertions stay unreported where memory is refused
 memory_keeps : (v : Session) (n : ℕ) (t : Table) (front rest : List ℕ) (v' : Session)
-    → DeliveryEnds v n t front rest NoMemory v' → v'.unreported ≡ v.unreported + (count t - count v.decoder)
+    → EndsAtDecoder v n t front rest NoMemory v' → v'.unreported ≡ v.unreported + (insert_count t - insert_count v.decoder)
 memory_keeps v n t front rest v' (takes_all pieces cut sizes sum is goes) = absurd cc
 memory_keeps v n t front rest v' (no_memory is goes) = ap (λ (x : Session). x.unreported) goes
 memory_keeps v n t front rest v' (bad_bytes fault b is goes) = absurd cc
-memory_keeps v n t front rest v' (bad_instruction text more i e cut s bad is goes) = absurd cc
+memory_keeps v n t front rest v' (bad_instruction encoding more i e cut s bad is goes) = absurd cc
 
 -- the known received count is held at the greatest number of 64 bits
-known_held : (raised (record (empty_table 0 None 0) { known = 18446744073709551615 }) 1).known ≡ 18446744073709551615
+known_held : (with_increment (record (empty_table 0 None 0) { known_received_count = 18446744073709551615 }) 1).known_received_count ≡ 18446744073709551615
 unfolding rows
 known_held = refl
 
 -- which it reaches
-known_reaches : (raised (record (empty_table 0 None 0) { known = 18446744073709551614 }) 1).known ≡ 18446744073709551615
+known_reaches : (with_increment (record (empty_table 0 None 0) { known_received_count = 18446744073709551614 }) 1).known_received_count ≡ 18446744073709551615
 unfolding rows
 known_reaches = refl
 
 -- ---- capacities
 
 -- under a greater maximum a capacity is at most 2^30 - 1
-capacity_bound : resized (empty_table 0 (Some 2147483648) 0) 1073741824 ≡ Err AboveMaximum
+capacity_bound : with_capacity (empty_table 0 (Some 2147483648) 0) 1073741824 ≡ Err AboveMaximum
 unfolding rows
 capacity_bound = refl
 
 -- which is taken
-capacity_greatest : resized (empty_table 0 (Some 2147483648) 0) 1073741823
+capacity_greatest : with_capacity (empty_table 0 (Some 2147483648) 0) 1073741823
     ≡ Ok (empty_table 1073741823 (Some 2147483648) 0)
 unfolding rows
 capacity_greatest = refl
@@ -206,34 +206,34 @@ session_block : map (λ b. b.bytes) (stream_at written.streams 4).blocks ≡ (2 
 unfolding rows
 session_block = refl
 
-session_sent : written.sent ≡ 98 ∷ 148 ∷ 231 ∷ 131 ∷ 140 ∷ 118 ∷ 127 ∷ []
+session_sent : written.encoder_stream ≡ 98 ∷ 148 ∷ 231 ∷ 131 ∷ 140 ∷ 118 ∷ 127 ∷ []
 unfolding rows
 session_sent = refl
 
-cut_part : Truncates instruction_form (98 ∷ 148 ∷ 231 ∷ 131 ∷ 140 ∷ 118 ∷ [])
+cut_part : Truncates encoder_instruction_form (98 ∷ 148 ∷ 231 ∷ 131 ∷ 140 ∷ 118 ∷ [])
 unfolding rows
 cut_part =
-    (reads_form_truncation instruction_form (98 ∷ 148 ∷ 231 ∷ 131 ∷ 140 ∷ 118 ∷ [])).0 (BadString EndsEarly, refl, refl)
+    (reads_form_truncation encoder_instruction_form (98 ∷ 148 ∷ 231 ∷ 131 ∷ 140 ∷ 118 ∷ [])).0 (BadString EndsEarly, refl, refl)
 
-cut_none : Truncates instruction_form []
+cut_none : Truncates encoder_instruction_form []
 unfolding rows
-cut_none = (reads_form_truncation instruction_form []).0 (BadInteger UnexpectedEnd, refl, refl)
+cut_none = (reads_form_truncation encoder_instruction_form []).0 (BadInteger UnexpectedEnd, refl, refl)
 
-cut_none_heard : Truncates reply_form []
+cut_none_heard : Truncates decoder_instruction_form []
 unfolding rows
-cut_none_heard = (reads_form_truncation reply_form []).0 (BadInteger UnexpectedEnd, refl, refl)
+cut_none_heard = (reads_form_truncation decoder_instruction_form []).0 (BadInteger UnexpectedEnd, refl, refl)
 
 -- the insertion, of the seven bytes
-insertion_read : form_at instruction_form (98 ∷ 148 ∷ 231 ∷ 131 ∷ 140 ∷ 118 ∷ 127 ∷ [])
+insertion_read : form_at encoder_instruction_form (98 ∷ 148 ∷ 231 ∷ 131 ∷ 140 ∷ 118 ∷ 127 ∷ [])
     ≡ Ok (InsertLiteralName (codes "foo") (codes "bar"), [])
 unfolding rows
 insertion_read = refl
 
-increment_read : form_at reply_form (1 ∷ 132 ∷ []) ≡ Ok (Increment 1, 132 ∷ [])
+increment_read : form_at decoder_instruction_form (1 ∷ 132 ∷ []) ≡ Ok (Increment 1, 132 ∷ [])
 unfolding rows
 increment_read = refl
 
-acknowledgment_read : form_at reply_form (132 ∷ []) ≡ Ok (Acknowledgment 4, [])
+acknowledgment_read : form_at decoder_instruction_form (132 ∷ []) ≡ Ok (Acknowledgment 4, [])
 unfolding rows
 acknowledgment_read = refl
 
@@ -242,7 +242,7 @@ line_then : {L : Type 0} (form_of : ℕ → Option (Form L)) (bytes rest : List 
     → form_at form_of bytes ≡ Ok (l, rest)
     → Joined (λ t x. Spells L form_of t x) rest ls → Joined (λ t x. Spells L form_of t x) bytes (l ∷ ls)
 line_then form_of bytes rest l ls e j = let k =
-    form_takes form_of bytes l rest e in (k.text, rest, k.parts, k.spells, j)
+    form_takes form_of bytes l rest e in (k.encoding, rest, k.parts, k.spells, j)
 
 -- a stream's blocks fit
 one_fits : (s : ℕ) (k : KeptStream) (ps : List (ℕ × KeptStream))
@@ -301,16 +301,16 @@ unfolding rows
 foo_bar_bytes = (((lit≤ tt, (lit≤ tt, (lit≤ tt, tt))), (lit≤ tt, (lit≤ tt, (lit≤ tt, tt)))), tt)
 
 -- the steps
-writes_it : Goes begun (Encode 4 (foo_bar ∷ [])) (Encoded 1) written
-unfolding rows Happens
+writes_it : Step begun (Encode 4 (foo_bar ∷ [])) (Encoded 1) written
+unfolding rows LawfulStep
 writes_it = inr (refl, inl (refl, refl))
 
-waits_first : Goes written (Decode 4) (MissingReferences 1) written
-unfolding rows Happens
+waits_first : Step written (Decode 4) (MissingReferences 1) written
+unfolding rows LawfulStep
 waits_first = inr (refl, inl (record { block = _; is_next = refl; answers = refl; moves = refl }))
 
-delivers_part : Goes written (ToDecoder 6) (Delivered 0) delivered_part
-unfolding rows Happens
+delivers_part : Step written (ToDecoder 6) (Delivered 0) delivered_part
+unfolding rows LawfulStep
 delivers_part =
     inr (
       refl,
@@ -326,12 +326,12 @@ delivers_part =
       },
     )
 
-still_waits : Goes delivered_part (Decode 4) (MissingReferences 1) delivered_part
-unfolding rows Happens
+still_waits : Step delivered_part (Decode 4) (MissingReferences 1) delivered_part
+unfolding rows LawfulStep
 still_waits = inr (refl, inl (record { block = _; is_next = refl; answers = refl; moves = refl }))
 
-delivers_rest : Goes delivered_part (ToDecoder 1) (Delivered 1) delivered
-unfolding rows Happens
+delivers_rest : Step delivered_part (ToDecoder 1) (Delivered 1) delivered
+unfolding rows LawfulStep
 delivers_rest =
     inr (
       refl,
@@ -341,30 +341,30 @@ delivers_rest =
         rest = [];
         table = filled;
         offered = refl;
-        joined = line_then instruction_form _ [] (InsertLiteralName (codes "foo") (codes "bar")) [] insertion_read refl;
+        joined = line_then encoder_instruction_form _ [] (InsertLiteralName (codes "foo") (codes "bar")) [] insertion_read refl;
         applies = refl;
         ends = takes_all (1 ∷ []) cut_none ((lit≤ tt, lit≤ tt), tt) refl refl refl;
       },
     )
 
-reads_it : Goes delivered (Decode 4) (Decoded (foo_bar ∷ []) 38 true) decoded
-unfolding rows Happens
+reads_it : Step delivered (Decode 4) (Decoded (foo_bar ∷ []) 38 true) decoded
+unfolding rows LawfulStep
 reads_it = inr (refl, inl (record { block = _; is_next = refl; answers = refl; moves = refl }))
 
-acknowledges_it : Goes decoded (Acknowledge 4) Acknowledged acknowledged
-unfolding rows Happens
+acknowledges_it : Step decoded (Acknowledge 4) Acknowledged acknowledged
+unfolding rows LawfulStep
 acknowledges_it = inr (refl, inl (refl, refl))
 
-no_more_to_decode : Goes acknowledged (Decode 4) (Skipped 2) acknowledged
+no_more_to_decode : Step acknowledged (Decode 4) (Skipped 2) acknowledged
 unfolding rows
 no_more_to_decode = inl (record { reason = 2; is_reason = refl; answers = refl; stays = refl })
 
-no_more_to_acknowledge : Goes acknowledged (Acknowledge 4) (Skipped 4) acknowledged
+no_more_to_acknowledge : Step acknowledged (Acknowledge 4) (Skipped 4) acknowledged
 unfolding rows
 no_more_to_acknowledge = inl (record { reason = 4; is_reason = refl; answers = refl; stays = refl })
 
-hears_both : Goes acknowledged (ToEncoder 2) Heard heard_all
-unfolding rows Happens
+hears_both : Step acknowledged (ToEncoder 2) Heard heard_all
+unfolding rows LawfulStep
 hears_both =
     inr (
       refl,
@@ -375,15 +375,15 @@ hears_both =
         table = released;
         offered = refl;
         joined =
-            line_then reply_form _ (132 ∷ []) (Increment 1) (Acknowledgment 4 ∷ []) increment_read
-            (line_then reply_form _ [] (Acknowledgment 4) [] acknowledgment_read refl);
+            line_then decoder_instruction_form _ (132 ∷ []) (Increment 1) (Acknowledgment 4 ∷ []) increment_read
+            (line_then decoder_instruction_form _ [] (Acknowledgment 4) [] acknowledgment_read refl);
         hears = refl;
-        ends = hears_all cut_none_heard refl refl;
+        ends = takes_all_at_encoder cut_none_heard refl refl;
       },
     )
 
 -- all of it: the block waits until the last byte of its instruction is delivered, then it is read, once
-whole_session : Runs begun
+whole_session : Run begun
     ((Encode 4 (foo_bar ∷ []), Encoded 1) ∷ (Decode 4, MissingReferences 1) ∷ (ToDecoder 6, Delivered 0)
     ∷ (Decode 4, MissingReferences 1) ∷ (ToDecoder 1, Delivered 1)
     ∷ (Decode 4, Decoded (foo_bar ∷ []) 38 true) ∷ (Acknowledge 4, Acknowledged) ∷ (Decode 4, Skipped 2)

@@ -8,17 +8,17 @@ use Rattle.qpack_spec.specs.Bytes.{◌>>=◌}
 use Rattle.qpack_spec.specs.Field.{Field, field_size, has_name, is_field}
 use Rattle.qpack_spec.specs.Integer.{written_integer}
 use Rattle.qpack_spec.specs.Text.{written_string}
-use Rattle.qpack_spec.specs.StaticTable.{static_table, static_place, static_name_place}
+use Rattle.qpack_spec.specs.StaticTable.{static_table, static_index, static_name_index}
 use Rattle.qpack_spec.specs.Form.{FormFault, form_at}
 use Rattle.qpack_spec.specs.Line.{Line, line_form, written_line, written_lines}
 use Rattle.qpack_spec.specs.Prefix.{prefix_for}
-use Rattle.qpack_spec.specs.Reading.{static_field, greatest}
+use Rattle.qpack_spec.specs.Reading.{static_field, greatest_of}
 use Rattle.qpack_spec.specs.BlockReading.{written_block}
-use Rattle.qpack_spec.specs.Table.{Table, empty_table, below_limit, last_place, newest, unnamed, count}
-use Rattle.qpack_spec.specs.Rule.{Draft, writes, literal_by_entry, literal, insertion_or_literal, by_entry, by_static}
-use Rattle.qpack_spec.specs.Rule.{rule_field, rule_fields, blank, rule, block_of}
-use Rattle.qpack_spec.specs.Stateless.{literal_alone, line_alone, stateless_line, stateless_block, StatelessFault}
-use Rattle.qpack_spec.specs.Stateless.{field_alone, or_bad_bytes, within_limit, stateless_at, stateless_reading}
+use Rattle.qpack_spec.specs.Table.{Table, empty_table, below_limit, last_position, newest_index, without_references, insert_count}
+use Rattle.qpack_spec.specs.Rule.{Draft, with_line, literal_by_entry, literal, insertion_or_literal, by_entry, by_static}
+use Rattle.qpack_spec.specs.Rule.{rule_field, rule_fields, empty_draft, rule, block_of}
+use Rattle.qpack_spec.specs.Stateless.{stateless_literal, stateless_line_of, stateless_line, stateless_block, StatelessFault}
+use Rattle.qpack_spec.specs.Stateless.{stateless_field, or_bad_bytes, within_limit, stateless_at, stateless_reading}
 use Rattle.qpack_spec.specs.Stateless.{RuleWithoutTable, up_to_limit, StatelessPairAgrees}
 use Rattle.qpack_spec.specs.WrittenLaws.{IsWritableField, IsWritableLine}
 use Rattle.qpack_spec.proofs.Places.{static_found, static_name_found, named_field}
@@ -32,31 +32,31 @@ use Rattle.qpack_spec.proofs.BlockReadings.{prefix_spelled, prefix_again}
 nothing : Table
 nothing = empty_table 0 None 0
 
-none_newest : (p : Field → Bool) → newest nothing p ≡ None
-unfolding newest last_place nothing
+none_newest : (p : Field → Bool) → newest_index nothing p ≡ None
+unfolding newest_index last_position nothing
 none_newest p = refl
 
 literal_is : (base : ℕ) (d : Draft) (f : Field) → d.table ≡ nothing → (o : Option ℕ)
-    → literal base d f o ≡ writes d (literal_alone f o)
+    → literal base d f o ≡ with_line d (stateless_literal f o)
 literal_is base d f e (Some i) = refl
 literal_is base d f e None =
-    ap (literal_by_entry base d f) (ap (λ (t : Table). newest t (has_name f.name)) e ∙ none_newest (has_name f.name))
+    ap (literal_by_entry base d f) (ap (λ (t : Table). newest_index t (has_name f.name)) e ∙ none_newest (has_name f.name))
 
 no_insertion : (base : ℕ) (d : Draft) (f : Field) → d.table ≡ nothing
-    → insertion_or_literal base d f ≡ literal base d f (static_name_place f.name)
+    → insertion_or_literal base d f ≡ literal base d f (static_name_index f.name)
 unfolding nothing
 no_insertion base d f e = rw (ap (λ (t : Table). below_limit t) e) refl
 
 static_is : (base : ℕ) (d : Draft) (f : Field) → d.table ≡ nothing → (o : Option ℕ)
-    → by_static base d f o ≡ writes d (line_alone f o)
+    → by_static base d f o ≡ with_line d (stateless_line_of f o)
 static_is base d f e (Some i) = refl
 static_is base d f e None =
-    ap (by_entry base d f) (ap (λ (t : Table). newest t (is_field f)) e ∙ none_newest (is_field f))
-    ∙ no_insertion base d f e ∙ literal_is base d f e (static_name_place f.name)
+    ap (by_entry base d f) (ap (λ (t : Table). newest_index t (is_field f)) e ∙ none_newest (is_field f))
+    ∙ no_insertion base d f e ∙ literal_is base d f e (static_name_index f.name)
 
-field_is : (base : ℕ) (d : Draft) (f : Field) → d.table ≡ nothing → rule_field base d f ≡ writes d (stateless_line f)
+field_is : (base : ℕ) (d : Draft) (f : Field) → d.table ≡ nothing → rule_field base d f ≡ with_line d (stateless_line f)
 unfolding rule_field
-field_is base d f e = static_is base d f e (static_place f)
+field_is base d f e = static_is base d f e (static_index f)
 
 drafted : List Line → Draft
 drafted ls = record { table = nothing; lines = ls; instructions = [] }
@@ -65,7 +65,7 @@ drafted_table : (ls : List Line) → (drafted ls).table ≡ nothing
 unfolding drafted
 drafted_table ls = refl
 
-drafted_writes : (ls : List Line) (l : Line) → writes (drafted ls) l ≡ drafted (ls ++ l ∷ [])
+drafted_writes : (ls : List Line) (l : Line) → with_line (drafted ls) l ≡ drafted (ls ++ l ∷ [])
 unfolding drafted
 drafted_writes ls l = refl
 
@@ -78,18 +78,18 @@ fields_are base ls (f ∷ fs) =
     ∙ fields_are base (ls ++ stateless_line f ∷ []) fs
     ∙ ap drafted (append_assoc ls (stateless_line f ∷ []) (map (λ g. stateless_line g) fs))
 
-blank_is : blank nothing ≡ drafted []
-unfolding drafted unnamed nothing
+blank_is : empty_draft nothing ≡ drafted []
+unfolding drafted without_references nothing
 blank_is = refl
 
 block_is : (ls : List Line) → block_of nothing (drafted ls)
     ≡ record { prefix = record { count = 0; sign = false; delta = 0 }; lines = ls }
-unfolding drafted nothing prefix_for greatest
+unfolding drafted nothing prefix_for greatest_of
 block_is ls = refl
 
 rule_is : (fs : List Field) → rule nothing fs ≡ drafted (map (λ f. stateless_line f) fs)
 unfolding rule
-rule_is fs = ap (λ d. rule_fields (count nothing) d fs) blank_is ∙ fields_are (count nothing) [] fs
+rule_is fs = ap (λ d. rule_fields (insert_count nothing) d fs) blank_is ∙ fields_are (insert_count nothing) [] fs
 
 pub rule_without : RuleWithoutTable
 unfolding nothing
@@ -100,7 +100,7 @@ rule_without fs = ap (block_of nothing) (rule_is fs) ∙ block_is (map (λ f. st
 -- each line can be written, is no post-base line, and means its field
 record WrittenAlone (f : Field) (l : Line) : Type 0 where
   pub writable : IsWritableLine l
-  pub means : field_alone l ≡ Ok f
+  pub means : stateless_field l ≡ Ok f
   pub first : ℕ
   pub more : List ℕ
   pub begins : written_line l ≡ first ∷ more
@@ -110,8 +110,8 @@ static_means : (i : ℕ) (g : Field) → slice_get static_table i ≡ Some g →
 unfolding static_field
 static_means i g e = rw e refl
 
-literal_written : (f : Field) → IsWritableField f → (o : Option ℕ) → static_name_place f.name ≡ o
-    → WrittenAlone f (literal_alone f o)
+literal_written : (f : Field) → IsWritableField f → (o : Option ℕ) → static_name_index f.name ≡ o
+    → WrittenAlone f (stateless_literal f o)
 unfolding written_line
 literal_written f w (Some i) e =
     let at = static_name_found f.name i e in
@@ -139,7 +139,7 @@ literal_written f w None e =
       high = omega (arith, s.high);
     }
 
-line_written : (f : Field) → IsWritableField f → (o : Option ℕ) → static_place f ≡ o → WrittenAlone f (line_alone f o)
+line_written : (f : Field) → IsWritableField f → (o : Option ℕ) → static_index f ≡ o → WrittenAlone f (stateless_line_of f o)
 unfolding written_line
 line_written f w (Some i) e =
     let at = static_found f i e in
@@ -153,12 +153,12 @@ line_written f w (Some i) e =
       begins = s.begins;
       high = omega (arith, s.high);
     }
-line_written f w None e = literal_written f w (static_name_place f.name) refl
+line_written f w None e = literal_written f w (static_name_index f.name) refl
 
 -- what is read of the next line, and behind it
 next_alone : ℕ → ℕ → ℕ → Result (Line × List ℕ) FormFault → Result (List Field) StatelessFault
 next_alone steps limit sum r =
-    or_bad_bytes r >>= λ l. field_alone l.0 >>= λ f. within_limit limit sum f
+    or_bad_bytes r >>= λ l. stateless_field l.0 >>= λ f. within_limit limit sum f
     >>= λ g. stateless_at steps limit (sum + field_size g) l.1 >>= λ fs. Ok (g ∷ fs)
 
 next_is : (steps limit sum b : ℕ) (bytes : List ℕ) → 32 ≤ b
@@ -166,7 +166,7 @@ next_is : (steps limit sum b : ℕ) (bytes : List ℕ) → 32 ≤ b
 unfolding stateless_at next_alone
 next_is steps limit sum b bytes h = rw (le-ltb b 32 h) refl
 
-next_read : (steps limit sum : ℕ) (l : Line) (rest : List ℕ) (f : Field) → field_alone l ≡ Ok f
+next_read : (steps limit sum : ℕ) (l : Line) (rest : List ℕ) (f : Field) → stateless_field l ≡ Ok f
     → next_alone steps limit sum (Ok (l, rest))
     ≡ (within_limit limit sum f >>= λ g. stateless_at steps limit (sum + field_size g) rest >>= λ fs. Ok (g ∷ fs))
 unfolding next_alone
@@ -196,7 +196,7 @@ read_alone : (steps limit sum : ℕ) (fs : List Field) → AllByRecursion IsWrit
     → stateless_at steps limit sum (written_lines (map (λ f. stateless_line f) fs)) ≡ up_to_limit limit sum fs
 read_alone steps limit sum [] w h = ap (stateless_at steps limit sum) no_lines ∙ none_alone steps limit sum
 read_alone zero limit sum (f ∷ fs) w h =
-    let a = line_written f w.0 (static_place f) refl in
+    let a = line_written f w.0 (static_index f) refl in
     absurd (omega (
       arith,
       h,
@@ -208,7 +208,7 @@ read_alone zero limit sum (f ∷ fs) w h =
 read_alone (suc steps) limit sum (f ∷ fs) w h =
     let l = stateless_line f in
     let rest = written_lines (map (λ g. stateless_line g) fs) in
-    let a = line_written f w.0 (static_place f) refl in
+    let a = line_written f w.0 (static_index f) refl in
     let split : written_lines (l ∷ map (λ g. stateless_line g) fs) ≡ a.first ∷ (a.more ++ rest) =
     lines_cons l (map (λ g. stateless_line g) fs) ∙ ap (λ x. x ++ rest) a.begins in
     let read : form_at line_form (a.first ∷ (a.more ++ rest)) ≡ Ok (l, rest) =

@@ -2,32 +2,32 @@
 use Rattle.std.proofs.Common.{ℕ, ◌^◌, ◌≡◌, true, false, List, [], ◌∷◌, None, Some, Ok, Err, refl}
 use Rattle.std.specs.Prelude.{codes}
 use Rattle.qpack_spec.specs.Integer.{written_groups, groups_at, integer_at, written_integer, UnexpectedEnd}
-use Rattle.qpack_spec.specs.Huffman.{bits_of, ones, bytes_by_length, bytes_of_length, first_word, word_length, word_of}
-use Rattle.qpack_spec.specs.Huffman.{number_from, packed, payload_of, word_at, is_padding, item_at, text_at}
+use Rattle.qpack_spec.specs.Huffman.{bits_of, ones, bytes_by_length, bytes_of_length, first_code, code_length, code_of}
+use Rattle.qpack_spec.specs.Huffman.{number_from, bytes_of_bits, payload_of, code_at, is_padding, item_at, text_at}
 use Rattle.qpack_spec.specs.Huffman.{text_of_bits}
 use Rattle.qpack_spec.specs.Text.{string_at, written_string, EndsEarly, LengthOverflows}
 use Rattle.qpack_spec.specs.Field.{Field}
-use Rattle.qpack_spec.specs.StaticTable.{field, static_table, static_place, static_name_place}
+use Rattle.qpack_spec.specs.StaticTable.{field, static_table, static_index, static_name_index}
 use Rattle.qpack_spec.specs.Form.{BadInteger, BadString, made_at, form_at}
 use Rattle.qpack_spec.specs.Line.{line_form, written_line, written_lines}
-use Rattle.qpack_spec.specs.Instruction.{instruction_form, reply_form, written_instruction, written_instructions}
-use Rattle.qpack_spec.specs.Instruction.{written_reply, written_replies}
+use Rattle.qpack_spec.specs.Instruction.{encoder_instruction_form, decoder_instruction_form, written_encoder_instruction, written_encoder_instructions}
+use Rattle.qpack_spec.specs.Instruction.{written_decoder_instruction, written_decoder_instructions}
 use Rattle.qpack_spec.specs.Prefix.{prefix_for, required_at, read_required, read_base, read_prefix, written_prefix}
 use Rattle.qpack_spec.specs.Prefix.{prefix_at}
-use Rattle.qpack_spec.specs.Window.{excess, entry, recent, insertion, effect, after, NoEntry, NoStaticField, DoesNotFit}
+use Rattle.qpack_spec.specs.Window.{eviction_count, absolute_entry, relative_entry, insertion, effect, window_after, NoEntry, NoStaticField, DoesNotFit}
 use Rattle.qpack_spec.specs.Window.{AboveMaximum, UnknownStream}
-use Rattle.qpack_spec.specs.History.{window_of, whole, grown}
+use Rattle.qpack_spec.specs.History.{window_of, whole_window, history_after}
 use Rattle.qpack_spec.specs.Reading.{BadForm, NotStatic, static_field, relative_field, post_base_field, line_field}
-use Rattle.qpack_spec.specs.Reading.{fields_of, names_of, references_of, greatest, reading}
+use Rattle.qpack_spec.specs.Reading.{fields_of, references_of_line, references_of, greatest_of, reading}
 use Rattle.qpack_spec.specs.BlockReading.{fields_at, reading_of_bytes, written_block}
-use Rattle.qpack_spec.specs.Table.{window, track, naming, is_held, none_held, has_room, may_name, with_entry}
-use Rattle.qpack_spec.specs.Table.{last_place, newest, put, resized, applied, commit, unnamed, without_oldest}
-use Rattle.qpack_spec.specs.Table.{without_stream, raised, heard}
+use Rattle.qpack_spec.specs.Table.{window, with_number, with_reference, is_evictable, all_evictable, has_room, may_reference, with_entry}
+use Rattle.qpack_spec.specs.Table.{last_position, newest_index, put, with_capacity, apply_encoder_instruction, commit, without_references, without_oldest}
+use Rattle.qpack_spec.specs.Table.{without_stream, with_increment, apply_decoder_instruction}
 use Rattle.qpack_spec.specs.Rule.{instruction_for, rule_field, rule}
 use Rattle.qpack_spec.specs.Session.{Encode, Decode, Acknowledge, Cancel}
 use Rattle.qpack_spec.specs.Stateless.{stateless_block, BadSection, NamesEntry, TooLong, stateless_at}
 use Rattle.qpack_spec.specs.Stateless.{stateless_reading}
-use Rattle.qpack_spec.specs.Session.{Session, opened, with_block, with_decoded, with_kept, stream_at, skip_reason}
+use Rattle.qpack_spec.specs.Session.{Session, initial_session, with_block, with_decoded, with_kept_stream, stream_at, skip_reason}
 use Rattle.qpack_spec.specs.Session.{is_consumed}
 
 alone : List Field → List ℕ
@@ -35,27 +35,27 @@ alone fs = written_block (stateless_block fs)
 
 -- sessions: a block on stream 4; the same decoded, where its insertion was taken; acknowledged; cancelled
 one_block : Session
-one_block = with_block (opened 4096 1) 4 (field (codes "foo") (codes "bar") ∷ [])
+one_block = with_block (initial_session 4096 1) 4 (field (codes "foo") (codes "bar") ∷ [])
 
 decoded_block : Session
 decoded_block = with_decoded one_block 4
 
 acknowledged_block : Session
-acknowledged_block = with_kept decoded_block 4 (record (stream_at decoded_block.streams 4) { acknowledged = 1 })
+acknowledged_block = with_kept_stream decoded_block 4 (record (stream_at decoded_block.streams 4) { acknowledged = 1 })
 
 cancelled_stream : Session
-cancelled_stream = with_kept one_block 4 (record (stream_at one_block.streams 4) { cancelled = true })
+cancelled_stream = with_kept_stream one_block 4 (record (stream_at one_block.streams 4) { cancelled = true })
 
 -- all that has to unfold
 rows : ℕ
-unfolding excess written_groups groups_at integer_at written_integer bits_of ones bytes_by_length bytes_of_length
-    first_word word_length word_of number_from packed payload_of word_at is_padding item_at text_at text_of_bits
-    string_at written_string static_table static_place static_name_place line_form written_line written_lines
-    instruction_form reply_form written_instruction written_instructions written_reply written_replies made_at form_at
-    prefix_for required_at read_required read_base read_prefix written_prefix prefix_at entry recent insertion effect
-    after window_of whole grown static_field relative_field post_base_field line_field fields_of names_of references_of
-    greatest reading fields_at reading_of_bytes written_block window track naming is_held none_held has_room may_name
-    with_entry last_place newest put resized applied commit unnamed without_oldest without_stream raised heard
+unfolding eviction_count written_groups groups_at integer_at written_integer bits_of ones bytes_by_length bytes_of_length
+    first_code code_length code_of number_from bytes_of_bits payload_of code_at is_padding item_at text_at text_of_bits
+    string_at written_string static_table static_index static_name_index line_form written_line written_lines
+    encoder_instruction_form decoder_instruction_form written_encoder_instruction written_encoder_instructions written_decoder_instruction written_decoder_instructions made_at form_at
+    prefix_for required_at read_required read_base read_prefix written_prefix prefix_at absolute_entry relative_entry insertion effect
+    window_after window_of whole_window history_after static_field relative_field post_base_field line_field fields_of references_of_line references_of
+    greatest_of reading fields_at reading_of_bytes written_block window with_number with_reference is_evictable all_evictable has_room may_reference
+    with_entry last_position newest_index put with_capacity apply_encoder_instruction commit without_references without_oldest without_stream with_increment apply_decoder_instruction
     instruction_for rule_field rule alone one_block decoded_block acknowledged_block cancelled_stream stateless_at
     stateless_reading skip_reason
 rows = 0
@@ -232,6 +232,6 @@ unfolding rows
 consumed_no_static = refl
 
 -- an acknowledgment that finds no open block is
-consumed_reply : (is_consumed (UnknownStream 4)) ≡ true
+consumed_decoder_instruction : (is_consumed (UnknownStream 4)) ≡ true
 unfolding rows
-consumed_reply = refl
+consumed_decoder_instruction = refl

@@ -9,14 +9,14 @@ use Rattle.qpack_spec.specs.Form.{FormFault, form_at}
 use Rattle.qpack_spec.specs.Line.{Line, IndexedStatic, IndexedDynamic, IndexedPostBase, NamedStatic, NamedDynamic}
 use Rattle.qpack_spec.specs.Line.{NamedPostBase, Literal, line_form}
 use Rattle.qpack_spec.specs.Prefix.{Prefix, read_required, read_prefix, prefix_at}
-use Rattle.qpack_spec.specs.Window.{Window, agreed_maximum}
+use Rattle.qpack_spec.specs.Window.{Window, maximum_capacity}
 use Rattle.qpack_spec.specs.Reading.{Fault, BadForm, BelowWindow, BehindBase}
-use Rattle.qpack_spec.specs.Reading.{static_field, relative_field, post_base_field, valued, line_field, Fields}
-use Rattle.qpack_spec.specs.Reading.{Faulty, answered}
+use Rattle.qpack_spec.specs.Reading.{static_field, relative_field, post_base_field, field_with_value, line_field, Fields}
+use Rattle.qpack_spec.specs.Reading.{Faulty, reading_of_fields}
 use Rattle.qpack_spec.specs.BlockReading.{or_bad_form, fields_at, fields_in_bytes, bytes_behind, section_behind}
 use Rattle.qpack_spec.specs.BlockReading.{reading_of_bytes}
-use Rattle.qpack_spec.specs.Stateless.{StatelessFault, BadSection, NamesEntry, TooLong, held_size, or_bad_section}
-use Rattle.qpack_spec.specs.Stateless.{field_alone, stateless_at, stateless_reading, up_to_limit}
+use Rattle.qpack_spec.specs.Stateless.{StatelessFault, BadSection, NamesEntry, TooLong, saturated_size, or_bad_section}
+use Rattle.qpack_spec.specs.Stateless.{stateless_field, stateless_at, stateless_reading, up_to_limit}
 use Rattle.qpack_spec.specs.StatelessMeaning.{no_table, IsNoEntry, AgreesWithoutTable, StatelessIsWithoutTable}
 use Rattle.qpack_spec.proofs.FormLaws.{form_takes}
 use Rattle.qpack_spec.proofs.StatelessMeanings.{before, limited, meant, next, next_ok, meant_ok, low_is, high_is}
@@ -37,27 +37,27 @@ static_agrees : (r : Result Field Fault) → LineAgrees (or_bad_section r) r
 static_agrees (Ok f) = refl
 static_agrees (Err e) = refl
 
-relative_none : (agreed : Option ℕ) (relative : ℕ)
-    → relative_field (no_table agreed) 0 relative ≡ Err (BelowWindow relative)
+relative_none : (agreed_max : Option ℕ) (relative : ℕ)
+    → relative_field (no_table agreed_max) 0 relative ≡ Err (BelowWindow relative)
 unfolding relative_field
-relative_none agreed relative = rw (le-ltb 0 (0 - relative) (omega arith)) refl
+relative_none agreed_max relative = rw (le-ltb 0 (0 - relative) (omega arith)) refl
 
-post_base_none : (agreed : Option ℕ) (post_base : ℕ)
-    → post_base_field (no_table agreed) 0 post_base ≡ Err (BehindBase post_base)
+post_base_none : (agreed_max : Option ℕ) (post_base : ℕ)
+    → post_base_field (no_table agreed_max) 0 post_base ≡ Err (BehindBase post_base)
 unfolding post_base_field
-post_base_none agreed post_base = rw (lt-ltb 0 (0 + post_base + 1) (omega arith)) refl
+post_base_none agreed_max post_base = rw (lt-ltb 0 (0 + post_base + 1) (omega arith)) refl
 
-line_agrees : (agreed : Option ℕ) (l : Line) → LineAgrees (field_alone l) (line_field (no_table agreed) 0 l)
+line_agrees : (agreed_max : Option ℕ) (l : Line) → LineAgrees (stateless_field l) (line_field (no_table agreed_max) 0 l)
 unfolding line_field
-line_agrees agreed (IndexedStatic index) = static_agrees (static_field index)
-line_agrees agreed (IndexedDynamic relative) = (BelowWindow relative, relative_none agreed relative, tt)
-line_agrees agreed (IndexedPostBase post_base) = (BehindBase post_base, post_base_none agreed post_base, tt)
-line_agrees agreed (NamedStatic index value) = static_agrees (valued value (static_field index))
-line_agrees agreed (NamedDynamic relative value) =
-    (BelowWindow relative, ap (valued value) (relative_none agreed relative), tt)
-line_agrees agreed (NamedPostBase post_base value) =
-    (BehindBase post_base, ap (valued value) (post_base_none agreed post_base), tt)
-line_agrees agreed (Literal name value) = refl
+line_agrees agreed_max (IndexedStatic index) = static_agrees (static_field index)
+line_agrees agreed_max (IndexedDynamic relative) = (BelowWindow relative, relative_none agreed_max relative, tt)
+line_agrees agreed_max (IndexedPostBase post_base) = (BehindBase post_base, post_base_none agreed_max post_base, tt)
+line_agrees agreed_max (NamedStatic index value) = static_agrees (field_with_value value (static_field index))
+line_agrees agreed_max (NamedDynamic relative value) =
+    (BelowWindow relative, ap (field_with_value value) (relative_none agreed_max relative), tt)
+line_agrees agreed_max (NamedPostBase post_base value) =
+    (BehindBase post_base, ap (field_with_value value) (post_base_none agreed_max post_base), tt)
+line_agrees agreed_max (Literal name value) = refl
 
 -- a line that means a field under the table means it alone
 line_alone : (r : Result Field StatelessFault) (q : Result Field Fault) (f : Field) → LineAgrees r q → q ≡ Ok f
@@ -101,94 +101,94 @@ field_agrees f (Err (BadSection e)) q k = ap (λ (x : Result (List Field) Fault)
 field_agrees f (Err NamesEntry) q k = (k.0, ap (λ (x : Result (List Field) Fault). x >>= λ gs. Ok (f ∷ gs)) k.1, k.2)
 field_agrees f (Err (TooLong sum)) q k = tt
 
-line_stops : (steps : ℕ) (agreed : Option ℕ) (e : StatelessFault) (q : Result Field Fault) (rest : List ℕ)
-    → LineAgrees (Err e) q → LinesAgree (Err e) (behind_field steps (no_table agreed) 0 q rest)
+line_stops : (steps : ℕ) (agreed_max : Option ℕ) (e : StatelessFault) (q : Result Field Fault) (rest : List ℕ)
+    → LineAgrees (Err e) q → LinesAgree (Err e) (behind_field steps (no_table agreed_max) 0 q rest)
 unfolding behind_field
-line_stops steps agreed (BadSection x) q rest k =
-    ap (λ (r : Result Field Fault). r >>= λ f. fields_at steps (no_table agreed) 0 rest >>= λ fs. Ok (f ∷ fs)) k
-line_stops steps agreed NamesEntry q rest k = (
+line_stops steps agreed_max (BadSection x) q rest k =
+    ap (λ (r : Result Field Fault). r >>= λ f. fields_at steps (no_table agreed_max) 0 rest >>= λ fs. Ok (f ∷ fs)) k
+line_stops steps agreed_max NamesEntry q rest k = (
   k.0,
-  ap (λ (r : Result Field Fault). r >>= λ f. fields_at steps (no_table agreed) 0 rest >>= λ fs. Ok (f ∷ fs))
+  ap (λ (r : Result Field Fault). r >>= λ f. fields_at steps (no_table agreed_max) 0 rest >>= λ fs. Ok (f ∷ fs))
       k.1,
   k.2,
 )
-line_stops steps agreed (TooLong sum) q rest k = tt
+line_stops steps agreed_max (TooLong sum) q rest k = tt
 
 -- a first byte below 32 is of a post-base line
 low_alone : (b : ℕ) (bytes : List ℕ) (l : Line) (rest : List ℕ) → b < 32 → form_at line_form (b ∷ bytes) ≡ Ok (l, rest)
-    → field_alone l ≡ Err NamesEntry
+    → stateless_field l ≡ Err NamesEntry
 low_alone b bytes l rest less q =
     let t = form_takes line_form (b ∷ bytes) l rest q in
     let same : b ∷ bytes ≡ t.spells.first ∷ (t.spells.more ++ rest) = t.parts ∙ ap (λ x. x ++ rest) t.spells.begins in
     let first : t.spells.first ≡ b = cc in
-    low_means t.spells.first t.text l t.spells.form (omega (arith, less, first)) t.spells.names t.spells.spells
+    low_means t.spells.first t.encoding l t.spells.form (omega (arith, less, first)) t.spells.names t.spells.spells
 
-low_agrees : (steps : ℕ) (agreed : Option ℕ) (b : ℕ) (bytes : List ℕ) → b < 32 → (r : Result (Line × List ℕ) FormFault)
+low_agrees : (steps : ℕ) (agreed_max : Option ℕ) (b : ℕ) (bytes : List ℕ) → b < 32 → (r : Result (Line × List ℕ) FormFault)
     → form_at line_form (b ∷ bytes) ≡ r
-    → LinesAgree (Err NamesEntry) (behind_line steps (no_table agreed) 0 r)
+    → LinesAgree (Err NamesEntry) (behind_line steps (no_table agreed_max) 0 r)
 unfolding behind_line
-low_agrees steps agreed b bytes less (Err e) q = (BadForm e, refl, tt)
-low_agrees steps agreed b bytes less (Ok x) q =
-    line_stops steps agreed NamesEntry (line_field (no_table agreed) 0 x.0) x.1
-    (subst (λ (r : Result Field StatelessFault). LineAgrees r (line_field (no_table agreed) 0 x.0))
-    (low_alone b bytes x.0 x.1 less q) (line_agrees agreed x.0))
+low_agrees steps agreed_max b bytes less (Err e) q = (BadForm e, refl, tt)
+low_agrees steps agreed_max b bytes less (Ok x) q =
+    line_stops steps agreed_max NamesEntry (line_field (no_table agreed_max) 0 x.0) x.1
+    (subst (λ (r : Result Field StatelessFault). LineAgrees r (line_field (no_table agreed_max) 0 x.0))
+    (low_alone b bytes x.0 x.1 less q) (line_agrees agreed_max x.0))
 
 -- behind a whole line
-meant_agrees : (steps limit sum : ℕ) (agreed : Option ℕ) (rest : List ℕ)
-    → ((n : ℕ) → LinesAgree (stateless_at steps limit n rest) (fields_at steps (no_table agreed) 0 rest))
+meant_agrees : (steps limit sum : ℕ) (agreed_max : Option ℕ) (rest : List ℕ)
+    → ((n : ℕ) → LinesAgree (stateless_at steps limit n rest) (fields_at steps (no_table agreed_max) 0 rest))
     → (r : Result Field StatelessFault) (q : Result Field Fault) → LineAgrees r q
-    → LinesAgree (meant steps limit sum r rest) (behind_field steps (no_table agreed) 0 q rest)
+    → LinesAgree (meant steps limit sum r rest) (behind_field steps (no_table agreed_max) 0 q rest)
 unfolding behind_field meant
-meant_agrees steps limit sum agreed rest ih (Err e) q k = line_stops steps agreed e q rest k
-meant_agrees steps limit sum agreed rest ih (Ok f) q k =
+meant_agrees steps limit sum agreed_max rest ih (Err e) q k = line_stops steps agreed_max e q rest k
+meant_agrees steps limit sum agreed_max rest ih (Ok f) q k =
     subst (λ (x : Result Field Fault). LinesAgree (limited steps limit sum f rest)
-    (x >>= λ g. fields_at steps (no_table agreed) 0 rest >>= λ fs. Ok (g ∷ fs))) (sym k)
-    (pick (cases_lt limit (held_size (sum + field_size f))))
+    (x >>= λ g. fields_at steps (no_table agreed_max) 0 rest >>= λ fs. Ok (g ∷ fs))) (sym k)
+    (pick (cases_lt limit (saturated_size (sum + field_size f))))
   where
-    pick : (limit < held_size (sum + field_size f)) ⊎ (held_size (sum + field_size f) ≤ limit)
-        → LinesAgree (limited steps limit sum f rest) (fields_at steps (no_table agreed) 0 rest >>= λ fs. Ok (f ∷ fs))
+    pick : (limit < saturated_size (sum + field_size f)) ⊎ (saturated_size (sum + field_size f) ≤ limit)
+        → LinesAgree (limited steps limit sum f rest) (fields_at steps (no_table agreed_max) 0 rest >>= λ fs. Ok (f ∷ fs))
     pick (inl long) =
-        subst (λ (x : Result (List Field) StatelessFault). LinesAgree x (fields_at steps (no_table agreed) 0 rest
+        subst (λ (x : Result (List Field) StatelessFault). LinesAgree x (fields_at steps (no_table agreed_max) 0 rest
         >>= λ fs. Ok (f ∷ fs))) (sym (limited_long steps limit sum f rest long)) tt
     pick (inr fits) =
-        subst (λ (x : Result (List Field) StatelessFault). LinesAgree x (fields_at steps (no_table agreed) 0 rest
+        subst (λ (x : Result (List Field) StatelessFault). LinesAgree x (fields_at steps (no_table agreed_max) 0 rest
         >>= λ fs. Ok (f ∷ fs))) (sym (limited_ok steps limit sum f rest fits))
-        (field_agrees f (stateless_at steps limit (sum + field_size f) rest) (fields_at steps (no_table agreed) 0 rest)
+        (field_agrees f (stateless_at steps limit (sum + field_size f) rest) (fields_at steps (no_table agreed_max) 0 rest)
         (ih (sum + field_size f)))
 
-high_agrees : (steps limit sum : ℕ) (agreed : Option ℕ)
-    → ((n : ℕ) (x : List ℕ) → LinesAgree (stateless_at steps limit n x) (fields_at steps (no_table agreed) 0 x))
+high_agrees : (steps limit sum : ℕ) (agreed_max : Option ℕ)
+    → ((n : ℕ) (x : List ℕ) → LinesAgree (stateless_at steps limit n x) (fields_at steps (no_table agreed_max) 0 x))
     → (r : Result (Line × List ℕ) FormFault)
-    → LinesAgree (next steps limit sum r) (behind_line steps (no_table agreed) 0 r)
+    → LinesAgree (next steps limit sum r) (behind_line steps (no_table agreed_max) 0 r)
 unfolding behind_line next
-high_agrees steps limit sum agreed ih (Err e) = refl
-high_agrees steps limit sum agreed ih (Ok x) =
-    meant_agrees steps limit sum agreed x.1 (λ n. ih n x.1) (field_alone x.0) (line_field (no_table agreed) 0 x.0)
-    (line_agrees agreed x.0)
+high_agrees steps limit sum agreed_max ih (Err e) = refl
+high_agrees steps limit sum agreed_max ih (Ok x) =
+    meant_agrees steps limit sum agreed_max x.1 (λ n. ih n x.1) (stateless_field x.0) (line_field (no_table agreed_max) 0 x.0)
+    (line_agrees agreed_max x.0)
 
-lines_agree : (steps limit sum : ℕ) (agreed : Option ℕ) (bytes : List ℕ)
-    → LinesAgree (stateless_at steps limit sum bytes) (fields_at steps (no_table agreed) 0 bytes)
+lines_agree : (steps limit sum : ℕ) (agreed_max : Option ℕ) (bytes : List ℕ)
+    → LinesAgree (stateless_at steps limit sum bytes) (fields_at steps (no_table agreed_max) 0 bytes)
 unfolding stateless_at fields_at
-lines_agree zero limit sum agreed [] = refl
-lines_agree zero limit sum agreed (b ∷ bytes) = refl
-lines_agree (suc steps) limit sum agreed [] = refl
-lines_agree (suc steps) limit sum agreed (b ∷ bytes) = pick (cases_lt b 32) (λ n x. lines_agree steps limit n agreed x)
+lines_agree zero limit sum agreed_max [] = refl
+lines_agree zero limit sum agreed_max (b ∷ bytes) = refl
+lines_agree (suc steps) limit sum agreed_max [] = refl
+lines_agree (suc steps) limit sum agreed_max (b ∷ bytes) = pick (cases_lt b 32) (λ n x. lines_agree steps limit n agreed_max x)
   where
     pick : (b < 32) ⊎ (32 ≤ b) → ((n : ℕ) (x : List ℕ)
-        → LinesAgree (stateless_at steps limit n x) (fields_at steps (no_table agreed) 0 x))
+        → LinesAgree (stateless_at steps limit n x) (fields_at steps (no_table agreed_max) 0 x))
         → LinesAgree (stateless_at (suc steps) limit sum (b ∷ bytes))
-        (fields_at (suc steps) (no_table agreed) 0 (b ∷ bytes))
+        (fields_at (suc steps) (no_table agreed_max) 0 (b ∷ bytes))
     pick (inl less) ih =
         subst (λ (x : Result (List Field) StatelessFault). LinesAgree x
-        (fields_at (suc steps) (no_table agreed) 0 (b ∷ bytes))) (sym (low_is steps limit sum b bytes less))
-        (subst (LinesAgree (Err NamesEntry)) (sym (fields_are steps (no_table agreed) 0 b bytes))
-        (low_agrees steps agreed b bytes less (form_at line_form (b ∷ bytes)) refl))
+        (fields_at (suc steps) (no_table agreed_max) 0 (b ∷ bytes))) (sym (low_is steps limit sum b bytes less))
+        (subst (LinesAgree (Err NamesEntry)) (sym (fields_are steps (no_table agreed_max) 0 b bytes))
+        (low_agrees steps agreed_max b bytes less (form_at line_form (b ∷ bytes)) refl))
     pick (inr high) ih =
         subst (λ (x : Result (List Field) StatelessFault). LinesAgree x
-        (fields_at (suc steps) (no_table agreed) 0 (b ∷ bytes))) (sym (high_is steps limit sum b bytes high))
+        (fields_at (suc steps) (no_table agreed_max) 0 (b ∷ bytes))) (sym (high_is steps limit sum b bytes high))
         (subst (LinesAgree (next steps limit sum (form_at line_form (b ∷ bytes))))
-        (sym (fields_are steps (no_table agreed) 0 b bytes))
-        (high_agrees steps limit sum agreed ih (form_at line_form (b ∷ bytes))))
+        (sym (fields_are steps (no_table agreed_max) 0 b bytes))
+        (high_agrees steps limit sum agreed_max ih (form_at line_form (b ∷ bytes))))
 
 -- ---- and where there are fields under the table
 
@@ -215,7 +215,7 @@ not_low : {b : ℕ} → (b < 32) ⊎ (32 ≤ b) → (b < 32 → ⊥) → 32 ≤ 
 not_low (inl less) never = absurd (never less)
 not_low (inr high) never = high
 
-no_entry : (l : Line) (f : Field) → field_alone l ≡ Ok f → field_alone l ≡ Err NamesEntry → ⊥
+no_entry : (l : Line) (f : Field) → stateless_field l ≡ Ok f → stateless_field l ≡ Err NamesEntry → ⊥
 no_entry l f p q = cc
 
 no_fields_refused : (e : Fault) (fs : List Field) (is_dynamic : Bool) → Faulty e ≡ Fields fs is_dynamic → ⊥
@@ -230,42 +230,42 @@ behind_line_ok steps w base l rest = refl
 up_to_first : (steps limit sum : ℕ) (f : Field) (gs : List Field) (rest : List ℕ)
     → stateless_at steps limit (sum + field_size f) rest ≡ up_to_limit limit (sum + field_size f) gs
     → limited steps limit sum f rest ≡ up_to_limit limit sum (f ∷ gs)
-up_to_first steps limit sum f gs rest e = pick (cases_lt limit (held_size (sum + field_size f)))
+up_to_first steps limit sum f gs rest e = pick (cases_lt limit (saturated_size (sum + field_size f)))
   where
-    pick : (limit < held_size (sum + field_size f)) ⊎ (held_size (sum + field_size f) ≤ limit)
+    pick : (limit < saturated_size (sum + field_size f)) ⊎ (saturated_size (sum + field_size f) ≤ limit)
         → limited steps limit sum f rest ≡ up_to_limit limit sum (f ∷ gs)
     pick (inl long) =
-        limited_long steps limit sum f rest long ∙ rw (lt-ltb limit (held_size (sum + field_size f)) long) refl
+        limited_long steps limit sum f rest long ∙ rw (lt-ltb limit (saturated_size (sum + field_size f)) long) refl
     pick (inr fits) =
         limited_ok steps limit sum f rest fits ∙ ap (before f) e
-        ∙ rw (le-ltb limit (held_size (sum + field_size f)) fits) refl
+        ∙ rw (le-ltb limit (saturated_size (sum + field_size f)) fits) refl
 
-lines_up_to : (steps limit sum : ℕ) (agreed : Option ℕ) (bytes : List ℕ) (fs : List Field) → length bytes ≤ steps
-    → fields_at steps (no_table agreed) 0 bytes ≡ Ok fs → stateless_at steps limit sum bytes ≡ up_to_limit limit sum fs
-lines_up_to steps limit sum agreed [] fs h e =
-    let none : fs ≡ [] = ok_is fs [] (sym e ∙ no_fields steps (no_table agreed) 0) in
+lines_up_to : (steps limit sum : ℕ) (agreed_max : Option ℕ) (bytes : List ℕ) (fs : List Field) → length bytes ≤ steps
+    → fields_at steps (no_table agreed_max) 0 bytes ≡ Ok fs → stateless_at steps limit sum bytes ≡ up_to_limit limit sum fs
+lines_up_to steps limit sum agreed_max [] fs h e =
+    let none : fs ≡ [] = ok_is fs [] (sym e ∙ no_fields steps (no_table agreed_max) 0) in
     nothing_left steps limit sum ∙ ap (up_to_limit limit sum) (sym none)
-lines_up_to zero limit sum agreed (b ∷ bytes) fs h e = absurd (omega arith)
-lines_up_to (suc steps) limit sum agreed (b ∷ bytes) fs h e =
-    by_form (λ n rest gs short q. lines_up_to steps limit n agreed rest gs short q) (form_at line_form (b ∷ bytes))
-    refl (sym (fields_are steps (no_table agreed) 0 b bytes) ∙ e)
+lines_up_to zero limit sum agreed_max (b ∷ bytes) fs h e = absurd (omega arith)
+lines_up_to (suc steps) limit sum agreed_max (b ∷ bytes) fs h e =
+    by_form (λ n rest gs short q. lines_up_to steps limit n agreed_max rest gs short q) (form_at line_form (b ∷ bytes))
+    refl (sym (fields_are steps (no_table agreed_max) 0 b bytes) ∙ e)
   where
     by_form : ((n : ℕ) (rest : List ℕ) (gs : List Field) → length rest ≤ steps
-        → fields_at steps (no_table agreed) 0 rest ≡ Ok gs → stateless_at steps limit n rest ≡ up_to_limit limit n gs)
+        → fields_at steps (no_table agreed_max) 0 rest ≡ Ok gs → stateless_at steps limit n rest ≡ up_to_limit limit n gs)
         → (r : Result (Line × List ℕ) FormFault) → form_at line_form (b ∷ bytes) ≡ r
-        → behind_line steps (no_table agreed) 0 r ≡ Ok fs
+        → behind_line steps (no_table agreed_max) 0 r ≡ Ok fs
         → stateless_at (suc steps) limit sum (b ∷ bytes) ≡ up_to_limit limit sum fs
-    by_form ih (Err x) q k = absurd (no_line steps (no_table agreed) 0 x fs k)
+    by_form ih (Err x) q k = absurd (no_line steps (no_table agreed_max) 0 x fs k)
     by_form ih (Ok x) q k =
         let parts =
-        ok_lines steps (no_table agreed) 0 (line_field (no_table agreed) 0 x.0) x.1 fs
-        (sym (behind_line_ok steps (no_table agreed) 0 x.0 x.1) ∙ k) in
-        let alone : field_alone x.0 ≡ Ok parts.0 =
-        line_alone (field_alone x.0) (line_field (no_table agreed) 0 x.0) parts.0 (line_agrees agreed x.0) parts.2
+        ok_lines steps (no_table agreed_max) 0 (line_field (no_table agreed_max) 0 x.0) x.1 fs
+        (sym (behind_line_ok steps (no_table agreed_max) 0 x.0 x.1) ∙ k) in
+        let alone : stateless_field x.0 ≡ Ok parts.0 =
+        line_alone (stateless_field x.0) (line_field (no_table agreed_max) 0 x.0) parts.0 (line_agrees agreed_max x.0) parts.2
         in
         let t = form_takes line_form (b ∷ bytes) x.0 x.1 q in
         let short : length x.1 ≤ steps =
-        omega (arith, h, ap length t.parts, length-append t.text x.1, ap length t.spells.begins) in
+        omega (arith, h, ap length t.parts, length-append t.encoding x.1, ap length t.spells.begins) in
         let high : 32 ≤ b =
         not_low (cases_lt b 32) (λ less. no_entry x.0 parts.0 alone (low_alone b bytes x.0 x.1 less q)) in
         high_is steps limit sum b bytes high ∙ ap (next steps limit sum) q ∙ next_ok steps limit sum x.0 x.1
@@ -276,62 +276,62 @@ lines_up_to (suc steps) limit sum agreed (b ∷ bytes) fs h e =
 -- ---- whole sections
 
 -- under the table nothing is required, whatever the prefix says
-nothing_required : (agreed : Option ℕ) (p : Prefix) → agreed_maximum agreed 0 ≡ 0
-    → read_prefix 0 (agreed_maximum agreed 0) p ≡ Ok (0, 0)
+nothing_required : (agreed_max : Option ℕ) (p : Prefix) → maximum_capacity agreed_max 0 ≡ 0
+    → read_prefix 0 (maximum_capacity agreed_max 0) p ≡ Ok (0, 0)
 unfolding read_prefix read_required
-nothing_required agreed p none = rw none refl
+nothing_required agreed_max p none = rw none refl
 
 -- what the bytes behind a prefix give
-read_behind : (agreed : Option ℕ) (bytes rest : List ℕ) (p : Prefix) → agreed_maximum agreed 0 ≡ 0
+read_behind : (agreed_max : Option ℕ) (bytes rest : List ℕ) (p : Prefix) → maximum_capacity agreed_max 0 ≡ 0
     → prefix_at bytes ≡ Ok (p, rest)
-    → reading_of_bytes (no_table agreed) bytes ≡ answered (fields_in_bytes (no_table agreed) 0 rest) false
+    → reading_of_bytes (no_table agreed_max) bytes ≡ reading_of_fields (fields_in_bytes (no_table agreed_max) 0 rest) false
 unfolding reading_of_bytes
-read_behind agreed bytes rest p none q =
-    ap (section_behind (no_table agreed)) q ∙ ap (bytes_behind (no_table agreed) rest) (nothing_required agreed p none)
+read_behind agreed_max bytes rest p none q =
+    ap (section_behind (no_table agreed_max)) q ∙ ap (bytes_behind (no_table agreed_max) rest) (nothing_required agreed_max p none)
 
-read_refused : (agreed : Option ℕ) (bytes : List ℕ) (e : FormFault) → prefix_at bytes ≡ Err e
-    → reading_of_bytes (no_table agreed) bytes ≡ Faulty (BadForm e)
+read_refused : (agreed_max : Option ℕ) (bytes : List ℕ) (e : FormFault) → prefix_at bytes ≡ Err e
+    → reading_of_bytes (no_table agreed_max) bytes ≡ Faulty (BadForm e)
 unfolding reading_of_bytes
-read_refused agreed bytes e q = ap (section_behind (no_table agreed)) q
+read_refused agreed_max bytes e q = ap (section_behind (no_table agreed_max)) q
 
 section_agrees : (r : Result (List Field) StatelessFault) (q : Result (List Field) Fault) → LinesAgree r q
-    → AgreesWithoutTable r (answered q false)
-section_agrees (Ok fs) q k = ap (λ x. answered x false) k
-section_agrees (Err (BadSection e)) q k = ap (λ x. answered x false) k
-section_agrees (Err NamesEntry) q k = (k.0, ap (λ x. answered x false) k.1, k.2)
+    → AgreesWithoutTable r (reading_of_fields q false)
+section_agrees (Ok fs) q k = ap (λ x. reading_of_fields x false) k
+section_agrees (Err (BadSection e)) q k = ap (λ x. reading_of_fields x false) k
+section_agrees (Err NamesEntry) q k = (k.0, ap (λ x. reading_of_fields x false) k.1, k.2)
 section_agrees (Err (TooLong sum)) (Ok fs) k = λ n e. absurd cc
 section_agrees (Err (TooLong sum)) (Err x) k = λ n e. absurd cc
 
 fields_answered : (q : Result (List Field) Fault) (fs : List Field) (is_dynamic : Bool)
-    → answered q false ≡ Fields fs is_dynamic → (is_dynamic ≡ false) × (q ≡ Ok fs)
+    → reading_of_fields q false ≡ Fields fs is_dynamic → (is_dynamic ≡ false) × (q ≡ Ok fs)
 fields_answered (Ok gs) fs is_dynamic e = (cc, cc)
 fields_answered (Err x) fs is_dynamic e = absurd cc
 
 pub without_table : StatelessIsWithoutTable
-without_table agreed none limit bytes = pick (prefix_at bytes) refl
+without_table agreed_max none limit bytes = pick (prefix_at bytes) refl
   where
     pick : (r : Result (Prefix × List ℕ) FormFault) → prefix_at bytes ≡ r
-        → AgreesWithoutTable (stateless_reading limit bytes) (reading_of_bytes (no_table agreed) bytes)
-        × ((fs : List Field) (is_dynamic : Bool) → reading_of_bytes (no_table agreed) bytes ≡ Fields fs is_dynamic
+        → AgreesWithoutTable (stateless_reading limit bytes) (reading_of_bytes (no_table agreed_max) bytes)
+        × ((fs : List Field) (is_dynamic : Bool) → reading_of_bytes (no_table agreed_max) bytes ≡ Fields fs is_dynamic
         → (is_dynamic ≡ false) × (stateless_reading limit bytes ≡ up_to_limit limit 0 fs))
     pick (Err e) q =
         let alone : stateless_reading limit bytes ≡ Err (BadSection (BadForm e)) =
         section_is limit bytes ∙ ap (behind_prefix limit) q ∙ prefix_bad limit e in (
           subst (λ (r : Result (List Field) StatelessFault). AgreesWithoutTable r
-              (reading_of_bytes (no_table agreed) bytes)) (sym alone) (read_refused agreed bytes e q),
-          λ fs is_dynamic h. absurd (no_fields_refused (BadForm e) fs is_dynamic (sym (read_refused agreed bytes e q)
+              (reading_of_bytes (no_table agreed_max) bytes)) (sym alone) (read_refused agreed_max bytes e q),
+          λ fs is_dynamic h. absurd (no_fields_refused (BadForm e) fs is_dynamic (sym (read_refused agreed_max bytes e q)
               ∙ h)),
         )
     pick (Ok x) q =
         let alone : stateless_reading limit bytes ≡ stateless_at (length x.1) limit 0 x.1 =
         section_is limit bytes ∙ ap (behind_prefix limit) q ∙ prefix_ok limit x.0 x.1 in
-        let under = read_behind agreed bytes x.1 x.0 none q in (
+        let under = read_behind agreed_max bytes x.1 x.0 none q in (
           subst (λ (r : Result (List Field) StatelessFault). AgreesWithoutTable r
-              (reading_of_bytes (no_table agreed) bytes)) (sym alone)
+              (reading_of_bytes (no_table agreed_max) bytes)) (sym alone)
               (subst (AgreesWithoutTable (stateless_at (length x.1) limit 0 x.1)) (sym under)
-              (section_agrees (stateless_at (length x.1) limit 0 x.1) (fields_in_bytes (no_table agreed) 0 x.1)
-              (lines_agree (length x.1) limit 0 agreed x.1))),
+              (section_agrees (stateless_at (length x.1) limit 0 x.1) (fields_in_bytes (no_table agreed_max) 0 x.1)
+              (lines_agree (length x.1) limit 0 agreed_max x.1))),
           λ fs is_dynamic h.
-              let got = fields_answered (fields_in_bytes (no_table agreed) 0 x.1) fs is_dynamic (sym under ∙ h) in
-              (got.0, alone ∙ lines_up_to (length x.1) limit 0 agreed x.1 fs (omega arith) got.1),
+              let got = fields_answered (fields_in_bytes (no_table agreed_max) 0 x.1) fs is_dynamic (sym under ∙ h) in
+              (got.0, alone ∙ lines_up_to (length x.1) limit 0 agreed_max x.1 fs (omega arith) got.1),
         )

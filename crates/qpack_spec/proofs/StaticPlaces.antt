@@ -9,8 +9,8 @@ use Rattle.std.proofs.lemmas.Bool.{cases_lt, lt-ltb, le-ltb}
 use Rattle.std.proofs.lemmas.Option.{slice_get_within}
 use Rattle.std.proofs.lemmas.Slice.Eq.{bytes_eq-Decides}
 use Rattle.qpack_spec.specs.Field.{Field, has_name, is_field}
-use Rattle.qpack_spec.specs.StaticTable.{static_table, static_place, static_name_place, IsLeastStatic, NoStatic}
-use Rattle.qpack_spec.specs.StaticTableLaws.{StaticFieldsDiffer, StaticPlaceIsLeast, StaticNamePlaceIsLeast}
+use Rattle.qpack_spec.specs.StaticTable.{static_table, static_index, static_name_index, IsLeastStatic, NoStatic}
+use Rattle.qpack_spec.specs.StaticTableLaws.{StaticFieldsDiffer, StaticIndexIsLeast, StaticNameIndexIsLeast}
 
 same_some : {X : Type 0} (x y : X) → Some x ≡ Some y → x ≡ y
 same_some x y e = cc
@@ -93,8 +93,8 @@ is_field-Decides f g = (
 has_name-Decides : (name : List ℕ) (g : Field) → Decides (has_name name g) (g.name ≡ name)
 has_name-Decides name g = (λ e. sym ((bytes_eq-Decides name g.name).0 e), λ e. (bytes_eq-Decides name g.name).1 (sym e))
 
-pub place_is_least : StaticPlaceIsLeast
-unfolding static_place
+pub place_is_least : StaticIndexIsLeast
+unfolding static_index
 place_is_least f =
     go (position (is_field f) static_table) (places (is_field f) (λ g. g ≡ f) static_table (is_field-Decides f))
   where
@@ -103,8 +103,8 @@ place_is_least f =
     go None h = h
     go (Some i) h = record { at = h.at; before = h.before }
 
-pub name_place_is_least : StaticNamePlaceIsLeast
-unfolding static_name_place
+pub name_place_is_least : StaticNameIndexIsLeast
+unfolding static_name_index
 name_place_is_least name =
     go (position (has_name name) static_table)
     (places (has_name name) (λ g. g.name ≡ name) static_table (has_name-Decides name))

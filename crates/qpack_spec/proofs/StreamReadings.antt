@@ -28,7 +28,7 @@ no_line_read {L} form_of bytes e q =
         cut = refl;
         joined = refl;
         cut_off =
-            λ text more l p s. (let again = form_again form_of text more l s in let same = ap (form_at form_of) p in
+            λ encoding more l p s. (let again = form_again form_of encoding more l s in let same = ap (form_at form_of) p in
             absurd cc);
       };
       ends = pick (is_cut e) refl;
@@ -39,17 +39,17 @@ no_line_read {L} form_of bytes e q =
     pick true c = inl ((reads_form_truncation form_of bytes).0 (e, c, q))
     pick false c = inr (e, form_refusal form_of bytes e q c)
 
-line_read : {L : Type 0} (form_of : ℕ → Option (Form L)) (bytes text more : List ℕ) (l : L) → bytes ≡ text ++ more
-    → Spells L form_of text l
+line_read : {L : Type 0} (form_of : ℕ → Option (Form L)) (bytes encoding more : List ℕ) (l : L) → bytes ≡ encoding ++ more
+    → Spells L form_of encoding l
     → StreamReading L form_of more → StreamReading L form_of bytes
-line_read form_of bytes text more l p s k =
+line_read form_of bytes encoding more l p s k =
     record {
       lines = l ∷ k.lines;
       rest = k.rest;
       holds = record {
-        front = text ++ k.holds.front;
-        cut = p ∙ ap (λ x. text ++ x) k.holds.cut ∙ sym (append_assoc text k.holds.front k.rest);
-        joined = (text, k.holds.front, refl, s, k.holds.joined);
+        front = encoding ++ k.holds.front;
+        cut = p ∙ ap (λ x. encoding ++ x) k.holds.cut ∙ sym (append_assoc encoding k.holds.front k.rest);
+        joined = (encoding, k.holds.front, refl, s, k.holds.joined);
         cut_off = k.holds.cut_off;
       };
       ends = k.ends;
@@ -63,7 +63,7 @@ bytes_read {L} form_of zero bytes h = pick (form_at form_of bytes) refl
     pick (Err e) q = no_line_read form_of bytes e q
     pick (Ok x) q = let k =
         form_takes form_of bytes x.0 x.1 q in absurd
-        (omega (arith, h, ap length k.parts, length-append k.text x.1, ap length k.spells.begins))
+        (omega (arith, h, ap length k.parts, length-append k.encoding x.1, ap length k.spells.begins))
 bytes_read {L} form_of (suc steps) bytes h =
     pick (λ b short. bytes_read form_of steps b short) (form_at form_of bytes) refl
   where
@@ -72,8 +72,8 @@ bytes_read {L} form_of (suc steps) bytes h =
     pick ih (Err e) q = no_line_read form_of bytes e q
     pick ih (Ok x) q =
         let k = form_takes form_of bytes x.0 x.1 q in
-        line_read form_of bytes k.text x.1 x.0 k.parts k.spells
-        (ih x.1 (omega (arith, h, ap length k.parts, length-append k.text x.1, ap length k.spells.begins)))
+        line_read form_of bytes k.encoding x.1 x.0 k.parts k.spells
+        (ih x.1 (omega (arith, h, ap length k.parts, length-append k.encoding x.1, ap length k.spells.begins)))
 
 pub stream_reads : {L : Type 0} (form_of : ℕ → Option (Form L)) → EveryStreamHasAReading form_of
 stream_reads form_of bytes =

@@ -4,83 +4,83 @@ use Rattle.std.proofs.Common.{refl}
 use Rattle.std.specs.Prelude.{codes, ℤ, negsuc, if◌then◌else◌, nat_lt}
 use Rattle.qpack_spec.specs.Bytes.{◌>>=◌}
 use Rattle.qpack_spec.specs.Integer.{written_groups, groups_at, integer_at, written_integer}
-use Rattle.qpack_spec.specs.Huffman.{bits_of, ones, bytes_by_length, bytes_of_length, first_word, word_length, word_of}
-use Rattle.qpack_spec.specs.Huffman.{number_from, packed, payload_of, word_at, is_padding, item_at, text_at}
+use Rattle.qpack_spec.specs.Huffman.{bits_of, ones, bytes_by_length, bytes_of_length, first_code, code_length, code_of}
+use Rattle.qpack_spec.specs.Huffman.{number_from, bytes_of_bits, payload_of, code_at, is_padding, item_at, text_at}
 use Rattle.qpack_spec.specs.Huffman.{text_of_bits}
 use Rattle.qpack_spec.specs.Text.{string_at, written_string}
 use Rattle.qpack_spec.specs.Field.{Field}
-use Rattle.qpack_spec.specs.StaticTable.{field, static_table, static_place, static_name_place}
+use Rattle.qpack_spec.specs.StaticTable.{field, static_table, static_index, static_name_index}
 use Rattle.qpack_spec.specs.Form.{made_at, form_at}
 use Rattle.qpack_spec.specs.Line.{line_form, written_line, written_lines}
-use Rattle.qpack_spec.specs.Instruction.{Instruction, InsertStaticName, InsertDynamicName, InsertLiteralName, Duplicate}
-use Rattle.qpack_spec.specs.Instruction.{SetCapacity, Reply, Acknowledgment, Cancellation, Increment, instruction_form}
-use Rattle.qpack_spec.specs.Instruction.{reply_form, written_instruction, written_instructions, written_reply}
-use Rattle.qpack_spec.specs.Instruction.{written_replies}
+use Rattle.qpack_spec.specs.Instruction.{EncoderInstruction, InsertStaticName, InsertDynamicName, InsertLiteralName, Duplicate}
+use Rattle.qpack_spec.specs.Instruction.{SetCapacity, DecoderInstruction, Acknowledgment, Cancellation, Increment, encoder_instruction_form}
+use Rattle.qpack_spec.specs.Instruction.{decoder_instruction_form, written_encoder_instruction, written_encoder_instructions, written_decoder_instruction}
+use Rattle.qpack_spec.specs.Instruction.{written_decoder_instructions}
 use Rattle.qpack_spec.specs.Prefix.{prefix_for, required_at, read_required, read_base, read_prefix, written_prefix}
 use Rattle.qpack_spec.specs.Prefix.{prefix_at}
-use Rattle.qpack_spec.specs.Window.{excess, entry, recent, insertion, effect, after, Refusal, NoEntry, NoStaticField}
+use Rattle.qpack_spec.specs.Window.{eviction_count, absolute_entry, relative_entry, insertion, effect, window_after, TableRefusal, NoEntry, NoStaticField}
 use Rattle.qpack_spec.specs.Window.{DoesNotFit, AboveMaximum, UnknownStream}
-use Rattle.qpack_spec.specs.History.{window_of, whole, grown}
-use Rattle.qpack_spec.specs.Reading.{static_field, relative_field, post_base_field, line_field, fields_of, names_of}
-use Rattle.qpack_spec.specs.Reading.{references_of, greatest, reading}
+use Rattle.qpack_spec.specs.History.{window_of, whole_window, history_after}
+use Rattle.qpack_spec.specs.Reading.{static_field, relative_field, post_base_field, line_field, fields_of, references_of_line}
+use Rattle.qpack_spec.specs.Reading.{references_of, greatest_of, reading}
 use Rattle.qpack_spec.specs.BlockReading.{fields_at, reading_of_bytes, written_block}
-use Rattle.qpack_spec.specs.Table.{Table, empty_table, window, track, naming, is_held, none_held, has_room, may_name}
-use Rattle.qpack_spec.specs.Table.{with_entry, last_place, newest, put, resized, applied, commit, unnamed}
-use Rattle.qpack_spec.specs.Table.{without_oldest, without_stream, raised, heard, fields_in, count}
-use Rattle.qpack_spec.specs.Rule.{staying, instruction_for, rule_field, rule, block_of, committed}
+use Rattle.qpack_spec.specs.Table.{Table, empty_table, window, with_number, with_reference, is_evictable, all_evictable, has_room, may_reference}
+use Rattle.qpack_spec.specs.Table.{with_entry, last_position, newest_index, put, with_capacity, apply_encoder_instruction, commit, without_references}
+use Rattle.qpack_spec.specs.Table.{without_oldest, without_stream, with_increment, apply_decoder_instruction, fields_in, insert_count}
+use Rattle.qpack_spec.specs.Rule.{entries_left, instruction_for, rule_field, rule, block_of, committed_table}
 
 -- fields put into a table in turn; a refused one ends it
-put_all : List Field → Table → Result Table Refusal
+put_all : List Field → Table → Result Table TableRefusal
 put_all [] t = Ok t
 put_all (f ∷ fs) t = put t f >>= λ u. put_all fs u
 
-put_into : ℕ → ℕ → List Field → Result Table Refusal
+put_into : ℕ → ℕ → List Field → Result Table TableRefusal
 put_into capacity limit fs = put_all fs (empty_table capacity None limit)
 
 -- the live fields, the oldest first
-live_of : Result Table Refusal → Result (List Field) Refusal
+live_of : Result Table TableRefusal → Result (List Field) TableRefusal
 live_of r = r >>= λ t. Ok (fields_in t.live)
 
 -- the absolute index of the oldest live entry, and how many insertions were made
-counts_of : Result Table Refusal → Result (ℕ × ℕ) Refusal
-counts_of r = r >>= λ t. Ok (t.dropped + 1, count t)
+counts_of : Result Table TableRefusal → Result (ℕ × ℕ) TableRefusal
+counts_of r = r >>= λ t. Ok (t.dropped + 1, insert_count t)
 
 -- instructions applied in turn, from their bytes
-apply_all : List Instruction → Table → Result Table Refusal
+apply_all : List EncoderInstruction → Table → Result Table TableRefusal
 apply_all [] t = Ok t
-apply_all (i ∷ is) t = applied t i >>= λ u. apply_all is u
+apply_all (i ∷ is) t = apply_encoder_instruction t i >>= λ u. apply_all is u
 
 -- a block written on a stream, and the table behind it
 writes_on : Table → ℕ → List Field → Table
-writes_on t s fs = committed (rule t fs) s
+writes_on t s fs = committed_table (rule t fs) s
 
 -- the bytes of a block
 block_bytes : Table → List Field → List ℕ
 block_bytes t fs = written_block (block_of t (rule t fs))
 
-hear_all : List Reply → Table → Result Table Refusal
+hear_all : List DecoderInstruction → Table → Result Table TableRefusal
 hear_all [] t = Ok t
-hear_all (r ∷ rs) t = heard t r >>= λ u. hear_all rs u
+hear_all (r ∷ rs) t = apply_decoder_instruction t r >>= λ u. hear_all rs u
 
-open_count : Result Table Refusal → Result ℕ Refusal
-open_count r = r >>= λ t. Ok (length t.opened)
+open_count : Result Table TableRefusal → Result ℕ TableRefusal
+open_count r = r >>= λ t. Ok (length t.unacknowledged)
 
-waiting_count : Result Table Refusal → Result ℕ Refusal
-waiting_count r = r >>= λ t. Ok (length t.waiting)
+waiting_count : Result Table TableRefusal → Result ℕ TableRefusal
+waiting_count r = r >>= λ t. Ok (length t.blocked)
 
-duplicates : ℕ → List Instruction
+duplicates : ℕ → List EncoderInstruction
 duplicates n = Rattle.std.specs.Prelude.replicate n (Duplicate 0)
 
 -- all that has to unfold
 rows : ℕ
-unfolding excess written_groups groups_at integer_at written_integer bits_of ones bytes_by_length bytes_of_length
-    first_word word_length word_of number_from packed payload_of word_at is_padding item_at text_at text_of_bits
-    string_at written_string static_table static_place static_name_place line_form written_line written_lines
-    instruction_form reply_form written_instruction written_instructions written_reply written_replies made_at form_at
-    prefix_for required_at read_required read_base read_prefix written_prefix prefix_at entry recent insertion effect
-    after window_of whole grown static_field relative_field post_base_field line_field fields_of names_of references_of
-    greatest reading fields_at reading_of_bytes written_block window track naming is_held none_held has_room may_name
-    with_entry last_place newest put resized applied commit unnamed without_oldest without_stream raised heard
+unfolding eviction_count written_groups groups_at integer_at written_integer bits_of ones bytes_by_length bytes_of_length
+    first_code code_length code_of number_from bytes_of_bits payload_of code_at is_padding item_at text_at text_of_bits
+    string_at written_string static_table static_index static_name_index line_form written_line written_lines
+    encoder_instruction_form decoder_instruction_form written_encoder_instruction written_encoder_instructions written_decoder_instruction written_decoder_instructions made_at form_at
+    prefix_for required_at read_required read_base read_prefix written_prefix prefix_at absolute_entry relative_entry insertion effect
+    window_after window_of whole_window history_after static_field relative_field post_base_field line_field fields_of references_of_line references_of
+    greatest_of reading fields_at reading_of_bytes written_block window with_number with_reference is_evictable all_evictable has_room may_reference
+    with_entry last_position newest_index put with_capacity apply_encoder_instruction commit without_references without_oldest without_stream with_increment apply_decoder_instruction
     instruction_for rule_field rule put_all put_into live_of counts_of apply_all writes_on block_bytes hear_all
     open_count waiting_count duplicates
 rows = 0
@@ -103,23 +103,23 @@ put_too_large = refl
 
 -- a capacity evicts the oldest
 resize_evicts : (live_of (put_into 4096 0 ((field (codes "foo") (codes "bar")) ∷ (field (codes "baz") (codes "bar"))
-    ∷ []) >>= λ t. resized t 38)) ≡ Ok ((field (codes "baz") (codes "bar")) ∷ [])
+    ∷ []) >>= λ t. with_capacity t 38)) ≡ Ok ((field (codes "baz") (codes "bar")) ∷ [])
 unfolding rows
 resize_evicts = refl
 
 -- the greatest capacity
-greatest_taken : (counts_of (resized (empty_table 0 None 0) 1073741823)) ≡ Ok (1, 0)
+greatest_taken : (counts_of (with_capacity (empty_table 0 None 0) 1073741823)) ≡ Ok (1, 0)
 unfolding rows
 greatest_taken = refl
 
 -- and one past it
-past_greatest : (counts_of (resized (empty_table 0 None 0) 1073741824)) ≡ Err AboveMaximum
+past_greatest : (counts_of (with_capacity (empty_table 0 None 0) 1073741824)) ≡ Err AboveMaximum
 unfolding rows
 past_greatest = refl
 
 -- the entry that is evicted is not duplicated
 equal_goes_first : (put_into 76 4 ((field (codes "foo") (codes "bar")) ∷ (field (codes "baz") (codes "bar")) ∷ [])
-    >>= λ t. Ok (instruction_for (field (codes "foo") (codes "bar")) (staying t (field (codes "foo") (codes "bar")))))
+    >>= λ t. Ok (instruction_for (field (codes "foo") (codes "bar")) (entries_left t (field (codes "foo") (codes "bar")))))
     ≡ Ok (InsertLiteralName (codes "foo") (codes "bar"))
 unfolding rows
 equal_goes_first = refl
@@ -146,7 +146,7 @@ mixed_block = refl
 -- its instructions
 mixed_instructions : (put_into 4096 100 ((field (codes "foo1") (codes "bar1")) ∷ (field (codes "foo2") (codes "bar2"))
     ∷ (field (codes "foo3") (codes "bar3")) ∷ (field (codes "foo4") (codes "bar4")) ∷ [])
-    >>= λ t. Ok (take 8 (written_instructions
+    >>= λ t. Ok (take 8 (written_encoder_instructions
     (rule t ((field (codes ":method") (codes "GET")) ∷ (field (codes "foo1") (codes "bar1"))
     ∷ (field (codes "foo3") (codes "new bar3")) ∷ (field (codes ":method") (codes "staticnameref"))
     ∷ (field (codes "newfoo") (codes "newbar")) ∷ [])).instructions)))
@@ -265,76 +265,76 @@ room_for_last = refl
 
 -- an entry whose name alone an open block uses is held
 literal_name_held : (counts_of (put_into 64 0 ((field (codes "foo") (codes "bar")) ∷ [])
-    >>= λ t. resized (writes_on (raised t 1) 4 ((field (codes "foo") (codes "quxx")) ∷ [])) 37)) ≡ Err DoesNotFit
+    >>= λ t. with_capacity (writes_on (with_increment t 1) 4 ((field (codes "foo") (codes "quxx")) ∷ [])) 37)) ≡ Err DoesNotFit
 unfolding rows
 literal_name_held = refl
 
 -- which another block does not hold
 literal_name_free : (counts_of (put_into 64 0 ((field (codes "foo") (codes "bar")) ∷ [])
-    >>= λ t. resized (writes_on (raised t 1) 4 ((field (codes ":method") (codes "GET")) ∷ [])) 37)) ≡ Ok (2, 1)
+    >>= λ t. with_capacity (writes_on (with_increment t 1) 4 ((field (codes ":method") (codes "GET")) ∷ [])) 37)) ≡ Ok (2, 1)
 unfolding rows
 literal_name_free = refl
 
 -- a capacity that an open block stands against
-resize_held : (counts_of (resized (writes_on (empty_table 4096 None 1) 4 ((field (codes "foo") (codes "bar")) ∷ []))
+resize_held : (counts_of (with_capacity (writes_on (empty_table 4096 None 1) 4 ((field (codes "foo") (codes "bar")) ∷ []))
     37)) ≡ Err DoesNotFit
 unfolding rows
 resize_held = refl
 
 -- or an entry not known to be received
 resize_unreceived : (counts_of (hear_all (Acknowledgment 4 ∷ [])
-    (writes_on (empty_table 4096 None 1) 4 ((field (codes "foo") (codes "bar")) ∷ [])) >>= λ t. resized t 37))
+    (writes_on (empty_table 4096 None 1) 4 ((field (codes "foo") (codes "bar")) ∷ [])) >>= λ t. with_capacity t 37))
     ≡ Err DoesNotFit
 unfolding rows
 resize_unreceived = refl
 
 -- once it is received
 resize_received : (counts_of (hear_all (Acknowledgment 4 ∷ Increment 1 ∷ [])
-    (writes_on (empty_table 4096 None 1) 4 ((field (codes "foo") (codes "bar")) ∷ [])) >>= λ t. resized t 37))
+    (writes_on (empty_table 4096 None 1) 4 ((field (codes "foo") (codes "bar")) ∷ [])) >>= λ t. with_capacity t 37))
     ≡ Ok (2, 1)
 unfolding rows
 resize_received = refl
 
 -- an insertion at capacity 0
-ignored_at_0 : (counts_of (applied (empty_table 0 None 0) (InsertLiteralName (codes "foo") (codes "bar")))) ≡ Ok (1, 0)
+ignored_at_0 : (counts_of (apply_encoder_instruction (empty_table 0 None 0) (InsertLiteralName (codes "foo") (codes "bar")))) ≡ Ok (1, 0)
 unfolding rows
 ignored_at_0 = refl
 
 -- at capacity 33
-too_large_at_33 : (counts_of (applied (empty_table 33 None 0) (InsertLiteralName (codes "foo") (codes "bar"))))
+too_large_at_33 : (counts_of (apply_encoder_instruction (empty_table 33 None 0) (InsertLiteralName (codes "foo") (codes "bar"))))
     ≡ Err DoesNotFit
 unfolding rows
 too_large_at_33 = refl
 
 -- a duplicate of nothing
-no_entry : (counts_of (applied (empty_table 4096 None 0) (Duplicate 0))) ≡ Err (NoEntry 0)
+no_entry : (counts_of (apply_encoder_instruction (empty_table 4096 None 0) (Duplicate 0))) ≡ Err (NoEntry 0)
 unfolding rows
 no_entry = refl
 
 -- also at capacity 0
-no_entry_at_0 : (counts_of (applied (empty_table 0 None 0) (Duplicate 0))) ≡ Err (NoEntry 0)
+no_entry_at_0 : (counts_of (apply_encoder_instruction (empty_table 0 None 0) (Duplicate 0))) ≡ Err (NoEntry 0)
 unfolding rows
 no_entry_at_0 = refl
 
 -- and a static name that is not there
-no_static_at_0 : (counts_of (applied (empty_table 0 None 0) (InsertStaticName 99 []))) ≡ Err (NoStaticField 99)
+no_static_at_0 : (counts_of (apply_encoder_instruction (empty_table 0 None 0) (InsertStaticName 99 []))) ≡ Err (NoStaticField 99)
 unfolding rows
 no_static_at_0 = refl
 
 -- an entry far away
-no_far_entry : (counts_of (applied (empty_table 4096 None 0) (InsertDynamicName 9223372036854775870 [])))
+no_far_entry : (counts_of (apply_encoder_instruction (empty_table 4096 None 0) (InsertDynamicName 9223372036854775870 [])))
     ≡ Err (NoEntry 9223372036854775870)
 unfolding rows
 no_far_entry = refl
 
 -- a capacity past the greatest
-capacity_past_greatest : (counts_of (applied (empty_table 4096 None 0) (SetCapacity 9223372036854775838)))
+capacity_past_greatest : (counts_of (apply_encoder_instruction (empty_table 4096 None 0) (SetCapacity 9223372036854775838)))
     ≡ Err AboveMaximum
 unfolding rows
 capacity_past_greatest = refl
 
 -- capacity 0 empties the table
-capacity_0 : (live_of (put_into 4096 0 ((field (codes "foo") (codes "bar")) ∷ []) >>= λ t. applied t (SetCapacity 0)))
+capacity_0 : (live_of (put_into 4096 0 ((field (codes "foo") (codes "bar")) ∷ []) >>= λ t. apply_encoder_instruction t (SetCapacity 0)))
     ≡ Ok []
 unfolding rows
 capacity_0 = refl
@@ -346,6 +346,6 @@ unfolding rows
 many_duplicates = refl
 
 -- an increment of any size is heard
-known_grows : (hear_all (Increment 65 ∷ []) (empty_table 4096 None 0) >>= λ t. Ok t.known) ≡ Ok 65
+known_grows : (hear_all (Increment 65 ∷ []) (empty_table 4096 None 0) >>= λ t. Ok t.known_received_count) ≡ Ok 65
 unfolding rows
 known_grows = refl

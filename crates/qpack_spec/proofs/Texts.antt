@@ -95,15 +95,15 @@ coded_reads flags payload rest =
 -- ---- literals
 
 pub record TakesString (n : ℕ) (bytes : List ℕ) (flags : ℕ) (value rest : List ℕ) : Type 0 where
-  pub text : List ℕ
-  pub parts : bytes ≡ text ++ rest
-  pub spells : SpellsString n text flags value
+  pub encoding : List ℕ
+  pub parts : bytes ≡ encoding ++ rest
+  pub spells : SpellsString n encoding flags value
 
 literal : (n fl len flags : ℕ) (bytes value rest : List ℕ) (head : List ℕ) (t : TakesPayload fl len bytes)
     → SpellsInteger (n - 1) head fl len → Says fl flags t.payload value → t.rest ≡ rest
     → TakesString n (head ++ bytes) flags value rest
 literal n fl len flags bytes value rest head t s says e = record {
-  text = head ++ t.payload;
+  encoding = head ++ t.payload;
   parts = ap (λ (l : List ℕ). head ++ l) t.parts ∙ sym (append_assoc head t.payload t.rest)
       ∙ ap (λ (l : List ℕ). (head ++ t.payload) ++ l) e;
   spells = elim says [
@@ -142,7 +142,7 @@ string_takes n bytes flags value rest e = go (integer_at (n - 1) bytes) refl e
         let s = says x.0 flags t.payload value t.rest rest (x.0 % 2 == 0) refl h in
         let k = integer_takes (n - 1) bytes x.0 x.1 x.2 i in
         subst (λ (l : List ℕ). TakesString n l flags value rest) (sym k.parts)
-        (literal n x.0 x.1 flags x.2 value rest k.text t k.spells s.0 s.1)
+        (literal n x.0 x.1 flags x.2 value rest k.encoding t k.spells s.0 s.1)
 
     go : (r : Result (ℕ × ℕ × List ℕ) IntegerFault) → integer_at (n - 1) bytes ≡ r
         → string_behind r ≡ Ok (flags, value, rest) → TakesString n bytes flags value rest
@@ -157,43 +157,43 @@ string_takes n bytes flags value rest e = go (integer_at (n - 1) bytes) refl e
         ]
 
 -- a whole literal is read by its length and its payload
-behind : (n : ℕ) (text rest payload : List ℕ) (flags huffman : ℕ) → IsLiteral n text flags huffman payload
-    → string_at n (text ++ rest) ≡ payload_at (2 * flags + huffman) (length payload) (payload ++ rest)
+behind : (n : ℕ) (encoding rest payload : List ℕ) (flags huffman : ℕ) → IsLiteral n encoding flags huffman payload
+    → string_at n (encoding ++ rest) ≡ payload_at (2 * flags + huffman) (length payload) (payload ++ rest)
 unfolding string_at
-behind n text rest payload flags huffman l =
-    let e : text ++ rest ≡ l.head ++ (payload ++ rest) =
+behind n encoding rest payload flags huffman l =
+    let e : encoding ++ rest ≡ l.head ++ (payload ++ rest) =
     ap (λ (t : List ℕ). t ++ rest) l.parts ∙ append_assoc l.head payload rest in
     ap (λ (t : List ℕ). string_behind (integer_at (n - 1) t)) e
     ∙ ap string_behind (integer_again (n - 1) l.head (payload ++ rest) (2 * flags + huffman) (length payload) l.spells)
 
 -- what is spelled so is read, whatever follows
-pub string_again : (n : ℕ) (text rest : List ℕ) (flags : ℕ) (value : List ℕ) → SpellsString n text flags value
-    → string_at n (text ++ rest) ≡ Ok (flags, value, rest)
-string_again n text rest flags value (inl l) = behind n text rest value flags 0 l ∙ plain_reads flags value rest
-string_again n text rest flags value (inr p) =
-    behind n text rest p.0 flags 1 p.1 ∙ coded_reads flags p.0 rest
+pub string_again : (n : ℕ) (encoding rest : List ℕ) (flags : ℕ) (value : List ℕ) → SpellsString n encoding flags value
+    → string_at n (encoding ++ rest) ≡ Ok (flags, value, rest)
+string_again n encoding rest flags value (inl l) = behind n encoding rest value flags 0 l ∙ plain_reads flags value rest
+string_again n encoding rest flags value (inr p) =
+    behind n encoding rest p.0 flags 1 p.1 ∙ coded_reads flags p.0 rest
     ∙ ap (value_before flags rest) (text_again (bits_of_bytes p.0) value p.2)
 
 -- ---- refusals
 
 -- what is refused for a fault of its payload is read so, whatever follows
-string_faulty : (n : ℕ) (text rest : List ℕ) (fault : HuffmanFault) → RefusesString n text (BadHuffman fault)
-    → string_at n (text ++ rest) ≡ Err (BadHuffman fault)
-string_faulty n text rest fault p =
-    behind n text rest p.1 p.0 1 p.2 ∙ coded_reads p.0 p.1 rest
+string_faulty : (n : ℕ) (encoding rest : List ℕ) (fault : HuffmanFault) → RefusesString n encoding (BadHuffman fault)
+    → string_at n (encoding ++ rest) ≡ Err (BadHuffman fault)
+string_faulty n encoding rest fault p =
+    behind n encoding rest p.1 p.0 1 p.2 ∙ coded_reads p.0 p.1 rest
     ∙ ap (value_before p.0 rest) (fault_again (bits_of_bytes p.1) fault (bytes_bits p.1) p.3)
 
 -- what is refused for its length is read so
-string_overflows : (n : ℕ) (text rest : List ℕ) → RefusesString n text LengthOverflows
-    → string_at n (text ++ rest) ≡ Err LengthOverflows
+string_overflows : (n : ℕ) (encoding rest : List ℕ) → RefusesString n encoding LengthOverflows
+    → string_at n (encoding ++ rest) ≡ Err LengthOverflows
 unfolding string_at
-string_overflows n text rest o = ap string_behind (integer_overflows (n - 1) text rest o)
+string_overflows n encoding rest o = ap string_behind (integer_overflows (n - 1) encoding rest o)
 
-pub string_refused : (n : ℕ) (text rest : List ℕ) (fault : StringFault) → RefusesString n text fault
-    → string_at n (text ++ rest) ≡ Err fault
-string_refused n text rest EndsEarly r = absurd r
-string_refused n text rest LengthOverflows r = string_overflows n text rest r
-string_refused n text rest (BadHuffman f) r = string_faulty n text rest f r
+pub string_refused : (n : ℕ) (encoding rest : List ℕ) (fault : StringFault) → RefusesString n encoding fault
+    → string_at n (encoding ++ rest) ≡ Err fault
+string_refused n encoding rest EndsEarly r = absurd r
+string_refused n encoding rest LengthOverflows r = string_overflows n encoding rest r
+string_refused n encoding rest (BadHuffman f) r = string_faulty n encoding rest f r
 
 -- a payload that is refused is coded, and means nothing
 faults : (fl : ℕ) (payload rest : List ℕ) (fault : HuffmanFault) (plain : Bool) → (fl % 2 == 0) ≡ plain
@@ -218,9 +218,9 @@ faults fl payload rest fault false p e = coded (text_of_bits (bits_of_bytes payl
 
 refused_literal : (n fl len : ℕ) (bytes head : List ℕ) (fault : HuffmanFault) (t : TakesPayload fl len bytes)
     → SpellsInteger (n - 1) head fl len → (fl ≡ 2 * (fl / 2) + 1) × PayloadMeansNothing t.payload fault
-    → Begins (λ text. RefusesString n text (BadHuffman fault)) (head ++ bytes)
+    → Begins (λ encoding. RefusesString n encoding (BadHuffman fault)) (head ++ bytes)
 refused_literal n fl len bytes head fault t s says = record {
-  text = head ++ t.payload;
+  encoding = head ++ t.payload;
   rest = t.rest;
   parts = ap (λ (l : List ℕ). head ++ l) t.parts ∙ sym (append_assoc head t.payload t.rest);
   holds = (
@@ -245,19 +245,19 @@ only_bad flags rest (Err f) fault h = (f, cc)
 
 -- where a refusal is read, it stands at the front
 pub refusal_begins : (n : ℕ) (bytes : List ℕ) (fault : StringFault) → string_at n bytes ≡ Err fault
-    → (fault ≡ EndsEarly → ⊥) → Begins (λ text. RefusesString n text fault) bytes
+    → (fault ≡ EndsEarly → ⊥) → Begins (λ encoding. RefusesString n encoding fault) bytes
 unfolding string_at
 refusal_begins n bytes fault e more = go (integer_at (n - 1) bytes) fault refl e more
   where
     payload : (x : ℕ × ℕ × List ℕ) (g : StringFault) → integer_at (n - 1) bytes ≡ Ok x → x.1 ≤ length x.2
         → value_before (x.0 / 2) (drop x.1 x.2) (meaning (x.0 % 2 == 0) (take x.1 x.2)) ≡ Err g
-        → Begins (λ text. RefusesString n text g) bytes
+        → Begins (λ encoding. RefusesString n encoding g) bytes
     payload x (BadHuffman f) i le h =
         let t = payload_taken x.0 x.1 x.2 le in
         let s = faults x.0 t.payload t.rest f (x.0 % 2 == 0) refl h in
         let k = integer_takes (n - 1) bytes x.0 x.1 x.2 i in
-        subst (λ (l : List ℕ). Begins (λ text. RefusesString n text (BadHuffman f)) l) (sym k.parts)
-        (refused_literal n x.0 x.1 x.2 k.text f t k.spells s)
+        subst (λ (l : List ℕ). Begins (λ encoding. RefusesString n encoding (BadHuffman f)) l) (sym k.parts)
+        (refused_literal n x.0 x.1 x.2 k.encoding f t k.spells s)
     payload x EndsEarly i le h =
         absurd (let b = only_bad (x.0 / 2) (drop x.1 x.2) (meaning (x.0 % 2 == 0) (take x.1 x.2)) EndsEarly h in
         let q = b.1 in cc)
@@ -266,7 +266,7 @@ refusal_begins n bytes fault e more = go (integer_at (n - 1) bytes) fault refl e
         let q = b.1 in cc)
 
     go : (r : Result (ℕ × ℕ × List ℕ) IntegerFault) (g : StringFault) → integer_at (n - 1) bytes ≡ r
-        → string_behind r ≡ Err g → (g ≡ EndsEarly → ⊥) → Begins (λ text. RefusesString n text g) bytes
+        → string_behind r ≡ Err g → (g ≡ EndsEarly → ⊥) → Begins (λ encoding. RefusesString n encoding g) bytes
     go (Err Overflow) LengthOverflows i h m = overflow_begins (n - 1) bytes i
     go (Err Overflow) EndsEarly i h m = absurd cc
     go (Err Overflow) (BadHuffman f) i h m = absurd cc
@@ -279,26 +279,26 @@ refusal_begins n bytes fault e more = go (integer_at (n - 1) bytes) fault refl e
         ]
 
 end_truncated : (n : ℕ) (bytes : List ℕ) → string_at n bytes ≡ Err EndsEarly → TruncatesString n bytes
-end_truncated n bytes e text rest parts = (
-  λ flags value spells. absurd (let a = string_again n text rest flags value spells in
+end_truncated n bytes e encoding rest parts = (
+  λ flags value spells. absurd (let a = string_again n encoding rest flags value spells in
       let b = ap (string_at n) parts in cc),
-  λ fault refuses. ended n text rest fault (sym (ap (string_at n) parts) ∙ e) refuses,
+  λ fault refuses. ended n encoding rest fault (sym (ap (string_at n) parts) ∙ e) refuses,
 )
   where
-    ended : (n : ℕ) (text rest : List ℕ) (fault : StringFault) → string_at n (text ++ rest) ≡ Err EndsEarly
-        → RefusesString n text fault → ⊥
-    ended n text rest EndsEarly e r = absurd r
-    ended n text rest LengthOverflows e r = absurd (let a = string_refused n text rest LengthOverflows r in cc)
-    ended n text rest (BadHuffman f) e r = absurd (let a = string_refused n text rest (BadHuffman f) r in cc)
+    ended : (n : ℕ) (encoding rest : List ℕ) (fault : StringFault) → string_at n (encoding ++ rest) ≡ Err EndsEarly
+        → RefusesString n encoding fault → ⊥
+    ended n encoding rest EndsEarly e r = absurd r
+    ended n encoding rest LengthOverflows e r = absurd (let a = string_refused n encoding rest LengthOverflows r in cc)
+    ended n encoding rest (BadHuffman f) e r = absurd (let a = string_refused n encoding rest (BadHuffman f) r in cc)
 
 truncated_end : (n : ℕ) (bytes : List ℕ) → TruncatesString n bytes → string_at n bytes ≡ Err EndsEarly
 truncated_end n bytes t = go (string_at n bytes) refl
   where
     refuted : (fault : StringFault) → string_at n bytes ≡ Err fault → (fault ≡ EndsEarly → ⊥) → ⊥
-    refuted fault e m = let k = refusal_begins n bytes fault e m in (t k.text k.rest k.parts).1 fault k.holds
+    refuted fault e m = let k = refusal_begins n bytes fault e m in (t k.encoding k.rest k.parts).1 fault k.holds
 
     go : (r : Result (ℕ × List ℕ × List ℕ) StringFault) → string_at n bytes ≡ r → r ≡ Err EndsEarly
-    go (Ok x) e = let k = string_takes n bytes x.0 x.1 x.2 e in absurd ((t k.text x.2 k.parts).0 x.0 x.1 k.spells)
+    go (Ok x) e = let k = string_takes n bytes x.0 x.1 x.2 e in absurd ((t k.encoding x.2 k.parts).0 x.0 x.1 k.spells)
     go (Err EndsEarly) e = refl
     go (Err LengthOverflows) e = absurd (refuted LengthOverflows e (λ q. cc))
     go (Err (BadHuffman f)) e = absurd (refuted (BadHuffman f) e (λ q. cc))
@@ -307,7 +307,7 @@ truncated_end n bytes t = go (string_at n bytes) refl
 
 pub reads_strings : ReadingFindsStrings
 reads_strings n bytes flags value rest = (
-  λ e. let t = string_takes n bytes flags value rest e in (t.text, t.parts, t.spells),
+  λ e. let t = string_takes n bytes flags value rest e in (t.encoding, t.parts, t.spells),
   λ p. ap (string_at n) p.1 ∙ string_again n p.0 rest flags value p.2,
 )
 
@@ -315,11 +315,11 @@ pub reads_refusals : ReadingFindsRefusals
 reads_refusals n bytes = (
   (
     λ e. refusal_begins n bytes LengthOverflows e (λ q. cc),
-    λ b. ap (string_at n) b.parts ∙ string_refused n b.text b.rest LengthOverflows b.holds,
+    λ b. ap (string_at n) b.parts ∙ string_refused n b.encoding b.rest LengthOverflows b.holds,
   ),
   λ fault. (
     λ e. refusal_begins n bytes (BadHuffman fault) e (λ q. cc),
-    λ b. ap (string_at n) b.parts ∙ string_refused n b.text b.rest (BadHuffman fault) b.holds,
+    λ b. ap (string_at n) b.parts ∙ string_refused n b.encoding b.rest (BadHuffman fault) b.holds,
   ),
 )
 
@@ -327,9 +327,9 @@ pub reads_truncation : ReadingFindsTruncation
 reads_truncation n bytes = (end_truncated n bytes, truncated_end n bytes)
 
 pub one_value : StringsHaveOneValue
-one_value n text f g v w p q =
-    let r = string_again n text [] f v p in
-    let s = string_again n text [] g w q in
+one_value n encoding f g v w p q =
+    let r = string_again n encoding [] f v p in
+    let s = string_again n encoding [] g w q in
     let t = ok_triple f g v w [] [] (sym r ∙ s) in
     (t.0, t.1)
 
@@ -350,16 +350,16 @@ literals_same n f h g k a b p q x y l m e =
 
 -- what ends a string: a whole literal, or the overflow of its length
 abbrev Ends : ℕ → List ℕ → Type 0
-Ends n text = ((flags : ℕ) × (huffman : ℕ) × (payload : List ℕ) × IsLiteral n text flags huffman payload)
-    ⊎ OverflowsInteger (n - 1) text
+Ends n encoding = ((flags : ℕ) × (huffman : ℕ) × (payload : List ℕ) × IsLiteral n encoding flags huffman payload)
+    ⊎ OverflowsInteger (n - 1) encoding
 
-ends : (n : ℕ) (text : List ℕ) → ((flags : ℕ) × (value : List ℕ) × SpellsString n text flags value)
-    ⊎ ((fault : StringFault) × RefusesString n text fault) → Ends n text
-ends n text (inl (flags, value, inl l)) = inl (flags, 0, value, l)
-ends n text (inl (flags, value, inr p)) = inl (flags, 1, p.0, p.1)
-ends n text (inr (EndsEarly, r)) = absurd r
-ends n text (inr (LengthOverflows, r)) = inr r
-ends n text (inr (BadHuffman f, r)) = inl (r.0, 1, r.1, r.2)
+ends : (n : ℕ) (encoding : List ℕ) → ((flags : ℕ) × (value : List ℕ) × SpellsString n encoding flags value)
+    ⊎ ((fault : StringFault) × RefusesString n encoding fault) → Ends n encoding
+ends n encoding (inl (flags, value, inl l)) = inl (flags, 0, value, l)
+ends n encoding (inl (flags, value, inr p)) = inl (flags, 1, p.0, p.1)
+ends n encoding (inr (EndsEarly, r)) = absurd r
+ends n encoding (inr (LengthOverflows, r)) = inr r
+ends n encoding (inr (BadHuffman f, r)) = inl (r.0, 1, r.1, r.2)
 
 not_both : (n flags huffman : ℕ) (a b payload x y : List ℕ) → IsLiteral n a flags huffman payload
     → OverflowsInteger (n - 1) b → a ++ x ≡ b ++ y → ⊥

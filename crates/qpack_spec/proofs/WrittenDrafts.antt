@@ -8,31 +8,31 @@ use Rattle.std.proofs.lemmas.Bool.{cond_both, and_parts}
 use Rattle.std.proofs.lemmas.Option.{slice_get_within}
 use Rattle.std.proofs.lemmas.List.{length-map}
 use Rattle.qpack_spec.specs.Field.{Field, has_name, is_field}
-use Rattle.qpack_spec.specs.StaticTable.{static_table, static_place, static_name_place}
+use Rattle.qpack_spec.specs.StaticTable.{static_table, static_index, static_name_index}
 use Rattle.qpack_spec.specs.Line.{Line, IndexedStatic, IndexedDynamic, IndexedPostBase, NamedStatic, NamedDynamic}
 use Rattle.qpack_spec.specs.Line.{NamedPostBase, Literal, written_line, written_lines}
 use Rattle.qpack_spec.specs.Integer.{written_integer}
 use Rattle.qpack_spec.specs.Huffman.{AreBytes, payload_of}
 use Rattle.qpack_spec.specs.Text.{written_string}
-use Rattle.qpack_spec.specs.Instruction.{Instruction, InsertStaticName, InsertDynamicName, InsertLiteralName, Duplicate}
-use Rattle.qpack_spec.specs.Instruction.{SetCapacity, written_instruction, written_instructions}
-use Rattle.qpack_spec.specs.Table.{Entry, Table, sent_entry, fields_in, count, naming, evicted_for, has_room}
-use Rattle.qpack_spec.specs.Table.{below_limit, may_name, with_entry, last_place, newest, unnamed}
-use Rattle.qpack_spec.specs.Rule.{Draft, writes, writes_naming, by_name, by_static_name, by_equal, instruction_for}
-use Rattle.qpack_spec.specs.Rule.{staying, inserts, named_line, literal_by_entry, literal, insertion_or_literal}
-use Rattle.qpack_spec.specs.Rule.{by_entry, by_static, rule_field, rule_fields, blank, rule}
-use Rattle.qpack_spec.specs.WrittenLaws.{IsSmall, IsWritableText, IsByteField, IsByteLine, IsByteInstruction}
-use Rattle.qpack_spec.specs.WrittenLaws.{IsWritableLine, IsWritableInstruction}
+use Rattle.qpack_spec.specs.Instruction.{EncoderInstruction, InsertStaticName, InsertDynamicName, InsertLiteralName, Duplicate}
+use Rattle.qpack_spec.specs.Instruction.{SetCapacity, written_encoder_instruction, written_encoder_instructions}
+use Rattle.qpack_spec.specs.Table.{Entry, Table, sent_entry, fields_in, insert_count, with_reference, eviction_count_for, has_room}
+use Rattle.qpack_spec.specs.Table.{below_limit, may_reference, with_entry, last_position, newest_index, without_references}
+use Rattle.qpack_spec.specs.Rule.{Draft, with_line, with_referencing_line, by_name, by_static_name, by_equal, instruction_for}
+use Rattle.qpack_spec.specs.Rule.{entries_left, with_new_entry, name_reference_line, literal_by_entry, literal, insertion_or_literal}
+use Rattle.qpack_spec.specs.Rule.{by_entry, by_static, rule_field, rule_fields, empty_draft, rule}
+use Rattle.qpack_spec.specs.WrittenLaws.{IsSmall, IsWritableValue, IsByteField, IsByteLine, IsByteEncoderInstruction}
+use Rattle.qpack_spec.specs.WrittenLaws.{IsWritableLine, IsWritableEncoderInstruction}
 use Rattle.qpack_spec.proofs.Lists.{every_append}
-use Rattle.qpack_spec.proofs.Windows.{excess_push}
+use Rattle.qpack_spec.proofs.Windows.{eviction_count_push}
 use Rattle.qpack_spec.proofs.Places.{newest_found, static_found, static_name_found}
 use Rattle.qpack_spec.proofs.Drafts.{Room, room}
 
 -- a block in progress whose numbers are small and whose strings are bytes
 pub record WrittenDraft (d : Draft) : Type 0 where
-  pub few : count d.table ≤ 2 ^ 62
+  pub few : insert_count d.table ≤ 2 ^ 62
   pub lines : AllByRecursion IsByteLine d.lines
-  pub instructions : AllByRecursion IsByteInstruction d.instructions
+  pub instructions : AllByRecursion IsByteEncoderInstruction d.instructions
 
 has_99 : length static_table ≡ 99
 unfolding static_table
@@ -41,7 +41,7 @@ has_99 = refl
 pub static_small : (i : ℕ) (f : Field) → slice_get static_table i ≡ Some f → IsSmall i
 static_small i f e = omega (arith, slice_get_within static_table i f e, has_99)
 
-writes_written : (d : Draft) (l : Line) → WrittenDraft d → IsByteLine l → WrittenDraft (writes d l)
+writes_written : (d : Draft) (l : Line) → WrittenDraft d → IsByteLine l → WrittenDraft (with_line d l)
 writes_written d l k w =
     record {
       few = k.few;
@@ -49,11 +49,11 @@ writes_written d l k w =
       instructions = k.instructions;
     }
 
-pub count_naming : (t : Table) (a : ℕ) → count (naming t a) ≡ count t
-unfolding naming
+pub count_naming : (t : Table) (a : ℕ) → insert_count (with_reference t a) ≡ insert_count t
+unfolding with_reference
 count_naming t a = refl
 
-naming_written : (d : Draft) (a : ℕ) (l : Line) → WrittenDraft d → IsByteLine l → WrittenDraft (writes_naming d a l)
+naming_written : (d : Draft) (a : ℕ) (l : Line) → WrittenDraft d → IsByteLine l → WrittenDraft (with_referencing_line d a l)
 naming_written d a l k w =
     record {
       few = omega (arith, k.few, count_naming d.table a);
@@ -64,105 +64,105 @@ naming_written d a l k w =
 -- ---- the instruction of an insertion
 
 name_instruction : (f : Field) (stay : List Field) → length stay ≤ 2 ^ 62 → IsByteField f → (o : Option ℕ)
-    → IsByteInstruction (by_name f (length stay) o)
+    → IsByteEncoderInstruction (by_name f (length stay) o)
 name_instruction f stay few w (Some i) = (omega arith, w.1)
 name_instruction f stay few w None = (w.0, w.1)
 
 static_instruction : (f : Field) (stay : List Field) → length stay ≤ 2 ^ 62 → IsByteField f → (o : Option ℕ)
-    → static_name_place f.name ≡ o → IsByteInstruction (by_static_name f stay o)
+    → static_name_index f.name ≡ o → IsByteEncoderInstruction (by_static_name f stay o)
 static_instruction f stay few w (Some i) e = let at = static_name_found f.name i e in (static_small i at.0 at.1, w.1)
-static_instruction f stay few w None e = name_instruction f stay few w (last_place (has_name f.name) stay)
+static_instruction f stay few w None e = name_instruction f stay few w (last_position (has_name f.name) stay)
 
 equal_instruction : (f : Field) (stay : List Field) → length stay ≤ 2 ^ 62 → IsByteField f → (o : Option ℕ)
-    → IsByteInstruction (by_equal f stay o)
+    → IsByteEncoderInstruction (by_equal f stay o)
 equal_instruction f stay few w (Some i) = omega arith
-equal_instruction f stay few w None = static_instruction f stay few w (static_name_place f.name) refl
+equal_instruction f stay few w None = static_instruction f stay few w (static_name_index f.name) refl
 
 instruction_written : (f : Field) (stay : List Field) → length stay ≤ 2 ^ 62 → IsByteField f
-    → IsByteInstruction (instruction_for f stay)
+    → IsByteEncoderInstruction (instruction_for f stay)
 unfolding instruction_for
-instruction_written f stay few w = equal_instruction f stay few w (last_place (is_field f) stay)
+instruction_written f stay few w = equal_instruction f stay few w (last_position (is_field f) stay)
 
 -- ---- the cases of the rule
 
-pub count_entered : (t : Table) (f : Field) → Room t f → count (with_entry t (sent_entry f)) ≡ count t + 1
+pub count_entered : (t : Table) (f : Field) → Room t f → insert_count (with_entry t (sent_entry f)) ≡ insert_count t + 1
 unfolding with_entry
 count_entered t f r =
-    let b : evicted_for t f ≤ length t.live =
-    omega (arith, excess_push t.capacity (fields_in t.live) f r.fits, length-map t.live (λ (x : Entry). x.field)) in
-    omega (arith, length-drop (evicted_for t f) (t.live ++ sent_entry f ∷ []), length-append t.live (sent_entry f ∷ []))
+    let b : eviction_count_for t f ≤ length t.live =
+    omega (arith, eviction_count_push t.capacity (fields_in t.live) f r.fits, length-map t.live (λ (x : Entry). x.field)) in
+    omega (arith, length-drop (eviction_count_for t f) (t.live ++ sent_entry f ∷ []), length-append t.live (sent_entry f ∷ []))
 
 inserts_written : (base : ℕ) (d : Draft) (f : Field) → WrittenDraft d → IsByteField f → Room d.table f
-    → WrittenDraft (inserts base d f)
+    → WrittenDraft (with_new_entry base d f)
 inserts_written base d f k w r =
-    let stay : length (staying d.table f) ≤ 2 ^ 62 =
+    let stay : length (entries_left d.table f) ≤ 2 ^ 62 =
     omega (
       arith,
       k.few,
-      length-drop (evicted_for d.table f) (fields_in d.table.live),
+      length-drop (eviction_count_for d.table f) (fields_in d.table.live),
       length-map d.table.live (λ (x : Entry). x.field),
     ) in
     record {
       few = omega (
         arith,
         r.few,
-        count_naming (with_entry d.table (sent_entry f)) (count d.table + 1),
+        count_naming (with_entry d.table (sent_entry f)) (insert_count d.table + 1),
         count_entered d.table f r,
       );
-      lines = every_append IsByteLine d.lines (IndexedPostBase (count d.table - base) ∷ []) k.lines
+      lines = every_append IsByteLine d.lines (IndexedPostBase (insert_count d.table - base) ∷ []) k.lines
           (omega (arith, r.few), tt);
       instructions =
-          every_append IsByteInstruction d.instructions (instruction_for f (staying d.table f) ∷ []) k.instructions
-          (instruction_written f (staying d.table f) stay w, tt);
+          every_append IsByteEncoderInstruction d.instructions (instruction_for f (entries_left d.table f) ∷ []) k.instructions
+          (instruction_written f (entries_left d.table f) stay w, tt);
     }
 
-entry_line : (base a : ℕ) (f : Field) → base ≤ 2 ^ 62 → a ≤ 2 ^ 62 → IsByteField f → IsByteLine (named_line base a f)
+entry_line : (base a : ℕ) (f : Field) → base ≤ 2 ^ 62 → a ≤ 2 ^ 62 → IsByteField f → IsByteLine (name_reference_line base a f)
 entry_line base a f b le w =
     cond_both (nat_le a base) (NamedDynamic (base - a) f.value) (NamedPostBase (a - base - 1) f.value) IsByteLine
     (λ _. (omega arith, w.1)) (λ _. (omega arith, w.1))
 
 by_entry_written : (base : ℕ) (d : Draft) (f : Field) → base ≤ 2 ^ 62 → WrittenDraft d → IsByteField f → (o : Option ℕ)
-    → newest d.table (has_name f.name) ≡ o → WrittenDraft (literal_by_entry base d f o)
+    → newest_index d.table (has_name f.name) ≡ o → WrittenDraft (literal_by_entry base d f o)
 by_entry_written base d f b k w None e = writes_written d (Literal f.name f.value) k w
 by_entry_written base d f b k w (Some a) e =
     let at = newest_found d.table (has_name f.name) a e in
-    cond_both (may_name d.table a) (writes_naming d a (named_line base a f)) (writes d (Literal f.name f.value))
+    cond_both (may_reference d.table a) (with_referencing_line d a (name_reference_line base a f)) (with_line d (Literal f.name f.value))
     WrittenDraft
-    (λ _. naming_written d a (named_line base a f) k (entry_line base a f b (omega (arith, at.within, k.few)) w))
+    (λ _. naming_written d a (name_reference_line base a f) k (entry_line base a f b (omega (arith, at.within, k.few)) w))
     (λ _. writes_written d (Literal f.name f.value) k w)
 
 literal_written : (base : ℕ) (d : Draft) (f : Field) → base ≤ 2 ^ 62 → WrittenDraft d → IsByteField f → (o : Option ℕ)
-    → static_name_place f.name ≡ o → WrittenDraft (literal base d f o)
-literal_written base d f b k w None e = by_entry_written base d f b k w (newest d.table (has_name f.name)) refl
+    → static_name_index f.name ≡ o → WrittenDraft (literal base d f o)
+literal_written base d f b k w None e = by_entry_written base d f b k w (newest_index d.table (has_name f.name)) refl
 literal_written base d f b k w (Some i) e =
     let at = static_name_found f.name i e in writes_written d (NamedStatic i f.value) k (static_small i at.0 at.1, w.1)
 
 insertion_written : (base : ℕ) (d : Draft) (f : Field) → base ≤ 2 ^ 62 → WrittenDraft d → IsByteField f
     → WrittenDraft (insertion_or_literal base d f)
 insertion_written base d f b k w =
-    cond_both (below_limit d.table && has_room d.table f) (inserts base d f)
-    (literal base d f (static_name_place f.name)) WrittenDraft
+    cond_both (below_limit d.table && has_room d.table f) (with_new_entry base d f)
+    (literal base d f (static_name_index f.name)) WrittenDraft
     (λ t. inserts_written base d f k w (room d.table f (and_parts (below_limit d.table) (has_room d.table f) t).1))
-    (λ _. literal_written base d f b k w (static_name_place f.name) refl)
+    (λ _. literal_written base d f b k w (static_name_index f.name) refl)
 
 equal_written : (base : ℕ) (d : Draft) (f : Field) → base ≤ 2 ^ 62 → WrittenDraft d → IsByteField f → (o : Option ℕ)
     → WrittenDraft (by_entry base d f o)
 equal_written base d f b k w None = insertion_written base d f b k w
 equal_written base d f b k w (Some a) =
-    cond_both (nat_le a base && may_name d.table a) (writes_naming d a (IndexedDynamic (base - a)))
+    cond_both (nat_le a base && may_reference d.table a) (with_referencing_line d a (IndexedDynamic (base - a)))
     (insertion_or_literal base d f) WrittenDraft
     (λ _. naming_written d a (IndexedDynamic (base - a)) k (omega arith))
     (λ _. insertion_written base d f b k w)
 
 static_written : (base : ℕ) (d : Draft) (f : Field) → base ≤ 2 ^ 62 → WrittenDraft d → IsByteField f → (o : Option ℕ)
-    → static_place f ≡ o → WrittenDraft (by_static base d f o)
-static_written base d f b k w None e = equal_written base d f b k w (newest d.table (is_field f))
+    → static_index f ≡ o → WrittenDraft (by_static base d f o)
+static_written base d f b k w None e = equal_written base d f b k w (newest_index d.table (is_field f))
 static_written base d f b k w (Some i) e = writes_written d (IndexedStatic i) k (static_small i f (static_found f i e))
 
 field_written : (base : ℕ) (d : Draft) (f : Field) → base ≤ 2 ^ 62 → WrittenDraft d → IsByteField f
     → WrittenDraft (rule_field base d f)
 unfolding rule_field
-field_written base d f b k w = static_written base d f b k w (static_place f) refl
+field_written base d f b k w = static_written base d f b k w (static_index f) refl
 
 fields_written : (base : ℕ) (d : Draft) (fs : List Field) → base ≤ 2 ^ 62 → WrittenDraft d
     → AllByRecursion IsByteField fs → WrittenDraft (rule_fields base d fs)
@@ -170,36 +170,36 @@ fields_written base d [] b k w = k
 fields_written base d (f ∷ fs) b k w =
     fields_written base (rule_field base d f) fs b (field_written base d f b k w.0) w.1
 
-pub count_unnamed : (t : Table) → count (unnamed t) ≡ count t
-unfolding unnamed
+pub count_unnamed : (t : Table) → insert_count (without_references t) ≡ insert_count t
+unfolding without_references
 count_unnamed t = refl
 
 -- the numbers that the rule writes are small, its strings bytes
-pub rule_written : (t : Table) (fs : List Field) → count t ≤ 2 ^ 62 → AllByRecursion IsByteField fs
+pub rule_written : (t : Table) (fs : List Field) → insert_count t ≤ 2 ^ 62 → AllByRecursion IsByteField fs
     → WrittenDraft (rule t fs)
 unfolding rule
 rule_written t fs few w =
-    fields_written (count t) (blank t) fs few
+    fields_written (insert_count t) (empty_draft t) fs few
     (record { few = omega (arith, few, count_unnamed t); lines = tt; instructions = tt }) w
 
 -- ---- what takes fewer than 2^63 bytes can be read back
 
-text_fits : (n flags : ℕ) (text : List ℕ) → AreBytes text → length (written_string n flags text) < 2 ^ 63
-    → IsWritableText text
+text_fits : (n flags : ℕ) (encoding : List ℕ) → AreBytes encoding → length (written_string n flags encoding) < 2 ^ 63
+    → IsWritableValue encoding
 unfolding written_string
-text_fits n flags text b h =
+text_fits n flags encoding b h =
     record {
       bytes = b;
       size = omega (
         arith,
         h,
-        length-append (written_integer (n - 1) (2 * flags + 1) (length (payload_of text))) (payload_of text),
+        length-append (written_integer (n - 1) (2 * flags + 1) (length (payload_of encoding))) (payload_of encoding),
       );
     }
 
-value_fits : (head text : List ℕ) → AreBytes text → length (head ++ written_string 8 0 text) < 2 ^ 63
-    → IsWritableText text
-value_fits head text b h = text_fits 8 0 text b (omega (arith, h, length-append head (written_string 8 0 text)))
+value_fits : (head encoding : List ℕ) → AreBytes encoding → length (head ++ written_string 8 0 encoding) < 2 ^ 63
+    → IsWritableValue encoding
+value_fits head encoding b h = text_fits 8 0 encoding b (omega (arith, h, length-append head (written_string 8 0 encoding)))
 
 line_fits : (l : Line) → IsByteLine l → length (written_line l) < 2 ^ 63 → IsWritableLine l
 unfolding written_line
@@ -221,9 +221,9 @@ lines_fit [] b h = tt
 lines_fit (l ∷ ls) b h = let n = length-append (written_line l) (written_lines ls) in
     (line_fits l b.0 (omega (arith, h, n)), lines_fit ls b.1 (omega (arith, h, n)))
 
-instruction_fits : (i : Instruction) → IsByteInstruction i → length (written_instruction i) < 2 ^ 63
-    → IsWritableInstruction i
-unfolding written_instruction
+instruction_fits : (i : EncoderInstruction) → IsByteEncoderInstruction i → length (written_encoder_instruction i) < 2 ^ 63
+    → IsWritableEncoderInstruction i
+unfolding written_encoder_instruction
 instruction_fits (InsertStaticName i v) b h = (b.0, value_fits (written_integer 6 3 i) v b.1 h)
 instruction_fits (InsertDynamicName i v) b h = (b.0, value_fits (written_integer 6 2 i) v b.1 h)
 instruction_fits (InsertLiteralName n v) b h = (
@@ -233,9 +233,9 @@ instruction_fits (InsertLiteralName n v) b h = (
 instruction_fits (Duplicate i) b h = b
 instruction_fits (SetCapacity c) b h = b
 
-pub instructions_fit : (is : List Instruction) → AllByRecursion IsByteInstruction is
-    → length (written_instructions is) < 2 ^ 63 → AllByRecursion IsWritableInstruction is
-unfolding written_instructions
+pub instructions_fit : (is : List EncoderInstruction) → AllByRecursion IsByteEncoderInstruction is
+    → length (written_encoder_instructions is) < 2 ^ 63 → AllByRecursion IsWritableEncoderInstruction is
+unfolding written_encoder_instructions
 instructions_fit [] b h = tt
-instructions_fit (i ∷ is) b h = let n = length-append (written_instruction i) (written_instructions is) in
+instructions_fit (i ∷ is) b h = let n = length-append (written_encoder_instruction i) (written_encoder_instructions is) in
     (instruction_fits i b.0 (omega (arith, h, n)), instructions_fit is b.1 (omega (arith, h, n)))

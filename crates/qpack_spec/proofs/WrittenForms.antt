@@ -1,4 +1,4 @@
--- What is written of lines, instructions and replies is a spelling.
+-- What is written of lines, instructions and decoder_instructions is a spelling.
 use Rattle.std.proofs.Common.{◌≡◌, ℕ, suc, ◌+◌, ◌-◌, ◌*◌, ◌/◌, ◌%◌, ◌^◌, ◌<◌, ◌≤◌, List, [], ◌∷◌, ◌++◌, length, Option}
 use Rattle.std.proofs.Common.{Some, refl, ap, arith, lit≤}
 use Rattle.std.proofs.lemmas.Bool.{lt-ltb, le-ltb, eq-eqb, ne_eqb}
@@ -9,21 +9,21 @@ use Rattle.qpack_spec.specs.Form.{Form, Index, IndexAndValue, NameAndValue, Spel
 use Rattle.qpack_spec.specs.Line.{IndexedStatic, IndexedDynamic, IndexedPostBase, NamedStatic, NamedDynamic}
 use Rattle.qpack_spec.specs.Line.{NamedPostBase, Literal, line_form, written_line}
 use Rattle.qpack_spec.specs.Instruction.{InsertStaticName, InsertDynamicName, InsertLiteralName, Duplicate, SetCapacity}
-use Rattle.qpack_spec.specs.Instruction.{Acknowledgment, Cancellation, Increment, instruction_form, reply_form}
-use Rattle.qpack_spec.specs.Instruction.{written_instruction, written_reply}
-use Rattle.qpack_spec.specs.WrittenLaws.{IsSmall, IsWritableText, WrittenLinesAreSpellings}
-use Rattle.qpack_spec.specs.WrittenLaws.{WrittenInstructionsAreSpellings, WrittenRepliesAreSpellings}
+use Rattle.qpack_spec.specs.Instruction.{Acknowledgment, Cancellation, Increment, encoder_instruction_form, decoder_instruction_form}
+use Rattle.qpack_spec.specs.Instruction.{written_encoder_instruction, written_decoder_instruction}
+use Rattle.qpack_spec.specs.WrittenLaws.{IsSmall, IsWritableValue, WrittenLinesAreSpellings}
+use Rattle.qpack_spec.specs.WrittenLaws.{WrittenEncoderInstructionsAreSpellings, WrittenDecoderInstructionsAreSpellings}
 use Rattle.qpack_spec.proofs.WrittenIntegers.{written_spells}
 use Rattle.qpack_spec.proofs.WrittenStrings.{written_literal}
 
 -- a text and its first byte
-pub record Starts (n flags : ℕ) (text : List ℕ) : Type 0 where
+pub record Starts (n flags : ℕ) (encoding : List ℕ) : Type 0 where
   pub first : ℕ
   pub more : List ℕ
-  pub begins : text ≡ first ∷ more
+  pub begins : encoding ≡ first ∷ more
   pub high : flags ≡ first / 2 ^ n
 
-pub integer_starts : (n : ℕ) (text : List ℕ) (flags value : ℕ) → SpellsInteger n text flags value → Starts n flags text
+pub integer_starts : (n : ℕ) (encoding : List ℕ) (flags value : ℕ) → SpellsInteger n encoding flags value → Starts n flags encoding
 integer_starts n [] flags value s = absurd s.stands
 integer_starts n (b ∷ cs) flags value s = record { first = b; more = cs; begins = refl; high = s.stands.0 }
 
@@ -37,7 +37,7 @@ pub integer_written : (n flags value : ℕ) → 1 ≤ n → n ≤ 8 → flags < 
 integer_written n flags value least most fit small =
     written_spells n flags value (record { least = least; most = most; high = fit; low = omega arith }) (omega arith)
 
-string_written : (n flags : ℕ) (value : List ℕ) → 2 ≤ n → n ≤ 8 → flags < 2 ^ (8 - n) → IsWritableText value
+string_written : (n flags : ℕ) (value : List ℕ) → 2 ≤ n → n ≤ 8 → flags < 2 ^ (8 - n) → IsWritableValue value
     → SpellsString n (written_string n flags value) flags value
 string_written n flags value least most fit w =
     written_literal n flags value (record {
@@ -48,7 +48,7 @@ string_written n flags value least most fit w =
       size = omega (arith, w.size);
     })
 
-value_written : (value : List ℕ) → IsWritableText value → SpellsString 8 (written_string 8 0 value) 0 value
+value_written : (value : List ℕ) → IsWritableValue value → SpellsString 8 (written_string 8 0 value) 0 value
 value_written value w = string_written 8 0 value (lit≤ tt) (lit≤ tt) (lit≤ tt) w
 
 -- the first byte of a written name
@@ -82,7 +82,7 @@ by_index {L} form_of n flags index make least most fit small named =
     }
 
 by_index_and_value : {L : Type 0} (form_of : ℕ → Option (Form L)) (n flags index : ℕ) (value : List ℕ) (make : ℕ
-    → List ℕ → L) → 1 ≤ n → n ≤ 8 → flags < 2 ^ (8 - n) → IsSmall index → IsWritableText value
+    → List ℕ → L) → 1 ≤ n → n ≤ 8 → flags < 2 ^ (8 - n) → IsSmall index → IsWritableValue value
     → ((b : ℕ) → flags ≡ b / 2 ^ n → form_of b ≡ Some (IndexAndValue n make))
     → Spells L form_of (written_integer n flags index ++ written_string 8 0 value) (make index value)
 by_index_and_value {L} form_of n flags index value make least most fit small w named =
@@ -110,8 +110,8 @@ by_index_and_value {L} form_of n flags index value make least most fit small w n
     }
 
 by_name_and_value : {L : Type 0} (form_of : ℕ → Option (Form L)) (n flags : ℕ) (name value : List ℕ) (make : List ℕ
-    → List ℕ → L) → 1 ≤ n → n ≤ 7 → 2 * flags + 1 < 2 ^ (8 - n) → flags < 2 ^ (8 - suc n) → IsWritableText name
-    → IsWritableText value
+    → List ℕ → L) → 1 ≤ n → n ≤ 7 → 2 * flags + 1 < 2 ^ (8 - n) → flags < 2 ^ (8 - suc n) → IsWritableValue name
+    → IsWritableValue value
     → ((b : ℕ) → 2 * flags + 1 ≡ b / 2 ^ n → form_of b ≡ Some (NameAndValue (suc n) make))
     → Spells L form_of (written_string (suc n) flags name ++ written_string 8 0 value) (make name value)
 by_name_and_value {L} form_of n flags name value make least most fit fit' w v named =
@@ -215,26 +215,26 @@ lines_spelled (Literal n v) w =
 
 -- ---- instructions
 
-first_duplicate : (b : ℕ) → 0 ≡ b / 2 ^ 5 → instruction_form b ≡ Some (Index 5 Duplicate)
-unfolding instruction_form
+first_duplicate : (b : ℕ) → 0 ≡ b / 2 ^ 5 → encoder_instruction_form b ≡ Some (Index 5 Duplicate)
+unfolding encoder_instruction_form
 first_duplicate b e = rw (lt-ltb b 32 (omega arith)) refl
 
-first_capacity : (b : ℕ) → 1 ≡ b / 2 ^ 5 → instruction_form b ≡ Some (Index 5 SetCapacity)
-unfolding instruction_form
+first_capacity : (b : ℕ) → 1 ≡ b / 2 ^ 5 → encoder_instruction_form b ≡ Some (Index 5 SetCapacity)
+unfolding encoder_instruction_form
 first_capacity b e = rw (le-ltb b 32 (omega arith), lt-ltb b 64 (omega arith)) refl
 
-first_literal_name : (b : ℕ) → 2 * 1 + 1 ≡ b / 2 ^ 5 → instruction_form b ≡ Some (NameAndValue 6 InsertLiteralName)
-unfolding instruction_form
+first_literal_name : (b : ℕ) → 2 * 1 + 1 ≡ b / 2 ^ 5 → encoder_instruction_form b ≡ Some (NameAndValue 6 InsertLiteralName)
+unfolding encoder_instruction_form
 first_literal_name b e = rw (le-ltb b 32 (omega arith), le-ltb b 64 (omega arith), lt-ltb b 128 (omega arith)) refl
 
-first_dynamic_name : (b : ℕ) → 2 ≡ b / 2 ^ 6 → instruction_form b ≡ Some (IndexAndValue 6 InsertDynamicName)
-unfolding instruction_form
+first_dynamic_name : (b : ℕ) → 2 ≡ b / 2 ^ 6 → encoder_instruction_form b ≡ Some (IndexAndValue 6 InsertDynamicName)
+unfolding encoder_instruction_form
 first_dynamic_name b e =
     rw (le-ltb b 32 (omega arith), le-ltb b 64 (omega arith), le-ltb b 128 (omega arith), lt-ltb b 192 (omega arith))
     refl
 
-first_static_name : (b : ℕ) → 3 ≡ b / 2 ^ 6 → instruction_form b ≡ Some (IndexAndValue 6 InsertStaticName)
-unfolding instruction_form
+first_static_name : (b : ℕ) → 3 ≡ b / 2 ^ 6 → encoder_instruction_form b ≡ Some (IndexAndValue 6 InsertStaticName)
+unfolding encoder_instruction_form
 first_static_name b e =
     rw (
       le-ltb b 32 (omega arith),
@@ -244,39 +244,39 @@ first_static_name b e =
       lt-ltb b 256 (omega arith),
     ) refl
 
-pub instructions_spelled : WrittenInstructionsAreSpellings
-unfolding written_instruction
+pub instructions_spelled : WrittenEncoderInstructionsAreSpellings
+unfolding written_encoder_instruction
 instructions_spelled (InsertStaticName i v) w =
-    by_index_and_value instruction_form 6 3 i v InsertStaticName (lit≤ tt) (lit≤ tt) (lit≤ tt) w.0 w.1 first_static_name
+    by_index_and_value encoder_instruction_form 6 3 i v InsertStaticName (lit≤ tt) (lit≤ tt) (lit≤ tt) w.0 w.1 first_static_name
 instructions_spelled (InsertDynamicName i v) w =
-    by_index_and_value instruction_form 6 2 i v InsertDynamicName (lit≤ tt) (lit≤ tt) (lit≤ tt) w.0 w.1
+    by_index_and_value encoder_instruction_form 6 2 i v InsertDynamicName (lit≤ tt) (lit≤ tt) (lit≤ tt) w.0 w.1
     first_dynamic_name
 instructions_spelled (InsertLiteralName n v) w =
-    by_name_and_value instruction_form 5 1 n v InsertLiteralName (lit≤ tt) (lit≤ tt) (lit≤ tt) (lit≤ tt) w.0 w.1
+    by_name_and_value encoder_instruction_form 5 1 n v InsertLiteralName (lit≤ tt) (lit≤ tt) (lit≤ tt) (lit≤ tt) w.0 w.1
     first_literal_name
 instructions_spelled (Duplicate i) w =
-    by_index instruction_form 5 0 i Duplicate (lit≤ tt) (lit≤ tt) (lit≤ tt) w first_duplicate
+    by_index encoder_instruction_form 5 0 i Duplicate (lit≤ tt) (lit≤ tt) (lit≤ tt) w first_duplicate
 instructions_spelled (SetCapacity c) w =
-    by_index instruction_form 5 1 c SetCapacity (lit≤ tt) (lit≤ tt) (lit≤ tt) w first_capacity
+    by_index encoder_instruction_form 5 1 c SetCapacity (lit≤ tt) (lit≤ tt) (lit≤ tt) w first_capacity
 
--- ---- replies
+-- ---- decoder_instructions
 
-first_increment : (b : ℕ) → 0 ≡ b / 2 ^ 6 → reply_form b ≡ Some (Index 6 Increment)
-unfolding reply_form
+first_increment : (b : ℕ) → 0 ≡ b / 2 ^ 6 → decoder_instruction_form b ≡ Some (Index 6 Increment)
+unfolding decoder_instruction_form
 first_increment b e = rw (lt-ltb b 64 (omega arith)) refl
 
-first_cancellation : (b : ℕ) → 1 ≡ b / 2 ^ 6 → reply_form b ≡ Some (Index 6 Cancellation)
-unfolding reply_form
+first_cancellation : (b : ℕ) → 1 ≡ b / 2 ^ 6 → decoder_instruction_form b ≡ Some (Index 6 Cancellation)
+unfolding decoder_instruction_form
 first_cancellation b e = rw (le-ltb b 64 (omega arith), lt-ltb b 128 (omega arith)) refl
 
-first_acknowledgment : (b : ℕ) → 1 ≡ b / 2 ^ 7 → reply_form b ≡ Some (Index 7 Acknowledgment)
-unfolding reply_form
+first_acknowledgment : (b : ℕ) → 1 ≡ b / 2 ^ 7 → decoder_instruction_form b ≡ Some (Index 7 Acknowledgment)
+unfolding decoder_instruction_form
 first_acknowledgment b e = rw (le-ltb b 64 (omega arith), le-ltb b 128 (omega arith), lt-ltb b 256 (omega arith)) refl
 
-pub replies_spelled : WrittenRepliesAreSpellings
-unfolding written_reply
-replies_spelled (Acknowledgment s) w =
-    by_index reply_form 7 1 s Acknowledgment (lit≤ tt) (lit≤ tt) (lit≤ tt) w first_acknowledgment
-replies_spelled (Cancellation s) w =
-    by_index reply_form 6 1 s Cancellation (lit≤ tt) (lit≤ tt) (lit≤ tt) w first_cancellation
-replies_spelled (Increment k) w = by_index reply_form 6 0 k Increment (lit≤ tt) (lit≤ tt) (lit≤ tt) w first_increment
+pub decoder_instructions_spelled : WrittenDecoderInstructionsAreSpellings
+unfolding written_decoder_instruction
+decoder_instructions_spelled (Acknowledgment s) w =
+    by_index decoder_instruction_form 7 1 s Acknowledgment (lit≤ tt) (lit≤ tt) (lit≤ tt) w first_acknowledgment
+decoder_instructions_spelled (Cancellation s) w =
+    by_index decoder_instruction_form 6 1 s Cancellation (lit≤ tt) (lit≤ tt) (lit≤ tt) w first_cancellation
+decoder_instructions_spelled (Increment k) w = by_index decoder_instruction_form 6 0 k Increment (lit≤ tt) (lit≤ tt) (lit≤ tt) w first_increment

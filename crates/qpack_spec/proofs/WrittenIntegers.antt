@@ -100,8 +100,8 @@ pub written_spells : (n flags value : ℕ) → IsWritable n flags value → valu
     → SpellsInteger n (written_integer n flags value) flags value
 written_spells n flags value w h = record { stands = written_stands n flags value w; few = written_few n flags value h }
 
-no_shorter : (n flags value : ℕ) (text : List ℕ) → StandsFor n text flags value
-    → length (written_integer n flags value) ≤ length text
+no_shorter : (n flags value : ℕ) (encoding : List ℕ) → StandsFor n encoding flags value
+    → length (written_integer n flags value) ≤ length encoding
 unfolding written_integer
 no_shorter n flags value [] s = absurd s
 no_shorter n flags value (b ∷ cs) s =
@@ -122,9 +122,9 @@ written_shortest n flags value w = (written_stands n flags value w, no_shorter n
 pub written_back : WrittenIntegersAreReadBack
 written_back n flags value w h = (
   written_spells n flags value w h,
-  λ rest text more f v s e.
+  λ rest encoding more f v s e.
       let r = integer_again n (written_integer n flags value) rest flags value (written_spells n flags value w h) in
-      let q = integer_again n text more f v s in
+      let q = integer_again n encoding more f v s in
       ok_triple f flags v value more rest (sym q ∙ ap (integer_at n) (sym e) ∙ r),
 )
 

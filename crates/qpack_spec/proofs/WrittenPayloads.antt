@@ -5,26 +5,26 @@ use Rattle.std.specs.Prelude.{nat_le}
 use Rattle.std.proofs.lemmas.Bool.{cases_eq, leb-true}
 use Rattle.std.proofs.lemmas.List.{length-append}
 use Rattle.std.proofs.lemmas.List.Concat.{flat_map-cons}
-use Rattle.qpack_spec.specs.Huffman.{HuffmanFault, bytes_by_length, bits_of_bytes, AreBytes, word_length, word_of}
-use Rattle.qpack_spec.specs.Huffman.{word_at, bits_of_text, PayloadMeans, PayloadMeansNothing, payload_of, text_of_bits}
-use Rattle.qpack_spec.specs.HuffmanLaws.{NoWordBeginsAnother, NoWordBeginsEos, PayloadsHaveOneText, TextsHaveOnePayload}
+use Rattle.qpack_spec.specs.Huffman.{HuffmanFault, bytes_by_length, bits_of_bytes, AreBytes, code_length, code_of}
+use Rattle.qpack_spec.specs.Huffman.{code_at, bits_of_text, PayloadMeans, PayloadMeansNothing, payload_of, text_of_bits}
+use Rattle.qpack_spec.specs.HuffmanLaws.{NoCodeBeginsAnother, NoCodeBeginsEos, PayloadsHaveOneText, TextsHaveOnePayload}
 use Rattle.qpack_spec.specs.HuffmanLaws.{WrittenPayloadsMeanTheirText, PayloadsMeanOrDont, PayloadsDontMeanBoth}
 use Rattle.qpack_spec.specs.HuffmanLaws.{PayloadsHaveOneFault, ReadingFindsTexts, ReadingFindsPayloadFaults}
 use Rattle.qpack_spec.proofs.Results.{ok_is, ok_pair}
 use Rattle.qpack_spec.proofs.Bits.{AreBits, bits_are, bits_join, bytes_bits, packed_bits, packed_bytes, packed_is}
 use Rattle.qpack_spec.proofs.Bits.{packed_length}
-use Rattle.qpack_spec.proofs.WordTable.{all_short, all_words_short, ones_unhandled}
-use Rattle.qpack_spec.proofs.Words.{both, word_again}
+use Rattle.qpack_spec.proofs.CodeTable.{all_short, all_codes_short, ones_unhandled}
+use Rattle.qpack_spec.proofs.Codes.{both, code_again}
 use Rattle.qpack_spec.proofs.Payloads.{text_means, text_again}
 use Rattle.qpack_spec.proofs.PayloadFaults.{fault_means, fault_again}
 
-word_bits : (b : ℕ) → AreBits (word_of b)
-unfolding word_of
-word_bits b = bits_are (word_length b) _
+code_bits : (b : ℕ) → AreBits (code_of b)
+unfolding code_of
+code_bits b = bits_are (code_length b) _
 
 text_bits : (text : List ℕ) → AreBits (bits_of_text text)
 text_bits [] = tt
-text_bits (b ∷ text) = rw flat_map-cons (bits_join (word_of b) (bits_of_text text) (word_bits b) (text_bits text))
+text_bits (b ∷ text) = rw flat_map-cons (bits_join (code_of b) (bits_of_text text) (code_bits b) (text_bits text))
 
 -- a payload of bytes that means the text is the written one
 pub payload_is : (payload text : List ℕ) → AreBytes payload → PayloadMeans payload text → payload ≡ payload_of text
@@ -35,12 +35,12 @@ pub payload_length : (text : List ℕ) → length (payload_of text) ≡ (length 
 unfolding payload_of
 payload_length text = packed_length ((length (bits_of_text text) + 7) / 8) (bits_of_text text)
 
-short_each : (k b c : ℕ) → all_short k b ≡ true → b ≤ c → c < b + k → length (word_of c) ≤ 30
+short_each : (k b c : ℕ) → all_short k b ≡ true → b ≤ c → c < b + k → length (code_of c) ≤ 30
 short_each zero b c e l u = absurd (omega arith)
 short_each (suc k) b c e l u =
-    let h = both (nat_le (length (word_of b)) 30) (all_short k (suc b)) e in
+    let h = both (nat_le (length (code_of b)) 30) (all_short k (suc b)) e in
     elim (cases_eq b c) [
-      | inl q ↦ subst (λ (d : ℕ). length (word_of d) ≤ 30) q (leb-true _ _ h.0)
+      | inl q ↦ subst (λ (d : ℕ). length (code_of d) ≤ 30) q (leb-true _ _ h.0)
       | inr n ↦ short_each k (suc b) c h.1 (omega arith) (omega arith)
     ]
 
@@ -49,9 +49,9 @@ bits_few [] ok = omega arith
 bits_few (b ∷ text) ok =
     omega (
       arith,
-      ap (λ (l : List ℕ). length l) (flat_map-cons word_of b text),
-      length-append (word_of b) (bits_of_text text),
-      short_each 256 0 b all_words_short (omega arith)
+      ap (λ (l : List ℕ). length l) (flat_map-cons code_of b text),
+      length-append (code_of b) (bits_of_text text),
+      short_each 256 0 b all_codes_short (omega arith)
           (omega (arith, ok.0)),
       bits_few text ok.1,
     )
@@ -100,10 +100,10 @@ reads_texts p t = (text_means (bits_of_bytes p) t (bytes_bits p), text_again (bi
 pub reads_faults : ReadingFindsPayloadFaults
 reads_faults p f = (fault_means (bits_of_bytes p) f (bytes_bits p), fault_again (bits_of_bytes p) f (bytes_bits p))
 
-pub no_word_begins : NoWordBeginsAnother
-no_word_begins a b x y h h' e =
-    (ok_pair a b x y (sym (word_again a x h) ∙ ap (word_at bytes_by_length 0 0) e ∙ word_again b y h')).0
+pub no_code_begins : NoCodeBeginsAnother
+no_code_begins a b x y h h' e =
+    (ok_pair a b x y (sym (code_again a x h) ∙ ap (code_at bytes_by_length 0 0) e ∙ code_again b y h')).0
 
-pub no_word_eos : NoWordBeginsEos
-no_word_eos b x y h e =
-    absurd (let a = ones_unhandled x in let c = ap (word_at bytes_by_length 0 0) e ∙ word_again b y h in cc)
+pub no_code_eos : NoCodeBeginsEos
+no_code_eos b x y h e =
+    absurd (let a = ones_unhandled x in let c = ap (code_at bytes_by_length 0 0) e ∙ code_again b y h in cc)

@@ -38,8 +38,8 @@ written_again n flags value rest w =
     string_again n (written_string n flags value) rest flags value (written_literal n flags value w)
 
 pub written_read : WrittenStringsAreReadBack
-written_read n flags value rest text more f v w s e =
-    let a = string_again n text more f v s in
+written_read n flags value rest encoding more f v w s e =
+    let a = string_again n encoding more f v s in
     let b = written_again n flags value rest w in
     let t = ok_triple f flags v value more rest (sym a ∙ ap (string_at n) (sym e) ∙ b) in
     (t.0, t.1, t.2)

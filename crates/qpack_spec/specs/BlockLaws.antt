@@ -3,28 +3,28 @@ use Rattle.std.specs.Prelude.{◌≡◌, ℕ, ◌+◌, ◌<◌, ◌≤◌, ◌�
 use Rattle.qpack_spec.specs.Field.{Field}
 use Rattle.qpack_spec.specs.Prefix.{Prefix, IsRequired, required_at, SpellsPrefix, prefix_at}
 use Rattle.qpack_spec.specs.Window.{Window}
-use Rattle.qpack_spec.specs.Reading.{Fault, references_of, greatest}
+use Rattle.qpack_spec.specs.Reading.{Fault, references_of, greatest_of}
 use Rattle.qpack_spec.specs.BlockReading.{ReadsTo, fields_in_bytes}
-use Rattle.qpack_spec.specs.Table.{Table, count, tracked, opens}
-use Rattle.qpack_spec.specs.Rule.{rule, required_of, committed}
+use Rattle.qpack_spec.specs.Table.{Table, insert_count, with_numbers, with_unacknowledged}
+use Rattle.qpack_spec.specs.Rule.{rule, required_insert_count, committed_table}
 
 -- reading from left to right finds exactly the prefix at the front
 abbrev pub ReadingFindsPrefixes : Type 0
 ReadingFindsPrefixes =
     (bytes : List ℕ) (p : Prefix) (rest : List ℕ)
-    → (prefix_at bytes ≡ Ok (p, rest)) ↔ ((text : List ℕ) × (bytes ≡ text ++ rest) × SpellsPrefix text p)
+    → (prefix_at bytes ≡ Ok (p, rest)) ↔ ((encoding : List ℕ) × (bytes ≡ encoding ++ rest) × SpellsPrefix encoding p)
 
 -- an encoded count stands for one required count at most, whatever the total of insertions
 abbrev pub CountsHaveOneReading : Type 0
 CountsHaveOneReading =
-    (total entries count r s : ℕ) → 0 < count → IsRequired total entries count r → IsRequired total entries count s
+    (total entries insert_count r s : ℕ) → 0 < insert_count → IsRequired total entries insert_count r → IsRequired total entries insert_count s
     → r ≡ s
 
 -- which is what is computed; where none is computed, it stands for none
 abbrev pub CountsAreRead : Type 0
 CountsAreRead =
-    (total entries count r : ℕ) → 0 < count → count ≤ entries + entries
-    → IsRequired total entries count r ↔ ((0 < r) × (required_at (total + entries) entries count ≡ r))
+    (total entries insert_count r : ℕ) → 0 < insert_count → insert_count ≤ entries + entries
+    → IsRequired total entries insert_count r ↔ ((0 < r) × (required_at (total + entries) entries insert_count ≡ r))
 
 -- reading line by line gives the fields, or the first fault, of the lines that the bytes are
 abbrev pub ReadingLinesFindsFields : Type 0
@@ -39,6 +39,6 @@ abbrev pub BlocksRequireReferences : Type 0
 BlocksRequireReferences =
     (t : Table) (stream : ℕ) (fields : List Field)
     → (let d = rule t fields in
-    let references = references_of (count t) d.lines in
-    (required_of d ≡ greatest references) × ((committed d stream).opened
-    ≡ opens t.opened stream (tracked [] references)))
+    let references = references_of (insert_count t) d.lines in
+    (required_insert_count d ≡ greatest_of references) × ((committed_table d stream).unacknowledged
+    ≡ with_unacknowledged t.unacknowledged stream (with_numbers [] references)))

@@ -8,15 +8,15 @@ use Rattle.qpack_spec.specs.Form.{FormFault, form_at}
 use Rattle.qpack_spec.specs.Line.{Line, line_form, SpellsLine, written_lines}
 use Rattle.qpack_spec.specs.Stream.{Joined}
 use Rattle.qpack_spec.specs.Prefix.{Prefix, PrefixFault, read_base, read_prefix, written_prefix, prefix_at}
-use Rattle.qpack_spec.specs.Window.{Window, agreed_maximum, total}
-use Rattle.qpack_spec.specs.History.{History, whole}
+use Rattle.qpack_spec.specs.Window.{Window, maximum_capacity, window_insert_count}
+use Rattle.qpack_spec.specs.History.{History, whole_window}
 use Rattle.qpack_spec.specs.Reading.{Fault, BadForm, BadPrefix, line_field, fields_of, Block, Reading, Missing, Faulty}
-use Rattle.qpack_spec.specs.Reading.{answered}
+use Rattle.qpack_spec.specs.Reading.{reading_of_fields}
 
 -- why the next line gives no field: its bytes, or what it names
 pub data StopsAt (w : Window) (base : ℕ) (rest : List ℕ) (e : Fault) : Type 0 where
   in_bytes : (fault : FormFault) → form_at line_form rest ≡ Err fault → e ≡ BadForm fault → StopsAt w base rest e
-  in_line : (text more : List ℕ) (l : Line) → rest ≡ text ++ more → SpellsLine text l → line_field w base l ≡ Err e
+  in_line : (encoding more : List ℕ) (l : Line) → rest ≡ encoding ++ more → SpellsLine encoding l → line_field w base l ≡ Err e
       → StopsAt w base rest e
 
 -- the bytes are lines, which mean the fields
@@ -65,12 +65,12 @@ fields_in_bytes w base bytes = fields_at (length bytes) w base bytes
 abbrev pub bytes_behind : Window → List ℕ → Result (ℕ × ℕ) PrefixFault → Reading
 bytes_behind w rest (Err e) = Faulty (BadPrefix e)
 bytes_behind w rest (Ok p) =
-    if nat_lt (total w) p.0 then Missing p.0 else answered (fields_in_bytes w p.1 rest) (nat_lt 0 p.0)
+    if nat_lt (window_insert_count w) p.0 then Missing p.0 else reading_of_fields (fields_in_bytes w p.1 rest) (nat_lt 0 p.0)
 
 -- the answer where a prefix stands in front, or none
 abbrev pub section_behind : Window → Result (Prefix × List ℕ) FormFault → Reading
 section_behind w (Err e) = Faulty (BadForm e)
-section_behind w (Ok p) = bytes_behind w p.1 (read_prefix (total w) (agreed_maximum w.agreed w.capacity) p.0)
+section_behind w (Ok p) = bytes_behind w p.1 (read_prefix (window_insert_count w) (maximum_capacity w.agreed_max w.capacity) p.0)
 
 -- what the bytes of a field section mean under a window (section 2.2.1)
 unfoldable pub reading_of_bytes : Window → List ℕ → Reading
@@ -90,7 +90,7 @@ or_bad_prefix (Err e) = Err (BadPrefix e)
 unfoldable pub meaning_over_all : History → List ℕ → ℕ → Result (List Field) Fault
 meaning_over_all all bytes required =
     or_bad_form (prefix_at bytes) >>= λ p. or_bad_prefix (base_behind p.0 required)
-    >>= λ base. fields_in_bytes (whole all) base p.1
+    >>= λ base. fields_in_bytes (whole_window all) base p.1
 
 -- the bytes that are written of a block
 unfoldable pub written_block : Block → List ℕ

@@ -3,10 +3,10 @@ use Rattle.std.specs.Prelude.{◌≡◌, ℕ, List, ◌++◌, Result, Ok, Err}
 
 -- some front of the bytes is in P
 pub record Begins (P : List ℕ → Type 0) (bytes : List ℕ) : Type 0 where
-  pub text : List ℕ
+  pub encoding : List ℕ
   pub rest : List ℕ
-  pub parts : bytes ≡ text ++ rest
-  pub holds : P text
+  pub parts : bytes ≡ encoding ++ rest
+  pub holds : P encoding
 
 -- what is read first is handed on, a fault ends the reading
 infixl 10 ◌>>=◌

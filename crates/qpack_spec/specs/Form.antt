@@ -1,4 +1,4 @@
--- The forms that lines, instructions and replies have in bytes (RFC 9204, sections 4.3 to 4.5): the first bits of a
+-- The forms that lines, instructions and decoder_instructions have in bytes (RFC 9204, sections 4.3 to 4.5): the first bits of a
 -- byte name the form, and behind them stand an integer, an integer and a string, or two strings.
 use Rattle.std.specs.Prelude.{◌≡◌, ℕ, ◌⊎◌, Bool, true, false, List, [], ◌∷◌, ◌++◌, Option, None, Some, Result, Ok, Err}
 use Rattle.qpack_spec.specs.Bytes.{◌>>=◌}
@@ -29,70 +29,70 @@ pub data Form (L : Type 0) : Type 0 where
 
 -- the bytes are an integer, whatever stands above its prefix
 abbrev pub HoldsIndex : ℕ → ℕ → List ℕ → Type 0
-HoldsIndex n index text = (flags : ℕ) × SpellsInteger n text flags index
+HoldsIndex n index encoding = (flags : ℕ) × SpellsInteger n encoding flags index
 
 -- the bytes are a string, whatever stands above its flag
 abbrev pub HoldsText : ℕ → List ℕ → List ℕ → Type 0
-HoldsText n value text = (flags : ℕ) × SpellsString n text flags value
+HoldsText n value encoding = (flags : ℕ) × SpellsString n encoding flags value
 
 -- the bytes are one thing and then another
-pub record InTurn (P Q : List ℕ → Type 0) (text : List ℕ) : Type 0 where
+pub record InTurn (P Q : List ℕ → Type 0) (encoding : List ℕ) : Type 0 where
   pub head : List ℕ
   pub tail : List ℕ
-  pub parts : text ≡ head ++ tail
+  pub parts : encoding ≡ head ++ tail
   pub first : P head
   pub second : Q tail
 
 -- the bytes spell what the form makes of its parts
 abbrev pub SpellsForm : {L : Type 0} → Form L → List ℕ → L → Type 0
-SpellsForm (Index n make) text l = (index : ℕ) × HoldsIndex n index text × (l ≡ make index)
-SpellsForm (IndexAndValue n make) text l =
-    (index : ℕ) × (value : List ℕ) × InTurn (HoldsIndex n index) (HoldsText 8 value) text × (l ≡ make index value)
-SpellsForm (NameAndValue n make) text l =
-    (name : List ℕ) × (value : List ℕ) × InTurn (HoldsText n name) (HoldsText 8 value) text × (l ≡ make name value)
+SpellsForm (Index n make) encoding l = (index : ℕ) × HoldsIndex n index encoding × (l ≡ make index)
+SpellsForm (IndexAndValue n make) encoding l =
+    (index : ℕ) × (value : List ℕ) × InTurn (HoldsIndex n index) (HoldsText 8 value) encoding × (l ≡ make index value)
+SpellsForm (NameAndValue n make) encoding l =
+    (name : List ℕ) × (value : List ℕ) × InTurn (HoldsText n name) (HoldsText 8 value) encoding × (l ≡ make name value)
 
 -- a whole integer that is refused
 abbrev pub RefusesIndex : ℕ → List ℕ → FormFault → Type 0
-RefusesIndex n text (BadInteger Overflow) = OverflowsInteger n text
-RefusesIndex n text (BadInteger UnexpectedEnd) = ⊥
-RefusesIndex n text (BadString fault) = ⊥
+RefusesIndex n encoding (BadInteger Overflow) = OverflowsInteger n encoding
+RefusesIndex n encoding (BadInteger UnexpectedEnd) = ⊥
+RefusesIndex n encoding (BadString fault) = ⊥
 
 -- a whole string that is refused
 abbrev pub RefusesText : ℕ → List ℕ → FormFault → Type 0
-RefusesText n text (BadInteger fault) = ⊥
-RefusesText n text (BadString fault) = RefusesString n text fault
+RefusesText n encoding (BadInteger fault) = ⊥
+RefusesText n encoding (BadString fault) = RefusesString n encoding fault
 
 -- the bytes are refused as the form: its first part, or its value behind a whole first part
 abbrev pub RefusesForm : {L : Type 0} → Form L → List ℕ → FormFault → Type 0
-RefusesForm (Index n make) text e = RefusesIndex n text e
-RefusesForm (IndexAndValue n make) text e =
-    RefusesIndex n text e ⊎ InTurn (λ t. (index : ℕ) × HoldsIndex n index t) (λ t. RefusesText 8 t e) text
-RefusesForm (NameAndValue n make) text e =
-    RefusesText n text e ⊎ InTurn (λ t. (name : List ℕ) × HoldsText n name t) (λ t. RefusesText 8 t e) text
+RefusesForm (Index n make) encoding e = RefusesIndex n encoding e
+RefusesForm (IndexAndValue n make) encoding e =
+    RefusesIndex n encoding e ⊎ InTurn (λ t. (index : ℕ) × HoldsIndex n index t) (λ t. RefusesText 8 t e) encoding
+RefusesForm (NameAndValue n make) encoding e =
+    RefusesText n encoding e ⊎ InTurn (λ t. (name : List ℕ) × HoldsText n name t) (λ t. RefusesText 8 t e) encoding
 
 -- the bytes spell something in the form that their first byte names
-pub record Spells (L : Type 0) (form_of : ℕ → Option (Form L)) (text : List ℕ) (l : L) : Type 0 where
+pub record Spells (L : Type 0) (form_of : ℕ → Option (Form L)) (encoding : List ℕ) (l : L) : Type 0 where
   pub first : ℕ
   pub more : List ℕ
   pub form : Form L
-  pub begins : text ≡ first ∷ more
+  pub begins : encoding ≡ first ∷ more
   pub names : form_of first ≡ Some form
-  pub spells : SpellsForm form text l
+  pub spells : SpellsForm form encoding l
 
 -- the bytes are refused in the form that their first byte names
-pub record Refuses (L : Type 0) (form_of : ℕ → Option (Form L)) (text : List ℕ) (fault : FormFault) : Type 0 where
+pub record Refuses (L : Type 0) (form_of : ℕ → Option (Form L)) (encoding : List ℕ) (fault : FormFault) : Type 0 where
   pub first : ℕ
   pub more : List ℕ
   pub form : Form L
-  pub begins : text ≡ first ∷ more
+  pub begins : encoding ≡ first ∷ more
   pub names : form_of first ≡ Some form
-  pub refuses : RefusesForm form text fault
+  pub refuses : RefusesForm form encoding fault
 
 -- no front is a spelling or a refusal
 abbrev pub Truncates : {L : Type 0} → (ℕ → Option (Form L)) → List ℕ → Type 0
 Truncates {L} form_of bytes =
-    (text rest : List ℕ) → bytes ≡ text ++ rest
-    → ((l : L) → Spells L form_of text l → ⊥) × ((fault : FormFault) → Refuses L form_of text fault → ⊥)
+    (encoding rest : List ℕ) → bytes ≡ encoding ++ rest
+    → ((l : L) → Spells L form_of encoding l → ⊥) × ((fault : FormFault) → Refuses L form_of encoding fault → ⊥)
 
 -- ---- the same, as reading from left to right
 

@@ -1,4 +1,4 @@
--- What every reader of lines, instructions and replies relies on, as statements; the crate's law functions promise
+-- What every reader of lines, instructions and decoder_instructions relies on, as statements; the crate's law functions promise
 -- them.
 use Rattle.std.specs.Prelude.{◌≡◌, ℕ, ◌⊎◌, ◌↔◌, true, false, List, ◌++◌, Option, Ok, Err}
 use Rattle.qpack_spec.specs.Bytes.{Begins}
@@ -6,11 +6,11 @@ use Rattle.qpack_spec.specs.Form.{FormFault, is_cut, Form, Spells, Refuses, Trun
 
 -- one spelling is of one thing
 abbrev pub FormsHaveOneValue : {L : Type 0} → (ℕ → Option (Form L)) → Type 0
-FormsHaveOneValue {L} form_of = (text : List ℕ) (l m : L) → Spells L form_of text l → Spells L form_of text m → l ≡ m
+FormsHaveOneValue {L} form_of = (encoding : List ℕ) (l m : L) → Spells L form_of encoding l → Spells L form_of encoding m → l ≡ m
 
 -- a spelling or a refusal
 abbrev pub EndsForm : {L : Type 0} → (ℕ → Option (Form L)) → List ℕ → Type 0
-EndsForm {L} form_of text = ((l : L) × Spells L form_of text l) ⊎ ((fault : FormFault) × Refuses L form_of text fault)
+EndsForm {L} form_of encoding = ((l : L) × Spells L form_of encoding l) ⊎ ((fault : FormFault) × Refuses L form_of encoding fault)
 
 -- no spelling or refusal begins another
 abbrev pub NoFormBeginsAnother : {L : Type 0} → (ℕ → Option (Form L)) → Type 0
@@ -20,13 +20,13 @@ NoFormBeginsAnother form_of = (a b x y : List ℕ) → EndsForm form_of a → En
 abbrev pub ReadingFindsForms : {L : Type 0} → (ℕ → Option (Form L)) → Type 0
 ReadingFindsForms {L} form_of =
     (bytes : List ℕ) (l : L) (rest : List ℕ)
-    → (form_at form_of bytes ≡ Ok (l, rest)) ↔ ((text : List ℕ) × (bytes ≡ text ++ rest) × Spells L form_of text l)
+    → (form_at form_of bytes ≡ Ok (l, rest)) ↔ ((encoding : List ℕ) × (bytes ≡ encoding ++ rest) × Spells L form_of encoding l)
 
 -- each refusal exactly where it stands
 abbrev pub ReadingFindsFormRefusals : {L : Type 0} → (ℕ → Option (Form L)) → Type 0
 ReadingFindsFormRefusals {L} form_of =
     (bytes : List ℕ) (fault : FormFault) → is_cut fault ≡ false
-    → (form_at form_of bytes ≡ Err fault) ↔ Begins (λ text. Refuses L form_of text fault) bytes
+    → (form_at form_of bytes ≡ Err fault) ↔ Begins (λ encoding. Refuses L form_of encoding fault) bytes
 
 -- and an end exactly where no front is one or the other
 abbrev pub ReadingFindsFormTruncation : {L : Type 0} → (ℕ → Option (Form L)) → Type 0

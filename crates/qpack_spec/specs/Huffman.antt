@@ -4,7 +4,7 @@ use Rattle.std.specs.Prelude.{◌∷◌, ◌++◌, length, take, drop, slice_ind
 use Rattle.std.specs.Prelude.{Ok, Err, nat_lt, ◌==◌, if◌then◌else◌}
 use Rattle.std.specs.List.{flat_map, AllByRecursion, list_any, count_by, position_or_len}
 
--- why a payload means nothing: behind its last word stand thirty ones (`Unhandled`), or they don't
+-- why a payload means nothing: behind its last code stand thirty ones (`Unhandled`), or they don't
 pub data HuffmanFault : Type 0 where
   MissingBits : HuffmanFault
   Unhandled : HuffmanFault
@@ -31,7 +31,7 @@ AreBytes bytes = AllByRecursion (λ b. b < 256) bytes
 
 -- ---- the code
 
--- the bytes whose words have one bit, two bits, and so on to thirty, in rising order (Appendix B)
+-- the bytes whose codes have one bit, two bits, and so on to thirty, in rising order (Appendix B)
 unfoldable pub bytes_by_length : List (List ℕ)
 bytes_by_length =
     [] ∷
@@ -72,46 +72,46 @@ bytes_by_length =
     (10 ∷ 13 ∷ 22 ∷ []) ∷
     []
 
--- the bytes whose words have so many bits
+-- the bytes whose codes have so many bits
 unfoldable pub bytes_of_length : ℕ → List ℕ
 bytes_of_length zero = []
 bytes_of_length (suc n) = slice_index_or bytes_by_length n []
 
--- the first word of each length, as a number: the last word of the shorter length and one, shifted left by a bit
-unfoldable pub first_word : ℕ → ℕ
-first_word zero = 0
-first_word (suc n) = 2 * (first_word n + length (bytes_of_length n))
+-- the first code of each length, as a number: the last code of the shorter length and one, shifted left by a bit
+unfoldable pub first_code : ℕ → ℕ
+first_code zero = 0
+first_code (suc n) = 2 * (first_code n + length (bytes_of_length n))
 
--- how many bits the word of a byte has
-unfoldable pub word_length : ℕ → ℕ
-word_length b = suc (position_or_len (λ bytes. list_any (λ c. c == b) bytes) bytes_by_length)
+-- how many bits the code of a byte has
+unfoldable pub code_length : ℕ → ℕ
+code_length b = suc (position_or_len (λ bytes. list_any (λ c. c == b) bytes) bytes_by_length)
 
--- the word of a byte: the first word of its length plus the number of smaller bytes whose words are as long
-unfoldable pub word_of : ℕ → List ℕ
-word_of b =
-    let n = word_length b in
-    bits_of n (first_word n + count_by (λ c. nat_lt c b) (bytes_of_length n))
+-- the code of a byte: the first code of its length plus the number of smaller bytes whose codes are as long
+unfoldable pub code_of : ℕ → List ℕ
+code_of b =
+    let n = code_length b in
+    bits_of n (first_code n + count_by (λ c. nat_lt c b) (bytes_of_length n))
 
--- the words of a text, joined
+-- the codes of a text, joined
 abbrev pub bits_of_text : List ℕ → List ℕ
-bits_of_text text = flat_map word_of text
+bits_of_text text = flat_map code_of text
 
 -- ---- payloads (section 5.2)
 
--- the bits mean the text: they are its words, and then fewer than eight ones
+-- the bits mean the text: they are its codes, and then fewer than eight ones
 pub record BitsMean (bits text : List ℕ) : Type 0 where
   pub bytes : AreBytes text
   pub padding : ℕ
   pub few : padding < 8
   pub parts : bits ≡ bits_of_text text ++ ones padding
 
--- the bits mean nothing: behind the longest list of words at their front stands a rest that doesn't end a text
+-- the bits mean nothing: behind the longest list of codes at their front stands a rest that doesn't end a text
 pub record BitsMeanNothing (bits : List ℕ) (fault : HuffmanFault) : Type 0 where
   pub text : List ℕ
   pub rest : List ℕ
   pub bytes : AreBytes text
   pub parts : bits ≡ bits_of_text text ++ rest
-  pub no_word : (b : ℕ) (more : List ℕ) → b < 256 → rest ≡ word_of b ++ more → ⊥
+  pub no_code : (b : ℕ) (more : List ℕ) → b < 256 → rest ≡ code_of b ++ more → ⊥
   pub no_end : (k : ℕ) → k < 8 → rest ≡ ones k → ⊥
   pub eos : (fault ≡ Unhandled) ↔ ((more : List ℕ) × (rest ≡ ones 30 ++ more))
 
@@ -131,25 +131,25 @@ number_from n [] = n
 number_from n (bit ∷ bits) = number_from (2 * n + bit) bits
 
 -- the first bits in so many bytes, the last of them filled up with ones
-unfoldable pub packed : ℕ → List ℕ → List ℕ
-packed zero bits = []
-packed (suc k) bits = number_from 0 (take 8 (bits ++ ones 8)) ∷ packed k (drop 8 bits)
+unfoldable pub bytes_of_bits : ℕ → List ℕ → List ℕ
+bytes_of_bits zero bits = []
+bytes_of_bits (suc k) bits = number_from 0 (take 8 (bits ++ ones 8)) ∷ bytes_of_bits k (drop 8 bits)
 
--- the payload of a text: its words in as few bytes as hold them
+-- the payload of a text: its codes in as few bytes as hold them
 unfoldable pub payload_of : List ℕ → List ℕ
-payload_of text = packed ((length (bits_of_text text) + 7) / 8) (bits_of_text text)
+payload_of text = bytes_of_bits ((length (bits_of_text text) + 7) / 8) (bits_of_text text)
 
 -- ---- the meaning of a payload, as reading from left to right
 
--- The first byte of a list of bits: `number` are the bits before them, `next` the number behind the last word
+-- The first byte of a list of bits: `number` are the bits before them, `next` the number behind the last code
 -- that is as long as those, and the rows are the bytes of the greater lengths.
-unfoldable pub word_at : List (List ℕ) → ℕ → ℕ → List ℕ → Result (ℕ × List ℕ) HuffmanFault
-word_at [] number next bits = Err Unhandled
-word_at (bytes ∷ more) number next [] = Err MissingBits
-word_at (bytes ∷ more) number next (bit ∷ bits) =
+unfoldable pub code_at : List (List ℕ) → ℕ → ℕ → List ℕ → Result (ℕ × List ℕ) HuffmanFault
+code_at [] number next bits = Err Unhandled
+code_at (bytes ∷ more) number next [] = Err MissingBits
+code_at (bytes ∷ more) number next (bit ∷ bits) =
     if nat_lt (2 * number + bit) (2 * next + length bytes)
     then Ok (slice_index bytes (2 * number + bit - 2 * next), bits)
-    else word_at more (2 * number + bit) (2 * next + length bytes) bits
+    else code_at more (2 * number + bit) (2 * next + length bytes) bits
 
 -- whether the bits are fewer than k, and all of them ones
 unfoldable pub is_padding : ℕ → List ℕ → Bool
@@ -157,14 +157,14 @@ is_padding zero bits = false
 is_padding (suc k) [] = true
 is_padding (suc k) (bit ∷ bits) = if bit == 1 then is_padding k bits else false
 
--- a word that was read, or its fault, as an item, and the bits behind it: none after a fault
+-- a code that was read, or its fault, as an item, and the bits behind it: none after a fault
 abbrev pub item_of : Result (ℕ × List ℕ) HuffmanFault → Option (Result ℕ HuffmanFault) × List ℕ
 item_of (Ok x) = (Some (Ok x.0), x.1)
 item_of (Err fault) = (Some (Err fault), [])
 
 -- what comes next of a payload's bits: their end, a byte or a fault, and the bits behind it
 unfoldable pub item_at : List ℕ → Option (Result ℕ HuffmanFault) × List ℕ
-item_at bits = if is_padding 8 bits then (None, []) else item_of (word_at bytes_by_length 0 0 bits)
+item_at bits = if is_padding 8 bits then (None, []) else item_of (code_at bytes_by_length 0 0 bits)
 
 -- the text with a list in front
 abbrev pub with_front : List ℕ → Result (List ℕ) HuffmanFault → Result (List ℕ) HuffmanFault

@@ -1,15 +1,15 @@
 -- What every reader and writer of coded strings relies on, as statements; the crate's law functions promise them.
 use Rattle.std.specs.Prelude.{◌≡◌, ℕ, ◌<◌, ◌⊎◌, ◌↔◌, List, ◌++◌, Ok, Err}
-use Rattle.qpack_spec.specs.Huffman.{HuffmanFault, AreBytes, bits_of_bytes, ones, word_of, PayloadMeans}
+use Rattle.qpack_spec.specs.Huffman.{HuffmanFault, AreBytes, bits_of_bytes, ones, code_of, PayloadMeans}
 use Rattle.qpack_spec.specs.Huffman.{PayloadMeansNothing, payload_of, text_of_bits}
 
--- no word of a byte begins another's
-abbrev pub NoWordBeginsAnother : Type 0
-NoWordBeginsAnother = (a b : ℕ) (x y : List ℕ) → a < 256 → b < 256 → word_of a ++ x ≡ word_of b ++ y → a ≡ b
+-- no code of a byte begins another's
+abbrev pub NoCodeBeginsAnother : Type 0
+NoCodeBeginsAnother = (a b : ℕ) (x y : List ℕ) → a < 256 → b < 256 → code_of a ++ x ≡ code_of b ++ y → a ≡ b
 
--- the thirty ones that end no text, EOS, begin with no word
-abbrev pub NoWordBeginsEos : Type 0
-NoWordBeginsEos = (b : ℕ) (x y : List ℕ) → b < 256 → ones 30 ++ x ≡ word_of b ++ y → ⊥
+-- the thirty ones that end no text, EOS, begin with no code
+abbrev pub NoCodeBeginsEos : Type 0
+NoCodeBeginsEos = (b : ℕ) (x y : List ℕ) → b < 256 → ones 30 ++ x ≡ code_of b ++ y → ⊥
 
 -- a payload means one text at most
 abbrev pub PayloadsHaveOneText : Type 0

@@ -5,23 +5,23 @@ use Rattle.qpack_spec.specs.Text.{written_string}
 use Rattle.qpack_spec.specs.Form.{FormFault, Form, Index, IndexAndValue, NameAndValue, Spells, Refuses}
 
 -- an encoder instruction (section 4.3); a relative index counts from the newest entry, which is 0
-pub data Instruction : Type 0 where
-  InsertStaticName : (index : ℕ) (value : List ℕ) → Instruction
-  InsertDynamicName : (relative : ℕ) (value : List ℕ) → Instruction
-  InsertLiteralName : (name value : List ℕ) → Instruction
-  Duplicate : (relative : ℕ) → Instruction
-  SetCapacity : (capacity : ℕ) → Instruction
+pub data EncoderInstruction : Type 0 where
+  InsertStaticName : (index : ℕ) (value : List ℕ) → EncoderInstruction
+  InsertDynamicName : (relative : ℕ) (value : List ℕ) → EncoderInstruction
+  InsertLiteralName : (name value : List ℕ) → EncoderInstruction
+  Duplicate : (relative : ℕ) → EncoderInstruction
+  SetCapacity : (capacity : ℕ) → EncoderInstruction
 
 -- a decoder instruction (section 4.4): what the encoder hears
-pub data Reply : Type 0 where
-  Acknowledgment : (stream : ℕ) → Reply
-  Cancellation : (stream : ℕ) → Reply
-  Increment : (by : ℕ) → Reply
+pub data DecoderInstruction : Type 0 where
+  Acknowledgment : (stream : ℕ) → DecoderInstruction
+  Cancellation : (stream : ℕ) → DecoderInstruction
+  Increment : (by : ℕ) → DecoderInstruction
 
 -- what the first byte says of an encoder instruction: its first bits are 000, 001, 01H, 10 and 11 (sections 4.3.1 to
 -- 4.3.4)
-unfoldable pub instruction_form : ℕ → Option (Form Instruction)
-instruction_form first =
+unfoldable pub encoder_instruction_form : ℕ → Option (Form EncoderInstruction)
+encoder_instruction_form first =
     if nat_lt first 32 then Some (Index 5 Duplicate)
     else if nat_lt first 64 then Some (Index 5 SetCapacity)
     else if nat_lt first 128 then Some (NameAndValue 6 InsertLiteralName)
@@ -30,49 +30,49 @@ instruction_form first =
     else None
 
 -- what the first byte says of a decoder instruction: its first bits are 00, 01 and 1 (sections 4.4.1 to 4.4.3)
-unfoldable pub reply_form : ℕ → Option (Form Reply)
-reply_form first =
+unfoldable pub decoder_instruction_form : ℕ → Option (Form DecoderInstruction)
+decoder_instruction_form first =
     if nat_lt first 64 then Some (Index 6 Increment)
     else if nat_lt first 128 then Some (Index 6 Cancellation)
     else if nat_lt first 256 then Some (Index 7 Acknowledgment)
     else None
 
 -- the bytes are a spelling of the encoder instruction
-abbrev pub SpellsInstruction : List ℕ → Instruction → Type 0
-SpellsInstruction text i = Spells Instruction instruction_form text i
+abbrev pub SpellsEncoderInstruction : List ℕ → EncoderInstruction → Type 0
+SpellsEncoderInstruction encoding i = Spells EncoderInstruction encoder_instruction_form encoding i
 
 -- the bytes are refused as an encoder instruction
-abbrev pub RefusesInstruction : List ℕ → FormFault → Type 0
-RefusesInstruction text fault = Refuses Instruction instruction_form text fault
+abbrev pub RefusesEncoderInstruction : List ℕ → FormFault → Type 0
+RefusesEncoderInstruction encoding fault = Refuses EncoderInstruction encoder_instruction_form encoding fault
 
 -- the bytes are a spelling of the decoder instruction
-abbrev pub SpellsReply : List ℕ → Reply → Type 0
-SpellsReply text r = Spells Reply reply_form text r
+abbrev pub SpellsDecoderInstruction : List ℕ → DecoderInstruction → Type 0
+SpellsDecoderInstruction encoding r = Spells DecoderInstruction decoder_instruction_form encoding r
 
 -- the bytes are refused as a decoder instruction
-abbrev pub RefusesReply : List ℕ → FormFault → Type 0
-RefusesReply text fault = Refuses Reply reply_form text fault
+abbrev pub RefusesDecoderInstruction : List ℕ → FormFault → Type 0
+RefusesDecoderInstruction encoding fault = Refuses DecoderInstruction decoder_instruction_form encoding fault
 
 -- the written spelling of an encoder instruction: every integer the shortest, every string coded
-unfoldable pub written_instruction : Instruction → List ℕ
-written_instruction (InsertStaticName index value) = written_integer 6 3 index ++ written_string 8 0 value
-written_instruction (InsertDynamicName relative value) = written_integer 6 2 relative ++ written_string 8 0 value
-written_instruction (InsertLiteralName name value) = written_string 6 1 name ++ written_string 8 0 value
-written_instruction (Duplicate relative) = written_integer 5 0 relative
-written_instruction (SetCapacity capacity) = written_integer 5 1 capacity
+unfoldable pub written_encoder_instruction : EncoderInstruction → List ℕ
+written_encoder_instruction (InsertStaticName index value) = written_integer 6 3 index ++ written_string 8 0 value
+written_encoder_instruction (InsertDynamicName relative value) = written_integer 6 2 relative ++ written_string 8 0 value
+written_encoder_instruction (InsertLiteralName name value) = written_string 6 1 name ++ written_string 8 0 value
+written_encoder_instruction (Duplicate relative) = written_integer 5 0 relative
+written_encoder_instruction (SetCapacity capacity) = written_integer 5 1 capacity
 
 -- the written encoder instructions, one behind the other
-unfoldable pub written_instructions : List Instruction → List ℕ
-written_instructions [] = []
-written_instructions (i ∷ is) = written_instruction i ++ written_instructions is
+unfoldable pub written_encoder_instructions : List EncoderInstruction → List ℕ
+written_encoder_instructions [] = []
+written_encoder_instructions (i ∷ is) = written_encoder_instruction i ++ written_encoder_instructions is
 
 -- the written spelling of a decoder instruction
-unfoldable pub written_reply : Reply → List ℕ
-written_reply (Acknowledgment stream) = written_integer 7 1 stream
-written_reply (Cancellation stream) = written_integer 6 1 stream
-written_reply (Increment by) = written_integer 6 0 by
+unfoldable pub written_decoder_instruction : DecoderInstruction → List ℕ
+written_decoder_instruction (Acknowledgment stream) = written_integer 7 1 stream
+written_decoder_instruction (Cancellation stream) = written_integer 6 1 stream
+written_decoder_instruction (Increment by) = written_integer 6 0 by
 
 -- the written decoder instructions, one behind the other
-unfoldable pub written_replies : List Reply → List ℕ
-written_replies [] = []
-written_replies (r ∷ rs) = written_reply r ++ written_replies rs
+unfoldable pub written_decoder_instructions : List DecoderInstruction → List ℕ
+written_decoder_instructions [] = []
+written_decoder_instructions (r ∷ rs) = written_decoder_instruction r ++ written_decoder_instructions rs

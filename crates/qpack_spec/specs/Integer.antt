@@ -42,9 +42,9 @@ StandsFor n [] flags value = ⊥
 StandsFor n (b ∷ cs) flags value = (flags ≡ b / 2 ^ n) × (IsShort n b cs value ⊎ IsLong n b cs value)
 
 -- the same with at most nine further bytes: what a reader accepts
-pub record SpellsInteger (n : ℕ) (text : List ℕ) (flags value : ℕ) : Type 0 where
-  pub stands : StandsFor n text flags value
-  pub few : length text ≤ 10
+pub record SpellsInteger (n : ℕ) (encoding : List ℕ) (flags value : ℕ) : Type 0 where
+  pub stands : StandsFor n encoding flags value
+  pub few : length encoding ≤ 10
 
 -- the refusal: a full prefix, and nine bytes whose high bits are all set
 abbrev pub OverflowsInteger : ℕ → List ℕ → Type 0
@@ -54,8 +54,8 @@ OverflowsInteger n (b ∷ cs) = (b % 2 ^ n ≡ full n) × (length cs ≡ 9) × A
 -- no front is a spelling or a refusal
 abbrev pub TruncatesInteger : ℕ → List ℕ → Type 0
 TruncatesInteger n bytes =
-    (text rest : List ℕ) → bytes ≡ text ++ rest → ((flags value : ℕ) → SpellsInteger n text flags value → ⊥)
-    × (OverflowsInteger n text → ⊥)
+    (encoding rest : List ℕ) → bytes ≡ encoding ++ rest → ((flags value : ℕ) → SpellsInteger n encoding flags value → ⊥)
+    × (OverflowsInteger n encoding → ⊥)
 
 -- ---- the same, as reading from left to right
 

@@ -7,11 +7,11 @@ use Rattle.qpack_spec.specs.Integer.{TruncatesInteger, integer_at, written_integ
 -- one spelling is of one value, under one list of flags
 abbrev pub IntegersHaveOneValue : Type 0
 IntegersHaveOneValue =
-    (n : ℕ) (text : List ℕ) (f g v w : ℕ) → SpellsInteger n text f v → SpellsInteger n text g w → (f ≡ g) × (v ≡ w)
+    (n : ℕ) (encoding : List ℕ) (f g v w : ℕ) → SpellsInteger n encoding f v → SpellsInteger n encoding g w → (f ≡ g) × (v ≡ w)
 
 -- a spelling or a refusal
 abbrev pub EndsInteger : ℕ → List ℕ → Type 0
-EndsInteger n text = ((flags : ℕ) × (value : ℕ) × SpellsInteger n text flags value) ⊎ OverflowsInteger n text
+EndsInteger n encoding = ((flags : ℕ) × (value : ℕ) × SpellsInteger n encoding flags value) ⊎ OverflowsInteger n encoding
 
 -- no spelling or refusal begins another
 abbrev pub NoIntegerBeginsAnother : Type 0
@@ -29,23 +29,23 @@ abbrev pub WrittenIntegersAreShortest : Type 0
 WrittenIntegersAreShortest =
     (n flags value : ℕ) → IsWritable n flags value
     → StandsFor n (written_integer n flags value) flags value
-    × ((text : List ℕ) → StandsFor n text flags value → length (written_integer n flags value) ≤ length text)
+    × ((encoding : List ℕ) → StandsFor n encoding flags value → length (written_integer n flags value) ≤ length encoding)
 
 -- up to the greatest value that is read, 2^63 + 2^n - 2, it is a spelling, and is read back whole, whatever follows
 abbrev pub WrittenIntegersAreReadBack : Type 0
 WrittenIntegersAreReadBack =
     (n flags value : ℕ) → IsWritable n flags value → value < 2 ^ 63 + full n
     → SpellsInteger n (written_integer n flags value) flags value
-    × ((rest text more : List ℕ) (f v : ℕ) → SpellsInteger n text f v
-    → written_integer n flags value ++ rest ≡ text ++ more
+    × ((rest encoding more : List ℕ) (f v : ℕ) → SpellsInteger n encoding f v
+    → written_integer n flags value ++ rest ≡ encoding ++ more
     → (f ≡ flags) × (v ≡ value) × (more ≡ rest))
 
 -- reading from left to right finds exactly the spelling at the front
 abbrev pub ReadingFindsSpellings : Type 0
 ReadingFindsSpellings =
     (n : ℕ) (bytes : List ℕ) (flags value : ℕ) (rest : List ℕ)
-    → (integer_at n bytes ≡ Ok (flags, value, rest)) ↔ ((text : List ℕ) × (bytes ≡ text ++ rest)
-    × SpellsInteger n text flags value)
+    → (integer_at n bytes ≡ Ok (flags, value, rest)) ↔ ((encoding : List ℕ) × (bytes ≡ encoding ++ rest)
+    × SpellsInteger n encoding flags value)
 
 -- and each fault exactly where it stands
 abbrev pub ReadingFindsFaults : Type 0

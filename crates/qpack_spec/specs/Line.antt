@@ -29,11 +29,11 @@ line_form first =
 
 -- the bytes are a spelling of the line
 abbrev pub SpellsLine : List ℕ → Line → Type 0
-SpellsLine text l = Spells Line line_form text l
+SpellsLine encoding l = Spells Line line_form encoding l
 
 -- the bytes are refused as a line
 abbrev pub RefusesLine : List ℕ → FormFault → Type 0
-RefusesLine text fault = Refuses Line line_form text fault
+RefusesLine encoding fault = Refuses Line line_form encoding fault
 
 -- the written spelling: N is 0, every integer the shortest, every string coded
 unfoldable pub written_line : Line → List ℕ

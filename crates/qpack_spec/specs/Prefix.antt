@@ -78,10 +78,10 @@ read_prefix total maximum p = with_base p (read_required total maximum p.count)
 -- ---- bytes
 
 -- the bytes are a prefix: the count with a prefix of 8 bits, then the delta with one of 7 behind the sign bit
-pub record SpellsPrefix (text : List ℕ) (p : Prefix) : Type 0 where
+pub record SpellsPrefix (encoding : List ℕ) (p : Prefix) : Type 0 where
   pub head : List ℕ
   pub tail : List ℕ
-  pub parts : text ≡ head ++ tail
+  pub parts : encoding ≡ head ++ tail
   pub count : HoldsIndex 8 p.count head
   pub sign : ℕ
   pub is_sign : p.sign ≡ nat_eq sign 1

@@ -7,7 +7,7 @@ use Rattle.qpack_spec.specs.Form.{FormFault}
 use Rattle.qpack_spec.specs.Line.{Line, IndexedStatic, IndexedDynamic, IndexedPostBase, NamedStatic, NamedDynamic}
 use Rattle.qpack_spec.specs.Line.{NamedPostBase, Literal}
 use Rattle.qpack_spec.specs.Prefix.{Prefix, PrefixFault, read_prefix}
-use Rattle.qpack_spec.specs.Window.{Window, agreed_maximum, total, with_value}
+use Rattle.qpack_spec.specs.Window.{Window, maximum_capacity, window_insert_count, with_value}
 
 -- why a field section means nothing: its bytes, its prefix, or a line that names no entry: one below the window or
 -- where nothing is live, one above it (its place is told), one behind the base, or no static field
@@ -43,50 +43,50 @@ post_base_field w base post_base =
     else Err (BehindBase post_base)
 
 -- a name that is there, with its value
-abbrev pub valued : List ℕ → Result Field Fault → Result Field Fault
-valued value (Ok f) = Ok (with_value value f)
-valued value (Err e) = Err e
+abbrev pub field_with_value : List ℕ → Result Field Fault → Result Field Fault
+field_with_value value (Ok f) = Ok (with_value value f)
+field_with_value value (Err e) = Err e
 
 -- the field that a line means (sections 4.5.2 to 4.5.6)
 unfoldable pub line_field : Window → ℕ → Line → Result Field Fault
 line_field w base (IndexedStatic index) = static_field index
 line_field w base (IndexedDynamic relative) = relative_field w base relative
 line_field w base (IndexedPostBase post_base) = post_base_field w base post_base
-line_field w base (NamedStatic index value) = valued value (static_field index)
-line_field w base (NamedDynamic relative value) = valued value (relative_field w base relative)
-line_field w base (NamedPostBase post_base value) = valued value (post_base_field w base post_base)
+line_field w base (NamedStatic index value) = field_with_value value (static_field index)
+line_field w base (NamedDynamic relative value) = field_with_value value (relative_field w base relative)
+line_field w base (NamedPostBase post_base value) = field_with_value value (post_base_field w base post_base)
 line_field w base (Literal name value) = Ok (record { name = name; value = value })
 
 -- a field and those behind it
-abbrev pub followed : Result Field Fault → Result (List Field) Fault → Result (List Field) Fault
-followed (Ok f) (Ok fs) = Ok (f ∷ fs)
-followed (Ok f) (Err e) = Err e
-followed (Err e) r = Err e
+abbrev pub prepend_field : Result Field Fault → Result (List Field) Fault → Result (List Field) Fault
+prepend_field (Ok f) (Ok fs) = Ok (f ∷ fs)
+prepend_field (Ok f) (Err e) = Err e
+prepend_field (Err e) r = Err e
 
 -- the fields that the lines mean, in order, or the first fault
 unfoldable pub fields_of : Window → ℕ → List Line → Result (List Field) Fault
 fields_of w base [] = Ok []
-fields_of w base (l ∷ ls) = followed (line_field w base l) (fields_of w base ls)
+fields_of w base (l ∷ ls) = prepend_field (line_field w base l) (fields_of w base ls)
 
 -- the absolute indexes that a line names
-unfoldable pub names_of : ℕ → Line → List ℕ
-names_of base (IndexedStatic index) = []
-names_of base (IndexedDynamic relative) = (base - relative) ∷ []
-names_of base (IndexedPostBase post_base) = (base + post_base + 1) ∷ []
-names_of base (NamedStatic index value) = []
-names_of base (NamedDynamic relative value) = (base - relative) ∷ []
-names_of base (NamedPostBase post_base value) = (base + post_base + 1) ∷ []
-names_of base (Literal name value) = []
+unfoldable pub references_of_line : ℕ → Line → List ℕ
+references_of_line base (IndexedStatic index) = []
+references_of_line base (IndexedDynamic relative) = (base - relative) ∷ []
+references_of_line base (IndexedPostBase post_base) = (base + post_base + 1) ∷ []
+references_of_line base (NamedStatic index value) = []
+references_of_line base (NamedDynamic relative value) = (base - relative) ∷ []
+references_of_line base (NamedPostBase post_base value) = (base + post_base + 1) ∷ []
+references_of_line base (Literal name value) = []
 
 -- the absolute indexes that the lines name, in order
 unfoldable pub references_of : ℕ → List Line → List ℕ
 references_of base [] = []
-references_of base (l ∷ ls) = names_of base l ++ references_of base ls
+references_of base (l ∷ ls) = references_of_line base l ++ references_of base ls
 
 -- the greatest of some indexes, 0 of none: a section's required insert count is that of what it names (section 2.1.2)
-unfoldable pub greatest : List ℕ → ℕ
-greatest [] = 0
-greatest (a ∷ more) = max a (greatest more)
+unfoldable pub greatest_of : List ℕ → ℕ
+greatest_of [] = 0
+greatest_of (a ∷ more) = max a (greatest_of more)
 
 -- an encoded field section: its prefix and its lines (section 4.5)
 pub record Block : Type 0 where
@@ -100,16 +100,16 @@ pub data Reading : Type 0 where
   Faulty : (fault : Fault) → Reading
 
 -- the answer for fields, or for the first fault
-abbrev pub answered : Result (List Field) Fault → Bool → Reading
-answered (Ok fs) is_dynamic = Fields fs is_dynamic
-answered (Err e) is_dynamic = Faulty e
+abbrev pub reading_of_fields : Result (List Field) Fault → Bool → Reading
+reading_of_fields (Ok fs) is_dynamic = Fields fs is_dynamic
+reading_of_fields (Err e) is_dynamic = Faulty e
 
 -- the answer behind a prefix. The whole prefix is read first, so a base below 0 is told before missing entries
 abbrev pub reading_behind : Window → List Line → Result (ℕ × ℕ) PrefixFault → Reading
 reading_behind w lines (Err e) = Faulty (BadPrefix e)
 reading_behind w lines (Ok p) =
-    if nat_lt (total w) p.0 then Missing p.0 else answered (fields_of w p.1 lines) (nat_lt 0 p.0)
+    if nat_lt (window_insert_count w) p.0 then Missing p.0 else reading_of_fields (fields_of w p.1 lines) (nat_lt 0 p.0)
 
 -- what a field section means under a window (section 2.2.1)
 unfoldable pub reading : Window → Block → Reading
-reading w b = reading_behind w b.lines (read_prefix (total w) (agreed_maximum w.agreed w.capacity) b.prefix)
+reading w b = reading_behind w b.lines (read_prefix (window_insert_count w) (maximum_capacity w.agreed_max w.capacity) b.prefix)

@@ -7,19 +7,19 @@ use Rattle.std.specs.List.{AllByRecursion, filter}
 use Rattle.qpack_spec.specs.Bytes.{Begins, ◌>>=◌}
 use Rattle.qpack_spec.specs.Field.{Field, total_size}
 use Rattle.qpack_spec.specs.Form.{FormFault, Truncates}
-use Rattle.qpack_spec.specs.Instruction.{Instruction, SetCapacity, Reply, Acknowledgment, Cancellation, Increment}
-use Rattle.qpack_spec.specs.Instruction.{instruction_form, reply_form, SpellsInstruction, RefusesInstruction}
-use Rattle.qpack_spec.specs.Instruction.{SpellsReply, RefusesReply, written_instruction, written_instructions}
-use Rattle.qpack_spec.specs.Instruction.{written_reply, written_replies}
+use Rattle.qpack_spec.specs.Instruction.{EncoderInstruction, SetCapacity, DecoderInstruction, Acknowledgment, Cancellation, Increment}
+use Rattle.qpack_spec.specs.Instruction.{encoder_instruction_form, decoder_instruction_form, SpellsEncoderInstruction, RefusesEncoderInstruction}
+use Rattle.qpack_spec.specs.Instruction.{SpellsDecoderInstruction, RefusesDecoderInstruction, written_encoder_instruction, written_encoder_instructions}
+use Rattle.qpack_spec.specs.Instruction.{written_decoder_instruction, written_decoder_instructions}
 use Rattle.qpack_spec.specs.Stream.{Joined}
-use Rattle.qpack_spec.specs.Window.{Refusal, NoEntry, NoStaticField, DoesNotFit, AboveMaximum, UnknownStream}
-use Rattle.qpack_spec.specs.History.{start, window_of}
+use Rattle.qpack_spec.specs.Window.{TableRefusal, NoEntry, NoStaticField, DoesNotFit, AboveMaximum, UnknownStream}
+use Rattle.qpack_spec.specs.History.{initial_history, window_of}
 use Rattle.qpack_spec.specs.Reading.{Fault, Reading, Fields, Missing, Faulty}
 use Rattle.qpack_spec.specs.BlockReading.{reading_of_bytes, written_block}
-use Rattle.qpack_spec.specs.Table.{Table, empty_table, table_of, window, count, has_number, unnamed, applied, heard}
-use Rattle.qpack_spec.specs.Table.{resized}
-use Rattle.qpack_spec.specs.Rule.{rule, required_of, block_of, committed}
-use Rattle.qpack_spec.specs.Stateless.{held_size}
+use Rattle.qpack_spec.specs.Table.{Table, empty_table, table_of, window, insert_count, has_number, without_references, apply_encoder_instruction, apply_decoder_instruction}
+use Rattle.qpack_spec.specs.Table.{with_capacity}
+use Rattle.qpack_spec.specs.Rule.{rule, required_insert_count, block_of, committed_table}
+use Rattle.qpack_spec.specs.Stateless.{saturated_size}
 use Rattle.qpack_spec.specs.WrittenLaws.{IsByteField}
 
 -- a block: its bytes, the required count that was answered, how long the encoder's stream was at its end, and the
@@ -28,7 +28,7 @@ pub record KeptBlock : Type 0 where
   pub bytes : List ℕ
   pub required : ℕ
   pub end : ℕ
-  pub handed : List Field
+  pub fields : List Field
 
 -- a request stream: its blocks, how many were decoded, how many of the dynamic ones acknowledged, whether it is
 -- cancelled
@@ -48,12 +48,12 @@ pub record Session : Type 0 where
   pub encoder : Table
   pub decoder : Table
   pub unreported : ℕ
-  pub sent : List ℕ
-  pub sent_delivered : ℕ
-  pub sent_taken : ℕ
-  pub told : List ℕ
-  pub told_delivered : ℕ
-  pub told_taken : ℕ
+  pub encoder_stream : List ℕ
+  pub encoder_stream_delivered : ℕ
+  pub encoder_stream_taken : ℕ
+  pub decoder_stream : List ℕ
+  pub decoder_stream_delivered : ℕ
+  pub decoder_stream_taken : ℕ
   pub streams : List (ℕ × KeptStream)
 
 -- what may happen (the session's surface): a block is written, decoded, so many bytes of a stream are delivered, a
@@ -70,7 +70,7 @@ pub data Event : Type 0 where
 -- why a stream is refused: its bytes, or what an instruction asks of the table
 pub data StreamFault : Type 0 where
   BadBytes : (fault : FormFault) → StreamFault
-  BadInstruction : (refusal : Refusal) → StreamFault
+  BadInstruction : (refusal : TableRefusal) → StreamFault
 
 -- what an event answers; any that takes memory may be refused it. An encode answers the required insert count of its
 -- block; a decode the fields, the sum of their sizes and whether any entry is required, or how many insertions it waits
@@ -85,7 +85,7 @@ pub data Outcome : Type 0 where
   Acknowledged : Outcome
   Cancelled : Outcome
   CapacitySet : Outcome
-  CapacityRefused : (refusal : Refusal) → Outcome
+  CapacityRefused : (refusal : TableRefusal) → Outcome
   Refused : (fault : StreamFault) → Outcome
   NoMemory : Outcome
   Skipped : (reason : ℕ) → Outcome
@@ -102,22 +102,22 @@ abbrev pub with_stream : {B : Type 0} → List (ℕ × RequestStream B) → ℕ 
 with_stream ps s k = (s, k) ∷ ps
 
 -- the session with one stream changed
-abbrev pub with_kept : Session → ℕ → KeptStream → Session
-with_kept v s k = record v { streams = with_stream v.streams s k }
+abbrev pub with_kept_stream : Session → ℕ → KeptStream → Session
+with_kept_stream v s k = record v { streams = with_stream v.streams s k }
 
 -- how a session begins: both tables empty, the capacity agreed
-abbrev pub opened : ℕ → ℕ → Session
-opened capacity limit =
+abbrev pub initial_session : ℕ → ℕ → Session
+initial_session capacity limit =
     record {
       encoder = empty_table capacity (Some capacity) limit;
-      decoder = table_of (window_of (start capacity));
+      decoder = table_of (window_of (initial_history capacity));
       unreported = 0;
-      sent = [];
-      sent_delivered = 0;
-      sent_taken = 0;
-      told = [];
-      told_delivered = 0;
-      told_taken = 0;
+      encoder_stream = [];
+      encoder_stream_delivered = 0;
+      encoder_stream_taken = 0;
+      decoder_stream = [];
+      decoder_stream_delivered = 0;
+      decoder_stream_taken = 0;
       streams = [];
     }
 
@@ -138,7 +138,7 @@ pub data StartRefusal : Type 0 where
 abbrev pub begin_session : ℕ → ℕ → Result Session StartRefusal
 begin_session capacity limit =
     if nat_le capacity greatest_first_capacity
-    then (if nat_le limit greatest_limit then Ok (opened capacity limit) else Err LimitTooLarge)
+    then (if nat_le limit greatest_limit then Ok (initial_session capacity limit) else Err LimitTooLarge)
     else Err CapacityTooLarge
 
 -- the oldest undecoded block of a request stream
@@ -154,30 +154,30 @@ abbrev pub requires_entry : KeptBlock → Bool
 requires_entry b = not (nat_eq b.required 0)
 
 -- a decoded block that requires an entry waits for its acknowledgment
-abbrev pub waits : {B : Type 0} → (B → Bool) → RequestStream B → Bool
-waits requires k = nat_lt k.acknowledged (length (filter requires (take k.decoded k.blocks)))
+abbrev pub awaits_acknowledgment : {B : Type 0} → (B → Bool) → RequestStream B → Bool
+awaits_acknowledgment requires k = nat_lt k.acknowledged (length (filter requires (take k.decoded k.blocks)))
 
 -- ---- what is blocked
 
 -- how many blocks of a request stream require more insertions than this count
 abbrev pub blocked_on : ℕ → KeptStream → ℕ
-blocked_on known k = length (filter (λ b. nat_lt known b.required) k.blocks)
+blocked_on known_received_count k = length (filter (λ b. nat_lt known_received_count b.required) k.blocks)
 
 -- how many blocks of the streams do, each stream counted once: of the pairs of a number the first counts
 abbrev pub blocked_among : ℕ → List ℕ → List (ℕ × KeptStream) → ℕ
-blocked_among known counted [] = 0
-blocked_among known counted (p ∷ ps) =
-    if has_number p.0 counted then blocked_among known counted ps
-    else blocked_on known p.1 + blocked_among known (p.0 ∷ counted) ps
+blocked_among known_received_count counted [] = 0
+blocked_among known_received_count counted (p ∷ ps) =
+    if has_number p.0 counted then blocked_among known_received_count counted ps
+    else blocked_on known_received_count p.1 + blocked_among known_received_count (p.0 ∷ counted) ps
 
 -- the blocked blocks (section 2.1.2): those of all request streams, cancelled ones too, decoded or not, that require
 -- more insertions than the encoder knows to be received
 abbrev pub blocked_blocks : Session → ℕ
-blocked_blocks v = blocked_among v.encoder.known [] v.streams
+blocked_blocks v = blocked_among v.encoder.known_received_count [] v.streams
 
 -- the blocks that require more insertions than the decoder received: those that it could not read yet
 abbrev pub unreadable_blocks : Session → ℕ
-unreadable_blocks v = blocked_among (count v.decoder) [] v.streams
+unreadable_blocks v = blocked_among (insert_count v.decoder) [] v.streams
 
 -- ---- what is skipped
 
@@ -195,7 +195,7 @@ skip_reason v (Decode s) =
 skip_reason v (ToDecoder n) = None
 skip_reason v (ToEncoder n) = None
 skip_reason v (Acknowledge s) =
-    let k = stream_at v.streams s in if nat_le (2 ^ 62) s then Some 1 else unless_cancelled k (waits requires_entry k) 4
+    let k = stream_at v.streams s in if nat_le (2 ^ 62) s then Some 1 else unless_cancelled k (awaits_acknowledgment requires_entry k) 4
 skip_reason v (Cancel s) = if nat_le (2 ^ 62) s then Some 1 else unless_cancelled (stream_at v.streams s) true 0
 skip_reason v (ChangeCapacity n) = None
 
@@ -206,40 +206,40 @@ abbrev pub with_block : Session → ℕ → List Field → Session
 with_block v s fs =
     let d = rule v.encoder fs in
     let k = stream_at v.streams s in
-    let sent = v.sent ++ written_instructions d.instructions in
+    let encoder_stream = v.encoder_stream ++ written_encoder_instructions d.instructions in
     let b : KeptBlock =
     record {
       bytes = written_block (block_of v.encoder d);
-      required = required_of d;
-      end = length sent;
-      handed = fs;
+      required = required_insert_count d;
+      end = length encoder_stream;
+      fields = fs;
     } in
     record v {
-      encoder = committed d s;
-      sent = sent;
+      encoder = committed_table d s;
+      encoder_stream = encoder_stream;
       streams = (s, record k { blocks = k.blocks ++ b ∷ [] })
           ∷ v.streams;
     }
 
 -- the session behind a block that was given up: its insertions stand and were written
-abbrev pub given_up : Session → List Field → Session
-given_up v fs =
+abbrev pub after_refused_encode : Session → List Field → Session
+after_refused_encode v fs =
     let d = rule v.encoder fs in
-    record v { encoder = unnamed d.table; sent = v.sent ++ written_instructions d.instructions }
+    record v { encoder = without_references d.table; encoder_stream = v.encoder_stream ++ written_encoder_instructions d.instructions }
 
 -- the session behind a decoded block
 abbrev pub with_decoded : Session → ℕ → Session
-with_decoded v s = let k = stream_at v.streams s in with_kept v s (record k { decoded = k.decoded + 1 })
+with_decoded v s = let k = stream_at v.streams s in with_kept_stream v s (record k { decoded = k.decoded + 1 })
 
 -- the table behind some instructions
-abbrev pub all_applied : Table → List Instruction → Result Table Refusal
-all_applied t [] = Ok t
-all_applied t (i ∷ is) = applied t i >>= λ u. all_applied u is
+abbrev pub apply_encoder_instructions : Table → List EncoderInstruction → Result Table TableRefusal
+apply_encoder_instructions t [] = Ok t
+apply_encoder_instructions t (i ∷ is) = apply_encoder_instruction t i >>= λ u. apply_encoder_instructions u is
 
--- the table behind some replies
-abbrev pub all_heard : Table → List Reply → Result Table Refusal
-all_heard t [] = Ok t
-all_heard t (r ∷ rs) = heard t r >>= λ u. all_heard u rs
+-- the table behind some decoder_instructions
+abbrev pub apply_decoder_instructions : Table → List DecoderInstruction → Result Table TableRefusal
+apply_decoder_instructions t [] = Ok t
+apply_decoder_instructions t (r ∷ rs) = apply_decoder_instruction t r >>= λ u. apply_decoder_instructions u rs
 
 -- the sum of some numbers
 abbrev pub sum_of : List ℕ → ℕ
@@ -247,12 +247,12 @@ sum_of [] = 0
 sum_of (n ∷ ns) = n + sum_of ns
 
 -- an increment for each piece
-abbrev pub increments : List ℕ → List Reply
+abbrev pub increments : List ℕ → List DecoderInstruction
 increments [] = []
 increments (n ∷ ns) = Increment n ∷ increments ns
 
 -- the sum of the increments among decoder instructions
-unfoldable pub increment_sum : List Reply → ℕ
+unfoldable pub increment_sum : List DecoderInstruction → ℕ
 increment_sum [] = 0
 increment_sum (Acknowledgment stream ∷ rs) = increment_sum rs
 increment_sum (Cancellation stream ∷ rs) = increment_sum rs
@@ -263,7 +263,7 @@ abbrev pub IsPiece : ℕ → Type 0
 IsPiece n = (1 ≤ n) × (n ≤ 64)
 
 -- a table's refusal that consumes its instruction: what it asks for is known, and only the table refuses it
-abbrev pub is_consumed : Refusal → Bool
+abbrev pub is_consumed : TableRefusal → Bool
 is_consumed (NoEntry relative) = false
 is_consumed (NoStaticField index) = false
 is_consumed DoesNotFit = true
@@ -271,80 +271,80 @@ is_consumed AboveMaximum = true
 is_consumed (UnknownStream stream) = true
 
 -- the session when the next n bytes were delivered to the decoder, so many consumed, and this table made
-abbrev pub decoder_moved : Session → ℕ → Table → ℕ → ℕ → List ℕ → Session
-decoder_moved v n t consumed unreported told =
+abbrev pub with_decoder_moved : Session → ℕ → Table → ℕ → ℕ → List ℕ → Session
+with_decoder_moved v n t consumed unreported decoder_stream =
     record v {
       decoder = t;
       unreported = unreported;
-      sent_delivered = min (v.sent_delivered + n) (length v.sent);
-      sent_taken = v.sent_taken + consumed;
-      told = told;
+      encoder_stream_delivered = min (v.encoder_stream_delivered + n) (length v.encoder_stream);
+      encoder_stream_taken = v.encoder_stream_taken + consumed;
+      decoder_stream = decoder_stream;
     }
 
 -- the insertions that are to be reported
-abbrev pub to_report : Session → Table → ℕ
-to_report v t = v.unreported + (count t - count v.decoder)
+abbrev pub unreported_after : Session → Table → ℕ
+unreported_after v t = v.unreported + (insert_count t - insert_count v.decoder)
 
 -- how a delivery to the decoder ends, behind lines that it took: nothing whole is left, and its insertions are
 -- reported; it is refused memory; the next bytes are refused; or the next instruction is. Refused, it reports nothing
-pub data DeliveryEnds (v : Session) (n : ℕ) (t : Table) (front rest : List ℕ) (o : Outcome) (v' : Session) : Type 0
+pub data EndsAtDecoder (v : Session) (n : ℕ) (t : Table) (front rest : List ℕ) (o : Outcome) (v' : Session) : Type 0
   where
-    takes_all : (pieces : List ℕ) → Truncates instruction_form rest → AllByRecursion IsPiece pieces
-        → sum_of pieces ≡ to_report v t
-        → o ≡ Delivered (count t) → v' ≡ decoder_moved v n t (length front) 0
-        (v.told ++ written_replies (increments pieces))
-        → DeliveryEnds v n t front rest o v'
-    no_memory : o ≡ NoMemory → v' ≡ decoder_moved v n t (length front) (to_report v t) v.told
-        → DeliveryEnds v n t front rest o v'
-    bad_bytes : (fault : FormFault) → Begins (λ text. RefusesInstruction text fault) rest → o ≡ Refused (BadBytes fault)
-        → v' ≡ decoder_moved v n t (length front) (to_report v t) v.told → DeliveryEnds v n t front rest o v'
-    bad_instruction : (text more : List ℕ) (i : Instruction) (e : Refusal) → rest ≡ text ++ more
-        → SpellsInstruction text i
-        → applied t i ≡ Err e → o ≡ Refused (BadInstruction e)
-        → v' ≡ decoder_moved v n t (length front + (if is_consumed e then length text else 0)) (to_report v t) v.told
-        → DeliveryEnds v n t front rest o v'
+    takes_all : (pieces : List ℕ) → Truncates encoder_instruction_form rest → AllByRecursion IsPiece pieces
+        → sum_of pieces ≡ unreported_after v t
+        → o ≡ Delivered (insert_count t) → v' ≡ with_decoder_moved v n t (length front) 0
+        (v.decoder_stream ++ written_decoder_instructions (increments pieces))
+        → EndsAtDecoder v n t front rest o v'
+    no_memory : o ≡ NoMemory → v' ≡ with_decoder_moved v n t (length front) (unreported_after v t) v.decoder_stream
+        → EndsAtDecoder v n t front rest o v'
+    bad_bytes : (fault : FormFault) → Begins (λ encoding. RefusesEncoderInstruction encoding fault) rest → o ≡ Refused (BadBytes fault)
+        → v' ≡ with_decoder_moved v n t (length front) (unreported_after v t) v.decoder_stream → EndsAtDecoder v n t front rest o v'
+    bad_instruction : (encoding more : List ℕ) (i : EncoderInstruction) (e : TableRefusal) → rest ≡ encoding ++ more
+        → SpellsEncoderInstruction encoding i
+        → apply_encoder_instruction t i ≡ Err e → o ≡ Refused (BadInstruction e)
+        → v' ≡ with_decoder_moved v n t (length front + (if is_consumed e then length encoding else 0)) (unreported_after v t) v.decoder_stream
+        → EndsAtDecoder v n t front rest o v'
 
 -- the next n bytes are delivered to the decoder, and offered behind those that it left; it takes lines at their front
-pub record DeliversTo (v : Session) (n : ℕ) (o : Outcome) (v' : Session) : Type 0 where
-  pub lines : List Instruction
+pub record DeliversToDecoder (v : Session) (n : ℕ) (o : Outcome) (v' : Session) : Type 0 where
+  pub lines : List EncoderInstruction
   pub front : List ℕ
   pub rest : List ℕ
   pub table : Table
-  pub offered : drop v.sent_taken (take (v.sent_delivered + n) v.sent) ≡ front ++ rest
-  pub joined : Joined SpellsInstruction front lines
-  pub applies : all_applied v.decoder lines ≡ Ok table
-  pub ends : DeliveryEnds v n table front rest o v'
+  pub offered : drop v.encoder_stream_taken (take (v.encoder_stream_delivered + n) v.encoder_stream) ≡ front ++ rest
+  pub joined : Joined SpellsEncoderInstruction front lines
+  pub applies : apply_encoder_instructions v.decoder lines ≡ Ok table
+  pub ends : EndsAtDecoder v n table front rest o v'
 
 -- the session when the next n bytes were delivered to the encoder, so many consumed, and this table made
-abbrev pub encoder_moved : Session → ℕ → Table → ℕ → Session
-encoder_moved v n t consumed =
+abbrev pub with_encoder_moved : Session → ℕ → Table → ℕ → Session
+with_encoder_moved v n t consumed =
     record v {
       encoder = t;
-      told_delivered = min (v.told_delivered + n) (length v.told);
-      told_taken = v.told_taken + consumed;
+      decoder_stream_delivered = min (v.decoder_stream_delivered + n) (length v.decoder_stream);
+      decoder_stream_taken = v.decoder_stream_taken + consumed;
     }
 
 -- how a delivery to the encoder ends; it takes no memory
-pub data HearingEnds (v : Session) (n : ℕ) (t : Table) (front rest : List ℕ) (o : Outcome) (v' : Session) : Type 0 where
-  hears_all : Truncates reply_form rest → o ≡ Heard → v' ≡ encoder_moved v n t (length front)
-      → HearingEnds v n t front rest o v'
-  bad_bytes_heard : (fault : FormFault) → Begins (λ text. RefusesReply text fault) rest → o ≡ Refused (BadBytes fault)
-      → v' ≡ encoder_moved v n t (length front) → HearingEnds v n t front rest o v'
-  bad_reply : (text more : List ℕ) (r : Reply) (e : Refusal) → rest ≡ text ++ more → SpellsReply text r
-      → heard t r ≡ Err e
-      → o ≡ Refused (BadInstruction e) → v' ≡ encoder_moved v n t (length front + length text)
-      → HearingEnds v n t front rest o v'
+pub data EndsAtEncoder (v : Session) (n : ℕ) (t : Table) (front rest : List ℕ) (o : Outcome) (v' : Session) : Type 0 where
+  takes_all_at_encoder : Truncates decoder_instruction_form rest → o ≡ Heard → v' ≡ with_encoder_moved v n t (length front)
+      → EndsAtEncoder v n t front rest o v'
+  bad_bytes_at_encoder : (fault : FormFault) → Begins (λ encoding. RefusesDecoderInstruction encoding fault) rest → o ≡ Refused (BadBytes fault)
+      → v' ≡ with_encoder_moved v n t (length front) → EndsAtEncoder v n t front rest o v'
+  bad_decoder_instruction : (encoding more : List ℕ) (r : DecoderInstruction) (e : TableRefusal) → rest ≡ encoding ++ more → SpellsDecoderInstruction encoding r
+      → apply_decoder_instruction t r ≡ Err e
+      → o ≡ Refused (BadInstruction e) → v' ≡ with_encoder_moved v n t (length front + length encoding)
+      → EndsAtEncoder v n t front rest o v'
 
--- the next n bytes are delivered to the encoder, and offered behind those that it left; it hears replies at their front
-pub record HearsFrom (v : Session) (n : ℕ) (o : Outcome) (v' : Session) : Type 0 where
-  pub lines : List Reply
+-- the next n bytes are delivered to the encoder, and offered behind those that it left; it hears decoder_instructions at their front
+pub record DeliversToEncoder (v : Session) (n : ℕ) (o : Outcome) (v' : Session) : Type 0 where
+  pub lines : List DecoderInstruction
   pub front : List ℕ
   pub rest : List ℕ
   pub table : Table
-  pub offered : drop v.told_taken (take (v.told_delivered + n) v.told) ≡ front ++ rest
-  pub joined : Joined SpellsReply front lines
-  pub hears : all_heard v.encoder lines ≡ Ok table
-  pub ends : HearingEnds v n table front rest o v'
+  pub offered : drop v.decoder_stream_taken (take (v.decoder_stream_delivered + n) v.decoder_stream) ≡ front ++ rest
+  pub joined : Joined SpellsDecoderInstruction front lines
+  pub hears : apply_decoder_instructions v.encoder lines ≡ Ok table
+  pub ends : EndsAtEncoder v n table front rest o v'
 
 -- an event refused for memory, where it leaves everything as it was
 abbrev pub LeavesAll : Session → Outcome → Session → Type 0
@@ -359,7 +359,7 @@ is_read None = false
 
 -- what a decode answers for a reading; a sum of sizes is held at 2^64 - 1
 abbrev pub decode_outcome : Reading → Outcome
-decode_outcome (Fields fs is_dynamic) = Decoded fs (held_size (total_size fs)) is_dynamic
+decode_outcome (Fields fs is_dynamic) = Decoded fs (saturated_size (total_size fs)) is_dynamic
 decode_outcome (Missing required) = MissingReferences required
 decode_outcome (Faulty fault) = BadBlock fault
 
@@ -374,19 +374,19 @@ pub record DecodesNext (v : Session) (s : ℕ) (o : Outcome) (v' : Session) : Ty
 pub record GivesUp (v : Session) (fields : List Field) (o : Outcome) (v' : Session) : Type 0 where
   pub many : ℕ
   pub answers : o ≡ NoMemory
-  pub leads : v' ≡ given_up v (take many fields)
+  pub leads : v' ≡ after_refused_encode v (take many fields)
 
 -- the encoder sets a capacity, and writes it
 pub record SetsCapacity (v : Session) (n : ℕ) (o : Outcome) (v' : Session) : Type 0 where
   pub table : Table
-  pub is_set : resized v.encoder n ≡ Ok table
+  pub is_set : with_capacity v.encoder n ≡ Ok table
   pub answers : o ≡ CapacitySet
-  pub leads : v' ≡ record v { encoder = table; sent = v.sent ++ written_instruction (SetCapacity n) }
+  pub leads : v' ≡ record v { encoder = table; encoder_stream = v.encoder_stream ++ written_encoder_instruction (SetCapacity n) }
 
 -- the encoder's table refuses a capacity
 pub record RefusesCapacity (v : Session) (n : ℕ) (o : Outcome) (v' : Session) : Type 0 where
-  pub refusal : Refusal
-  pub is_refused : resized v.encoder n ≡ Err refusal
+  pub refusal : TableRefusal
+  pub is_refused : with_capacity v.encoder n ≡ Err refusal
   pub answers : o ≡ CapacityRefused refusal
   pub stays : v' ≡ v
 
@@ -394,26 +394,26 @@ pub record RefusesCapacity (v : Session) (n : ℕ) (o : Outcome) (v' : Session) 
 abbrev pub with_acknowledged : Session → ℕ → Session
 with_acknowledged v s =
     let k = stream_at v.streams s in
-    record (with_kept v s (record k { acknowledged = k.acknowledged + 1 })) {
-      told = v.told ++ written_reply (Acknowledgment s);
+    record (with_kept_stream v s (record k { acknowledged = k.acknowledged + 1 })) {
+      decoder_stream = v.decoder_stream ++ written_decoder_instruction (Acknowledgment s);
     }
 
 -- the session behind a cancellation of a stream, which is written
 abbrev pub with_cancelled : Session → ℕ → Session
 with_cancelled v s =
     let k = stream_at v.streams s in
-    record (with_kept v s (record k { cancelled = true })) { told = v.told ++ written_reply (Cancellation s) }
+    record (with_kept_stream v s (record k { cancelled = true })) { decoder_stream = v.decoder_stream ++ written_decoder_instruction (Cancellation s) }
 
 -- what a lawful event does
-unfoldable pub Happens : Session → Event → Outcome → Session → Type 0
-Happens v (Encode s fs) o v' =
-    ((o ≡ Encoded (required_of (rule v.encoder fs))) × (v' ≡ with_block v s fs)) ⊎ GivesUp v fs o v' ⊎ LeavesAll v o v'
-Happens v (Decode s) o v' = DecodesNext v s o v' ⊎ LeavesAll v o v'
-Happens v (ToDecoder n) o v' = DeliversTo v n o v'
-Happens v (ToEncoder n) o v' = HearsFrom v n o v'
-Happens v (Acknowledge s) o v' = ((o ≡ Acknowledged) × (v' ≡ with_acknowledged v s)) ⊎ LeavesAll v o v'
-Happens v (Cancel s) o v' = ((o ≡ Cancelled) × (v' ≡ with_cancelled v s)) ⊎ LeavesAll v o v'
-Happens v (ChangeCapacity n) o v' = SetsCapacity v n o v' ⊎ RefusesCapacity v n o v' ⊎ LeavesAll v o v'
+unfoldable pub LawfulStep : Session → Event → Outcome → Session → Type 0
+LawfulStep v (Encode s fs) o v' =
+    ((o ≡ Encoded (required_insert_count (rule v.encoder fs))) × (v' ≡ with_block v s fs)) ⊎ GivesUp v fs o v' ⊎ LeavesAll v o v'
+LawfulStep v (Decode s) o v' = DecodesNext v s o v' ⊎ LeavesAll v o v'
+LawfulStep v (ToDecoder n) o v' = DeliversToDecoder v n o v'
+LawfulStep v (ToEncoder n) o v' = DeliversToEncoder v n o v'
+LawfulStep v (Acknowledge s) o v' = ((o ≡ Acknowledged) × (v' ≡ with_acknowledged v s)) ⊎ LeavesAll v o v'
+LawfulStep v (Cancel s) o v' = ((o ≡ Cancelled) × (v' ≡ with_cancelled v s)) ⊎ LeavesAll v o v'
+LawfulStep v (ChangeCapacity n) o v' = SetsCapacity v n o v' ⊎ RefusesCapacity v n o v' ⊎ LeavesAll v o v'
 
 -- an event outside a lawful session changes nothing
 pub record Skips (v : Session) (e : Event) (o : Outcome) (v' : Session) : Type 0 where
@@ -423,8 +423,8 @@ pub record Skips (v : Session) (e : Event) (o : Outcome) (v' : Session) : Type 0
   pub stays : v' ≡ v
 
 -- an event, what it answers, and the session behind it: skipped for the first reason that applies, or done
-abbrev pub Goes : Session → Event → Outcome → Session → Type 0
-Goes v e o v' = Skips v e o v' ⊎ ((skip_reason v e ≡ None) × Happens v e o v')
+abbrev pub Step : Session → Event → Outcome → Session → Type 0
+Step v e o v' = Skips v e o v' ⊎ ((skip_reason v e ≡ None) × LawfulStep v e o v')
 
 -- names and values of an event's fields are bytes
 abbrev pub IsByteEvent : Event → Type 0
@@ -438,16 +438,16 @@ IsByteEvent (ChangeCapacity n) = Unit {0}
 
 -- what is kept has fewer than 2^63 bytes, as every vector has: what was sent, and each block
 pub record FitsMemory (v : Session) : Type 0 where
-  pub sent_fits : length v.sent < 2 ^ 63
+  pub sent_fits : length v.encoder_stream < 2 ^ 63
   pub blocks_fit : (s : ℕ) → AllByRecursion (λ b. length b.bytes < 2 ^ 63) (stream_at v.streams s).blocks
 
 -- an event of a run: names and values are bytes, and what is kept behind it fits memory
 pub record Passes (v : Session) (e : Event) (o : Outcome) (v' : Session) : Type 0 where
   pub has_bytes : IsByteEvent e
-  pub goes : Goes v e o v'
+  pub goes : Step v e o v'
   pub fits : FitsMemory v'
 
 -- events in turn, each with its answer, lead from a session to another
-abbrev pub Runs : Session → List (Event × Outcome) → Session → Type 0
-Runs v [] v' = v ≡ v'
-Runs v (p ∷ ps) v' = (next : Session) × Passes v p.0 p.1 next × Runs next ps v'
+abbrev pub Run : Session → List (Event × Outcome) → Session → Type 0
+Run v [] v' = v ≡ v'
+Run v (p ∷ ps) v' = (next : Session) × Passes v p.0 p.1 next × Run next ps v'

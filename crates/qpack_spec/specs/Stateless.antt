@@ -5,30 +5,30 @@ use Rattle.std.specs.Prelude.{length, map, Option, None, Some, Result, Ok, Err}
 use Rattle.std.specs.List.{AllByRecursion}
 use Rattle.qpack_spec.specs.Bytes.{◌>>=◌}
 use Rattle.qpack_spec.specs.Field.{Field, field_size}
-use Rattle.qpack_spec.specs.StaticTable.{static_place, static_name_place}
+use Rattle.qpack_spec.specs.StaticTable.{static_index, static_name_index}
 use Rattle.qpack_spec.specs.Form.{FormFault, form_at}
 use Rattle.qpack_spec.specs.Line.{Line, IndexedStatic, IndexedDynamic, IndexedPostBase, NamedStatic, NamedDynamic}
 use Rattle.qpack_spec.specs.Line.{NamedPostBase, Literal, line_form}
 use Rattle.qpack_spec.specs.Prefix.{prefix_at}
-use Rattle.qpack_spec.specs.Reading.{Fault, BadForm, static_field, valued, Block}
+use Rattle.qpack_spec.specs.Reading.{Fault, BadForm, static_field, field_with_value, Block}
 use Rattle.qpack_spec.specs.BlockReading.{written_block}
 use Rattle.qpack_spec.specs.Table.{empty_table}
 use Rattle.qpack_spec.specs.Rule.{rule, block_of}
 use Rattle.qpack_spec.specs.WrittenLaws.{IsWritableField}
 
 -- a literal, by the least static field of the name
-abbrev pub literal_alone : Field → Option ℕ → Line
-literal_alone f (Some i) = NamedStatic i f.value
-literal_alone f None = Literal f.name f.value
+abbrev pub stateless_literal : Field → Option ℕ → Line
+stateless_literal f (Some i) = NamedStatic i f.value
+stateless_literal f None = Literal f.name f.value
 
 -- an equal static field, else a literal
-abbrev pub line_alone : Field → Option ℕ → Line
-line_alone f (Some i) = IndexedStatic i
-line_alone f None = literal_alone f (static_name_place f.name)
+abbrev pub stateless_line_of : Field → Option ℕ → Line
+stateless_line_of f (Some i) = IndexedStatic i
+stateless_line_of f None = stateless_literal f (static_name_index f.name)
 
 -- the line of a field where no entry is at hand
 abbrev pub stateless_line : Field → Line
-stateless_line f = line_alone f (static_place f)
+stateless_line f = stateless_line_of f (static_index f)
 
 -- the block of fields where no entry is at hand: nothing is required
 abbrev pub stateless_block : List Field → Block
@@ -43,8 +43,8 @@ pub data StatelessFault : Type 0 where
   TooLong : (sum : ℕ) → StatelessFault
 
 -- a sum of sizes, held at the greatest number of 64 bits
-abbrev pub held_size : ℕ → ℕ
-held_size n = min n (2 ^ 64 - 1)
+abbrev pub saturated_size : ℕ → ℕ
+saturated_size n = min n (2 ^ 64 - 1)
 
 -- a fault of a section
 abbrev pub or_bad_section : {A : Type 0} → Result A Fault → Result A StatelessFault
@@ -52,14 +52,14 @@ or_bad_section (Ok x) = Ok x
 or_bad_section (Err e) = Err (BadSection e)
 
 -- the field that a line means alone
-abbrev pub field_alone : Line → Result Field StatelessFault
-field_alone (IndexedStatic index) = or_bad_section (static_field index)
-field_alone (IndexedDynamic relative) = Err NamesEntry
-field_alone (IndexedPostBase post_base) = Err NamesEntry
-field_alone (NamedStatic index value) = or_bad_section (valued value (static_field index))
-field_alone (NamedDynamic relative value) = Err NamesEntry
-field_alone (NamedPostBase post_base value) = Err NamesEntry
-field_alone (Literal name value) = Ok (record { name = name; value = value })
+abbrev pub stateless_field : Line → Result Field StatelessFault
+stateless_field (IndexedStatic index) = or_bad_section (static_field index)
+stateless_field (IndexedDynamic relative) = Err NamesEntry
+stateless_field (IndexedPostBase post_base) = Err NamesEntry
+stateless_field (NamedStatic index value) = or_bad_section (field_with_value value (static_field index))
+stateless_field (NamedDynamic relative value) = Err NamesEntry
+stateless_field (NamedPostBase post_base value) = Err NamesEntry
+stateless_field (Literal name value) = Ok (record { name = name; value = value })
 
 -- a form's fault
 abbrev pub or_bad_bytes : {A : Type 0} → Result A FormFault → Result A StatelessFault
@@ -69,7 +69,7 @@ or_bad_bytes (Err e) = Err (BadSection (BadForm e))
 -- the next field, where the sizes so far have this sum: refused if the limit is passed
 abbrev pub within_limit : ℕ → ℕ → Field → Result Field StatelessFault
 within_limit limit sum f =
-    if nat_lt limit (held_size (sum + field_size f)) then Err (TooLong (held_size (sum + field_size f))) else Ok f
+    if nat_lt limit (saturated_size (sum + field_size f)) then Err (TooLong (saturated_size (sum + field_size f))) else Ok f
 
 -- the fields of the lines in turn, in so many steps at most; a post-base line, whose first bits are 000, is refused by
 -- its first byte alone
@@ -78,7 +78,7 @@ stateless_at steps limit sum [] = Ok []
 stateless_at zero limit sum (b ∷ bytes) = Ok []
 stateless_at (suc steps) limit sum (b ∷ bytes) =
     if nat_lt b 32 then Err NamesEntry
-    else (or_bad_bytes (form_at line_form (b ∷ bytes)) >>= λ r. field_alone r.0 >>= λ f. within_limit limit sum f
+    else (or_bad_bytes (form_at line_form (b ∷ bytes)) >>= λ r. stateless_field r.0 >>= λ f. within_limit limit sum f
     >>= λ g. stateless_at steps limit (sum + field_size g) r.1 >>= λ fs. Ok (g ∷ fs))
 
 -- what the bytes of a section mean alone, with a limit on the sum of sizes; the prefix is read, whatever it says

@@ -6,26 +6,26 @@ use Rattle.qpack_spec.specs.Form.{FormFault, form_at}
 use Rattle.qpack_spec.specs.Line.{Line, line_form, SpellsLine}
 use Rattle.qpack_spec.specs.Prefix.{Prefix, SpellsPrefix, prefix_at}
 use Rattle.qpack_spec.specs.Stream.{Joined}
-use Rattle.qpack_spec.specs.Window.{Window, agreed_maximum}
+use Rattle.qpack_spec.specs.Window.{Window, maximum_capacity}
 use Rattle.qpack_spec.specs.Reading.{Fault, BadForm, BadPrefix, BelowWindow, AboveWindow, BehindBase, NotStatic}
 use Rattle.qpack_spec.specs.Reading.{Reading, Fields, Missing, Faulty}
 use Rattle.qpack_spec.specs.BlockReading.{reading_of_bytes}
-use Rattle.qpack_spec.specs.Stateless.{StatelessFault, BadSection, NamesEntry, TooLong, held_size, field_alone}
+use Rattle.qpack_spec.specs.Stateless.{StatelessFault, BadSection, NamesEntry, TooLong, saturated_size, stateless_field}
 use Rattle.qpack_spec.specs.Stateless.{stateless_reading, up_to_limit}
 
 -- the bytes are a line that means the field alone
-abbrev pub SpellsFieldAlone : List ℕ → Field → Type 0
-SpellsFieldAlone text f = (l : Line) × SpellsLine text l × (field_alone l ≡ Ok f)
+abbrev pub SpellsStatelessField : List ℕ → Field → Type 0
+SpellsStatelessField encoding f = (l : Line) × SpellsLine encoding l × (stateless_field l ≡ Ok f)
 
 -- the bytes are a prefix, whatever it says, and lines that mean the fields, whose sizes sum to at most the limit
-pub record MeansAlone (limit : ℕ) (bytes : List ℕ) (fields : List Field) : Type 0 where
+pub record MeansStateless (limit : ℕ) (bytes : List ℕ) (fields : List Field) : Type 0 where
   pub head : List ℕ
   pub lines : List ℕ
   pub cut : bytes ≡ head ++ lines
   pub prefix : Prefix
   pub spells : SpellsPrefix head prefix
-  pub joined : Joined SpellsFieldAlone lines fields
-  pub within : held_size (total_size fields) ≤ limit
+  pub joined : Joined SpellsStatelessField lines fields
+  pub within : saturated_size (total_size fields) ≤ limit
 
 -- why the next line gives no field, the sizes so far having this sum: its first byte says that it is a post-base line,
 -- its bytes can't be read, it means nothing alone, or its field passes the limit
@@ -33,10 +33,10 @@ pub data StopsLine (limit sum first : ℕ) (more : List ℕ) (e : StatelessFault
   post_base : first < 32 → e ≡ NamesEntry → StopsLine limit sum first more e
   in_bytes : 32 ≤ first → (fault : FormFault) → form_at line_form (first ∷ more) ≡ Err fault
       → e ≡ BadSection (BadForm fault) → StopsLine limit sum first more e
-  in_line : 32 ≤ first → (text rest : List ℕ) (l : Line) → first ∷ more ≡ text ++ rest → SpellsLine text l
-      → field_alone l ≡ Err e → StopsLine limit sum first more e
-  past_limit : (text rest : List ℕ) (f : Field) → first ∷ more ≡ text ++ rest → SpellsFieldAlone text f
-      → limit < held_size (sum + field_size f) → e ≡ TooLong (held_size (sum + field_size f))
+  in_line : 32 ≤ first → (encoding rest : List ℕ) (l : Line) → first ∷ more ≡ encoding ++ rest → SpellsLine encoding l
+      → stateless_field l ≡ Err e → StopsLine limit sum first more e
+  past_limit : (encoding rest : List ℕ) (f : Field) → first ∷ more ≡ encoding ++ rest → SpellsStatelessField encoding f
+      → limit < saturated_size (sum + field_size f) → e ≡ TooLong (saturated_size (sum + field_size f))
       → StopsLine limit sum first more e
 
 -- behind lines that mean fields, within the limit, the next line gives none
@@ -46,33 +46,33 @@ pub record StopsBehind (limit sum : ℕ) (lines : List ℕ) (e : StatelessFault)
   pub more : List ℕ
   pub cut : lines ≡ front ++ first ∷ more
   pub so_far : List Field
-  pub joined : Joined SpellsFieldAlone front so_far
-  pub within : held_size (sum + total_size so_far) ≤ limit
+  pub joined : Joined SpellsStatelessField front so_far
+  pub within : saturated_size (sum + total_size so_far) ≤ limit
   pub stops : StopsLine limit (sum + total_size so_far) first more e
 
 -- why a section means nothing: its prefix can't be read, or a line stops it
-pub data StopsAlone (limit : ℕ) (bytes : List ℕ) (e : StatelessFault) : Type 0 where
+pub data StopsStateless (limit : ℕ) (bytes : List ℕ) (e : StatelessFault) : Type 0 where
   in_prefix : (fault : FormFault) → prefix_at bytes ≡ Err fault → e ≡ BadSection (BadForm fault)
-      → StopsAlone limit bytes e
+      → StopsStateless limit bytes e
   in_lines : (head lines : List ℕ) (prefix : Prefix) → bytes ≡ head ++ lines → SpellsPrefix head prefix
-      → StopsBehind limit 0 lines e → StopsAlone limit bytes e
+      → StopsBehind limit 0 lines e → StopsStateless limit bytes e
 
 -- what a section gives: its fields, or the first fault
-abbrev pub GivesAlone : ℕ → List ℕ → Result (List Field) StatelessFault → Type 0
-GivesAlone limit bytes (Ok fs) = MeansAlone limit bytes fs
-GivesAlone limit bytes (Err e) = StopsAlone limit bytes e
+abbrev pub GivesStateless : ℕ → List ℕ → Result (List Field) StatelessFault → Type 0
+GivesStateless limit bytes (Ok fs) = MeansStateless limit bytes fs
+GivesStateless limit bytes (Err e) = StopsStateless limit bytes e
 
 -- reading from left to right gives exactly that
-abbrev pub ReadingAloneIsMeaning : Type 0
-ReadingAloneIsMeaning =
+abbrev pub StatelessReadingIsMeaning : Type 0
+StatelessReadingIsMeaning =
     (limit : ℕ) (bytes : List ℕ) (r : Result (List Field) StatelessFault)
-    → (stateless_reading limit bytes ≡ r) ↔ GivesAlone limit bytes r
+    → (stateless_reading limit bytes ≡ r) ↔ GivesStateless limit bytes r
 
 -- ---- the same under an empty table
 
 -- the window of an empty table of capacity 0
 abbrev pub no_table : Option ℕ → Window
-no_table agreed = record { capacity = 0; agreed = agreed; dropped = 0; live = [] }
+no_table agreed_max = record { capacity = 0; agreed_max = agreed_max; dropped = 0; live = [] }
 
 -- the fault under such a table where a line is refused alone because it names an entry: no entry is there; or the bytes
 -- of a post-base line can't be read, which is refused alone by its first byte
@@ -96,7 +96,7 @@ AgreesWithoutTable (Err (TooLong sum)) r = (required : ℕ) → r ≡ Missing re
 -- read alone, up to the limit. A prefix is refused by neither for what it says
 abbrev pub StatelessIsWithoutTable : Type 0
 StatelessIsWithoutTable =
-    (agreed : Option ℕ) → agreed_maximum agreed 0 ≡ 0 → (limit : ℕ) (bytes : List ℕ)
-    → AgreesWithoutTable (stateless_reading limit bytes) (reading_of_bytes (no_table agreed) bytes)
-    × ((fs : List Field) (is_dynamic : Bool) → reading_of_bytes (no_table agreed) bytes ≡ Fields fs is_dynamic
+    (agreed_max : Option ℕ) → maximum_capacity agreed_max 0 ≡ 0 → (limit : ℕ) (bytes : List ℕ)
+    → AgreesWithoutTable (stateless_reading limit bytes) (reading_of_bytes (no_table agreed_max) bytes)
+    × ((fs : List Field) (is_dynamic : Bool) → reading_of_bytes (no_table agreed_max) bytes ≡ Fields fs is_dynamic
     → (is_dynamic ≡ false) × (stateless_reading limit bytes ≡ up_to_limit limit 0 fs))

@@ -125,9 +125,9 @@ NoStatic P = (k : ℕ) (f : Field) → IsStaticAt k f → P f → ⊥
 -- ---- the same, as looking from the front
 
 -- the index of the equal field
-unfoldable pub static_place : Field → Option ℕ
-static_place f = position (is_field f) static_table
+unfoldable pub static_index : Field → Option ℕ
+static_index f = position (is_field f) static_table
 
 -- the least index of a field with the name
-unfoldable pub static_name_place : List ℕ → Option ℕ
-static_name_place name = position (has_name name) static_table
+unfoldable pub static_name_index : List ℕ → Option ℕ
+static_name_index name = position (has_name name) static_table

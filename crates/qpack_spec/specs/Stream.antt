@@ -6,11 +6,11 @@ use Rattle.std.specs.Prelude.{◌≡◌, ℕ, List, [], ◌∷◌, ◌++◌, len
 abbrev pub Joined : {L : Type 0} → (List ℕ → L → Type 0) → List ℕ → List L → Type 0
 Joined Spells bytes [] = bytes ≡ []
 Joined Spells bytes (l ∷ ls) =
-    (text : List ℕ) × (more : List ℕ) × (bytes ≡ text ++ more) × Spells text l × Joined Spells more ls
+    (encoding : List ℕ) × (more : List ℕ) × (bytes ≡ encoding ++ more) × Spells encoding l × Joined Spells more ls
 
 -- no front of the rest is a spelling
 abbrev pub IsCutOff : {L : Type 0} → (List ℕ → L → Type 0) → List ℕ → Type 0
-IsCutOff {L} Spells rest = (text more : List ℕ) (l : L) → rest ≡ text ++ more → Spells text l → ⊥
+IsCutOff {L} Spells rest = (encoding more : List ℕ) (l : L) → rest ≡ encoding ++ more → Spells encoding l → ⊥
 
 -- the lines of a byte list, and the rest behind them, of which no front is a line
 pub record Holds (L : Type 0) (Spells : List ℕ → L
@@ -22,10 +22,10 @@ pub record Holds (L : Type 0) (Spells : List ℕ → L
 
 -- a stream of which the first lines were taken, up to a place, and the others are under way
 pub record Carried (L : Type 0) (Spells : List ℕ → L
-    → Type 0) (bytes : List ℕ) (place : ℕ) (taken flying : List L) : Type 0 where
+    → Type 0) (bytes : List ℕ) (place : ℕ) (taken in_flight : List L) : Type 0 where
   pub front : List ℕ
   pub rest : List ℕ
   pub cut : bytes ≡ front ++ rest
   pub ends : length front ≡ place
   pub front_joined : Joined Spells front taken
-  pub rest_joined : Joined Spells rest flying
+  pub rest_joined : Joined Spells rest in_flight

@@ -22,9 +22,9 @@ PiecesHoldFronts {L} form_of =
 -- and what it leaves begins with no refusal
 abbrev pub PiecesAreNeverRefused : {L : Type 0} → (ℕ → Option (Form L)) → Type 0
 PiecesAreNeverRefused {L} form_of =
-    (piece behind : List ℕ) (all ls : List L) (rest text more : List ℕ) (fault : FormFault)
+    (piece behind : List ℕ) (all ls : List L) (rest encoding more : List ℕ) (fault : FormFault)
     → Joined (λ t l. Spells L form_of t l) (piece ++ behind) all → Holds L (λ t l. Spells L form_of t l) piece ls rest
-    → rest ≡ text ++ more → Refuses L form_of text fault → ⊥
+    → rest ≡ encoding ++ more → Refuses L form_of encoding fault → ⊥
 
 -- the one reading of a byte list: its lines, and the rest, which is truncated or begins with a refusal
 pub record HasOneReading (L : Type 0) (form_of : ℕ → Option (Form L)) (bytes : List ℕ) : Type 0 where

@@ -7,10 +7,10 @@ use Rattle.std.specs.List.{list_any}
 use Rattle.qpack_spec.specs.Bytes.{◌>>=◌}
 use Rattle.qpack_spec.specs.Field.{Field, field_size}
 use Rattle.qpack_spec.specs.StaticTable.{static_table}
-use Rattle.qpack_spec.specs.Instruction.{Instruction, InsertStaticName, InsertDynamicName, InsertLiteralName, Duplicate}
-use Rattle.qpack_spec.specs.Instruction.{SetCapacity, Reply, Acknowledgment, Cancellation, Increment}
-use Rattle.qpack_spec.specs.Window.{Window, greatest_capacity, excess, recent, with_value, Refusal, NoEntry}
-use Rattle.qpack_spec.specs.Window.{NoStaticField, DoesNotFit, AboveMaximum, UnknownStream, or_refused}
+use Rattle.qpack_spec.specs.Instruction.{EncoderInstruction, InsertStaticName, InsertDynamicName, InsertLiteralName, Duplicate}
+use Rattle.qpack_spec.specs.Instruction.{SetCapacity, DecoderInstruction, Acknowledgment, Cancellation, Increment}
+use Rattle.qpack_spec.specs.Window.{Window, greatest_capacity, eviction_count, relative_entry, with_value, TableRefusal, NoEntry}
+use Rattle.qpack_spec.specs.Window.{NoStaticField, DoesNotFit, AboveMaximum, UnknownStream, or_refusal}
 
 -- a live entry, and whether an encoder sent it
 pub record Entry : Type 0 where
@@ -18,7 +18,7 @@ pub record Entry : Type 0 where
   pub sent : Bool
 
 -- an open block: a field section that waits for its acknowledgment, and the entries that its lines name
-pub record OpenBlock : Type 0 where
+pub record UnacknowledgedBlock : Type 0 where
   pub stream : ℕ
   pub entries : List ℕ
 
@@ -27,28 +27,28 @@ pub record OpenBlock : Type 0 where
 -- the limit of blocked ones
 pub record Table : Type 0 where
   pub capacity : ℕ
-  pub agreed : Option ℕ
+  pub agreed_max : Option ℕ
   pub limit : ℕ
   pub dropped : ℕ
   pub live : List Entry
-  pub known : ℕ
-  pub named : List ℕ
-  pub opened : List OpenBlock
-  pub waiting : List ℕ
+  pub known_received_count : ℕ
+  pub referenced : List ℕ
+  pub unacknowledged : List UnacknowledgedBlock
+  pub blocked : List ℕ
 
 -- a table as it begins
 abbrev pub empty_table : ℕ → Option ℕ → ℕ → Table
-empty_table capacity agreed limit =
+empty_table capacity agreed_max limit =
     record {
       capacity = capacity;
-      agreed = agreed;
+      agreed_max = agreed_max;
       limit = limit;
       dropped = 0;
       live = [];
-      known = 0;
-      named = [];
-      opened = [];
-      waiting = [];
+      known_received_count = 0;
+      referenced = [];
+      unacknowledged = [];
+      blocked = [];
     }
 
 -- an entry that an encoder's handle inserted
@@ -65,162 +65,163 @@ fields_in es = map (λ e. e.field) es
 
 -- what both ends share of the table
 unfoldable pub window : Table → Window
-window t = record { capacity = t.capacity; agreed = t.agreed; dropped = t.dropped; live = fields_in t.live }
+window t = record { capacity = t.capacity; agreed_max = t.agreed_max; dropped = t.dropped; live = fields_in t.live }
 
 -- the table of a decoder at a window: every entry was put, and nothing is tracked
 unfoldable pub table_of : Window → Table
 table_of w =
     record {
       capacity = w.capacity;
-      agreed = w.agreed;
+      agreed_max = w.agreed_max;
       limit = 0;
       dropped = w.dropped;
       live = map (λ f. put_entry f) w.live;
-      known = 0;
-      named = [];
-      opened = [];
-      waiting = [];
+      known_received_count = 0;
+      referenced = [];
+      unacknowledged = [];
+      blocked = [];
     }
 
 -- how many insertions were ever made
-abbrev pub count : Table → ℕ
-count t = t.dropped + length t.live
+abbrev pub insert_count : Table → ℕ
+insert_count t = t.dropped + length t.live
 
 -- whether a number is among some
 abbrev pub has_number : ℕ → List ℕ → Bool
 has_number a xs = list_any (λ x. nat_eq x a) xs
 
 -- the numbers with one more, each kept once and where it first came
-unfoldable pub track : List ℕ → ℕ → List ℕ
-track named a = if has_number a named then named else named ++ a ∷ []
+unfoldable pub with_number : List ℕ → ℕ → List ℕ
+with_number referenced a = if has_number a referenced then referenced else referenced ++ a ∷ []
 
 -- the numbers with some more
-abbrev pub tracked : List ℕ → List ℕ → List ℕ
-tracked named [] = named
-tracked named (a ∷ rest) = tracked (track named a) rest
+abbrev pub with_numbers : List ℕ → List ℕ → List ℕ
+with_numbers referenced [] = referenced
+with_numbers referenced (a ∷ rest) = with_numbers (with_number referenced a) rest
 
 -- the block in progress names one more entry
-unfoldable pub naming : Table → ℕ → Table
-naming t a = record t { named = track t.named a }
+unfoldable pub with_reference : Table → ℕ → Table
+with_reference t a = record t { referenced = with_number t.referenced a }
 
--- an entry may not go while the block in progress or an open block names it, or while it was sent and not yet known to
--- be received (section 2.1.1)
-unfoldable pub is_held : Table → ℕ → Bool → Bool
-is_held t a sent =
-    has_number a t.named || (list_any (λ b. has_number a b.entries) t.opened || (sent && nat_lt t.known a))
+-- an entry is evictable unless the block in progress or an unacknowledged block references it, or it was sent and is not
+-- yet known to be received (section 2.1.1)
+unfoldable pub is_evictable : Table → ℕ → Bool → Bool
+is_evictable t a sent =
+    not (has_number a t.referenced
+    || (list_any (λ b. has_number a b.entries) t.unacknowledged || (sent && nat_lt t.known_received_count a)))
 
--- none of these entries, the first of which has this absolute index, is held
-unfoldable pub none_held : Table → ℕ → List Entry → Bool
-none_held t a [] = true
-none_held t a (e ∷ es) = if is_held t a e.sent then false else none_held t (suc a) es
+-- all of these entries, the first of which has this absolute index, are evictable
+unfoldable pub all_evictable : Table → ℕ → List Entry → Bool
+all_evictable t a [] = true
+all_evictable t a (e ∷ es) = if is_evictable t a e.sent then all_evictable t (suc a) es else false
 
--- the so many oldest entries may go
-abbrev pub can_drop : Table → ℕ → Bool
-can_drop t gone = none_held t (suc t.dropped) (take gone t.live)
+-- so many of the oldest entries are evictable
+abbrev pub can_evict : Table → ℕ → Bool
+can_evict t evicted = all_evictable t (suc t.dropped) (take evicted t.live)
 
 -- how many entries go before a field stands (section 3.2.2)
-abbrev pub evicted_for : Table → Field → ℕ
-evicted_for t f = excess t.capacity (fields_in t.live ++ f ∷ [])
+abbrev pub eviction_count_for : Table → Field → ℕ
+eviction_count_for t f = eviction_count t.capacity (fields_in t.live ++ f ∷ [])
 
 -- there is room for a field: it fits, and nothing that has to go is held (section 2.1.1); insertions end at 2^62
 unfoldable pub has_room : Table → Field → Bool
-has_room t f = nat_le (field_size f) t.capacity && (nat_lt (count t) (2 ^ 62) && can_drop t (evicted_for t f))
+has_room t f = nat_le (field_size f) t.capacity && (nat_lt (insert_count t) (2 ^ 62) && can_evict t (eviction_count_for t f))
 
 -- fewer blocks are blocked than may be (section 2.1.2)
 abbrev pub below_limit : Table → Bool
-below_limit t = nat_lt (length t.waiting) t.limit
+below_limit t = nat_lt (length t.blocked) t.limit
 
 -- an entry may be named: one more block may be blocked, or the entry is known to be received (section 2.1.2)
-unfoldable pub may_name : Table → ℕ → Bool
-may_name t a = below_limit t || nat_le a t.known
+unfoldable pub may_reference : Table → ℕ → Bool
+may_reference t a = below_limit t || nat_le a t.known_received_count
 
--- the table with one entry more, what has to go being gone (section 3.2.2)
+-- the table with one entry more, what has to go being evicted (section 3.2.2)
 unfoldable pub with_entry : Table → Entry → Table
 with_entry t e =
-    record t { dropped = t.dropped + evicted_for t e.field; live = drop (evicted_for t e.field) (t.live ++ e ∷ []) }
+    record t { dropped = t.dropped + eviction_count_for t e.field; live = drop (eviction_count_for t e.field) (t.live ++ e ∷ []) }
 
 -- an option's place, or that of the element before it
-abbrev pub later : Option ℕ → Bool → Option ℕ
-later (Some i) b = Some (suc i)
-later None true = Some 0
-later None false = None
+abbrev pub later_position : Option ℕ → Bool → Option ℕ
+later_position (Some i) b = Some (suc i)
+later_position None true = Some 0
+later_position None false = None
 
 -- the place of the last element that passes
-unfoldable pub last_place : {X : Type 0} → (X → Bool) → List X → Option ℕ
-last_place p [] = None
-last_place p (x ∷ xs) = later (last_place p xs) (p x)
+unfoldable pub last_position : {X : Type 0} → (X → Bool) → List X → Option ℕ
+last_position p [] = None
+last_position p (x ∷ xs) = later_position (last_position p xs) (p x)
 
 -- the absolute index of the newest live entry that passes
-unfoldable pub newest : Table → (Field → Bool) → Option ℕ
-newest t p = option_map (λ i. t.dropped + i + 1) (last_place p (fields_in t.live))
+unfoldable pub newest_index : Table → (Field → Bool) → Option ℕ
+newest_index t p = option_map (λ i. t.dropped + i + 1) (last_position p (fields_in t.live))
 
 -- a field is put: passed over at capacity 0, behind the 2^62th insertion and where a held entry would have to go,
 -- refused if it is larger than the capacity (section 3.2.2)
-unfoldable pub put : Table → Field → Result Table Refusal
+unfoldable pub put : Table → Field → Result Table TableRefusal
 put t f =
     if nat_eq t.capacity 0 then Ok t
     else if nat_le (field_size f) t.capacity
-    then (if nat_lt (count t) (2 ^ 62) && can_drop t (evicted_for t f) then Ok (with_entry t (put_entry f)) else Ok t)
+    then (if nat_lt (insert_count t) (2 ^ 62) && can_evict t (eviction_count_for t f) then Ok (with_entry t (put_entry f)) else Ok t)
     else Err DoesNotFit
 
 -- another capacity (section 3.2.3): refused above the greatest one, or where a held entry would have to go
-unfoldable pub resized : Table → ℕ → Result Table Refusal
-resized t n =
-    let gone = excess n (fields_in t.live) in
-    if nat_le n (greatest_capacity t.agreed)
-    then (if can_drop t gone then Ok (record t { capacity = n; dropped = t.dropped + gone; live = drop gone t.live })
+unfoldable pub with_capacity : Table → ℕ → Result Table TableRefusal
+with_capacity t n =
+    let evicted = eviction_count n (fields_in t.live) in
+    if nat_le n (greatest_capacity t.agreed_max)
+    then (if can_evict t evicted then Ok (record t { capacity = n; dropped = t.dropped + evicted; live = drop evicted t.live })
     else Err DoesNotFit)
     else Err AboveMaximum
 
 -- what an encoder instruction makes of a decoder's table (section 4.3)
-unfoldable pub applied : Table → Instruction → Result Table Refusal
-applied t (InsertStaticName index value) =
-    or_refused (slice_get static_table index) (NoStaticField index) >>= λ f. put t (with_value value f)
-applied t (InsertDynamicName relative value) =
-    or_refused (recent (window t) relative) (NoEntry relative) >>= λ f. put t (with_value value f)
-applied t (InsertLiteralName name value) = put t (record { name = name; value = value })
-applied t (Duplicate relative) = or_refused (recent (window t) relative) (NoEntry relative) >>= λ f. put t f
-applied t (SetCapacity n) = resized t n
+unfoldable pub apply_encoder_instruction : Table → EncoderInstruction → Result Table TableRefusal
+apply_encoder_instruction t (InsertStaticName index value) =
+    or_refusal (slice_get static_table index) (NoStaticField index) >>= λ f. put t (with_value value f)
+apply_encoder_instruction t (InsertDynamicName relative value) =
+    or_refusal (relative_entry (window t) relative) (NoEntry relative) >>= λ f. put t (with_value value f)
+apply_encoder_instruction t (InsertLiteralName name value) = put t (record { name = name; value = value })
+apply_encoder_instruction t (Duplicate relative) = or_refusal (relative_entry (window t) relative) (NoEntry relative) >>= λ f. put t f
+apply_encoder_instruction t (SetCapacity n) = with_capacity t n
 
 -- the open blocks with one more, if it names an entry
-abbrev pub opens : List OpenBlock → ℕ → List ℕ → List OpenBlock
-opens bs stream [] = bs
-opens bs stream (a ∷ more) = bs ++ record { stream = stream; entries = a ∷ more } ∷ []
+abbrev pub with_unacknowledged : List UnacknowledgedBlock → ℕ → List ℕ → List UnacknowledgedBlock
+with_unacknowledged bs stream [] = bs
+with_unacknowledged bs stream (a ∷ more) = bs ++ record { stream = stream; entries = a ∷ more } ∷ []
 
 -- the block in progress ends: it is open if it names an entry, and counts as blocked if its required count is above the
 -- known received count (section 2.1.2)
 unfoldable pub commit : Table → ℕ → ℕ → Table
 commit t stream required =
     record t {
-      named = [];
-      opened = opens t.opened stream t.named;
-      waiting = if nat_lt t.known required then t.waiting ++ required ∷ [] else t.waiting;
+      referenced = [];
+      unacknowledged = with_unacknowledged t.unacknowledged stream t.referenced;
+      blocked = if nat_lt t.known_received_count required then t.blocked ++ required ∷ [] else t.blocked;
     }
 
 -- the block in progress is given up: what it names is named no more
-unfoldable pub unnamed : Table → Table
-unnamed t = record t { named = [] }
+unfoldable pub without_references : Table → Table
+without_references t = record t { referenced = [] }
 
 -- the open blocks without the oldest one of the stream; none if there is none (section 4.4.1)
-unfoldable pub without_oldest : ℕ → List OpenBlock → Option (List OpenBlock)
+unfoldable pub without_oldest : ℕ → List UnacknowledgedBlock → Option (List UnacknowledgedBlock)
 without_oldest s [] = None
 without_oldest s (b ∷ bs) = if nat_eq b.stream s then Some bs else option_map (λ rest. b ∷ rest) (without_oldest s bs)
 
 -- the open blocks of other streams (section 4.4.2)
-unfoldable pub without_stream : ℕ → List OpenBlock → List OpenBlock
+unfoldable pub without_stream : ℕ → List UnacknowledgedBlock → List UnacknowledgedBlock
 without_stream s bs = filter (λ b. not (nat_eq b.stream s)) bs
 
 -- the known received count grows, held at the greatest number of 64 bits, and blocks that waited for less wait no more
 -- (section 4.4.3)
-unfoldable pub raised : Table → ℕ → Table
-raised t n =
-    let known =
-    min (t.known + n) (2 ^ 64 - 1) in record t { known = known; waiting = filter (λ r. nat_lt known r) t.waiting }
+unfoldable pub with_increment : Table → ℕ → Table
+with_increment t n =
+    let known_received_count =
+    min (t.known_received_count + n) (2 ^ 64 - 1) in record t { known_received_count = known_received_count; blocked = filter (λ r. nat_lt known_received_count r) t.blocked }
 
 -- what a decoder instruction makes of the encoder's table (section 4.4): an acknowledgment releases the oldest open
 -- block of its stream, a cancellation every one (section 2.2.2.2)
-unfoldable pub heard : Table → Reply → Result Table Refusal
-heard t (Acknowledgment s) =
-    or_refused (without_oldest s t.opened) (UnknownStream s) >>= λ bs. Ok (record t { opened = bs })
-heard t (Cancellation s) = Ok (record t { opened = without_stream s t.opened })
-heard t (Increment n) = Ok (raised t n)
+unfoldable pub apply_decoder_instruction : Table → DecoderInstruction → Result Table TableRefusal
+apply_decoder_instruction t (Acknowledgment s) =
+    or_refusal (without_oldest s t.unacknowledged) (UnknownStream s) >>= λ bs. Ok (record t { unacknowledged = bs })
+apply_decoder_instruction t (Cancellation s) = Ok (record t { unacknowledged = without_stream s t.unacknowledged })
+apply_decoder_instruction t (Increment n) = Ok (with_increment t n)

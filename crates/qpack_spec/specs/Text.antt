@@ -15,39 +15,39 @@ pub data StringFault : Type 0 where
 
 -- The length of the payload, with a prefix one bit shorter, whose lowest flag is `huffman` (1 where the payload
 -- is coded) and whose other flags are `flags`; and then the payload.
-pub record IsLiteral (n : ℕ) (text : List ℕ) (flags huffman : ℕ) (payload : List ℕ) : Type 0 where
+pub record IsLiteral (n : ℕ) (encoding : List ℕ) (flags huffman : ℕ) (payload : List ℕ) : Type 0 where
   pub head : List ℕ
-  pub parts : text ≡ head ++ payload
+  pub parts : encoding ≡ head ++ payload
   pub spells : SpellsInteger (n - 1) head (2 * flags + huffman) (length payload)
 
 -- a literal, plain or coded, of a payload that is not empty (RFC 9204, section 4.1.2)
-pub record HoldsPayload (n : ℕ) (text : List ℕ) : Type 0 where
+pub record HoldsPayload (n : ℕ) (encoding : List ℕ) : Type 0 where
   pub flags : ℕ
   pub huffman : ℕ
   pub payload : List ℕ
-  pub literal : IsLiteral n text flags huffman payload
+  pub literal : IsLiteral n encoding flags huffman payload
   pub coding : huffman < 2
   pub some : payload ≢ []
 
 -- the bytes are a literal of the value, plain or coded
 abbrev pub SpellsString : ℕ → List ℕ → ℕ → List ℕ → Type 0
-SpellsString n text flags value =
-    IsLiteral n text flags 0 value ⊎ ((payload : List ℕ) × IsLiteral n text flags 1 payload
+SpellsString n encoding flags value =
+    IsLiteral n encoding flags 0 value ⊎ ((payload : List ℕ) × IsLiteral n encoding flags 1 payload
     × PayloadMeans payload value)
 
 -- the bytes are refused: the length overflows, or a whole coded payload means nothing
 abbrev pub RefusesString : ℕ → List ℕ → StringFault → Type 0
-RefusesString n text EndsEarly = ⊥
-RefusesString n text LengthOverflows = OverflowsInteger (n - 1) text
-RefusesString n text (BadHuffman fault) =
-    (flags : ℕ) × (payload : List ℕ) × IsLiteral n text flags 1 payload × PayloadMeansNothing payload fault
+RefusesString n encoding EndsEarly = ⊥
+RefusesString n encoding LengthOverflows = OverflowsInteger (n - 1) encoding
+RefusesString n encoding (BadHuffman fault) =
+    (flags : ℕ) × (payload : List ℕ) × IsLiteral n encoding flags 1 payload × PayloadMeansNothing payload fault
 
 -- no front is a literal or a refusal
 abbrev pub TruncatesString : ℕ → List ℕ → Type 0
 TruncatesString n bytes =
-    (text rest : List ℕ) → bytes ≡ text ++ rest
-    → ((flags : ℕ) (value : List ℕ) → SpellsString n text flags value → ⊥)
-    × ((fault : StringFault) → RefusesString n text fault → ⊥)
+    (encoding rest : List ℕ) → bytes ≡ encoding ++ rest
+    → ((flags : ℕ) (value : List ℕ) → SpellsString n encoding flags value → ⊥)
+    × ((fault : StringFault) → RefusesString n encoding fault → ⊥)
 
 -- ---- the same, as reading from left to right
 

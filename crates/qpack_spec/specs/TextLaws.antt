@@ -9,14 +9,14 @@ use Rattle.qpack_spec.specs.Text.{TruncatesString, string_at, written_string}
 -- one literal is of one value, under one list of flags
 abbrev pub StringsHaveOneValue : Type 0
 StringsHaveOneValue =
-    (n : ℕ) (text : List ℕ) (f g : ℕ) (v w : List ℕ) → SpellsString n text f v → SpellsString n text g w
+    (n : ℕ) (encoding : List ℕ) (f g : ℕ) (v w : List ℕ) → SpellsString n encoding f v → SpellsString n encoding g w
     → (f ≡ g) × (v ≡ w)
 
 -- a literal or a refusal
 abbrev pub EndsString : ℕ → List ℕ → Type 0
-EndsString n text =
-    ((flags : ℕ) × (value : List ℕ) × SpellsString n text flags value)
-    ⊎ ((fault : StringFault) × RefusesString n text fault)
+EndsString n encoding =
+    ((flags : ℕ) × (value : List ℕ) × SpellsString n encoding flags value)
+    ⊎ ((fault : StringFault) × RefusesString n encoding fault)
 
 -- no literal or refusal begins another
 abbrev pub NoStringBeginsAnother : Type 0
@@ -40,24 +40,24 @@ WrittenStringsAreLiterals =
 -- and is read back whole, whatever follows
 abbrev pub WrittenStringsAreReadBack : Type 0
 WrittenStringsAreReadBack =
-    (n flags : ℕ) (value rest text more : List ℕ) (f : ℕ) (v : List ℕ) → IsWritableString n flags value
-    → SpellsString n text f v → written_string n flags value ++ rest ≡ text ++ more
+    (n flags : ℕ) (value rest encoding more : List ℕ) (f : ℕ) (v : List ℕ) → IsWritableString n flags value
+    → SpellsString n encoding f v → written_string n flags value ++ rest ≡ encoding ++ more
     → (f ≡ flags) × (v ≡ value) × (more ≡ rest)
 
 -- reading from left to right finds exactly the literal at the front
 abbrev pub ReadingFindsStrings : Type 0
 ReadingFindsStrings =
     (n : ℕ) (bytes : List ℕ) (flags : ℕ) (value rest : List ℕ)
-    → (string_at n bytes ≡ Ok (flags, value, rest)) ↔ ((text : List ℕ) × (bytes ≡ text ++ rest)
-    × SpellsString n text flags value)
+    → (string_at n bytes ≡ Ok (flags, value, rest)) ↔ ((encoding : List ℕ) × (bytes ≡ encoding ++ rest)
+    × SpellsString n encoding flags value)
 
 -- each refusal exactly where it stands
 abbrev pub ReadingFindsRefusals : Type 0
 ReadingFindsRefusals =
     (n : ℕ) (bytes : List ℕ)
-    → ((string_at n bytes ≡ Err LengthOverflows) ↔ Begins (λ text. RefusesString n text LengthOverflows) bytes)
+    → ((string_at n bytes ≡ Err LengthOverflows) ↔ Begins (λ encoding. RefusesString n encoding LengthOverflows) bytes)
     × ((fault : HuffmanFault) → (string_at n bytes ≡ Err (BadHuffman fault)) ↔ Begins
-    (λ text. RefusesString n text (BadHuffman fault)) bytes)
+    (λ encoding. RefusesString n encoding (BadHuffman fault)) bytes)
 
 -- and the end exactly where no front is one or the other
 abbrev pub ReadingFindsTruncation : Type 0

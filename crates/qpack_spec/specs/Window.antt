@@ -4,21 +4,21 @@ use Rattle.std.specs.Prelude.{length, drop, Option, None, Some, slice_get, Resul
 use Rattle.qpack_spec.specs.Bytes.{◌>>=◌}
 use Rattle.qpack_spec.specs.Field.{Field, field_size, total_size}
 use Rattle.qpack_spec.specs.StaticTable.{static_table}
-use Rattle.qpack_spec.specs.Instruction.{Instruction, InsertStaticName, InsertDynamicName, InsertLiteralName, Duplicate}
+use Rattle.qpack_spec.specs.Instruction.{EncoderInstruction, InsertStaticName, InsertDynamicName, InsertLiteralName, Duplicate}
 use Rattle.qpack_spec.specs.Instruction.{SetCapacity}
 
 -- capacity, agreed maximum, how many entries were dropped, and the live ones, the oldest first. Absolute indexes begin
 -- at 1: the live ones are dropped + 1 to dropped + length live (section 3.2.4, which begins at 0)
 pub record Window : Type 0 where
   pub capacity : ℕ
-  pub agreed : Option ℕ
+  pub agreed_max : Option ℕ
   pub dropped : ℕ
   pub live : List Field
 
 -- the maximum table capacity of section 3.2.3: what was agreed, and the present capacity until something is
-abbrev pub agreed_maximum : Option ℕ → ℕ → ℕ
-agreed_maximum None capacity = capacity
-agreed_maximum (Some most) capacity = most
+abbrev pub maximum_capacity : Option ℕ → ℕ → ℕ
+maximum_capacity None capacity = capacity
+maximum_capacity (Some most) capacity = most
 
 -- the greatest capacity that may be set (section 3.2.3): the agreed maximum, and never 2^30 or more
 abbrev pub greatest_capacity : Option ℕ → ℕ
@@ -26,30 +26,30 @@ greatest_capacity None = 2 ^ 30 - 1
 greatest_capacity (Some most) = min most (2 ^ 30 - 1)
 
 -- how many insertions were ever made
-abbrev pub total : Window → ℕ
-total w = w.dropped + length w.live
+abbrev pub window_insert_count : Window → ℕ
+window_insert_count w = w.dropped + length w.live
 
 -- the live entry of an absolute index (section 3.2.4)
-unfoldable pub entry : Window → ℕ → Option Field
-entry w absolute = if nat_lt w.dropped absolute then slice_get w.live (absolute - w.dropped - 1) else None
+unfoldable pub absolute_entry : Window → ℕ → Option Field
+absolute_entry w absolute = if nat_lt w.dropped absolute then slice_get w.live (absolute - w.dropped - 1) else None
 
 -- the live entry of an instruction's relative index: 0 is the newest (section 3.2.5)
-unfoldable pub recent : Window → ℕ → Option Field
-recent w relative = if nat_lt relative (length w.live) then slice_get w.live (length w.live - 1 - relative) else None
+unfoldable pub relative_entry : Window → ℕ → Option Field
+relative_entry w relative = if nat_lt relative (length w.live) then slice_get w.live (length w.live - 1 - relative) else None
 
 -- the least number of oldest entries whose removal lets the rest fit (section 3.2.2)
-unfoldable pub excess : ℕ → List Field → ℕ
-excess capacity [] = 0
-excess capacity (f ∷ fs) = if nat_le (total_size (f ∷ fs)) capacity then 0 else suc (excess capacity fs)
+unfoldable pub eviction_count : ℕ → List Field → ℕ
+eviction_count capacity [] = 0
+eviction_count capacity (f ∷ fs) = if nat_le (total_size (f ∷ fs)) capacity then 0 else suc (eviction_count capacity fs)
 
 -- why an instruction is refused: it names no live entry or no static field, a field is larger than the capacity or a
 -- held entry stands against a capacity, a capacity is above the greatest one, or no block of the stream is open
-pub data Refusal : Type 0 where
-  NoEntry : (relative : ℕ) → Refusal
-  NoStaticField : (index : ℕ) → Refusal
-  DoesNotFit : Refusal
-  AboveMaximum : Refusal
-  UnknownStream : (stream : ℕ) → Refusal
+pub data TableRefusal : Type 0 where
+  NoEntry : (relative : ℕ) → TableRefusal
+  NoStaticField : (index : ℕ) → TableRefusal
+  DoesNotFit : TableRefusal
+  AboveMaximum : TableRefusal
+  UnknownStream : (stream : ℕ) → TableRefusal
 
 -- what an encoder instruction does once what it names is found
 pub data Effect : Type 0 where
@@ -58,43 +58,43 @@ pub data Effect : Type 0 where
   Resizes : (capacity : ℕ) → Effect
 
 -- what is there, or the refusal
-abbrev pub or_refused : {X : Type 0} → Option X → Refusal → Result X Refusal
-or_refused None e = Err e
-or_refused (Some x) e = Ok x
+abbrev pub or_refusal : {X : Type 0} → Option X → TableRefusal → Result X TableRefusal
+or_refusal None e = Err e
+or_refusal (Some x) e = Ok x
 
 -- the field with another value
 abbrev pub with_value : List ℕ → Field → Field
 with_value value f = record { name = f.name; value = value }
 
 -- an insertion at capacity 0 or behind the 2^62th is passed over, one larger than the capacity is refused
-unfoldable pub insertion : Window → Field → Result Effect Refusal
+unfoldable pub insertion : Window → Field → Result Effect TableRefusal
 insertion w f =
     if nat_eq w.capacity 0 then Ok Ignored
     else if nat_le (field_size f) w.capacity
-    then (if nat_lt (total w) (2 ^ 62) then Ok (Inserts f) else Ok Ignored)
+    then (if nat_lt (window_insert_count w) (2 ^ 62) then Ok (Inserts f) else Ok Ignored)
     else Err DoesNotFit
 
 -- what an instruction does at a window (section 4.3), or why it is refused
-unfoldable pub effect : Window → Instruction → Result Effect Refusal
+unfoldable pub effect : Window → EncoderInstruction → Result Effect TableRefusal
 effect w (InsertStaticName index value) =
-    or_refused (slice_get static_table index) (NoStaticField index) >>= λ f. insertion w (with_value value f)
+    or_refusal (slice_get static_table index) (NoStaticField index) >>= λ f. insertion w (with_value value f)
 effect w (InsertDynamicName relative value) =
-    or_refused (recent w relative) (NoEntry relative) >>= λ f. insertion w (with_value value f)
+    or_refusal (relative_entry w relative) (NoEntry relative) >>= λ f. insertion w (with_value value f)
 effect w (InsertLiteralName name value) = insertion w (record { name = name; value = value })
-effect w (Duplicate relative) = or_refused (recent w relative) (NoEntry relative) >>= λ f. insertion w f
-effect w (SetCapacity n) = if nat_le n (greatest_capacity w.agreed) then Ok (Resizes n) else Err AboveMaximum
+effect w (Duplicate relative) = or_refusal (relative_entry w relative) (NoEntry relative) >>= λ f. insertion w f
+effect w (SetCapacity n) = if nat_le n (greatest_capacity w.agreed_max) then Ok (Resizes n) else Err AboveMaximum
 
 -- the window after an effect: what has to go goes from the oldest on (section 3.2.2)
-unfoldable pub after : Window → Effect → Window
-after w (Inserts f) =
+unfoldable pub window_after : Window → Effect → Window
+window_after w (Inserts f) =
     let all = w.live ++ f ∷ [] in
-    let gone = excess w.capacity all in
-    record w { dropped = w.dropped + gone; live = drop gone all }
-after w Ignored = w
-after w (Resizes n) =
-    let gone = excess n w.live in
-    record { capacity = n; agreed = w.agreed; dropped = w.dropped + gone; live = drop gone w.live }
+    let evicted = eviction_count w.capacity all in
+    record w { dropped = w.dropped + evicted; live = drop evicted all }
+window_after w Ignored = w
+window_after w (Resizes n) =
+    let evicted = eviction_count n w.live in
+    record { capacity = n; agreed_max = w.agreed_max; dropped = w.dropped + evicted; live = drop evicted w.live }
 
 -- the window after an instruction
-abbrev pub apply : Window → Instruction → Result Window Refusal
-apply w i = effect w i >>= λ e. Ok (after w e)
+abbrev pub apply : Window → EncoderInstruction → Result Window TableRefusal
+apply w i = effect w i >>= λ e. Ok (window_after w e)

@@ -1,4 +1,4 @@
--- What is written of lines, instructions and replies is a spelling, so that it is read back whole; the crate's law
+-- What is written of lines, instructions and decoder_instructions is a spelling, so that it is read back whole; the crate's law
 -- functions promise it.
 use Rattle.std.specs.Prelude.{◌≡◌, ℕ, ◌^◌, ◌<◌, List, length}
 use Rattle.std.specs.List.{AllByRecursion}
@@ -10,46 +10,46 @@ use Rattle.qpack_spec.specs.Field.{Field}
 use Rattle.qpack_spec.specs.Huffman.{AreBytes, payload_of}
 use Rattle.qpack_spec.specs.Line.{Line, IndexedStatic, IndexedDynamic, IndexedPostBase, NamedStatic, NamedDynamic}
 use Rattle.qpack_spec.specs.Line.{NamedPostBase, Literal, SpellsLine, written_line}
-use Rattle.qpack_spec.specs.Instruction.{Instruction, InsertStaticName, InsertDynamicName, InsertLiteralName, Duplicate}
-use Rattle.qpack_spec.specs.Instruction.{SetCapacity, Reply, Acknowledgment, Cancellation, Increment, SpellsInstruction}
-use Rattle.qpack_spec.specs.Instruction.{SpellsReply, written_instruction, written_reply}
+use Rattle.qpack_spec.specs.Instruction.{EncoderInstruction, InsertStaticName, InsertDynamicName, InsertLiteralName, Duplicate}
+use Rattle.qpack_spec.specs.Instruction.{SetCapacity, DecoderInstruction, Acknowledgment, Cancellation, Increment, SpellsEncoderInstruction}
+use Rattle.qpack_spec.specs.Instruction.{SpellsDecoderInstruction, written_encoder_instruction, written_decoder_instruction}
 
 -- the numbers that are written are below 2^63; those of this layer end at 2^62
 abbrev pub IsSmall : ℕ → Type 0
 IsSmall n = n < 2 ^ 63
 
 -- a text that can be written: bytes, fewer than 2^63 of them coded
-pub record IsWritableText (text : List ℕ) : Type 0 where
-  pub bytes : AreBytes text
-  pub size : length (payload_of text) < 2 ^ 63
+pub record IsWritableValue (encoding : List ℕ) : Type 0 where
+  pub bytes : AreBytes encoding
+  pub size : length (payload_of encoding) < 2 ^ 63
 
 -- the field can be written, whichever of its parts are
 abbrev pub IsWritableField : Field → Type 0
-IsWritableField f = IsWritableText f.name × IsWritableText f.value
+IsWritableField f = IsWritableValue f.name × IsWritableValue f.value
 
 -- the line can be written
 abbrev pub IsWritableLine : Line → Type 0
 IsWritableLine (IndexedStatic index) = IsSmall index
 IsWritableLine (IndexedDynamic relative) = IsSmall relative
 IsWritableLine (IndexedPostBase post_base) = IsSmall post_base
-IsWritableLine (NamedStatic index value) = IsSmall index × IsWritableText value
-IsWritableLine (NamedDynamic relative value) = IsSmall relative × IsWritableText value
-IsWritableLine (NamedPostBase post_base value) = IsSmall post_base × IsWritableText value
-IsWritableLine (Literal name value) = IsWritableText name × IsWritableText value
+IsWritableLine (NamedStatic index value) = IsSmall index × IsWritableValue value
+IsWritableLine (NamedDynamic relative value) = IsSmall relative × IsWritableValue value
+IsWritableLine (NamedPostBase post_base value) = IsSmall post_base × IsWritableValue value
+IsWritableLine (Literal name value) = IsWritableValue name × IsWritableValue value
 
 -- the encoder instruction can be written
-abbrev pub IsWritableInstruction : Instruction → Type 0
-IsWritableInstruction (InsertStaticName index value) = IsSmall index × IsWritableText value
-IsWritableInstruction (InsertDynamicName relative value) = IsSmall relative × IsWritableText value
-IsWritableInstruction (InsertLiteralName name value) = IsWritableText name × IsWritableText value
-IsWritableInstruction (Duplicate relative) = IsSmall relative
-IsWritableInstruction (SetCapacity capacity) = IsSmall capacity
+abbrev pub IsWritableEncoderInstruction : EncoderInstruction → Type 0
+IsWritableEncoderInstruction (InsertStaticName index value) = IsSmall index × IsWritableValue value
+IsWritableEncoderInstruction (InsertDynamicName relative value) = IsSmall relative × IsWritableValue value
+IsWritableEncoderInstruction (InsertLiteralName name value) = IsWritableValue name × IsWritableValue value
+IsWritableEncoderInstruction (Duplicate relative) = IsSmall relative
+IsWritableEncoderInstruction (SetCapacity capacity) = IsSmall capacity
 
 -- the decoder instruction can be written
-abbrev pub IsWritableReply : Reply → Type 0
-IsWritableReply (Acknowledgment stream) = IsSmall stream
-IsWritableReply (Cancellation stream) = IsSmall stream
-IsWritableReply (Increment by) = IsSmall by
+abbrev pub IsWritableDecoderInstruction : DecoderInstruction → Type 0
+IsWritableDecoderInstruction (Acknowledgment stream) = IsSmall stream
+IsWritableDecoderInstruction (Cancellation stream) = IsSmall stream
+IsWritableDecoderInstruction (Increment by) = IsSmall by
 
 -- name and value are bytes
 abbrev pub IsByteField : Field → Type 0
@@ -66,12 +66,12 @@ IsByteLine (NamedPostBase post_base value) = IsSmall post_base × AreBytes value
 IsByteLine (Literal name value) = AreBytes name × AreBytes value
 
 -- the same of an encoder instruction
-abbrev pub IsByteInstruction : Instruction → Type 0
-IsByteInstruction (InsertStaticName index value) = IsSmall index × AreBytes value
-IsByteInstruction (InsertDynamicName relative value) = IsSmall relative × AreBytes value
-IsByteInstruction (InsertLiteralName name value) = AreBytes name × AreBytes value
-IsByteInstruction (Duplicate relative) = IsSmall relative
-IsByteInstruction (SetCapacity capacity) = IsSmall capacity
+abbrev pub IsByteEncoderInstruction : EncoderInstruction → Type 0
+IsByteEncoderInstruction (InsertStaticName index value) = IsSmall index × AreBytes value
+IsByteEncoderInstruction (InsertDynamicName relative value) = IsSmall relative × AreBytes value
+IsByteEncoderInstruction (InsertLiteralName name value) = AreBytes name × AreBytes value
+IsByteEncoderInstruction (Duplicate relative) = IsSmall relative
+IsByteEncoderInstruction (SetCapacity capacity) = IsSmall capacity
 
 -- the prefix can be written
 pub record IsWritablePrefix (p : Prefix) : Type 0 where
@@ -88,13 +88,13 @@ abbrev pub WrittenLinesAreSpellings : Type 0
 WrittenLinesAreSpellings = (l : Line) → IsWritableLine l → SpellsLine (written_line l) l
 
 -- what is written of an encoder instruction is a spelling of it
-abbrev pub WrittenInstructionsAreSpellings : Type 0
-WrittenInstructionsAreSpellings = (i : Instruction) → IsWritableInstruction i
-    → SpellsInstruction (written_instruction i) i
+abbrev pub WrittenEncoderInstructionsAreSpellings : Type 0
+WrittenEncoderInstructionsAreSpellings = (i : EncoderInstruction) → IsWritableEncoderInstruction i
+    → SpellsEncoderInstruction (written_encoder_instruction i) i
 
 -- what is written of a decoder instruction is a spelling of it
-abbrev pub WrittenRepliesAreSpellings : Type 0
-WrittenRepliesAreSpellings = (r : Reply) → IsWritableReply r → SpellsReply (written_reply r) r
+abbrev pub WrittenDecoderInstructionsAreSpellings : Type 0
+WrittenDecoderInstructionsAreSpellings = (r : DecoderInstruction) → IsWritableDecoderInstruction r → SpellsDecoderInstruction (written_decoder_instruction r) r
 
 -- what is written of a prefix is a spelling of it
 abbrev pub WrittenPrefixesAreSpellings : Type 0

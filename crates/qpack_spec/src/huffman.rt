@@ -1,14 +1,14 @@
 //! Laws of the Huffman code (RFC 7541, section 5.2 and Appendix B).
 
-ghost use Rattle.qpack_spec.specs.HuffmanLaws.{NoWordBeginsAnother, NoWordBeginsEos, PayloadsHaveOneText};
+ghost use Rattle.qpack_spec.specs.HuffmanLaws.{NoCodeBeginsAnother, NoCodeBeginsEos, PayloadsHaveOneText};
 ghost use Rattle.qpack_spec.specs.HuffmanLaws.{TextsHaveOnePayload, WrittenPayloadsMeanTheirText, PayloadsMeanOrDont};
 ghost use Rattle.qpack_spec.specs.HuffmanLaws.{PayloadsDontMeanBoth, PayloadsHaveOneFault, ReadingFindsTexts};
 ghost use Rattle.qpack_spec.specs.HuffmanLaws.{ReadingFindsPayloadFaults};
 
-/// No word begins another, and EOS begins with none.
-pub fn no_word_begins_another()
-    ensures words { NoWordBeginsAnother }
-    ensures eos { NoWordBeginsEos }
+/// No code begins another, and EOS begins with none.
+pub fn no_code_begins_another()
+    ensures codes { NoCodeBeginsAnother }
+    ensures eos { NoCodeBeginsEos }
 {}
 
 /// A payload means one text at most.

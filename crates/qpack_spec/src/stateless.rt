@@ -1,7 +1,7 @@
 //! Laws of field sections that name no entry.
 
 ghost use Rattle.qpack_spec.specs.Stateless.{RuleWithoutTable, StatelessPairAgrees};
-ghost use Rattle.qpack_spec.specs.StatelessMeaning.{ReadingAloneIsMeaning, StatelessIsWithoutTable};
+ghost use Rattle.qpack_spec.specs.StatelessMeaning.{StatelessReadingIsMeaning, StatelessIsWithoutTable};
 
 /// Without a table the rule writes static lines and literals alone.
 pub fn rule_without_table_is_stateless()
@@ -15,7 +15,7 @@ pub fn stateless_pair_agrees()
 
 /// Reading a section alone from left to right gives its fields, or its first fault in reading order.
 pub fn reading_alone_is_meaning()
-    ensures { ReadingAloneIsMeaning }
+    ensures { StatelessReadingIsMeaning }
 {}
 
 /// Reading a section alone is reading it under an empty table of capacity 0, up to the limit.

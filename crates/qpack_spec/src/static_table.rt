@@ -1,7 +1,7 @@
 //! Laws of the static table (RFC 9204, Appendix A).
 
-ghost use Rattle.qpack_spec.specs.StaticTableLaws.{StaticTableHas99, StaticFieldsDiffer, StaticPlaceIsLeast};
-ghost use Rattle.qpack_spec.specs.StaticTableLaws.{StaticNamePlaceIsLeast};
+ghost use Rattle.qpack_spec.specs.StaticTableLaws.{StaticTableHas99, StaticFieldsDiffer, StaticIndexIsLeast};
+ghost use Rattle.qpack_spec.specs.StaticTableLaws.{StaticNameIndexIsLeast};
 
 /// The table has 99 fields.
 pub fn static_table_has_99()
@@ -15,10 +15,10 @@ pub fn static_fields_differ()
 
 /// Looking for a field finds its index exactly if it stands there.
 pub fn static_place_is_least()
-    ensures { StaticPlaceIsLeast }
+    ensures { StaticIndexIsLeast }
 {}
 
 /// Looking for a name finds the least index of a field with it, exactly if there is one.
 pub fn static_name_place_is_least()
-    ensures { StaticNamePlaceIsLeast }
+    ensures { StaticNameIndexIsLeast }
 {}

@@ -2,28 +2,28 @@
 
 ghost use Rattle.qpack_spec.specs.StreamLaws.{EveryStreamHasAReading, StreamsHaveOneReading, PiecesHoldFronts};
 ghost use Rattle.qpack_spec.specs.StreamLaws.{PiecesAreNeverRefused};
-ghost use Rattle.qpack_spec.specs.Instruction.{instruction_form, reply_form};
+ghost use Rattle.qpack_spec.specs.Instruction.{encoder_instruction_form, decoder_instruction_form};
 
 /// A byte list holds one list of instructions, and leaves one rest.
 pub fn streams_have_one_reading()
-    ensures instructions { StreamsHaveOneReading instruction_form }
-    ensures replies { StreamsHaveOneReading reply_form }
+    ensures instructions { StreamsHaveOneReading encoder_instruction_form }
+    ensures decoder_instructions { StreamsHaveOneReading decoder_instruction_form }
 {}
 
 /// Any piece of a stream holds the next of its instructions, and leaves the others with what comes behind it.
 pub fn pieces_hold_fronts()
-    ensures instructions { PiecesHoldFronts instruction_form }
-    ensures replies { PiecesHoldFronts reply_form }
+    ensures instructions { PiecesHoldFronts encoder_instruction_form }
+    ensures decoder_instructions { PiecesHoldFronts decoder_instruction_form }
 {}
 
 /// No piece of a stream of instructions is refused for its bytes.
 pub fn pieces_are_never_refused()
-    ensures instructions { PiecesAreNeverRefused instruction_form }
-    ensures replies { PiecesAreNeverRefused reply_form }
+    ensures instructions { PiecesAreNeverRefused encoder_instruction_form }
+    ensures decoder_instructions { PiecesAreNeverRefused decoder_instruction_form }
 {}
 
 /// Every byte list holds one list of instructions, and leaves a rest that is truncated or refused.
 pub fn every_stream_has_a_reading()
-    ensures instructions { EveryStreamHasAReading instruction_form }
-    ensures replies { EveryStreamHasAReading reply_form }
+    ensures instructions { EveryStreamHasAReading encoder_instruction_form }
+    ensures decoder_instructions { EveryStreamHasAReading decoder_instruction_form }
 {}

@@ -1,6 +1,6 @@
 //! Laws of the window of a dynamic table, which both ends share (RFC 9204, section 3.2).
 
-ghost use Rattle.qpack_spec.specs.WindowLaws.{LiveEntriesAreFew, ExcessIsLeast, DroppedIsGreatest, LiveIsLongestTail};
+ghost use Rattle.qpack_spec.specs.WindowLaws.{LiveEntriesAreFew, EvictionCountIsLeast, DroppedIsGreatest, LiveIsLongestTail};
 ghost use Rattle.qpack_spec.specs.WindowLaws.{WindowsFollowHistories};
 
 /// Live entries number at most a 32nd of the capacity.
@@ -10,7 +10,7 @@ pub fn live_entries_are_few()
 
 /// How many were dropped is the greatest, over the fronts of the instructions, of how many had to go at a front's end.
 pub fn dropped_is_greatest()
-    ensures least { ExcessIsLeast }
+    ensures least { EvictionCountIsLeast }
     ensures greatest { DroppedIsGreatest }
 {}
 

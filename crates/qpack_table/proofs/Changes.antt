@@ -5,10 +5,10 @@ use Rattle.std.specs.Prelude.{nat_eq}
 use Rattle.std.proofs.lemmas.Bool.{lt-ltb, le-ltb, lt-leb, le-leb, ne_eqb}
 use Rattle.std.proofs.lemmas.List.{drop-append-le, length-map}
 use Rattle.qpack_spec.specs.Field.{Field, field_size}
-use Rattle.qpack_spec.specs.Table.{Table, Entry, count, fields_in, can_drop, evicted_for, has_room, with_entry}
-use Rattle.qpack_spec.specs.Table.{put_entry, put, resized}
-use Rattle.qpack_spec.specs.Window.{DoesNotFit, AboveMaximum, excess, greatest_capacity}
-use Rattle.qpack_spec.proofs.Windows.{excess_push}
+use Rattle.qpack_spec.specs.Table.{Table, Entry, insert_count, fields_in, can_evict, eviction_count_for, has_room, with_entry}
+use Rattle.qpack_spec.specs.Table.{put_entry, put, with_capacity}
+use Rattle.qpack_spec.specs.Window.{DoesNotFit, AboveMaximum, eviction_count, greatest_capacity}
+use Rattle.qpack_spec.proofs.Windows.{eviction_count_push}
 use Rattle.qpack_table.specs.Tables.{IsInserted}
 
 not_zero : (n : ℕ) → 0 < n → nat_eq n 0 ≡ false
@@ -22,11 +22,11 @@ pub put_too_large : (t : Table) (f : Field) → 0 < t.capacity → t.capacity < 
 unfolding put
 put_too_large t f some large = rw (not_zero t.capacity some, lt-leb (field_size f) t.capacity large) refl
 
-pub put_too_late : (t : Table) (f : Field) → 0 < t.capacity → field_size f ≤ t.capacity → 2 ^ 62 ≤ count t
+pub put_too_late : (t : Table) (f : Field) → 0 < t.capacity → field_size f ≤ t.capacity → 2 ^ 62 ≤ insert_count t
     → put t f ≡ Ok t
 unfolding put
 put_too_late t f some fits late =
-    rw (not_zero t.capacity some, le-leb (field_size f) t.capacity fits, le-ltb (count t) (2 ^ 62) late) refl
+    rw (not_zero t.capacity some, le-leb (field_size f) t.capacity fits, le-ltb (insert_count t) (2 ^ 62) late) refl
 
 -- a field that is put and not inserted
 pub ruleset put_without_entry = (put_nothing, put_too_large, put_too_late)
@@ -35,30 +35,30 @@ pub ruleset put_without_entry = (put_nothing, put_too_large, put_too_late)
 pub record FitsTable (t : Table) (f : Field) (evictable : Bool) : Type 0 where
   pub some : 0 < t.capacity
   pub fits : field_size f ≤ t.capacity
-  pub few : count t < 2 ^ 62
-  pub evicts : can_drop t (evicted_for t f) ≡ evictable
+  pub few : insert_count t < 2 ^ 62
+  pub evicts : can_evict t (eviction_count_for t f) ≡ evictable
 
-pub fits_table : (t : Table) (f : Field) (gone : ℕ) (evictable : Bool) → 0 < t.capacity → field_size f ≤ t.capacity
-    → count t < 2 ^ 62
-    → gone ≡ evicted_for t f → can_drop t gone ≡ evictable → FitsTable t f evictable
-fits_table t f gone evictable some fits few is e = record {
+pub fits_table : (t : Table) (f : Field) (evicted : ℕ) (evictable : Bool) → 0 < t.capacity → field_size f ≤ t.capacity
+    → insert_count t < 2 ^ 62
+    → evicted ≡ eviction_count_for t f → can_evict t evicted ≡ evictable → FitsTable t f evictable
+fits_table t f evicted evictable some fits few is e = record {
   some = some;
   fits = fits;
   few = few;
-  evicts = ap (λ (n : ℕ). can_drop t n) (sym is) ∙ e;
+  evicts = ap (λ (n : ℕ). can_evict t n) (sym is) ∙ e;
 }
 
 pub put_against_held : (t : Table) (f : Field) → FitsTable t f false → put t f ≡ Ok t
 unfolding put
 put_against_held t f k =
     let fits = le-leb (field_size f) t.capacity k.fits in
-    rw (not_zero t.capacity k.some, fits, lt-ltb (count t) (2 ^ 62) k.few, k.evicts) refl
+    rw (not_zero t.capacity k.some, fits, lt-ltb (insert_count t) (2 ^ 62) k.few, k.evicts) refl
 
 pub put_behind : (t new : Table) (f : Field) → FitsTable t f true → new ≡ with_entry t (put_entry f) → put t f ≡ Ok new
 unfolding put
 put_behind t new f k is =
     let fits = le-leb (field_size f) t.capacity k.fits in
-    rw (not_zero t.capacity k.some, fits, lt-ltb (count t) (2 ^ 62) k.few, k.evicts, is) refl
+    rw (not_zero t.capacity k.some, fits, lt-ltb (insert_count t) (2 ^ 62) k.few, k.evicts, is) refl
 
 -- a field that fits is inserted where what has to go may go
 pub is_inserted : (t : Table) (f : Field) → FitsTable t f true → IsInserted t f
@@ -66,36 +66,36 @@ unfolding has_room
 is_inserted t f k = (
   k.some,
   let fits = le-leb (field_size f) t.capacity k.fits in
-      rw (fits, lt-ltb (count t) (2 ^ 62) k.few, k.evicts) refl,
+      rw (fits, lt-ltb (insert_count t) (2 ^ 62) k.few, k.evicts) refl,
 )
 
-pub resized_above : (t : Table) (n : ℕ) → greatest_capacity t.agreed < n → resized t n ≡ Err AboveMaximum
-unfolding resized
-resized_above t n above = rw (lt-leb n (greatest_capacity t.agreed) above) refl
+pub resized_above : (t : Table) (n : ℕ) → greatest_capacity t.agreed_max < n → with_capacity t n ≡ Err AboveMaximum
+unfolding with_capacity
+resized_above t n above = rw (lt-leb n (greatest_capacity t.agreed_max) above) refl
 
-pub resized_against_held : (t : Table) (n : ℕ) → n ≤ greatest_capacity t.agreed
-    → can_drop t (excess n (fields_in t.live)) ≡ false → resized t n ≡ Err DoesNotFit
-unfolding resized
-resized_against_held t n most held = rw (le-leb n (greatest_capacity t.agreed) most, held) refl
+pub resized_against_held : (t : Table) (n : ℕ) → n ≤ greatest_capacity t.agreed_max
+    → can_evict t (eviction_count n (fields_in t.live)) ≡ false → with_capacity t n ≡ Err DoesNotFit
+unfolding with_capacity
+resized_against_held t n most held = rw (le-leb n (greatest_capacity t.agreed_max) most, held) refl
 
-pub resized_to : (t : Table) (n dropped : ℕ) (live : List Entry) → n ≤ greatest_capacity t.agreed
-    → can_drop t (excess n (fields_in t.live)) ≡ true
-    → dropped ≡ t.dropped + excess n (fields_in t.live) → live ≡ drop (excess n (fields_in t.live)) t.live
-    → resized t n ≡ Ok (record t { capacity = n; dropped = dropped; live = live })
-unfolding resized
-resized_to t n dropped live most free d l = rw (le-leb n (greatest_capacity t.agreed) most, free, d, l) refl
+pub resized_to : (t : Table) (n dropped : ℕ) (live : List Entry) → n ≤ greatest_capacity t.agreed_max
+    → can_evict t (eviction_count n (fields_in t.live)) ≡ true
+    → dropped ≡ t.dropped + eviction_count n (fields_in t.live) → live ≡ drop (eviction_count n (fields_in t.live)) t.live
+    → with_capacity t n ≡ Ok (record t { capacity = n; dropped = dropped; live = live })
+unfolding with_capacity
+resized_to t n dropped live most free d l = rw (le-leb n (greatest_capacity t.agreed_max) most, free, d, l) refl
 
--- one entry more, where those that have to go are gone
+-- one entry more, where those that have to go are evicted
 pub entered : (t : Table) (e : Entry) (dropped : ℕ) (live : List Entry) → field_size e.field ≤ t.capacity
-    → dropped ≡ t.dropped + evicted_for t e.field
-    → live ≡ drop (evicted_for t e.field) t.live ++ e ∷ []
+    → dropped ≡ t.dropped + eviction_count_for t e.field
+    → live ≡ drop (eviction_count_for t e.field) t.live ++ e ∷ []
     → record t { dropped = dropped; live = live } ≡ with_entry t e
 unfolding with_entry
 entered t e dropped live fits d l =
-    let few : evicted_for t e.field ≤ length t.live =
+    let few : eviction_count_for t e.field ≤ length t.live =
     omega (
       arith,
-      excess_push t.capacity (fields_in t.live) e.field fits,
+      eviction_count_push t.capacity (fields_in t.live) e.field fits,
       length-map t.live (λ (x : Entry). x.field),
     ) in
-    rw (d, l, drop-append-le (evicted_for t e.field) t.live (e ∷ []) few) refl
+    rw (d, l, drop-append-le (eviction_count_for t e.field) t.live (e ∷ []) few) refl

@@ -8,11 +8,11 @@ use Rattle.qpack_base.specs.HeaderFields.{field_of}
 use Rattle.qpack_spec.specs.Field.{Field, field_size, total_size}
 use Rattle.qpack_spec.specs.Table.{fields_in}
 use Rattle.qpack_spec.specs.Table as table
-use Rattle.qpack_spec.specs.Window.{excess}
+use Rattle.qpack_spec.specs.Window.{eviction_count}
 use Rattle.qpack_spec.proofs.Sizes.{total_first, total_last}
-use Rattle.qpack_spec.proofs.Windows.{excess_fits, excess_least, excess_bound, excess_push}
+use Rattle.qpack_spec.proofs.Windows.{eviction_count_fits, eviction_count_least, eviction_count_bound, eviction_count_push}
 use Rattle.qpack_spec.proofs.Lists.{get_drop, get_append_within}
-use Rattle.qpack_table.specs.Places.{Places}
+use Rattle.qpack_table.specs.Positions.{Positions}
 use Rattle.qpack_table.specs.Tables.{entry_of, entries_of, uses, IsKept}
 use Rattle.qpack_table.specs.declared.dynamic.table.Entry.{Entry}
 
@@ -30,29 +30,29 @@ further n k fs h =
     (shorter (k - n) (drop n fs)))
 
 -- while the rest doesn't fit, more have to go
-still : (room : ℕ) (fs : List Field) (k : ℕ) → room < total_size (drop k fs) → k < excess room fs
+still : (room : ℕ) (fs : List Field) (k : ℕ) → room < total_size (drop k fs) → k < eviction_count room fs
 still room fs k h =
-    elim (cases_lt k (excess room fs)) [
+    elim (cases_lt k (eviction_count room fs)) [
       | inl lt ↦ lt
-      | inr le ↦ absurd (omega (arith, h, further (excess room fs) k fs le, excess_fits room fs))
+      | inr le ↦ absurd (omega (arith, h, further (eviction_count room fs) k fs le, eviction_count_fits room fs))
     ]
 
 -- what is left beside a field is what is left in the room beside it
-pub excess_beside : (capacity : ℕ) (fs : List Field) (f : Field) → field_size f ≤ capacity
-    → excess (capacity - field_size f) fs ≡ excess capacity (fs ++ f ∷ [])
-excess_beside capacity fs f fits =
+pub eviction_count_beside : (capacity : ℕ) (fs : List Field) (f : Field) → field_size f ≤ capacity
+    → eviction_count (capacity - field_size f) fs ≡ eviction_count capacity (fs ++ f ∷ [])
+eviction_count_beside capacity fs f fits =
     let room = capacity - field_size f in
-    let less = excess room fs in
-    let more = excess capacity (fs ++ f ∷ []) in
-    let within : less ≤ length fs = excess_bound room fs in
-    let few : more ≤ length fs = excess_push capacity fs f fits in
+    let less = eviction_count room fs in
+    let more = eviction_count capacity (fs ++ f ∷ []) in
+    let within : less ≤ length fs = eviction_count_bound room fs in
+    let few : more ≤ length fs = eviction_count_push capacity fs f fits in
     let left : total_size (drop less (fs ++ f ∷ [])) ≤ capacity =
     omega (
       arith,
       fits,
       ap (λ (l : List Field). total_size l) (drop-append-le less fs (f ∷ []) within),
       total_last (drop less fs) f,
-      excess_fits room fs,
+      eviction_count_fits room fs,
     ) in
     let right : total_size (drop more fs) ≤ room =
     omega (
@@ -60,9 +60,9 @@ excess_beside capacity fs f fits =
       fits,
       ap (λ (l : List Field). total_size l) (drop-append-le more fs (f ∷ []) few),
       total_last (drop more fs) f,
-      excess_fits capacity (fs ++ f ∷ []),
+      eviction_count_fits capacity (fs ++ f ∷ []),
     ) in
-    omega (arith, excess_least capacity (fs ++ f ∷ []) less left, excess_least room fs more right)
+    omega (arith, eviction_count_least capacity (fs ++ f ∷ []) less left, eviction_count_least room fs more right)
 
 -- the field of an entry
 abbrev field_at : Entry → Field
@@ -87,43 +87,43 @@ fields_more (x ∷ es) (suc k) e h is =
     (sym next)
 
 -- of the oldest, so many go so far
-pub record GoneSoFar (room : ℕ) (es : List Entry) (rest gone : ℕ) : Type 0 where
-  pub within : gone ≤ length es
-  pub sum : rest ≡ total_size (drop gone (fields_in (entries_of es)))
-  pub least : gone ≤ excess room (fields_in (entries_of es))
+pub record GoneSoFar (room : ℕ) (es : List Entry) (rest evicted : ℕ) : Type 0 where
+  pub within : evicted ≤ length es
+  pub sum : rest ≡ total_size (drop evicted (fields_in (entries_of es)))
+  pub least : evicted ≤ eviction_count room (fields_in (entries_of es))
 
 -- the first of what is left
-pub first_size : (room : ℕ) (es : List Entry) (rest gone : ℕ) (e : Entry) → gone < length es → e ≡ get_or es gone e
-    → GoneSoFar room es rest gone
-    → rest ≡ field_size (field_at e) + total_size (drop (gone + 1) (fields_in (entries_of es)))
-first_size room es rest gone e h is k =
-    k.sum ∙ ap (λ (l : List Field). total_size l) (fields_more es gone e h is)
-    ∙ total_first (field_at e) (drop (gone + 1) (fields_in (entries_of es)))
+pub first_size : (room : ℕ) (es : List Entry) (rest evicted : ℕ) (e : Entry) → evicted < length es → e ≡ get_or es evicted e
+    → GoneSoFar room es rest evicted
+    → rest ≡ field_size (field_at e) + total_size (drop (evicted + 1) (fields_in (entries_of es)))
+first_size room es rest evicted e h is k =
+    k.sum ∙ ap (λ (l : List Field). total_size l) (fields_more es evicted e h is)
+    ∙ total_first (field_at e) (drop (evicted + 1) (fields_in (entries_of es)))
 
-pub gone_more : (room : ℕ) (es : List Entry) (rest gone size : ℕ) (e : Entry) → gone < length es → room < rest
-    → e ≡ get_or es gone e → size ≡ field_size (field_at e) → GoneSoFar room es rest gone
-    → GoneSoFar room es (rest - size) (gone + 1)
-gone_more room es rest gone size e h more is same k =
-    let whole = first_size room es rest gone e h is k in
-    let go : gone < excess room (fields_in (entries_of es)) =
-    still room (fields_in (entries_of es)) gone (omega (arith, more, k.sum)) in
+pub evicted_more : (room : ℕ) (es : List Entry) (rest evicted size : ℕ) (e : Entry) → evicted < length es → room < rest
+    → e ≡ get_or es evicted e → size ≡ field_size (field_at e) → GoneSoFar room es rest evicted
+    → GoneSoFar room es (rest - size) (evicted + 1)
+evicted_more room es rest evicted size e h more is same k =
+    let whole = first_size room es rest evicted e h is k in
+    let go : evicted < eviction_count room (fields_in (entries_of es)) =
+    still room (fields_in (entries_of es)) evicted (omega (arith, more, k.sum)) in
     record { within = omega (arith, h); sum = omega (arith, whole, same); least = omega (arith, go) }
 
 -- all that has to go went
-pub gone_fits : (room : ℕ) (es : List Entry) (rest gone : ℕ) → rest ≤ room → GoneSoFar room es rest gone
-    → gone ≡ excess room (fields_in (entries_of es))
-gone_fits room es rest gone fits k =
-    omega (arith, k.least, excess_least room (fields_in (entries_of es)) gone (omega (arith, fits, k.sum)))
+pub evicted_fits : (room : ℕ) (es : List Entry) (rest evicted : ℕ) → rest ≤ room → GoneSoFar room es rest evicted
+    → evicted ≡ eviction_count room (fields_in (entries_of es))
+evicted_fits room es rest evicted fits k =
+    omega (arith, k.least, eviction_count_least room (fields_in (entries_of es)) evicted (omega (arith, fits, k.sum)))
 
-pub gone_all : (room : ℕ) (es : List Entry) (rest gone : ℕ) → length es ≤ gone → GoneSoFar room es rest gone
-    → gone ≡ excess room (fields_in (entries_of es))
-gone_all room es rest gone all k =
-    omega (arith, k.least, all, excess_bound room (fields_in (entries_of es)), fields-length es)
+pub evicted_all : (room : ℕ) (es : List Entry) (rest evicted : ℕ) → length es ≤ evicted → GoneSoFar room es rest evicted
+    → evicted ≡ eviction_count room (fields_in (entries_of es))
+evicted_all room es rest evicted all k =
+    omega (arith, k.least, all, eviction_count_bound room (fields_in (entries_of es)), fields-length es)
 
 -- what is left is no more than what there was
-pub gone_bound : (room : ℕ) (es : List Entry) (rest gone size : ℕ) → size ≡ total_size (fields_in (entries_of es))
-    → GoneSoFar room es rest gone → rest ≤ size
-gone_bound room es rest gone size sum k = omega (arith, sum, k.sum, shorter gone (fields_in (entries_of es)))
+pub evicted_bound : (room : ℕ) (es : List Entry) (rest evicted size : ℕ) → size ≡ total_size (fields_in (entries_of es))
+    → GoneSoFar room es rest evicted → rest ≤ size
+evicted_bound room es rest evicted size sum k = omega (arith, sum, k.sum, shorter evicted (fields_in (entries_of es)))
 
 -- ---- the oldest go
 
@@ -153,12 +153,12 @@ shed all now i size less e rest a b front same =
     }
 
 -- what a table keeps, with fewer entries
-kept_less : (v w : Places) (es now : List Entry) (size left capacity capacity' : ℕ) (named named' : List ℕ)
-    (opened opened' : List table.OpenBlock) (k : ℕ) → IsKept v es size capacity named opened
+kept_less : (v w : Positions) (es now : List Entry) (size left capacity capacity' : ℕ) (referenced named' : List ℕ)
+    (unacknowledged opened' : List table.UnacknowledgedBlock) (k : ℕ) → IsKept v es size capacity referenced unacknowledged
     → k ≤ length es → now ≡ drop k es → left ≡ total_size (drop k (fields_in (entries_of es)))
     → w.dropped ≡ v.dropped + k → w.total ≡ v.total
-    → capacity' ≡ capacity → named' ≡ named → opened' ≡ opened → IsKept w now left capacity' named' opened'
-kept_less v w es now size left capacity capacity' named named' opened opened' k kept few items sum dropped total
+    → capacity' ≡ capacity → named' ≡ referenced → opened' ≡ unacknowledged → IsKept w now left capacity' named' opened'
+kept_less v w es now size left capacity capacity' referenced named' unacknowledged opened' k kept few items sum dropped total
     same_capacity same_named same_opened =
     rw (same_named, same_opened) (record {
       counted = omega (
@@ -174,11 +174,11 @@ kept_less v w es now size left capacity capacity' named named' opened opened' k 
           ∙ ap (λ (l : List Entry). fields_in (entries_of l)) (sym items));
       fits = omega (arith, kept.fits, kept.sum, sum, shorter k (fields_in (entries_of es)), same_capacity);
       small = omega (arith, kept.small, same_capacity);
-      used = λ place e at.
-          let there : slice_get es (k + place) ≡ Some e = sym (get_drop k es place)
-          ∙ ap (λ (l : List Entry). slice_get l place) (sym items) ∙ at in
-          let absolute : w.dropped + place + 1 ≡ v.dropped + (k + place) + 1 = omega (arith, dropped) in
-          kept.used (k + place) e there ∙ ap (λ (a : ℕ). uses named opened a) (sym absolute);
+      used = λ position e at.
+          let there : slice_get es (k + position) ≡ Some e = sym (get_drop k es position)
+          ∙ ap (λ (l : List Entry). slice_get l position) (sym items) ∙ at in
+          let absolute : w.dropped + position + 1 ≡ v.dropped + (k + position) + 1 = omega (arith, dropped) in
+          kept.used (k + position) e there ∙ ap (λ (a : ℕ). uses referenced unacknowledged a) (sym absolute);
       behind = λ absolute above. kept.behind absolute (omega (arith, above, total));
     })
 
@@ -197,32 +197,32 @@ joined_entries [] e = refl
 joined_entries (x ∷ es) e = ap (λ (l : List table.Entry). entry_of x ∷ l) (joined_entries es e)
 
 -- the last one is the new one
-last_is : (xs : List Entry) (e x : Entry) (place : ℕ) → length xs ≤ place → slice_get (xs ++ e ∷ []) place ≡ Some x
-    → (e ≡ x) × (place ≡ length xs)
+last_is : (xs : List Entry) (e x : Entry) (position : ℕ) → length xs ≤ position → slice_get (xs ++ e ∷ []) position ≡ Some x
+    → (e ≡ x) × (position ≡ length xs)
 last_is [] e x zero h at = (cc, refl)
-last_is [] e x (suc place) h at = absurd cc
+last_is [] e x (suc position) h at = absurd cc
 last_is (y ∷ xs) e x zero h at = absurd (omega (arith, h))
-last_is (y ∷ xs) e x (suc place) h at = let r = last_is xs e x place (omega (arith, h)) at in
+last_is (y ∷ xs) e x (suc position) h at = let r = last_is xs e x position (omega (arith, h)) at in
     (r.0, ap (λ (n : ℕ). suc n) r.1)
 
 -- what a table keeps, with some entries less and one more
-pub kept_inserted : (v w : Places) (es now : List Entry) (size left capacity : ℕ) (named : List ℕ)
-    (opened : List table.OpenBlock) (e : Entry) (k : ℕ) → IsKept v es size capacity named opened
-    → field_size (field_at e) ≤ capacity → k ≡ excess capacity (fields_in (entries_of es) ++ field_at e ∷ [])
+pub kept_inserted : (v w : Positions) (es now : List Entry) (size left capacity : ℕ) (referenced : List ℕ)
+    (unacknowledged : List table.UnacknowledgedBlock) (e : Entry) (k : ℕ) → IsKept v es size capacity referenced unacknowledged
+    → field_size (field_at e) ≤ capacity → k ≡ eviction_count capacity (fields_in (entries_of es) ++ field_at e ∷ [])
     → now ≡ drop k es ++ e ∷ []
     → left ≡ total_size (drop k (fields_in (entries_of es))) + field_size (field_at e) → e.uses ≡ 0
-    → w.dropped ≡ v.dropped + k → w.total ≡ v.total + 1 → IsKept w now left capacity named opened
-kept_inserted v w es now size left capacity named opened e k kept room gone items sum unused dropped total =
+    → w.dropped ≡ v.dropped + k → w.total ≡ v.total + 1 → IsKept w now left capacity referenced unacknowledged
+kept_inserted v w es now size left capacity referenced unacknowledged e k kept room evicted items sum unused dropped total =
     let fs = fields_in (entries_of es) in
-    let few : k ≤ length es = omega (arith, gone, excess_push capacity fs (field_at e) room, fields-length es) in
+    let few : k ≤ length es = omega (arith, evicted, eviction_count_push capacity fs (field_at e) room, fields-length es) in
     let within : k ≤ length fs = omega (arith, few, fields-length es) in
     let fits : total_size (drop k fs) + field_size (field_at e) ≤ capacity =
     omega (
       arith,
       total_last (drop k fs) (field_at e),
       ap (λ (l : List Field). total_size l) (drop-append-le k fs (field_at e ∷ []) within),
-      ap (λ (n : ℕ). total_size (drop n (fs ++ field_at e ∷ []))) gone,
-      excess_fits capacity (fs ++ field_at e ∷ []),
+      ap (λ (n : ℕ). total_size (drop n (fs ++ field_at e ∷ []))) evicted,
+      eviction_count_fits capacity (fs ++ field_at e ∷ []),
     ) in
     let fields : fields_in (entries_of now) ≡ drop k fs ++ field_at e ∷ [] =
     ap (λ (l : List Entry). fields_in (entries_of l)) items ∙ joined_fields (drop k es) e
@@ -241,20 +241,20 @@ kept_inserted v w es now size left capacity named opened e k kept room gone item
       sum = omega (arith, sum, ap (λ (l : List Field). total_size l) fields, total_last (drop k fs) (field_at e));
       fits = omega (arith, sum, fits);
       small = kept.small;
-      used = λ place x at.
-          let there : slice_get (drop k es ++ e ∷ []) place ≡ Some x =
-          ap (λ (l : List Entry). slice_get l place) (sym items) ∙ at in
-          elim (cases_lt place (length (drop k es))) [
+      used = λ position x at.
+          let there : slice_get (drop k es ++ e ∷ []) position ≡ Some x =
+          ap (λ (l : List Entry). slice_get l position) (sym items) ∙ at in
+          elim (cases_lt position (length (drop k es))) [
             | inl h ↦
-                let old : slice_get es (k + place) ≡ Some x = sym (get_drop k es place)
-                ∙ sym (get_append_within (drop k es) (e ∷ []) place h) ∙ there in
-                let absolute : w.dropped + place + 1 ≡ v.dropped + (k + place) + 1 = omega (arith, dropped) in
-                kept.used (k + place) x old ∙ ap (λ (a : ℕ). uses named opened a) (sym absolute)
+                let old : slice_get es (k + position) ≡ Some x = sym (get_drop k es position)
+                ∙ sym (get_append_within (drop k es) (e ∷ []) position h) ∙ there in
+                let absolute : w.dropped + position + 1 ≡ v.dropped + (k + position) + 1 = omega (arith, dropped) in
+                kept.used (k + position) x old ∙ ap (λ (a : ℕ). uses referenced unacknowledged a) (sym absolute)
             | inr h ↦
-                let r = last_is (drop k es) e x place h there in
-                let behind : v.total < w.dropped + place + 1 =
+                let r = last_is (drop k es) e x position h there in
+                let behind : v.total < w.dropped + position + 1 =
                 omega (arith, kept.counted, few, dropped, r.1, length-drop k es) in
-                ap (λ (y : Entry). y.uses) (sym r.0) ∙ unused ∙ sym (kept.behind (w.dropped + place + 1) behind)
+                ap (λ (y : Entry). y.uses) (sym r.0) ∙ unused ∙ sym (kept.behind (w.dropped + position + 1) behind)
           ];
       behind = λ absolute above. kept.behind absolute (omega (arith, above, total));
     }
@@ -265,32 +265,32 @@ pub left_is : (size freed less left all n : ℕ) → size ≡ all → freed + le
 left_is size freed less left all n a b e = omega (arith, a, b, e)
 
 -- no more have to go than there are
-pub gone_within : (es : List Entry) (f : Field) (capacity k : ℕ) → field_size f ≤ capacity
-    → k ≡ excess capacity (fields_in (entries_of es) ++ f ∷ []) → k ≤ length es
-gone_within es f capacity k fits gone = omega (
+pub evicted_within : (es : List Entry) (f : Field) (capacity k : ℕ) → field_size f ≤ capacity
+    → k ≡ eviction_count capacity (fields_in (entries_of es) ++ f ∷ []) → k ≤ length es
+evicted_within es f capacity k fits evicted = omega (
   arith,
-  gone,
-  excess_push capacity (fields_in (entries_of es)) f fits,
+  evicted,
+  eviction_count_push capacity (fields_in (entries_of es)) f fits,
   fields-length es,
 )
 
 -- what a table keeps, with fewer entries and another capacity
-pub kept_resized : (v w : Places) (es now : List Entry) (size left capacity most : ℕ) (named : List ℕ)
-    (opened : List table.OpenBlock) (k freed : ℕ) → IsKept v es size capacity named opened
-    → k ≡ excess most (fields_in (entries_of es)) → most < 2 ^ 30 → now ≡ drop k es
+pub kept_resized : (v w : Positions) (es now : List Entry) (size left capacity most : ℕ) (referenced : List ℕ)
+    (unacknowledged : List table.UnacknowledgedBlock) (k freed : ℕ) → IsKept v es size capacity referenced unacknowledged
+    → k ≡ eviction_count most (fields_in (entries_of es)) → most < 2 ^ 30 → now ≡ drop k es
     → freed + total_size (drop k (fields_in (entries_of es))) ≡ total_size (fields_in (entries_of es))
-    → left ≡ size - freed → w.dropped ≡ v.dropped + k → w.total ≡ v.total → IsKept w now left most named opened
-kept_resized v w es now size left capacity most named opened k freed kept gone small items sum rest dropped total =
+    → left ≡ size - freed → w.dropped ≡ v.dropped + k → w.total ≡ v.total → IsKept w now left most referenced unacknowledged
+kept_resized v w es now size left capacity most referenced unacknowledged k freed kept evicted small items sum rest dropped total =
     let fs = fields_in (entries_of es) in
-    let few : k ≤ length es = omega (arith, gone, excess_bound most fs, fields-length es) in
+    let few : k ≤ length es = omega (arith, evicted, eviction_count_bound most fs, fields-length es) in
     let is : left ≡ total_size (drop k fs) = omega (arith, rest, sum, kept.sum) in
     let less =
-    kept_less v w es now size left capacity capacity named named opened opened k kept few items is dropped total
+    kept_less v w es now size left capacity capacity referenced referenced unacknowledged unacknowledged k kept few items is dropped total
     refl refl refl in
     record {
       counted = less.counted;
       sum = less.sum;
-      fits = omega (arith, is, ap (λ (n : ℕ). total_size (drop n fs)) gone, excess_fits most fs);
+      fits = omega (arith, is, ap (λ (n : ℕ). total_size (drop n fs)) evicted, eviction_count_fits most fs);
       small = small;
       used = less.used;
       behind = less.behind;

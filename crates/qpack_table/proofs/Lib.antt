@@ -1,5 +1,5 @@
 pub mod Entries
 pub mod Evictions
-pub mod Held
+pub mod EvictableEntries
 pub mod Lookups
 pub mod Changes

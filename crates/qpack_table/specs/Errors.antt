@@ -8,4 +8,4 @@ use Rattle.qpack_table.specs.declared.dynamic.Error.TheVariants.{BadRelativeInde
 abbrev pub table_error_of_index : IndexError → TableError
 table_error_of_index (RelativeIndex index) = BadRelativeIndex index
 table_error_of_index (PostbaseIndex index) = BadPostbaseIndex index
-table_error_of_index (Index place) = BadIndex place
+table_error_of_index (Index position) = BadIndex position

@@ -1,4 +1,4 @@
-pub mod Places
+pub mod Positions
 pub mod PlaceLaws
 pub mod Errors
 pub mod Tables

@@ -24,8 +24,8 @@ pub enum Error {
     /// No live entry has this post-base index (RFC 9204, section 3.2.6).
     #[error("no entry at post-base index {0}")]
     BadPostbaseIndex(usize),
-    /// No live entry has this place, from 0 at the oldest: a base past the total points behind the newest.
-    #[error("no entry at place {0}")]
+    /// No live entry has this position, from 0 at the oldest: a base past the total points behind the newest.
+    #[error("no entry at position {0}")]
     BadIndex(usize),
     /// A field is larger than a capacity above 0, or an entry that may not go yet stands against a
     /// smaller capacity (RFC 9204, sections 2.1.1 and 3.2.2).
@@ -59,7 +59,7 @@ impl From<vas::Error> for Error {
         match e {
             vas::Error::RelativeIndex(index) => Error::BadRelativeIndex(index),
             vas::Error::PostbaseIndex(index) => Error::BadPostbaseIndex(index),
-            vas::Error::Index(place) => Error::BadIndex(place),
+            vas::Error::Index(position) => Error::BadIndex(position),
         }
     }
 }

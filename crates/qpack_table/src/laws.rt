@@ -1,12 +1,12 @@
 //! Laws of the indexes: they name the entries of the window that both ends share (RFC 9204, section 3.2).
 
-ghost use Rattle.qpack_table.specs.PlaceLaws.{EntriesStandAtPlaces, RecentEntriesAreNamed, RelativeFieldsAreNamed};
+ghost use Rattle.qpack_table.specs.PlaceLaws.{EntriesStandAtPositions, RecentEntriesAreNamed, RelativeFieldsAreNamed};
 ghost use Rattle.qpack_table.specs.PlaceLaws.{PostBaseFieldsAreNamed};
 
-/// An absolute index has an entry exactly where it is live, which stands at its place; and the indexes
+/// An absolute index has an entry exactly where it is live, which stands at its position; and the indexes
 /// of instructions and of lines name the entries that a window gives for them.
 pub fn indexes_name_entries()
-    ensures places { EntriesStandAtPlaces }
+    ensures positions { EntriesStandAtPositions }
     ensures recent { RecentEntriesAreNamed }
     ensures relative { RelativeFieldsAreNamed }
     ensures post_base { PostBaseFieldsAreNamed }

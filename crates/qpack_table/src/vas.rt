@@ -1,21 +1,21 @@
 //! The indexes of the dynamic table (RFC 9204, sections 3.2.4 to 3.2.6). The entries are a list that
 //! grows at one end and is dropped from the other; what is between is live. Here indexes are turned
-//! into places among the live entries, counted from 0 at the oldest. Absolute indexes begin at 1.
+//! into positions among the live entries, counted from 0 at the oldest. Absolute indexes begin at 1.
 //!
 //! After ten insertions, of which the first four are dropped, and under a base of 8:
 //!
 //! ```text
 //!                           |      dropped      |            live             |
 //! absolute index            |  1    2    3    4 |  5    6    7    8    9   10 |
-//! place                     |                   |  0    1    2    3    4    5 |
+//! position                     |                   |  0    1    2    3    4    5 |
 //! relative, instruction     |                   |  5    4    3    2    1    0 |
 //! relative, line            |                   |  3    2    1    0           |
 //! post-base, line           |                   |                      0    1 |
 //! ```
 
 ghost use Rattle.std.specs.Prelude.{◌≡◌, ◌+◌, ◌^◌, ◌<◌, ◌≤◌, ◌↔◌, IsTrue, IsOk, IfOk, IfErr, IsSome, IfSome};
-ghost use Rattle.qpack_table.specs.Places.{IsLive, WasDropped, IsPlaceOf, IsNotDropped, live_count, recent_index};
-ghost use Rattle.qpack_table.specs.Places.{relative_index, post_base_index};
+ghost use Rattle.qpack_table.specs.Positions.{IsLive, WasEvicted, IsPositionOf, IsNotEvicted, live_count, newest_relative_index};
+ghost use Rattle.qpack_table.specs.Positions.{relative_index, post_base_index};
 ghost use Rattle.qpack_table.specs.declared.vas.Error.TheVariants.{RelativeIndex as NoRelative};
 ghost use Rattle.qpack_table.specs.declared.vas.Error.TheVariants.{PostbaseIndex as NoPostBase, Index as NoPlace};
 
@@ -37,8 +37,8 @@ pub enum Error {
     /// The entry of this post-base index is not live.
     #[error("no entry at post-base index {0}")]
     PostbaseIndex(usize),
-    /// No live entry has this place.
-    #[error("no entry at place {0}")]
+    /// No live entry has this position.
+    #[error("no entry at position {0}")]
     Index(usize),
 }
 
@@ -51,9 +51,9 @@ pub struct VirtualAddressSpace {
 
 impl Model for VirtualAddressSpace {
     ghost use Rattle.std.specs.Prelude.{◌^◌, ◌≤◌};
-    ghost use Rattle.qpack_table.specs.Places.{Places};
+    ghost use Rattle.qpack_table.specs.Positions.{Positions};
 
-    ghost Value = { Places };
+    ghost Value = { Positions };
 
     ghost view = { λ a. record { total = a.inserted; dropped = a.dropped } };
 
@@ -62,9 +62,9 @@ impl Model for VirtualAddressSpace {
 
 impl Default for VirtualAddressSpace {
     ghost use Rattle.std.specs.Prelude.{◌≡◌};
-    ghost use Rattle.qpack_table.specs.Places.{no_places};
+    ghost use Rattle.qpack_table.specs.Positions.{no_positions};
 
-    ghost is_default = { λ a. a ≡ no_places };
+    ghost is_default = { λ a. a ≡ no_positions };
 
     /// Nothing was inserted.
     fn default() -> VirtualAddressSpace {
@@ -94,33 +94,33 @@ impl VirtualAddressSpace {
         self.dropped += 1;
     }
 
-    /// The place of the entry that an instruction's relative index names, 0 the newest (RFC 9204,
+    /// The position of the entry that an instruction's relative index names, 0 the newest (RFC 9204,
     /// section 3.2.5).
     pub fn relative(&self, index: RelativeIndex) -> Result<usize, Error>
-        ensures found { IfOk result (IsPlaceOf self.now (recent_index self.now index)) }
-        ensures live { IsOk result ↔ IsLive self.now (recent_index self.now index) }
+        ensures found { IfOk result (IsPositionOf self.now (newest_relative_index self.now index)) }
+        ensures live { IsOk result ↔ IsLive self.now (newest_relative_index self.now index) }
         ensures refused { IfErr result (λ e. e ≡ NoRelative index) }
     {
         let absolute = self
             .inserted
             .checked_sub(index)
             .ok_or(Error::RelativeIndex(index))?;
-        self.place(absolute).ok_or(Error::RelativeIndex(index))
+        self.position(absolute).ok_or(Error::RelativeIndex(index))
     }
 
     /// Whether an absolute index is that of an entry that was dropped.
     pub fn evicted(&self, index: AbsoluteIndex) -> bool
-        ensures { IsTrue result ↔ WasDropped self.now index }
+        ensures { IsTrue result ↔ WasEvicted self.now index }
     {
         index > 0 && index <= self.dropped
     }
 
-    /// The place of the entry that a line's relative index names under a base (RFC 9204, section
-    /// 3.2.5). That the base is at most the total is not tested: under a greater one the place may be
+    /// The position of the entry that a line's relative index names under a base (RFC 9204, section
+    /// 3.2.5). That the base is at most the total is not tested: under a greater one the position may be
     /// past that of the newest entry.
     pub fn relative_base(&self, base: usize, index: RelativeIndex) -> Result<usize, Error>
-        ensures found { IfOk result (IsPlaceOf self.now (relative_index base index)) }
-        ensures tested { IsOk result ↔ IsNotDropped self.now base index }
+        ensures found { IfOk result (IsPositionOf self.now (relative_index base index)) }
+        ensures tested { IsOk result ↔ IsNotEvicted self.now base index }
         // Under a base up to the total it is answered exactly where the entry is live.
         ensures live { base ≤ self.now.total → (IsOk result ↔ IsLive self.now (relative_index base index)) }
         ensures refused { IfErr result (λ e. e ≡ NoRelative index) }
@@ -129,13 +129,13 @@ impl VirtualAddressSpace {
             return Err(Error::RelativeIndex(index));
         }
         let absolute = base.checked_sub(index).ok_or(Error::RelativeIndex(index))?;
-        self.place(absolute).ok_or(Error::RelativeIndex(index))
+        self.position(absolute).ok_or(Error::RelativeIndex(index))
     }
 
-    /// The place of the entry that a post-base index names (RFC 9204, section 3.2.6). Where the sum
+    /// The position of the entry that a post-base index names (RFC 9204, section 3.2.6). Where the sum
     /// with the base does not fit it names none.
     pub fn post_base(&self, base: usize, index: RelativeIndex) -> Result<usize, Error>
-        ensures found { IfOk result (IsPlaceOf self.now (post_base_index base index)) }
+        ensures found { IfOk result (IsPositionOf self.now (post_base_index base index)) }
         ensures live { IsOk result ↔ IsLive self.now (post_base_index base index) }
         ensures refused { IfErr result (λ e. e ≡ NoPostBase index) }
     {
@@ -143,13 +143,13 @@ impl VirtualAddressSpace {
         if index >= behind_base {
             return Err(Error::PostbaseIndex(index));
         }
-        self.place(base + index + 1)
+        self.position(base + index + 1)
             .ok_or(Error::PostbaseIndex(index))
     }
 
-    /// The absolute index of the live entry at a place.
+    /// The absolute index of the live entry at a position.
     pub fn index(&self, index: usize) -> Result<usize, Error>
-        ensures found { IfOk result (λ absolute. IsLive self.now absolute × IsPlaceOf self.now absolute index) }
+        ensures found { IfOk result (λ absolute. IsLive self.now absolute × IsPositionOf self.now absolute index) }
         ensures live { IsOk result ↔ (index < live_count self.now) }
         ensures refused { IfErr result (λ e. e ≡ NoPlace index) }
     {
@@ -175,10 +175,10 @@ impl VirtualAddressSpace {
         self.inserted
     }
 
-    /// The place of an absolute index, from 0 at the oldest live entry. Of dropped entries there is
+    /// The position of an absolute index, from 0 at the oldest live entry. Of dropped entries there is
     /// none.
-    fn place(&self, absolute: AbsoluteIndex) -> Option<usize>
-        ensures found { IfSome result (IsPlaceOf self.now absolute) }
+    fn position(&self, absolute: AbsoluteIndex) -> Option<usize>
+        ensures found { IfSome result (IsPositionOf self.now absolute) }
         ensures above { IsSome result ↔ (self.now.dropped < absolute) }
     {
         absolute.checked_sub(self.dropped)?.checked_sub(1)

@@ -12,7 +12,7 @@ use Rattle.qpack_base.specs.declared.prefix_int.Error.TheVariants as integer
 use Rattle.qpack_base.specs.declared.prefix_string.Error.TheVariants as string
 use Rattle.qpack_base.specs.declared.parse_error.ParseError.{ParseError}
 use Rattle.qpack_base.specs.declared.parse_error.ParseError.TheVariants.{Integer, String, Memory}
-use Rattle.qpack_wire.specs.Alone.{Alone, ByFlags, ByFirstByte, form_named}
+use Rattle.qpack_wire.specs.Alone.{Kind, ByFlags, ByFirstByte, form_for}
 use Rattle.qpack_wire.specs.StreamAnswers.{without_end}
 use Rattle.qpack_wire.specs.Memory.{AsksForm, AsksForMemory, AsksFormAt, AsksAt}
 use Rattle.qpack_wire.proofs.Alones.{flags_above}
@@ -20,20 +20,20 @@ use Rattle.qpack_wire.proofs.Readers.{failed}
 
 -- ---- the fronts of a form
 
-pub in_turn : {P Q : List ℕ → Type 0} (bytes text rest : List ℕ) → bytes ≡ text ++ rest → P text → Begins Q rest
+pub in_turn : {P Q : List ℕ → Type 0} (bytes encoding rest : List ℕ) → bytes ≡ encoding ++ rest → P encoding → Begins Q rest
     → Begins (InTurn P Q) bytes
-in_turn bytes text rest e p b = record {
-  text = text ++ b.text;
+in_turn bytes encoding rest e p b = record {
+  encoding = encoding ++ b.encoding;
   rest = b.rest;
-  parts = e ∙ ap (λ (t : List ℕ). text ++ t) b.parts ∙ sym (append_assoc text b.text b.rest);
-  holds = record { head = text; tail = b.text; parts = refl; first = p; second = b.holds };
+  parts = e ∙ ap (λ (t : List ℕ). encoding ++ t) b.parts ∙ sym (append_assoc encoding b.encoding b.rest);
+  holds = record { head = encoding; tail = b.encoding; parts = refl; first = p; second = b.holds };
 }
 
 asks_value : {L : Type 0} (n : ℕ) (make : ℕ → List ℕ → L) (bytes : List ℕ) (r : Result (ℕ × ℕ × List ℕ) IntegerFault)
     → integer_at n bytes ≡ r
     → IsOkAnd r (λ i. Begins (HoldsPayload 8) i.2) → Begins (AsksForm (IndexAndValue n make)) bytes
 asks_value n make bytes (Ok i) e h =
-    let t = integer_takes n bytes i.0 i.1 i.2 e in in_turn bytes t.text i.2 t.parts (i.1, (i.0, t.spells)) h
+    let t = integer_takes n bytes i.0 i.1 i.2 e in in_turn bytes t.encoding i.2 t.parts (i.1, (i.0, t.spells)) h
 asks_value n make bytes (Err f) e h = absurd h
 
 asks_second : {L : Type 0} (n : ℕ) (make : List ℕ → List ℕ → L) (bytes : List ℕ)
@@ -41,15 +41,15 @@ asks_second : {L : Type 0} (n : ℕ) (make : List ℕ → List ℕ → L) (bytes
     → IsOkAnd r (λ m. Begins (HoldsPayload 8) m.2) → Begins (AsksForm (NameAndValue n make)) bytes
 asks_second {L} n make bytes (Ok m) e h =
     let t = string_takes n bytes m.0 m.1 m.2 e in
-    let b = in_turn {P = λ t. (name : List ℕ) × HoldsText n name t} bytes t.text m.2 t.parts (m.1, (m.0, t.spells)) h in
-    record { text = b.text; rest = b.rest; parts = b.parts; holds = inr b.holds }
+    let b = in_turn {P = λ t. (name : List ℕ) × HoldsText n name t} bytes t.encoding m.2 t.parts (m.1, (m.0, t.spells)) h in
+    record { encoding = b.encoding; rest = b.rest; parts = b.parts; holds = inr b.holds }
 asks_second n make bytes (Err f) e h = absurd h
 
 asks_form : {L : Type 0} (form : Form L) (bytes : List ℕ) → AsksFormAt (Some form) bytes → Begins (AsksForm form) bytes
 asks_form (Index n make) bytes h = absurd h
 asks_form (IndexAndValue n make) bytes h = asks_value n make bytes (integer_at n bytes) refl h
 asks_form (NameAndValue n make) bytes (inl b) =
-    record { text = b.text; rest = b.rest; parts = b.parts; holds = inl b.holds }
+    record { encoding = b.encoding; rest = b.rest; parts = b.parts; holds = inl b.holds }
 asks_form (NameAndValue n make) bytes (inr h) = asks_second n make bytes (string_at n bytes) refl h
 
 -- ---- and they have a first byte
@@ -74,12 +74,12 @@ asks_named : {L : Type 0} (form_of : ℕ → Option (Form L)) (b : ℕ) (bs : Li
     → AsksFormAt o (b ∷ bs) → AsksForMemory form_of (b ∷ bs)
 asks_named form_of b bs None e h = absurd h
 asks_named {L} form_of b bs (Some form) e h =
-    let f = asks_form form (b ∷ bs) h in go f.text f.rest f.parts f.holds
+    let f = asks_form form (b ∷ bs) h in go f.encoding f.rest f.parts f.holds
   where
-    go : (text rest : List ℕ) → b ∷ bs ≡ text ++ rest → AsksForm form text → AsksForMemory form_of (b ∷ bs)
+    go : (encoding rest : List ℕ) → b ∷ bs ≡ encoding ++ rest → AsksForm form encoding → AsksForMemory form_of (b ∷ bs)
     go [] rest p h = absurd (no_front form h)
     go (c ∷ cs) rest p h = record {
-      text = c ∷ cs;
+      encoding = c ∷ cs;
       rest = rest;
       parts = p;
       holds = record {
@@ -93,15 +93,15 @@ asks_named {L} form_of b bs (Some form) e h =
     }
 
 -- where reading a form alone asks for memory, a front of a form stands that may
-pub asks_alone : {L : Type 0} (a : Alone L) (bytes : List ℕ) → AsksAt a bytes → AsksForMemory (form_named a) bytes
+pub asks_alone : {L : Type 0} (a : Kind L) (bytes : List ℕ) → AsksAt a bytes → AsksForMemory (form_for a) bytes
 unfolding integer_at
 asks_alone (ByFlags n named) [] h = absurd h
 asks_alone {L} (ByFlags n named) (b ∷ bs) h = go (integer_at n (b ∷ bs)) refl h
   where
     go : (r : Result (ℕ × ℕ × List ℕ) IntegerFault) → integer_at n (b ∷ bs) ≡ r
-        → IsOkAnd r (λ i. AsksFormAt (named i.0) (b ∷ bs)) → AsksForMemory (form_named (ByFlags n named)) (b ∷ bs)
+        → IsOkAnd r (λ i. AsksFormAt (named i.0) (b ∷ bs)) → AsksForMemory (form_for (ByFlags n named)) (b ∷ bs)
     go (Ok i) e h =
-        asks_named (form_named (ByFlags n named)) b bs (named i.0) (ap named (sym (flags_above n b bs i e))) h
+        asks_named (form_for (ByFlags n named)) b bs (named i.0) (ap named (sym (flags_above n b bs i e))) h
     go (Err f) e h = absurd h
 asks_alone (ByFirstByte named) [] h = absurd h
 asks_alone (ByFirstByte named) (b ∷ bs) h = asks_named named b bs (named b) refl h
@@ -119,7 +119,7 @@ asks_same {L} form_of other b bytes e same h =
     let is : b ≡ a.first = first_same b a.first a.more h.rest bytes e
     (h.parts ∙ ap (λ (t : List ℕ). t ++ h.rest) a.begins) in
     record {
-      text = h.text;
+      encoding = h.encoding;
       rest = h.rest;
       parts = h.parts;
       holds = record {

@@ -6,7 +6,7 @@ use Rattle.std.proofs.lemmas.Bool.{lt-ltb, le-ltb, cases_lt}
 use Rattle.qpack_spec.specs.Integer.{UnexpectedEnd}
 use Rattle.qpack_spec.specs.Form.{BadInteger, Form, form_at}
 use Rattle.qpack_spec.specs.Line.{Line, SpellsLine, line_form}
-use Rattle.qpack_wire.specs.Alone.{Alone, Unreadable, form_named, or_unreadable, alone_at}
+use Rattle.qpack_wire.specs.Alone.{Kind, Unreadable, form_for, or_unreadable, kind_at}
 use Rattle.qpack_wire.specs.Lines.{indexed, indexed_with_post_base, literal_with_name_ref}
 use Rattle.qpack_wire.specs.Lines.{literal_with_post_base_name_ref, literal}
 use Rattle.qpack_wire.specs.BlockLines.{field_of_first, RefusesBlockLine, line_at}
@@ -45,13 +45,13 @@ line_named b h =
     (either_names (nat_lt b 192) _ _ (_, refl) (rw (below b 256 h) (_, refl))))))
 
 -- where a form alone names what a line's first byte does, it is read as the line
-alone_is_line : (a : Alone Line) → Coherent a → (b : ℕ) (bs : List ℕ) → b < 256 → form_named a b ≡ line_form b
-    → alone_at a (b ∷ bs) ≡ line_at (b ∷ bs)
+alone_is_line : (a : Kind Line) → Coherent a → (b : ℕ) (bs : List ℕ) → b < 256 → form_for a b ≡ line_form b
+    → kind_at a (b ∷ bs) ≡ line_at (b ∷ bs)
 alone_is_line a c b bs h same =
     let named = line_named b h in
     alone_own a c b bs named.0 (same ∙ named.1) ∙ sym (ap or_unreadable (form_own line_form b bs named.0 named.1))
 
-dynamic_index : (b : ℕ) → 128 ≤ b → b < 192 → form_named indexed b ≡ line_form b
+dynamic_index : (b : ℕ) → 128 ≤ b → b < 192 → form_for indexed b ≡ line_form b
 unfolding line_form
 dynamic_index b low high =
     let q : b / 64 ≡ 2 = omega arith in
@@ -64,7 +64,7 @@ dynamic_index b low high =
       below b 192 high,
     ) refl
 
-static_index : (b : ℕ) → 192 ≤ b → b < 256 → form_named indexed b ≡ line_form b
+static_index : (b : ℕ) → 192 ≤ b → b < 256 → form_for indexed b ≡ line_form b
 unfolding line_form
 static_index b low high =
     let q : b / 64 ≡ 3 = omega arith in
@@ -78,28 +78,28 @@ static_index b low high =
       below b 256 high,
     ) refl
 
-pub same_indexed : (b : ℕ) → 128 ≤ b → b < 256 → form_named indexed b ≡ line_form b
+pub same_indexed : (b : ℕ) → 128 ≤ b → b < 256 → form_for indexed b ≡ line_form b
 same_indexed b low high = pick (cases_lt b 192)
   where
-    pick : (b < 192) ⊎ (192 ≤ b) → form_named indexed b ≡ line_form b
+    pick : (b < 192) ⊎ (192 ≤ b) → form_for indexed b ≡ line_form b
     pick (inl h) = dynamic_index b low h
     pick (inr h) = static_index b h high
 
-pub same_post_base : (b : ℕ) → 16 ≤ b → b < 32 → form_named indexed_with_post_base b ≡ line_form b
+pub same_post_base : (b : ℕ) → 16 ≤ b → b < 32 → form_for indexed_with_post_base b ≡ line_form b
 unfolding line_form
 same_post_base b low high = let q : b / 16 ≡ 1 = omega arith in rw (q, above b 16 low, below b 32 high) refl
 
-pub same_name_ref : (b : ℕ) → 64 ≤ b → b < 128 → form_named literal_with_name_ref b ≡ line_form b
+pub same_name_ref : (b : ℕ) → 64 ≤ b → b < 128 → form_for literal_with_name_ref b ≡ line_form b
 unfolding line_form
 same_name_ref b low high =
     let q : b / 16 / 4 ≡ 1 = omega arith in
     rw (q, above b 16 (omega arith), above b 32 (omega arith), above b 64 low, below b 128 high) refl
 
-pub same_post_base_name_ref : (b : ℕ) → b < 16 → form_named literal_with_post_base_name_ref b ≡ line_form b
+pub same_post_base_name_ref : (b : ℕ) → b < 16 → form_for literal_with_post_base_name_ref b ≡ line_form b
 unfolding line_form
 same_post_base_name_ref b high = rw (below (b / 8) 2 (omega arith), below b 16 high) refl
 
-pub same_literal : (b : ℕ) → 32 ≤ b → b < 64 → form_named literal b ≡ line_form b
+pub same_literal : (b : ℕ) → 32 ≤ b → b < 64 → form_for literal b ≡ line_form b
 unfolding line_form
 same_literal b low high =
     let q : b / 32 ≡ 1 = omega arith in rw (q, above b 16 (omega arith), above b 32 low, below b 64 high) refl
@@ -161,55 +161,55 @@ none_unknown b e = told b field.Unknown e
 abbrev BeginsWith : ℕ → List ℕ → Type 0
 BeginsWith b rest = rest ≡ b ∷ drop 1 rest
 
-as_line : (a : Alone Line) → Coherent a → (b : ℕ) (rest : List ℕ) → b < 256 → BeginsWith b rest
-    → form_named a b ≡ line_form b → alone_at a rest ≡ line_at rest
-as_line a c b rest h e same = ap (alone_at a) e ∙ alone_is_line a c b (drop 1 rest) h same ∙ sym (ap line_at e)
+as_line : (a : Kind Line) → Coherent a → (b : ℕ) (rest : List ℕ) → b < 256 → BeginsWith b rest
+    → form_for a b ≡ line_form b → kind_at a rest ≡ line_at rest
+as_line a c b rest h e same = ap (kind_at a) e ∙ alone_is_line a c b (drop 1 rest) h same ∙ sym (ap line_at e)
 
 pub as_indexed : (b : ℕ) (rest : List ℕ) → b < 256 → BeginsWith b rest → field_of_first b ≡ field.Indexed
-    → alone_at indexed rest ≡ line_at rest
+    → kind_at indexed rest ≡ line_at rest
 as_indexed b rest h e f = as_line indexed coherent_indexed b rest h e (same_indexed b (told b field.Indexed f) h)
 
 pub as_post_base : (b : ℕ) (rest : List ℕ) → b < 256 → BeginsWith b rest → field_of_first b ≡ field.IndexedWithPostBase
-    → alone_at indexed_with_post_base rest ≡ line_at rest
+    → kind_at indexed_with_post_base rest ≡ line_at rest
 as_post_base b rest h e f =
     let t = told b field.IndexedWithPostBase f in as_line indexed_with_post_base coherent_post_base b rest h e
     (same_post_base b t.0 t.1)
 
 pub as_name_ref : (b : ℕ) (rest : List ℕ) → b < 256 → BeginsWith b rest → field_of_first b ≡ field.LiteralWithNameRef
-    → alone_at literal_with_name_ref rest ≡ line_at rest
+    → kind_at literal_with_name_ref rest ≡ line_at rest
 as_name_ref b rest h e f =
     let t = told b field.LiteralWithNameRef f in as_line literal_with_name_ref coherent_name_ref b rest h e
     (same_name_ref b t.0 t.1)
 
 pub as_post_base_name_ref : (b : ℕ) (rest : List ℕ) → b < 256 → BeginsWith b rest
-    → field_of_first b ≡ field.LiteralWithPostBaseNameRef → alone_at literal_with_post_base_name_ref rest ≡ line_at rest
+    → field_of_first b ≡ field.LiteralWithPostBaseNameRef → kind_at literal_with_post_base_name_ref rest ≡ line_at rest
 as_post_base_name_ref b rest h e f =
     as_line literal_with_post_base_name_ref coherent_post_base_name_ref b rest h e
     (same_post_base_name_ref b (told b field.LiteralWithPostBaseNameRef f))
 
 pub as_literal : (b : ℕ) (rest : List ℕ) → b < 256 → BeginsWith b rest → field_of_first b ≡ field.Literal
-    → alone_at literal rest ≡ line_at rest
+    → kind_at literal rest ≡ line_at rest
 as_literal b rest h e f = let t = told b field.Literal f in as_line literal tt b rest h e (same_literal b t.0 t.1)
 
 -- memory is asked for the line where it is for its form
 
 pub asks_name_ref : (b : ℕ) (rest : List ℕ) → b < 256 → BeginsWith b rest → field_of_first b ≡ field.LiteralWithNameRef
-    → AsksForMemory (form_named literal_with_name_ref) rest → AsksForMemory line_form rest
+    → AsksForMemory (form_for literal_with_name_ref) rest → AsksForMemory line_form rest
 asks_name_ref b rest h e f a =
-    let t = told b field.LiteralWithNameRef f in asks_same (form_named literal_with_name_ref) line_form b rest e
+    let t = told b field.LiteralWithNameRef f in asks_same (form_for literal_with_name_ref) line_form b rest e
     (same_name_ref b t.0 t.1) a
 
 pub asks_post_base_name_ref : (b : ℕ) (rest : List ℕ) → b < 256 → BeginsWith b rest
     → field_of_first b ≡ field.LiteralWithPostBaseNameRef
-    → AsksForMemory (form_named literal_with_post_base_name_ref) rest → AsksForMemory line_form rest
+    → AsksForMemory (form_for literal_with_post_base_name_ref) rest → AsksForMemory line_form rest
 asks_post_base_name_ref b rest h e f a =
-    asks_same (form_named literal_with_post_base_name_ref) line_form b rest e
+    asks_same (form_for literal_with_post_base_name_ref) line_form b rest e
     (same_post_base_name_ref b (told b field.LiteralWithPostBaseNameRef f)) a
 
 pub asks_literal : (b : ℕ) (rest : List ℕ) → b < 256 → BeginsWith b rest → field_of_first b ≡ field.Literal
-    → AsksForMemory (form_named literal) rest → AsksForMemory line_form rest
+    → AsksForMemory (form_for literal) rest → AsksForMemory line_form rest
 asks_literal b rest h e f a =
-    let t = told b field.Literal f in asks_same (form_named literal) line_form b rest e (same_literal b t.0 t.1) a
+    let t = told b field.Literal f in asks_same (form_for literal) line_form b rest e (same_literal b t.0 t.1) a
 
 -- each form, where the first byte tells it
 pub ruleset lines_by_first = (
@@ -232,4 +232,4 @@ line_of_nothing [] rest h e = ap line_at (sym e)
 line_of_nothing (x ∷ xs) rest h e = absurd (omega arith)
 
 pub line_follows : Follows Line SpellsLine RefusesBlockLine line_at
-line_follows = forms_follow line_form RefusesBlockLine (λ text f. (λ r. r, λ r. r)) (λ text bits r. r)
+line_follows = forms_follow line_form RefusesBlockLine (λ encoding f. (λ r. r, λ r. r)) (λ encoding bits r. r)

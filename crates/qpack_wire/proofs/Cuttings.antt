@@ -3,15 +3,15 @@ use Rattle.std.proofs.Common.{◌≡◌, ℕ, List, [], ◌∷◌, ◌++◌, Opt
 use Rattle.std.proofs.Common.{inl}
 use Rattle.std.proofs.lemmas.List.{append_cancel_left}
 use Rattle.qpack_spec.specs.Form.{Form, Spells}
-use Rattle.qpack_spec.specs.Instruction.{Instruction, Reply, SpellsInstruction, SpellsReply, instruction_form}
-use Rattle.qpack_spec.specs.Instruction.{reply_form}
+use Rattle.qpack_spec.specs.Instruction.{EncoderInstruction, DecoderInstruction, SpellsEncoderInstruction, SpellsDecoderInstruction, encoder_instruction_form}
+use Rattle.qpack_spec.specs.Instruction.{decoder_instruction_form}
 use Rattle.qpack_spec.specs.Stream.{Joined, IsCutOff, Holds}
 use Rattle.qpack_spec.proofs.FormLaws.{one_form, no_form_begins}
 use Rattle.qpack_wire.specs.Cuttings.{joined_pieces, ReadInPieces, CuttingChangesNothing}
 
 -- where a spelling is of one line and begins no other, and no line is spelled by nothing
 record IsPlain (L : Type 0) (spells : List ℕ → L → Type 0) : Type 0 where
-  one : (text : List ℕ) (l m : L) → spells text l → spells text m → l ≡ m
+  one : (encoding : List ℕ) (l m : L) → spells encoding l → spells encoding m → l ≡ m
   apart : (a b x y : List ℕ) (l m : L) → spells a l → spells b m → a ++ x ≡ b ++ y → a ≡ b
   some : (l : L) → spells [] l → ⊥
 
@@ -69,25 +69,25 @@ in_pieces L spells (piece ∷ pieces) unread lines rest c h =
 
 any_cutting : (L : Type 0) (spells : List ℕ → L → Type 0) → IsPlain L spells → CuttingChangesNothing spells
 any_cutting L spells p pieces lines whole rest left h w =
-    let nothing : IsCutOff spells [] = λ text more l e s. p.some l
-    (subst (λ (x : List ℕ). spells x l) (empty text more e) s) in
+    let nothing : IsCutOff spells [] = λ encoding more l e s. p.some l
+    (subst (λ (x : List ℕ). spells x l) (empty encoding more e) s) in
     let all = in_pieces L spells pieces [] lines rest nothing h in
     one_holding L spells p lines whole all.front w.front rest left all.joined all.cut_off w.joined w.cut_off
     (sym all.cut ∙ w.cut)
   where
-    empty : (text more : List ℕ) → [] ≡ text ++ more → text ≡ []
+    empty : (encoding more : List ℕ) → [] ≡ encoding ++ more → encoding ≡ []
     empty [] more e = refl
     empty (x ∷ xs) more e = absurd cc
 
-forms_plain : {L : Type 0} (form_of : ℕ → Option (Form L)) → IsPlain L (λ text l. Spells L form_of text l)
+forms_plain : {L : Type 0} (form_of : ℕ → Option (Form L)) → IsPlain L (λ encoding l. Spells L form_of encoding l)
 forms_plain form_of = record {
   one = one_form form_of;
   apart = λ a b x y l m s t e. no_form_begins form_of a b x y (inl (l, s)) (inl (m, t)) e;
   some = λ l s. (let b = s.begins in absurd cc);
 }
 
-pub instructions_any_cutting : CuttingChangesNothing SpellsInstruction
-instructions_any_cutting = any_cutting Instruction SpellsInstruction (forms_plain instruction_form)
+pub instructions_any_cutting : CuttingChangesNothing SpellsEncoderInstruction
+instructions_any_cutting = any_cutting EncoderInstruction SpellsEncoderInstruction (forms_plain encoder_instruction_form)
 
-pub replies_any_cutting : CuttingChangesNothing SpellsReply
-replies_any_cutting = any_cutting Reply SpellsReply (forms_plain reply_form)
+pub decoder_instructions_any_cutting : CuttingChangesNothing SpellsDecoderInstruction
+decoder_instructions_any_cutting = any_cutting DecoderInstruction SpellsDecoderInstruction (forms_plain decoder_instruction_form)

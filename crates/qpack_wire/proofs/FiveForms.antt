@@ -5,7 +5,7 @@ use Rattle.std.specs.Prelude.{nat_lt, nat_eq, if◌then◌else◌}
 use Rattle.std.proofs.lemmas.Bool.{ltb-true, eqb-true, le-ltb, cases_lt}
 use Rattle.qpack_spec.specs.Form.{Form}
 use Rattle.qpack_spec.specs.Line.{Line, SpellsLine, line_form}
-use Rattle.qpack_wire.specs.Alone.{Alone, form_named, SpellsAlone}
+use Rattle.qpack_wire.specs.Alone.{Kind, form_for, SpellsKind}
 use Rattle.qpack_wire.specs.Lines.{indexed, indexed_with_post_base, literal_with_name_ref}
 use Rattle.qpack_wire.specs.Lines.{literal_with_post_base_name_ref, literal}
 use Rattle.qpack_wire.specs.LineLaws.{LinesHaveFiveForms}
@@ -25,30 +25,30 @@ one_holds false other x y form e = inr (test_holds other y form e)
 
 -- ---- a form alone names what the line's first byte names
 
-named_indexed : (b : ℕ) (form : Form Line) → form_named indexed b ≡ Some form → line_form b ≡ Some form
+named_indexed : (b : ℕ) (form : Form Line) → form_for indexed b ≡ Some form → line_form b ≡ Some form
 named_indexed b form e = pick (one_holds (nat_eq (b / 64) 3) (nat_eq (b / 64) 2) _ _ form e)
   where
     pick : (nat_eq (b / 64) 3 ≡ true) ⊎ (nat_eq (b / 64) 2 ≡ true) → line_form b ≡ Some form
     pick (inl h) = let q = eqb-true (b / 64) 3 h in sym (same_indexed b (omega (arith, q)) (omega (arith, q))) ∙ e
     pick (inr h) = let q = eqb-true (b / 64) 2 h in sym (same_indexed b (omega (arith, q)) (omega (arith, q))) ∙ e
 
-named_post_base : (b : ℕ) (form : Form Line) → form_named indexed_with_post_base b ≡ Some form → line_form b ≡ Some form
+named_post_base : (b : ℕ) (form : Form Line) → form_for indexed_with_post_base b ≡ Some form → line_form b ≡ Some form
 named_post_base b form e =
     let q = eqb-true (b / 16) 1 (test_holds (nat_eq (b / 16) 1) _ form e) in
     sym (same_post_base b (omega (arith, q)) (omega (arith, q))) ∙ e
 
-named_name_ref : (b : ℕ) (form : Form Line) → form_named literal_with_name_ref b ≡ Some form → line_form b ≡ Some form
+named_name_ref : (b : ℕ) (form : Form Line) → form_for literal_with_name_ref b ≡ Some form → line_form b ≡ Some form
 named_name_ref b form e =
     let q = eqb-true (b / 16 / 4) 1 (test_holds (nat_eq (b / 16 / 4) 1) _ form e) in
     sym (same_name_ref b (omega (arith, q)) (omega (arith, q))) ∙ e
 
-named_post_base_name_ref : (b : ℕ) (form : Form Line) → form_named literal_with_post_base_name_ref b ≡ Some form
+named_post_base_name_ref : (b : ℕ) (form : Form Line) → form_for literal_with_post_base_name_ref b ≡ Some form
     → line_form b ≡ Some form
 named_post_base_name_ref b form e =
     let q = ltb-true (b / 8) 2 (test_holds (nat_lt (b / 8) 2) _ form e) in
     sym (same_post_base_name_ref b (omega (arith, q))) ∙ e
 
-named_literal : (b : ℕ) (form : Form Line) → form_named literal b ≡ Some form → line_form b ≡ Some form
+named_literal : (b : ℕ) (form : Form Line) → form_for literal b ≡ Some form → line_form b ≡ Some form
 named_literal b form e =
     let q = eqb-true (b / 32) 1 (test_holds (nat_eq (b / 32) 1) _ form e) in
     sym (same_literal b (omega (arith, q)) (omega (arith, q))) ∙ e
@@ -56,10 +56,10 @@ named_literal b form e =
 -- ---- spellings
 
 -- a spelling stays one where its first byte names the same form
-spelled : (a : Alone Line) (text : List ℕ) (l : Line)
-    → ((b : ℕ) (form : Form Line) → form_named a b ≡ Some form → line_form b ≡ Some form) → SpellsAlone a text l
-    → SpellsLine text l
-spelled a text l same s = record {
+spelled : (a : Kind Line) (encoding : List ℕ) (l : Line)
+    → ((b : ℕ) (form : Form Line) → form_for a b ≡ Some form → line_form b ≡ Some form) → SpellsKind a encoding l
+    → SpellsLine encoding l
+spelled a encoding l same s = record {
   first = s.first;
   more = s.more;
   form = s.form;
@@ -68,9 +68,9 @@ spelled a text l same s = record {
   spells = s.spells;
 }
 
-alone : (a : Alone Line) (text : List ℕ) (l : Line) (s : SpellsLine text l) → form_named a s.first ≡ line_form s.first
-    → SpellsAlone a text l
-alone a text l s same = record {
+alone : (a : Kind Line) (encoding : List ℕ) (l : Line) (s : SpellsLine encoding l) → form_for a s.first ≡ line_form s.first
+    → SpellsKind a encoding l
+alone a encoding l s same = record {
   first = s.first;
   more = s.more;
   form = s.form;
@@ -96,25 +96,25 @@ byte_first b form e =
           cc)
     ]
 
-apart : (text : List ℕ) (l : Line) → SpellsLine text l
-    → SpellsAlone indexed text l
-    ⊎ (SpellsAlone indexed_with_post_base text l
-    ⊎ (SpellsAlone literal_with_name_ref text l ⊎ (SpellsAlone literal_with_post_base_name_ref text l
-    ⊎ SpellsAlone literal text l)))
-apart text l s =
+apart : (encoding : List ℕ) (l : Line) → SpellsLine encoding l
+    → SpellsKind indexed encoding l
+    ⊎ (SpellsKind indexed_with_post_base encoding l
+    ⊎ (SpellsKind literal_with_name_ref encoding l ⊎ (SpellsKind literal_with_post_base_name_ref encoding l
+    ⊎ SpellsKind literal encoding l)))
+apart encoding l s =
     elim (cases_lt s.first 16) [
-      | inl h ↦ inr (inr (inr (inl (alone literal_with_post_base_name_ref text l s
+      | inl h ↦ inr (inr (inr (inl (alone literal_with_post_base_name_ref encoding l s
           (same_post_base_name_ref s.first h)))))
       | inr h16 ↦
           elim (cases_lt s.first 32) [
-            | inl h ↦ inr (inl (alone indexed_with_post_base text l s (same_post_base s.first h16 h)))
+            | inl h ↦ inr (inl (alone indexed_with_post_base encoding l s (same_post_base s.first h16 h)))
             | inr h32 ↦
                 elim (cases_lt s.first 64) [
-                  | inl h ↦ inr (inr (inr (inr (alone literal text l s (same_literal s.first h32 h)))))
+                  | inl h ↦ inr (inr (inr (inr (alone literal encoding l s (same_literal s.first h32 h)))))
                   | inr h64 ↦
                       elim (cases_lt s.first 128) [
-                        | inl h ↦ inr (inr (inl (alone literal_with_name_ref text l s (same_name_ref s.first h64 h))))
-                        | inr h128 ↦ inl (alone indexed text l s (same_indexed s.first h128
+                        | inl h ↦ inr (inr (inl (alone literal_with_name_ref encoding l s (same_name_ref s.first h64 h))))
+                        | inr h128 ↦ inl (alone indexed encoding l s (same_indexed s.first h128
                             (byte_first s.first s.form s.names)))
                       ]
                 ]
@@ -122,15 +122,15 @@ apart text l s =
     ]
 
 pub five_forms : LinesHaveFiveForms
-five_forms text l = (apart text l, together)
+five_forms encoding l = (apart encoding l, together)
   where
-    together : SpellsAlone indexed text l
-        ⊎ (SpellsAlone indexed_with_post_base text l
-        ⊎ (SpellsAlone literal_with_name_ref text l ⊎ (SpellsAlone literal_with_post_base_name_ref text l
-        ⊎ SpellsAlone literal text l)))
-        → SpellsLine text l
-    together (inl s) = spelled indexed text l named_indexed s
-    together (inr (inl s)) = spelled indexed_with_post_base text l named_post_base s
-    together (inr (inr (inl s))) = spelled literal_with_name_ref text l named_name_ref s
-    together (inr (inr (inr (inl s)))) = spelled literal_with_post_base_name_ref text l named_post_base_name_ref s
-    together (inr (inr (inr (inr s)))) = spelled literal text l named_literal s
+    together : SpellsKind indexed encoding l
+        ⊎ (SpellsKind indexed_with_post_base encoding l
+        ⊎ (SpellsKind literal_with_name_ref encoding l ⊎ (SpellsKind literal_with_post_base_name_ref encoding l
+        ⊎ SpellsKind literal encoding l)))
+        → SpellsLine encoding l
+    together (inl s) = spelled indexed encoding l named_indexed s
+    together (inr (inl s)) = spelled indexed_with_post_base encoding l named_post_base s
+    together (inr (inr (inl s))) = spelled literal_with_name_ref encoding l named_name_ref s
+    together (inr (inr (inr (inl s)))) = spelled literal_with_post_base_name_ref encoding l named_post_base_name_ref s
+    together (inr (inr (inr (inr s)))) = spelled literal encoding l named_literal s

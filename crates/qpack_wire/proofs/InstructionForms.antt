@@ -3,9 +3,9 @@ use Rattle.std.proofs.Common.{◌≡◌, ℕ, ◌/◌, ◌%◌, None, Some, refl
 use Rattle.std.specs.Prelude.{nat_eq, if◌then◌else◌}
 use Rattle.qpack_spec.specs.Form.{Form, Index, IndexAndValue}
 use Rattle.qpack_spec.specs.Instruction as instruction
-use Rattle.qpack_spec.specs.Instruction.{Instruction, InsertStaticName, InsertDynamicName, SetCapacity, Reply}
+use Rattle.qpack_spec.specs.Instruction.{EncoderInstruction, InsertStaticName, InsertDynamicName, SetCapacity, DecoderInstruction}
 use Rattle.qpack_spec.specs.Instruction.{Acknowledgment, Cancellation, Increment}
-use Rattle.qpack_wire.specs.Alone.{SpellsAlone, RefusesAlone, alone_at}
+use Rattle.qpack_wire.specs.Alone.{SpellsKind, RefusesKind, kind_at}
 use Rattle.qpack_wire.specs.Instructions.{insert_with_name_ref, insert_without_name_ref, duplicate}
 use Rattle.qpack_wire.specs.Instructions.{dynamic_table_size_update, insert_count_increment, header_ack, stream_cancel}
 use Rattle.qpack_wire.proofs.Readers.{Follows}
@@ -46,28 +46,28 @@ coherent_stream_cancel flags form e = one_prefix 6 1 flags (Index 6 Cancellation
 
 -- ---- each instruction
 
-pub insert_with_name_ref_follows : Follows Instruction (SpellsAlone insert_with_name_ref)
-    (RefusesAlone insert_with_name_ref) (alone_at insert_with_name_ref)
+pub insert_with_name_ref_follows : Follows EncoderInstruction (SpellsKind insert_with_name_ref)
+    (RefusesKind insert_with_name_ref) (kind_at insert_with_name_ref)
 insert_with_name_ref_follows = alone_follows insert_with_name_ref coherent_insert_with_name_ref
 
-pub insert_without_name_ref_follows : Follows Instruction (SpellsAlone insert_without_name_ref)
-    (RefusesAlone insert_without_name_ref) (alone_at insert_without_name_ref)
+pub insert_without_name_ref_follows : Follows EncoderInstruction (SpellsKind insert_without_name_ref)
+    (RefusesKind insert_without_name_ref) (kind_at insert_without_name_ref)
 insert_without_name_ref_follows = alone_follows insert_without_name_ref tt
 
-pub duplicate_follows : Follows Instruction (SpellsAlone duplicate) (RefusesAlone duplicate) (alone_at duplicate)
+pub duplicate_follows : Follows EncoderInstruction (SpellsKind duplicate) (RefusesKind duplicate) (kind_at duplicate)
 duplicate_follows = alone_follows duplicate coherent_duplicate
 
-pub dynamic_table_size_update_follows : Follows Instruction (SpellsAlone dynamic_table_size_update)
-    (RefusesAlone dynamic_table_size_update) (alone_at dynamic_table_size_update)
+pub dynamic_table_size_update_follows : Follows EncoderInstruction (SpellsKind dynamic_table_size_update)
+    (RefusesKind dynamic_table_size_update) (kind_at dynamic_table_size_update)
 dynamic_table_size_update_follows = alone_follows dynamic_table_size_update coherent_dynamic_table_size_update
 
-pub insert_count_increment_follows : Follows Reply (SpellsAlone insert_count_increment)
-    (RefusesAlone insert_count_increment) (alone_at insert_count_increment)
+pub insert_count_increment_follows : Follows DecoderInstruction (SpellsKind insert_count_increment)
+    (RefusesKind insert_count_increment) (kind_at insert_count_increment)
 insert_count_increment_follows = alone_follows insert_count_increment coherent_insert_count_increment
 
-pub header_ack_follows : Follows Reply (SpellsAlone header_ack) (RefusesAlone header_ack) (alone_at header_ack)
+pub header_ack_follows : Follows DecoderInstruction (SpellsKind header_ack) (RefusesKind header_ack) (kind_at header_ack)
 header_ack_follows = alone_follows header_ack coherent_header_ack
 
-pub stream_cancel_follows : Follows Reply (SpellsAlone stream_cancel) (RefusesAlone stream_cancel)
-    (alone_at stream_cancel)
+pub stream_cancel_follows : Follows DecoderInstruction (SpellsKind stream_cancel) (RefusesKind stream_cancel)
+    (kind_at stream_cancel)
 stream_cancel_follows = alone_follows stream_cancel coherent_stream_cancel

@@ -5,7 +5,7 @@ use Rattle.std.proofs.lemmas.Option.{same_Some}
 use Rattle.qpack_spec.specs.Form.{Form, Index, IndexAndValue}
 use Rattle.qpack_spec.specs.Line.{Line, IndexedStatic, IndexedDynamic, IndexedPostBase, NamedStatic, NamedDynamic}
 use Rattle.qpack_spec.specs.Line.{NamedPostBase}
-use Rattle.qpack_wire.specs.Alone.{SpellsAlone, RefusesAlone, alone_at}
+use Rattle.qpack_wire.specs.Alone.{SpellsKind, RefusesKind, kind_at}
 use Rattle.qpack_wire.specs.Lines.{indexed, indexed_with_post_base, literal_with_name_ref}
 use Rattle.qpack_wire.specs.Lines.{literal_with_post_base_name_ref, literal}
 use Rattle.qpack_wire.proofs.Readers.{Follows}
@@ -56,20 +56,20 @@ coherent_post_base_name_ref flags form e =
 
 -- ---- each form
 
-pub indexed_follows : Follows Line (SpellsAlone indexed) (RefusesAlone indexed) (alone_at indexed)
+pub indexed_follows : Follows Line (SpellsKind indexed) (RefusesKind indexed) (kind_at indexed)
 indexed_follows = alone_follows indexed coherent_indexed
 
-pub post_base_follows : Follows Line (SpellsAlone indexed_with_post_base) (RefusesAlone indexed_with_post_base)
-    (alone_at indexed_with_post_base)
+pub post_base_follows : Follows Line (SpellsKind indexed_with_post_base) (RefusesKind indexed_with_post_base)
+    (kind_at indexed_with_post_base)
 post_base_follows = alone_follows indexed_with_post_base coherent_post_base
 
-pub name_ref_follows : Follows Line (SpellsAlone literal_with_name_ref) (RefusesAlone literal_with_name_ref)
-    (alone_at literal_with_name_ref)
+pub name_ref_follows : Follows Line (SpellsKind literal_with_name_ref) (RefusesKind literal_with_name_ref)
+    (kind_at literal_with_name_ref)
 name_ref_follows = alone_follows literal_with_name_ref coherent_name_ref
 
-pub post_base_name_ref_follows : Follows Line (SpellsAlone literal_with_post_base_name_ref)
-    (RefusesAlone literal_with_post_base_name_ref) (alone_at literal_with_post_base_name_ref)
+pub post_base_name_ref_follows : Follows Line (SpellsKind literal_with_post_base_name_ref)
+    (RefusesKind literal_with_post_base_name_ref) (kind_at literal_with_post_base_name_ref)
 post_base_name_ref_follows = alone_follows literal_with_post_base_name_ref coherent_post_base_name_ref
 
-pub literal_follows : Follows Line (SpellsAlone literal) (RefusesAlone literal) (alone_at literal)
+pub literal_follows : Follows Line (SpellsKind literal) (RefusesKind literal) (kind_at literal)
 literal_follows = alone_follows literal tt

@@ -6,17 +6,17 @@ use Rattle.std.proofs.lemmas.Bool.{lt-ltb, le-ltb, cases_lt}
 use Rattle.qpack_spec.specs.Integer.{UnexpectedEnd}
 use Rattle.qpack_spec.specs.Form.{BadInteger, Form, Index, IndexAndValue, NameAndValue, form_at}
 use Rattle.qpack_spec.specs.Instruction as instruction
-use Rattle.qpack_spec.specs.Instruction.{Instruction, InsertStaticName, InsertDynamicName, InsertLiteralName}
-use Rattle.qpack_spec.specs.Instruction.{SetCapacity, Reply, Acknowledgment, Cancellation, Increment, instruction_form}
-use Rattle.qpack_spec.specs.Instruction.{reply_form, SpellsInstruction, SpellsReply}
-use Rattle.qpack_wire.specs.Alone.{Alone, AloneFault, Unreadable, form_named, or_unreadable, alone_at}
+use Rattle.qpack_spec.specs.Instruction.{EncoderInstruction, InsertStaticName, InsertDynamicName, InsertLiteralName}
+use Rattle.qpack_spec.specs.Instruction.{SetCapacity, DecoderInstruction, Acknowledgment, Cancellation, Increment, encoder_instruction_form}
+use Rattle.qpack_spec.specs.Instruction.{decoder_instruction_form, SpellsEncoderInstruction, SpellsDecoderInstruction}
+use Rattle.qpack_wire.specs.Alone.{Kind, KindFault, Unreadable, form_for, or_unreadable, kind_at}
 use Rattle.qpack_wire.specs.Instructions.{insert_with_name_ref, insert_without_name_ref, duplicate}
 use Rattle.qpack_wire.specs.Instructions.{dynamic_table_size_update, insert_count_increment, header_ack, stream_cancel}
 use Rattle.qpack_wire.specs.StreamLines.{encoder_instruction_of_first, decoder_instruction_of_first, RefusesEncoderLine}
-use Rattle.qpack_wire.specs.StreamLines.{RefusesDecoderLine, instruction_at, reply_at}
-use Rattle.qpack_wire.specs.declared.stream.encoder_stream.EncoderInstruction.{EncoderInstruction}
+use Rattle.qpack_wire.specs.StreamLines.{RefusesDecoderLine, encoder_instruction_at, decoder_instruction_at}
+use Rattle.qpack_wire.specs.declared.stream.encoder_stream.EncoderInstruction.{EncoderInstruction as EncoderKind}
 use Rattle.qpack_wire.specs.declared.stream.encoder_stream.EncoderInstruction.TheVariants as encoder
-use Rattle.qpack_wire.specs.declared.stream.decoder_stream.DecoderInstruction.{DecoderInstruction}
+use Rattle.qpack_wire.specs.declared.stream.decoder_stream.DecoderInstruction.{DecoderInstruction as DecoderKind}
 use Rattle.qpack_wire.specs.declared.stream.decoder_stream.DecoderInstruction.TheVariants as decoder
 use Rattle.qpack_wire.specs.Memory.{AsksForMemory, AsksAt}
 use Rattle.qpack_wire.proofs.Asking.{asks_alone, asks_same}
@@ -37,46 +37,46 @@ abbrev BeginsWith : ℕ → List ℕ → Type 0
 BeginsWith b rest = rest ≡ b ∷ drop 1 rest
 
 -- where the form alone and the stream name the same form, it is read as the stream's
-abbrev pub Shares : {L : Type 0} → (ℕ → Option (Form L)) → Alone L → ℕ → Type 0
-Shares {L} form_of a b = (form : Form L) × (form_named a b ≡ Some form) × (form_of b ≡ Some form)
+abbrev pub Shares : {L : Type 0} → (ℕ → Option (Form L)) → Kind L → ℕ → Type 0
+Shares {L} form_of a b = (form : Form L) × (form_for a b ≡ Some form) × (form_of b ≡ Some form)
 
-as_form : {L : Type 0} (form_of : ℕ → Option (Form L)) (a : Alone L) → Coherent a → (b : ℕ) (rest : List ℕ)
-    → BeginsWith b rest → Shares form_of a b → alone_at a rest ≡ or_unreadable (form_at form_of rest)
+as_form : {L : Type 0} (form_of : ℕ → Option (Form L)) (a : Kind L) → Coherent a → (b : ℕ) (rest : List ℕ)
+    → BeginsWith b rest → Shares form_of a b → kind_at a rest ≡ or_unreadable (form_at form_of rest)
 as_form form_of a c b rest e s =
-    ap (alone_at a) e ∙ alone_own a c b (drop 1 rest) s.0 s.1
+    ap (kind_at a) e ∙ alone_own a c b (drop 1 rest) s.0 s.1
     ∙ sym (ap or_unreadable (form_own form_of b (drop 1 rest) s.0 s.2))
     ∙ sym (ap (λ bytes. or_unreadable (form_at form_of bytes)) e)
 
 -- ---- encoder instructions
 
-pub shares_duplicate : (b : ℕ) → b < 32 → Shares instruction_form duplicate b
-unfolding instruction_form
+pub shares_duplicate : (b : ℕ) → b < 32 → Shares encoder_instruction_form duplicate b
+unfolding encoder_instruction_form
 shares_duplicate b h =
     (Index 5 instruction.Duplicate, (let q : b / 32 ≡ 0 = omega arith in rw q refl), rw (below b 32 h) refl)
 
-pub shares_size_update : (b : ℕ) → 32 ≤ b → b < 64 → Shares instruction_form dynamic_table_size_update b
-unfolding instruction_form
+pub shares_size_update : (b : ℕ) → 32 ≤ b → b < 64 → Shares encoder_instruction_form dynamic_table_size_update b
+unfolding encoder_instruction_form
 shares_size_update b low high =
     (Index 5 SetCapacity, (let q : b / 32 ≡ 1 = omega arith in rw q refl), rw (above b 32 low, below b 64 high) refl)
 
-pub shares_literal : (b : ℕ) → 64 ≤ b → b < 128 → Shares instruction_form insert_without_name_ref b
-unfolding instruction_form
+pub shares_literal : (b : ℕ) → 64 ≤ b → b < 128 → Shares encoder_instruction_form insert_without_name_ref b
+unfolding encoder_instruction_form
 shares_literal b low high = (
   NameAndValue 6 InsertLiteralName,
   (let q : b / 64 ≡ 1 = omega arith in rw q refl),
   rw (above b 32 (omega arith), above b 64 low, below b 128 high) refl,
 )
 
-shares_dynamic : (b : ℕ) → 128 ≤ b → b < 192 → Shares instruction_form insert_with_name_ref b
-unfolding instruction_form
+shares_dynamic : (b : ℕ) → 128 ≤ b → b < 192 → Shares encoder_instruction_form insert_with_name_ref b
+unfolding encoder_instruction_form
 shares_dynamic b low high = (
   IndexAndValue 6 InsertDynamicName,
   (let q : b / 64 ≡ 2 = omega arith in rw q refl),
   rw (above b 32 (omega arith), above b 64 (omega arith), above b 128 low, below b 192 high) refl,
 )
 
-shares_static : (b : ℕ) → 192 ≤ b → b < 256 → Shares instruction_form insert_with_name_ref b
-unfolding instruction_form
+shares_static : (b : ℕ) → 192 ≤ b → b < 256 → Shares encoder_instruction_form insert_with_name_ref b
+unfolding encoder_instruction_form
 shares_static b low high = (
   IndexAndValue 6 InsertStaticName,
   (let q : b / 64 ≡ 3 = omega arith in rw q refl),
@@ -89,7 +89,7 @@ shares_static b low high = (
   ) refl,
 )
 
-pub shares_name : (b : ℕ) → 128 ≤ b → b < 256 → Shares instruction_form insert_with_name_ref b
+pub shares_name : (b : ℕ) → 128 ≤ b → b < 256 → Shares encoder_instruction_form insert_with_name_ref b
 shares_name b low high =
     elim (cases_lt b 192) [
       | inl h ↦ shares_dynamic b low h
@@ -97,7 +97,7 @@ shares_name b low high =
     ]
 
 -- the first bytes of each encoder instruction
-abbrev ToldEncoder : ℕ → EncoderInstruction → Type 0
+abbrev ToldEncoder : ℕ → EncoderKind → Type 0
 ToldEncoder b encoder.DynamicTableSizeUpdate = (32 ≤ b) × (b < 64)
 ToldEncoder b encoder.InsertWithNameRef = 128 ≤ b
 ToldEncoder b encoder.InsertWithoutNameRef = (64 ≤ b) × (b < 128)
@@ -116,7 +116,7 @@ told_literal b low high = rw (above b 32 (omega arith), above b 64 low, below b 
 told_name : (b : ℕ) → 128 ≤ b → encoder_instruction_of_first b ≡ encoder.InsertWithNameRef
 told_name b low = rw (above b 32 (omega arith), above b 64 (omega arith), above b 128 low) refl
 
-told_encoder : (b : ℕ) (i : EncoderInstruction) → encoder_instruction_of_first b ≡ i → ToldEncoder b i
+told_encoder : (b : ℕ) (i : EncoderKind) → encoder_instruction_of_first b ≡ i → ToldEncoder b i
 told_encoder b i e =
     subst (ToldEncoder b) e
     (elim (cases_lt b 32) as (λ _. ToldEncoder b (encoder_instruction_of_first b)) [
@@ -136,50 +136,50 @@ pub no_unknown_encoder : (b : ℕ) → encoder_instruction_of_first b ≡ encode
 no_unknown_encoder b e = told_encoder b encoder.Unknown e
 
 pub as_duplicate : (b : ℕ) (rest : List ℕ) → b < 256 → BeginsWith b rest
-    → encoder_instruction_of_first b ≡ encoder.Duplicate → alone_at duplicate rest ≡ instruction_at rest
-as_duplicate b rest h e f = as_form instruction_form duplicate coherent_duplicate b rest e
+    → encoder_instruction_of_first b ≡ encoder.Duplicate → kind_at duplicate rest ≡ encoder_instruction_at rest
+as_duplicate b rest h e f = as_form encoder_instruction_form duplicate coherent_duplicate b rest e
     (shares_duplicate b (told_encoder b encoder.Duplicate f))
 
 pub as_size_update : (b : ℕ) (rest : List ℕ) → b < 256 → BeginsWith b rest
     → encoder_instruction_of_first b ≡ encoder.DynamicTableSizeUpdate
-    → alone_at dynamic_table_size_update rest ≡ instruction_at rest
+    → kind_at dynamic_table_size_update rest ≡ encoder_instruction_at rest
 as_size_update b rest h e f =
     let t = told_encoder b encoder.DynamicTableSizeUpdate f in
-    as_form instruction_form dynamic_table_size_update coherent_dynamic_table_size_update b rest e
+    as_form encoder_instruction_form dynamic_table_size_update coherent_dynamic_table_size_update b rest e
     (shares_size_update b t.0 t.1)
 
 pub as_literal_insert : (b : ℕ) (rest : List ℕ) → b < 256 → BeginsWith b rest
     → encoder_instruction_of_first b ≡ encoder.InsertWithoutNameRef
-    → alone_at insert_without_name_ref rest ≡ instruction_at rest
+    → kind_at insert_without_name_ref rest ≡ encoder_instruction_at rest
 as_literal_insert b rest h e f =
     let t = told_encoder b encoder.InsertWithoutNameRef f in
-    as_form instruction_form insert_without_name_ref tt b rest e (shares_literal b t.0 t.1)
+    as_form encoder_instruction_form insert_without_name_ref tt b rest e (shares_literal b t.0 t.1)
 
 pub as_name_insert : (b : ℕ) (rest : List ℕ) → b < 256 → BeginsWith b rest
     → encoder_instruction_of_first b ≡ encoder.InsertWithNameRef
-    → alone_at insert_with_name_ref rest ≡ instruction_at rest
+    → kind_at insert_with_name_ref rest ≡ encoder_instruction_at rest
 as_name_insert b rest h e f =
-    as_form instruction_form insert_with_name_ref coherent_insert_with_name_ref b rest e
+    as_form encoder_instruction_form insert_with_name_ref coherent_insert_with_name_ref b rest e
     (shares_name b (told_encoder b encoder.InsertWithNameRef f) h)
 
 -- memory is asked for the instruction where it is for its kind
 
-asks_form : {L : Type 0} (form_of : ℕ → Option (Form L)) (a : Alone L) (b : ℕ) (rest : List ℕ) → BeginsWith b rest
+asks_form : {L : Type 0} (form_of : ℕ → Option (Form L)) (a : Kind L) (b : ℕ) (rest : List ℕ) → BeginsWith b rest
     → Shares form_of a b → AsksAt a rest → AsksForMemory form_of rest
-asks_form form_of a b rest e s h = asks_same (form_named a) form_of b rest e (s.1 ∙ sym s.2) (asks_alone a rest h)
+asks_form form_of a b rest e s h = asks_same (form_for a) form_of b rest e (s.1 ∙ sym s.2) (asks_alone a rest h)
 
 pub asks_name_insert : (b : ℕ) (rest : List ℕ) → b < 256 → BeginsWith b rest
     → encoder_instruction_of_first b ≡ encoder.InsertWithNameRef → AsksAt insert_with_name_ref rest
-    → AsksForMemory instruction_form rest
-asks_name_insert b rest h e f a = asks_form instruction_form insert_with_name_ref b rest e
+    → AsksForMemory encoder_instruction_form rest
+asks_name_insert b rest h e f a = asks_form encoder_instruction_form insert_with_name_ref b rest e
     (shares_name b (told_encoder b encoder.InsertWithNameRef f) h) a
 
 pub asks_literal_insert : (b : ℕ) (rest : List ℕ) → b < 256 → BeginsWith b rest
     → encoder_instruction_of_first b ≡ encoder.InsertWithoutNameRef → AsksAt insert_without_name_ref rest
-    → AsksForMemory instruction_form rest
+    → AsksForMemory encoder_instruction_form rest
 asks_literal_insert b rest h e f a =
     let t = told_encoder b encoder.InsertWithoutNameRef f in
-    asks_form instruction_form insert_without_name_ref b rest e (shares_literal b t.0 t.1) a
+    asks_form encoder_instruction_form insert_without_name_ref b rest e (shares_literal b t.0 t.1) a
 
 -- each encoder instruction, where the first byte tells it
 pub ruleset encoder_by_first = (
@@ -194,17 +194,17 @@ pub ruleset encoder_by_first = (
 
 -- ---- decoder instructions
 
-pub shares_increment : (b : ℕ) → b < 64 → Shares reply_form insert_count_increment b
-unfolding reply_form
+pub shares_increment : (b : ℕ) → b < 64 → Shares decoder_instruction_form insert_count_increment b
+unfolding decoder_instruction_form
 shares_increment b h = (Index 6 Increment, (let q : b / 64 ≡ 0 = omega arith in rw q refl), rw (below b 64 h) refl)
 
-pub shares_cancel : (b : ℕ) → 64 ≤ b → b < 128 → Shares reply_form stream_cancel b
-unfolding reply_form
+pub shares_cancel : (b : ℕ) → 64 ≤ b → b < 128 → Shares decoder_instruction_form stream_cancel b
+unfolding decoder_instruction_form
 shares_cancel b low high =
     (Index 6 Cancellation, (let q : b / 64 ≡ 1 = omega arith in rw q refl), rw (above b 64 low, below b 128 high) refl)
 
-pub shares_ack : (b : ℕ) → 128 ≤ b → b < 256 → Shares reply_form header_ack b
-unfolding reply_form
+pub shares_ack : (b : ℕ) → 128 ≤ b → b < 256 → Shares decoder_instruction_form header_ack b
+unfolding decoder_instruction_form
 shares_ack b low high = (
   Index 7 Acknowledgment,
   (let q : b / 128 ≡ 1 = omega arith in rw q refl),
@@ -212,7 +212,7 @@ shares_ack b low high = (
 )
 
 -- the first bytes of each decoder instruction
-abbrev ToldDecoder : ℕ → DecoderInstruction → Type 0
+abbrev ToldDecoder : ℕ → DecoderKind → Type 0
 ToldDecoder b decoder.HeaderAck = 128 ≤ b
 ToldDecoder b decoder.StreamCancel = (64 ≤ b) × (b < 128)
 ToldDecoder b decoder.InsertCountIncrement = b < 64
@@ -227,7 +227,7 @@ told_cancel b low high = rw (above b 64 low, below b 128 high) refl
 told_ack : (b : ℕ) → 128 ≤ b → decoder_instruction_of_first b ≡ decoder.HeaderAck
 told_ack b low = rw (above b 64 (omega arith), above b 128 low) refl
 
-told_decoder : (b : ℕ) (i : DecoderInstruction) → decoder_instruction_of_first b ≡ i → ToldDecoder b i
+told_decoder : (b : ℕ) (i : DecoderKind) → decoder_instruction_of_first b ≡ i → ToldDecoder b i
 told_decoder b i e =
     subst (ToldDecoder b) e
     (elim (cases_lt b 64) as (λ _. ToldDecoder b (decoder_instruction_of_first b)) [
@@ -244,21 +244,21 @@ no_unknown_decoder b e = told_decoder b decoder.Unknown e
 
 pub as_increment : (b : ℕ) (rest : List ℕ) → b < 256 → BeginsWith b rest
     → decoder_instruction_of_first b ≡ decoder.InsertCountIncrement
-    → alone_at insert_count_increment rest ≡ reply_at rest
+    → kind_at insert_count_increment rest ≡ decoder_instruction_at rest
 as_increment b rest h e f =
-    as_form reply_form insert_count_increment coherent_insert_count_increment b rest e
+    as_form decoder_instruction_form insert_count_increment coherent_insert_count_increment b rest e
     (shares_increment b (told_decoder b decoder.InsertCountIncrement f))
 
 pub as_cancel : (b : ℕ) (rest : List ℕ) → b < 256 → BeginsWith b rest
-    → decoder_instruction_of_first b ≡ decoder.StreamCancel → alone_at stream_cancel rest ≡ reply_at rest
+    → decoder_instruction_of_first b ≡ decoder.StreamCancel → kind_at stream_cancel rest ≡ decoder_instruction_at rest
 as_cancel b rest h e f =
     let t = told_decoder b decoder.StreamCancel f in
-    as_form reply_form stream_cancel coherent_stream_cancel b rest e (shares_cancel b t.0 t.1)
+    as_form decoder_instruction_form stream_cancel coherent_stream_cancel b rest e (shares_cancel b t.0 t.1)
 
 pub as_ack : (b : ℕ) (rest : List ℕ) → b < 256 → BeginsWith b rest → decoder_instruction_of_first b ≡ decoder.HeaderAck
-    → alone_at header_ack rest ≡ reply_at rest
+    → kind_at header_ack rest ≡ decoder_instruction_at rest
 as_ack b rest h e f =
-    as_form reply_form header_ack coherent_header_ack b rest e (shares_ack b (told_decoder b decoder.HeaderAck f) h)
+    as_form decoder_instruction_form header_ack coherent_header_ack b rest e (shares_ack b (told_decoder b decoder.HeaderAck f) h)
 
 -- each decoder instruction, where the first byte tells it
 pub ruleset decoder_by_first = (as_increment, as_cancel, as_ack, no_unknown_decoder)
@@ -266,22 +266,22 @@ pub ruleset decoder_by_first = (as_increment, as_cancel, as_ack, no_unknown_deco
 -- ---- reading a stream's line is its relation
 
 nothing_at : {L : Type 0} (form_of : ℕ → Option (Form L)) (seen rest : List ℕ) → length seen ≡ 0 → seen ≡ rest
-    → (let r : Result (L × List ℕ) AloneFault = or_unreadable (form_at form_of rest) in r)
+    → (let r : Result (L × List ℕ) KindFault = or_unreadable (form_at form_of rest) in r)
     ≡ Err (Unreadable (BadInteger UnexpectedEnd))
 unfolding form_at
 nothing_at form_of [] rest h e = ap (λ bytes. or_unreadable (form_at form_of bytes)) (sym e)
 nothing_at form_of (x ∷ xs) rest h e = absurd (omega arith)
 
 pub no_instruction : (seen rest : List ℕ) → length seen ≡ 0 → seen ≡ rest
-    → instruction_at rest ≡ Err (Unreadable (BadInteger UnexpectedEnd))
-no_instruction seen rest h e = nothing_at instruction_form seen rest h e
+    → encoder_instruction_at rest ≡ Err (Unreadable (BadInteger UnexpectedEnd))
+no_instruction seen rest h e = nothing_at encoder_instruction_form seen rest h e
 
-pub no_reply : (seen rest : List ℕ) → length seen ≡ 0 → seen ≡ rest
-    → reply_at rest ≡ Err (Unreadable (BadInteger UnexpectedEnd))
-no_reply seen rest h e = nothing_at reply_form seen rest h e
+pub no_decoder_instruction : (seen rest : List ℕ) → length seen ≡ 0 → seen ≡ rest
+    → decoder_instruction_at rest ≡ Err (Unreadable (BadInteger UnexpectedEnd))
+no_decoder_instruction seen rest h e = nothing_at decoder_instruction_form seen rest h e
 
-pub instruction_follows : Follows Instruction SpellsInstruction RefusesEncoderLine instruction_at
-instruction_follows = forms_follow instruction_form RefusesEncoderLine (λ text f. (λ r. r, λ r. r)) (λ text bits r. r)
+pub instruction_follows : Follows EncoderInstruction SpellsEncoderInstruction RefusesEncoderLine encoder_instruction_at
+instruction_follows = forms_follow encoder_instruction_form RefusesEncoderLine (λ encoding f. (λ r. r, λ r. r)) (λ encoding bits r. r)
 
-pub reply_follows : Follows Reply SpellsReply RefusesDecoderLine reply_at
-reply_follows = forms_follow reply_form RefusesDecoderLine (λ text f. (λ r. r, λ r. r)) (λ text bits r. r)
+pub decoder_instruction_follows : Follows DecoderInstruction SpellsDecoderInstruction RefusesDecoderLine decoder_instruction_at
+decoder_instruction_follows = forms_follow decoder_instruction_form RefusesDecoderLine (λ encoding f. (λ r. r, λ r. r)) (λ encoding bits r. r)

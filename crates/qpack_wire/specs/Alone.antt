@@ -7,60 +7,60 @@ use Rattle.qpack_spec.specs.Form.{made_at}
 
 -- how the forms are told from others: by the flags above a first integer with a prefix of n bits, once it is read, or
 -- by the whole first byte
-pub data Alone (L : Type 0) : Type 0 where
-  ByFlags : (n : ℕ) (named : ℕ → Option (Form L)) → Alone L
-  ByFirstByte : (named : ℕ → Option (Form L)) → Alone L
+pub data Kind (L : Type 0) : Type 0 where
+  ByFlags : (n : ℕ) (named : ℕ → Option (Form L)) → Kind L
+  ByFirstByte : (named : ℕ → Option (Form L)) → Kind L
 
 -- why nothing is read: the bytes of the form, or first bits that are another's
-pub data AloneFault : Type 0 where
-  Unreadable : (fault : FormFault) → AloneFault
-  Foreign : (bits : ℕ) → AloneFault
+pub data KindFault : Type 0 where
+  Unreadable : (fault : FormFault) → KindFault
+  Foreign : (bits : ℕ) → KindFault
 
 -- the form that a first byte names
-abbrev pub form_named : {L : Type 0} → Alone L → ℕ → Option (Form L)
-form_named (ByFlags n named) first = named (first / 2 ^ n)
-form_named (ByFirstByte named) first = named first
+abbrev pub form_for : {L : Type 0} → Kind L → ℕ → Option (Form L)
+form_for (ByFlags n named) first = named (first / 2 ^ n)
+form_for (ByFirstByte named) first = named first
 
 -- the bytes are a spelling in one of the forms
-abbrev pub SpellsAlone : {L : Type 0} → Alone L → List ℕ → L → Type 0
-SpellsAlone {L} a text l = Spells L (form_named a) text l
+abbrev pub SpellsKind : {L : Type 0} → Kind L → List ℕ → L → Type 0
+SpellsKind {L} a encoding l = Spells L (form_for a) encoding l
 
 -- behind first bits that are another form's, a whole integer is refused
-abbrev pub RefusesForeign : {L : Type 0} → Alone L → List ℕ → FormFault → Type 0
+abbrev pub RefusesForeign : {L : Type 0} → Kind L → List ℕ → FormFault → Type 0
 RefusesForeign (ByFlags n named) [] fault = ⊥
 RefusesForeign (ByFlags n named) (b ∷ bs) fault = (named (b / 2 ^ n) ≡ None) × RefusesIndex n (b ∷ bs) fault
-RefusesForeign (ByFirstByte named) text fault = ⊥
+RefusesForeign (ByFirstByte named) encoding fault = ⊥
 
 -- the first bits are another form's: the flags above a whole integer, or the first byte
-abbrev pub IsForeign : {L : Type 0} → Alone L → List ℕ → ℕ → Type 0
-IsForeign (ByFlags n named) text bits = (named bits ≡ None) × ((value : ℕ) × SpellsInteger n text bits value)
-IsForeign (ByFirstByte named) text bits = (named bits ≡ None) × (text ≡ bits ∷ [])
+abbrev pub IsForeign : {L : Type 0} → Kind L → List ℕ → ℕ → Type 0
+IsForeign (ByFlags n named) encoding bits = (named bits ≡ None) × ((value : ℕ) × SpellsInteger n encoding bits value)
+IsForeign (ByFirstByte named) encoding bits = (named bits ≡ None) × (encoding ≡ bits ∷ [])
 
 -- the bytes are refused
-abbrev pub RefusesAlone : {L : Type 0} → Alone L → List ℕ → AloneFault → Type 0
-RefusesAlone {L} a text (Unreadable fault) = Refuses L (form_named a) text fault ⊎ RefusesForeign a text fault
-RefusesAlone a text (Foreign bits) = IsForeign a text bits
+abbrev pub RefusesKind : {L : Type 0} → Kind L → List ℕ → KindFault → Type 0
+RefusesKind {L} a encoding (Unreadable fault) = Refuses L (form_for a) encoding fault ⊎ RefusesForeign a encoding fault
+RefusesKind a encoding (Foreign bits) = IsForeign a encoding bits
 
 -- the fault is that the bytes end early
-abbrev pub is_cut_alone : AloneFault → Bool
-is_cut_alone (Unreadable fault) = is_cut fault
-is_cut_alone (Foreign bits) = false
+abbrev pub is_cut_kind : KindFault → Bool
+is_cut_kind (Unreadable fault) = is_cut fault
+is_cut_kind (Foreign bits) = false
 
 -- ---- the same, as reading from left to right
 
 -- a form's fault as that of its reader
-abbrev pub or_unreadable : {A : Type 0} → Result A FormFault → Result A AloneFault
+abbrev pub or_unreadable : {A : Type 0} → Result A FormFault → Result A KindFault
 or_unreadable (Ok x) = Ok x
 or_unreadable (Err fault) = Err (Unreadable fault)
 
 -- what the named form makes of the bytes
-abbrev pub made_or_foreign : {L : Type 0} → ℕ → Option (Form L) → List ℕ → Result (L × List ℕ) AloneFault
+abbrev pub made_or_foreign : {L : Type 0} → ℕ → Option (Form L) → List ℕ → Result (L × List ℕ) KindFault
 made_or_foreign bits None bytes = Err (Foreign bits)
 made_or_foreign bits (Some form) bytes = or_unreadable (made_at form bytes)
 
 -- what stands at the front of the bytes, and the bytes behind it
-unfoldable pub alone_at : {L : Type 0} → Alone L → List ℕ → Result (L × List ℕ) AloneFault
-alone_at (ByFlags n named) bytes =
+unfoldable pub kind_at : {L : Type 0} → Kind L → List ℕ → Result (L × List ℕ) KindFault
+kind_at (ByFlags n named) bytes =
     or_unreadable (or_bad_integer (integer_at n bytes)) >>= λ i. made_or_foreign i.0 (named i.0) bytes
-alone_at (ByFirstByte named) [] = Err (Unreadable (BadInteger UnexpectedEnd))
-alone_at (ByFirstByte named) (b ∷ bytes) = made_or_foreign b (named b) (b ∷ bytes)
+kind_at (ByFirstByte named) [] = Err (Unreadable (BadInteger UnexpectedEnd))
+kind_at (ByFirstByte named) (b ∷ bytes) = made_or_foreign b (named b) (b ∷ bytes)

@@ -3,17 +3,17 @@ use Rattle.std.specs.Prelude.{◌≡◌, ℕ, ◌⊎◌, List, ◌++◌, Option,
 use Rattle.qpack_spec.specs.Bytes.{Begins}
 use Rattle.qpack_spec.specs.Text.{EndsEarly, LengthOverflows, BadHuffman}
 use Rattle.qpack_spec.specs.Form.{BadInteger, BadString}
-use Rattle.qpack_base.specs.Cursor.{Reading, MovesPast}
+use Rattle.qpack_base.specs.Cursor.{CursorView, MovesPast}
 use Rattle.qpack_base.specs.Integers.{integer_fault_of}
 use Rattle.qpack_base.specs.Payloads.{huffman_fault_of}
 use Rattle.qpack_base.specs.declared.prefix_int.Error.TheVariants as integer
 use Rattle.qpack_base.specs.declared.prefix_string.Error.TheVariants as string
 use Rattle.qpack_base.specs.declared.parse_error.ParseError.{ParseError}
 use Rattle.qpack_base.specs.declared.parse_error.ParseError.TheVariants.{Integer, String, InvalidPrefix, Memory}
-use Rattle.qpack_wire.specs.Alone.{AloneFault, Unreadable, Foreign, is_cut_alone}
+use Rattle.qpack_wire.specs.Alone.{KindFault, Unreadable, Foreign, is_cut_kind}
 
 -- the fault that an error tells, where a reader of forms can answer it
-abbrev pub fault_of : ParseError → Option AloneFault
+abbrev pub fault_of : ParseError → Option KindFault
 fault_of (Integer e) = Some (Unreadable (BadInteger (integer_fault_of e)))
 fault_of (String string.UnexpectedEnd) = Some (Unreadable (BadString EndsEarly))
 fault_of (String (string.Integer integer.Overflow)) = Some (Unreadable (BadString LengthOverflows))
@@ -22,11 +22,11 @@ fault_of (InvalidPrefix bits) = Some (Foreign bits)
 fault_of e = None
 
 -- the error tells this fault
-abbrev pub Tells : ParseError → AloneFault → Type 0
+abbrev pub Tells : ParseError → KindFault → Type 0
 Tells e fault = fault_of e ≡ Some fault
 
 -- the answer is a refusal for this fault
-abbrev pub Fails : {V : Type 0} → Result V ParseError → AloneFault → Type 0
+abbrev pub Fails : {V : Type 0} → Result V ParseError → KindFault → Type 0
 Fails (Ok v) fault = ⊥
 Fails (Err e) fault = Tells e fault
 
@@ -37,45 +37,45 @@ Gives view (Err e) l moved = ⊥
 
 -- the answer is a refusal because the bytes end early
 abbrev pub FailsEarly : {V : Type 0} → Result V ParseError → Type 0
-FailsEarly r = (fault : AloneFault) × (is_cut_alone fault ≡ true) × Fails r fault
+FailsEarly r = (fault : KindFault) × (is_cut_kind fault ≡ true) × Fails r fault
 
 -- ---- the clauses of a reader, for what spells a value and what is refused
 
 -- no front is a spelling or a refusal
-abbrev pub IsTruncated : {L : Type 0} → (List ℕ → L → Type 0) → (List ℕ → AloneFault → Type 0) → List ℕ → Type 0
+abbrev pub IsTruncated : {L : Type 0} → (List ℕ → L → Type 0) → (List ℕ → KindFault → Type 0) → List ℕ → Type 0
 IsTruncated {L} spells refuses bytes =
-    (text rest : List ℕ) → bytes ≡ text ++ rest
-    → ((l : L) → spells text l → ⊥) × ((fault : AloneFault) → refuses text fault → ⊥)
+    (encoding rest : List ℕ) → bytes ≡ encoding ++ rest
+    → ((l : L) → spells encoding l → ⊥) × ((fault : KindFault) → refuses encoding fault → ⊥)
 
 -- what is read is spelled so, and the cursor moves past exactly it
-abbrev pub FindsSpelling : {V L : Type 0} → (V → L) → (List ℕ → L → Type 0) → Reading → Reading → Result V ParseError
+abbrev pub FindsSpelling : {V L : Type 0} → (V → L) → (List ℕ → L → Type 0) → CursorView → CursorView → Result V ParseError
     → Type 0
-FindsSpelling view spells old new r = IfOk r (λ v. (text : List ℕ) × spells text (view v) × MovesPast text old new)
+FindsSpelling view spells old new r = IfOk r (λ v. (encoding : List ℕ) × spells encoding (view v) × MovesPast encoding old new)
 
 -- what is spelled so is read, whatever follows, unless memory is refused
-abbrev pub ReadsSpelling : {V L : Type 0} → (V → L) → (List ℕ → L → Type 0) → Reading → Reading → Result V ParseError
+abbrev pub ReadsSpelling : {V L : Type 0} → (V → L) → (List ℕ → L → Type 0) → CursorView → CursorView → Result V ParseError
     → Type 0
 ReadsSpelling {V} {L} view spells old new r =
-    (text rest : List ℕ) (l : L) → spells text l → old.rest ≡ text ++ rest
-    → Gives view r l (MovesPast text old new) ⊎ (r ≡ Err Memory)
+    (encoding rest : List ℕ) (l : L) → spells encoding l → old.rest ≡ encoding ++ rest
+    → Gives view r l (MovesPast encoding old new) ⊎ (r ≡ Err Memory)
 
 -- each refusal exactly where it stands, unless memory is refused
-abbrev pub TellsRefusal : {V : Type 0} → (List ℕ → AloneFault → Type 0) → Reading → Result V ParseError → Type 0
+abbrev pub TellsRefusal : {V : Type 0} → (List ℕ → KindFault → Type 0) → CursorView → Result V ParseError → Type 0
 TellsRefusal refuses old r =
-    (fault : AloneFault)
-    → (is_cut_alone fault ≡ false → Fails r fault → Begins (λ text. refuses text fault) old.rest)
-    × (Begins (λ text. refuses text fault) old.rest → Fails r fault ⊎ (r ≡ Err Memory))
+    (fault : KindFault)
+    → (is_cut_kind fault ≡ false → Fails r fault → Begins (λ encoding. refuses encoding fault) old.rest)
+    × (Begins (λ encoding. refuses encoding fault) old.rest → Fails r fault ⊎ (r ≡ Err Memory))
 
 -- an early end exactly where the bytes are truncated, unless memory is refused
-abbrev pub TellsEnd : {V L : Type 0} → (List ℕ → L → Type 0) → (List ℕ → AloneFault → Type 0) → Reading
+abbrev pub TellsEnd : {V L : Type 0} → (List ℕ → L → Type 0) → (List ℕ → KindFault → Type 0) → CursorView
     → Result V ParseError → Type 0
 TellsEnd spells refuses old r =
     (FailsEarly r → IsTruncated spells refuses old.rest)
     × (IsTruncated spells refuses old.rest → FailsEarly r ⊎ (r ≡ Err Memory))
 
 -- a reader decodes exactly the spellings, and tells each refusal and each early end
-pub record Decodes {V L : Type 0} (view : V → L) (spells : List ℕ → L → Type 0) (refuses : List ℕ → AloneFault → Type 0)
-    (old new : Reading) (r : Result V ParseError) : Type 0 where
+pub record Decodes {V L : Type 0} (view : V → L) (spells : List ℕ → L → Type 0) (refuses : List ℕ → KindFault → Type 0)
+    (old new : CursorView) (r : Result V ParseError) : Type 0 where
   pub found : FindsSpelling view spells old new r
   pub only : ReadsSpelling view spells old new r
   pub refused : TellsRefusal refuses old r
@@ -89,12 +89,12 @@ ReadAs read None = ⊥
 ReadAs read (Some fault) = read ≡ Err fault
 
 -- the error is the fault that was read, or want of memory
-abbrev pub FailsForm : {A : Type 0} → ParseError → Result A AloneFault → Type 0
+abbrev pub FailsForm : {A : Type 0} → ParseError → Result A KindFault → Type 0
 FailsForm Memory read = Unit {0}
 FailsForm e read = ReadAs read (fault_of e)
 
 -- the answer is what was read, and the cursor stands behind it; or it is the fault
-abbrev pub ReadsForm : {V L : Type 0} → (V → L) → Reading → Reading → Result V ParseError
-    → Result (L × List ℕ) AloneFault → Type 0
+abbrev pub ReadsForm : {V L : Type 0} → (V → L) → CursorView → CursorView → Result V ParseError
+    → Result (L × List ℕ) KindFault → Type 0
 ReadsForm view old new (Ok v) read = (read ≡ Ok (view v, new.rest)) × (new.total ≡ old.total)
 ReadsForm view old new (Err e) read = FailsForm e read

@@ -2,7 +2,7 @@
 use Rattle.std.specs.Prelude.{ℕ, List, Result, if◌then◌else◌, nat_lt}
 use Rattle.qpack_spec.specs.Form.{form_at}
 use Rattle.qpack_spec.specs.Line.{Line, line_form, RefusesLine}
-use Rattle.qpack_wire.specs.Alone.{AloneFault, Unreadable, Foreign, or_unreadable}
+use Rattle.qpack_wire.specs.Alone.{KindFault, Unreadable, Foreign, or_unreadable}
 use Rattle.qpack_wire.specs.Lines.{line_of_indexed, line_of_indexed_with_post_base, line_of_literal_with_name_ref}
 use Rattle.qpack_wire.specs.Lines.{line_of_literal_with_post_base_name_ref, line_of_literal}
 use Rattle.qpack_wire.specs.declared.block.line.HeaderBlockField.{HeaderBlockField}
@@ -28,10 +28,10 @@ line_of (block.LiteralWithPostBaseNameRef l) = line_of_literal_with_post_base_na
 line_of (block.Literal l) = line_of_literal l
 
 -- the bytes are refused as a line; no first bits are foreign
-abbrev pub RefusesBlockLine : List ℕ → AloneFault → Type 0
-RefusesBlockLine text (Unreadable fault) = RefusesLine text fault
-RefusesBlockLine text (Foreign bits) = ⊥
+abbrev pub RefusesBlockLine : List ℕ → KindFault → Type 0
+RefusesBlockLine encoding (Unreadable fault) = RefusesLine encoding fault
+RefusesBlockLine encoding (Foreign bits) = ⊥
 
 -- the line at the front of the bytes, and the bytes behind it
-abbrev pub line_at : List ℕ → Result (Line × List ℕ) AloneFault
+abbrev pub line_at : List ℕ → Result (Line × List ℕ) KindFault
 line_at bytes = or_unreadable (form_at line_form bytes)

@@ -1,16 +1,16 @@
 -- The five forms that are read alone make up the lines, as statements; the crate's law functions promise them.
 use Rattle.std.specs.Prelude.{ℕ, ◌⊎◌, ◌↔◌, List}
 use Rattle.qpack_spec.specs.Line.{Line, SpellsLine}
-use Rattle.qpack_wire.specs.Alone.{SpellsAlone}
+use Rattle.qpack_wire.specs.Alone.{SpellsKind}
 use Rattle.qpack_wire.specs.Lines.{indexed, indexed_with_post_base, literal_with_name_ref}
 use Rattle.qpack_wire.specs.Lines.{literal_with_post_base_name_ref, literal}
 
 -- a spelling of a line is one in one of the five forms
 abbrev pub LinesHaveFiveForms : Type 0
 LinesHaveFiveForms =
-    (text : List ℕ) (l : Line)
-    → SpellsLine text l
-    ↔ (SpellsAlone indexed text l
-    ⊎ (SpellsAlone indexed_with_post_base text l
-    ⊎ (SpellsAlone literal_with_name_ref text l ⊎ (SpellsAlone literal_with_post_base_name_ref text l
-    ⊎ SpellsAlone literal text l))))
+    (encoding : List ℕ) (l : Line)
+    → SpellsLine encoding l
+    ↔ (SpellsKind indexed encoding l
+    ⊎ (SpellsKind indexed_with_post_base encoding l
+    ⊎ (SpellsKind literal_with_name_ref encoding l ⊎ (SpellsKind literal_with_post_base_name_ref encoding l
+    ⊎ SpellsKind literal encoding l))))

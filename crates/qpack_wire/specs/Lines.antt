@@ -5,7 +5,7 @@ use Rattle.qpack_spec.specs.Form.{Form, Index, IndexAndValue, NameAndValue}
 use Rattle.qpack_spec.specs.Line as line
 use Rattle.qpack_spec.specs.Line.{Line, IndexedStatic, IndexedDynamic, IndexedPostBase, NamedStatic, NamedDynamic}
 use Rattle.qpack_spec.specs.Line.{NamedPostBase}
-use Rattle.qpack_wire.specs.Alone.{Alone, ByFlags, ByFirstByte}
+use Rattle.qpack_wire.specs.Alone.{Kind, ByFlags, ByFirstByte}
 use Rattle.qpack_wire.specs.declared.block.indexes.Indexed.{Indexed}
 use Rattle.qpack_wire.specs.declared.block.indexes.Indexed.TheVariants as indexes
 use Rattle.qpack_wire.specs.declared.block.indexes.IndexedWithPostBase.{IndexedWithPostBase}
@@ -22,7 +22,7 @@ indexed_form flags =
     else None
 
 -- an indexed field line (section 4.5.2)
-abbrev pub indexed : Alone Line
+abbrev pub indexed : Kind Line
 indexed = ByFlags 6 indexed_form
 
 -- the first bits 0001
@@ -30,7 +30,7 @@ abbrev pub indexed_with_post_base_form : ℕ → Option (Form Line)
 indexed_with_post_base_form flags = if nat_eq flags 1 then Some (Index 4 IndexedPostBase) else None
 
 -- an indexed field line with a post-base index (section 4.5.3)
-abbrev pub indexed_with_post_base : Alone Line
+abbrev pub indexed_with_post_base : Kind Line
 indexed_with_post_base = ByFlags 4 indexed_with_post_base_form
 
 -- the first bits 01NT, T being 1 for the static table; N is free
@@ -41,7 +41,7 @@ literal_with_name_ref_form flags =
     else None
 
 -- a literal field line with a name reference (section 4.5.4)
-abbrev pub literal_with_name_ref : Alone Line
+abbrev pub literal_with_name_ref : Kind Line
 literal_with_name_ref = ByFlags 4 literal_with_name_ref_form
 
 -- the first bits 0000N; N is free
@@ -49,7 +49,7 @@ abbrev pub literal_with_post_base_name_ref_form : ℕ → Option (Form Line)
 literal_with_post_base_name_ref_form flags = if nat_lt flags 2 then Some (IndexAndValue 3 NamedPostBase) else None
 
 -- a literal field line with a post-base name reference (section 4.5.5)
-abbrev pub literal_with_post_base_name_ref : Alone Line
+abbrev pub literal_with_post_base_name_ref : Kind Line
 literal_with_post_base_name_ref = ByFlags 3 literal_with_post_base_name_ref_form
 
 -- the first bits 001NH; N is free
@@ -57,7 +57,7 @@ abbrev pub literal_form : ℕ → Option (Form Line)
 literal_form first = if nat_eq (first / 32) 1 then Some (NameAndValue 4 line.Literal) else None
 
 -- a literal field line with a literal name (section 4.5.6), told by its whole first byte
-abbrev pub literal : Alone Line
+abbrev pub literal : Kind Line
 literal = ByFirstByte literal_form
 
 -- ---- the lines that values of the code stand for

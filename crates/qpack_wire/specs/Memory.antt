@@ -5,23 +5,23 @@ use Rattle.qpack_spec.specs.Bytes.{Begins}
 use Rattle.qpack_spec.specs.Integer.{integer_at}
 use Rattle.qpack_spec.specs.Text.{HoldsPayload, string_at}
 use Rattle.qpack_spec.specs.Form.{Form, Index, IndexAndValue, NameAndValue, HoldsIndex, HoldsText, InTurn}
-use Rattle.qpack_wire.specs.Alone.{Alone, ByFlags, ByFirstByte}
+use Rattle.qpack_wire.specs.Alone.{Kind, ByFlags, ByFirstByte}
 
 -- the bytes are the front of the form, to the end of such a string: the name, or the value behind a whole index or name
 abbrev pub AsksForm : {L : Type 0} → Form L → List ℕ → Type 0
-AsksForm (Index n make) text = ⊥
-AsksForm (IndexAndValue n make) text = InTurn (λ t. (index : ℕ) × HoldsIndex n index t) (HoldsPayload 8) text
-AsksForm (NameAndValue n make) text =
-    HoldsPayload n text ⊎ InTurn (λ t. (name : List ℕ) × HoldsText n name t) (HoldsPayload 8) text
+AsksForm (Index n make) encoding = ⊥
+AsksForm (IndexAndValue n make) encoding = InTurn (λ t. (index : ℕ) × HoldsIndex n index t) (HoldsPayload 8) encoding
+AsksForm (NameAndValue n make) encoding =
+    HoldsPayload n encoding ⊎ InTurn (λ t. (name : List ℕ) × HoldsText n name t) (HoldsPayload 8) encoding
 
 -- the bytes are such a front of the form that their first byte names
-pub record Asks (L : Type 0) (form_of : ℕ → Option (Form L)) (text : List ℕ) : Type 0 where
+pub record Asks (L : Type 0) (form_of : ℕ → Option (Form L)) (encoding : List ℕ) : Type 0 where
   pub first : ℕ
   pub more : List ℕ
   pub form : Form L
-  pub begins : text ≡ first ∷ more
+  pub begins : encoding ≡ first ∷ more
   pub names : form_of first ≡ Some form
-  pub asks : AsksForm form text
+  pub asks : AsksForm form encoding
 
 -- memory may be asked for: such a front stands at the front of the bytes
 abbrev pub AsksForMemory : {L : Type 0} → (ℕ → Option (Form L)) → List ℕ → Type 0
@@ -38,7 +38,7 @@ AsksFormAt (Some (NameAndValue n make)) bytes =
     Begins (HoldsPayload n) bytes ⊎ IsOkAnd (string_at n bytes) (λ m. Begins (HoldsPayload 8) m.2)
 
 -- the same of the form that the flags or the first byte name
-abbrev pub AsksAt : {L : Type 0} → Alone L → List ℕ → Type 0
+abbrev pub AsksAt : {L : Type 0} → Kind L → List ℕ → Type 0
 AsksAt (ByFlags n named) bytes = IsOkAnd (integer_at n bytes) (λ i. AsksFormAt (named i.0) bytes)
 AsksAt (ByFirstByte named) [] = ⊥
 AsksAt (ByFirstByte named) (b ∷ bytes) = AsksFormAt (named b) (b ∷ bytes)

@@ -1,35 +1,35 @@
 -- What readers of instructions answer: one, none of a truncated front, or a refusal.
 use Rattle.std.specs.Prelude.{◌≡◌, ℕ, ◌⊎◌, List, ◌++◌, Option, None, Some, Result, Ok, Err, true}
-use Rattle.qpack_base.specs.Cursor.{Reading, MovesPast}
+use Rattle.qpack_base.specs.Cursor.{CursorView, MovesPast}
 use Rattle.qpack_base.specs.declared.prefix_int.Error.TheVariants as integer
 use Rattle.qpack_base.specs.declared.prefix_string.Error.TheVariants as string
 use Rattle.qpack_base.specs.declared.parse_error.ParseError.{ParseError}
 use Rattle.qpack_base.specs.declared.parse_error.ParseError.TheVariants.{Integer, String, Memory}
-use Rattle.qpack_wire.specs.Alone.{AloneFault, is_cut_alone}
+use Rattle.qpack_wire.specs.Alone.{KindFault, is_cut_kind}
 use Rattle.qpack_wire.specs.Answers.{FailsEarly, IsTruncated, TellsRefusal, FailsForm}
 
 -- what is read is spelled so, and the cursor moves past exactly it
-abbrev pub FindsLine : {V L : Type 0} → (V → L) → (List ℕ → L → Type 0) → Reading → Reading
+abbrev pub FindsInstruction : {V L : Type 0} → (V → L) → (List ℕ → L → Type 0) → CursorView → CursorView
     → Result (Option V) ParseError → Type 0
-FindsLine view spells old new (Ok None) = Unit {0}
-FindsLine view spells old new (Ok (Some v)) = (text : List ℕ) × spells text (view v) × MovesPast text old new
-FindsLine view spells old new (Err e) = Unit {0}
+FindsInstruction view spells old new (Ok None) = Unit {0}
+FindsInstruction view spells old new (Ok (Some v)) = (encoding : List ℕ) × spells encoding (view v) × MovesPast encoding old new
+FindsInstruction view spells old new (Err e) = Unit {0}
 
 -- the answer is seen as this, and what moves moved
-abbrev pub GivesLine : {V L : Type 0} → (V → L) → Result (Option V) ParseError → L → Type 0 → Type 0
-GivesLine view (Ok None) l moved = ⊥
-GivesLine view (Ok (Some v)) l moved = (view v ≡ l) × moved
-GivesLine view (Err e) l moved = ⊥
+abbrev pub GivesInstruction : {V L : Type 0} → (V → L) → Result (Option V) ParseError → L → Type 0 → Type 0
+GivesInstruction view (Ok None) l moved = ⊥
+GivesInstruction view (Ok (Some v)) l moved = (view v ≡ l) × moved
+GivesInstruction view (Err e) l moved = ⊥
 
 -- what is spelled so is read, whatever follows, unless memory is refused
-abbrev pub ReadsLine : {V L : Type 0} → (V → L) → (List ℕ → L → Type 0) → Reading → Reading
+abbrev pub ReadsInstruction : {V L : Type 0} → (V → L) → (List ℕ → L → Type 0) → CursorView → CursorView
     → Result (Option V) ParseError → Type 0
-ReadsLine {V} {L} view spells old new r =
-    (text rest : List ℕ) (l : L) → spells text l → old.rest ≡ text ++ rest
-    → GivesLine view r l (MovesPast text old new) ⊎ (r ≡ Err Memory)
+ReadsInstruction {V} {L} view spells old new r =
+    (encoding rest : List ℕ) (l : L) → spells encoding l → old.rest ≡ encoding ++ rest
+    → GivesInstruction view r l (MovesPast encoding old new) ⊎ (r ≡ Err Memory)
 
 -- none exactly where the bytes are truncated, unless memory is refused; an early end is no refusal
-abbrev pub TellsNone : {V L : Type 0} → (List ℕ → L → Type 0) → (List ℕ → AloneFault → Type 0) → Reading
+abbrev pub TellsNone : {V L : Type 0} → (List ℕ → L → Type 0) → (List ℕ → KindFault → Type 0) → CursorView
     → Result (Option V) ParseError → Type 0
 TellsNone spells refuses old r =
     (r ≡ Ok None → IsTruncated spells refuses old.rest)
@@ -38,14 +38,14 @@ TellsNone spells refuses old r =
 
 -- a reader decodes exactly the spellings, tells each refusal, and answers none where the bytes are truncated
 pub record DecodesInstruction {V L : Type 0} (view : V → L) (spells : List ℕ → L → Type 0)
-    (refuses : List ℕ → AloneFault → Type 0) (old new : Reading) (r : Result (Option V) ParseError) : Type 0 where
-  pub found : FindsLine view spells old new r
-  pub only : ReadsLine view spells old new r
+    (refuses : List ℕ → KindFault → Type 0) (old new : CursorView) (r : Result (Option V) ParseError) : Type 0 where
+  pub found : FindsInstruction view spells old new r
+  pub only : ReadsInstruction view spells old new r
   pub refused : TellsRefusal refuses old r
   pub truncated : TellsNone spells refuses old r
 
 -- only a line that is read moves the cursor
-abbrev pub StaysUnlessRead : {V : Type 0} → Reading → Reading → Result (Option V) ParseError → Type 0
+abbrev pub StaysUnlessRead : {V : Type 0} → CursorView → CursorView → Result (Option V) ParseError → Type 0
 StaysUnlessRead old new (Ok None) = new ≡ old
 StaysUnlessRead old new (Ok (Some v)) = Unit {0}
 StaysUnlessRead old new (Err e) = new ≡ old
@@ -53,19 +53,19 @@ StaysUnlessRead old new (Err e) = new ≡ old
 -- ---- the same, as reading from left to right
 
 -- the reading ends early
-abbrev pub EndsEarly : {A : Type 0} → Result A AloneFault → Type 0
+abbrev pub EndsEarly : {A : Type 0} → Result A KindFault → Type 0
 EndsEarly (Ok x) = ⊥
-EndsEarly (Err fault) = is_cut_alone fault ≡ true
+EndsEarly (Err fault) = is_cut_kind fault ≡ true
 
 -- the error is a fault other than an early end
-abbrev pub FailsWhole : {A : Type 0} → ParseError → Result A AloneFault → Type 0
+abbrev pub FailsWhole : {A : Type 0} → ParseError → Result A KindFault → Type 0
 FailsWhole (Integer integer.UnexpectedEnd) read = ⊥
 FailsWhole (String string.UnexpectedEnd) read = ⊥
 FailsWhole e read = FailsForm e read
 
 -- the answer is what was read, and the cursor stands behind it; or none of an early end; or the fault
-abbrev pub ReadsStream : {V L : Type 0} → (V → L) → Reading → Reading → Result (Option V) ParseError
-    → Result (L × List ℕ) AloneFault → Type 0
+abbrev pub ReadsStream : {V L : Type 0} → (V → L) → CursorView → CursorView → Result (Option V) ParseError
+    → Result (L × List ℕ) KindFault → Type 0
 ReadsStream view old new (Ok None) read = EndsEarly read
 ReadsStream view old new (Ok (Some v)) read = (read ≡ Ok (view v, new.rest)) × (new.total ≡ old.total)
 ReadsStream view old new (Err e) read = FailsWhole e read

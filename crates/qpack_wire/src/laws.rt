@@ -1,6 +1,6 @@
 //! Laws of the forms that are read alone, and of streams that come in pieces.
 
-ghost use Rattle.qpack_spec.specs.Instruction.{SpellsInstruction, SpellsReply};
+ghost use Rattle.qpack_spec.specs.Instruction.{SpellsEncoderInstruction, SpellsDecoderInstruction};
 ghost use Rattle.qpack_wire.specs.Cuttings.{CuttingChangesNothing};
 ghost use Rattle.qpack_wire.specs.KindLaws.{EncodersHaveFourKinds, DecodersHaveThreeKinds};
 ghost use Rattle.qpack_wire.specs.LineLaws.{LinesHaveFiveForms};
@@ -20,6 +20,6 @@ pub fn instructions_have_their_kinds()
 /// The lines that are read of a stream do not depend on how it was cut into pieces, the unread rest
 /// being offered again each time.
 pub fn cutting_changes_nothing()
-    ensures instructions { CuttingChangesNothing SpellsInstruction }
-    ensures replies { CuttingChangesNothing SpellsReply }
+    ensures instructions { CuttingChangesNothing SpellsEncoderInstruction }
+    ensures decoder_instructions { CuttingChangesNothing SpellsDecoderInstruction }
 {}

@@ -5,14 +5,14 @@ pub mod encoder_stream;
 mod ends;
 pub mod inserts;
 pub mod lines;
-pub mod replies;
+pub mod decoder_instructions;
 pub mod updates;
 
 pub use crate::stream::decoder_stream::{DecoderInstruction, DecoderLine};
 pub use crate::stream::encoder_stream::{EncoderInstruction, EncoderLine};
 pub use crate::stream::inserts::{InsertWithNameRef, InsertWithoutNameRef};
 pub use crate::stream::lines::{Wire, next_line};
-pub use crate::stream::replies::{HeaderAck, InsertCountIncrement, StreamCancel};
+pub use crate::stream::decoder_instructions::{HeaderAck, InsertCountIncrement, StreamCancel};
 pub use crate::stream::updates::{Duplicate, DynamicTableSizeUpdate};
 
 #[cfg(test)]

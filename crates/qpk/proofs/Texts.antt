@@ -6,7 +6,7 @@ use Rattle.std.specs.declared.slice.Iter.{Iter}
 use Rattle.hex.specs.Hex.{encode_lower}
 use Rattle.qpack_spec.specs.Field.{Field, total_size}
 use Rattle.qpack_spec.specs.BlockReading.{written_block}
-use Rattle.qpack_spec.specs.Stateless.{stateless_block, held_size}
+use Rattle.qpack_spec.specs.Stateless.{stateless_block, saturated_size}
 use Rattle.qpack_base.specs.declared.field.HeaderField.{HeaderField}
 use Rattle.qpack_base.specs.HeaderFields.{DrainsFields}
 use Rattle.qpack_base.proofs.FieldLists.{fields_from_slice}
@@ -22,7 +22,7 @@ with_front front (Err n) = Err n
 
 pub encoded : (bytes : List ℕ) (s : Iter HeaderField) (xs : List HeaderField) (before block text : List ℕ) (size : ℕ)
     → before ≡ [] → iter_rest s ≡ xs → fields_from 1 (lines_of bytes) ≡ Ok (fields_in xs)
-    → DrainsFields fronts s (λ fs. (block ≡ before ++ written_block (stateless_block fs)) × (size ≡ held_size (total_size fs)))
+    → DrainsFields fronts s (λ fs. (block ≡ before ++ written_block (stateless_block fs)) × (size ≡ saturated_size (total_size fs)))
     → text ≡ encode_lower block → encode_answer bytes ≡ Ok text
 encoded bytes s xs before block text size b e read d t =
     let same = fields_from_slice s xs d.0 e d.1 in

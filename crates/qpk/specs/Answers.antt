@@ -9,7 +9,7 @@ use Rattle.qpack_spec.specs.Field.{Field}
 use Rattle.qpack_spec.specs.BlockReading.{written_block}
 use Rattle.qpack_spec.specs.Stateless.{stateless_block, stateless_reading}
 use Rattle.qpack_base.specs.declared.field.HeaderField.{HeaderField}
-use Rattle.h3_qpack.specs.Stateless.{Decodes, FailsAlone, fields_in}
+use Rattle.h3_qpack.specs.Stateless.{Decodes, FailsStateless, fields_in}
 use Rattle.h3_qpack.specs.declared.decoder.Decoded.{Decoded}
 use Rattle.h3_qpack.specs.declared.decoder.DecoderError.{DecoderError}
 use Rattle.h3_qpack.specs.declared.decoder.DecoderError.TheVariants as decoder
@@ -54,7 +54,7 @@ abbrev pub FailsHexadecimal : Fault → ℕ → Result (List ℕ) FromHexError �
 FailsHexadecimal (NoTab n) limit read = ⊥
 FailsHexadecimal NotHexadecimal limit (Ok bytes) = ⊥
 FailsHexadecimal NotHexadecimal limit (Err e) = Unit {0}
-FailsHexadecimal (Refused e) limit (Ok bytes) = FailsAlone e (stateless_reading limit bytes) × (e ≢ decoder.Memory)
+FailsHexadecimal (Refused e) limit (Ok bytes) = FailsStateless e (stateless_reading limit bytes) × (e ≢ decoder.Memory)
 FailsHexadecimal (Refused e) limit (Err h) = ⊥
 FailsHexadecimal Memory limit read = Unit {0}
 

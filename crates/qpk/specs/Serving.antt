@@ -6,7 +6,7 @@ use Rattle.std.specs.Fmt.{decimal}
 use Rattle.hex.specs.Hex.{decode_of}
 use Rattle.qpack_spec.specs.Field.{Field, total_size}
 use Rattle.qpack_base.specs.HeaderFields.{text_of}
-use Rattle.qpack_spec.specs.Stateless.{held_size, stateless_reading}
+use Rattle.qpack_spec.specs.Stateless.{saturated_size, stateless_reading}
 use Rattle.qpk.specs.Answers.{encode_answer, without_feed, FailsText, FailsHexadecimal}
 use Rattle.qpk.specs.declared.serve.Command.{Command}
 use Rattle.qpk.specs.declared.serve.Command.TheVariants.{Encode, Decode}
@@ -31,14 +31,14 @@ abbrev pub AsksForNothing : {Z : Type 0} → List (String Z) → Type 0
 AsksForNothing words = (command : Command) → AsksFor words command → ⊥
 
 -- fields as they are printed: a line each, and the line of their size
-abbrev pub shown : List Field → List ℕ
-shown fs = flat_map (λ f. text_of f ++ 10 ∷ []) fs ++ codes "size " ++ decimal (held_size (total_size fs)) ++ 10 ∷ []
+abbrev pub printed_fields : List Field → List ℕ
+printed_fields fs = flat_map (λ f. text_of f ++ 10 ∷ []) fs ++ codes "size " ++ decimal (saturated_size (total_size fs)) ++ 10 ∷ []
 
 -- the output that answers a command's input
 abbrev pub Answers : Command → List ℕ → List ℕ → Type 0
 Answers Encode input out = (text : List ℕ) × (encode_answer input ≡ Ok text) × (out ≡ text ++ 10 ∷ [])
 Answers (Decode limit) input out =
-    (block : List ℕ) × (fs : List Field) × (decode_of (without_feed input) ≡ Ok block) × (stateless_reading limit block ≡ Ok fs) × (out ≡ shown fs)
+    (block : List ℕ) × (fs : List Field) × (decode_of (without_feed input) ≡ Ok block) × (stateless_reading limit block ≡ Ok fs) × (out ≡ printed_fields fs)
 
 -- the fault that stands in a command's input, or want of memory
 abbrev pub HasFault : Command → List ℕ → Fault → Type 0

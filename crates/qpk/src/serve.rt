@@ -3,10 +3,10 @@
 ghost use Rattle.std.specs.Prelude.{◌≡◌, ◌≢◌, ◌++◌, ◌∷◌, [], List, ℕ, IfOk, IfErr, IfSome, MatchOption, string_bytes};
 ghost use Rattle.std.specs.Io.KnownBytes.{Appends};
 ghost use Rattle.qpack_spec.specs.Field.{total_size};
-ghost use Rattle.qpack_spec.specs.Stateless.{held_size};
+ghost use Rattle.qpack_spec.specs.Stateless.{saturated_size};
 ghost use Rattle.h3_qpack.specs.Stateless.{fields_in};
 ghost use Rattle.qpk.specs.Refusals.{AppendsFront, IsLineOf, TellsInPlace};
-ghost use Rattle.qpk.specs.Serving.{AsksFor, AsksForNothing, Answers, AnswersInput, EndsFor, SaysNumber, shown};
+ghost use Rattle.qpk.specs.Serving.{AsksFor, AsksForNothing, Answers, AnswersInput, EndsFor, SaysNumber, printed_fields};
 
 use crate::refusal::Refusal;
 use crate::text::{Fault, decode_text, encode_text};
@@ -134,8 +134,8 @@ fn answer(alloc: Global, command: Command, input: &[u8]) -> Result<String, Fault
 
 /// The fields, a line each, and the line of their size.
 fn show(alloc: Global, decoded: &Decoded) -> Result<String, NoMemory>
-    requires { decoded.now.mem_size ≡ held_size (total_size (fields_in decoded.now.fields.items)) }
-    ensures { IfOk result (λ text. string_bytes text ≡ shown (fields_in decoded.now.fields.items)) }
+    requires { decoded.now.mem_size ≡ saturated_size (total_size (fields_in decoded.now.fields.items)) }
+    ensures { IfOk result (λ text. string_bytes text ≡ printed_fields (fields_in decoded.now.fields.items)) }
 {
     let mut text = String::new(alloc);
     for field in &decoded.fields {

@@ -3,22 +3,22 @@
 ghost use Rattle.std.specs.Prelude.{◌≡◌, ℕ, ◌+◌, ◌*◌, ◌/◌, ◌%◌, ◌^◌, ◌<◌, ◌≤◌, ◌-◌, List, [], length, slice_index};
 ghost use Rattle.std.specs.Prelude.{MatchOption};
 ghost use Rattle.std.specs.Iterator.{at_most};
-ghost use Rattle.qpack_spec.specs.Huffman.{bits_of_bytes, bytes_by_length, word_at};
-ghost use Rattle.qpack_base.specs.Payloads.{GivesItem, ReadsWord, bits_left, IsLoaded, IsFull, KeepsRest};
+ghost use Rattle.qpack_spec.specs.Huffman.{bits_of_bytes, bytes_by_length, code_at};
+ghost use Rattle.qpack_base.specs.Payloads.{GivesItem, ReadsCode, bits_left, IsLoaded, IsFull, KeepsRest};
 
 use crate::prefix_string::bitwin::BitWindow;
-use crate::prefix_string::decoding_tables::{LONG, long_words, short_words};
+use crate::prefix_string::decoding_tables::{LONG, long_codes, short_codes};
 use std::marker::Model;
 use thiserror::Error as ThisError;
 
 /// Why a payload means nothing.
 #[derive(Debug, Drop, PartialEq, ThisError)]
 pub enum HuffmanDecodingError {
-    /// Behind the last word stand bits that are neither a word nor fewer than eight ones.
+    /// Behind the last code stand bits that are neither a code nor fewer than eight ones.
     #[error("missing bits")]
     MissingBits(BitWindow),
-    /// Behind the last word stand thirty ones, EOS.
-    #[error("unhandled code word")]
+    /// Behind the last code stand thirty ones, EOS.
+    #[error("unhandled code code")]
     Unhandled(BitWindow, usize),
 }
 
@@ -32,7 +32,7 @@ struct Bits<'a> {
     length: usize,
 }
 
-/// How many loaded bits serve every word.
+/// How many loaded bits serve every code.
 const ENOUGH: u32 = 32;
 
 /// Thirty ones.
@@ -51,7 +51,7 @@ impl<'a> Bits<'a> {
         }
     }
 
-    /// Loads bytes until there are enough bits for every word, or no more bytes.
+    /// Loads bytes until there are enough bits for every code, or no more bytes.
     fn load(&mut self)
         requires { IsLoaded self.old }
         ensures left { bits_left self.new ≡ bits_left self.old }
@@ -61,13 +61,13 @@ impl<'a> Bits<'a> {
         if self.count >= ENOUGH {
             return;
         }
-        let Some((word, rest)) = self.rest.split_first_chunk::<4>() else {
+        let Some((code, rest)) = self.rest.split_first_chunk::<4>() else {
             self.load_last();
             return;
         };
-        let [first, second, third, fourth] = word;
-        let word = u32::from_be_bytes([*first, *second, *third, *fourth]);
-        self.loaded = self.loaded * 0x1_0000_0000 + u64::from(word);
+        let [first, second, third, fourth] = code;
+        let code = u32::from_be_bytes([*first, *second, *third, *fourth]);
+        self.loaded = self.loaded * 0x1_0000_0000 + u64::from(code);
         self.count += 32;
         self.rest = rest;
     }
@@ -100,14 +100,14 @@ impl<'a> Bits<'a> {
         }
         let window = self.loaded >> (self.count - 8);
         if window >= LONG {
-            return Some(self.long_word());
+            return Some(self.long_code());
         }
-        let (byte, bits) = short_words()[window as usize];
+        let (byte, bits) = short_codes()[window as usize];
         self.pass(u32::from(bits));
         Some(Ok(byte))
     }
 
-    /// The same of the last bits, which are fewer than eight: they are filled up with ones, and a word
+    /// The same of the last bits, which are fewer than eight: they are filled up with ones, and a code
     /// counts only where all of it remains.
     fn last_item(&mut self) -> Option<Result<u8, HuffmanDecodingError>>
         requires loaded { IsLoaded self.old }
@@ -122,7 +122,7 @@ impl<'a> Bits<'a> {
             self.stop();
             return None;
         }
-        let (byte, bits) = short_words()[window as usize];
+        let (byte, bits) = short_codes()[window as usize];
         let bits = u32::from(bits);
         if bits > self.count {
             let window = self.window();
@@ -133,17 +133,17 @@ impl<'a> Bits<'a> {
         Some(Ok(byte))
     }
 
-    /// The byte whose word of more than eight bits comes next.
-    fn long_word(&mut self) -> Result<u8, HuffmanDecodingError>
+    /// The byte whose code of more than eight bits comes next.
+    fn long_code(&mut self) -> Result<u8, HuffmanDecodingError>
         requires loaded { IsLoaded self.old }
         requires full { IsFull self.old }
         requires eight { 8 ≤ self.old.count }
         requires long { 254 ≤ self.old.loaded / 2 ^ (self.old.count - 8) }
-        ensures gives { ReadsWord (bits_left self.old) (bits_left self.new) result
-            (word_at bytes_by_length 0 0 (bits_left self.old)) }
+        ensures gives { ReadsCode (bits_left self.old) (bits_left self.new) result
+            (code_at bytes_by_length 0 0 (bits_left self.old)) }
         ensures loaded { IsLoaded self.new }
     {
-        let rows = long_words();
+        let rows = long_codes();
         for row in rows {
             let bits = u32::from(row.0);
             if bits > self.count {
@@ -195,7 +195,7 @@ impl<'a> Bits<'a> {
     }
 }
 
-/// The byte whose word is the number, where those of the bytes are the numbers from `first` on.
+/// The byte whose code is the number, where those of the bytes are the numbers from `first` on.
 fn byte_at(number: u64, first: u64, bytes: &[u8]) -> Option<u8>
     ensures { MatchOption result (first ≤ number → length bytes.now ≤ number - first)
         (λ b. (first ≤ number) × (number - first < length bytes.now) × (b ≡ slice_index bytes.now (number - first))) }
@@ -222,7 +222,7 @@ fn power(bits: u32) -> u64
     1 << bits
 }
 
-/// The bytes that a payload's words spell. It ends after its first fault.
+/// The bytes that a payload's codes spell. It ends after its first fault.
 #[derive(Debug, Drop)]
 pub struct DecodeIter<'a> {
     bits: Bits<'a>,
@@ -265,7 +265,7 @@ pub trait HpackStringDecode {
     /// The bytes of the payload.
     ghost payload: { Self → List ℕ };
 
-    /// The bytes that the payload's words spell, up to its first fault. Takes no memory.
+    /// The bytes that the payload's codes spell, up to its first fault. Takes no memory.
     fn hpack_decode(&self) -> DecodeIter<'_>
         ensures { result ≡ bits_of_bytes (payload self.now) };
 }

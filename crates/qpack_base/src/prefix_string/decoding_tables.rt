@@ -1,21 +1,21 @@
 //! The Huffman code as the tables that reading goes by (RFC 7541, Appendix B).
 
 ghost use Rattle.std.specs.Prelude.{◌≡◌};
-ghost use Rattle.qpack_base.specs.HuffmanTables.{AreShortWords, rows_at, long_rows};
+ghost use Rattle.qpack_base.specs.HuffmanTables.{AreShortCodes, rows_at, long_rows};
 
-/// From here on, eight bits begin no word of at most eight bits.
+/// From here on, eight bits begin no code of at most eight bits.
 pub(super) const LONG: u64 = 0xfe;
 
-/// For each eight bits the byte whose word they begin with, and how many bits that word has.
-pub(super) fn short_words() -> &'static [(u8, u8); 256]
-    ensures { AreShortWords result.now }
+/// For each eight bits the byte whose code they begin with, and how many bits that code has.
+pub(super) fn short_codes() -> &'static [(u8, u8); 256]
+    ensures { AreShortCodes result.now }
 {
     &SHORT
 }
 
-/// The lengths of the words of more than eight bits, in rising order, each with its first word and
-/// the bytes whose words are the numbers from that on.
-pub(super) fn long_words() -> &'static [(u8, u32, &'static [u8]); 17]
+/// The lengths of the codes of more than eight bits, in rising order, each with its first code and
+/// the bytes whose codes are the numbers from that on.
+pub(super) fn long_codes() -> &'static [(u8, u32, &'static [u8]); 17]
     ensures { rows_at result.now ≡ long_rows }
 {
     &LONG_ROWS

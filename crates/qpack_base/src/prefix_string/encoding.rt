@@ -5,7 +5,7 @@ ghost use Rattle.std.specs.Prelude.{length, min, vec_len, vec_capacity};
 ghost use Rattle.qpack_spec.specs.Huffman.{payload_of};
 ghost use Rattle.qpack_base.specs.WrittenPayloads.{AddsBits, AddsLastBits};
 
-use crate::prefix_string::encoding_table::words;
+use crate::prefix_string::encoding_table::codes;
 use std::alloc::{AllocError, Allocator};
 use thiserror::Error as ThisError;
 
@@ -24,11 +24,11 @@ impl From<AllocError> for HuffmanEncodingError {
 pub(super) fn payload_len(text: &[u8]) -> usize
     ensures { result ≡ min (length (payload_of text.now)) (2 ^ 64 - 1) }
 {
-    let words = words();
+    let codes = codes();
     let mut bytes = 0usize;
     let mut bits = 0usize;
     for byte in text {
-        bits += usize::from(words[usize::from(*byte)].0);
+        bits += usize::from(codes[usize::from(*byte)].0);
         bytes = bytes.saturating_add(bits / 8);
         bits %= 8;
     }
@@ -38,20 +38,20 @@ pub(super) fn payload_len(text: &[u8]) -> usize
     bytes.saturating_add(1)
 }
 
-/// Appends the payload of a text into the free room: the words go through `loaded`, whose lowest
+/// Appends the payload of a text into the free room: the codes go through `loaded`, whose lowest
 /// `count` bits are still to be written, four bytes at a time.
 pub(super) fn put_payload<A: Allocator>(text: &[u8], buf: &mut Vec<u8, A>)
     requires { vec_len buf.old + length (payload_of text.now) ≤ vec_capacity buf.old }
     ensures items { buf.new.items ≡ buf.old.items ++ payload_of text.now }
     ensures capacity { vec_capacity buf.new ≡ vec_capacity buf.old }
 {
-    let words = words();
+    let codes = codes();
     let mut loaded = 0u64;
     let mut count = 0u32;
     for byte in text {
-        let (bits, word) = words[usize::from(*byte)];
+        let (bits, code) = codes[usize::from(*byte)];
         let bits = u32::from(bits);
-        loaded = loaded * power(bits) + u64::from(word);
+        loaded = loaded * power(bits) + u64::from(code);
         count += bits;
         if count >= 32 {
             count -= 32;

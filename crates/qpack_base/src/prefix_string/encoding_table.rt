@@ -1,15 +1,15 @@
 //! The Huffman code as the table that writing goes by (RFC 7541, Appendix B).
 
-ghost use Rattle.qpack_base.specs.HuffmanTables.{AreWords};
+ghost use Rattle.qpack_base.specs.HuffmanTables.{AreCodes};
 
-/// For each byte how many bits its word has, and the word as a number.
-pub(super) fn words() -> &'static [(u8, u32); 256]
-    ensures { AreWords result.now }
+/// For each byte how many bits its code has, and the code as a number.
+pub(super) fn codes() -> &'static [(u8, u32); 256]
+    ensures { AreCodes result.now }
 {
-    &WORDS
+    &CODES
 }
 
-static WORDS: [(u8, u32); 256] = [
+static CODES: [(u8, u32); 256] = [
     (13, 0x1ff8),
     (23, 0x7fffd8),
     (28, 0xfffffe2),

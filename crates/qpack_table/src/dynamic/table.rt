@@ -5,12 +5,12 @@ ghost use Rattle.std.specs.Prelude.{slice_get};
 ghost use Rattle.std.specs.VecDeque.{deque_capacity};
 ghost use Rattle.qpack_base.specs.HeaderFields.{field_of};
 ghost use Rattle.qpack_spec.specs.Field.{Field, field_size, total_size};
-ghost use Rattle.qpack_spec.specs.Table.{empty_table, count, window, fields_in, can_drop, evicted_for, with_entry};
-ghost use Rattle.qpack_spec.specs.Table.{put, resized};
+ghost use Rattle.qpack_spec.specs.Table.{empty_table, insert_count, window, fields_in, can_evict, eviction_count_for, with_entry};
+ghost use Rattle.qpack_spec.specs.Table.{put, with_capacity};
 ghost use Rattle.qpack_spec.specs.Reading.{relative_field, post_base_field};
-ghost use Rattle.qpack_spec.specs.Window.{excess, recent, greatest_capacity};
-ghost use Rattle.qpack_table.specs.Places.{places_of};
-ghost use Rattle.qpack_table.specs.Tables.{IsHeldAt, LooksUp, IsInserted, entries_of, Changes, ChangesWithMemory};
+ghost use Rattle.qpack_spec.specs.Window.{eviction_count, relative_entry, greatest_capacity};
+ghost use Rattle.qpack_table.specs.Positions.{positions_of};
+ghost use Rattle.qpack_table.specs.Tables.{IsEvictableAt, LooksUp, IsInserted, entries_of, Changes, ChangesWithMemory};
 ghost use Rattle.qpack_table.specs.declared.dynamic.Error.TheVariants.{BadRelativeIndex, BadIndex};
 ghost use Rattle.qpack_table.specs.declared.dynamic.Error.TheVariants.{MaxBlockedStreamsTooLarge};
 
@@ -42,7 +42,7 @@ struct Entry {
 
 /// A block that waits for its acknowledgment.
 #[derive(Debug, Drop)]
-struct OpenBlock {
+struct UnacknowledgedBlock {
     stream_id: u64,
     /// The absolute indexes that its lines name.
     entries: Vec<usize>,
@@ -60,13 +60,13 @@ pub struct DynamicTable {
     agreed_max: Option<usize>,
     max_blocked: usize,
     /// The known received count.
-    known: usize,
+    known_received_count: usize,
     /// The absolute indexes that the block in progress names.
-    named: Vec<usize>,
+    referenced: Vec<usize>,
     /// The oldest first.
-    open_blocks: Vec<OpenBlock>,
+    unacknowledged: Vec<UnacknowledgedBlock>,
     /// The required insert counts above the known received count of committed blocks.
-    waiting: Vec<usize>,
+    blocked: Vec<usize>,
 }
 
 impl Model for DynamicTable {
@@ -77,18 +77,18 @@ impl Model for DynamicTable {
 
     ghost view = { λ a. record {
       capacity = a.max_mem_size;
-      agreed = a.agreed_max;
+      agreed_max = a.agreed_max;
       limit = a.max_blocked;
       dropped = a.vas.dropped;
       live = entries_of a.entries.items;
-      known = a.known;
-      named = a.named.items;
-      opened = blocks_of a.open_blocks.items;
-      waiting = a.waiting.items;
+      known_received_count = a.known_received_count;
+      referenced = a.referenced.items;
+      unacknowledged = blocks_of a.unacknowledged.items;
+      blocked = a.blocked.items;
     } };
 
-    ghost invariant = { λ a. IsKept a.vas a.entries.items a.mem_size a.max_mem_size a.named.items
-        (blocks_of a.open_blocks.items) };
+    ghost invariant = { λ a. IsKept a.vas a.entries.items a.mem_size a.max_mem_size a.referenced.items
+        (blocks_of a.unacknowledged.items) };
 }
 
 impl DynamicTable {
@@ -103,16 +103,16 @@ impl DynamicTable {
             max_mem_size: 0,
             agreed_max: None,
             max_blocked: 0,
-            known: 0,
-            named: Vec::new(alloc),
-            open_blocks: Vec::new(alloc),
-            waiting: Vec::new(alloc),
+            known_received_count: 0,
+            referenced: Vec::new(alloc),
+            unacknowledged: Vec::new(alloc),
+            blocked: Vec::new(alloc),
         }
     }
 
     /// How many insertions were ever made.
     pub fn total_inserted(&self) -> usize
-        ensures { result ≡ count self.now }
+        ensures { result ≡ insert_count self.now }
     {
         self.vas.total_inserted()
     }
@@ -147,108 +147,108 @@ impl DynamicTable {
 
     /// The live field of an instruction's relative index, 0 the newest (RFC 9204, section 3.2.5).
     pub fn get_relative(&self, index: usize) -> Result<&HeaderField, Error>
-        ensures found { IfOk result (λ field. recent (window self.now) index ≡ Some (field_of field.now)) }
-        ensures refused { IfErr result (λ e. (e ≡ BadRelativeIndex index) × (recent (window self.now) index ≡ None)) }
+        ensures found { IfOk result (λ field. relative_entry (window self.now) index ≡ Some (field_of field.now)) }
+        ensures refused { IfErr result (λ e. (e ≡ BadRelativeIndex index) × (relative_entry (window self.now) index ≡ None)) }
     {
-        let place = self.places().relative(index)?;
-        self.field_at(place)
+        let position = self.positions().relative(index)?;
+        self.field_at(position)
     }
 
     /// The live field of a line's relative index under a base (RFC 9204, section 3.2.5).
     fn get_relative_base(&self, base: usize, index: usize) -> Result<&HeaderField, Error>
         ensures { LooksUp result (relative_field (window self.now) base index) }
     {
-        let place = self.places().relative_base(base, index)?;
-        self.field_at(place)
+        let position = self.positions().relative_base(base, index)?;
+        self.field_at(position)
     }
 
     /// The live field of a line's post-base index (RFC 9204, section 3.2.6).
     fn get_postbase(&self, base: usize, index: usize) -> Result<&HeaderField, Error>
         ensures { LooksUp result (post_base_field (window self.now) base index) }
     {
-        let place = self.places().post_base(base, index)?;
-        self.field_at(place)
+        let position = self.positions().post_base(base, index)?;
+        self.field_at(position)
     }
 
     /// The address space, which is that of what both ends share.
-    fn places(&self) -> &VirtualAddressSpace
-        ensures { result.now ≡ places_of (window self.now) }
+    fn positions(&self) -> &VirtualAddressSpace
+        ensures { result.now ≡ positions_of (window self.now) }
     {
         &self.vas
     }
 
-    /// The live field at a place.
-    fn field_at(&self, place: usize) -> Result<&HeaderField, Error>
-        ensures found { IfOk result (λ field. slice_get (fields_in self.now.live) place ≡ Some (field_of field.now)) }
-        ensures refused { IfErr result (λ e. (e ≡ BadIndex place)
-            × (slice_get (fields_in self.now.live) place ≡ None)) }
+    /// The live field at a position.
+    fn field_at(&self, position: usize) -> Result<&HeaderField, Error>
+        ensures found { IfOk result (λ field. slice_get (fields_in self.now.live) position ≡ Some (field_of field.now)) }
+        ensures refused { IfErr result (λ e. (e ≡ BadIndex position)
+            × (slice_get (fields_in self.now.live) position ≡ None)) }
     {
-        match self.entries.get(place) {
+        match self.entries.get(position) {
             Some(entry) => Ok(&entry.field),
-            None => Err(Error::BadIndex(place)),
+            None => Err(Error::BadIndex(position)),
         }
     }
 
     /// The least number of oldest entries whose removal lets the rest fit so many bytes.
-    fn excess(&self, room: usize) -> usize
-        ensures { result ≡ excess room (fields_in self.now.live) }
+    fn eviction_count(&self, room: usize) -> usize
+        ensures { result ≡ eviction_count room (fields_in self.now.live) }
     {
         let mut rest = self.mem_size;
-        let mut gone = 0;
-        while gone < self.entries.len() && rest > room {
-            rest -= self.entries[gone].field.mem_size();
-            gone += 1;
+        let mut evicted = 0;
+        while evicted < self.entries.len() && rest > room {
+            rest -= self.entries[evicted].field.mem_size();
+            evicted += 1;
         }
-        gone
+        evicted
     }
 
     /// How many of the oldest entries go before a field of so many bytes stands (RFC 9204, section 3.2.2).
     fn evicted_for(&self, size: usize) -> usize
         requires fits { size ≤ self.now.capacity }
-        ensures exact { (field : Field) → field_size field ≡ size → result ≡ evicted_for self.now field }
+        ensures exact { (field : Field) → field_size field ≡ size → result ≡ eviction_count_for self.now field }
         ensures within { result ≤ length self.now.live }
     {
-        self.excess(self.max_mem_size() - size)
+        self.eviction_count(self.max_mem_size() - size)
     }
 
-    /// Whether the live entry at a place may not go: a block names it, or it was sent and is not known to be
-    /// received (RFC 9204, section 2.1.1).
-    fn is_held(&self, place: usize) -> bool
-        requires { place < length self.now.live }
-        ensures { IsHeldAt self.now place result }
+    /// Whether the live entry at a position is evictable: no block references it, and it was not sent or is known
+    /// to be received (RFC 9204, section 2.1.1).
+    fn is_evictable(&self, position: usize) -> bool
+        requires { position < length self.now.live }
+        ensures { IsEvictableAt self.now position result }
     {
-        let entry = &self.entries[place];
+        let entry = &self.entries[position];
         if entry.uses > 0 {
-            return true;
+            return false;
         }
         let dropped = self.total_inserted() - self.entries.len();
-        entry.sent && self.known <= dropped + place
+        !entry.sent || dropped + position < self.known_received_count
     }
 
     /// Whether so many of the oldest entries may go.
-    fn can_drop(&self, gone: usize) -> bool
-        requires { gone ≤ length self.now.live }
-        ensures { result ≡ can_drop self.now gone }
+    fn can_evict(&self, evicted: usize) -> bool
+        requires { evicted ≤ length self.now.live }
+        ensures { result ≡ can_evict self.now evicted }
     {
-        for place in 0..gone {
-            if self.is_held(place) {
+        for position in 0..evicted {
+            if !self.is_evictable(position) {
                 return false;
             }
         }
         true
     }
 
-    /// Inserts a field behind the newest one, once so many of the oldest are gone. Refused, which is for
+    /// Inserts a field behind the newest one, once so many of the oldest are evicted. Refused, which is for
     /// memory alone, nothing changes.
-    fn insert(&mut self, field: HeaderField, sent: bool, gone: usize) -> Result<(), AllocError>
-        requires few { count self.old < 2 ^ 62 }
+    fn insert(&mut self, field: HeaderField, sent: bool, evicted: usize) -> Result<(), AllocError>
+        requires few { insert_count self.old < 2 ^ 62 }
         requires fits { field_size (field_of field) ≤ self.old.capacity }
-        requires gone { gone ≡ evicted_for self.old (field_of field) }
+        requires evicted { evicted ≡ eviction_count_for self.old (field_of field) }
         ensures ok { OnOk result (self.new ≡ with_entry self.old (record { field = field_of field; sent = sent })) }
         ensures err { OnErr result (self.new ≡ self.old) }
     {
         self.entries.reserve(1)?;
-        let freed = drop_oldest(&mut self.entries, &mut self.vas, gone);
+        let freed = drop_oldest(&mut self.entries, &mut self.vas, evicted);
         self.mem_size = self.mem_size - freed + field.mem_size();
         self.vas.add();
         self.entries.push_back_reserved(Entry {
@@ -259,7 +259,7 @@ impl DynamicTable {
         Ok(())
     }
 
-    /// Puts a field, as a decoder does: entries that have to go are gone then (RFC 9204, section 3.2.2). It is
+    /// Puts a field, as a decoder does: entries that have to go are evicted then (RFC 9204, section 3.2.2). It is
     /// passed over at capacity 0, behind the 2^62th insertion and where a held entry would have to go, and
     /// refused if it is larger than the capacity. Only a field that is inserted takes memory. Refused, nothing
     /// changes.
@@ -279,16 +279,16 @@ impl DynamicTable {
         if self.total_inserted() >= MOST_INSERTIONS {
             return Ok(());
         }
-        let gone = self.evicted_for(size);
-        if !self.can_drop(gone) {
+        let evicted = self.evicted_for(size);
+        if !self.can_evict(evicted) {
             return Ok(());
         }
-        Ok(self.insert(field, false, gone)?)
+        Ok(self.insert(field, false, evicted)?)
     }
 
     /// The greatest capacity that may be set, in bytes.
     fn greatest_capacity(&self) -> usize
-        ensures agreed { result ≡ greatest_capacity self.now.agreed }
+        ensures agreed_max { result ≡ greatest_capacity self.now.agreed_max }
         ensures most { result < 2 ^ 30 }
     {
         match self.agreed_max {
@@ -301,16 +301,16 @@ impl DynamicTable {
     /// refused above the agreed maximum and from 2^30 on, and where a held entry would have to go. Refused,
     /// nothing changes.
     pub fn set_max_size(&mut self, size: usize) -> Result<(), Error>
-        ensures { Changes result (resized self.old size) self.old self.new }
+        ensures { Changes result (with_capacity self.old size) self.old self.new }
     {
         if size > self.greatest_capacity() {
             return Err(Error::MaximumTableSizeTooLarge);
         }
-        let gone = self.excess(size);
-        if !self.can_drop(gone) {
+        let evicted = self.eviction_count(size);
+        if !self.can_evict(evicted) {
             return Err(Error::MaxTableSizeReached);
         }
-        let freed = drop_oldest(&mut self.entries, &mut self.vas, gone);
+        let freed = drop_oldest(&mut self.entries, &mut self.vas, evicted);
         self.mem_size -= freed;
         self.max_mem_size = size;
         Ok(())
@@ -326,7 +326,7 @@ pub struct DynamicTableDecoder<'a> {
 
 impl DynamicTableDecoder<'_> {
     /// The field that a line's relative index names (RFC 9204, section 3.2.5). A base above the total may name
-    /// a place behind the newest entry, which is told as that.
+    /// a position behind the newest entry, which is told as that.
     pub fn get_relative(&self, index: usize) -> Result<&HeaderField, Error>
         ensures { LooksUp result (relative_field (window self.now.table.now) self.now.base index) }
     {
@@ -342,18 +342,18 @@ impl DynamicTableDecoder<'_> {
 }
 
 /// The oldest entries go; the sum of their sizes is answered.
-fn drop_oldest(entries: &mut VecDeque<Entry>, vas: &mut VirtualAddressSpace, gone: usize) -> usize
-    requires there { gone ≤ length entries.old.items }
+fn drop_oldest(entries: &mut VecDeque<Entry>, vas: &mut VirtualAddressSpace, evicted: usize) -> usize
+    requires there { evicted ≤ length entries.old.items }
     requires counted { vas.old.total ≡ vas.old.dropped + length entries.old.items }
     requires small { total_size (fields_in (entries_of entries.old.items)) < 2 ^ 63 }
-    ensures left { entries.new.items ≡ drop gone entries.old.items }
+    ensures left { entries.new.items ≡ drop evicted entries.old.items }
     ensures capacity { deque_capacity entries.new ≡ deque_capacity entries.old }
-    ensures dropped { vas.new ≡ record vas.old { dropped = vas.old.dropped + gone } }
-    ensures freed { result + total_size (drop gone (fields_in (entries_of entries.old.items)))
+    ensures dropped { vas.new ≡ record vas.old { dropped = vas.old.dropped + evicted } }
+    ensures freed { result + total_size (drop evicted (fields_in (entries_of entries.old.items)))
         ≡ total_size (fields_in (entries_of entries.old.items)) }
 {
     let mut freed = 0;
-    for _ in 0..gone {
+    for _ in 0..evicted {
         let Some(entry) = entries.pop_front() else {
             break;
         };

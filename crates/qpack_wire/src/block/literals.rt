@@ -4,7 +4,7 @@ ghost use Rattle.std.specs.Prelude.{◌≡◌, Err, IfErr};
 ghost use Rattle.qpack_spec.specs.Line.{NamedStatic, NamedDynamic, NamedPostBase, Literal as LiteralLine, written_line};
 ghost use Rattle.qpack_base.specs.declared.prefix_string.Error.TheVariants.{Memory as NoRoom};
 ghost use Rattle.qpack_base.specs.declared.parse_error.ParseError.TheVariants.{Memory};
-ghost use Rattle.qpack_wire.specs.Alone.{form_named, SpellsAlone, RefusesAlone, alone_at};
+ghost use Rattle.qpack_wire.specs.Alone.{form_for, SpellsKind, RefusesKind, kind_at};
 ghost use Rattle.qpack_wire.specs.Answers.{Decodes, ReadsForm};
 ghost use Rattle.qpack_wire.specs.Lines.{literal_with_name_ref, literal_with_post_base_name_ref, literal};
 ghost use Rattle.qpack_wire.specs.Lines.{line_of_literal_with_name_ref, line_of_literal_with_post_base_name_ref};
@@ -75,13 +75,13 @@ impl LiteralWithNameRef {
 
     /// Reads such a line at the cursor. Where it is refused, the cursor's place is not told.
     pub fn decode(alloc: Global, buf: &mut Cursor) -> Result<LiteralWithNameRef, ParseError>
-        ensures decodes { Decodes line_of_literal_with_name_ref (SpellsAlone literal_with_name_ref)
-            (RefusesAlone literal_with_name_ref) buf.old buf.new result }
+        ensures decodes { Decodes line_of_literal_with_name_ref (SpellsKind literal_with_name_ref)
+            (RefusesKind literal_with_name_ref) buf.old buf.new result }
         // Memory is refused only where a string whose payload is not empty stands whole.
-        ensures memory { result ≡ Err Memory → AsksForMemory (form_named literal_with_name_ref) buf.old.rest }
+        ensures memory { result ≡ Err Memory → AsksForMemory (form_for literal_with_name_ref) buf.old.rest }
         // The same, as reading from left to right.
         ensures exact { ReadsForm line_of_literal_with_name_ref buf.old buf.new result
-            (alone_at literal_with_name_ref buf.old.rest) }
+            (kind_at literal_with_name_ref buf.old.rest) }
     {
         read_literal_with_name_ref(alloc, buf)
     }
@@ -131,13 +131,13 @@ impl LiteralWithNameRef {
     }
 }
 
-#[tactic(auto, unfolding(crate::specs::Alone::alone_at, qpack_spec::specs::Form::made_at))]
+#[tactic(auto, unfolding(crate::specs::Alone::kind_at, qpack_spec::specs::Form::made_at))]
 fn read_literal_with_name_ref(
     alloc: Global,
     buf: &mut Cursor,
 ) -> Result<LiteralWithNameRef, ParseError>
     ensures exact { ReadsForm line_of_literal_with_name_ref buf.old buf.new result
-        (alone_at literal_with_name_ref buf.old.rest) }
+        (kind_at literal_with_name_ref buf.old.rest) }
     ensures memory { result ≡ Err Memory → AsksAt literal_with_name_ref buf.old.rest }
 {
     let (flags, index) = prefix_int::decode(NAMED_SIZE, buf)?;
@@ -189,13 +189,13 @@ impl LiteralWithPostBaseNameRef {
 
     /// Reads such a line at the cursor. Where it is refused, the cursor's place is not told.
     pub fn decode(alloc: Global, buf: &mut Cursor) -> Result<LiteralWithPostBaseNameRef, ParseError>
-        ensures decodes { Decodes line_of_literal_with_post_base_name_ref (SpellsAlone literal_with_post_base_name_ref)
-            (RefusesAlone literal_with_post_base_name_ref) buf.old buf.new result }
+        ensures decodes { Decodes line_of_literal_with_post_base_name_ref (SpellsKind literal_with_post_base_name_ref)
+            (RefusesKind literal_with_post_base_name_ref) buf.old buf.new result }
         // Memory is refused only where a string whose payload is not empty stands whole.
-        ensures memory { result ≡ Err Memory → AsksForMemory (form_named literal_with_post_base_name_ref) buf.old.rest }
+        ensures memory { result ≡ Err Memory → AsksForMemory (form_for literal_with_post_base_name_ref) buf.old.rest }
         // The same, as reading from left to right.
         ensures exact { ReadsForm line_of_literal_with_post_base_name_ref buf.old buf.new result
-            (alone_at literal_with_post_base_name_ref buf.old.rest) }
+            (kind_at literal_with_post_base_name_ref buf.old.rest) }
     {
         read_literal_with_post_base_name_ref(alloc, buf)
     }
@@ -230,13 +230,13 @@ impl LiteralWithPostBaseNameRef {
     }
 }
 
-#[tactic(auto, unfolding(crate::specs::Alone::alone_at, qpack_spec::specs::Form::made_at))]
+#[tactic(auto, unfolding(crate::specs::Alone::kind_at, qpack_spec::specs::Form::made_at))]
 fn read_literal_with_post_base_name_ref(
     alloc: Global,
     buf: &mut Cursor,
 ) -> Result<LiteralWithPostBaseNameRef, ParseError>
     ensures exact { ReadsForm line_of_literal_with_post_base_name_ref buf.old buf.new result
-        (alone_at literal_with_post_base_name_ref buf.old.rest) }
+        (kind_at literal_with_post_base_name_ref buf.old.rest) }
     ensures memory { result ≡ Err Memory → AsksAt literal_with_post_base_name_ref buf.old.rest }
 {
     let (flags, index) = prefix_int::decode(POST_BASE_NAMED_SIZE, buf)?;
@@ -287,11 +287,11 @@ impl Literal {
     /// Reads such a line at the cursor. A first byte of another form is refused whole, before
     /// anything is read. Where it is refused, the cursor's place is not told.
     pub fn decode(alloc: Global, buf: &mut Cursor) -> Result<Literal, ParseError>
-        ensures decodes { Decodes line_of_literal (SpellsAlone literal) (RefusesAlone literal) buf.old buf.new result }
+        ensures decodes { Decodes line_of_literal (SpellsKind literal) (RefusesKind literal) buf.old buf.new result }
         // Memory is refused only where a string whose payload is not empty stands whole.
-        ensures memory { result ≡ Err Memory → AsksForMemory (form_named literal) buf.old.rest }
+        ensures memory { result ≡ Err Memory → AsksForMemory (form_for literal) buf.old.rest }
         // The same, as reading from left to right.
-        ensures exact { ReadsForm line_of_literal buf.old buf.new result (alone_at literal buf.old.rest) }
+        ensures exact { ReadsForm line_of_literal buf.old buf.new result (kind_at literal buf.old.rest) }
     {
         read_literal(alloc, buf)
     }
@@ -319,9 +319,9 @@ impl Literal {
     }
 }
 
-#[tactic(auto, unfolding(crate::specs::Alone::alone_at, qpack_spec::specs::Form::made_at))]
+#[tactic(auto, unfolding(crate::specs::Alone::kind_at, qpack_spec::specs::Form::made_at))]
 fn read_literal(alloc: Global, buf: &mut Cursor) -> Result<Literal, ParseError>
-    ensures exact { ReadsForm line_of_literal buf.old buf.new result (alone_at literal buf.old.rest) }
+    ensures exact { ReadsForm line_of_literal buf.old buf.new result (kind_at literal buf.old.rest) }
     ensures memory { result ≡ Err Memory → AsksAt literal buf.old.rest }
 {
     let Some((first, _)) = buf.chunk().split_first() else {

@@ -3,11 +3,11 @@
 ghost use Rattle.std.specs.Prelude.{◌≡◌, ◌∷◌, drop, Err};
 ghost use Rattle.qpack_base.specs.declared.parse_error.ParseError.TheVariants.{Memory};
 ghost use Rattle.qpack_wire.specs.Answers.{ReadsForm};
-ghost use Rattle.qpack_wire.specs.StreamLines.{decoder_instruction_of_first, reply_of, reply_at};
+ghost use Rattle.qpack_wire.specs.StreamLines.{decoder_instruction_of_first, decoder_instruction_of, decoder_instruction_at};
 
 use crate::stream::ends::or_none;
 use crate::stream::lines::Wire;
-use crate::stream::replies::{
+use crate::stream::decoder_instructions::{
     self, ACKNOWLEDGMENT, ACKNOWLEDGMENT_SIZE, CANCELLATION, CANCELLATION_SIZE, HeaderAck,
     InsertCountIncrement, StreamCancel,
 };
@@ -56,35 +56,35 @@ pub enum DecoderLine {
 }
 
 impl Wire for DecoderLine {
-    ghost use Rattle.qpack_spec.specs.Instruction.{Reply, SpellsReply, written_reply};
-    ghost use Rattle.qpack_spec.specs.WrittenLaws.{IsWritableReply};
+    ghost use Rattle.qpack_spec.specs.Instruction.{DecoderInstruction, SpellsDecoderInstruction, written_decoder_instruction};
+    ghost use Rattle.qpack_spec.specs.WrittenLaws.{IsWritableDecoderInstruction};
     ghost use Rattle.qpack_wire.specs.StreamLines.{RefusesDecoderLine};
-    ghost use Rattle.qpack_wire.specs.StreamLineLaws.{written_replies_spelled, written_replies_read_back};
-    ghost use Rattle.qpack_wire.specs.StreamLineLaws.{spellings_have_one_reply, no_reply_begins_another};
+    ghost use Rattle.qpack_wire.specs.StreamLineLaws.{written_decoder_instructions_spelled, written_decoder_instructions_read_back};
+    ghost use Rattle.qpack_wire.specs.StreamLineLaws.{spellings_have_one_decoder_instruction, no_decoder_instruction_begins_another};
 
-    ghost Line = { Reply };
+    ghost Line = { DecoderInstruction };
 
-    ghost line_of = { reply_of };
+    ghost line_of = { decoder_instruction_of };
 
-    ghost spells = { SpellsReply };
+    ghost spells = { SpellsDecoderInstruction };
 
     ghost refuses = { RefusesDecoderLine };
 
-    ghost read = { reply_at };
+    ghost read = { decoder_instruction_at };
 
-    ghost writable = { IsWritableReply };
+    ghost writable = { IsWritableDecoderInstruction };
 
-    ghost written = { written_reply };
+    ghost written = { written_decoder_instruction };
 
     ghost asks_for_memory = { λ _. ⊥ };
 
-    ghost written_is_spelled = { written_replies_spelled };
+    ghost written_is_spelled = { written_decoder_instructions_spelled };
 
-    ghost written_is_read_back = { written_replies_read_back };
+    ghost written_is_read_back = { written_decoder_instructions_read_back };
 
-    ghost spellings_have_one_line = { spellings_have_one_reply };
+    ghost spellings_have_one_line = { spellings_have_one_decoder_instruction };
 
-    ghost no_line_begins_another = { no_reply_begins_another };
+    ghost no_line_begins_another = { no_decoder_instruction_begins_another };
 
     fn decode(_alloc: Global, buf: &mut Cursor) -> Result<Option<DecoderLine>, ParseError> {
         or_none(read_line(buf))
@@ -99,9 +99,9 @@ impl Wire for DecoderLine {
     }
 }
 
-#[tactic(auto, using(crate::proofs::StreamForms::no_reply))]
+#[tactic(auto, using(crate::proofs::StreamForms::no_decoder_instruction))]
 fn read_line(buf: &mut Cursor) -> Result<DecoderLine, ParseError>
-    ensures exact { ReadsForm reply_of buf.old buf.new result (reply_at buf.old.rest) }
+    ensures exact { ReadsForm decoder_instruction_of buf.old buf.new result (decoder_instruction_at buf.old.rest) }
     ensures no_memory { result ≡ Err Memory → ⊥ }
 {
     let Some((first, _)) = buf.chunk().split_first() else {
@@ -114,20 +114,20 @@ fn read_line(buf: &mut Cursor) -> Result<DecoderLine, ParseError>
 #[tactic(auto, using(crate::proofs::StreamForms::decoder_by_first))]
 fn read_line_of(first: u8, buf: &mut Cursor) -> Result<DecoderLine, ParseError>
     requires { buf.old.rest ≡ first ∷ drop 1 buf.old.rest }
-    ensures exact { ReadsForm reply_of buf.old buf.new result (reply_at buf.old.rest) }
+    ensures exact { ReadsForm decoder_instruction_of buf.old buf.new result (decoder_instruction_at buf.old.rest) }
     ensures no_memory { result ≡ Err Memory → ⊥ }
 {
     match DecoderInstruction::decode(first) {
         DecoderInstruction::InsertCountIncrement => {
-            let line = replies::read_insert_count_increment(buf)?;
+            let line = decoder_instructions::read_insert_count_increment(buf)?;
             Ok(DecoderLine::InsertCountIncrement(line))
         }
         DecoderInstruction::StreamCancel => {
-            let line = replies::read_stream_cancel(buf)?;
+            let line = decoder_instructions::read_stream_cancel(buf)?;
             Ok(DecoderLine::StreamCancel(line))
         }
         DecoderInstruction::HeaderAck => {
-            let line = replies::read_header_ack(buf)?;
+            let line = decoder_instructions::read_header_ack(buf)?;
             Ok(DecoderLine::HeaderAck(line))
         }
         DecoderInstruction::Unknown => Err(ParseError::InvalidPrefix(first)),

@@ -1,11 +1,11 @@
 //! One encoder instruction, whichever it is (RFC 9204, section 4.3).
 
 ghost use Rattle.std.specs.Prelude.{◌≡◌, ◌∷◌, drop, Err};
-ghost use Rattle.qpack_spec.specs.Instruction.{instruction_form};
+ghost use Rattle.qpack_spec.specs.Instruction.{encoder_instruction_form};
 ghost use Rattle.qpack_base.specs.declared.parse_error.ParseError.TheVariants.{Memory};
 ghost use Rattle.qpack_wire.specs.Answers.{ReadsForm};
 ghost use Rattle.qpack_wire.specs.Memory.{AsksForMemory};
-ghost use Rattle.qpack_wire.specs.StreamLines.{encoder_instruction_of_first, instruction_of, instruction_at};
+ghost use Rattle.qpack_wire.specs.StreamLines.{encoder_instruction_of_first, encoder_instruction_of, encoder_instruction_at};
 
 use crate::stream::ends::or_none;
 use crate::stream::inserts::{
@@ -64,27 +64,27 @@ pub enum EncoderLine {
 }
 
 impl Wire for EncoderLine {
-    ghost use Rattle.qpack_spec.specs.Instruction.{Instruction, SpellsInstruction, written_instruction};
-    ghost use Rattle.qpack_spec.specs.WrittenLaws.{IsWritableInstruction};
+    ghost use Rattle.qpack_spec.specs.Instruction.{EncoderInstruction, SpellsEncoderInstruction, written_encoder_instruction};
+    ghost use Rattle.qpack_spec.specs.WrittenLaws.{IsWritableEncoderInstruction};
     ghost use Rattle.qpack_wire.specs.StreamLines.{RefusesEncoderLine};
     ghost use Rattle.qpack_wire.specs.StreamLineLaws.{written_instructions_spelled, written_instructions_read_back};
     ghost use Rattle.qpack_wire.specs.StreamLineLaws.{spellings_have_one_instruction, no_instruction_begins_another};
 
-    ghost Line = { Instruction };
+    ghost Line = { EncoderInstruction };
 
-    ghost line_of = { instruction_of };
+    ghost line_of = { encoder_instruction_of };
 
-    ghost spells = { SpellsInstruction };
+    ghost spells = { SpellsEncoderInstruction };
 
     ghost refuses = { RefusesEncoderLine };
 
-    ghost read = { instruction_at };
+    ghost read = { encoder_instruction_at };
 
-    ghost writable = { IsWritableInstruction };
+    ghost writable = { IsWritableEncoderInstruction };
 
-    ghost written = { written_instruction };
+    ghost written = { written_encoder_instruction };
 
-    ghost asks_for_memory = { AsksForMemory instruction_form };
+    ghost asks_for_memory = { AsksForMemory encoder_instruction_form };
 
     ghost written_is_spelled = { written_instructions_spelled };
 
@@ -120,8 +120,8 @@ impl Wire for EncoderLine {
 
 #[tactic(auto, using(crate::proofs::StreamForms::no_instruction))]
 fn read_line(alloc: Global, buf: &mut Cursor) -> Result<EncoderLine, ParseError>
-    ensures exact { ReadsForm instruction_of buf.old buf.new result (instruction_at buf.old.rest) }
-    ensures memory { result ≡ Err Memory → AsksForMemory instruction_form buf.old.rest }
+    ensures exact { ReadsForm encoder_instruction_of buf.old buf.new result (encoder_instruction_at buf.old.rest) }
+    ensures memory { result ≡ Err Memory → AsksForMemory encoder_instruction_form buf.old.rest }
 {
     let Some((first, _)) = buf.chunk().split_first() else {
         return Err(ParseError::Integer(prefix_int::Error::UnexpectedEnd));
@@ -133,8 +133,8 @@ fn read_line(alloc: Global, buf: &mut Cursor) -> Result<EncoderLine, ParseError>
 #[tactic(auto, using(crate::proofs::StreamForms::encoder_by_first))]
 fn read_line_of(alloc: Global, first: u8, buf: &mut Cursor) -> Result<EncoderLine, ParseError>
     requires { buf.old.rest ≡ first ∷ drop 1 buf.old.rest }
-    ensures exact { ReadsForm instruction_of buf.old buf.new result (instruction_at buf.old.rest) }
-    ensures memory { result ≡ Err Memory → AsksForMemory instruction_form buf.old.rest }
+    ensures exact { ReadsForm encoder_instruction_of buf.old buf.new result (encoder_instruction_at buf.old.rest) }
+    ensures memory { result ≡ Err Memory → AsksForMemory encoder_instruction_form buf.old.rest }
 {
     match EncoderInstruction::decode(first) {
         EncoderInstruction::InsertWithNameRef => {

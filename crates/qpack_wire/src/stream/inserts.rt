@@ -2,15 +2,15 @@
 
 ghost use Rattle.std.specs.Prelude.{◌≡◌, Err, IfErr};
 ghost use Rattle.qpack_spec.specs.Instruction.{InsertStaticName, InsertDynamicName, InsertLiteralName};
-ghost use Rattle.qpack_spec.specs.Instruction.{written_instruction};
+ghost use Rattle.qpack_spec.specs.Instruction.{written_encoder_instruction};
 ghost use Rattle.qpack_base.specs.declared.prefix_string.Error.TheVariants.{Memory as NoRoom};
 ghost use Rattle.qpack_base.specs.declared.parse_error.ParseError.TheVariants.{Memory};
-ghost use Rattle.qpack_wire.specs.Alone.{form_named, SpellsAlone, RefusesAlone, alone_at};
+ghost use Rattle.qpack_wire.specs.Alone.{form_for, SpellsKind, RefusesKind, kind_at};
 ghost use Rattle.qpack_wire.specs.Answers.{ReadsForm};
 ghost use Rattle.qpack_wire.specs.StreamAnswers.{DecodesInstruction, ReadsStream};
 ghost use Rattle.qpack_wire.specs.Instructions.{insert_with_name_ref, insert_without_name_ref};
-ghost use Rattle.qpack_wire.specs.Instructions.{instruction_of_insert_with_name_ref};
-ghost use Rattle.qpack_wire.specs.Instructions.{instruction_of_insert_without_name_ref};
+ghost use Rattle.qpack_wire.specs.Instructions.{encoder_instruction_of_insert_with_name_ref};
+ghost use Rattle.qpack_wire.specs.Instructions.{encoder_instruction_of_insert_without_name_ref};
 ghost use Rattle.qpack_wire.specs.Memory.{AsksForMemory, AsksAt};
 ghost use Rattle.qpack_wire.specs.Writes.{Writes};
 
@@ -59,14 +59,14 @@ pub enum InsertWithNameRef {
 impl InsertWithNameRef {
     /// A value under a name of the static table.
     pub fn new_static(index: usize, value: Vec<u8>) -> InsertWithNameRef
-        ensures { instruction_of_insert_with_name_ref result ≡ InsertStaticName index value.items }
+        ensures { encoder_instruction_of_insert_with_name_ref result ≡ InsertStaticName index value.items }
     {
         InsertWithNameRef::Static { index, value }
     }
 
     /// A value under a name of the dynamic table.
     pub fn new_dynamic(index: usize, value: Vec<u8>) -> InsertWithNameRef
-        ensures { instruction_of_insert_with_name_ref result ≡ InsertDynamicName index value.items }
+        ensures { encoder_instruction_of_insert_with_name_ref result ≡ InsertDynamicName index value.items }
     {
         InsertWithNameRef::Dynamic { index, value }
     }
@@ -74,13 +74,13 @@ impl InsertWithNameRef {
     /// Reads such an instruction at the cursor, or none of a truncated one. Where none is read, the
     /// cursor's place is not told.
     pub fn decode(alloc: Global, buf: &mut Cursor) -> Result<Option<InsertWithNameRef>, ParseError>
-        ensures decodes { DecodesInstruction instruction_of_insert_with_name_ref (SpellsAlone insert_with_name_ref)
-            (RefusesAlone insert_with_name_ref) buf.old buf.new result }
+        ensures decodes { DecodesInstruction encoder_instruction_of_insert_with_name_ref (SpellsKind insert_with_name_ref)
+            (RefusesKind insert_with_name_ref) buf.old buf.new result }
         // Memory is refused only where a string whose payload is not empty stands whole.
-        ensures memory { result ≡ Err Memory → AsksForMemory (form_named insert_with_name_ref) buf.old.rest }
+        ensures memory { result ≡ Err Memory → AsksForMemory (form_for insert_with_name_ref) buf.old.rest }
         // The same, as reading from left to right.
-        ensures exact { ReadsStream instruction_of_insert_with_name_ref buf.old buf.new result
-            (alone_at insert_with_name_ref buf.old.rest) }
+        ensures exact { ReadsStream encoder_instruction_of_insert_with_name_ref buf.old buf.new result
+            (kind_at insert_with_name_ref buf.old.rest) }
     {
         or_none(read_insert_with_name_ref(alloc, buf))
     }
@@ -88,7 +88,7 @@ impl InsertWithNameRef {
     /// Appends the written spelling of the instruction. Refused, the vector is as before; with free
     /// room for the spelling it succeeds and takes no memory.
     pub fn encode<A: Allocator>(&self, buf: &mut Vec<u8, A>) -> Result<(), prefix_string::Error>
-        ensures writes { Writes (written_instruction (instruction_of_insert_with_name_ref self.now))
+        ensures writes { Writes (written_encoder_instruction (encoder_instruction_of_insert_with_name_ref self.now))
             buf.old buf.new result }
         ensures memory { IfErr result (λ e. e ≡ NoRoom) }
     {
@@ -104,13 +104,13 @@ impl InsertWithNameRef {
 
     /// Appends the written spelling of the instruction with a borrowed value under a name of the static
     /// table, as `encode` does.
-    #[tactic(auto, unfolding(qpack_spec::specs::Instruction::written_instruction))]
+    #[tactic(auto, unfolding(qpack_spec::specs::Instruction::written_encoder_instruction))]
     pub fn write_static<A: Allocator>(
         index: usize,
         value: &[u8],
         buf: &mut Vec<u8, A>,
     ) -> Result<(), prefix_string::Error>
-        ensures writes { Writes (written_instruction (InsertStaticName index value.now)) buf.old buf.new result }
+        ensures writes { Writes (written_encoder_instruction (InsertStaticName index value.now)) buf.old buf.new result }
         ensures memory { IfErr result (λ e. e ≡ NoRoom) }
     {
         put_index_and_value(NAMED_SIZE, NAMED_STATIC, index as u64, value, buf)
@@ -118,26 +118,26 @@ impl InsertWithNameRef {
 
     /// Appends the written spelling of the instruction with a borrowed value under a name of the dynamic
     /// table, as `encode` does.
-    #[tactic(auto, unfolding(qpack_spec::specs::Instruction::written_instruction))]
+    #[tactic(auto, unfolding(qpack_spec::specs::Instruction::written_encoder_instruction))]
     pub fn write_dynamic<A: Allocator>(
         index: usize,
         value: &[u8],
         buf: &mut Vec<u8, A>,
     ) -> Result<(), prefix_string::Error>
-        ensures writes { Writes (written_instruction (InsertDynamicName index value.now)) buf.old buf.new result }
+        ensures writes { Writes (written_encoder_instruction (InsertDynamicName index value.now)) buf.old buf.new result }
         ensures memory { IfErr result (λ e. e ≡ NoRoom) }
     {
         put_index_and_value(NAMED_SIZE, NAMED_DYNAMIC, index as u64, value, buf)
     }
 }
 
-#[tactic(auto, unfolding(crate::specs::Alone::alone_at, qpack_spec::specs::Form::made_at))]
+#[tactic(auto, unfolding(crate::specs::Alone::kind_at, qpack_spec::specs::Form::made_at))]
 pub(crate) fn read_insert_with_name_ref(
     alloc: Global,
     buf: &mut Cursor,
 ) -> Result<InsertWithNameRef, ParseError>
-    ensures exact { ReadsForm instruction_of_insert_with_name_ref buf.old buf.new result
-        (alone_at insert_with_name_ref buf.old.rest) }
+    ensures exact { ReadsForm encoder_instruction_of_insert_with_name_ref buf.old buf.new result
+        (kind_at insert_with_name_ref buf.old.rest) }
     ensures memory { result ≡ Err Memory → AsksAt insert_with_name_ref buf.old.rest }
 {
     let (flags, index) = prefix_int::decode(NAMED_SIZE, buf)?;
@@ -182,7 +182,7 @@ pub struct InsertWithoutNameRef {
 impl InsertWithoutNameRef {
     /// A name and a value.
     pub fn new(name: Vec<u8>, value: Vec<u8>) -> InsertWithoutNameRef
-        ensures { instruction_of_insert_without_name_ref result ≡ InsertLiteralName name.items value.items }
+        ensures { encoder_instruction_of_insert_without_name_ref result ≡ InsertLiteralName name.items value.items }
     {
         InsertWithoutNameRef { name, value }
     }
@@ -193,13 +193,13 @@ impl InsertWithoutNameRef {
         alloc: Global,
         buf: &mut Cursor,
     ) -> Result<Option<InsertWithoutNameRef>, ParseError>
-        ensures decodes { DecodesInstruction instruction_of_insert_without_name_ref
-            (SpellsAlone insert_without_name_ref) (RefusesAlone insert_without_name_ref) buf.old buf.new result }
+        ensures decodes { DecodesInstruction encoder_instruction_of_insert_without_name_ref
+            (SpellsKind insert_without_name_ref) (RefusesKind insert_without_name_ref) buf.old buf.new result }
         // Memory is refused only where a string whose payload is not empty stands whole.
-        ensures memory { result ≡ Err Memory → AsksForMemory (form_named insert_without_name_ref) buf.old.rest }
+        ensures memory { result ≡ Err Memory → AsksForMemory (form_for insert_without_name_ref) buf.old.rest }
         // The same, as reading from left to right.
-        ensures exact { ReadsStream instruction_of_insert_without_name_ref buf.old buf.new result
-            (alone_at insert_without_name_ref buf.old.rest) }
+        ensures exact { ReadsStream encoder_instruction_of_insert_without_name_ref buf.old buf.new result
+            (kind_at insert_without_name_ref buf.old.rest) }
     {
         or_none(read_insert_without_name_ref(alloc, buf))
     }
@@ -207,7 +207,7 @@ impl InsertWithoutNameRef {
     /// Appends the written spelling of the instruction. Refused, the vector is as before; with free
     /// room for the spelling it succeeds and takes no memory.
     pub fn encode<A: Allocator>(&self, buf: &mut Vec<u8, A>) -> Result<(), prefix_string::Error>
-        ensures writes { Writes (written_instruction (instruction_of_insert_without_name_ref self.now))
+        ensures writes { Writes (written_encoder_instruction (encoder_instruction_of_insert_without_name_ref self.now))
             buf.old buf.new result }
         ensures memory { IfErr result (λ e. e ≡ NoRoom) }
     {
@@ -215,26 +215,26 @@ impl InsertWithoutNameRef {
     }
 
     /// Appends the written spelling of the instruction with a borrowed name and value, as `encode` does.
-    #[tactic(auto, unfolding(qpack_spec::specs::Instruction::written_instruction))]
+    #[tactic(auto, unfolding(qpack_spec::specs::Instruction::written_encoder_instruction))]
     pub fn write<A: Allocator>(
         name: &[u8],
         value: &[u8],
         buf: &mut Vec<u8, A>,
     ) -> Result<(), prefix_string::Error>
-        ensures writes { Writes (written_instruction (InsertLiteralName name.now value.now)) buf.old buf.new result }
+        ensures writes { Writes (written_encoder_instruction (InsertLiteralName name.now value.now)) buf.old buf.new result }
         ensures memory { IfErr result (λ e. e ≡ NoRoom) }
     {
         put_name_and_value(LITERAL_SIZE, LITERAL, name, value, buf)
     }
 }
 
-#[tactic(auto, unfolding(crate::specs::Alone::alone_at, qpack_spec::specs::Form::made_at))]
+#[tactic(auto, unfolding(crate::specs::Alone::kind_at, qpack_spec::specs::Form::made_at))]
 pub(crate) fn read_insert_without_name_ref(
     alloc: Global,
     buf: &mut Cursor,
 ) -> Result<InsertWithoutNameRef, ParseError>
-    ensures exact { ReadsForm instruction_of_insert_without_name_ref buf.old buf.new result
-        (alone_at insert_without_name_ref buf.old.rest) }
+    ensures exact { ReadsForm encoder_instruction_of_insert_without_name_ref buf.old buf.new result
+        (kind_at insert_without_name_ref buf.old.rest) }
     ensures memory { result ≡ Err Memory → AsksAt insert_without_name_ref buf.old.rest }
 {
     let Some((first, _)) = buf.chunk().split_first() else {

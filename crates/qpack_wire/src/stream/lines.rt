@@ -2,10 +2,10 @@
 
 ghost use Rattle.std.specs.Prelude.{◌≡◌, ℕ, List, Result, Err};
 ghost use Rattle.qpack_base.specs.declared.parse_error.ParseError.TheVariants.{Memory};
-ghost use Rattle.qpack_wire.specs.Alone.{AloneFault};
+ghost use Rattle.qpack_wire.specs.Alone.{KindFault};
 ghost use Rattle.qpack_wire.specs.StreamAnswers.{DecodesInstruction, StaysUnlessRead, ReadsStream};
-ghost use Rattle.qpack_wire.specs.WireLaws.{WrittenIsSpelled, WrittenIsReadBack, SpellingsHaveOneLine};
-ghost use Rattle.qpack_wire.specs.WireLaws.{NoLineBeginsAnother};
+ghost use Rattle.qpack_wire.specs.WireLaws.{WrittenIsSpelled, WrittenIsReadBack, SpellingsHaveOneInstruction};
+ghost use Rattle.qpack_wire.specs.WireLaws.{NoInstructionBeginsAnother};
 ghost use Rattle.qpack_wire.specs.Writes.{Writes};
 
 use qpack_base::coding::{Cursor, NoMemory};
@@ -24,10 +24,10 @@ pub trait Wire: Sized + Drop {
     ghost spells: { List ℕ → Line → Type 0 };
 
     /// The bytes are refused, for this reason.
-    ghost refuses: { List ℕ → AloneFault → Type 0 };
+    ghost refuses: { List ℕ → KindFault → Type 0 };
 
     /// The line at the front of the bytes, and the bytes behind it.
-    ghost read: { List ℕ → Result (Line × List ℕ) AloneFault };
+    ghost read: { List ℕ → Result (Line × List ℕ) KindFault };
 
     /// The line can be written.
     ghost writable: { Line → Type 0 };
@@ -58,10 +58,10 @@ pub trait Wire: Sized + Drop {
     ghost written_is_read_back: { WrittenIsReadBack read writable written };
 
     /// One spelling is of one line.
-    ghost spellings_have_one_line: { SpellingsHaveOneLine spells };
+    ghost spellings_have_one_line: { SpellingsHaveOneInstruction spells };
 
     /// No spelling or refusal begins another.
-    ghost no_line_begins_another: { NoLineBeginsAnother spells refuses };
+    ghost no_line_begins_another: { NoInstructionBeginsAnother spells refuses };
 }
 
 /// Reads the line at the cursor and moves past exactly it. Where none is read, of a truncated line or

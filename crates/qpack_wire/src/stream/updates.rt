@@ -1,13 +1,13 @@
 //! Encoder instructions that are a number alone (RFC 9204, sections 4.3.1 and 4.3.4).
 
 ghost use Rattle.std.specs.Prelude.{◌≡◌, Err};
-ghost use Rattle.qpack_spec.specs.Instruction.{written_instruction};
+ghost use Rattle.qpack_spec.specs.Instruction.{written_encoder_instruction};
 ghost use Rattle.qpack_base.specs.declared.parse_error.ParseError.TheVariants.{Memory};
-ghost use Rattle.qpack_wire.specs.Alone.{SpellsAlone, RefusesAlone, alone_at};
+ghost use Rattle.qpack_wire.specs.Alone.{SpellsKind, RefusesKind, kind_at};
 ghost use Rattle.qpack_wire.specs.Answers.{ReadsForm};
 ghost use Rattle.qpack_wire.specs.StreamAnswers.{DecodesInstruction, ReadsStream};
-ghost use Rattle.qpack_wire.specs.Instructions.{duplicate, dynamic_table_size_update, instruction_of_duplicate};
-ghost use Rattle.qpack_wire.specs.Instructions.{instruction_of_dynamic_table_size_update};
+ghost use Rattle.qpack_wire.specs.Instructions.{duplicate, dynamic_table_size_update, encoder_instruction_of_duplicate};
+ghost use Rattle.qpack_wire.specs.Instructions.{encoder_instruction_of_dynamic_table_size_update};
 ghost use Rattle.qpack_wire.specs.Writes.{Writes};
 
 use crate::stream::ends::or_none;
@@ -33,28 +33,28 @@ impl Duplicate {
     /// Reads such an instruction at the cursor, or none of a truncated one. Takes no memory. Where none is read, the
     /// cursor's place is not told.
     pub fn decode(buf: &mut Cursor) -> Result<Option<Duplicate>, ParseError>
-        ensures decodes { DecodesInstruction instruction_of_duplicate (SpellsAlone duplicate)
-            (RefusesAlone duplicate) buf.old buf.new result }
+        ensures decodes { DecodesInstruction encoder_instruction_of_duplicate (SpellsKind duplicate)
+            (RefusesKind duplicate) buf.old buf.new result }
         ensures no_memory { result ≡ Err Memory → ⊥ }
         // The same, as reading from left to right.
-        ensures exact { ReadsStream instruction_of_duplicate buf.old buf.new result (alone_at duplicate buf.old.rest) }
+        ensures exact { ReadsStream encoder_instruction_of_duplicate buf.old buf.new result (kind_at duplicate buf.old.rest) }
     {
         or_none(read_duplicate(buf))
     }
 
     /// Appends the written spelling of the instruction. Refused, the vector is as before; with free
     /// room for the spelling it succeeds and takes no memory.
-    #[tactic(auto, unfolding(qpack_spec::specs::Instruction::written_instruction))]
+    #[tactic(auto, unfolding(qpack_spec::specs::Instruction::written_encoder_instruction))]
     pub fn encode<A: Allocator>(&self, buf: &mut Vec<u8, A>) -> Result<(), NoMemory>
-        ensures writes { Writes (written_instruction (instruction_of_duplicate self.now)) buf.old buf.new result }
+        ensures writes { Writes (written_encoder_instruction (encoder_instruction_of_duplicate self.now)) buf.old buf.new result }
     {
         prefix_int::encode(DUPLICATE_SIZE, DUPLICATE, self.0 as u64, buf)
     }
 }
 
-#[tactic(auto, unfolding(crate::specs::Alone::alone_at, qpack_spec::specs::Form::made_at))]
+#[tactic(auto, unfolding(crate::specs::Alone::kind_at, qpack_spec::specs::Form::made_at))]
 pub(crate) fn read_duplicate(buf: &mut Cursor) -> Result<Duplicate, ParseError>
-    ensures exact { ReadsForm instruction_of_duplicate buf.old buf.new result (alone_at duplicate buf.old.rest) }
+    ensures exact { ReadsForm encoder_instruction_of_duplicate buf.old buf.new result (kind_at duplicate buf.old.rest) }
     ensures no_memory { result ≡ Err Memory → ⊥ }
 {
     match prefix_int::decode(DUPLICATE_SIZE, buf)? {
@@ -80,33 +80,33 @@ impl DynamicTableSizeUpdate {
     /// Reads such an instruction at the cursor, or none of a truncated one. Takes no memory. Where none is read, the
     /// cursor's place is not told.
     pub fn decode(buf: &mut Cursor) -> Result<Option<DynamicTableSizeUpdate>, ParseError>
-        ensures decodes { DecodesInstruction instruction_of_dynamic_table_size_update
-            (SpellsAlone dynamic_table_size_update) (RefusesAlone dynamic_table_size_update) buf.old buf.new result }
+        ensures decodes { DecodesInstruction encoder_instruction_of_dynamic_table_size_update
+            (SpellsKind dynamic_table_size_update) (RefusesKind dynamic_table_size_update) buf.old buf.new result }
         ensures no_memory { result ≡ Err Memory → ⊥ }
         // The same, as reading from left to right.
-        ensures exact { ReadsStream instruction_of_dynamic_table_size_update buf.old buf.new result
-            (alone_at dynamic_table_size_update buf.old.rest) }
+        ensures exact { ReadsStream encoder_instruction_of_dynamic_table_size_update buf.old buf.new result
+            (kind_at dynamic_table_size_update buf.old.rest) }
     {
         or_none(read_dynamic_table_size_update(buf))
     }
 
     /// Appends the written spelling of the instruction. Refused, the vector is as before; with free
     /// room for the spelling it succeeds and takes no memory.
-    #[tactic(auto, unfolding(qpack_spec::specs::Instruction::written_instruction))]
+    #[tactic(auto, unfolding(qpack_spec::specs::Instruction::written_encoder_instruction))]
     pub fn encode<A: Allocator>(&self, buf: &mut Vec<u8, A>) -> Result<(), NoMemory>
-        ensures writes { Writes (written_instruction (instruction_of_dynamic_table_size_update self.now)) buf.old
+        ensures writes { Writes (written_encoder_instruction (encoder_instruction_of_dynamic_table_size_update self.now)) buf.old
             buf.new result }
     {
         prefix_int::encode(CAPACITY_SIZE, CAPACITY, self.0 as u64, buf)
     }
 }
 
-#[tactic(auto, unfolding(crate::specs::Alone::alone_at, qpack_spec::specs::Form::made_at))]
+#[tactic(auto, unfolding(crate::specs::Alone::kind_at, qpack_spec::specs::Form::made_at))]
 pub(crate) fn read_dynamic_table_size_update(
     buf: &mut Cursor,
 ) -> Result<DynamicTableSizeUpdate, ParseError>
-    ensures exact { ReadsForm instruction_of_dynamic_table_size_update buf.old buf.new result
-        (alone_at dynamic_table_size_update buf.old.rest) }
+    ensures exact { ReadsForm encoder_instruction_of_dynamic_table_size_update buf.old buf.new result
+        (kind_at dynamic_table_size_update buf.old.rest) }
     ensures no_memory { result ≡ Err Memory → ⊥ }
 {
     match prefix_int::decode(CAPACITY_SIZE, buf)? {

@@ -1,6 +1,6 @@
 use Rattle.std.proofs.Common.{◌≡◌, ℕ, ◌≤◌, length}
 use Rattle.qpack_spec.specs.Field.{total_size}
-use Rattle.qpack_spec.specs.Stateless.{stateless_at, held_size}
+use Rattle.qpack_spec.specs.Stateless.{stateless_at, saturated_size}
 use Rattle.h3_qpack.specs.Stateless.{fields_in}
 use Rattle.h3_qpack.proofs.ReadLines.{with_front}
 use Rattle.h3_qpack.proofs.Asking.{HasBegun}
@@ -13,7 +13,7 @@ invariant-loop-byte l = record {
       × (with_front (fields_in l.fields.items) (stateless_at k l.max_size
       (total_size (fields_in l.fields.items)) l.buf.rest)
       ≡ stateless_at (length l.fn.buf.rest) l.max_size 0 l.fn.buf.rest);
-  size : l.mem_size ≡ held_size (total_size (fields_in l.fields.items));
+  size : l.mem_size ≡ saturated_size (total_size (fields_in l.fields.items));
   begun : HasBegun l.fn.buf.rest l.buf.rest;
   total : l.buf.total ≡ l.fn.buf.total;
 }

@@ -1,12 +1,12 @@
 use Rattle.std.proofs.Common.{◌≡◌, ◌≤◌, ◌++◌, vec_capacity}
 use Rattle.qpack_spec.specs.Field.{total_size}
 use Rattle.qpack_spec.specs.BlockReading.{written_block}
-use Rattle.qpack_spec.specs.Stateless.{stateless_block, held_size}
+use Rattle.qpack_spec.specs.Stateless.{stateless_block, saturated_size}
 use Rattle.qpack_base.specs.HeaderFields.{fields_behind}
 use Rattle.h3_qpack.proofs.encoder.append_block.Given as goal
 
 abbrev pub invariant-loop-field : goal.invariant-loop-field
 invariant-loop-field g l =
     (l.block.items ≡ l.fn.block.items ++ written_block (stateless_block (fields_behind l.yielded)))
-    × (l.size ≡ held_size (total_size (fields_behind l.yielded)))
+    × (l.size ≡ saturated_size (total_size (fields_behind l.yielded)))
     × (vec_capacity l.fn.block ≤ vec_capacity l.block)

@@ -2,15 +2,15 @@ use Rattle.std.proofs.Common.{◌≡◌, ℕ, ◌+◌, ◌-◌, ◌*◌, ◌%◌
 use Rattle.std.proofs.Math.Pow.{pow_mono}
 use Rattle.qpack_spec.proofs.WrittenPayloads.{payload_length}
 use Rattle.qpack_base.proofs.AddedBits.{nothing_added}
-use Rattle.qpack_base.proofs.PutWords.{next_word, word_added, word_fits, word_counted, word_room, four_fit}
-use Rattle.qpack_base.proofs.PutWords.{four_added, cut_fits, all_put, all_bits, bytes_from}
+use Rattle.qpack_base.proofs.PutCodes.{next_code, code_added, code_fits, code_counted, code_room, four_fit}
+use Rattle.qpack_base.proofs.PutCodes.{four_added, cut_fits, all_put, all_bits, bytes_from}
 use Rattle.qpack_base.proofs.prefix_string.encoding.put_payload.Goals as goal
 use Rattle.qpack_base.proofs.prefix_string.encoding.put_payload.Goals.{then-count-ge32, else-count-ge32}
 
 pub loop-byte-init : goal.loop-byte-init
 loop-byte-init g c = record {
   added = nothing_added c.args.buf.now.items;
-  words = c.words-words.ensures;
+  codes = c.codes-codes.ensures;
   fits = omega arith;
   few = omega arith;
   counted = refl;
@@ -23,16 +23,16 @@ overflow_mul-loaded g c =
     let text = c.args.text.now in
     let i = loop.byte-index in
     let byte : get_or text i 0 < 256 = omega (arith, c.from.ensures) in
-    let entry = c.words-words.ensures.at (get_or text i 0) byte in
-    let bits = c.from-bits.ensures ∙ ap (λ (b : ℕ). (get_or c.words-words.result.now b (0, 0)).0) c.from.ensures in
-    let word = (get_or c.words-words.result.now (get_or text i 0) (0, 0)).1 in
+    let entry = c.codes-codes.ensures.at (get_or text i 0) byte in
+    let bits = c.from-bits.ensures ∙ ap (λ (b : ℕ). (get_or c.codes-codes.result.now b (0, 0)).0) c.from.ensures in
+    let code = (get_or c.codes-codes.result.now (get_or text i 0) (0, 0)).1 in
     let next =
-    next_word text i c.from-bits.result c.power.result word _ c.loop-byte-test.true entry bits refl
+    next_code text i c.from-bits.result c.power.result code _ c.loop-byte-test.true entry bits refl
     c.power.ensures in
     let few : loop.count + c.from-bits.result ≤ 61 = omega (arith, next.most, loop.invariant.few) in
     omega (
       arith,
-      word_fits text i c.from-bits.result c.power.result word loop.count loop.loaded next loop.invariant.fits,
+      code_fits text i c.from-bits.result c.power.result code loop.count loop.loaded next loop.invariant.fits,
       pow_mono few,
     )
 
@@ -42,17 +42,17 @@ put_four-requires-clause-fits g c =
     let text = c.args.text.now in
     let i = loop.byte-index in
     let byte : get_or text i 0 < 256 = omega (arith, c.from.ensures) in
-    let entry = c.words-words.ensures.at (get_or text i 0) byte in
-    let bits = c.from-bits.ensures ∙ ap (λ (b : ℕ). (get_or c.words-words.result.now b (0, 0)).0) c.from.ensures in
-    let word = c.from-in-loop-byte.ensures ∙ ap (λ (b : ℕ).
-    (get_or c.words-words.result.now b (0, 0)).1) c.from.ensures in
+    let entry = c.codes-codes.ensures.at (get_or text i 0) byte in
+    let bits = c.from-bits.ensures ∙ ap (λ (b : ℕ). (get_or c.codes-codes.result.now b (0, 0)).0) c.from.ensures in
+    let code = c.from-in-loop-byte.ensures ∙ ap (λ (b : ℕ).
+    (get_or c.codes-codes.result.now b (0, 0)).1) c.from.ensures in
     let next =
-    next_word text i c.from-bits.result c.power.result c.from-in-loop-byte.result _ c.loop-byte-test.true entry
-    bits word c.power.ensures in
+    next_code text i c.from-bits.result c.power.result c.from-in-loop-byte.result _ c.loop-byte-test.true entry
+    bits code c.power.ensures in
     let count = loop.count + c.from-bits.result in
     let m : count ≡ 32 + (count - 32) = omega (arith, c.if-count-ge32.true) in
     four_fit count _ (count - 32) c.power-then-count-ge32.result
-    (word_fits text i c.from-bits.result c.power.result c.from-in-loop-byte.result loop.count loop.loaded next
+    (code_fits text i c.from-bits.result c.power.result c.from-in-loop-byte.result loop.count loop.loaded next
     loop.invariant.fits) m c.power-then-count-ge32.ensures
 
 pub put_four-requires-clause-room : goal.put_four-requires-clause-room
@@ -61,16 +61,16 @@ put_four-requires-clause-room g c =
     let text = c.args.text.now in
     let i = loop.byte-index in
     let byte : get_or text i 0 < 256 = omega (arith, c.from.ensures) in
-    let entry = c.words-words.ensures.at (get_or text i 0) byte in
-    let bits = c.from-bits.ensures ∙ ap (λ (b : ℕ). (get_or c.words-words.result.now b (0, 0)).0) c.from.ensures in
-    let word = c.from-in-loop-byte.ensures ∙ ap (λ (b : ℕ).
-    (get_or c.words-words.result.now b (0, 0)).1) c.from.ensures in
+    let entry = c.codes-codes.ensures.at (get_or text i 0) byte in
+    let bits = c.from-bits.ensures ∙ ap (λ (b : ℕ). (get_or c.codes-codes.result.now b (0, 0)).0) c.from.ensures in
+    let code = c.from-in-loop-byte.ensures ∙ ap (λ (b : ℕ).
+    (get_or c.codes-codes.result.now b (0, 0)).1) c.from.ensures in
     let next =
-    next_word text i c.from-bits.result c.power.result c.from-in-loop-byte.result _ c.loop-byte-test.true entry
-    bits word c.power.ensures in
+    next_code text i c.from-bits.result c.power.result c.from-in-loop-byte.result _ c.loop-byte-test.true entry
+    bits code c.power.ensures in
     omega (
       arith,
-      word_room text i c.from-bits.result c.power.result c.from-in-loop-byte.result next,
+      code_room text i c.from-bits.result c.power.result c.from-in-loop-byte.result next,
       loop.invariant.counted,
       loop.invariant.capacity,
       c.if-count-ge32.true,
@@ -85,20 +85,20 @@ loop-byte-preserved g c =
     let i = loop.byte-index in
     let old = c.args.buf.now.items in
     let byte : get_or text i 0 < 256 = omega (arith, c.from.ensures) in
-    let entry = c.words-words.ensures.at (get_or text i 0) byte in
-    let bits = c.from-bits.ensures ∙ ap (λ (b : ℕ). (get_or c.words-words.result.now b (0, 0)).0) c.from.ensures in
-    let word = c.from-in-loop-byte.ensures ∙ ap (λ (b : ℕ).
-    (get_or c.words-words.result.now b (0, 0)).1) c.from.ensures in
+    let entry = c.codes-codes.ensures.at (get_or text i 0) byte in
+    let bits = c.from-bits.ensures ∙ ap (λ (b : ℕ). (get_or c.codes-codes.result.now b (0, 0)).0) c.from.ensures in
+    let code = c.from-in-loop-byte.ensures ∙ ap (λ (b : ℕ).
+    (get_or c.codes-codes.result.now b (0, 0)).1) c.from.ensures in
     let next =
-    next_word text i c.from-bits.result c.power.result c.from-in-loop-byte.result _ c.loop-byte-test.true entry
-    bits word c.power.ensures in
+    next_code text i c.from-bits.result c.power.result c.from-in-loop-byte.result _ c.loop-byte-test.true entry
+    bits code c.power.ensures in
     let added =
-    word_added text i c.from-bits.result c.power.result c.from-in-loop-byte.result loop.count loop.loaded old
+    code_added text i c.from-bits.result c.power.result c.from-in-loop-byte.result loop.count loop.loaded old
     loop.buf.items next loop.invariant.added in
     let fits =
-    word_fits text i c.from-bits.result c.power.result c.from-in-loop-byte.result loop.count loop.loaded next
+    code_fits text i c.from-bits.result c.power.result c.from-in-loop-byte.result loop.count loop.loaded next
     loop.invariant.fits in
-    let counted = word_counted text i c.from-bits.result c.power.result c.from-in-loop-byte.result next in
+    let counted = code_counted text i c.from-bits.result c.power.result c.from-in-loop-byte.result next in
     elim c.if-count-ge32.branch [
       | then-count-ge32 w ↦
           let count = loop.count + c.from-bits.result in
@@ -108,7 +108,7 @@ loop-byte-preserved g c =
           rw (w.buf-is, w.loaded-is, w.count-is) (record {
             added = four_added _ count _ (count - 32) w.power-then-count-ge32.result _ old loop.buf.items
                 w.put_four.new.buf.items added m w.power-then-count-ge32.ensures left w.put_four.ensures.items;
-            words = c.words-words.ensures;
+            codes = c.codes-codes.ensures;
             fits = cut_fits _ (count - 32) _ left;
             few = omega (arith, loop.invariant.few, next.most);
             counted = omega (arith, loop.invariant.counted, counted, w.put_four.ensures.len, w.if-count-ge32.true);
@@ -117,7 +117,7 @@ loop-byte-preserved g c =
       | else-count-ge32 w ↦
           rw (w.buf-is, w.loaded-is, w.count-is) (record {
             added = added;
-            words = c.words-words.ensures;
+            codes = c.codes-codes.ensures;
             fits = fits;
             few = omega (arith, w.if-count-ge32.false);
             counted = omega (arith, loop.invariant.counted, counted);

@@ -1,7 +1,7 @@
 use Rattle.std.proofs.Common.{◌≡◌, ap, refl, ◌∙◌, arith}
 use Rattle.qpack_base.specs.HeaderFields.{field_of}
 use Rattle.qpack_spec.specs.Field.{field_size}
-use Rattle.qpack_table.specs.Places.{Places}
+use Rattle.qpack_table.specs.Positions.{Positions}
 use Rattle.qpack_table.proofs.Evictions.{shed}
 use Rattle.qpack_table.proofs.dynamic.table.drop_oldest.Goals as goal
 
@@ -25,6 +25,6 @@ loop-preserved c =
       items = one.items;
       capacity = c.pop_front.ensures.capacity ∙ i.capacity;
       freed = omega (arith, exact, one.sum, one.fits, i.freed);
-      dropped = omega (arith, i.dropped, ap (λ (p : Places). p.dropped) c.drop.ensures);
-      total = ap (λ (p : Places). p.total) c.drop.ensures ∙ i.total;
+      dropped = omega (arith, i.dropped, ap (λ (p : Positions). p.dropped) c.drop.ensures);
+      total = ap (λ (p : Positions). p.total) c.drop.ensures ∙ i.total;
     }

@@ -1,11 +1,11 @@
 use Rattle.std.proofs.Common.{◌≡◌, ℕ, List, [], length, refl, ◌∙◌, arith}
 use Rattle.std.proofs.lemmas.Result.{err_from_is_err_and}
-use Rattle.qpack_spec.specs.Huffman.{packed, payload_of}
+use Rattle.qpack_spec.specs.Huffman.{bytes_of_bits, payload_of}
 use Rattle.qpack_base.proofs.prefix_string.encoding.VecU8HpackStringEncode.hpack_encode.Goals as goal
 
-no_payload : (text : List ℕ) → text ≡ [] → length (payload_of text) ≡ 0
-unfolding payload_of packed
-no_payload text e = rw e refl
+no_payload : (encoding : List ℕ) → encoding ≡ [] → length (payload_of encoding) ≡ 0
+unfolding payload_of bytes_of_bits
+no_payload encoding e = rw e refl
 
 pub returns-in_err-payload-clause-memory : goal.returns-in_err-payload-clause-memory
 returns-in_err-payload-clause-memory c =

@@ -3,26 +3,26 @@ use Rattle.std.proofs.lemmas.List.{drop-map}
 use Rattle.qpack_base.specs.HeaderFields.{field_of}
 use Rattle.qpack_spec.specs.Field.{field_size, total_size}
 use Rattle.qpack_spec.specs.Table as table
-use Rattle.qpack_spec.specs.Table.{Table, evicted_for, fields_in}
-use Rattle.qpack_spec.specs.Window.{excess}
-use Rattle.qpack_table.specs.Places.{Places}
+use Rattle.qpack_spec.specs.Table.{Table, eviction_count_for, fields_in}
+use Rattle.qpack_spec.specs.Window.{eviction_count}
+use Rattle.qpack_table.specs.Positions.{Positions}
 use Rattle.qpack_table.specs.Tables.{entry_of, entries_of}
 use Rattle.qpack_table.specs.declared.dynamic.table.Entry.{Entry}
 use Rattle.qpack_table.proofs.Changes.{entered}
-use Rattle.qpack_table.proofs.Evictions.{kept_inserted, joined_entries, left_is, gone_within}
+use Rattle.qpack_table.proofs.Evictions.{kept_inserted, joined_entries, left_is, evicted_within}
 use Rattle.qpack_table.proofs.dynamic.table.DynamicTable.insert.Goals as goal
 
 pub drop_oldest-freed-requires-clause-there : goal.drop_oldest-freed-requires-clause-there
 drop_oldest-freed-requires-clause-there c =
     let fits : field_size (field_of c.args.field) ≤ c.self.inside.max_mem_size =
     omega (arith, c.requires.fits, ap (λ (t : Table). t.capacity) c.self.view_is) in
-    let gone : c.args.gone ≡ excess c.self.inside.max_mem_size
+    let evicted : c.args.evicted ≡ eviction_count c.self.inside.max_mem_size
     (fields_in (entries_of c.self.inside.entries.items) ++ field_of c.args.field ∷ []) =
-    c.requires.gone ∙ ap (λ (t : Table). evicted_for t (field_of c.args.field)) (sym c.self.view_is) in
+    c.requires.evicted ∙ ap (λ (t : Table). eviction_count_for t (field_of c.args.field)) (sym c.self.view_is) in
     omega (
       arith,
-      gone_within c.self.inside.entries.items
-          (field_of c.args.field) c.self.inside.max_mem_size c.args.gone fits gone,
+      evicted_within c.self.inside.entries.items
+          (field_of c.args.field) c.self.inside.max_mem_size c.args.evicted fits evicted,
       ap (λ (l : List Entry). length l) c.in_ok-reserve.ensures.items,
     )
 
@@ -30,56 +30,56 @@ pub invariant_of-self-2 : goal.invariant_of-self-2
 invariant_of-self-2 c =
     let fits : field_size (field_of c.args.field) ≤ c.self.inside.max_mem_size =
     omega (arith, c.requires.fits, ap (λ (t : Table). t.capacity) c.self.view_is) in
-    let gone : c.args.gone ≡ excess c.self.inside.max_mem_size
+    let evicted : c.args.evicted ≡ eviction_count c.self.inside.max_mem_size
     (fields_in (entries_of c.self.inside.entries.items) ++ field_of c.args.field ∷ []) =
-    c.requires.gone ∙ ap (λ (t : Table). evicted_for t (field_of c.args.field)) (sym c.self.view_is) in
+    c.requires.evicted ∙ ap (λ (t : Table). eviction_count_for t (field_of c.args.field)) (sym c.self.view_is) in
     let same = c.in_ok-reserve.ensures.items in
     let new : Entry = record { field = c.args.field; sent = c.args.sent; uses = 0 } in
     let size : c.mem_size.result ≡ field_size (field_of c.args.field) =
     omega (arith, fits, c.self.invariant.small, c.mem_size.ensures) in
     let freed : c.drop_oldest-freed.result + total_size
-    (drop c.args.gone (fields_in (entries_of c.self.inside.entries.items)))
+    (drop c.args.evicted (fields_in (entries_of c.self.inside.entries.items)))
     ≡ total_size (fields_in (entries_of c.self.inside.entries.items)) =
     rw (← same) c.drop_oldest-freed.ensures.freed in
     kept_inserted c.self.inside.vas c.add.new.self c.self.inside.entries.items c.push_back_reserved.new.self.items _
-    _ c.self.inside.max_mem_size _ _ new c.args.gone c.self.invariant fits gone
+    _ c.self.inside.max_mem_size _ _ new c.args.evicted c.self.invariant fits evicted
     (c.push_back_reserved.ensures.items ∙ ap (λ (l : List Entry). l ++ new ∷ []) (c.drop_oldest-freed.ensures.left
-    ∙ ap (λ (l : List Entry). drop c.args.gone l) same))
+    ∙ ap (λ (l : List Entry). drop c.args.evicted l) same))
     (left_is _ _ _ _ _ _ c.self.invariant.sum freed size) refl
     (omega (
       arith,
-      ap (λ (p : Places). p.dropped) c.add.ensures.added,
-      ap (λ (p : Places). p.dropped) c.drop_oldest-freed.ensures.dropped,
+      ap (λ (p : Positions). p.dropped) c.add.ensures.added,
+      ap (λ (p : Positions). p.dropped) c.drop_oldest-freed.ensures.dropped,
     ))
     (omega (
       arith,
-      ap (λ (p : Places). p.total) c.add.ensures.added,
-      ap (λ (p : Places). p.total) c.drop_oldest-freed.ensures.dropped,
+      ap (λ (p : Positions). p.total) c.add.ensures.added,
+      ap (λ (p : Positions). p.total) c.drop_oldest-freed.ensures.dropped,
     ))
 
 pub returns-clause-ok : goal.returns-clause-ok
 returns-clause-ok c =
     let fits : field_size (field_of c.args.field) ≤ c.self.inside.max_mem_size =
     omega (arith, c.requires.fits, ap (λ (t : Table). t.capacity) c.self.view_is) in
-    let gone : c.args.gone ≡ excess c.self.inside.max_mem_size
+    let evicted : c.args.evicted ≡ eviction_count c.self.inside.max_mem_size
     (fields_in (entries_of c.self.inside.entries.items) ++ field_of c.args.field ∷ []) =
-    c.requires.gone ∙ ap (λ (t : Table). evicted_for t (field_of c.args.field)) (sym c.self.view_is) in
+    c.requires.evicted ∙ ap (λ (t : Table). eviction_count_for t (field_of c.args.field)) (sym c.self.view_is) in
     let same = c.in_ok-reserve.ensures.items in
     let new : Entry = record { field = c.args.field; sent = c.args.sent; uses = 0 } in
-    let dropped : c.add.new.self.dropped ≡ c.self.inside.vas.dropped + excess c.self.inside.max_mem_size
+    let dropped : c.add.new.self.dropped ≡ c.self.inside.vas.dropped + eviction_count c.self.inside.max_mem_size
     (fields_in (entries_of c.self.inside.entries.items) ++ field_of c.args.field ∷ []) =
     omega (
       arith,
-      gone,
-      ap (λ (p : Places). p.dropped) c.add.ensures.added,
-      ap (λ (p : Places). p.dropped) c.drop_oldest-freed.ensures.dropped,
+      evicted,
+      ap (λ (p : Positions). p.dropped) c.add.ensures.added,
+      ap (λ (p : Positions). p.dropped) c.drop_oldest-freed.ensures.dropped,
     ) in
     rw (← c.self.view_is) (entered _ (entry_of new) c.add.new.self.dropped
     (entries_of c.push_back_reserved.new.self.items) fits dropped
     (ap (λ (l : List Entry). entries_of l) (c.push_back_reserved.ensures.items
     ∙ ap (λ (l : List Entry). l ++ new ∷ []) (c.drop_oldest-freed.ensures.left
-    ∙ ap (λ (l : List Entry). drop c.args.gone l) same))
-    ∙ joined_entries (drop c.args.gone c.self.inside.entries.items) new
+    ∙ ap (λ (l : List Entry). drop c.args.evicted l) same))
+    ∙ joined_entries (drop c.args.evicted c.self.inside.entries.items) new
     ∙ ap (λ (l : List table.Entry). l ++ entry_of new ∷ [])
-    (sym (drop-map entry_of c.args.gone c.self.inside.entries.items))
-    ∙ ap (λ (n : ℕ). drop n (entries_of c.self.inside.entries.items) ++ entry_of new ∷ []) gone))
+    (sym (drop-map entry_of c.args.evicted c.self.inside.entries.items))
+    ∙ ap (λ (n : ℕ). drop n (entries_of c.self.inside.entries.items) ++ entry_of new ∷ []) evicted))

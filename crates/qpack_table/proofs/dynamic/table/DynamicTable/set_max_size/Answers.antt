@@ -1,10 +1,10 @@
 use Rattle.std.proofs.Common.{◌≡◌, ℕ, drop, length, refl, ap, sym, ◌∙◌, arith}
 use Rattle.std.proofs.lemmas.List.{length-map}
 use Rattle.qpack_spec.specs.Table as table
-use Rattle.qpack_spec.specs.Table.{Table, fields_in, can_drop}
-use Rattle.qpack_spec.specs.Window.{excess, greatest_capacity}
-use Rattle.qpack_spec.proofs.Windows.{excess_bound}
-use Rattle.qpack_table.specs.Places.{Places}
+use Rattle.qpack_spec.specs.Table.{Table, fields_in, can_evict}
+use Rattle.qpack_spec.specs.Window.{eviction_count, greatest_capacity}
+use Rattle.qpack_spec.proofs.Windows.{eviction_count_bound}
+use Rattle.qpack_table.specs.Positions.{Positions}
 use Rattle.qpack_table.specs.Tables.{entry_of, entries_of}
 use Rattle.qpack_table.proofs.Changes.{resized_above, resized_against_held, resized_to}
 use Rattle.qpack_table.proofs.Evictions.{kept_resized, live_less}
@@ -12,21 +12,21 @@ use Rattle.qpack_table.proofs.dynamic.table.DynamicTable.set_max_size.Goals as g
 
 pub returns-then-size-greatest_capacity : goal.returns-then-size-greatest_capacity
 returns-then-size-greatest_capacity c =
-    (resized_above c.args.self.now c.args.size (omega (arith, c.greatest_capacity.ensures.agreed)), refl)
+    (resized_above c.args.self.now c.args.size (omega (arith, c.greatest_capacity.ensures.agreed_max)), refl)
 
-pub can_drop-requires : goal.can_drop-requires
-can_drop-requires c = omega (
+pub can_evict-requires : goal.can_evict-requires
+can_evict-requires c = omega (
   arith,
-  c.excess-gone.ensures,
-  excess_bound c.args.size (fields_in c.args.self.now.live),
+  c.eviction_count-evicted.ensures,
+  eviction_count_bound c.args.size (fields_in c.args.self.now.live),
   length-map c.args.self.now.live (λ (e : table.Entry). e.field),
 )
 
-pub returns-then-not-can_drop : goal.returns-then-not-can_drop
-returns-then-not-can_drop c = (
-  resized_against_held c.args.self.now c.args.size (omega (arith, c.greatest_capacity.ensures.agreed))
-      (ap (λ (n : ℕ). can_drop c.args.self.now n) (sym c.excess-gone.ensures) ∙ sym c.can_drop.ensures
-      ∙ c.if-not-can_drop.true),
+pub returns-then-not-can_evict : goal.returns-then-not-can_evict
+returns-then-not-can_evict c = (
+  resized_against_held c.args.self.now c.args.size (omega (arith, c.greatest_capacity.ensures.agreed_max))
+      (ap (λ (n : ℕ). can_evict c.args.self.now n) (sym c.eviction_count-evicted.ensures) ∙ sym c.can_evict.ensures
+      ∙ c.if-not-can_evict.true),
   refl,
 )
 
@@ -34,8 +34,8 @@ pub drop_oldest-freed-requires-clause-there : goal.drop_oldest-freed-requires-cl
 drop_oldest-freed-requires-clause-there c =
     omega (
       arith,
-      c.excess-gone.ensures,
-      excess_bound c.args.size (fields_in c.args.self.now.live),
+      c.eviction_count-evicted.ensures,
+      eviction_count_bound c.args.size (fields_in c.args.self.now.live),
       length-map c.args.self.now.live (λ (e : table.Entry). e.field),
       ap (λ (t : Table). length t.live) c.self.view_is,
       length-map c.self.inside.entries.items entry_of,
@@ -43,26 +43,26 @@ drop_oldest-freed-requires-clause-there c =
 
 pub invariant_of-self : goal.invariant_of-self
 invariant_of-self c =
-    let gone : c.excess-gone.result ≡ excess c.args.size (fields_in (entries_of c.self.inside.entries.items)) =
-    c.excess-gone.ensures ∙ ap (λ (t : Table). excess c.args.size (fields_in t.live)) (sym c.self.view_is) in
+    let evicted : c.eviction_count-evicted.result ≡ eviction_count c.args.size (fields_in (entries_of c.self.inside.entries.items)) =
+    c.eviction_count-evicted.ensures ∙ ap (λ (t : Table). eviction_count c.args.size (fields_in t.live)) (sym c.self.view_is) in
     kept_resized c.self.inside.vas c.drop_oldest-freed.new.vas c.self.inside.entries.items
-    c.drop_oldest-freed.new.entries.items _ _ _ c.args.size _ _ c.excess-gone.result c.drop_oldest-freed.result
+    c.drop_oldest-freed.new.entries.items _ _ _ c.args.size _ _ c.eviction_count-evicted.result c.drop_oldest-freed.result
     c.self.invariant
-    gone (omega (arith, c.greatest_capacity.ensures.most)) c.drop_oldest-freed.ensures.left
+    evicted (omega (arith, c.greatest_capacity.ensures.most)) c.drop_oldest-freed.ensures.left
     c.drop_oldest-freed.ensures.freed refl
-    (ap (λ (p : Places). p.dropped) c.drop_oldest-freed.ensures.dropped)
-    (ap (λ (p : Places). p.total) c.drop_oldest-freed.ensures.dropped)
+    (ap (λ (p : Positions). p.dropped) c.drop_oldest-freed.ensures.dropped)
+    (ap (λ (p : Positions). p.total) c.drop_oldest-freed.ensures.dropped)
 
 pub returns : goal.returns
 returns c =
-    let gone : c.excess-gone.result ≡ excess c.args.size (fields_in (entries_of c.self.inside.entries.items)) =
-    c.excess-gone.ensures ∙ ap (λ (t : Table). excess c.args.size (fields_in t.live)) (sym c.self.view_is) in
+    let evicted : c.eviction_count-evicted.result ≡ eviction_count c.args.size (fields_in (entries_of c.self.inside.entries.items)) =
+    c.eviction_count-evicted.ensures ∙ ap (λ (t : Table). eviction_count c.args.size (fields_in t.live)) (sym c.self.view_is) in
     rw (← c.self.view_is) (resized_to _ c.args.size c.drop_oldest-freed.new.vas.dropped
     (entries_of c.drop_oldest-freed.new.entries.items)
-    (omega (arith, c.greatest_capacity.ensures.agreed, ap (λ (t : Table). greatest_capacity t.agreed) c.self.view_is))
-    (ap (λ (t : Table). can_drop t (excess c.args.size (fields_in t.live))) c.self.view_is
-    ∙ ap (λ (n : ℕ). can_drop c.args.self.now n) (sym c.excess-gone.ensures) ∙ sym c.can_drop.ensures
-    ∙ c.if-not-can_drop.false)
-    (omega (arith, gone, ap (λ (p : Places). p.dropped) c.drop_oldest-freed.ensures.dropped))
-    (live_less c.self.inside.entries.items c.drop_oldest-freed.new.entries.items c.excess-gone.result
-    c.drop_oldest-freed.ensures.left ∙ ap (λ (n : ℕ). drop n (entries_of c.self.inside.entries.items)) gone))
+    (omega (arith, c.greatest_capacity.ensures.agreed_max, ap (λ (t : Table). greatest_capacity t.agreed_max) c.self.view_is))
+    (ap (λ (t : Table). can_evict t (eviction_count c.args.size (fields_in t.live))) c.self.view_is
+    ∙ ap (λ (n : ℕ). can_evict c.args.self.now n) (sym c.eviction_count-evicted.ensures) ∙ sym c.can_evict.ensures
+    ∙ c.if-not-can_evict.false)
+    (omega (arith, evicted, ap (λ (p : Positions). p.dropped) c.drop_oldest-freed.ensures.dropped))
+    (live_less c.self.inside.entries.items c.drop_oldest-freed.new.entries.items c.eviction_count-evicted.result
+    c.drop_oldest-freed.ensures.left ∙ ap (λ (n : ℕ). drop n (entries_of c.self.inside.entries.items)) evicted))

@@ -1,0 +1,79 @@
+-- The tables of the Huffman code, tested entry by entry against the code.
+use Rattle.std.proofs.Common.{◌≡◌, ℕ, zero, suc, ◌+◌, ◌-◌, ◌/◌, ◌^◌, ◌<◌, Bool, true, false, ◌&&◌, List, [], ◌∷◌}
+use Rattle.std.proofs.Common.{refl, subst, arith}
+use Rattle.std.specs.Prelude.{nat_lt, nat_le, slice_index_or}
+use Rattle.std.specs.Str.{bytes_eq}
+use Rattle.std.proofs.lemmas.Bool.{ltb-true, leb-true}
+use Rattle.std.proofs.lemmas.Slice.Eq.{bytes_eq-Decides}
+use Rattle.qpack_spec.specs.Huffman.{bits_of, code_of}
+use Rattle.qpack_base.specs.HuffmanTables.{BeginsWithCode, IsCodeOf, AreShortCodes, AreCodes}
+
+both : (a b : Bool) → (a && b) ≡ true → (a ≡ true) × (b ≡ true)
+both true true e = (refl, refl)
+both true false e = absurd cc
+both false b e = absurd cc
+
+-- whether each of the k entries from place i on passes the test of its place
+abbrev passes_from : (ℕ → ℕ × ℕ → Bool) → ℕ → ℕ → List (ℕ × ℕ) → Bool
+passes_from test zero i es = true
+passes_from test (suc k) i [] = false
+passes_from test (suc k) i (e ∷ es) = test i e && passes_from test k (suc i) es
+
+passes_at : (test : ℕ → ℕ × ℕ → Bool) (k i j : ℕ) (es : List (ℕ × ℕ)) → passes_from test k i es ≡ true → j < k
+    → test (i + j) (slice_index_or es j (0, 0)) ≡ true
+passes_at test zero i j es p h = absurd (omega arith)
+passes_at test (suc k) i j [] p h = absurd cc
+passes_at test (suc k) i zero (e ∷ es) p h = let z : i ≡ i + 0 = omega arith in
+    subst (λ (n : ℕ). test n e ≡ true) z (both (test i e) (passes_from test k (suc i) es) p).0
+passes_at test (suc k) i (suc j) (e ∷ es) p h =
+    let z : suc i + j ≡ i + suc j = omega arith in
+    subst (λ (n : ℕ). test n (slice_index_or es j (0, 0)) ≡ true) z
+    (passes_at test k (suc i) j es (both (test i e) (passes_from test k (suc i) es) p).1 (omega arith))
+
+abbrev short_test : ℕ → ℕ × ℕ → Bool
+short_test window e =
+    nat_lt e.0 256 && (nat_le 1 e.1 && (nat_le e.1 8 && bytes_eq (code_of e.0) (bits_of e.1 (window / 2 ^ (8 - e.1)))))
+
+short_code : (es : List (ℕ × ℕ)) → passes_from short_test 254 0 es ≡ true → (window : ℕ) → window < 254
+    → BeginsWithCode window (slice_index_or es window (0, 0))
+short_code es p window h =
+    let e : ℕ × ℕ = slice_index_or es window (0, 0) in
+    let z : 0 + window ≡ window = omega arith in
+    let code = bytes_eq (code_of e.0) (bits_of e.1 (window / 2 ^ (8 - e.1))) in
+    let t = subst (λ (n : ℕ). short_test n e ≡ true) z (passes_at short_test 254 0 window es p h) in
+    let a = both (nat_lt e.0 256) (nat_le 1 e.1 && (nat_le e.1 8 && code)) t in
+    let b = both (nat_le 1 e.1) (nat_le e.1 8 && code) a.1 in
+    let c = both (nat_le e.1 8) code b.1 in
+    record {
+      byte = ltb-true _ _ a.0;
+      least = leb-true _ _ b.0;
+      most = leb-true _ _ c.0;
+      is = (bytes_eq-Decides (code_of e.0) (bits_of e.1 (window / 2 ^ (8 - e.1)))).0 c.1;
+    }
+
+pub short_codes_agree : (es : List (ℕ × ℕ)) → passes_from short_test 254 0 es ≡ true → AreShortCodes es
+short_codes_agree es p = record { at = short_code es p }
+
+abbrev code_test : ℕ → ℕ × ℕ → Bool
+code_test byte e =
+    nat_le 1 e.0 && (nat_le e.0 30 && (nat_lt e.1 (2 ^ e.0) && bytes_eq (code_of byte) (bits_of e.0 e.1)))
+
+code_at_place : (es : List (ℕ × ℕ)) → passes_from code_test 256 0 es ≡ true → (byte : ℕ) → byte < 256
+    → IsCodeOf byte (slice_index_or es byte (0, 0))
+code_at_place es p byte h =
+    let e : ℕ × ℕ = slice_index_or es byte (0, 0) in
+    let z : 0 + byte ≡ byte = omega arith in
+    let code = bytes_eq (code_of byte) (bits_of e.0 e.1) in
+    let t = subst (λ (n : ℕ). code_test n e ≡ true) z (passes_at code_test 256 0 byte es p h) in
+    let a = both (nat_le 1 e.0) (nat_le e.0 30 && (nat_lt e.1 (2 ^ e.0) && code)) t in
+    let b = both (nat_le e.0 30) (nat_lt e.1 (2 ^ e.0) && code) a.1 in
+    let c = both (nat_lt e.1 (2 ^ e.0)) code b.1 in
+    record {
+      least = leb-true _ _ a.0;
+      most = leb-true _ _ b.0;
+      fits = ltb-true _ _ c.0;
+      is = (bytes_eq-Decides (code_of byte) (bits_of e.0 e.1)).0 c.1;
+    }
+
+pub codes_agree : (es : List (ℕ × ℕ)) → passes_from code_test 256 0 es ≡ true → AreCodes es
+codes_agree es p = record { at = code_at_place es p }

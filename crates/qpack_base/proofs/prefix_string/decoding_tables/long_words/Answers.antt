@@ -1,8 +1,0 @@
-use Rattle.std.proofs.Common.{refl}
-use Rattle.qpack_spec.specs.Huffman.{bytes_by_length, bytes_of_length, first_word}
-use Rattle.qpack_base.specs.HuffmanTables.{long_rows}
-use Rattle.qpack_base.proofs.prefix_string.decoding_tables.long_words.Goals as goal
-
-pub returns : goal.returns
-unfolding bytes_by_length bytes_of_length first_word long_rows
-returns c = refl

@@ -1,0 +1,148 @@
+-- Which entries are evictable.
+use Rattle.std.proofs.Common.{◌≡◌, ℕ, zero, suc, ◌+◌, ◌<◌, ◌≤◌, Bool, true, false, ◌||◌, ◌&&◌, List, [], ◌∷◌, length}
+use Rattle.std.proofs.Common.{take, drop, get_or, Some, refl, sym, ap, subst, ◌∙◌, arith, inl, inr}
+use Rattle.std.specs.Prelude.{filter, not, slice_get, nat_lt, IfSome, if◌then◌else◌}
+use Rattle.std.specs.List.{list_any}
+use Rattle.std.proofs.lemmas.Bool.{cases_lt, lt-ltb, le-ltb}
+use Rattle.std.proofs.lemmas.List.{drop_all, length-take}
+use Rattle.qpack_spec.specs.Table as table
+use Rattle.qpack_spec.specs.Table.{has_number, is_evictable, all_evictable}
+use Rattle.qpack_table.specs.Tables.{entry_of, entries_of, uses, IsEvictableAt}
+use Rattle.qpack_table.specs.declared.dynamic.table.Entry.{Entry}
+
+any_counted : {X : Type 0} (p : X → Bool) (xs : List X) → list_any p xs ≡ nat_lt 0 (length (filter p xs))
+any_counted p [] = refl
+any_counted p (x ∷ xs) = first (p x) refl (any_counted p xs)
+  where
+    first : (b : Bool) → p x ≡ b → list_any p xs ≡ nat_lt 0 (length (filter p xs))
+        → list_any p (x ∷ xs) ≡ nat_lt 0 (length (filter p (x ∷ xs)))
+    first true e rest = rw e (sym (lt-ltb 0 (suc (length (filter p xs))) (omega arith)))
+    first false e rest = rw e rest
+
+-- an entry is named exactly if some block uses it
+named_if_used : (referenced : List ℕ) (unacknowledged : List table.UnacknowledgedBlock) (a : ℕ)
+    → (has_number a referenced || list_any (λ (b : table.UnacknowledgedBlock). has_number a b.entries) unacknowledged)
+    ≡ nat_lt 0 (uses referenced unacknowledged a)
+named_if_used referenced unacknowledged a = first (has_number a referenced) refl
+  where
+    rest : ℕ
+    rest = length (filter (λ (b : table.UnacknowledgedBlock). has_number a b.entries) unacknowledged)
+
+    first : (b : Bool) → has_number a referenced ≡ b
+        → (has_number a referenced || list_any (λ (b : table.UnacknowledgedBlock). has_number a b.entries) unacknowledged)
+        ≡ nat_lt 0 (uses referenced unacknowledged a)
+    first true e = rw e (sym (lt-ltb 0 (1 + rest) (omega arith)))
+    first false e = let none : 0 + rest ≡ rest = omega arith in
+        rw (e, none) (any_counted (λ (b : table.UnacknowledgedBlock). has_number a b.entries) unacknowledged)
+
+by_either : (x y z : Bool) → (x || y) ≡ true → (x || (y || z)) ≡ true
+by_either true y z e = refl
+by_either false true z e = refl
+by_either false false z e = absurd cc
+
+by_neither : (x y z : Bool) → (x || y) ≡ false → (x || (y || z)) ≡ z
+by_neither true y z e = absurd cc
+by_neither false true z e = absurd cc
+by_neither false false z e = refl
+
+pub evictable_used : (t : table.Table) (a n : ℕ) (sent : Bool) → n ≡ uses t.referenced t.unacknowledged a → 0 < n
+    → is_evictable t a sent ≡ false
+unfolding is_evictable
+evictable_used t a n sent e h =
+    ap not (by_either (has_number a t.referenced) (list_any (λ (b : table.UnacknowledgedBlock). has_number a b.entries) t.unacknowledged)
+    (sent && nat_lt t.known_received_count a)
+    (named_if_used t.referenced t.unacknowledged a ∙ lt-ltb 0 (uses t.referenced t.unacknowledged a) (omega (arith, e, h))))
+
+pub evictable_unused : (t : table.Table) (a n : ℕ) (sent : Bool) → n ≡ uses t.referenced t.unacknowledged a → n ≡ 0
+    → is_evictable t a sent ≡ not (sent && nat_lt t.known_received_count a)
+unfolding is_evictable
+evictable_unused t a n sent e h =
+    let none : uses t.referenced t.unacknowledged a ≡ 0 = omega (arith, e, h) in
+    ap not (by_neither (has_number a t.referenced) (list_any (λ (b : table.UnacknowledgedBlock). has_number a b.entries) t.unacknowledged)
+    (sent && nat_lt t.known_received_count a)
+    (named_if_used t.referenced t.unacknowledged a ∙ ap (nat_lt 0) none))
+
+pub entry_there : (es : List Entry) (position : ℕ) (e : Entry) → position < length es → e ≡ get_or es position e
+    → slice_get (entries_of es) position ≡ Some (entry_of e)
+entry_there [] position e h is = absurd (omega (arith, h))
+entry_there (x ∷ es) zero e h is = ap (λ (y : Entry). Some (entry_of y)) (sym is)
+entry_there (x ∷ es) (suc k) e h is = entry_there es k e (omega (arith, h)) is
+
+pub evictable_at : (t : table.Table) (es : List Entry) (position : ℕ) (e : Entry) (answer : Bool) → t.live ≡ entries_of es
+    → position < length es → e ≡ get_or es position e
+    → answer ≡ is_evictable t (t.dropped + position + 1) e.sent → IsEvictableAt t position answer
+evictable_at t es position e answer live h is same =
+    let there : slice_get t.live position ≡ Some (entry_of e) = ap (λ l. slice_get l position) live
+    ∙ entry_there es position e h is in
+    rw there same
+
+-- the first of those that are left to test
+next_tested : (xs : List table.Entry) (evicted position : ℕ) (x : table.Entry) → position < evicted → slice_get xs position ≡ Some x
+    → drop position (take evicted xs) ≡ x ∷ drop (position + 1) (take evicted xs)
+next_tested [] evicted position x h is = absurd cc
+next_tested (y ∷ ys) zero position x h is = absurd (omega (arith, h))
+next_tested (y ∷ ys) (suc evicted) zero x h is = let s : y ≡ x = cc in ap (λ z. z ∷ take evicted ys) s
+next_tested (y ∷ ys) (suc evicted) (suc position) x h is =
+    let next : suc position + 1 ≡ suc (position + 1) = omega arith in
+    next_tested ys evicted position x (omega (arith, h)) is ∙ ap (λ (n : ℕ). x ∷ drop n (take (suc evicted) (y ∷ ys))) (sym next)
+
+there_is : {X : Type 0} (xs : List X) (position : ℕ) → position < length xs → (x : X) × (slice_get xs position ≡ Some x)
+there_is [] position h = absurd (omega (arith, h))
+there_is (x ∷ xs) zero h = (x, refl)
+there_is (x ∷ xs) (suc position) h = there_is xs position (omega (arith, h))
+
+-- one position further
+all_evictable_step : (t : table.Table) (evicted position : ℕ) (answer : Bool) → position < evicted → evicted ≤ length t.live
+    → IsEvictableAt t position answer
+    → all_evictable t (suc (t.dropped + position)) (drop position (take evicted t.live))
+    ≡ (if answer then all_evictable t (suc (t.dropped + (position + 1))) (drop (position + 1) (take evicted t.live))
+    else false)
+unfolding all_evictable
+all_evictable_step t evicted position answer h few at =
+    let some = there_is t.live position (omega (arith, h, few)) in
+    let is : answer ≡ is_evictable t (t.dropped + position + 1) some.0.sent =
+    subst (λ o. IfSome o (λ (e : table.Entry). answer ≡ is_evictable t (t.dropped + position + 1) e.sent)) some.1 at in
+    let here : t.dropped + position + 1 ≡ suc (t.dropped + position) = omega arith in
+    let there : t.dropped + (position + 1) ≡ suc (t.dropped + position) = omega arith in
+    rw (next_tested t.live evicted position some.0 h some.1, there, is, here) refl
+
+pub stops_at_first : (t : table.Table) (evicted position : ℕ) → position < evicted → evicted ≤ length t.live → IsEvictableAt t position false
+    → all_evictable t (suc (t.dropped + position)) (drop position (take evicted t.live)) ≡ false
+stops_at_first t evicted position h few at = all_evictable_step t evicted position false h few at
+
+pub free_goes_on : (t : table.Table) (evicted position : ℕ) → position < evicted → evicted ≤ length t.live → IsEvictableAt t position true
+    → all_evictable t (suc (t.dropped + position)) (drop position (take evicted t.live))
+    ≡ all_evictable t (suc (t.dropped + (position + 1))) (drop (position + 1) (take evicted t.live))
+free_goes_on t evicted position h few at = all_evictable_step t evicted position true h few at
+
+pub all_free : (t : table.Table) (evicted position : ℕ) → evicted ≤ position
+    → all_evictable t (suc (t.dropped + position)) (drop position (take evicted t.live)) ≡ true
+unfolding all_evictable
+all_free t evicted position h =
+    let none : drop position (take evicted t.live) ≡ [] =
+    drop_all position (take evicted t.live) (omega (arith, h, length-take evicted t.live)) in
+    rw none refl
+
+pub item_there : {X : Type 0} (xs : List X) (position : ℕ) (x : X) → position < length xs → x ≡ get_or xs position x
+    → slice_get xs position ≡ Some x
+item_there [] position x h is = absurd (omega (arith, h))
+item_there (y ∷ ys) zero x h is = ap (λ z. Some z) (sym is)
+item_there (y ∷ ys) (suc k) x h is = item_there ys k x (omega (arith, h)) is
+
+-- at most is less than one more
+below_or_not : (a b : ℕ) → nat_lt b a ≡ not (nat_lt a (b + 1))
+below_or_not a b =
+    elim (cases_lt b a) [
+      | inl h ↦ rw (lt-ltb b a h, le-ltb a (b + 1) (omega (arith, h))) refl
+      | inr h ↦ rw (le-ltb b a h, lt-ltb a (b + 1) (omega (arith, h))) refl
+    ]
+
+-- a sent entry is received if the known received count reached its absolute index
+pub sent_received : (known_received_count dropped position absolute : ℕ) (sent : Bool) → sent ≡ true → absolute ≡ dropped + position
+    → nat_lt absolute known_received_count ≡ not (sent && nat_lt known_received_count (dropped + position + 1))
+sent_received known_received_count dropped position absolute sent e h =
+    rw (e, h) (below_or_not known_received_count (dropped + position))
+
+pub not_sent : (known_received_count a : ℕ) (sent : Bool) → sent ≡ false
+    → not sent ≡ not (sent && nat_lt known_received_count a)
+not_sent known_received_count a sent e = rw e refl
