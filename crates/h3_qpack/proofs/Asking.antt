@@ -23,12 +23,14 @@ pub asks_front : (bytes : List ℕ) → AsksForMemory line_form bytes → Begins
 asks_front bytes b = record { encoding = b.encoding; rest = b.rest; parts = b.parts; holds = inr b.holds }
 
 -- a line that was found
-pub asks_found : (old new : CursorView) (l : Line) → (encoding : List ℕ) × SpellsLine encoding l × MovesPast encoding old new
+pub asks_found : (old new : CursorView) (l : Line) → (encoding : List ℕ) × SpellsLine encoding l
+    × MovesPast encoding old new
     → Begins AsksLine old.rest
 asks_found old new l f = record { encoding = f.0; rest = new.rest; parts = f.2.0; holds = inl (l, f.1) }
 
 -- the lines behind a prefix that was found
-pub asks_section : (old mid : CursorView) (p : Prefix) → (encoding : List ℕ) × SpellsPrefix encoding p × MovesPast encoding old mid
+pub asks_section : (old mid : CursorView) (p : Prefix) → (encoding : List ℕ) × SpellsPrefix encoding p
+    × MovesPast encoding old mid
     → Begins AsksLine mid.rest → AsksSectionForMemory old.rest
 asks_section old mid p f b = in_turn {P = HoldsPrefix} old.rest f.0 mid.rest f.2.0 (p, f.1) b
 

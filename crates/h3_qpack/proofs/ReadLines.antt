@@ -8,7 +8,8 @@ use Rattle.qpack_spec.specs.Bytes.{Begins, ◌>>=◌}
 use Rattle.qpack_spec.specs.Field.{Field, field_size, total_size}
 use Rattle.qpack_spec.specs.Form.{FormFault, form_at}
 use Rattle.qpack_spec.specs.Line.{Line, line_form}
-use Rattle.qpack_spec.specs.Stateless.{StatelessFault, NamesEntry, TooLong, saturated_size, stateless_field, or_bad_bytes}
+use Rattle.qpack_spec.specs.Stateless.{StatelessFault, NamesEntry, TooLong, saturated_size, stateless_field}
+use Rattle.qpack_spec.specs.Stateless.{or_bad_bytes}
 use Rattle.qpack_spec.specs.Stateless.{within_limit, stateless_at}
 use Rattle.qpack_spec.proofs.Results.{bind_ok, chosen, ok_is, ok_pair}
 use Rattle.qpack_spec.proofs.Sizes.{total_last}
@@ -45,7 +46,8 @@ pub record TakesLine (b : ℕ) (cs rest : List ℕ) : Type 0 where
   pub line : Line
   pub takes : TakesSpelling Line line_form (b ∷ cs) line rest
 
-field_takes : (b : ℕ) (cs : List ℕ) (f : Field) (rest : List ℕ) → stateless_field_at b cs ≡ Ok (f, rest) → TakesLine b cs rest
+field_takes : (b : ℕ) (cs : List ℕ) (f : Field) (rest : List ℕ) → stateless_field_at b cs ≡ Ok (f, rest)
+    → TakesLine b cs rest
 field_takes b cs f rest e =
     elim (chosen (ltb b 32) (Err NamesEntry) (or_bad_bytes
     (form_at line_form (b ∷ cs)) >>= λ r. stateless_field r.0 >>= λ g. Ok (g, r.1)) (Ok (f, rest)) e) [

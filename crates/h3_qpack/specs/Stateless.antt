@@ -74,7 +74,8 @@ GivesFault (Err e) fault = Tells e fault
 -- the answer's fields are what the bytes mean, with their size, and nothing is required
 abbrev pub FindsFields : ℕ → List ℕ → Decoded → Type 0
 FindsFields limit bytes d =
-    MeansStateless limit bytes (fields_in d.fields.items) × (d.mem_size ≡ saturated_size (total_size (fields_in d.fields.items)))
+    MeansStateless limit bytes (fields_in d.fields.items)
+        × (d.mem_size ≡ saturated_size (total_size (fields_in d.fields.items)))
     × (d.dyn_ref ≡ false)
 
 -- the error tells why the bytes mean nothing, or memory was refused

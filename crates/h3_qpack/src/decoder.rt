@@ -45,7 +45,7 @@ pub enum DecoderError {
     /// A string means nothing, or the bytes end within it.
     #[error("invalid string: {0:?}")]
     InvalidString(prefix_string::Error),
-    /// An index of the dynamic table names no live entry; kept from the original, and never answered.
+    /// An index of the dynamic table references no live entry; kept from the original, and never answered.
     #[error("invalid dynamic index: {0:?}")]
     InvalidIndex(vas::Error),
     /// The dynamic table refused what it was asked for, or has no entry of an index.

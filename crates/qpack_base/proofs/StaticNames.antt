@@ -1,4 +1,4 @@
--- A look by a name's length finds all places of the name, and a look at those finds the first.
+-- A look by a name's length finds all positions of the name, and a look at those finds the first.
 use Rattle.std.proofs.Common.{◌≡◌, ℕ, zero, suc, ◌+◌, ◌-◌, ◌<◌, ◌≤◌, Bool, true, false, not, cond, ◌&&◌, ◌||◌, List}
 use Rattle.std.proofs.Common.{[], ◌∷◌, length, map, Option, Some, None, refl, sym, ap, subst, ◌∙◌, arith, inl, inr}
 use Rattle.std.specs.Prelude.{All, Contains, filter, find, position, slice_get, slice_index_or, nat_lt, option_map}
@@ -16,13 +16,13 @@ use Rattle.qpack_spec.specs.StaticTable.{static_table, static_index, static_name
 use Rattle.qpack_base.specs.StaticFields.{indexes_with_name, has_value_at, is_value_of, names_at, name_rows_at}
 use Rattle.qpack_base.specs.StaticFields.{AreNamesOfLength, AreNamesBetween}
 
--- a name and its places
+-- a name and its positions
 abbrev Entry : Type 0
 Entry = List ℕ × List ℕ
 
 -- ---- the table of names, tested entry by entry
 
--- whether the entry has its places
+-- whether the entry has its positions
 abbrev entry_test : Entry → Bool
 entry_test e = bytes_eq e.1 (indexes_with_name e.0)
 
@@ -70,7 +70,7 @@ entries_agree row t =
 entry_is : (n m : List ℕ) (p q : List ℕ) → n ≡ m → p ≡ q → (let e : Entry = (n, p) in let f : Entry = (m, q) in e ≡ f)
 entry_is n m p q same_name same_places = cc
 
--- an entry of the name, where entries have their places
+-- an entry of the name, where entries have their positions
 entry_there : (row : List Entry) (name : List ℕ) → All (λ e. e.1 ≡ indexes_with_name e.0) row
     → list_any (λ e. bytes_eq e.0 name) row ≡ true → Contains row (name, indexes_with_name name)
 entry_there row name places t =
@@ -145,9 +145,9 @@ find-map test g (x ∷ xs) = first (test (g x)) (find-map test g xs)
     first true rest = refl
     first false rest = rest
 
--- ---- places
+-- ---- positions
 
--- the places of those that pass, from i on
+-- the positions of those that pass, from i on
 abbrev places_from : (Field → Bool) → ℕ → List Field → List ℕ
 places_from test i fs = map (λ e. e.0) (filter (λ e. test e.1) (enumerate_from i fs))
 
@@ -208,7 +208,7 @@ first_place test i (f ∷ fs) = first (test f) (first_place test (i + 1) fs)
     first true rest = refl
     first false rest = rest
 
--- a look at the places of those that pass, by a test of what stands there
+-- a look at the positions of those that pass, by a test of what stands there
 first_of_both : (test more : Field → Bool) (look : ℕ → Bool) (i : ℕ) (fs : List Field)
     → ((k : ℕ) (f : Field) → slice_get fs k ≡ Some f → look (i + k) ≡ more f)
     → find look (places_from test i fs) ≡ first_from (λ f. test f && more f) i fs

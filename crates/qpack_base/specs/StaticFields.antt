@@ -1,4 +1,4 @@
--- The static table as the crate holds it, and the places of its names.
+-- The static table as the crate holds it, and the positions of its names.
 use Rattle.std.specs.Prelude.{◌≡◌, ◌≤◌, ◌<◌, ◌-◌, ℕ, Bool, false, List, [], Option, Some, None, map, filter, All}
 use Rattle.std.specs.Prelude.{Contains, length, slice_get, slice_index_or}
 use Rattle.std.specs.Borrow.{Bor}
@@ -17,7 +17,7 @@ field_at f = record { name = f.0.now; value = f.1.now }
 abbrev pub fields_at : List (Bor (List ℕ) × Bor (List ℕ)) → List Field
 fields_at fs = map field_at fs
 
--- all places of the static table with the name, rising
+-- all positions of the static table with the name, rising
 unfoldable pub indexes_with_name : List ℕ → List ℕ
 indexes_with_name name = map (λ e. e.0) (filter (λ e. has_name name e.1) (enumerate_from 0 static_table))
 
@@ -30,7 +30,7 @@ is_value_of value (Some f) = bytes_eq value f.value
 abbrev pub has_value_at : List ℕ → ℕ → Bool
 has_value_at value place = is_value_of value (slice_get static_table place)
 
--- names of one length: each stands with all its places, and no name of that length in the static table is missing
+-- names of one length: each stands with all its positions, and no name of that length in the static table is missing
 pub record AreNamesOfLength (n : ℕ) (names : List (List ℕ × List ℕ)) : Type 0 where
   pub places : All (λ e. e.1 ≡ indexes_with_name e.0) names
   pub complete : (k : ℕ) (f : Field) → IsStaticAt k f → length f.name ≡ n
@@ -40,7 +40,7 @@ pub record AreNamesOfLength (n : ℕ) (names : List (List ℕ × List ℕ)) : Ty
 pub record AreNamesBetween (first limit : ℕ) (rows : List (List (List ℕ × List ℕ))) : Type 0 where
   pub at : (n : ℕ) → first ≤ n → n < limit → AreNamesOfLength n (slice_index_or rows (n - first) [])
 
--- the names and places behind references
+-- the names and positions behind references
 abbrev pub names_at : List (Bor (List ℕ) × Bor (List ℕ)) → List (List ℕ × List ℕ)
 names_at names = map (λ e. (e.0.now, e.1.now)) names
 

@@ -38,7 +38,8 @@ FailsString Memory read = IsWhole read
 FailsString e read = IsRefusedFor read (string_fault_of e)
 
 -- the answer is the value that was read, under some flags, and the cursor stands behind it; or it is the fault
-abbrev pub ReadsString : CursorView → CursorView → Result (Vec ℕ) Error → Result (ℕ × List ℕ × List ℕ) StringFault → Type 0
+abbrev pub ReadsString : CursorView → CursorView → Result (Vec ℕ) Error → Result (ℕ × List ℕ × List ℕ) StringFault
+    → Type 0
 ReadsString old new (Ok v) read = ((flags : ℕ) × (read ≡ Ok (flags, v.items, new.rest))) × (new.total ≡ old.total)
 ReadsString old new (Err e) read = FailsString e read
 

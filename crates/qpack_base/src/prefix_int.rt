@@ -37,7 +37,7 @@ impl From<coding::UnexpectedEnd> for Error {
 const MOST_GROUPS: u8 = 9;
 
 /// Reads the integer at the cursor, with a prefix of `size` bits: the flags, which are the bits above
-/// the prefix, and the value. Takes no memory. Where it is refused, the cursor's place is not told.
+/// the prefix, and the value. Takes no memory. On error the cursor's position is unspecified.
 pub fn decode(size: u8, buf: &mut Cursor) -> Result<(u8, u64), Error>
     requires least { 1 ≤ size }
     requires most { size ≤ 8 }

@@ -107,7 +107,7 @@ impl<T: Drop> From<AllocFailed<T>> for Error {
 
 /// Reads the string at the cursor, with a prefix of `size` bits, plain or coded. Memory is asked for
 /// only where a payload that is not empty stands whole at the cursor. Where the string is refused,
-/// the cursor's place is not told.
+/// the cursor's position is unspecified.
 pub fn decode(alloc: Global, size: u8, buf: &mut Cursor) -> Result<Vec<u8>, Error>
     requires least { 2 ≤ size }
     requires most { size ≤ 8 }

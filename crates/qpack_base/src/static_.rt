@@ -83,7 +83,7 @@ impl StaticTable {
     }
 }
 
-/// All places with this name, rising.
+/// All positions with this name, rising.
 fn places_of(name: &[u8]) -> &'static [usize]
     ensures { result.now ≡ indexes_with_name name.now }
 {
@@ -100,7 +100,7 @@ fn entry_of(names: &'static [Name], name: &[u8]) -> Option<&'static Name>
     names.iter().find(|entry| name == entry.0)
 }
 
-/// The first of the places whose field has this value.
+/// The first of the positions whose field has this value.
 fn place_of_value(places: &[usize], value: &[u8]) -> Option<usize>
     ensures { result ≡ find (λ place. has_value_at value.now place) places.now }
 {

@@ -9,17 +9,21 @@ use Rattle.qpack_spec.specs.Text.{string_at, written_string}
 use Rattle.qpack_spec.specs.StaticTable.{field, static_table, static_index, static_name_index}
 use Rattle.qpack_spec.specs.Form.{made_at, form_at}
 use Rattle.qpack_spec.specs.Line.{line_form, written_line, written_lines}
-use Rattle.qpack_spec.specs.Instruction.{encoder_instruction_form, decoder_instruction_form, written_encoder_instruction, written_encoder_instructions}
+use Rattle.qpack_spec.specs.Instruction.{encoder_instruction_form, decoder_instruction_form}
+use Rattle.qpack_spec.specs.Instruction.{written_encoder_instruction, written_encoder_instructions}
 use Rattle.qpack_spec.specs.Instruction.{written_decoder_instruction, written_decoder_instructions}
 use Rattle.qpack_spec.specs.Prefix.{prefix_for, required_at, read_required, read_base, read_prefix, written_prefix}
 use Rattle.qpack_spec.specs.Prefix.{prefix_at}
 use Rattle.qpack_spec.specs.Window.{eviction_count, absolute_entry, relative_entry, insertion, effect, window_after}
 use Rattle.qpack_spec.specs.History.{window_of, whole_window, history_after}
-use Rattle.qpack_spec.specs.Reading.{static_field, relative_field, post_base_field, line_field, fields_of, references_of_line}
+use Rattle.qpack_spec.specs.Reading.{static_field, relative_field, post_base_field, line_field, fields_of}
+use Rattle.qpack_spec.specs.Reading.{references_of_line}
 use Rattle.qpack_spec.specs.Reading.{references_of, greatest_of, Fields, Missing, reading}
 use Rattle.qpack_spec.specs.BlockReading.{fields_at, reading_of_bytes, written_block}
-use Rattle.qpack_spec.specs.Table.{window, with_number, with_reference, is_evictable, all_evictable, has_room, may_reference, with_entry}
-use Rattle.qpack_spec.specs.Table.{last_position, newest_index, put, with_capacity, apply_encoder_instruction, commit, without_references, without_oldest}
+use Rattle.qpack_spec.specs.Table.{window, with_number, with_reference, is_evictable, all_evictable, has_room}
+use Rattle.qpack_spec.specs.Table.{may_reference, with_entry}
+use Rattle.qpack_spec.specs.Table.{last_position, newest_index, put, with_capacity, apply_encoder_instruction, commit}
+use Rattle.qpack_spec.specs.Table.{without_references, without_oldest}
 use Rattle.qpack_spec.specs.Table.{without_stream, with_increment, apply_decoder_instruction}
 use Rattle.qpack_spec.specs.Rule.{instruction_for, rule_field, rule}
 use Rattle.qpack_spec.specs.Session.{stream_at}
@@ -27,7 +31,7 @@ use Rattle.qpack_safety.specs.AbstractSession.{AbstractBlock, AbstractSession, S
 use Rattle.qpack_safety.specs.AbstractSession.{Report, Hear, Decode, Acknowledge, Cancel, abstract_start, next_reading}
 use Rattle.qpack_safety.specs.AbstractSession.{after_steps}
 
--- the bytes of the last block of a stream, those of the instructions under way, and the last required count
+-- the bytes of the last block of a stream, those of the instructions under way, and the last required insert count
 last_block : List AbstractBlock → Option AbstractBlock
 last_block [] = None
 last_block (x ∷ []) = Some x
@@ -51,14 +55,20 @@ session_after capacity limit steps = after_steps steps (abstract_start capacity 
 
 -- all that has to unfold
 rows : ℕ
-unfolding eviction_count written_groups groups_at integer_at written_integer bits_of ones bytes_by_length bytes_of_length
+unfolding eviction_count written_groups groups_at integer_at written_integer bits_of ones bytes_by_length
+    bytes_of_length
     first_code code_length code_of number_from bytes_of_bits payload_of code_at is_padding item_at text_at text_of_bits
     string_at written_string static_table static_index static_name_index line_form written_line written_lines
-    encoder_instruction_form decoder_instruction_form written_encoder_instruction written_encoder_instructions written_decoder_instruction written_decoder_instructions made_at form_at
-    prefix_for required_at read_required read_base read_prefix written_prefix prefix_at absolute_entry relative_entry insertion effect
-    window_after window_of whole_window history_after static_field relative_field post_base_field line_field fields_of references_of_line references_of
-    greatest_of reading fields_at reading_of_bytes written_block window with_number with_reference is_evictable all_evictable has_room may_reference
-    with_entry last_position newest_index put with_capacity apply_encoder_instruction commit without_references without_oldest without_stream with_increment apply_decoder_instruction
+    encoder_instruction_form decoder_instruction_form written_encoder_instruction written_encoder_instructions
+    written_decoder_instruction written_decoder_instructions made_at form_at
+    prefix_for required_at read_required read_base read_prefix written_prefix prefix_at absolute_entry
+    relative_entry insertion effect
+    window_after window_of whole_window history_after static_field relative_field post_base_field line_field
+    fields_of references_of_line references_of
+    greatest_of reading fields_at reading_of_bytes written_block window with_number with_reference is_evictable
+    all_evictable has_room may_reference
+    with_entry last_position newest_index put with_capacity apply_encoder_instruction commit without_references
+    without_oldest without_stream with_increment apply_decoder_instruction
     instruction_for rule_field rule last_block bytes_of block_on in_flight_of decoder_instructions_of session_after
 rows = 0
 
@@ -87,7 +97,8 @@ unfolding rows
 first_reads = refl
 
 -- the increment and the acknowledgment: 01 84
-first_decoder_instructions : (decoder_instructions_of (session_after 4096 1 (Encode 4 ((field (codes "foo") (codes "bar")) ∷ []) ∷ Take
+first_decoder_instructions :
+    (decoder_instructions_of (session_after 4096 1 (Encode 4 ((field (codes "foo") (codes "bar")) ∷ []) ∷ Take
     ∷ Report (1 ∷ []) ∷ Decode 4 ∷ Acknowledge 4 ∷ []))) ≡ 1 ∷ 132 ∷ []
 unfolding rows
 first_decoder_instructions = refl
@@ -99,13 +110,15 @@ unfolding rows
 nothing_to_decode = refl
 
 -- a block is acknowledged once
-acknowledged_once : (decoder_instructions_of (session_after 4096 1 (Encode 4 ((field (codes "foo") (codes "bar")) ∷ []) ∷ Take
+acknowledged_once : (decoder_instructions_of
+    (session_after 4096 1 (Encode 4 ((field (codes "foo") (codes "bar")) ∷ []) ∷ Take
     ∷ Decode 4 ∷ Acknowledge 4 ∷ Acknowledge 4 ∷ []))) ≡ 132 ∷ []
 unfolding rows
 acknowledged_once = refl
 
 -- and not before it was decoded
-acknowledged_late : (decoder_instructions_of (session_after 4096 1 (Encode 4 ((field (codes "foo") (codes "bar")) ∷ []) ∷ Take
+acknowledged_late : (decoder_instructions_of
+    (session_after 4096 1 (Encode 4 ((field (codes "foo") (codes "bar")) ∷ []) ∷ Take
     ∷ Acknowledge 4 ∷ []))) ≡ []
 unfolding rows
 acknowledged_late = refl
@@ -145,7 +158,7 @@ named_held : (block_on (session_after 64 4 (Encode 4 ((field (codes "foo") (code
 unfolding rows
 named_held = refl
 
--- and one that an open block names
+-- and one that an unacknowledged block names
 open_held : (block_on (session_after 64 4 (Encode 4 ((field (codes "foo") (codes "bar")) ∷ []) ∷ Take ∷ Report (1 ∷ [])
     ∷ Decode 4 ∷ Hear ∷ Encode 8 ((field (codes "baz") (codes "bar")) ∷ []) ∷ [])) 8)
     ≡ 0 ∷ 0 ∷ 43 ∷ 140 ∷ 126 ∷ 255 ∷ 131 ∷ 140 ∷ 118 ∷ 127 ∷ []
@@ -188,7 +201,8 @@ unfolding rows
 equal_before_start = refl
 
 -- a cancellation: 44
-cancelled : (decoder_instructions_of (session_after 64 4 (Encode 4 ((field (codes "foo") (codes "bar")) ∷ []) ∷ Cancel 4 ∷ [])))
+cancelled : (decoder_instructions_of
+    (session_after 64 4 (Encode 4 ((field (codes "foo") (codes "bar")) ∷ []) ∷ Cancel 4 ∷ [])))
     ≡ 68 ∷ []
 unfolding rows
 cancelled = refl
@@ -222,7 +236,7 @@ cancelled_decodes_nothing : (next_reading
 unfolding rows
 cancelled_decodes_nothing = refl
 
--- the newest equal entry alone is considered, although an older one may be named
+-- the newest equal entry alone is considered, although an older one may be referenced
 newest_alone : (block_on (session_after 4096 1
     (Encode 4 ((field (codes "foo") (codes "bar")) ∷ (field (codes "foo") (codes "bar")) ∷ []) ∷ Take ∷ Report (1 ∷ [])
     ∷ Hear ∷ Encode 8 ((field (codes "foo") (codes "bar")) ∷ []) ∷ [])) 8) ≡ 0 ∷ 0 ∷ 42 ∷ 148 ∷ 231 ∷ 131 ∷ 140 ∷ 118
@@ -286,7 +300,7 @@ resize_written : (in_flight_of (session_after 64 4 (Resize 38 ∷ Encode 4 ((fie
 unfolding rows
 resize_written = refl
 
--- the count is of the agreed maximum, whatever the capacity is
+-- the count is of the maximum capacity, whatever the capacity is
 resize_block : (block_on (session_after 64 4 (Resize 38 ∷ Encode 4 ((field (codes "foo") (codes "bar")) ∷ []) ∷ [])) 4)
     ≡ 2 ∷ 128 ∷ 16 ∷ []
 unfolding rows
@@ -370,13 +384,14 @@ unfolding rows
 third_block = refl
 
 -- the cancellation and the increment
-cancelled_and_reported : (decoder_instructions_of (session_after 64 4 (Encode 4 ((field (codes "foo") (codes "bar")) ∷ [])
+cancelled_and_reported :
+    (decoder_instructions_of (session_after 64 4 (Encode 4 ((field (codes "foo") (codes "bar")) ∷ [])
     ∷ Encode 4 ((field (codes "foo") (codes "bar")) ∷ []) ∷ Encode 4 ((field (codes "foo") (codes "bar")) ∷ [])
     ∷ Cancel 4 ∷ Take ∷ Report (1 ∷ []) ∷ []))) ≡ 68 ∷ 1 ∷ []
 unfolding rows
 cancelled_and_reported = refl
 
--- a cancellation releases every open block of its stream
+-- a cancellation releases every unacknowledged block of its stream
 cancellation_releases_all : (block_on (session_after 64 4 (Encode 4 ((field (codes "foo") (codes "bar")) ∷ [])
     ∷ Encode 4 ((field (codes "foo") (codes "bar")) ∷ []) ∷ Encode 4 ((field (codes "foo") (codes "bar")) ∷ [])
     ∷ Cancel 4 ∷ Take ∷ Report (1 ∷ []) ∷ Hear ∷ Hear ∷ Encode 8 ((field (codes "baz") (codes "bar")) ∷ []) ∷ [])) 8)

@@ -6,7 +6,8 @@ use Rattle.std.specs.List.{filter}
 use Rattle.std.specs.Prelude.{nat_lt, nat_eq, ◌||◌}
 use Rattle.std.proofs.lemmas.Bool.{eq-eqb, ne_eqb, cases_eq, lt-ltb, le-ltb, ltb-true, ltb-false}
 use Rattle.std.proofs.lemmas.List.Elements.{filter-append}
-use Rattle.qpack_spec.specs.Table.{UnacknowledgedBlock, Table, has_number, commit, without_oldest, with_increment, apply_decoder_instruction}
+use Rattle.qpack_spec.specs.Table.{UnacknowledgedBlock, Table, has_number, commit, without_oldest, with_increment}
+use Rattle.qpack_spec.specs.Table.{apply_decoder_instruction}
 use Rattle.qpack_spec.specs.Bytes.{◌>>=◌}
 use Rattle.qpack_spec.specs.Instruction.{DecoderInstruction, Acknowledgment, Cancellation, Increment}
 use Rattle.qpack_spec.specs.Window.{TableRefusal, UnknownStream, or_refusal}
@@ -113,11 +114,12 @@ among_fewer n m seen (p ∷ ps) le =
 
 -- ---- the table's count
 
--- the required counts that the table holds are those of the blocks kept, at any count from the known one on
+-- the required insert counts that the table holds are those of the blocks kept, at any count from the known one on
 pub record CountsBlocked (t : Table) (ps : List (ℕ × KeptStream)) : Type 0 where
   pub small : t.known_received_count ≤ 2 ^ 64 - 1
   pub above : length (filter (λ r. nat_lt t.known_received_count r) t.blocked) ≡ length t.blocked
-  pub counts : (n : ℕ) → t.known_received_count ≤ n → length (filter (λ r. nat_lt n r) t.blocked) ≡ blocked_among n [] ps
+  pub counts : (n : ℕ) → t.known_received_count ≤ n → length (filter (λ r. nat_lt n r) t.blocked)
+      ≡ blocked_among n [] ps
 
 -- the table counts the blocked blocks
 pub counts_all : (t : Table) (ps : List (ℕ × KeptStream)) → CountsBlocked t ps
@@ -125,7 +127,8 @@ pub counts_all : (t : Table) (ps : List (ℕ × KeptStream)) → CountsBlocked t
 counts_all t ps c = sym c.above ∙ c.counts t.known_received_count (omega arith)
 
 -- a table with the same counts
-pub counts_table : (t u : Table) (ps : List (ℕ × KeptStream)) → u.known_received_count ≡ t.known_received_count → u.blocked ≡ t.blocked
+pub counts_table : (t u : Table) (ps : List (ℕ × KeptStream)) → u.known_received_count ≡ t.known_received_count
+    → u.blocked ≡ t.blocked
     → CountsBlocked t ps → CountsBlocked u ps
 counts_table t u ps k w c =
     record {
@@ -149,7 +152,7 @@ counts_stream t s k ps e c =
           );
     }
 
--- 1 if a required count is above this one
+-- 1 if a required insert count is above this one
 abbrev one_required : ℕ → ℕ → ℕ
 one_required n r = length (filter (λ x. nat_lt n x) (r ∷ []))
 
@@ -231,7 +234,8 @@ filter_again n m (r ∷ ws) le = pick (nat_lt n r) refl (filter_again n m ws le)
     pick false e h = let low : nat_lt m r ≡ false = le-ltb m r (omega (arith, ltb-false _ _ e)) in rw low h
 
 -- the encoder's table takes a decoder instruction
-counts_raised : (t : Table) (n : ℕ) (ps : List (ℕ × KeptStream)) → CountsBlocked t ps → CountsBlocked (with_increment t n) ps
+counts_raised : (t : Table) (n : ℕ) (ps : List (ℕ × KeptStream)) → CountsBlocked t ps
+    → CountsBlocked (with_increment t n) ps
 unfolding with_increment
 counts_raised t n ps c =
     let known_received_count = min (t.known_received_count + n) (2 ^ 64 - 1) in
@@ -239,15 +243,18 @@ counts_raised t n ps c =
     record {
       small = omega arith;
       above = ap length (filter_again known_received_count known_received_count t.blocked (omega arith));
-      counts = λ m le. ap length (filter_again known_received_count m t.blocked le) ∙ c.counts m (omega (arith, le, more));
+      counts = λ m le. ap length (filter_again known_received_count m t.blocked le)
+          ∙ c.counts m (omega (arith, le, more));
     }
 
-counts_heard : (t u : Table) (r : DecoderInstruction) (ps : List (ℕ × KeptStream)) → apply_decoder_instruction t r ≡ Ok u → CountsBlocked t ps
+counts_heard : (t u : Table) (r : DecoderInstruction) (ps : List (ℕ × KeptStream)) → apply_decoder_instruction t r
+    ≡ Ok u → CountsBlocked t ps
     → CountsBlocked u ps
 unfolding apply_decoder_instruction
 counts_heard t u (Acknowledgment s) ps e c = pick (without_oldest s t.unacknowledged) e
   where
-    pick : (o : Option (List UnacknowledgedBlock)) → (or_refusal o (UnknownStream s) >>= λ bs. Ok (record t { unacknowledged = bs }))
+    pick : (o : Option (List UnacknowledgedBlock))
+        → (or_refusal o (UnknownStream s) >>= λ bs. Ok (record t { unacknowledged = bs }))
         ≡ Ok u → CountsBlocked u ps
     pick None q = absurd cc
     pick (Some bs) q =
@@ -256,12 +263,15 @@ counts_heard t u (Cancellation s) ps e c =
     subst (λ x. CountsBlocked x ps) (ok_is _ _ e) (record { small = c.small; above = c.above; counts = c.counts })
 counts_heard t u (Increment n) ps e c = subst (λ x. CountsBlocked x ps) (ok_is _ _ e) (counts_raised t n ps c)
 
-pub counts_all_heard : (t u : Table) (rs : List DecoderInstruction) (ps : List (ℕ × KeptStream)) → apply_decoder_instructions t rs ≡ Ok u
+pub counts_all_heard : (t u : Table) (rs : List DecoderInstruction) (ps : List (ℕ × KeptStream))
+    → apply_decoder_instructions t rs ≡ Ok u
     → CountsBlocked t ps → CountsBlocked u ps
 counts_all_heard t u [] ps e c = subst (λ x. CountsBlocked x ps) (ok_is _ _ e) c
 counts_all_heard t u (r ∷ rs) ps e c = pick (apply_decoder_instruction t r) refl e (λ x. counts_all_heard x u rs ps)
   where
-    pick : (o : Result Table TableRefusal) → apply_decoder_instruction t r ≡ o → (o >>= λ x. apply_decoder_instructions x rs) ≡ Ok u
-        → ((x : Table) → apply_decoder_instructions x rs ≡ Ok u → CountsBlocked x ps → CountsBlocked u ps) → CountsBlocked u ps
+    pick : (o : Result Table TableRefusal) → apply_decoder_instruction t r ≡ o
+        → (o >>= λ x. apply_decoder_instructions x rs) ≡ Ok u
+        → ((x : Table) → apply_decoder_instructions x rs ≡ Ok u → CountsBlocked x ps → CountsBlocked u ps)
+            → CountsBlocked u ps
     pick (Err f) h q rest = absurd cc
     pick (Ok x) h q rest = rest x q (counts_heard t x r ps h c)

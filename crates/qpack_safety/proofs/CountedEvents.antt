@@ -8,9 +8,11 @@ use Rattle.qpack_spec.specs.BlockReading.{reading_of_bytes, written_block}
 use Rattle.qpack_spec.specs.Table.{Table, window, without_references, with_capacity}
 use Rattle.qpack_spec.specs.Rule.{rule, required_insert_count, block_of}
 use Rattle.qpack_spec.specs.Session.{KeptBlock, stream_at, Session, Event, Encode, Decode, ToDecoder, ToEncoder}
-use Rattle.qpack_spec.specs.Session.{Acknowledge, Cancel, ChangeCapacity, Outcome, with_block, after_refused_encode, with_decoded}
+use Rattle.qpack_spec.specs.Session.{Acknowledge, Cancel, ChangeCapacity, Outcome, with_block, after_refused_encode}
+use Rattle.qpack_spec.specs.Session.{with_decoded}
 use Rattle.qpack_spec.specs.Session.{is_read, EndsAtDecoder, takes_all, no_memory, bad_bytes, bad_instruction}
-use Rattle.qpack_spec.specs.Session.{EndsAtEncoder, takes_all_at_encoder, bad_bytes_at_encoder, bad_decoder_instruction, LawfulStep}
+use Rattle.qpack_spec.specs.Session.{EndsAtEncoder, takes_all_at_encoder, bad_bytes_at_encoder, bad_decoder_instruction}
+use Rattle.qpack_spec.specs.Session.{LawfulStep}
 use Rattle.qpack_spec.proofs.Results.{ok_is}
 use Rattle.qpack_spec.proofs.References.{rule_references}
 use Rattle.qpack_safety.proofs.Resizing.{CanResize, resized_table, resized_cases, same_resized}
@@ -34,7 +36,8 @@ counted_block v s fs c =
       end = length encoder_stream;
       fields = fs;
     } in
-    counts_pushed v.encoder d.table s (record old { blocks = old.blocks ++ b ∷ [] }) b v.streams k.known_received_count k.blocked refl
+    counts_pushed v.encoder d.table s
+        (record old { blocks = old.blocks ++ b ∷ [] }) b v.streams k.known_received_count k.blocked refl
     c
 
 unnamed_known : (t : Table) → (without_references t).known_received_count ≡ t.known_received_count
@@ -49,7 +52,8 @@ counted_given_up : (v : Session) (fs : List Field) → CountsItsBlocks v → Cou
 counted_given_up v fs c =
     let d = rule v.encoder fs in
     let k = rule_references v.encoder fs in
-    counts_table v.encoder (without_references d.table) v.streams (unnamed_known d.table ∙ k.known_received_count) (unnamed_waiting d.table
+    counts_table v.encoder (without_references d.table) v.streams (unnamed_known d.table ∙ k.known_received_count)
+        (unnamed_waiting d.table
     ∙ k.blocked) c
 
 counted_resized : (v : Session) (n : ℕ) (t : Table) → with_capacity v.encoder n ≡ Ok t → CountsItsBlocks v
@@ -59,7 +63,8 @@ counted_resized v n t e c = pick (resized_cases v.encoder n)
     same : (u : Table) → u ≡ resized_table v.encoder n → CountsBlocked u v.streams
     same u q =
         let z = same_resized v.encoder n in
-        counts_table v.encoder u v.streams (ap (λ (x : Table). x.known_received_count) q ∙ z.z_known) (ap (λ (x : Table). x.blocked) q
+        counts_table v.encoder u v.streams (ap (λ (x : Table). x.known_received_count) q ∙ z.z_known)
+            (ap (λ (x : Table). x.blocked) q
         ∙ z.z_waiting) c
 
     pick : (CanResize v.encoder n × (with_capacity v.encoder n ≡ Ok (resized_table v.encoder n)))
@@ -79,7 +84,8 @@ counted_hearing : (v : Session) (n : ℕ) (t : Table) (front rest : List ℕ) (o
     → EndsAtEncoder v n t front rest o v' → CountsBlocked t v.streams → CountsItsBlocks v'
 counted_hearing v n t front rest o v' (takes_all_at_encoder cut is goes) c = subst CountsItsBlocks (sym goes) c
 counted_hearing v n t front rest o v' (bad_bytes_at_encoder fault b is goes) c = subst CountsItsBlocks (sym goes) c
-counted_hearing v n t front rest o v' (bad_decoder_instruction encoding more r e cut s bad is goes) c = subst CountsItsBlocks (sym goes) c
+counted_hearing v n t front rest o v'
+    (bad_decoder_instruction encoding more r e cut s bad is goes) c = subst CountsItsBlocks (sym goes) c
 
 pub counted_happens : (v : Session) (e : Event) (o : Outcome) (v' : Session) → LawfulStep v e o v' → CountsItsBlocks v
     → CountsItsBlocks v'

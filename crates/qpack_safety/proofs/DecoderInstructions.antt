@@ -1,4 +1,4 @@
--- The decoder_instructions that are under way: each acknowledgment will find an open block.
+-- The decoder instructions that are under way: each acknowledgment will find an unacknowledged block.
 use Rattle.std.proofs.Common.{ℕ, suc, ◌+◌, ◌-◌, ◌<◌, ◌≤◌, ◌≡◌, Bool, true, false, cond, List, [], ◌∷◌, ◌++◌, refl}
 use Rattle.std.proofs.Common.{arith}
 use Rattle.std.specs.Prelude.{nat_eq, MatchBool}
@@ -19,7 +19,7 @@ cancels_in s (Acknowledgment t ∷ rs) = cancels_in s rs
 cancels_in s (Cancellation t ∷ rs) = cond (nat_eq t s) (suc (cancels_in s rs)) (cancels_in s rs)
 cancels_in s (Increment n ∷ rs) = cancels_in s rs
 
--- each acknowledgement finds an open block, n being open now
+-- each acknowledgement finds an unacknowledged block, n being open now
 unfoldable pub AcksFit : ℕ → List DecoderInstruction → ℕ → Type 0
 AcksFit s [] n = Unit {0}
 AcksFit s (Acknowledgment t ∷ rs) n = MatchBool (nat_eq t s) ((0 < n) × AcksFit s rs (n - 1)) (AcksFit s rs n)
@@ -46,8 +46,9 @@ fits_more s (Cancellation t ∷ rs) n m le h = let low = fits_more s rs 0 0 (ome
     pick false low same k = same k
 fits_more s (Increment k ∷ rs) n m le h = fits_more s rs n m le h
 
--- with no cancellation, the acknowledgements are at most the open blocks
-pub fits_count : (s : ℕ) (rs : List DecoderInstruction) (n : ℕ) → AcksFit s rs n → cancels_in s rs ≡ 0 → acks_in s rs ≤ n
+-- with no cancellation, the acknowledgements are at most the unacknowledged blocks
+pub fits_count : (s : ℕ) (rs : List DecoderInstruction) (n : ℕ) → AcksFit s rs n → cancels_in s rs ≡ 0 → acks_in s rs
+    ≤ n
 unfolding AcksFit acks_in cancels_in
 fits_count s [] n h c = omega arith
 fits_count s (Acknowledgment t ∷ rs) n h c = let low = λ (x : AcksFit s rs (n - 1)). fits_count s rs (n - 1) x c in
@@ -134,7 +135,8 @@ acks_push s (Acknowledgment t ∷ rs) =
 acks_push s (Cancellation t ∷ rs) = acks_push s rs
 acks_push s (Increment n ∷ rs) = acks_push s rs
 
-pub acks_other : (s : ℕ) (rs : List DecoderInstruction) (r : DecoderInstruction) → IsNoAck s r → acks_in s (rs ++ r ∷ []) ≡ acks_in s rs
+pub acks_other : (s : ℕ) (rs : List DecoderInstruction) (r : DecoderInstruction) → IsNoAck s r
+    → acks_in s (rs ++ r ∷ []) ≡ acks_in s rs
 unfolding acks_in
 acks_other s [] (Acknowledgment t) a = rw (ne_eqb t s a) refl
 acks_other s [] (Cancellation t) a = refl
@@ -158,7 +160,8 @@ cancels_other s (Acknowledgment t ∷ rs) r a = cancels_other s rs r a
 cancels_other s (Cancellation t ∷ rs) r a = rw (cancels_other s rs r a) refl
 cancels_other s (Increment n ∷ rs) r a = cancels_other s rs r a
 
-pub increments_append : (rs qs : List DecoderInstruction) → increment_sum (rs ++ qs) ≡ increment_sum rs + increment_sum qs
+pub increments_append : (rs qs : List DecoderInstruction) → increment_sum (rs ++ qs)
+    ≡ increment_sum rs + increment_sum qs
 unfolding increment_sum
 increments_append [] qs = omega arith
 increments_append (Acknowledgment t ∷ rs) qs = increments_append rs qs

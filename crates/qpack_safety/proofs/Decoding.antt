@@ -12,7 +12,8 @@ use Rattle.qpack_spec.specs.Session.{with_stream, increment_sum, stream_at}
 use Rattle.qpack_safety.specs.AbstractSession.{AbstractBlock, is_dynamic, AbstractStream, AbstractSession}
 use Rattle.qpack_safety.specs.AbstractSession.{waits_for_acknowledgment}
 use Rattle.qpack_safety.proofs.OpenBlocks.{open_of}
-use Rattle.qpack_safety.proofs.DecoderInstructions.{acks_in, fits_push, IsNoAck, fits_other, acks_push, acks_other, IsNoCancel}
+use Rattle.qpack_safety.proofs.DecoderInstructions.{acks_in, fits_push, IsNoAck, fits_other, acks_push, acks_other}
+use Rattle.qpack_safety.proofs.DecoderInstructions.{IsNoCancel}
 use Rattle.qpack_safety.proofs.DecoderInstructions.{cancels_other, increments_append, increments_sum}
 use Rattle.qpack_safety.proofs.Fronts.{filter_take, filter_take_more}
 use Rattle.qpack_safety.proofs.Hearing.{increments_cons_ack, increments_cons_cancel}
@@ -52,9 +53,11 @@ inv_decoded capacity limit w s k =
     }
 
 -- a stream at which a decoder_instruction of another is added
-decoder_instruction_other : (capacity : ℕ) (h : History) (encoder_stream : List EncoderInstruction) (unacknowledged : List UnacknowledgedBlock) (rs : List DecoderInstruction)
+decoder_instruction_other : (capacity : ℕ) (h : History) (encoder_stream : List EncoderInstruction)
+    (unacknowledged : List UnacknowledgedBlock) (rs : List DecoderInstruction)
     (r : DecoderInstruction) (q : ℕ) (st : AbstractStream) → IsNoAck q r → IsNoCancel q r
-    → KeepsStream capacity h encoder_stream unacknowledged rs q st → KeepsStream capacity h encoder_stream unacknowledged (rs ++ r ∷ []) q st
+    → KeepsStream capacity h encoder_stream unacknowledged rs q st
+        → KeepsStream capacity h encoder_stream unacknowledged (rs ++ r ∷ []) q st
 decoder_instruction_other capacity h encoder_stream unacknowledged rs r q st a c k =
     record {
       acknowledged = k.acknowledged;
@@ -68,7 +71,8 @@ length_drops : {X Y : Type 0} (xs : List X) (ys : List Y) (n m : ℕ) → length
     → m < length ys → n < length xs
 length_drops xs ys n m e h = omega (arith, length-drop n xs, length-drop m ys)
 
-stream_acked : (capacity : ℕ) (h : History) (encoder_stream : List EncoderInstruction) (unacknowledged : List UnacknowledgedBlock) (rs : List DecoderInstruction)
+stream_acked : (capacity : ℕ) (h : History) (encoder_stream : List EncoderInstruction)
+    (unacknowledged : List UnacknowledgedBlock) (rs : List DecoderInstruction)
     (s : ℕ) (st : AbstractStream) → waits_for_acknowledgment st ≡ true
     → KeepsStream capacity h encoder_stream unacknowledged rs s st
     → KeepsStream capacity h encoder_stream unacknowledged (rs ++ Acknowledgment s ∷ []) s
@@ -133,7 +137,8 @@ inv_acked capacity limit w s t k =
           (record st { acknowledged = st.acknowledged + 1 })
           (stream_acked capacity k.made (w.taken ++ w.in_flight) w.encoder.unacknowledged w.decoder_in_flight s st t
           (k.streams s))
-          (λ q d. decoder_instruction_other capacity k.made (w.taken ++ w.in_flight) w.encoder.unacknowledged w.decoder_in_flight
+          (λ q d. decoder_instruction_other capacity k.made
+              (w.taken ++ w.in_flight) w.encoder.unacknowledged w.decoder_in_flight
           (Acknowledgment s) q (stream_at w.streams q) d tt (k.streams q));
     }
   where
@@ -170,12 +175,14 @@ inv_cancelled capacity limit w s k =
           (record st { cancelled = true })
           (record {
             acknowledged = old.acknowledged;
-            fits = fits_other s w.decoder_in_flight (Cancellation s) (length (open_of s w.encoder.unacknowledged)) tt old.fits;
+            fits = fits_other s w.decoder_in_flight (Cancellation s)
+                (length (open_of s w.encoder.unacknowledged)) tt old.fits;
             stays_open = λ c. absurd (cc);
             quiet = λ c. absurd (cc);
             blocks = old.blocks;
           })
-          (λ q d. decoder_instruction_other capacity k.made (w.taken ++ w.in_flight) w.encoder.unacknowledged w.decoder_in_flight
+          (λ q d. decoder_instruction_other capacity k.made
+              (w.taken ++ w.in_flight) w.encoder.unacknowledged w.decoder_in_flight
           (Cancellation s) q (stream_at w.streams q) tt d (k.streams q));
     }
   where

@@ -76,7 +76,8 @@ takes_all capacity limit w (l ∷ lines) still k e =
       length-append k.received.inserted g.more,
       ap length g.inserts,
     ) in
-    let unreported : (take_next w w.in_flight).unreported ≡ w.unreported + (window_insert_count next - window_insert_count w.decoder) =
+    let unreported : (take_next w w.in_flight).unreported
+        ≡ w.unreported + (window_insert_count next - window_insert_count w.decoder) =
     ap (λ (x : AbstractSession). x.unreported) one in
     let decoder : (take_next w w.in_flight).decoder ≡ next = ap (λ (x : AbstractSession). x.decoder) one in
     record {
@@ -112,7 +113,8 @@ pub record Listens (w w' : AbstractSession) (lines still : List DecoderInstructi
   pub l_in_flight : w'.in_flight ≡ w.in_flight
   pub l_streams : w'.streams ≡ w.streams
 
-pub hears_all : (capacity limit : ℕ) (w : AbstractSession) (lines still : List DecoderInstruction) → Invariant capacity limit w
+pub hears_all : (capacity limit : ℕ) (w : AbstractSession) (lines still : List DecoderInstruction)
+    → Invariant capacity limit w
     → w.decoder_in_flight ≡ lines ++ still → Listens w (after_steps (hearing_all lines) w) lines still
 hears_all capacity limit w [] still k e =
     record {
@@ -137,7 +139,8 @@ hears_all capacity limit w (r ∷ lines) still k e =
       l_decoder_instructions = rest.l_decoder_instructions;
       l_encoder =
           ap (λ (o : Result Table TableRefusal). o >>= λ x. apply_decoder_instructions x lines) t.1
-          ∙ ap (λ (x : Table). apply_decoder_instructions x lines) (sym (ap (λ (x : AbstractSession). x.encoder) one)) ∙ rest.l_encoder;
+          ∙ ap (λ (x : Table). apply_decoder_instructions x lines) (sym (ap (λ (x : AbstractSession). x.encoder) one))
+              ∙ rest.l_encoder;
       l_decoder = rest.l_decoder ∙ ap (λ (x : AbstractSession). x.decoder) one;
       l_unreported = rest.l_unreported ∙ ap (λ (x : AbstractSession). x.unreported) one;
       l_taken = rest.l_taken ∙ ap (λ (x : AbstractSession). x.taken) one;

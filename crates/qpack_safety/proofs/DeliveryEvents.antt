@@ -5,15 +5,20 @@ use Rattle.std.specs.Prelude.{IsOk}
 use Rattle.std.proofs.lemmas.List.{append_assoc, length-take}
 use Rattle.qpack_spec.specs.Bytes.{Begins, ◌>>=◌}
 use Rattle.qpack_spec.specs.Form.{FormFault, Form, Spells}
-use Rattle.qpack_spec.specs.Instruction.{EncoderInstruction, encoder_instruction_form, SpellsEncoderInstruction, RefusesEncoderInstruction, DecoderInstruction}
-use Rattle.qpack_spec.specs.Instruction.{decoder_instruction_form, SpellsDecoderInstruction, RefusesDecoderInstruction, written_decoder_instructions}
+use Rattle.qpack_spec.specs.Instruction.{EncoderInstruction, encoder_instruction_form, SpellsEncoderInstruction}
+use Rattle.qpack_spec.specs.Instruction.{RefusesEncoderInstruction, DecoderInstruction}
+use Rattle.qpack_spec.specs.Instruction.{decoder_instruction_form, SpellsDecoderInstruction, RefusesDecoderInstruction}
+use Rattle.qpack_spec.specs.Instruction.{written_decoder_instructions}
 use Rattle.qpack_spec.specs.Stream.{Joined}
 use Rattle.qpack_spec.specs.Window.{Window, TableRefusal, window_insert_count, apply}
 use Rattle.qpack_spec.specs.Table.{Table, table_of, insert_count, apply_encoder_instruction, apply_decoder_instruction}
 use Rattle.qpack_safety.specs.AbstractSession.{AbstractSession, after_steps}
-use Rattle.qpack_spec.specs.Session.{Session, Outcome, Refused, StreamFault, apply_encoder_instructions, apply_decoder_instructions, with_decoder_moved}
-use Rattle.qpack_spec.specs.Session.{with_encoder_moved, unreported_after, EndsAtDecoder, takes_all, no_memory, bad_bytes}
-use Rattle.qpack_spec.specs.Session.{bad_instruction, DeliversToDecoder, EndsAtEncoder, takes_all_at_encoder, bad_bytes_at_encoder, bad_decoder_instruction}
+use Rattle.qpack_spec.specs.Session.{Session, Outcome, Refused, StreamFault, apply_encoder_instructions}
+use Rattle.qpack_spec.specs.Session.{apply_decoder_instructions, with_decoder_moved}
+use Rattle.qpack_spec.specs.Session.{with_encoder_moved, unreported_after, EndsAtDecoder, takes_all, no_memory}
+use Rattle.qpack_spec.specs.Session.{bad_bytes}
+use Rattle.qpack_spec.specs.Session.{bad_instruction, DeliversToDecoder, EndsAtEncoder, takes_all_at_encoder}
+use Rattle.qpack_spec.specs.Session.{bad_bytes_at_encoder, bad_decoder_instruction}
 use Rattle.qpack_spec.specs.Session.{DeliversToEncoder, increments}
 use Rattle.qpack_spec.proofs.Results.{ok_is}
 use Rattle.qpack_spec.proofs.PutTables.{applied_put, count_put}
@@ -39,24 +44,29 @@ piece_ends bytes front rest place most e order within =
 -- what a delivery's lines make of the session of values
 pub record Moved (capacity limit : ℕ) (v : Session) (w : AbstractSession) (n : ℕ) (lines : List EncoderInstruction)
     (front rest : List ℕ) (table : Table) : Type 0 where
-  pub on : CarriesOn EncoderInstruction SpellsEncoderInstruction v.encoder_stream v.encoder_stream_taken w.taken w.in_flight lines front rest
+  pub on : CarriesOn EncoderInstruction SpellsEncoderInstruction v.encoder_stream v.encoder_stream_taken w.taken
+      w.in_flight lines front rest
   pub took : Took w (after_steps (taking_all lines) w) lines on.still
   pub keeps : Invariant capacity limit (after_steps (taking_all lines) w)
   pub table_is : table ≡ table_of (after_steps (taking_all lines) w).decoder
-  pub place : v.encoder_stream_taken + length front + length rest ≡ min (v.encoder_stream_delivered + n) (length v.encoder_stream)
+  pub place : v.encoder_stream_taken + length front + length rest
+      ≡ min (v.encoder_stream_delivered + n) (length v.encoder_stream)
   pub unreported_is : unreported_after v table ≡ (after_steps (taking_all lines) w).unreported
 
 pub moved : (capacity limit : ℕ) (v : Session) (w : AbstractSession) (n : ℕ) (o : Outcome) (v' : Session) → Refines v w
-    → Invariant capacity limit w → (c : DeliversToDecoder v n o v') → Moved capacity limit v w n c.lines c.front c.rest c.table
+    → Invariant capacity limit w → (c : DeliversToDecoder v n o v')
+        → Moved capacity limit v w n c.lines c.front c.rest c.table
 moved capacity limit v w n o v' sh k c =
     let on =
-    carried_on SpellsEncoderInstruction (wire encoder_instruction_form) v.encoder_stream v.encoder_stream_taken (v.encoder_stream_delivered + n) w.taken
+    carried_on SpellsEncoderInstruction (wire encoder_instruction_form) v.encoder_stream v.encoder_stream_taken
+        (v.encoder_stream_delivered + n) w.taken
     w.in_flight c.lines c.front c.rest sh.encoder_stream (omega (arith, sh.sent_order)) c.offered c.joined in
     let t : Took w (after_steps (taking_all c.lines) w) c.lines on.still =
     takes_lines capacity limit w c.lines on.still k on.goes_on in
     let table_is : c.table ≡ table_of (after_steps (taking_all c.lines) w).decoder =
     ok_is _ _ (sym c.applies ∙ ap (λ (x : Table). apply_encoder_instructions x c.lines) sh.decoder_is ∙ t.t_decoder) in
-    let before : insert_count v.decoder ≡ window_insert_count w.decoder = ap insert_count sh.decoder_is ∙ count_put w.decoder in
+    let before : insert_count v.decoder ≡ window_insert_count w.decoder = ap insert_count sh.decoder_is
+        ∙ count_put w.decoder in
     let behind : insert_count c.table ≡ window_insert_count (after_steps (taking_all c.lines) w).decoder =
     ap insert_count table_is ∙ count_put (after_steps (taking_all c.lines) w).decoder in
     record {
@@ -64,7 +74,8 @@ moved capacity limit v w n o v' sh k c =
       took = t;
       keeps = inv_run capacity limit (taking_all c.lines) w k;
       table_is = table_is;
-      place = piece_ends v.encoder_stream c.front c.rest v.encoder_stream_taken (v.encoder_stream_delivered + n) c.offered
+      place = piece_ends v.encoder_stream c.front c.rest v.encoder_stream_taken
+          (v.encoder_stream_delivered + n) c.offered
           (omega (arith, sh.sent_order))
           (omega (
             arith,
@@ -78,7 +89,8 @@ moved capacity limit v w n o v' sh k c =
 -- the session with what was taken, and with what was told behind it
 moved_shown : (capacity limit : ℕ) (v : Session) (w : AbstractSession) (n : ℕ) (lines : List EncoderInstruction)
     (front rest : List ℕ) (table : Table) → Refines v w → Moved capacity limit v w n lines front rest table
-    → Refines (with_decoder_moved v n table (length front) (unreported_after v table) v.decoder_stream) (after_steps (taking_all lines) w)
+    → Refines (with_decoder_moved v n table (length front) (unreported_after v table) v.decoder_stream)
+        (after_steps (taking_all lines) w)
 moved_shown capacity limit v w n lines front rest table sh m =
     let t = m.took in
     let same : (after_steps (taking_all lines) w).taken ++ (after_steps (taking_all lines) w).in_flight
@@ -110,7 +122,8 @@ no_bad_bytes capacity limit v w n lines front rest table fault m b =
 
 -- what stands at the front of bytes that are lines is the first of them
 first_line : {L : Type 0} (form_of : ℕ → Option (Form L)) (still : List L) (rest more encoding behind : List ℕ) (l : L)
-    → Joined (λ t x. Spells L form_of t x) (rest ++ more) still → rest ≡ encoding ++ behind → Spells L form_of encoding l
+    → Joined (λ t x. Spells L form_of t x) (rest ++ more) still → rest ≡ encoding ++ behind
+        → Spells L form_of encoding l
     → (others : List L) × (still ≡ l ∷ others)
 first_line form_of [] rest more encoding behind l j e s = let q =
     s.begins in absurd (let r : encoding ++ (behind ++ more) ≡ [] = sym (append_assoc encoding behind more)
@@ -136,7 +149,8 @@ no_bad_instruction capacity limit v w n lines front rest table encoding more i e
     (inv_safe capacity limit (after_steps (taking_all lines) w) m.keeps).takes_next i f.0 (m.took.t_in_flight
     ∙ f.1) in
     ok_not_err (apply (after_steps (taking_all lines) w).decoder i) e next
-    (sym (applied_put (after_steps (taking_all lines) w).decoder i) ∙ ap (λ x. apply_encoder_instruction x i) (sym m.table_is) ∙ bad)
+    (sym (applied_put (after_steps (taking_all lines) w).decoder i)
+        ∙ ap (λ x. apply_encoder_instruction x i) (sym m.table_is) ∙ bad)
 
 pub lands_delivered : (capacity limit : ℕ) (v : Session) (w : AbstractSession) (n : ℕ) (o : Outcome) (v' : Session)
     → Refines v w → Invariant capacity limit w → DeliversToDecoder v n o v' → RefinesSome capacity limit v'
@@ -150,7 +164,8 @@ lands_delivered capacity limit v w n o v' sh k c = go (moved capacity limit v w 
     go m (takes_all pieces cut sizes sum is goes) =
         let shown = moved_shown capacity limit v w n c.lines c.front c.rest c.table sh m in
         let w1 = after_steps (taking_all c.lines) w in
-        at (with_decoder_moved v n c.table (length c.front) 0 (v.decoder_stream ++ written_decoder_instructions (increments pieces))) goes (record {
+        at (with_decoder_moved v n c.table (length c.front) 0
+            (v.decoder_stream ++ written_decoder_instructions (increments pieces))) goes (record {
           abstract = record w1 { decoder_in_flight = w1.decoder_in_flight ++ increments pieces; unreported = 0 };
           refines = record {
             encoder_is = shown.encoder_is;
@@ -160,7 +175,8 @@ lands_delivered capacity limit v w n o v' sh k c = go (moved capacity limit v w 
             sent_order = shown.sent_order;
             heard_lines = shown.heard_lines;
             decoder_stream =
-                carried_more SpellsDecoderInstruction v.decoder_stream (written_decoder_instructions (increments pieces)) v.decoder_stream_taken shown.heard_lines
+                carried_more SpellsDecoderInstruction v.decoder_stream
+                    (written_decoder_instructions (increments pieces)) v.decoder_stream_taken shown.heard_lines
                 w1.decoder_in_flight (increments pieces) shown.decoder_stream
                 (decoder_instructions_joined (increments pieces) (increments_writable pieces sizes));
             told_order = shown.told_order;
@@ -196,18 +212,21 @@ delivered_lawful capacity limit v w n fault v' sh k c = go (moved capacity limit
 
 record Reached (capacity limit : ℕ) (v : Session) (w : AbstractSession) (n : ℕ) (lines : List DecoderInstruction)
     (front rest : List ℕ) (table : Table) (before : List DecoderInstruction) : Type 0 where
-  pub on : CarriesOn DecoderInstruction SpellsDecoderInstruction v.decoder_stream v.decoder_stream_taken before w.decoder_in_flight lines front rest
+  pub on : CarriesOn DecoderInstruction SpellsDecoderInstruction v.decoder_stream v.decoder_stream_taken before
+      w.decoder_in_flight lines front rest
   pub listens : Listens w (after_steps (hearing_all lines) w) lines on.still
   pub keeps : Invariant capacity limit (after_steps (hearing_all lines) w)
   pub table_is : table ≡ (after_steps (hearing_all lines) w).encoder
-  pub place : v.decoder_stream_taken + length front + length rest ≡ min (v.decoder_stream_delivered + n) (length v.decoder_stream)
+  pub place : v.decoder_stream_taken + length front + length rest
+      ≡ min (v.decoder_stream_delivered + n) (length v.decoder_stream)
 
 reached : (capacity limit : ℕ) (v : Session) (w : AbstractSession) (n : ℕ) (o : Outcome) (v' : Session)
     (sh : Refines v w) → Invariant capacity limit w → (c : DeliversToEncoder v n o v')
     → Reached capacity limit v w n c.lines c.front c.rest c.table sh.heard_lines
 reached capacity limit v w n o v' sh k c =
     let on =
-    carried_on SpellsDecoderInstruction (wire decoder_instruction_form) v.decoder_stream v.decoder_stream_taken (v.decoder_stream_delivered + n) sh.heard_lines
+    carried_on SpellsDecoderInstruction (wire decoder_instruction_form) v.decoder_stream v.decoder_stream_taken
+        (v.decoder_stream_delivered + n) sh.heard_lines
     w.decoder_in_flight c.lines c.front c.rest sh.decoder_stream (omega (arith, sh.told_order)) c.offered c.joined
     in
     let t : Listens w (after_steps (hearing_all c.lines) w) c.lines on.still =
@@ -216,8 +235,10 @@ reached capacity limit v w n o v' sh k c =
       on = on;
       listens = t;
       keeps = inv_run capacity limit (hearing_all c.lines) w k;
-      table_is = ok_is _ _ (sym c.hears ∙ ap (λ (x : Table). apply_decoder_instructions x c.lines) sh.encoder_is ∙ t.l_encoder);
-      place = piece_ends v.decoder_stream c.front c.rest v.decoder_stream_taken (v.decoder_stream_delivered + n) c.offered
+      table_is = ok_is _ _ (sym c.hears ∙ ap (λ (x : Table). apply_decoder_instructions x c.lines) sh.encoder_is
+          ∙ t.l_encoder);
+      place = piece_ends v.decoder_stream c.front c.rest v.decoder_stream_taken
+          (v.decoder_stream_delivered + n) c.offered
           (omega (arith, sh.told_order))
           (omega (
             arith,
@@ -227,29 +248,35 @@ reached capacity limit v w n o v' sh k c =
           ));
     }
 
-no_bad_decoder_instruction_bytes : (capacity limit : ℕ) (v : Session) (w : AbstractSession) (n : ℕ) (lines : List DecoderInstruction)
+no_bad_decoder_instruction_bytes : (capacity limit : ℕ) (v : Session) (w : AbstractSession) (n : ℕ)
+    (lines : List DecoderInstruction)
     (front rest : List ℕ) (table : Table) (before : List DecoderInstruction) (fault : FormFault)
     → Reached capacity limit v w n lines front rest table before
     → Begins (λ encoding. RefusesDecoderInstruction encoding fault) rest → ⊥
 no_bad_decoder_instruction_bytes capacity limit v w n lines front rest table before fault m b =
     nothing_left SpellsDecoderInstruction (λ encoding. RefusesDecoderInstruction encoding fault)
-    (λ encoding r e. (let q = r.begins in absurd cc)) (λ a b x y l r s e. refusal_apart decoder_instruction_form fault a b x y l r s e)
+    (λ encoding r e. (let q = r.begins in absurd cc))
+        (λ a b x y l r s e. refusal_apart decoder_instruction_form fault a b x y l r s e)
     m.on.still rest m.on.more b.encoding b.rest m.on.left b.parts b.holds
 
 ok_not_refused : (r : Result Table TableRefusal) (e : TableRefusal) → IsOk r → r ≡ Err e → ⊥
 ok_not_refused (Ok x) e h q = absurd cc
 ok_not_refused (Err d) e h q = absurd cc
 
-no_bad_decoder_instruction : (capacity limit : ℕ) (v : Session) (w : AbstractSession) (n : ℕ) (lines : List DecoderInstruction)
-    (front rest : List ℕ) (table : Table) (before : List DecoderInstruction) (encoding more : List ℕ) (r : DecoderInstruction) (e : TableRefusal)
+no_bad_decoder_instruction : (capacity limit : ℕ) (v : Session) (w : AbstractSession) (n : ℕ)
+    (lines : List DecoderInstruction)
+    (front rest : List ℕ) (table : Table) (before : List DecoderInstruction) (encoding more : List ℕ)
+        (r : DecoderInstruction) (e : TableRefusal)
     → Reached capacity limit v w n lines front rest table before
     → rest ≡ encoding ++ more → SpellsDecoderInstruction encoding r → apply_decoder_instruction table r ≡ Err e → ⊥
 no_bad_decoder_instruction capacity limit v w n lines front rest table before encoding more r e m cut s bad =
     let f = first_line decoder_instruction_form m.on.still rest m.on.more encoding more r m.on.left cut s in
     let next =
-    (inv_safe capacity limit (after_steps (hearing_all lines) w) m.keeps).hears_next r f.0 (m.listens.l_decoder_instructions
+    (inv_safe capacity limit (after_steps (hearing_all lines) w) m.keeps).hears_next r f.0
+        (m.listens.l_decoder_instructions
     ∙ f.1) in
-    ok_not_refused (apply_decoder_instruction (after_steps (hearing_all lines) w).encoder r) e next (ap (λ x. apply_decoder_instruction x r) (sym m.table_is)
+    ok_not_refused (apply_decoder_instruction (after_steps (hearing_all lines) w).encoder r) e next
+        (ap (λ x. apply_decoder_instruction x r) (sym m.table_is)
     ∙ bad)
 
 pub lands_heard : (capacity limit : ℕ) (v : Session) (w : AbstractSession) (n : ℕ) (o : Outcome) (v' : Session)
@@ -278,9 +305,11 @@ lands_heard capacity limit v w n o v' sh k c = go (reached capacity limit v w n 
         subst (RefinesSome capacity limit) (sym goes)
         (record { abstract = after_steps (hearing_all c.lines) w; refines = shown m; keeps = m.keeps })
     go m (bad_bytes_at_encoder fault b is goes) =
-        absurd (no_bad_decoder_instruction_bytes capacity limit v w n c.lines c.front c.rest c.table sh.heard_lines fault m b)
+        absurd (no_bad_decoder_instruction_bytes capacity limit v w n c.lines c.front c.rest c.table sh.heard_lines
+            fault m b)
     go m (bad_decoder_instruction encoding more r e cut s bad is goes) =
-        absurd (no_bad_decoder_instruction capacity limit v w n c.lines c.front c.rest c.table sh.heard_lines encoding more r e m cut s
+        absurd (no_bad_decoder_instruction capacity limit v w n c.lines c.front c.rest c.table sh.heard_lines encoding
+            more r e m cut s
         bad)
 
 pub heard_lawful : (capacity limit : ℕ) (v : Session) (w : AbstractSession) (n : ℕ) (fault : StreamFault)
@@ -293,4 +322,5 @@ heard_lawful capacity limit v w n fault v' sh k c = go (reached capacity limit v
     go m (bad_bytes_at_encoder f b is goes) =
         no_bad_decoder_instruction_bytes capacity limit v w n c.lines c.front c.rest c.table sh.heard_lines f m b
     go m (bad_decoder_instruction encoding more r e cut s bad is goes) =
-        no_bad_decoder_instruction capacity limit v w n c.lines c.front c.rest c.table sh.heard_lines encoding more r e m cut s bad
+        no_bad_decoder_instruction capacity limit v w n c.lines c.front c.rest c.table sh.heard_lines encoding more r e
+            m cut s bad

@@ -12,7 +12,8 @@ use Rattle.qpack_spec.specs.Window.{Window, maximum_capacity}
 use Rattle.qpack_spec.specs.History.{History, window_of, initial_history, Leads}
 use Rattle.qpack_spec.specs.Prefix.{prefix_for}
 use Rattle.qpack_spec.specs.Reading.{greatest_of}
-use Rattle.qpack_spec.specs.Table.{UnacknowledgedBlock, Table, window, insert_count, with_unacknowledged, commit, without_references}
+use Rattle.qpack_spec.specs.Table.{UnacknowledgedBlock, Table, window, insert_count, with_unacknowledged, commit}
+use Rattle.qpack_spec.specs.Table.{without_references}
 use Rattle.qpack_spec.specs.Rule.{rule, block_of}
 use Rattle.qpack_spec.specs.Session.{stream_at}
 use Rattle.qpack_safety.specs.AbstractSession.{AbstractBlock, is_dynamic, AbstractStream, AbstractSession, after_encode}
@@ -32,15 +33,18 @@ opens_other : (s q : ℕ) (referenced : List ℕ) (bs : List UnacknowledgedBlock
 opens_other s q [] bs d = refl
 opens_other s q (a ∷ as') bs d = open_push s q (a ∷ as') bs ∙ (rw (ne_eqb s q d) (append-nil (open_of q bs)))
 
-opens_own : (s : ℕ) (referenced : List ℕ) (bs : List UnacknowledgedBlock) → (greatest_of referenced ≡ 0 → referenced ≡ [])
-    → open_of s (with_unacknowledged bs s referenced) ≡ open_of s bs ++ cond (not (nat_eq (greatest_of referenced) 0)) (referenced ∷ []) []
+opens_own : (s : ℕ) (referenced : List ℕ) (bs : List UnacknowledgedBlock)
+    → (greatest_of referenced ≡ 0 → referenced ≡ [])
+    → open_of s (with_unacknowledged bs s referenced) ≡ open_of s bs
+        ++ cond (not (nat_eq (greatest_of referenced) 0)) (referenced ∷ []) []
 unfolding greatest_of
 opens_own s [] bs plain = sym (append-nil (open_of s bs))
 opens_own s (a ∷ as') bs plain =
     let apart : greatest_of (a ∷ as') ≡ 0 → ⊥ = λ e. (let x : a ∷ as' ≡ [] = plain e in cc) in
     open_push s s (a ∷ as') bs ∙ (rw (eq-eqb s s refl, ne_eqb (greatest_of (a ∷ as')) 0 apart) refl)
 
-opens_every : (P : UnacknowledgedBlock → Type 0) (s : ℕ) (referenced : List ℕ) (bs : List UnacknowledgedBlock) → AllByRecursion P bs
+opens_every : (P : UnacknowledgedBlock → Type 0) (s : ℕ) (referenced : List ℕ) (bs : List UnacknowledgedBlock)
+    → AllByRecursion P bs
     → P (record { stream = s; entries = referenced }) → AllByRecursion P (with_unacknowledged bs s referenced)
 opens_every P s [] bs h k = h
 opens_every P s (a ∷ as') bs h k = every_append P bs (record { stream = s; entries = a ∷ as' } ∷ []) h (k, tt)
@@ -51,7 +55,8 @@ map_cond true x = refl
 map_cond false x = refl
 
 -- a live number is no 0
-plain_live : (t : Table) (referenced : List ℕ) → AllByRecursion (IsLive t) referenced → greatest_of referenced ≡ 0 → referenced ≡ []
+plain_live : (t : Table) (referenced : List ℕ) → AllByRecursion (IsLive t) referenced → greatest_of referenced ≡ 0
+    → referenced ≡ []
 unfolding greatest_of
 plain_live t [] h e = refl
 plain_live t (a ∷ as') h e = absurd (omega (arith, h.0.0))
@@ -87,7 +92,8 @@ kept_committed h t s required k n =
       shares = k.shares;
       marked = k.marked;
       behind = k.behind;
-      held = opens_every (λ (b : UnacknowledgedBlock). AllByRecursion (IsLive t) b.entries) s t.referenced t.unacknowledged k.held n;
+      held = opens_every (λ (b : UnacknowledgedBlock). AllByRecursion
+          (IsLive t) b.entries) s t.referenced t.unacknowledged k.held n;
     }
 
 blocked_committed : (t0 t : Table) (s : ℕ) → t.known_received_count ≡ t0.known_received_count → t.blocked ≡ t0.blocked
@@ -95,7 +101,8 @@ blocked_committed : (t0 t : Table) (s : ℕ) → t.known_received_count ≡ t0.k
     → length (commit t s (greatest_of t.referenced)).blocked ≤ t0.limit
 blocked_committed t0 t s k e may b =
     rw (same_committed t s (greatest_of t.referenced)).c_waiting
-    (cond_both (nat_lt t.known_received_count (greatest_of t.referenced)) (t.blocked ++ greatest_of t.referenced ∷ []) t.blocked (λ ws. length ws
+    (cond_both (nat_lt t.known_received_count (greatest_of t.referenced))
+        (t.blocked ++ greatest_of t.referenced ∷ []) t.blocked (λ ws. length ws
     ≤ t0.limit)
     (λ up. let lt : t.known_received_count < greatest_of t.referenced = ltb-true _ _ up in
     pick (greatest_has (MayStand t0) t.referenced (omega arith) may) lt)
@@ -114,31 +121,38 @@ table_maximum t h most e a =
     ap (λ (x : Option ℕ). maximum_capacity x t.capacity) o
 
 -- the stream that has a block more
-stream_encoded : (capacity : ℕ) (h : History) (encoder_stream : List EncoderInstruction) (unacknowledged : List UnacknowledgedBlock)
+stream_encoded : (capacity : ℕ) (h : History) (encoder_stream : List EncoderInstruction)
+    (unacknowledged : List UnacknowledgedBlock)
     (decoder_in_flight : List DecoderInstruction) (s : ℕ) (st : AbstractStream) (b : AbstractBlock)
-    → KeepsStream capacity h encoder_stream unacknowledged decoder_in_flight s st → KeepsBlock capacity h encoder_stream b
+    → KeepsStream capacity h encoder_stream unacknowledged decoder_in_flight s st
+        → KeepsBlock capacity h encoder_stream b
     → KeepsStream capacity h encoder_stream (with_unacknowledged unacknowledged s b.referenced) decoder_in_flight s
     (record st { blocks = st.blocks ++ b ∷ [] })
 stream_encoded capacity h encoder_stream unacknowledged decoder_in_flight s st b k ok =
-    let own : open_of s (with_unacknowledged unacknowledged s b.referenced) ≡ open_of s unacknowledged ++ cond (is_dynamic b) (b.referenced ∷ []) [] =
+    let own : open_of s (with_unacknowledged unacknowledged s b.referenced) ≡ open_of s unacknowledged
+        ++ cond (is_dynamic b) (b.referenced ∷ []) [] =
     opens_own s b.referenced unacknowledged ok.plain in
     let more : filter is_dynamic (st.blocks ++ b ∷ [])
     ≡ filter is_dynamic st.blocks ++ cond (is_dynamic b) (b ∷ []) [] =
     filter-append is_dynamic st.blocks (b ∷ []) in
     record {
       acknowledged = omega (arith, k.acknowledged, filter_take_append is_dynamic st.decoded st.blocks (b ∷ []));
-      fits = fits_more s decoder_in_flight (length (open_of s unacknowledged)) (length (open_of s (with_unacknowledged unacknowledged s b.referenced)))
-          (rw own (omega (arith, length-append (open_of s unacknowledged) (cond (is_dynamic b) (b.referenced ∷ []) [])))) k.fits;
+      fits = fits_more s decoder_in_flight (length (open_of s unacknowledged))
+          (length (open_of s (with_unacknowledged unacknowledged s b.referenced)))
+          (rw own (omega (arith, length-append (open_of s unacknowledged)
+              (cond (is_dynamic b) (b.referenced ∷ []) [])))) k.fits;
       stays_open = λ c.
           let few : acks_in s decoder_in_flight ≤ length (open_of s unacknowledged) =
           fits_count s decoder_in_flight (length (open_of s unacknowledged)) k.fits (k.quiet c) in
           let few' : st.acknowledged ≤ length (filter is_dynamic st.blocks) =
           omega (arith, k.acknowledged, filter_take is_dynamic st.decoded st.blocks) in
           ap (drop (acks_in s decoder_in_flight)) own
-          ∙ drop-append-le (acks_in s decoder_in_flight) (open_of s unacknowledged) (cond (is_dynamic b) (b.referenced ∷ []) [])
+          ∙ drop-append-le (acks_in s decoder_in_flight) (open_of s unacknowledged)
+              (cond (is_dynamic b) (b.referenced ∷ []) [])
           few
           ∙ ap (λ x. x ++ cond (is_dynamic b) (b.referenced ∷ []) []) (k.stays_open c)
-          ∙ ap (λ x. map (λ (y : AbstractBlock). y.referenced) (drop st.acknowledged (filter is_dynamic st.blocks)) ++ x)
+          ∙ ap (λ x. map (λ (y : AbstractBlock). y.referenced) (drop st.acknowledged (filter is_dynamic st.blocks))
+              ++ x)
           (sym (map_cond (is_dynamic b) b))
           ∙ sym (map-append (λ (y : AbstractBlock). y.referenced) (drop st.acknowledged (filter is_dynamic st.blocks))
           (cond (is_dynamic b) (b ∷ []) []))
@@ -180,7 +194,8 @@ block_kept capacity limit w fs k p =
       cut = append-nil encoder_stream;
       ends = refl;
       at_end = p.history;
-      leads = leads_append (initial_history capacity) w.taken (w.in_flight ++ d.instructions) k.received p.history k.taken_leads
+      leads = leads_append (initial_history capacity) w.taken
+          (w.in_flight ++ d.instructions) k.received p.history k.taken_leads
           in_flight;
       within = greatest_bound (length p.history.inserted) d.table.referenced
           (every_weaker (IsLive d.table) (λ a. a ≤ length p.history.inserted)
@@ -196,13 +211,16 @@ inv_encoded capacity limit w s fs k =
     rule_drafts w.encoder k.made fs (sound_made capacity limit w k) k.encoder in
     let g : Grows k.made p.history = leads_grows k.made d.instructions p.history p.leads in
     let encoder_stream = w.taken ++ (w.in_flight ++ d.instructions) in
-    let regroup : (w.taken ++ w.in_flight) ++ d.instructions ≡ encoder_stream = append_assoc w.taken w.in_flight d.instructions in
+    let regroup : (w.taken ++ w.in_flight) ++ d.instructions
+        ≡ encoder_stream = append_assoc w.taken w.in_flight d.instructions in
     let required = greatest_of d.table.referenced in
     let c = same_committed d.table s required in
     let b : AbstractBlock =
-    record { block = block_of w.encoder d; referenced = d.table.referenced; end = length encoder_stream; fields = fs } in
+    record { block = block_of w.encoder d; referenced = d.table.referenced; end = length encoder_stream;
+        fields = fs } in
     let ok : KeepsBlock capacity p.history encoder_stream b = block_kept capacity limit w fs k p in
-    let opened' : (commit d.table s required).unacknowledged ≡ with_unacknowledged w.encoder.unacknowledged s d.table.referenced =
+    let opened' : (commit d.table s required).unacknowledged
+        ≡ with_unacknowledged w.encoder.unacknowledged s d.table.referenced =
     c.c_opened ∙ ap (λ bs. with_unacknowledged bs s d.table.referenced) p.references.unacknowledged in
     let grown_stream =
     λ (q : ℕ). subst (λ (x : List EncoderInstruction). KeepsStream capacity p.history x w.encoder.unacknowledged
@@ -219,7 +237,8 @@ inv_encoded capacity limit w s fs k =
       same_limit = c.c_limit ∙ p.references.limit ∙ k.same_limit;
       known_received_count = omega (arith, k.known_received_count, c.c_known, p.references.known_received_count);
       blocked =
-          rw (← k.same_limit) (blocked_committed w.encoder d.table s p.references.known_received_count p.references.blocked p.may
+          rw (← k.same_limit) (blocked_committed w.encoder d.table s p.references.known_received_count
+              p.references.blocked p.may
           (rw k.same_limit k.blocked));
       streams =
           streams_update (λ (q : ℕ) (v : AbstractStream). KeepsStream capacity p.history encoder_stream
@@ -228,7 +247,8 @@ inv_encoded capacity limit w s fs k =
           (rw opened' (stream_encoded capacity p.history encoder_stream w.encoder.unacknowledged w.decoder_in_flight s
           (stream_at w.streams s) b (grown_stream s) ok))
           (λ q apart. rw opened' (stream_opened capacity p.history encoder_stream w.encoder.unacknowledged
-          (with_unacknowledged w.encoder.unacknowledged s d.table.referenced) w.decoder_in_flight q (stream_at w.streams q)
+          (with_unacknowledged w.encoder.unacknowledged s d.table.referenced) w.decoder_in_flight q
+              (stream_at w.streams q)
           (opens_other s q d.table.referenced w.encoder.unacknowledged apart) (grown_stream q)));
     }
 

@@ -14,7 +14,8 @@ use Rattle.qpack_spec.specs.Session.{KeptBlock, KeptStream, stream_at, Session, 
 use Rattle.qpack_spec.specs.Session.{ToEncoder, Acknowledge, Cancel, ChangeCapacity, Outcome, Encoded}
 use Rattle.qpack_spec.specs.Session.{Skipped, decode_outcome, with_block, with_decoded, is_read, EndsAtDecoder}
 use Rattle.qpack_spec.specs.Session.{takes_all, no_memory, bad_bytes, bad_instruction, EndsAtEncoder}
-use Rattle.qpack_spec.specs.Session.{takes_all_at_encoder, bad_bytes_at_encoder, bad_decoder_instruction, LawfulStep, Step, Run}
+use Rattle.qpack_spec.specs.Session.{takes_all_at_encoder, bad_bytes_at_encoder, bad_decoder_instruction, LawfulStep}
+use Rattle.qpack_spec.specs.Session.{Step, Run}
 use Rattle.qpack_safety.specs.SessionSafety.{AnsweredEncode, encode_of, decode_of, encodes_on, decodes_on}
 use Rattle.qpack_safety.specs.SessionSafety.{encode_behind}
 
@@ -82,11 +83,13 @@ adds_decoded v t s k n decoder_stream b d =
     }
 
 -- a stream that only stands elsewhere
-same_stream : (v : Session) (t s : ℕ) (k : KeptStream) (decoder_stream : List ℕ) → k.blocks ≡ (stream_at v.streams t).blocks
+same_stream : (v : Session) (t s : ℕ) (k : KeptStream) (decoder_stream : List ℕ) → k.blocks
+    ≡ (stream_at v.streams t).blocks
     → k.decoded ≡ (stream_at v.streams t).decoded
     → Adds v (record v { streams = (t, k) ∷ v.streams; decoder_stream = decoder_stream }) s [] 0
 same_stream v t s k decoder_stream b d =
-    subst (Adds v (record v { streams = (t, k) ∷ v.streams; decoder_stream = decoder_stream }) s []) (cond_zero (nat_eq t s))
+    subst (Adds v (record v { streams = (t, k) ∷ v.streams; decoder_stream = decoder_stream }) s [])
+        (cond_zero (nat_eq t s))
     (adds_decoded v t s k 0 decoder_stream b (d ∙ omega arith))
 
 adds_block : (v : Session) (t : ℕ) (fs : List Field) (s : ℕ)
@@ -152,7 +155,8 @@ known_as : (v : Session) (e : Event) (s : ℕ) (o o1 : Outcome) (v' v1 : Session
 known_as v e s o o1 v' v1 p q h =
     subst (λ (x : Outcome). EventAdds v e s x v') (sym p) (subst (λ (x : Session). EventAdds v e s o1 x) (sym q) h)
 
-happens_adds : (v : Session) (e : Event) (o : Outcome) (v' : Session) (s : ℕ) → LawfulStep v e o v' → EventAdds v e s o v'
+happens_adds : (v : Session) (e : Event) (o : Outcome) (v' : Session) (s : ℕ) → LawfulStep v e o v'
+    → EventAdds v e s o v'
 unfolding LawfulStep
 happens_adds v (Encode t fs) o v' s (inl h) = known_as v (Encode t fs) s o _ v' _ h.0 h.1 (adds_block v t fs s)
 happens_adds v (Encode t fs) o v' s (inr (inl h)) =

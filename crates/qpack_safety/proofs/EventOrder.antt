@@ -6,8 +6,10 @@ use Rattle.qpack_spec.specs.BlockReading.{reading_of_bytes}
 use Rattle.qpack_spec.specs.Table.{Table, window}
 use Rattle.qpack_spec.specs.Session.{Session, Event, Encode, Decode, ToDecoder, ToEncoder, Acknowledge, Cancel}
 use Rattle.qpack_spec.specs.Session.{ChangeCapacity, Outcome, with_decoded, is_read, is_consumed, with_decoder_moved}
-use Rattle.qpack_spec.specs.Session.{with_encoder_moved, EndsAtDecoder, takes_all, no_memory, bad_bytes, bad_instruction}
-use Rattle.qpack_spec.specs.Session.{EndsAtEncoder, takes_all_at_encoder, bad_bytes_at_encoder, bad_decoder_instruction, LawfulStep}
+use Rattle.qpack_spec.specs.Session.{with_encoder_moved, EndsAtDecoder, takes_all, no_memory, bad_bytes}
+use Rattle.qpack_spec.specs.Session.{bad_instruction}
+use Rattle.qpack_spec.specs.Session.{EndsAtEncoder, takes_all_at_encoder, bad_bytes_at_encoder, bad_decoder_instruction}
+use Rattle.qpack_spec.specs.Session.{LawfulStep}
 use Rattle.qpack_spec.specs.Session.{Step, Run}
 use Rattle.qpack_safety.specs.SessionSafety.{IsOrdered, Extends, Advances}
 use Rattle.qpack_safety.proofs.DeliveryEvents.{piece_ends}
@@ -35,7 +37,8 @@ record Writes (v v' : Session) (encoder_stream decoder_stream : List ℕ) : Type
   pub told_taken_is : v'.decoder_stream_taken ≡ v.decoder_stream_taken
   pub told_delivered_is : v'.decoder_stream_delivered ≡ v.decoder_stream_delivered
 
-writes_moves : (v v' : Session) (encoder_stream decoder_stream : List ℕ) → IsOrdered v → Writes v v' encoder_stream decoder_stream → Moves v v'
+writes_moves : (v v' : Session) (encoder_stream decoder_stream : List ℕ) → IsOrdered v
+    → Writes v v' encoder_stream decoder_stream → Moves v v'
 writes_moves v v' encoder_stream decoder_stream o w =
     record {
       encoder_stream = (encoder_stream, w.sent_is);
@@ -47,10 +50,12 @@ writes_moves v v' encoder_stream decoder_stream o w =
       ordered = record {
         encoder_stream_taken = omega (arith, o.encoder_stream_taken, w.sent_taken_is, w.sent_delivered_is);
         encoder_stream_delivered =
-            omega (arith, o.encoder_stream_delivered, w.sent_delivered_is, ap length w.sent_is, length-append v.encoder_stream encoder_stream);
+            omega (arith, o.encoder_stream_delivered, w.sent_delivered_is, ap length w.sent_is, length-append
+                v.encoder_stream encoder_stream);
         decoder_stream_taken = omega (arith, o.decoder_stream_taken, w.told_taken_is, w.told_delivered_is);
         decoder_stream_delivered =
-            omega (arith, o.decoder_stream_delivered, w.told_delivered_is, ap length w.told_is, length-append v.decoder_stream decoder_stream);
+            omega (arith, o.decoder_stream_delivered, w.told_delivered_is, ap length w.told_is, length-append
+                v.decoder_stream decoder_stream);
       };
     }
 
@@ -95,12 +100,14 @@ delivery_quiet v n t consumed unreported o within =
     subst (λ (l : List ℕ). Moves v (with_decoder_moved v n t consumed unreported l)) (append-nil v.decoder_stream)
     (delivers_moves v n t consumed unreported [] o within)
 
-consumed_within : (b : Bool) (front encoding more rest : ℕ) → rest ≡ encoding + more → front + cond b encoding 0 ≤ front + rest
+consumed_within : (b : Bool) (front encoding more rest : ℕ) → rest ≡ encoding + more → front + cond b encoding 0
+    ≤ front + rest
 consumed_within true front encoding more rest e = omega (arith, e)
 consumed_within false front encoding more rest e = omega arith
 
 delivery_moves : (v : Session) (n : ℕ) (t : Table) (front rest : List ℕ) (o : Outcome) (v' : Session) → IsOrdered v
-    → v.encoder_stream_taken + length front + length rest ≡ min (v.encoder_stream_delivered + n) (length v.encoder_stream)
+    → v.encoder_stream_taken + length front + length rest
+        ≡ min (v.encoder_stream_delivered + n) (length v.encoder_stream)
     → EndsAtDecoder v n t front rest o v' → Moves v v'
 delivery_moves v n t front rest o v' d place (takes_all pieces cut sizes sum is goes) =
     subst (Moves v) (sym goes) (delivers_moves v n t (length front) 0 _ d (omega (arith, place)))
@@ -117,7 +124,8 @@ delivery_moves v n t front rest o v' d place (bad_instruction encoding more i e 
 
 -- the encoder is delivered bytes
 hearing_one : (v : Session) (n : ℕ) (t : Table) (consumed : ℕ) → IsOrdered v
-    → v.decoder_stream_taken + consumed ≤ min (v.decoder_stream_delivered + n) (length v.decoder_stream) → Moves v (with_encoder_moved v n t consumed)
+    → v.decoder_stream_taken + consumed ≤ min (v.decoder_stream_delivered + n) (length v.decoder_stream)
+        → Moves v (with_encoder_moved v n t consumed)
 hearing_one v n t consumed o within =
     record {
       encoder_stream = extends_none v.encoder_stream;
@@ -136,7 +144,8 @@ hearing_one v n t consumed o within =
     }
 
 hearing_moves : (v : Session) (n : ℕ) (t : Table) (front rest : List ℕ) (o : Outcome) (v' : Session) → IsOrdered v
-    → v.decoder_stream_taken + length front + length rest ≡ min (v.decoder_stream_delivered + n) (length v.decoder_stream)
+    → v.decoder_stream_taken + length front + length rest
+        ≡ min (v.decoder_stream_delivered + n) (length v.decoder_stream)
     → EndsAtEncoder v n t front rest o v' → Moves v v'
 hearing_moves v n t front rest o v' d place (takes_all_at_encoder cut is goes) =
     subst (Moves v) (sym goes) (hearing_one v n t (length front) d (omega (arith, place)))
@@ -147,8 +156,10 @@ hearing_moves v n t front rest o v' d place (bad_decoder_instruction encoding mo
     (omega (arith, place, ap length cut, length-append encoding more)))
 
 -- a session that only wrote
-wrote : (v v' u : Session) (encoder_stream decoder_stream : List ℕ) → IsOrdered v → v' ≡ u → Writes v u encoder_stream decoder_stream → Moves v v'
-wrote v v' u encoder_stream decoder_stream o e w = subst (Moves v) (sym e) (writes_moves v u encoder_stream decoder_stream o w)
+wrote : (v v' u : Session) (encoder_stream decoder_stream : List ℕ) → IsOrdered v → v' ≡ u
+    → Writes v u encoder_stream decoder_stream → Moves v v'
+wrote v v' u encoder_stream decoder_stream o e w = subst (Moves v) (sym e)
+    (writes_moves v u encoder_stream decoder_stream o w)
 
 happens_moves : (v : Session) (e : Event) (o : Outcome) (v' : Session) → IsOrdered v → LawfulStep v e o v' → Moves v v'
 unfolding LawfulStep
@@ -189,11 +200,13 @@ happens_moves v (Decode t) o v' d (inl h) =
 happens_moves v (Decode t) o v' d (inr h) = stays_ordered v v' d h.1
 happens_moves v (ToDecoder n) o v' d h =
     delivery_moves v n h.table h.front h.rest o v' d
-    (piece_ends v.encoder_stream h.front h.rest v.encoder_stream_taken (v.encoder_stream_delivered + n) h.offered (omega (arith, d.encoder_stream_taken))
+    (piece_ends v.encoder_stream h.front h.rest v.encoder_stream_taken (v.encoder_stream_delivered + n) h.offered
+        (omega (arith, d.encoder_stream_taken))
     (omega (arith, d.encoder_stream_taken, d.encoder_stream_delivered))) h.ends
 happens_moves v (ToEncoder n) o v' d h =
     hearing_moves v n h.table h.front h.rest o v' d
-    (piece_ends v.decoder_stream h.front h.rest v.decoder_stream_taken (v.decoder_stream_delivered + n) h.offered (omega (arith, d.decoder_stream_taken))
+    (piece_ends v.decoder_stream h.front h.rest v.decoder_stream_taken (v.decoder_stream_delivered + n) h.offered
+        (omega (arith, d.decoder_stream_taken))
     (omega (arith, d.decoder_stream_taken, d.decoder_stream_delivered))) h.ends
 happens_moves v (Acknowledge t) o v' d (inl h) =
     wrote v v' _ [] _ d h.1 (record {
@@ -257,8 +270,10 @@ runs_advance v (p ∷ events) v' d r =
     let rest = runs_advance r.0 events v' one.ordered r.2 in
     let u : Session = r.0 in
     record {
-      encoder_stream = extends_both v.encoder_stream u.encoder_stream v'.encoder_stream one.encoder_stream rest.encoder_stream;
-      decoder_stream = extends_both v.decoder_stream u.decoder_stream v'.decoder_stream one.decoder_stream rest.decoder_stream;
+      encoder_stream = extends_both v.encoder_stream u.encoder_stream v'.encoder_stream one.encoder_stream
+          rest.encoder_stream;
+      decoder_stream = extends_both v.decoder_stream u.decoder_stream v'.decoder_stream one.decoder_stream
+          rest.decoder_stream;
       encoder_stream_taken = omega (arith, one.encoder_stream_taken, rest.encoder_stream_taken);
       encoder_stream_delivered = omega (arith, one.encoder_stream_delivered, rest.encoder_stream_delivered);
       decoder_stream_taken = omega (arith, one.decoder_stream_taken, rest.decoder_stream_taken);

@@ -17,8 +17,10 @@ use Rattle.qpack_spec.specs.Session.{blocked_blocks, KeptBlock, stream_at, Sessi
 use Rattle.qpack_spec.specs.Session.{ToEncoder, Outcome, Encoded, Decoded, MissingReferences, Delivered}
 use Rattle.qpack_spec.specs.Session.{Heard, Refused, NoMemory, StreamFault, decode_outcome, initial_session, next_block}
 use Rattle.qpack_spec.specs.Session.{skip_reason, with_block, EndsAtDecoder, takes_all, no_memory}
-use Rattle.qpack_spec.specs.Session.{bad_bytes, bad_instruction, DeliversToDecoder, EndsAtEncoder, takes_all_at_encoder, bad_bytes_at_encoder}
-use Rattle.qpack_spec.specs.Session.{bad_decoder_instruction, DeliversToEncoder, LawfulStep, Step, IsByteEvent, FitsMemory, Run}
+use Rattle.qpack_spec.specs.Session.{bad_bytes, bad_instruction, DeliversToDecoder, EndsAtEncoder, takes_all_at_encoder}
+use Rattle.qpack_spec.specs.Session.{bad_bytes_at_encoder}
+use Rattle.qpack_spec.specs.Session.{bad_decoder_instruction, DeliversToEncoder, LawfulStep, Step, IsByteEvent}
+use Rattle.qpack_spec.specs.Session.{FitsMemory, Run}
 use Rattle.qpack_spec.proofs.PutTables.{window_put, count_put}
 use Rattle.qpack_spec.proofs.References.{blocks_require}
 use Rattle.qpack_safety.specs.AbstractSafety.{Safe}
@@ -74,7 +76,8 @@ opened_invariant capacity limit =
       some = opened_lands capacity limit;
       counted = record { small = lit≤ tt; above = refl; counts = λ n le. refl };
       ordered =
-          record { encoder_stream_taken = lit≤ tt; encoder_stream_delivered = lit≤ tt; decoder_stream_taken = lit≤ tt; decoder_stream_delivered = lit≤ tt };
+          record { encoder_stream_taken = lit≤ tt; encoder_stream_delivered = lit≤ tt; decoder_stream_taken = lit≤ tt;
+              decoder_stream_delivered = lit≤ tt };
     }
 
 -- ---- (a)
@@ -144,7 +147,8 @@ in_accounts capacity limit v r =
     let w = r.abstract in
     let k = r.keeps in
     let sh = r.refines in
-    let many : insert_count v.decoder ≡ window_insert_count w.decoder = ap insert_count sh.decoder_is ∙ count_put w.decoder in
+    let many : insert_count v.decoder ≡ window_insert_count w.decoder = ap insert_count sh.decoder_is
+        ∙ count_put w.decoder in
     record {
       heard = sh.heard_lines;
       in_flight = w.decoder_in_flight;
@@ -162,12 +166,14 @@ in_accounts capacity limit v r =
     }
 
 by_the_rule : (capacity limit : ℕ) (events : List (Event × Outcome)) (v : Session)
-    → Run (initial_session capacity limit) events v → SessionInvariant capacity limit v → RunsByTheRule capacity limit events v
+    → Run (initial_session capacity limit) events v → SessionInvariant capacity limit v
+        → RunsByTheRule capacity limit events v
 by_the_rule capacity limit events v run r =
     let w = r.some.abstract in
     let sh = r.some.refines in
     let safe : Safe capacity limit w = inv_safe capacity limit w r.some.keeps in
-    let many : insert_count v.decoder ≡ window_insert_count w.decoder = ap insert_count sh.decoder_is ∙ count_put w.decoder in
+    let many : insert_count v.decoder ≡ window_insert_count w.decoder = ap insert_count sh.decoder_is
+        ∙ count_put w.decoder in
     let known_received_count : v.encoder.known_received_count ≤ insert_count v.decoder =
     omega (arith, safe.received, many, ap (λ (t : Table). t.known_received_count) sh.encoder_is) in
     let counted : length v.encoder.blocked ≡ blocked_blocks v = counts_all v.encoder v.streams r.counted in
@@ -183,7 +189,8 @@ by_the_rule capacity limit events v run r =
           (fits_put w.decoder safe.decoder_fits);
       blocked = omega (arith, counted, safe.blocked, ap (λ (t : Table). length t.blocked) sh.encoder_is);
       counts_blocked = counted;
-      unreadable_within = among_fewer v.encoder.known_received_count (insert_count v.decoder) [] v.streams known_received_count;
+      unreadable_within = among_fewer v.encoder.known_received_count
+          (insert_count v.decoder) [] v.streams known_received_count;
       may_block_more = rw (counted, limit_is) refl;
       limit_is = limit_is;
       received = known_received_count;
@@ -199,7 +206,8 @@ refused_of : (v : Session) (e : Event) (fault : StreamFault) (v' : Session) → 
 refused_of v e fault v' (inl h) = absurd (let x = h.answers in cc)
 refused_of v e fault v' (inr h) = h.1
 
-delivery_of : (v : Session) (n : ℕ) (o : Outcome) (v' : Session) → Step v (ToDecoder n) o v' → DeliversToDecoder v n o v'
+delivery_of : (v : Session) (n : ℕ) (o : Outcome) (v' : Session) → Step v (ToDecoder n) o v'
+    → DeliversToDecoder v n o v'
 unfolding LawfulStep skip_reason
 delivery_of v n o v' (inl h) = absurd (let e = h.is_reason in cc)
 delivery_of v n o v' (inr h) = h.1
@@ -210,7 +218,8 @@ hearing_of v n o v' (inl h) = absurd (let e = h.is_reason in cc)
 hearing_of v n o v' (inr h) = h.1
 
 delivery_answers : (capacity limit : ℕ) (v : Session) (n : ℕ) (o : Outcome) (v' : Session)
-    → RefinesSome capacity limit v → DeliversToDecoder v n o v' → (o ≡ Delivered (insert_count v'.decoder)) ⊎ (o ≡ NoMemory)
+    → RefinesSome capacity limit v → DeliversToDecoder v n o v' → (o ≡ Delivered (insert_count v'.decoder))
+        ⊎ (o ≡ NoMemory)
 delivery_answers capacity limit v n o v' r c = go c.ends
   where
     refused : (fault : StreamFault) → o ≡ Refused fault → ⊥
@@ -252,7 +261,8 @@ refuses_nothing capacity limit v r =
 -- ---- (c) and (d)
 
 -- the next block of a stream was written by the next encode
-next_of : (capacity limit : ℕ) (events : List (Event × Outcome)) (v : Session) → Run (initial_session capacity limit) events v
+next_of : (capacity limit : ℕ) (events : List (Event × Outcome)) (v : Session)
+    → Run (initial_session capacity limit) events v
     → (s : ℕ) (b : KeptBlock) → next_block v s ≡ Some b
     → next_encode s events ≡ Some (encode_behind b)
 next_of capacity limit events v run s b next =
@@ -324,7 +334,8 @@ decode_gives capacity limit events v run r s fields size is_dynamic v' (inr (non
         (h.answers ∙ answer_fields v b reads le)
 
 decodes_handed : (capacity limit : ℕ) (events : List (Event × Outcome)) (v : Session)
-    → Run (initial_session capacity limit) events v → RefinesSome capacity limit v → DecodesWhatWasHanded capacity events v
+    → Run (initial_session capacity limit) events v → RefinesSome capacity limit v
+        → DecodesWhatWasHanded capacity events v
 decodes_handed capacity limit events v run r =
     let a = λ (s : ℕ). runs_add (initial_session capacity limit) events v s run in
     record {
@@ -341,7 +352,8 @@ decode_answers : (capacity limit : ℕ) (events : List (Event × Outcome)) (v : 
 unfolding LawfulStep
 decode_answers capacity limit events v run r s o v' (inl h) = is_skipped h.reason h.is_reason h.answers
 decode_answers capacity limit events v run r s o v' (inr (none, inr h)) = wants_memory h.0
-decode_answers capacity limit events v run r s o v' (inr (none, inl h)) = pick (cases_lt (insert_count v.decoder) b.required)
+decode_answers capacity limit events v run r s o v' (inr (none, inl h)) = pick
+    (cases_lt (insert_count v.decoder) b.required)
   where
     b : KeptBlock
     b = h.block
@@ -371,7 +383,8 @@ not_missing capacity limit u r s b next taken required u' (inr (none, inl h)) =
     let c : KeptBlock = h.block in
     let same : c ≡ b = same_some c b (sym h.is_next ∙ next) in
     let reads : ReadsExactly u c = reads_next capacity limit u r s c (decode_live u s none) h.is_next in
-    let le : c.required ≤ insert_count u.decoder = reads.in_time (omega (arith, taken, ap (λ (x : KeptBlock). x.end) same)) in
+    let le : c.required ≤ insert_count u.decoder = reads.in_time
+        (omega (arith, taken, ap (λ (x : KeptBlock). x.end) same)) in
     absurd (fields_not_missing c.fields (saturated_size (total_size c.fields)) (nat_lt 0 c.required) required
     (sym (answer_fields u c reads le) ∙ sym h.answers))
 
@@ -399,7 +412,8 @@ never_missing capacity limit v r n received m g later u run s b next reached req
     let taken =
     delivers_whole capacity limit v r.some.abstract n received m r.some.refines r.some.keeps
     (delivery_of v n (Delivered received) m g)
-    u ru.some.abstract ru.some.refines (extends_both v.encoder_stream m.encoder_stream u.encoder_stream first.encoder_stream since.encoder_stream) s
+    u ru.some.abstract ru.some.refines
+        (extends_both v.encoder_stream m.encoder_stream u.encoder_stream first.encoder_stream since.encoder_stream) s
     (stream_at u.streams s).decoded b next reached in
     not_missing capacity limit u ru.some s b next (omega (arith, taken, since.encoder_stream_taken)) required u' miss
 
@@ -414,7 +428,8 @@ delivery_takes capacity limit v r n received m g =
     m rm.some.abstract rm.some.refines (goes_moves v (ToDecoder n) (Delivered received) m r.ordered g).encoder_stream
 
 waits_only : (capacity limit : ℕ) (events : List (Event × Outcome)) (v : Session)
-    → Run (initial_session capacity limit) events v → SessionInvariant capacity limit v → WaitsOnlyForInsertions events v
+    → Run (initial_session capacity limit) events v → SessionInvariant capacity limit v
+        → WaitsOnlyForInsertions events v
 waits_only capacity limit events v run r =
     record {
       answers = decode_answers capacity limit events v run r.some;
@@ -427,7 +442,8 @@ waits_only capacity limit events v run r =
 -- THE SESSION THEOREM, in bytes
 pub sessions_safe : SessionsAreSafe
 sessions_safe capacity limit events v run =
-    let r = runs_invariant capacity limit (initial_session capacity limit) events v (opened_invariant capacity limit) run in
+    let r = runs_invariant capacity limit (initial_session capacity limit) events v
+        (opened_invariant capacity limit) run in
     record {
       follows = by_the_rule capacity limit events v run r;
       refuses = refuses_nothing capacity limit v r.some;

@@ -6,10 +6,12 @@ use Rattle.std.specs.Prelude.{nat_lt, MatchBool}
 use Rattle.std.proofs.lemmas.Bool.{eq-eqb, ne_eqb, cases_eq}
 use Rattle.std.proofs.lemmas.List.{drop-drop}
 use Rattle.qpack_spec.specs.Bytes.{◌>>=◌}
-use Rattle.qpack_spec.specs.Instruction.{EncoderInstruction, DecoderInstruction, Acknowledgment, Cancellation, Increment}
+use Rattle.qpack_spec.specs.Instruction.{EncoderInstruction, DecoderInstruction, Acknowledgment, Cancellation}
+use Rattle.qpack_spec.specs.Instruction.{Increment}
 use Rattle.qpack_spec.specs.Window.{UnknownStream, or_refusal}
 use Rattle.qpack_spec.specs.History.{History}
-use Rattle.qpack_spec.specs.Table.{UnacknowledgedBlock, Table, window, without_oldest, without_stream, with_increment, apply_decoder_instruction}
+use Rattle.qpack_spec.specs.Table.{UnacknowledgedBlock, Table, window, without_oldest, without_stream, with_increment}
+use Rattle.qpack_spec.specs.Table.{apply_decoder_instruction}
 use Rattle.qpack_spec.specs.Session.{increment_sum, stream_at}
 use Rattle.qpack_safety.specs.AbstractSession.{AbstractStream, AbstractSession, after_hear, hear_next}
 use Rattle.qpack_spec.proofs.Drafts.{IsLive, KeepsTable}
@@ -18,7 +20,8 @@ use Rattle.qpack_safety.proofs.DecoderInstructions.{acks_in, cancels_in, AcksFit
 use Rattle.qpack_safety.proofs.Fronts.{length_filter}
 use Rattle.qpack_safety.proofs.Invariant.{KeepsStream, Invariant, sound_received}
 
-released_kept : (h : History) (t : Table) (s : ℕ) (bs : List UnacknowledgedBlock) → Released s t.unacknowledged bs → KeepsTable h t
+released_kept : (h : History) (t : Table) (s : ℕ) (bs : List UnacknowledgedBlock) → Released s t.unacknowledged bs
+    → KeepsTable h t
     → KeepsTable h (record t { unacknowledged = bs })
 unfolding window
 released_kept h t s bs r k =
@@ -35,7 +38,8 @@ kept_opened : (h : History) (t : Table) (bs : List UnacknowledgedBlock)
 unfolding window
 kept_opened h t bs held k = record { shares = k.shares; marked = k.marked; behind = k.behind; held = held }
 
-fits_ack_own : (s : ℕ) (rs : List DecoderInstruction) (n : ℕ) → AcksFit s (Acknowledgment s ∷ rs) n → (0 < n) × AcksFit s rs (n - 1)
+fits_ack_own : (s : ℕ) (rs : List DecoderInstruction) (n : ℕ) → AcksFit s (Acknowledgment s ∷ rs) n → (0 < n)
+    × AcksFit s rs (n - 1)
 unfolding AcksFit
 fits_ack_own s rs n h = subst (λ b. MatchBool b ((0 < n) × AcksFit s rs (n - 1)) (AcksFit s rs n)) (eq-eqb s s refl) h
 
@@ -62,7 +66,8 @@ acks_cons_own : (s : ℕ) (rs : List DecoderInstruction) → acks_in s (Acknowle
 unfolding acks_in
 acks_cons_own s rs = rw (eq-eqb s s refl) refl
 
-acks_cons_other : (s q : ℕ) (rs : List DecoderInstruction) → (s ≡ q → ⊥) → acks_in q (Acknowledgment s ∷ rs) ≡ acks_in q rs
+acks_cons_other : (s q : ℕ) (rs : List DecoderInstruction) → (s ≡ q → ⊥) → acks_in q (Acknowledgment s ∷ rs)
+    ≡ acks_in q rs
 unfolding acks_in
 acks_cons_other s q rs d = rw (ne_eqb s q d) refl
 
@@ -86,15 +91,18 @@ cancels_cons_own : (s : ℕ) (rs : List DecoderInstruction) → cancels_in s (Ca
 unfolding cancels_in
 cancels_cons_own s rs = rw (eq-eqb s s refl) refl
 
-cancels_cons_other : (s q : ℕ) (rs : List DecoderInstruction) → (s ≡ q → ⊥) → cancels_in q (Cancellation s ∷ rs) ≡ cancels_in q rs
+cancels_cons_other : (s q : ℕ) (rs : List DecoderInstruction) → (s ≡ q → ⊥) → cancels_in q (Cancellation s ∷ rs)
+    ≡ cancels_in q rs
 unfolding cancels_in
 cancels_cons_other s q rs d = rw (ne_eqb s q d) refl
 
-pub increments_cons_ack : (s : ℕ) (rs : List DecoderInstruction) → increment_sum (Acknowledgment s ∷ rs) ≡ increment_sum rs
+pub increments_cons_ack : (s : ℕ) (rs : List DecoderInstruction) → increment_sum (Acknowledgment s ∷ rs)
+    ≡ increment_sum rs
 unfolding increment_sum
 increments_cons_ack s rs = refl
 
-pub increments_cons_cancel : (s : ℕ) (rs : List DecoderInstruction) → increment_sum (Cancellation s ∷ rs) ≡ increment_sum rs
+pub increments_cons_cancel : (s : ℕ) (rs : List DecoderInstruction) → increment_sum (Cancellation s ∷ rs)
+    ≡ increment_sum rs
 unfolding increment_sum
 increments_cons_cancel s rs = refl
 
@@ -106,7 +114,8 @@ length_one_less : {X : Type 0} (xs ys : List X) → xs ≡ drop 1 ys → length 
 length_one_less xs ys e = ap length e ∙ length-drop 1 ys
 
 -- the streams after an acknowledgement was heard
-ack_heard : (capacity : ℕ) (h : History) (encoder_stream : List EncoderInstruction) (unacknowledged bs : List UnacknowledgedBlock) (rs : List DecoderInstruction)
+ack_heard : (capacity : ℕ) (h : History) (encoder_stream : List EncoderInstruction)
+    (unacknowledged bs : List UnacknowledgedBlock) (rs : List DecoderInstruction)
     (s : ℕ) → Released s unacknowledged bs
     → (q : ℕ) (st : AbstractStream) → KeepsStream capacity h encoder_stream unacknowledged (Acknowledgment s ∷ rs) q st
     → KeepsStream capacity h encoder_stream bs rs q st
@@ -140,7 +149,8 @@ ack_heard capacity h encoder_stream unacknowledged bs rs s r q st k = pick (case
           blocks = k.blocks;
         }
 
-cancel_heard : (capacity : ℕ) (h : History) (encoder_stream : List EncoderInstruction) (unacknowledged cs : List UnacknowledgedBlock) (rs : List DecoderInstruction)
+cancel_heard : (capacity : ℕ) (h : History) (encoder_stream : List EncoderInstruction)
+    (unacknowledged cs : List UnacknowledgedBlock) (rs : List DecoderInstruction)
     (s : ℕ) → ReleasedAll s unacknowledged cs
     → (q : ℕ) (st : AbstractStream) → KeepsStream capacity h encoder_stream unacknowledged (Cancellation s ∷ rs) q st
     → KeepsStream capacity h encoder_stream cs rs q st
@@ -172,9 +182,11 @@ cancel_heard capacity h encoder_stream unacknowledged cs rs s r q st k = pick (c
           blocks = k.blocks;
         }
 
-increment_heard : (capacity : ℕ) (h : History) (encoder_stream : List EncoderInstruction) (unacknowledged : List UnacknowledgedBlock) (rs : List DecoderInstruction)
+increment_heard : (capacity : ℕ) (h : History) (encoder_stream : List EncoderInstruction)
+    (unacknowledged : List UnacknowledgedBlock) (rs : List DecoderInstruction)
     (n q : ℕ) (st : AbstractStream)
-    → KeepsStream capacity h encoder_stream unacknowledged (Increment n ∷ rs) q st → KeepsStream capacity h encoder_stream unacknowledged rs q st
+    → KeepsStream capacity h encoder_stream unacknowledged (Increment n ∷ rs) q st
+        → KeepsStream capacity h encoder_stream unacknowledged rs q st
 increment_heard capacity h encoder_stream unacknowledged rs n q st k =
     record {
       acknowledged = k.acknowledged;
@@ -184,13 +196,16 @@ increment_heard capacity h encoder_stream unacknowledged rs n q st k =
       blocks = k.blocks;
     }
 
--- the first acknowledgement finds an open block
-pub ack_finds : (capacity limit : ℕ) (w : AbstractSession) (s : ℕ) (rest : List DecoderInstruction) → Invariant capacity limit w
+-- the first acknowledgement finds an unacknowledged block
+pub ack_finds : (capacity limit : ℕ) (w : AbstractSession) (s : ℕ) (rest : List DecoderInstruction)
+    → Invariant capacity limit w
     → w.decoder_in_flight ≡ Acknowledgment s ∷ rest
-    → (bs : List UnacknowledgedBlock) × (without_oldest s w.encoder.unacknowledged ≡ Some bs) × Released s w.encoder.unacknowledged bs
+    → (bs : List UnacknowledgedBlock) × (without_oldest s w.encoder.unacknowledged ≡ Some bs)
+        × Released s w.encoder.unacknowledged bs
 ack_finds capacity limit w s rest k e =
     let f : AcksFit s (Acknowledgment s ∷ rest) (length (open_of s w.encoder.unacknowledged)) =
-    subst (λ (l : List DecoderInstruction). AcksFit s l (length (open_of s w.encoder.unacknowledged))) e (k.streams s).fits in
+    subst (λ (l : List DecoderInstruction). AcksFit s l (length (open_of s w.encoder.unacknowledged))) e
+        (k.streams s).fits in
     release_some s w.encoder.unacknowledged (fits_ack_own s rest (length (open_of s w.encoder.unacknowledged)) f).0
 
 -- what an increment changes
@@ -210,12 +225,14 @@ same_raised t n h =
       r_waiting = length_filter (λ r. nat_lt (min (t.known_received_count + n) (2 ^ 64 - 1)) r) t.blocked;
     }
 
-kept_raised : (h : History) (t : Table) (n : ℕ) → t.known_received_count + n ≤ 2 ^ 62 → KeepsTable h t → KeepsTable h (with_increment t n)
+kept_raised : (h : History) (t : Table) (n : ℕ) → t.known_received_count + n ≤ 2 ^ 62 → KeepsTable h t
+    → KeepsTable h (with_increment t n)
 unfolding with_increment window
 kept_raised h t n le k =
     record { shares = k.shares; marked = k.marked; behind = omega (arith, k.behind); held = k.held }
 
-inv_heard : (capacity limit : ℕ) (w : AbstractSession) (r : DecoderInstruction) (rest : List DecoderInstruction) → w.decoder_in_flight ≡ r ∷ rest
+inv_heard : (capacity limit : ℕ) (w : AbstractSession) (r : DecoderInstruction) (rest : List DecoderInstruction)
+    → w.decoder_in_flight ≡ r ∷ rest
     → Invariant capacity limit w → Invariant capacity limit (after_hear w rest (apply_decoder_instruction w.encoder r))
 unfolding apply_decoder_instruction
 inv_heard capacity limit w (Acknowledgment s) rest e k =
@@ -238,7 +255,8 @@ inv_heard capacity limit w (Acknowledgment s) rest e k =
           (stream_at w.streams q) (rw (← e) (k.streams q));
     } in
     subst (λ (o : Option (List UnacknowledgedBlock)). Invariant capacity limit
-    (after_hear w rest (or_refusal o (UnknownStream s) >>= λ bs. Ok (record w.encoder { unacknowledged = bs })))) (sym f.1)
+    (after_hear w rest (or_refusal o (UnknownStream s) >>= λ bs. Ok (record w.encoder { unacknowledged = bs }))))
+        (sym f.1)
     next
 inv_heard capacity limit w (Cancellation s) rest e k =
     let all = releases_stream s w.encoder.unacknowledged in
@@ -250,7 +268,8 @@ inv_heard capacity limit w (Cancellation s) rest e k =
       decoder = k.decoder;
       encoder =
           kept_opened k.made w.encoder (without_stream s w.encoder.unacknowledged)
-          (all.all_stay (λ (b : UnacknowledgedBlock). AllByRecursion (IsLive w.encoder) b.entries) k.encoder.held) k.encoder;
+          (all.all_stay (λ (b : UnacknowledgedBlock). AllByRecursion
+              (IsLive w.encoder) b.entries) k.encoder.held) k.encoder;
       same_limit = k.same_limit;
       known_received_count = omega (arith, k.known_received_count, ap increment_sum e, increments_cons_cancel s rest);
       blocked = k.blocked;
@@ -260,7 +279,8 @@ inv_heard capacity limit w (Cancellation s) rest e k =
     }
 inv_heard capacity limit w (Increment n) rest e k =
     let small : w.encoder.known_received_count + n ≤ 2 ^ 62 =
-    omega (arith, k.known_received_count, ap increment_sum e, increments_cons n rest, (sound_received capacity limit w k).few) in
+    omega (arith, k.known_received_count, ap increment_sum e, increments_cons n rest,
+        (sound_received capacity limit w k).few) in
     let same = same_raised w.encoder n small in
     record {
       received = k.received;
@@ -270,10 +290,12 @@ inv_heard capacity limit w (Increment n) rest e k =
       decoder = k.decoder;
       encoder = kept_raised k.made w.encoder n small k.encoder;
       same_limit = same.r_limit ∙ k.same_limit;
-      known_received_count = omega (arith, k.known_received_count, ap increment_sum e, increments_cons n rest, same.r_known);
+      known_received_count = omega
+          (arith, k.known_received_count, ap increment_sum e, increments_cons n rest, same.r_known);
       blocked = omega (arith, k.blocked, same.r_waiting);
       streams =
-          λ q. rw same.r_opened (increment_heard capacity k.made (w.taken ++ w.in_flight) w.encoder.unacknowledged rest n q
+          λ q. rw same.r_opened
+              (increment_heard capacity k.made (w.taken ++ w.in_flight) w.encoder.unacknowledged rest n q
           (stream_at w.streams q) (rw (← e) (k.streams q)));
     }
 

@@ -1,5 +1,5 @@
 -- The invariant of a session.
-use Rattle.std.proofs.Common.{ℕ, ◌+◌, ◌^◌, ◌≤◌, ◌≡◌, false, List, [], ◌∷◌, ◌++◌, length, drop, take, map, Ok, refl, sym}
+use Rattle.std.proofs.Common.{ℕ, ◌+◌, ◌^◌, ◌≤◌, ◌≡◌, false, List, [], ◌++◌, length, drop, take, map, Ok, refl, sym}
 use Rattle.std.proofs.Common.{ap, ◌∙◌, subst, arith, length-drop}
 use Rattle.std.specs.List.{AllByRecursion, filter}
 use Rattle.std.specs.Prelude.{nat_eq}
@@ -14,7 +14,7 @@ use Rattle.qpack_spec.specs.Table.{UnacknowledgedBlock, window, with_numbers}
 use Rattle.qpack_spec.specs.Session.{with_stream, increment_sum, stream_at}
 use Rattle.qpack_safety.specs.AbstractSession.{AbstractBlock, is_dynamic, AbstractStream, AbstractSession}
 use Rattle.qpack_safety.specs.AbstractSession.{abstract_start}
-use Rattle.qpack_spec.proofs.Lists.{every_weaker}
+use Rattle.qpack_spec.proofs.Lists.{every_all, every_weaker}
 use Rattle.qpack_spec.proofs.Windows.{Sound, Agreed, sound_start, agreed_start, leads_sound, leads_agreed, Grows, Kept}
 use Rattle.qpack_spec.proofs.Windows.{kept_growing}
 use Rattle.qpack_spec.proofs.Readings.{fields_kept}
@@ -23,7 +23,8 @@ use Rattle.qpack_safety.proofs.OpenBlocks.{open_of}
 use Rattle.qpack_safety.proofs.DecoderInstructions.{acks_in, cancels_in, AcksFit}
 
 -- a block: its prefix and lines are written, it means what was handed, and its count is among the insertions by its end
-pub record KeepsBlock (capacity : ℕ) (h : History) (encoder_stream : List EncoderInstruction) (b : AbstractBlock) : Type 0 where
+pub record KeepsBlock (capacity : ℕ) (h : History) (encoder_stream : List EncoderInstruction)
+    (b : AbstractBlock) : Type 0 where
   pub base : ℕ
   pub few : base ≤ 2 ^ 62
   pub written : b.block.prefix ≡ prefix_for capacity (greatest_of b.referenced) base
@@ -38,11 +39,8 @@ pub record KeepsBlock (capacity : ℕ) (h : History) (encoder_stream : List Enco
   pub leads : Leads (initial_history capacity) front at_end
   pub within : greatest_of b.referenced ≤ length at_end.inserted
 
-every_all : {X : Type 0} (P : X → Type 0) → ((x : X) → P x) → (xs : List X) → AllByRecursion P xs
-every_all P f [] = tt
-every_all P f (x ∷ xs) = (f x, every_all P f xs)
-
-block_grows : (capacity : ℕ) (h h' : History) (encoder_stream more : List EncoderInstruction) (b : AbstractBlock) → Grows h h'
+block_grows : (capacity : ℕ) (h h' : History) (encoder_stream more : List EncoderInstruction) (b : AbstractBlock)
+    → Grows h h'
     → KeepsBlock capacity h encoder_stream b → KeepsBlock capacity h' (encoder_stream ++ more) b
 block_grows capacity h h' encoder_stream more b g k =
     record {
@@ -50,7 +48,8 @@ block_grows capacity h h' encoder_stream more b g k =
       few = k.few;
       written = k.written;
       means = fields_kept (whole_window h) (whole_window h') k.base b.block.lines b.fields
-          (every_all (Kept (whole_window h) (whole_window h')) (λ a. kept_growing h h' a g) (references_of k.base b.block.lines))
+          (every_all (Kept (whole_window h) (whole_window h')) (λ a. kept_growing h h' a g)
+              (references_of k.base b.block.lines))
           k.means;
       references = k.references;
       plain = k.plain;
@@ -64,7 +63,8 @@ block_grows capacity h h' encoder_stream more b g k =
     }
 
 -- a stream: acknowledgements never outrun decodes, and what wasn't acknowledged is open
-pub record KeepsStream (capacity : ℕ) (h : History) (encoder_stream : List EncoderInstruction) (unacknowledged : List UnacknowledgedBlock)
+pub record KeepsStream (capacity : ℕ) (h : History) (encoder_stream : List EncoderInstruction)
+    (unacknowledged : List UnacknowledgedBlock)
     (decoder_in_flight : List DecoderInstruction) (s : ℕ) (st : AbstractStream) : Type 0 where
   pub acknowledged : st.acknowledged ≤ length (filter is_dynamic (take st.decoded st.blocks))
   pub fits : AcksFit s decoder_in_flight (length (open_of s unacknowledged))
@@ -73,7 +73,8 @@ pub record KeepsStream (capacity : ℕ) (h : History) (encoder_stream : List Enc
   pub quiet : st.cancelled ≡ false → cancels_in s decoder_in_flight ≡ 0
   pub blocks : AllByRecursion (KeepsBlock capacity h encoder_stream) st.blocks
 
-pub stream_grows : (capacity : ℕ) (h h' : History) (encoder_stream more : List EncoderInstruction) (unacknowledged : List UnacknowledgedBlock)
+pub stream_grows : (capacity : ℕ) (h h' : History) (encoder_stream more : List EncoderInstruction)
+    (unacknowledged : List UnacknowledgedBlock)
     (decoder_in_flight : List DecoderInstruction) (s : ℕ) (st : AbstractStream)
     → Grows h h' → KeepsStream capacity h encoder_stream unacknowledged decoder_in_flight s st
     → KeepsStream capacity h' (encoder_stream ++ more) unacknowledged decoder_in_flight s st
@@ -88,10 +89,12 @@ stream_grows capacity h h' encoder_stream more unacknowledged decoder_in_flight 
           (λ b. block_grows capacity h h' encoder_stream more b g) st.blocks k.blocks;
     }
 
--- the same where the open blocks of the stream are the same
-pub stream_opened : (capacity : ℕ) (h : History) (encoder_stream : List EncoderInstruction) (unacknowledged opened' : List UnacknowledgedBlock)
+-- the same where the unacknowledged blocks of the stream are the same
+pub stream_opened : (capacity : ℕ) (h : History) (encoder_stream : List EncoderInstruction)
+    (unacknowledged opened' : List UnacknowledgedBlock)
     (decoder_in_flight : List DecoderInstruction) (s : ℕ) (st : AbstractStream)
-    → open_of s opened' ≡ open_of s unacknowledged → KeepsStream capacity h encoder_stream unacknowledged decoder_in_flight s st
+    → open_of s opened' ≡ open_of s unacknowledged
+        → KeepsStream capacity h encoder_stream unacknowledged decoder_in_flight s st
     → KeepsStream capacity h encoder_stream opened' decoder_in_flight s st
 stream_opened capacity h encoder_stream unacknowledged opened' decoder_in_flight s st e k =
     record {
@@ -110,13 +113,16 @@ pub record Invariant (capacity limit : ℕ) (w : AbstractSession) : Type 0 where
   pub decoder : w.decoder ≡ window_of received
   pub encoder : KeepsTable made w.encoder
   pub same_limit : w.encoder.limit ≡ limit
-  pub known_received_count : w.encoder.known_received_count + increment_sum w.decoder_in_flight + w.unreported ≡ length received.inserted
+  pub known_received_count : w.encoder.known_received_count + increment_sum w.decoder_in_flight + w.unreported
+      ≡ length received.inserted
   pub blocked : length w.encoder.blocked ≤ limit
-  pub streams : (s : ℕ) → KeepsStream capacity made (w.taken ++ w.in_flight) w.encoder.unacknowledged w.decoder_in_flight s
+  pub streams : (s : ℕ)
+      → KeepsStream capacity made (w.taken ++ w.in_flight) w.encoder.unacknowledged w.decoder_in_flight s
       (stream_at w.streams s)
 
 pub sound_received : (capacity limit : ℕ) (w : AbstractSession) (k : Invariant capacity limit w) → Sound k.received
-sound_received capacity limit w k = leads_sound (initial_history capacity) w.taken k.received k.taken_leads (sound_start capacity)
+sound_received capacity limit w k = leads_sound (initial_history capacity) w.taken k.received k.taken_leads
+    (sound_start capacity)
 
 pub sound_made : (capacity limit : ℕ) (w : AbstractSession) (k : Invariant capacity limit w) → Sound k.made
 sound_made capacity limit w k =

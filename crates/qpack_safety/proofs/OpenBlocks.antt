@@ -1,4 +1,4 @@
--- The open blocks of each stream.
+-- The unacknowledged blocks of each stream.
 use Rattle.std.proofs.Common.{ℕ, ◌<◌, ◌≡◌, Bool, true, false, cond, List, [], ◌∷◌, ◌++◌, length, drop, Some, refl, sym}
 use Rattle.std.proofs.Common.{ap, ◌∙◌, arith}
 use Rattle.std.specs.List.{AllByRecursion}
@@ -6,7 +6,7 @@ use Rattle.std.specs.Prelude.{not, nat_eq}
 use Rattle.std.proofs.lemmas.Bool.{ne_eqb, eqb-true}
 use Rattle.qpack_spec.specs.Table.{UnacknowledgedBlock, without_oldest, without_stream}
 
--- the open blocks of a stream
+-- the unacknowledged blocks of a stream
 unfoldable pub open_of : ℕ → List UnacknowledgedBlock → List (List ℕ)
 open_of s [] = []
 open_of s (b ∷ bs) = cond (nat_eq b.stream s) (b.entries ∷ open_of s bs) (open_of s bs)
@@ -23,7 +23,8 @@ release_some s [] h = absurd (omega arith)
 release_some s (b ∷ bs) h = pick (nat_eq b.stream s) refl (release_some s bs)
   where
     pick : (t : Bool) → nat_eq b.stream s ≡ t
-        → (0 < length (open_of s bs) → (rest : List UnacknowledgedBlock) × (without_oldest s bs ≡ Some rest) × Released s bs rest)
+        → (0 < length (open_of s bs) → (rest : List UnacknowledgedBlock) × (without_oldest s bs ≡ Some rest)
+            × Released s bs rest)
         → (rest : List UnacknowledgedBlock) × (without_oldest s (b ∷ bs) ≡ Some rest) × Released s (b ∷ bs) rest
     pick true t r = (
       bs,
@@ -73,9 +74,10 @@ releases_stream s (b ∷ bs) = pick (nat_eq b.stream s) refl (releases_stream s 
       all_stay = λ P k. (k.0, r.all_stay P k.1);
     }
 
--- the open blocks of a stream after one more
+-- the unacknowledged blocks of a stream after one more
 pub open_push : (s q : ℕ) (referenced : List ℕ) (bs : List UnacknowledgedBlock)
-    → open_of q (bs ++ record { stream = s; entries = referenced } ∷ []) ≡ open_of q bs ++ cond (nat_eq s q) (referenced ∷ []) []
+    → open_of q (bs ++ record { stream = s; entries = referenced } ∷ []) ≡ open_of q bs
+        ++ cond (nat_eq s q) (referenced ∷ []) []
 unfolding open_of
 open_push s q referenced [] =
     elim (nat_eq s q) as (λ b. cond b (referenced ∷ []) [] ≡ cond b (referenced ∷ []) []) [ true ↦ refl | false ↦ refl ]

@@ -7,10 +7,12 @@ use Rattle.std.proofs.lemmas.Bool.{cond_both, le-leb, leb-true}
 use Rattle.std.proofs.lemmas.List.{append_assoc, length-map, drop-map}
 use Rattle.qpack_spec.specs.Field.{Field}
 use Rattle.qpack_spec.specs.Instruction.{SetCapacity}
-use Rattle.qpack_spec.specs.Window.{Window, greatest_capacity, eviction_count, TableRefusal, DoesNotFit, AboveMaximum, Resizes}
+use Rattle.qpack_spec.specs.Window.{Window, greatest_capacity, eviction_count, TableRefusal, DoesNotFit, AboveMaximum}
+use Rattle.qpack_spec.specs.Window.{Resizes}
 use Rattle.qpack_spec.specs.Window.{effect, window_after}
 use Rattle.qpack_spec.specs.History.{History, window_of, history_after}
-use Rattle.qpack_spec.specs.Table.{Entry, UnacknowledgedBlock, Table, fields_in, window, insert_count, can_evict, with_capacity}
+use Rattle.qpack_spec.specs.Table.{Entry, UnacknowledgedBlock, Table, fields_in, window, insert_count, can_evict}
+use Rattle.qpack_spec.specs.Table.{with_capacity}
 use Rattle.qpack_spec.specs.Session.{stream_at}
 use Rattle.qpack_safety.specs.AbstractSession.{AbstractSession, after_resize}
 use Rattle.qpack_spec.proofs.Lists.{every_drop, every_weaker}
@@ -62,7 +64,8 @@ window_resized t n =
     } in w) (sym (drop-map (λ (x : Entry). x.field) k t.live))
 
 eviction_count_live : (t : Table) (n : ℕ) → eviction_count n (fields_in t.live) ≤ length t.live
-eviction_count_live t n = omega (arith, eviction_count_bound n (fields_in t.live), length-map t.live (λ (x : Entry). x.field))
+eviction_count_live t n = omega
+    (arith, eviction_count_bound n (fields_in t.live), length-map t.live (λ (x : Entry). x.field))
 
 -- the parts of a resized table
 pub record SameResized (t t' : Table) (k : ℕ) : Type 0 where
@@ -93,7 +96,8 @@ kept_resized h t n s k c =
       marked = rw z.z_live (every_drop IsSent evicted t.live k.marked);
       behind = rw (z.z_dropped, z.z_known) (drops_received t evicted k.behind none);
       held = rw z.z_opened (every_weaker (λ (x : UnacknowledgedBlock). AllByRecursion (λ a. (t.dropped + evicted < a)
-          × (a ≤ insert_count t)) x.entries) (λ (x : UnacknowledgedBlock). AllByRecursion (IsLive (resized_table t n)) x.entries)
+          × (a ≤ insert_count t)) x.entries)
+              (λ (x : UnacknowledgedBlock). AllByRecursion (IsLive (resized_table t n)) x.entries)
           (λ x r. every_weaker (λ a. (t.dropped + evicted < a) × (a ≤ insert_count t)) (IsLive (resized_table t n))
           (λ a q. (
             rw z.z_dropped q.0,
@@ -105,7 +109,8 @@ kept_resized h t n s k c =
               length-drop evicted t.live,
             ),
           )) x.entries r)
-          t.unacknowledged (opened_above t.dropped (insert_count t) evicted t.unacknowledged (λ x low high. (none x low high).unopened) k.held));
+          t.unacknowledged (opened_above t.dropped (insert_count t) evicted t.unacknowledged
+              (λ x low high. (none x low high).unopened) k.held));
     }
 
 bound_same : (t : Table) (h : History) (n : ℕ) → window t ≡ window_of h → n ≤ greatest_capacity t.agreed_max
@@ -128,7 +133,8 @@ inv_resized capacity limit w n c k =
       made = history_after k.made (Resizes n);
       taken_leads = k.taken_leads;
       in_flight_leads =
-          leads_append k.received w.in_flight (SetCapacity n ∷ []) k.made (history_after k.made (Resizes n)) k.in_flight_leads
+          leads_append k.received w.in_flight (SetCapacity n ∷ []) k.made
+              (history_after k.made (Resizes n)) k.in_flight_leads
           (Resizes n, one, refl);
       decoder = k.decoder;
       encoder = kept_resized k.made w.encoder n s k.encoder c;
@@ -137,7 +143,8 @@ inv_resized capacity limit w n c k =
       blocked = rw z.z_waiting k.blocked;
       streams =
           λ q. rw (z.z_opened, ← append_assoc) (stream_grows capacity k.made (history_after k.made (Resizes n))
-          (w.taken ++ w.in_flight) (SetCapacity n ∷ []) w.encoder.unacknowledged w.decoder_in_flight q (stream_at w.streams q)
+          (w.taken ++ w.in_flight) (SetCapacity n ∷ []) w.encoder.unacknowledged w.decoder_in_flight q
+              (stream_at w.streams q)
           (grows_one k.made (Resizes n)) (k.streams q));
     }
 

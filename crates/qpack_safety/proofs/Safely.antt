@@ -5,7 +5,8 @@ use Rattle.std.specs.List.{AllByRecursion, slice_get, filter}
 use Rattle.std.specs.Prelude.{not, IsOk}
 use Rattle.std.proofs.lemmas.Bool.{ne_eqb, cases_lt, lt-ltb, le-ltb}
 use Rattle.qpack_spec.specs.Field.{total_size}
-use Rattle.qpack_spec.specs.Instruction.{EncoderInstruction, DecoderInstruction, Acknowledgment, Cancellation, Increment}
+use Rattle.qpack_spec.specs.Instruction.{EncoderInstruction, DecoderInstruction, Acknowledgment, Cancellation}
+use Rattle.qpack_spec.specs.Instruction.{Increment}
 use Rattle.qpack_spec.specs.Window.{Window, maximum_capacity, window_insert_count}
 use Rattle.qpack_spec.specs.History.{History, window_of, whole_window, initial_history, Leads}
 use Rattle.qpack_spec.specs.Prefix.{Prefix, prefix_for}
@@ -40,7 +41,8 @@ undecoded_live : (capacity limit : ℕ) (w : AbstractSession) (k : Invariant cap
 undecoded_live capacity limit w k s b live there dynamic =
     let st = stream_at w.streams s in
     let ok = k.streams s in
-    let held : AllByRecursion (λ (r : List ℕ). AllByRecursion (IsLive w.encoder) r) (open_of s w.encoder.unacknowledged) =
+    let held : AllByRecursion (λ (r : List ℕ). AllByRecursion (IsLive w.encoder) r)
+        (open_of s w.encoder.unacknowledged) =
     every_open (λ (r : List ℕ). AllByRecursion (IsLive w.encoder) r) s w.encoder.unacknowledged k.encoder.held in
     let held' : AllByRecursion (λ (r : List ℕ). AllByRecursion (IsLive w.encoder) r)
     (map (λ (x : AbstractBlock). x.referenced) (drop st.acknowledged (filter is_dynamic st.blocks))) =
@@ -115,13 +117,15 @@ in_reach capacity limit w k r live positive =
       small = omega (arith, live.1, n, s.few);
     }
 
-block_reads : (capacity received agreed_max : ℕ) (made : History) (encoder_stream : List EncoderInstruction) (b : AbstractBlock)
+block_reads : (capacity received agreed_max : ℕ) (made : History) (encoder_stream : List EncoderInstruction)
+    (b : AbstractBlock)
     (ok : KeepsBlock capacity made encoder_stream b) → agreed_max ≡ capacity
     → (0 < greatest_of b.referenced → InReach received capacity (greatest_of b.referenced))
     → ReadsAs received agreed_max (greatest_of b.referenced) ok.base b.block.prefix
 block_reads capacity received agreed_max made encoder_stream b ok e reach =
     subst (λ (p : Prefix). ReadsAs received agreed_max (greatest_of b.referenced) ok.base p) (sym ok.written)
-    (subst (λ (a : ℕ). ReadsAs received a (greatest_of b.referenced) ok.base (prefix_for capacity (greatest_of b.referenced) ok.base))
+    (subst (λ (a : ℕ). ReadsAs received a (greatest_of b.referenced) ok.base
+        (prefix_for capacity (greatest_of b.referenced) ok.base))
     (sym e)
     (reads_written received capacity (greatest_of b.referenced) ok.base (omega (arith, ok.few)) reach))
 
@@ -144,15 +148,18 @@ decodes_exactly capacity limit w k s b live there = pick (cases_lt 0 (greatest_o
     in_time le = rw received (taken_in_time capacity k.received k.made w.taken w.in_flight b k.taken_leads ok le)
 
     reads : (0 < greatest_of b.referenced → InReach (window_insert_count w.decoder) capacity (greatest_of b.referenced))
-        → ReadsAs (window_insert_count w.decoder) (maximum_of w.decoder) (greatest_of b.referenced) ok.base b.block.prefix
+        → ReadsAs (window_insert_count w.decoder) (maximum_of w.decoder)
+            (greatest_of b.referenced) ok.base b.block.prefix
     reads reach =
-        block_reads capacity (window_insert_count w.decoder) (maximum_of w.decoder) k.made (w.taken ++ w.in_flight) b ok agreed_max reach
+        block_reads capacity (window_insert_count w.decoder) (maximum_of w.decoder) k.made
+            (w.taken ++ w.in_flight) b ok agreed_max reach
 
     pick : (0 < greatest_of b.referenced) ⊎ (greatest_of b.referenced ≤ 0) → DecodesExactly w b
     pick (inl positive) =
         let held : AllByRecursion (IsLive w.encoder) b.referenced =
         undecoded_live capacity limit w k s b live there positive in
-        let top : IsLive w.encoder (greatest_of b.referenced) = greatest_has (IsLive w.encoder) b.referenced positive held in
+        let top : IsLive w.encoder (greatest_of b.referenced) = greatest_has
+            (IsLive w.encoder) b.referenced positive held in
         let p = reads (λ r. in_reach capacity limit w k (greatest_of b.referenced) top r) in
         let g : Grows k.received k.made = leads_grows k.received w.in_flight k.made k.in_flight_leads in
         let d : w.encoder.dropped ≡ k.made.dropped = dropped_same w.encoder k.made k.encoder.shares in
@@ -205,7 +212,8 @@ inv_safe capacity limit w k =
       decodes = decodes_exactly capacity limit w k;
       blocked = k.blocked;
       received =
-          omega (arith, k.known_received_count, ap window_insert_count k.decoder, total_window k.received (sound_received capacity limit w k));
+          omega (arith, k.known_received_count, ap window_insert_count k.decoder, total_window k.received
+              (sound_received capacity limit w k));
       encoder_fits = fits_table w.encoder k.made k.encoder.shares (sound_made capacity limit w k);
       decoder_fits = fits_window w.decoder k.received k.decoder (sound_received capacity limit w k);
       received_history = k.received;

@@ -18,9 +18,11 @@ use Rattle.qpack_spec.specs.Table.{Table, window, insert_count}
 use Rattle.qpack_safety.specs.AbstractSession.{AbstractBlock, required_count, AbstractSession, abstract_start}
 use Rattle.qpack_spec.specs.Session.{KeptBlock, stream_at, Session, Event, Encode, Decode, ToDecoder, ToEncoder}
 use Rattle.qpack_spec.specs.Session.{Acknowledge, Cancel, ChangeCapacity, Outcome, decode_outcome, Delivered, Refused}
-use Rattle.qpack_spec.specs.Session.{StreamFault, initial_session, next_block, requires_entry, awaits_acknowledgment, skip_reason, with_block}
+use Rattle.qpack_spec.specs.Session.{StreamFault, initial_session, next_block, requires_entry, awaits_acknowledgment}
+use Rattle.qpack_spec.specs.Session.{skip_reason, with_block}
 use Rattle.qpack_spec.specs.Session.{after_refused_encode, with_decoded, EndsAtDecoder, takes_all, no_memory, bad_bytes}
-use Rattle.qpack_spec.specs.Session.{bad_instruction, DeliversToDecoder, LawfulStep, Step, IsByteEvent, FitsMemory, is_read}
+use Rattle.qpack_spec.specs.Session.{bad_instruction, DeliversToDecoder, LawfulStep, Step, IsByteEvent, FitsMemory}
+use Rattle.qpack_spec.specs.Session.{is_read}
 use Rattle.qpack_spec.specs.WrittenLaws.{IsByteField}
 use Rattle.qpack_spec.proofs.Places.{every_take}
 use Rattle.qpack_spec.proofs.BlockReadings.{written_read, written_means}
@@ -36,7 +38,7 @@ use Rattle.qpack_safety.specs.SessionSafety.{Extends}
 use Rattle.qpack_safety.specs.Refines.{EndsAt, RefinesBlock, Refines}
 use Rattle.qpack_safety.proofs.Invariant.{KeepsBlock, Invariant, inv_started}
 use Rattle.qpack_safety.proofs.Safely.{inv_safe}
-use Rattle.qpack_spec.proofs.Cuttings.{Wire, wire, reads_delivered, one_reading}
+use Rattle.qpack_spec.proofs.Cuttings.{nil_append, Wire, wire, reads_delivered, one_reading}
 use Rattle.qpack_safety.proofs.Shown.{agrees_get}
 use Rattle.qpack_safety.proofs.WritingEvents.{RefinesSome, whole_sent, lands_encoded, lands_given_up, lands_resized}
 use Rattle.qpack_safety.proofs.WritingEvents.{lands_decoded, lawful_on, lands_acknowledged, lands_cancelled}
@@ -149,11 +151,8 @@ never_refused capacity limit v w (ChangeCapacity n) fault v' sh k (inr (inr h)) 
 
 -- no spelling is a front of no bytes
 nothing_cut_off : {L : Type 0} (S : List ℕ → L → Type 0) (W : Wire L S) → IsCutOff S []
-nothing_cut_off S W encoding more l e s = W.spells_some l (subst (λ (b : List ℕ). S b l) (nil_front encoding more (sym e)) s)
-  where
-    nil_front : (a b : List ℕ) → a ++ b ≡ [] → a ≡ []
-    nil_front [] b h = refl
-    nil_front (x ∷ a) b h = absurd cc
+nothing_cut_off S W encoding more l e s = W.spells_some l
+    (subst (λ (b : List ℕ). S b l) (nil_append encoding more (sym e)) s)
 
 -- of two fronts of the same bytes that are lines, the one of fewer lines is no longer
 fronts_order : {L : Type 0} (S : List ℕ → L → Type 0) (W : Wire L S) (ls ms : List L) (a b x y : List ℕ)
@@ -171,11 +170,13 @@ fronts_order S W (l ∷ ls) (m ∷ ms) a b x y j k e le =
 
 -- instructions that end within what was taken were taken
 taken_within : (v : Session) (w : AbstractSession) (place many : ℕ) → Refines v w
-    → EndsAt v.encoder_stream (w.taken ++ w.in_flight) place many → place ≤ v.encoder_stream_taken → many ≤ length w.taken
+    → EndsAt v.encoder_stream (w.taken ++ w.in_flight) place many → place ≤ v.encoder_stream_taken → many
+        ≤ length w.taken
 taken_within v w place many sh e le =
     let c = sh.encoder_stream in
     let same : e.front ++ e.rest ≡ c.front ++ ([] ++ c.rest) = sym e.cut ∙ c.cut in
-    let r = reads_delivered SpellsEncoderInstruction (wire encoder_instruction_form) w.taken e.first [] c.front [] c.rest e.front
+    let r = reads_delivered SpellsEncoderInstruction
+        (wire encoder_instruction_form) w.taken e.first [] c.front [] c.rest e.front
     e.rest c.front_joined (nothing_cut_off SpellsEncoderInstruction (wire encoder_instruction_form)) e.joined same
     (omega (arith, le, e.place_is, c.ends)) in
     omega (arith, r, e.many_is)
@@ -200,7 +201,8 @@ reads_exactly capacity limit v w sh k s b live next =
     ap (slice_get (stream_at w.streams s).blocks) (sym old.decoded_is) ∙ at.1 in
     let d : DecodesExactly w at.0 = (inv_safe capacity limit w k).decodes s at.0 (sym old.cancelled_is ∙ live) there in
     let shown = at.2 in
-    let many : insert_count v.decoder ≡ window_insert_count w.decoder = ap insert_count sh.decoder_is ∙ count_put w.decoder in
+    let many : insert_count v.decoder ≡ window_insert_count w.decoder = ap insert_count sh.decoder_is
+        ∙ count_put w.decoder in
     let same : reading_of_bytes (window v.decoder) b.bytes ≡ reading w.decoder at.0.block =
     ap (λ (t : Table). reading_of_bytes (window t) b.bytes) sh.decoder_is
     ∙ ap (λ (x : Window). reading_of_bytes x b.bytes) (window_put w.decoder)
@@ -242,7 +244,8 @@ base_known capacity made encoder_stream b ok = pick (cases_lt 0 (required_count 
         let is : nat_eq (required_count b) 0 ≡ true = eq-eqb (required_count b) 0 zero_count in
         let plain : references_of ok.base b.block.lines ≡ [] =
         tracked_none (references_of ok.base b.block.lines) (ok.references ∙ ok.plain zero_count) in
-        (0, rw is refl, sym (fields_plain (whole_window made) (whole_window made) ok.base 0 b.block.lines plain) ∙ ok.means)
+        (0, rw is refl, sym (fields_plain (whole_window made) (whole_window made) ok.base 0 b.block.lines plain)
+            ∙ ok.means)
 
 -- bytes that are lines are one list of them
 lines_same : (bytes : List ℕ) (ls ms : List EncoderInstruction) → Joined SpellsEncoderInstruction bytes ls
@@ -253,7 +256,8 @@ lines_same bytes ls ms j k =
     (nothing_cut_off SpellsEncoderInstruction W) refl).0
 
 pub means_handed : (capacity limit : ℕ) (v : Session) (w : AbstractSession) → Refines v w → Invariant capacity limit w
-    → (instructions : List EncoderInstruction) (all : History) → Joined SpellsEncoderInstruction v.encoder_stream instructions
+    → (instructions : List EncoderInstruction) (all : History)
+        → Joined SpellsEncoderInstruction v.encoder_stream instructions
     → Leads (initial_history capacity) instructions all
     → (s place : ℕ) (b : KeptBlock) → slice_get (stream_at v.streams s).blocks place ≡ Some b
     → meaning_over_all all b.bytes b.required ≡ Ok b.fields
@@ -284,13 +288,17 @@ means_handed capacity limit v w sh k instructions all j l s place b there =
 -- a delivery that is answered takes the instructions of each block whose end it reached, of those written since too
 pub delivers_whole : (capacity limit : ℕ) (v : Session) (w : AbstractSession) (n received : ℕ) (v' : Session)
     → Refines v w → Invariant capacity limit w → DeliversToDecoder v n (Delivered received) v'
-    → (u : Session) (x : AbstractSession) → Refines u x → Extends v.encoder_stream u.encoder_stream → (s position : ℕ) (b : KeptBlock)
-    → slice_get (stream_at u.streams s).blocks position ≡ Some b → b.end ≤ v'.encoder_stream_delivered → b.end ≤ v'.encoder_stream_taken
+    → (u : Session) (x : AbstractSession) → Refines u x → Extends v.encoder_stream u.encoder_stream
+        → (s position : ℕ) (b : KeptBlock)
+    → slice_get (stream_at u.streams s).blocks position ≡ Some b → b.end ≤ v'.encoder_stream_delivered → b.end
+        ≤ v'.encoder_stream_taken
 delivers_whole capacity limit v w n received v' sh k c u x su more s position b there le =
     go (moved capacity limit v w n (Delivered received) v' sh k c) c.ends
   where
-    whole_window : (m : Moved capacity limit v w n c.lines c.front c.rest c.table) → Truncates encoder_instruction_form c.rest
-        → b.end ≤ min (v.encoder_stream_delivered + n) (length v.encoder_stream) → b.end ≤ v.encoder_stream_taken + length c.front
+    whole_window : (m : Moved capacity limit v w n c.lines c.front c.rest c.table)
+        → Truncates encoder_instruction_form c.rest
+        → b.end ≤ min (v.encoder_stream_delivered + n) (length v.encoder_stream) → b.end
+            ≤ v.encoder_stream_taken + length c.front
     whole_window m cut within =
         let found =
         agrees_get (RefinesBlock u.encoder_stream (x.taken ++ x.in_flight)) (stream_at u.streams s).blocks
@@ -303,11 +311,13 @@ delivers_whole capacity limit v w n received v' sh k c u x su more s position b 
         ∙ append_assoc carried.front (c.rest ++ m.on.more) more.0
         ∙ ap (λ l. carried.front ++ l) (append_assoc c.rest m.on.more more.0) in
         let few =
-        reads_delivered SpellsEncoderInstruction (wire encoder_instruction_form) (w.taken ++ c.lines) e.first [] carried.front
+        reads_delivered SpellsEncoderInstruction (wire encoder_instruction_form)
+            (w.taken ++ c.lines) e.first [] carried.front
         c.rest behind e.front e.rest carried.front_joined (λ encoding l i q y. (cut encoding l q).0 i y) e.joined same
         (omega (arith, e.place_is, within, m.place, carried.ends)) in
         let short =
-        fronts_order SpellsEncoderInstruction (wire encoder_instruction_form) e.first (w.taken ++ c.lines) e.front carried.front
+        fronts_order SpellsEncoderInstruction (wire encoder_instruction_form) e.first
+            (w.taken ++ c.lines) e.front carried.front
         e.rest (c.rest ++ behind) e.joined carried.front_joined same few in
         omega (arith, short, e.place_is, carried.ends)
 

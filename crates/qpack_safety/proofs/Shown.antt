@@ -6,8 +6,10 @@ use Rattle.std.specs.Prelude.{nat_eq, nat_le, not, ◌||◌}
 use Rattle.std.proofs.Math.Nat.{mod-le}
 use Rattle.std.proofs.lemmas.Bool.{cond_both}
 use Rattle.std.proofs.lemmas.List.{append_assoc}
-use Rattle.qpack_spec.specs.Instruction.{EncoderInstruction, DecoderInstruction, SpellsEncoderInstruction, SpellsDecoderInstruction, written_encoder_instruction}
-use Rattle.qpack_spec.specs.Instruction.{written_encoder_instructions, written_decoder_instruction, written_decoder_instructions}
+use Rattle.qpack_spec.specs.Instruction.{EncoderInstruction, DecoderInstruction, SpellsEncoderInstruction}
+use Rattle.qpack_spec.specs.Instruction.{SpellsDecoderInstruction, written_encoder_instruction}
+use Rattle.qpack_spec.specs.Instruction.{written_encoder_instructions, written_decoder_instruction}
+use Rattle.qpack_spec.specs.Instruction.{written_decoder_instructions}
 use Rattle.qpack_spec.specs.Stream.{Joined}
 use Rattle.qpack_spec.specs.Prefix.{prefix_for}
 use Rattle.qpack_spec.specs.WrittenLaws.{IsWritableEncoderInstruction, IsWritableDecoderInstruction, IsWritablePrefix}
@@ -42,7 +44,8 @@ agrees_get P (z ∷ xs) (u ∷ ys) (suc i) x h e = agrees_get P xs ys i x h.1 e
 
 -- ---- more is written
 
-ends_grow : (encoder_stream more : List ℕ) (lines behind : List EncoderInstruction) (place many : ℕ) → EndsAt encoder_stream lines place many
+ends_grow : (encoder_stream more : List ℕ) (lines behind : List EncoderInstruction) (place many : ℕ)
+    → EndsAt encoder_stream lines place many
     → EndsAt (encoder_stream ++ more) (lines ++ behind) place many
 ends_grow encoder_stream more lines behind place many e =
     record {
@@ -57,11 +60,13 @@ ends_grow encoder_stream more lines behind place many e =
       joined = e.joined;
     }
 
-pub shows_grow : (encoder_stream more : List ℕ) (lines behind : List EncoderInstruction) (k : KeptStream) (st : AbstractStream)
+pub shows_grow : (encoder_stream more : List ℕ) (lines behind : List EncoderInstruction) (k : KeptStream)
+    (st : AbstractStream)
     → RefinesStream encoder_stream lines k st → RefinesStream (encoder_stream ++ more) (lines ++ behind) k st
 shows_grow encoder_stream more lines behind k st s =
     record {
-      blocks_are = agrees_weaker (RefinesBlock encoder_stream lines) (RefinesBlock (encoder_stream ++ more) (lines ++ behind))
+      blocks_are = agrees_weaker (RefinesBlock encoder_stream lines)
+          (RefinesBlock (encoder_stream ++ more) (lines ++ behind))
           (λ x y h. record {
             bytes_are = h.bytes_are;
             writable = h.writable;
@@ -86,7 +91,8 @@ dynamic_same : (encoder_stream : List ℕ) (lines : List EncoderInstruction) (x 
     → RefinesBlock encoder_stream lines x y → requires_entry x ≡ is_dynamic y
 dynamic_same encoder_stream lines x y h = ap (λ n. not (nat_eq n 0)) h.required_is
 
-pub dynamic_many : (encoder_stream : List ℕ) (lines : List EncoderInstruction) (n : ℕ) (xs : List KeptBlock) (ys : List AbstractBlock)
+pub dynamic_many : (encoder_stream : List ℕ) (lines : List EncoderInstruction) (n : ℕ) (xs : List KeptBlock)
+    (ys : List AbstractBlock)
     → Agrees (RefinesBlock encoder_stream lines) xs ys
     → length (filter requires_entry (take n xs)) ≡ length (filter is_dynamic (take n ys))
 dynamic_many encoder_stream lines zero xs ys h = refl
@@ -109,14 +115,19 @@ pub instructions_joined : (is : List EncoderInstruction) → AllByRecursion IsWr
 unfolding written_encoder_instructions
 instructions_joined [] w = refl
 instructions_joined (i ∷ is) w =
-    (written_encoder_instruction i, written_encoder_instructions is, refl, instructions_spelled i w.0, instructions_joined is w.1)
+    (written_encoder_instruction i, written_encoder_instructions is, refl, instructions_spelled i w.0,
+        instructions_joined is w.1)
 
-pub decoder_instructions_joined : (rs : List DecoderInstruction) → AllByRecursion IsWritableDecoderInstruction rs → Joined SpellsDecoderInstruction (written_decoder_instructions rs) rs
+pub decoder_instructions_joined : (rs : List DecoderInstruction) → AllByRecursion IsWritableDecoderInstruction rs
+    → Joined SpellsDecoderInstruction (written_decoder_instructions rs) rs
 unfolding written_decoder_instructions
 decoder_instructions_joined [] w = refl
-decoder_instructions_joined (r ∷ rs) w = (written_decoder_instruction r, written_decoder_instructions rs, refl, decoder_instructions_spelled r w.0, decoder_instructions_joined rs w.1)
+decoder_instructions_joined (r ∷ rs) w =
+    (written_decoder_instruction r, written_decoder_instructions rs, refl, decoder_instructions_spelled r w.0,
+        decoder_instructions_joined rs w.1)
 
-pub one_joined : {L : Type 0} (S : List ℕ → L → Type 0) (encoding : List ℕ) (l : L) → S encoding l → Joined S encoding (l ∷ [])
+pub one_joined : {L : Type 0} (S : List ℕ → L → Type 0) (encoding : List ℕ) (l : L) → S encoding l
+    → Joined S encoding (l ∷ [])
 one_joined S encoding l s = (encoding, [], sym (Rattle.std.proofs.lemmas.List.append-nil encoding), s, refl)
 
 pub increments_writable : (ns : List ℕ) → AllByRecursion (λ n. (1 ≤ n) × (n ≤ 64)) ns

@@ -14,14 +14,16 @@ use Rattle.qpack_safety.proofs.DecoderInstructions.{increments_append, increment
 use Rattle.qpack_safety.proofs.Invariant.{Invariant, sound_received, total_window}
 
 -- what the next instruction does
-pub record Taking (received made : History) (decoder : Window) (i : EncoderInstruction) (rest : List EncoderInstruction) : Type 0
+pub record Taking (received made : History) (decoder : Window) (i : EncoderInstruction)
+    (rest : List EncoderInstruction) : Type 0
   where
     pub effect_of : Effect
     pub is_effect : effect (window_of received) i ≡ Ok effect_of
     pub applies : apply decoder i ≡ Ok (window_of (history_after received effect_of))
     pub rest_leads : Leads (history_after received effect_of) rest made
 
-pub taking : (received made : History) (decoder : Window) (i : EncoderInstruction) (rest : List EncoderInstruction) → Sound received
+pub taking : (received made : History) (decoder : Window) (i : EncoderInstruction) (rest : List EncoderInstruction)
+    → Sound received
     → decoder ≡ window_of received → Leads received (i ∷ rest) made → Taking received made decoder i rest
 taking received made decoder i rest s e l =
     record {
@@ -33,14 +35,18 @@ taking received made decoder i rest s e l =
       rest_leads = l.2;
     }
 
-taken_known : (received : History) (e : Effect) (w : AbstractSession) → Sound received → Sound (history_after received e)
+taken_known : (received : History) (e : Effect) (w : AbstractSession) → Sound received
+    → Sound (history_after received e)
     → w.decoder ≡ window_of received → w.encoder.known_received_count + increment_sum w.decoder_in_flight + w.unreported
     ≡ length received.inserted
     → w.encoder.known_received_count + increment_sum w.decoder_in_flight +
-    (w.unreported + (window_insert_count (window_of (history_after received e)) - window_insert_count w.decoder)) ≡ length (history_after received e).inserted
+    (w.unreported + (window_insert_count (window_of (history_after received e)) - window_insert_count w.decoder))
+        ≡ length (history_after received e).inserted
 taken_known received e w s s' d k =
-    let before : window_insert_count w.decoder ≡ length received.inserted = ap window_insert_count d ∙ total_window received s in
-    let after' : window_insert_count (window_of (history_after received e)) ≡ length (history_after received e).inserted =
+    let before : window_insert_count w.decoder ≡ length received.inserted = ap window_insert_count d
+        ∙ total_window received s in
+    let after' : window_insert_count (window_of (history_after received e))
+        ≡ length (history_after received e).inserted =
     total_window (history_after received e) s' in
     let g : Grows received (history_after received e) = grows_one received e in
     omega (arith, k, length-append received.inserted g.more, ap length g.inserts)
@@ -49,7 +55,8 @@ inv_taken : (capacity limit : ℕ) (w : AbstractSession) (k : Invariant capacity
     (rest : List EncoderInstruction) → w.in_flight ≡ i ∷ rest → (t : Taking k.received k.made w.decoder i rest)
     → Invariant capacity limit (record w {
       decoder = window_of (history_after k.received t.effect_of);
-      unreported = w.unreported + (window_insert_count (window_of (history_after k.received t.effect_of)) - window_insert_count w.decoder);
+      unreported = w.unreported +
+          (window_insert_count (window_of (history_after k.received t.effect_of)) - window_insert_count w.decoder);
       taken =
           w.taken ++ i ∷ [];
       in_flight = rest;
@@ -64,7 +71,8 @@ inv_taken capacity limit w k i rest e t =
       received = history_after k.received t.effect_of;
       made = k.made;
       taken_leads =
-          leads_append (initial_history capacity) w.taken (i ∷ []) k.received (history_after k.received t.effect_of) k.taken_leads
+          leads_append (initial_history capacity) w.taken (i ∷ []) k.received
+              (history_after k.received t.effect_of) k.taken_leads
           (t.effect_of, t.is_effect, refl);
       in_flight_leads = t.rest_leads;
       decoder = refl;
@@ -87,7 +95,8 @@ inv_takes capacity limit w (i ∷ rest) e k =
 
 -- ---- the decoder reports
 
-fits_increments : (s : ℕ) (ps : List ℕ) (rs : List DecoderInstruction) (n : ℕ) → AcksFit s rs n → AcksFit s (rs ++ increments ps) n
+fits_increments : (s : ℕ) (ps : List ℕ) (rs : List DecoderInstruction) (n : ℕ) → AcksFit s rs n
+    → AcksFit s (rs ++ increments ps) n
 fits_increments s [] rs n h = rw append-nil h
 fits_increments s (p ∷ ps) rs n h =
     subst (λ (l : List DecoderInstruction). AcksFit s l n) (append_assoc rs (Increment p ∷ []) (increments ps))
@@ -99,7 +108,8 @@ acks_increments s (p ∷ ps) rs =
     ap (acks_in s) (sym (append_assoc rs (Increment p ∷ []) (increments ps)))
     ∙ acks_increments s ps (rs ++ Increment p ∷ []) ∙ acks_other s rs (Increment p) tt
 
-cancels_increments : (s : ℕ) (ps : List ℕ) (rs : List DecoderInstruction) → cancels_in s (rs ++ increments ps) ≡ cancels_in s rs
+cancels_increments : (s : ℕ) (ps : List ℕ) (rs : List DecoderInstruction) → cancels_in s (rs ++ increments ps)
+    ≡ cancels_in s rs
 cancels_increments s [] rs = ap (cancels_in s) (append-nil rs)
 cancels_increments s (p ∷ ps) rs =
     ap (cancels_in s) (sym (append_assoc rs (Increment p ∷ []) (increments ps)))
@@ -117,7 +127,8 @@ inv_reported capacity limit w ps e k =
       decoder = k.decoder;
       encoder = k.encoder;
       same_limit = k.same_limit;
-      known_received_count = omega (arith, k.known_received_count, increments_append w.decoder_in_flight (increments ps), increments_sum ps, e);
+      known_received_count = omega
+          (arith, k.known_received_count, increments_append w.decoder_in_flight (increments ps), increments_sum ps, e);
       blocked = k.blocked;
       streams = λ q. let st = k.streams q in record {
         acknowledged = st.acknowledged;

@@ -7,8 +7,10 @@ use Rattle.std.specs.Prelude.{nat_eq, nat_le, nat_lt}
 use Rattle.std.proofs.lemmas.Bool.{eq-eqb, leb-false}
 use Rattle.std.proofs.lemmas.List.{append-nil, append_assoc}
 use Rattle.qpack_spec.specs.Field.{Field}
-use Rattle.qpack_spec.specs.Instruction.{EncoderInstruction, SetCapacity, Acknowledgment, Cancellation, SpellsEncoderInstruction}
-use Rattle.qpack_spec.specs.Instruction.{SpellsDecoderInstruction, written_encoder_instruction, written_encoder_instructions, written_decoder_instruction}
+use Rattle.qpack_spec.specs.Instruction.{EncoderInstruction, SetCapacity, Acknowledgment, Cancellation}
+use Rattle.qpack_spec.specs.Instruction.{SpellsEncoderInstruction}
+use Rattle.qpack_spec.specs.Instruction.{SpellsDecoderInstruction, written_encoder_instruction}
+use Rattle.qpack_spec.specs.Instruction.{written_encoder_instructions, written_decoder_instruction}
 use Rattle.qpack_spec.specs.Stream.{Joined, Carried}
 use Rattle.qpack_spec.specs.Window.{maximum_capacity, greatest_capacity, TableRefusal}
 use Rattle.qpack_spec.specs.Reading.{Block, greatest_of}
@@ -19,7 +21,8 @@ use Rattle.qpack_spec.specs.Table.{Table, insert_count, with_capacity}
 use Rattle.qpack_spec.specs.Rule.{rule, required_insert_count, block_of}
 use Rattle.qpack_safety.specs.AbstractSession.{AbstractBlock, is_dynamic, AbstractSession, after_encode, after_abandon}
 use Rattle.qpack_safety.specs.AbstractSession.{after_resize, waits_for_acknowledgment}
-use Rattle.qpack_spec.specs.Session.{KeptBlock, KeptStream, stream_at, with_kept_stream, Session, FitsMemory, awaits_acknowledgment}
+use Rattle.qpack_spec.specs.Session.{KeptBlock, KeptStream, stream_at, with_kept_stream, Session, FitsMemory}
+use Rattle.qpack_spec.specs.Session.{awaits_acknowledgment}
 use Rattle.qpack_spec.specs.Session.{requires_entry, unless_cancelled, with_block, after_refused_encode, with_decoded}
 use Rattle.qpack_spec.specs.WrittenLaws.{IsByteField, IsWritableBlock}
 use Rattle.qpack_spec.proofs.Lists.{every_right, every_weaker}
@@ -42,7 +45,8 @@ pub record RefinesSome (capacity limit : ℕ) (v : Session) : Type 0 where
   pub refines : Refines v abstract
   pub keeps : Invariant capacity limit abstract
 
-few_insertions : (capacity limit : ℕ) (w : AbstractSession) → Invariant capacity limit w → insert_count w.encoder ≤ 2 ^ 62
+few_insertions : (capacity limit : ℕ) (w : AbstractSession) → Invariant capacity limit w → insert_count w.encoder
+    ≤ 2 ^ 62
 few_insertions capacity limit w k =
     let s = sound_made capacity limit w k in omega (arith, count_inserted w.encoder k.made k.encoder.shares s, s.few)
 
@@ -54,7 +58,8 @@ whole_sent encoder_stream place taken in_flight c =
     subst (λ (b : List ℕ). Joined SpellsEncoderInstruction b (taken ++ in_flight)) (sym c.cut)
     (joined_append SpellsEncoderInstruction c.front c.rest taken in_flight c.front_joined c.rest_joined)
 
-ends_here : (encoder_stream : List ℕ) (lines : List EncoderInstruction) → Joined SpellsEncoderInstruction encoder_stream lines
+ends_here : (encoder_stream : List ℕ) (lines : List EncoderInstruction)
+    → Joined SpellsEncoderInstruction encoder_stream lines
     → EndsAt encoder_stream lines (length encoder_stream) (length lines)
 ends_here encoder_stream lines j =
     record {
@@ -73,9 +78,11 @@ lines_short : (b : Block) → length (written_block b) < 2 ^ 63 → length (writ
 unfolding written_block
 lines_short b h = omega (arith, h, length-append (written_prefix b.prefix) (written_lines b.lines))
 
-instructions_short : (encoder_stream : List ℕ) (is : List EncoderInstruction) → length (encoder_stream ++ written_encoder_instructions is) < 2 ^ 63
+instructions_short : (encoder_stream : List ℕ) (is : List EncoderInstruction)
+    → length (encoder_stream ++ written_encoder_instructions is) < 2 ^ 63
     → length (written_encoder_instructions is) < 2 ^ 63
-instructions_short encoder_stream is h = omega (arith, h, length-append encoder_stream (written_encoder_instructions is))
+instructions_short encoder_stream is h = omega
+    (arith, h, length-append encoder_stream (written_encoder_instructions is))
 
 -- the block of the rule can be written
 block_writable : (capacity limit : ℕ) (w : AbstractSession) (fs : List Field) → Invariant capacity limit w
@@ -109,7 +116,8 @@ last_fits : (bs : List KeptBlock) (b : KeptBlock)
     → AllByRecursion (λ (x : KeptBlock). length x.bytes < 2 ^ 63) (bs ++ b ∷ []) → length b.bytes < 2 ^ 63
 last_fits bs b h = (every_right (λ (x : KeptBlock). length x.bytes < 2 ^ 63) bs (b ∷ []) h).0
 
-block_fits : (v : Session) (s : ℕ) (fs : List Field) → FitsMemory (with_block v s fs) → EncodeFits v.encoder_stream v.encoder fs
+block_fits : (v : Session) (s : ℕ) (fs : List Field) → FitsMemory (with_block v s fs)
+    → EncodeFits v.encoder_stream v.encoder fs
 block_fits v s fs f =
     let d = rule v.encoder fs in
     let k = stream_at v.streams s in
@@ -149,7 +157,8 @@ block_fits v s fs f =
 
 encoded_shown : (capacity limit : ℕ) (v : Session) (w : AbstractSession) (s : ℕ) (fs : List Field) → Refines v w
     → Invariant capacity limit w → AllByRecursion IsByteField fs
-    → EncodeFits v.encoder_stream w.encoder fs → RefinesSome capacity limit (with_block (record v { encoder = w.encoder }) s fs)
+    → EncodeFits v.encoder_stream w.encoder fs
+        → RefinesSome capacity limit (with_block (record v { encoder = w.encoder }) s fs)
 encoded_shown capacity limit v w s fs sh k wr fits =
     let d = rule w.encoder fs in
     let wd : WrittenDraft d = rule_written w.encoder fs (few_insertions capacity limit w k) wr in
@@ -159,13 +168,15 @@ encoded_shown capacity limit v w s fs sh k wr fits =
     let regroup : (w.taken ++ w.in_flight) ++ d.instructions ≡ lines =
     append_assoc w.taken w.in_flight d.instructions in
     let carried =
-    carried_more SpellsEncoderInstruction v.encoder_stream more v.encoder_stream_taken w.taken w.in_flight d.instructions sh.encoder_stream
+    carried_more SpellsEncoderInstruction v.encoder_stream more v.encoder_stream_taken w.taken w.in_flight
+        d.instructions sh.encoder_stream
     (instructions_joined d.instructions (instructions_fit d.instructions wd.instructions
     (instructions_short v.encoder_stream d.instructions fits.0))) in
     let grown =
     λ (q : ℕ). subst (λ (l : List EncoderInstruction). RefinesStream encoder_stream l (stream_at v.streams q)
     (stream_at w.streams q)) regroup
-    (shows_grow v.encoder_stream more (w.taken ++ w.in_flight) d.instructions (stream_at v.streams q) (stream_at w.streams q)
+    (shows_grow v.encoder_stream more (w.taken ++ w.in_flight) d.instructions (stream_at v.streams q)
+        (stream_at w.streams q)
     (sh.streams_are q)) in
     let kept = stream_at v.streams s in
     let st = stream_at w.streams s in
@@ -183,7 +194,8 @@ encoded_shown capacity limit v w s fs sh k wr fits =
       writable = block_writable capacity limit w fs k wr fits.1;
       required_is = refl;
       handed_are = refl;
-      ends = ends_here encoder_stream lines (whole_sent encoder_stream v.encoder_stream_taken w.taken (w.in_flight ++ d.instructions) carried);
+      ends = ends_here encoder_stream lines
+          (whole_sent encoder_stream v.encoder_stream_taken w.taken (w.in_flight ++ d.instructions) carried);
     } in
     let old : RefinesStream encoder_stream lines kept st = grown s in
     let new : RefinesStream encoder_stream lines (record kept { blocks = kept.blocks ++ b ∷ [] })
@@ -240,15 +252,18 @@ abandoned_shown capacity limit v w fs sh k wr fits =
         decoder_is = sh.decoder_is;
         unreported_is = sh.unreported_is;
         encoder_stream =
-            carried_more SpellsEncoderInstruction v.encoder_stream more v.encoder_stream_taken w.taken w.in_flight d.instructions
+            carried_more SpellsEncoderInstruction v.encoder_stream more v.encoder_stream_taken w.taken w.in_flight
+                d.instructions
             sh.encoder_stream (instructions_joined d.instructions
-            (instructions_fit d.instructions wd.instructions (instructions_short v.encoder_stream d.instructions fits)));
+            (instructions_fit d.instructions wd.instructions
+                (instructions_short v.encoder_stream d.instructions fits)));
         sent_order = sh.sent_order;
         heard_lines = sh.heard_lines;
         decoder_stream = sh.decoder_stream;
         told_order = sh.told_order;
         streams_are =
-            λ q. subst (λ (l : List EncoderInstruction). RefinesStream (v.encoder_stream ++ more) l (stream_at v.streams q)
+            λ q. subst (λ (l : List EncoderInstruction). RefinesStream (v.encoder_stream ++ more) l
+                (stream_at v.streams q)
             (stream_at w.streams q)) regroup
             (shows_grow v.encoder_stream more (w.taken ++ w.in_flight) d.instructions (stream_at v.streams q)
             (stream_at w.streams q) (sh.streams_are q));
@@ -261,9 +276,11 @@ pub lands_given_up : (capacity limit : ℕ) (v : Session) (w : AbstractSession) 
     → RefinesSome capacity limit (after_refused_encode v fs)
 lands_given_up capacity limit v w fs sh k wr f =
     let fits : length (v.encoder_stream ++ written_encoder_instructions (rule w.encoder fs).instructions) < 2 ^ 63 =
-    subst (λ (t : Table). length (v.encoder_stream ++ written_encoder_instructions (rule t fs).instructions) < 2 ^ 63) sh.encoder_is
+    subst (λ (t : Table). length (v.encoder_stream ++ written_encoder_instructions (rule t fs).instructions)
+        < 2 ^ 63) sh.encoder_is
     f.sent_fits in
-    subst (λ (t : Table). RefinesSome capacity limit (after_refused_encode (record v { encoder = t }) fs)) (sym sh.encoder_is)
+    subst (λ (t : Table). RefinesSome capacity limit (after_refused_encode (record v { encoder = t }) fs))
+        (sym sh.encoder_is)
     (abandoned_shown capacity limit v w fs sh k wr fits)
 
 -- ---- a capacity is set
@@ -275,14 +292,16 @@ bounded (Some m) = omega arith
 small_capacity : (t u : Table) (n : ℕ) → with_capacity t n ≡ Ok u → n < 2 ^ 63
 small_capacity t u n e = pick (resized_cases t n)
   where
-    pick : (CanResize t n × (with_capacity t n ≡ Ok (resized_table t n))) ⊎ ((r : TableRefusal) × (with_capacity t n ≡ Err r))
+    pick : (CanResize t n × (with_capacity t n ≡ Ok (resized_table t n)))
+        ⊎ ((r : TableRefusal) × (with_capacity t n ≡ Err r))
         → n < 2 ^ 63
     pick (inl p) = omega (arith, p.0.within, bounded t.agreed_max)
     pick (inr p) = absurd (let q = p.1 in cc)
 
 pub lands_resized : (capacity limit : ℕ) (v : Session) (w : AbstractSession) (n : ℕ) (t : Table) → Refines v w
     → Invariant capacity limit w → with_capacity v.encoder n ≡ Ok t
-    → RefinesSome capacity limit (record v { encoder = t; encoder_stream = v.encoder_stream ++ written_encoder_instruction (SetCapacity n) })
+    → RefinesSome capacity limit
+        (record v { encoder = t; encoder_stream = v.encoder_stream ++ written_encoder_instruction (SetCapacity n) })
 lands_resized capacity limit v w n t sh k e =
     let same : with_capacity w.encoder n ≡ Ok t = ap (λ x. with_capacity x n) (sym sh.encoder_is) ∙ e in
     let more = written_encoder_instruction (SetCapacity n) in
@@ -298,14 +317,16 @@ lands_resized capacity limit v w n t sh k e =
         decoder_is = sh.decoder_is;
         unreported_is = sh.unreported_is;
         encoder_stream =
-            carried_more SpellsEncoderInstruction v.encoder_stream more v.encoder_stream_taken w.taken w.in_flight (SetCapacity n ∷ [])
+            carried_more SpellsEncoderInstruction v.encoder_stream more v.encoder_stream_taken w.taken w.in_flight
+                (SetCapacity n ∷ [])
             sh.encoder_stream spelled;
         sent_order = sh.sent_order;
         heard_lines = sh.heard_lines;
         decoder_stream = sh.decoder_stream;
         told_order = sh.told_order;
         streams_are =
-            λ q. subst (λ (l : List EncoderInstruction). RefinesStream (v.encoder_stream ++ more) l (stream_at v.streams q)
+            λ q. subst (λ (l : List EncoderInstruction). RefinesStream (v.encoder_stream ++ more) l
+                (stream_at v.streams q)
             (stream_at w.streams q)) regroup
             (shows_grow v.encoder_stream more (w.taken ++ w.in_flight) (SetCapacity n ∷ []) (stream_at v.streams q)
             (stream_at w.streams q) (sh.streams_are q));
@@ -368,7 +389,8 @@ lawful_on s k lawful reason = one (nat_le (2 ^ 62) s) refl k.cancelled refl lawf
     one false p false q false r h = absurd cc
 
 waits_same : (v : Session) (w : AbstractSession) (s : ℕ) → Refines v w → (stream_at v.streams s).cancelled ≡ false
-    → awaits_acknowledgment requires_entry (stream_at v.streams s) ≡ true → waits_for_acknowledgment (stream_at w.streams s) ≡ true
+    → awaits_acknowledgment requires_entry (stream_at v.streams s) ≡ true
+        → waits_for_acknowledgment (stream_at w.streams s) ≡ true
 waits_same v w s sh live h =
     let kept = stream_at v.streams s in
     let st = stream_at w.streams s in
@@ -384,7 +406,8 @@ waits_same v w s sh live h =
     rw (c, t) refl
 
 pub lands_acknowledged : (capacity limit : ℕ) (v : Session) (w : AbstractSession) (s : ℕ) → Refines v w
-    → Invariant capacity limit w → Lawful s (stream_at v.streams s) (awaits_acknowledgment requires_entry (stream_at v.streams s))
+    → Invariant capacity limit w
+        → Lawful s (stream_at v.streams s) (awaits_acknowledgment requires_entry (stream_at v.streams s))
     → (let k = stream_at v.streams s in RefinesSome capacity limit
     (record (with_kept_stream v s (record k { acknowledged = k.acknowledged + 1 }))
     { decoder_stream = v.decoder_stream ++ written_decoder_instruction (Acknowledgment s) }))
@@ -395,7 +418,8 @@ lands_acknowledged capacity limit v w s sh k ok =
     let lines = w.taken ++ w.in_flight in
     let more = written_decoder_instruction (Acknowledgment s) in
     let spelled =
-    one_joined SpellsDecoderInstruction more (Acknowledgment s) (decoder_instructions_spelled (Acknowledgment s) (omega (arith, ok.small))) in
+    one_joined SpellsDecoderInstruction more (Acknowledgment s)
+        (decoder_instructions_spelled (Acknowledgment s) (omega (arith, ok.small))) in
     let new : RefinesStream v.encoder_stream lines (record kept { acknowledged = kept.acknowledged + 1 })
     (record st { acknowledged = st.acknowledged + 1 }) =
     record {
@@ -418,7 +442,8 @@ lands_acknowledged capacity limit v w s sh k ok =
         sent_order = sh.sent_order;
         heard_lines = sh.heard_lines;
         decoder_stream =
-            carried_more SpellsDecoderInstruction v.decoder_stream more v.decoder_stream_taken sh.heard_lines w.decoder_in_flight
+            carried_more SpellsDecoderInstruction v.decoder_stream more v.decoder_stream_taken sh.heard_lines
+                w.decoder_in_flight
             (Acknowledgment s ∷ []) sh.decoder_stream spelled;
         told_order = sh.told_order;
         streams_are =
@@ -432,7 +457,8 @@ lands_acknowledged capacity limit v w s sh k ok =
 pub lands_cancelled : (capacity limit : ℕ) (v : Session) (w : AbstractSession) (s : ℕ) → Refines v w
     → Invariant capacity limit w → s < 2 ^ 62
     → (let k = stream_at v.streams s in RefinesSome capacity limit
-    (record (with_kept_stream v s (record k { cancelled = true })) { decoder_stream = v.decoder_stream ++ written_decoder_instruction (Cancellation s) }))
+    (record (with_kept_stream v s (record k { cancelled = true })) { decoder_stream = v.decoder_stream
+        ++ written_decoder_instruction (Cancellation s) }))
 lands_cancelled capacity limit v w s sh k small =
     let kept = stream_at v.streams s in
     let st = stream_at w.streams s in
@@ -440,7 +466,8 @@ lands_cancelled capacity limit v w s sh k small =
     let lines = w.taken ++ w.in_flight in
     let more = written_decoder_instruction (Cancellation s) in
     let spelled =
-    one_joined SpellsDecoderInstruction more (Cancellation s) (decoder_instructions_spelled (Cancellation s) (omega (arith, small))) in
+    one_joined SpellsDecoderInstruction more (Cancellation s)
+        (decoder_instructions_spelled (Cancellation s) (omega (arith, small))) in
     let new : RefinesStream v.encoder_stream lines (record kept { cancelled = true }) (record st { cancelled = true }) =
     record {
       blocks_are = old.blocks_are;
@@ -462,7 +489,8 @@ lands_cancelled capacity limit v w s sh k small =
         sent_order = sh.sent_order;
         heard_lines = sh.heard_lines;
         decoder_stream =
-            carried_more SpellsDecoderInstruction v.decoder_stream more v.decoder_stream_taken sh.heard_lines w.decoder_in_flight (Cancellation s ∷ [])
+            carried_more SpellsDecoderInstruction v.decoder_stream more v.decoder_stream_taken sh.heard_lines
+                w.decoder_in_flight (Cancellation s ∷ [])
             sh.decoder_stream spelled;
         told_order = sh.told_order;
         streams_are =

@@ -14,7 +14,8 @@ use Rattle.qpack_safety.specs.AbstractSession.{abstract_start, after_steps}
 -- what the decoder answers for a block
 pub record DecodesExactly (w : AbstractSession) (b : AbstractBlock) : Type 0 where
   -- while it requires more insertions than were received, it waits, and tells how many it requires
-  pub missing : window_insert_count w.decoder < required_count b → reading w.decoder b.block ≡ Missing (required_count b)
+  pub missing : window_insert_count w.decoder < required_count b → reading w.decoder b.block
+      ≡ Missing (required_count b)
   -- after that it is read as exactly the fields that were handed to the encoder
   pub exact : required_count b ≤ window_insert_count w.decoder
       → reading w.decoder b.block ≡ Fields b.fields (nat_lt 0 (required_count b))
@@ -24,9 +25,11 @@ pub record DecodesExactly (w : AbstractSession) (b : AbstractBlock) : Type 0 whe
 -- what holds at every moment
 pub record Safe (capacity limit : ℕ) (w : AbstractSession) : Type 0 where
   -- the decoder refuses no instruction
-  pub takes_next : (i : EncoderInstruction) (rest : List EncoderInstruction) → w.in_flight ≡ i ∷ rest → IsOk (apply w.decoder i)
+  pub takes_next : (i : EncoderInstruction) (rest : List EncoderInstruction) → w.in_flight ≡ i ∷ rest
+      → IsOk (apply w.decoder i)
   -- the encoder refuses no decoder instruction
-  pub hears_next : (r : DecoderInstruction) (rest : List DecoderInstruction) → w.decoder_in_flight ≡ r ∷ rest → IsOk (apply_decoder_instruction w.encoder r)
+  pub hears_next : (r : DecoderInstruction) (rest : List DecoderInstruction) → w.decoder_in_flight ≡ r ∷ rest
+      → IsOk (apply_decoder_instruction w.encoder r)
   -- the next block of each stream that isn't cancelled is decoded exactly
   pub decodes : (s : ℕ) (b : AbstractBlock) → (stream_at w.streams s).cancelled ≡ false
       → slice_get (stream_at w.streams s).blocks (stream_at w.streams s).decoded ≡ Some b → DecodesExactly w b

@@ -3,13 +3,15 @@
 use Rattle.std.specs.Prelude.{ℕ, ◌+◌, ◌-◌, Bool, true, if◌then◌else◌, ◌&&◌, not, nat_eq, List, [], ◌∷◌, ◌++◌, length}
 use Rattle.std.specs.Prelude.{Option, None, Some, Result, Ok, Err}
 use Rattle.qpack_spec.specs.Field.{Field}
-use Rattle.qpack_spec.specs.Instruction.{EncoderInstruction, SetCapacity, DecoderInstruction, Acknowledgment, Cancellation}
+use Rattle.qpack_spec.specs.Instruction.{EncoderInstruction, SetCapacity, DecoderInstruction, Acknowledgment}
+use Rattle.qpack_spec.specs.Instruction.{Cancellation}
 use Rattle.qpack_spec.specs.Window.{Window, window_insert_count, TableRefusal, apply}
 use Rattle.qpack_spec.specs.History.{initial_history, window_of}
 use Rattle.qpack_spec.specs.Reading.{Block, Reading, reading, greatest_of}
 use Rattle.qpack_spec.specs.Table.{Table, empty_table, without_references, apply_decoder_instruction, with_capacity}
 use Rattle.qpack_spec.specs.Rule.{Draft, rule, block_of, committed_table}
-use Rattle.qpack_spec.specs.Session.{RequestStream, stream_at, with_stream, oldest_undecoded, awaits_acknowledgment, is_read, sum_of}
+use Rattle.qpack_spec.specs.Session.{RequestStream, stream_at, with_stream, oldest_undecoded, awaits_acknowledgment}
+use Rattle.qpack_spec.specs.Session.{is_read, sum_of}
 use Rattle.qpack_spec.specs.Session.{increments}
 
 -- a block that was written: the entries that it references, how many instructions were written by its end, and the
@@ -57,7 +59,7 @@ pub data SmallStep : Type 0 where
   Acknowledge : (stream : ℕ) → SmallStep
   Cancel : (stream : ℕ) → SmallStep
 
--- how a session begins: both tables empty, the capacity agreed
+-- how a session begins: both tables empty, the maximum capacity agreed
 abbrev pub abstract_start : ℕ → ℕ → AbstractSession
 abstract_start capacity limit =
     record {
@@ -89,7 +91,7 @@ after_encode w s fs d =
       });
     }
 
--- the session after a block was given up: its insertions stand, what it named is named no more
+-- the session after a block was given up: its insertions stand, what it referenced is referenced no more
 abbrev pub after_abandon : AbstractSession → Draft → AbstractSession
 after_abandon w d = record w { encoder = without_references d.table; in_flight = w.in_flight ++ d.instructions }
 
@@ -99,7 +101,8 @@ after_resize w n (Err e) = w
 after_resize w n (Ok t) = record w { encoder = t; in_flight = w.in_flight ++ SetCapacity n ∷ [] }
 
 -- the session after the decoder took an instruction, or refused it
-abbrev pub after_take : AbstractSession → EncoderInstruction → List EncoderInstruction → Result Window TableRefusal → AbstractSession
+abbrev pub after_take : AbstractSession → EncoderInstruction → List EncoderInstruction → Result Window TableRefusal
+    → AbstractSession
 after_take w i rest (Err e) = w
 after_take w i rest (Ok new) =
     record w {
@@ -135,7 +138,7 @@ next_reading w s =
     let st = stream_at w.streams s in
     if st.cancelled then None else read_block w.decoder (oldest_undecoded st)
 
--- a decoded dynamic block of the stream waits for its acknowledgment
+-- a decoded dynamic block of the stream is to be acknowledged
 abbrev pub waits_for_acknowledgment : AbstractStream → Bool
 waits_for_acknowledgment st = not st.cancelled && awaits_acknowledgment is_dynamic st
 

@@ -1,6 +1,7 @@
 -- A session in bytes refines a session of values: what the proof of the session theorem keeps. No contract names it.
 use Rattle.std.specs.Prelude.{◌≡◌, ℕ, ◌≤◌, List, [], ◌∷◌, ◌++◌, length}
-use Rattle.qpack_spec.specs.Instruction.{EncoderInstruction, DecoderInstruction, SpellsEncoderInstruction, SpellsDecoderInstruction}
+use Rattle.qpack_spec.specs.Instruction.{EncoderInstruction, DecoderInstruction, SpellsEncoderInstruction}
+use Rattle.qpack_spec.specs.Instruction.{SpellsDecoderInstruction}
 use Rattle.qpack_spec.specs.Stream.{Joined, Carried}
 use Rattle.qpack_spec.specs.BlockReading.{written_block}
 use Rattle.qpack_spec.specs.Table.{table_of}
@@ -15,7 +16,7 @@ Agrees P [] (y ∷ ys) = ⊥
 Agrees P (x ∷ xs) [] = ⊥
 Agrees P (x ∷ xs) (y ∷ ys) = P x y × Agrees P xs ys
 
--- so many first instructions end at a place of the bytes sent
+-- so many first instructions end at a position of the bytes sent
 pub record EndsAt (encoder_stream : List ℕ) (instructions : List EncoderInstruction) (place many : ℕ) : Type 0 where
   pub front : List ℕ
   pub rest : List ℕ
@@ -28,7 +29,8 @@ pub record EndsAt (encoder_stream : List ℕ) (instructions : List EncoderInstru
   pub joined : Joined SpellsEncoderInstruction front first
 
 -- a block in bytes is the written one
-pub record RefinesBlock (encoder_stream : List ℕ) (instructions : List EncoderInstruction) (k : KeptBlock) (b : AbstractBlock) : Type 0
+pub record RefinesBlock (encoder_stream : List ℕ) (instructions : List EncoderInstruction) (k : KeptBlock)
+    (b : AbstractBlock) : Type 0
   where
     pub bytes_are : k.bytes ≡ written_block b.block
     pub writable : IsWritableBlock b.block
@@ -37,7 +39,8 @@ pub record RefinesBlock (encoder_stream : List ℕ) (instructions : List Encoder
     pub ends : EndsAt encoder_stream instructions k.end b.end
 
 -- a stream's blocks are those, and it stands where that one does
-pub record RefinesStream (encoder_stream : List ℕ) (instructions : List EncoderInstruction) (k : KeptStream) (st : AbstractStream) :
+pub record RefinesStream (encoder_stream : List ℕ) (instructions : List EncoderInstruction) (k : KeptStream)
+    (st : AbstractStream) :
     Type 0 where
   pub blocks_are : Agrees (RefinesBlock encoder_stream instructions) k.blocks st.blocks
   pub decoded_is : k.decoded ≡ st.decoded
@@ -49,10 +52,12 @@ pub record Refines (v : Session) (w : AbstractSession) : Type 0 where
   pub encoder_is : v.encoder ≡ w.encoder
   pub decoder_is : v.decoder ≡ table_of w.decoder
   pub unreported_is : v.unreported ≡ w.unreported
-  pub encoder_stream : Carried EncoderInstruction SpellsEncoderInstruction v.encoder_stream v.encoder_stream_taken w.taken w.in_flight
+  pub encoder_stream : Carried EncoderInstruction SpellsEncoderInstruction v.encoder_stream v.encoder_stream_taken
+      w.taken w.in_flight
   pub sent_order : v.encoder_stream_taken ≤ v.encoder_stream_delivered
   pub heard_lines : List DecoderInstruction
-  pub decoder_stream : Carried DecoderInstruction SpellsDecoderInstruction v.decoder_stream v.decoder_stream_taken heard_lines w.decoder_in_flight
+  pub decoder_stream : Carried DecoderInstruction SpellsDecoderInstruction v.decoder_stream v.decoder_stream_taken
+      heard_lines w.decoder_in_flight
   pub told_order : v.decoder_stream_taken ≤ v.decoder_stream_delivered
   pub streams_are : (s : ℕ) → RefinesStream v.encoder_stream (w.taken ++ w.in_flight) (stream_at v.streams s)
       (stream_at w.streams s)

@@ -4,12 +4,14 @@
 use Rattle.std.specs.Prelude.{◌≡◌, ℕ, ◌+◌, ◌<◌, ◌≤◌, ◌⊎◌, Bool, false, if◌then◌else◌, nat_lt, nat_eq, List, [], ◌∷◌}
 use Rattle.std.specs.Prelude.{◌++◌, length, map, Option, Some, Ok, slice_get}
 use Rattle.qpack_spec.specs.Field.{Field, total_size}
-use Rattle.qpack_spec.specs.Instruction.{EncoderInstruction, DecoderInstruction, SpellsEncoderInstruction, SpellsDecoderInstruction, written_encoder_instructions}
+use Rattle.qpack_spec.specs.Instruction.{EncoderInstruction, DecoderInstruction, SpellsEncoderInstruction}
+use Rattle.qpack_spec.specs.Instruction.{SpellsDecoderInstruction, written_encoder_instructions}
 use Rattle.qpack_spec.specs.Stream.{Joined, Carried}
 use Rattle.qpack_spec.specs.History.{History, initial_history, window_of, Leads}
 use Rattle.qpack_spec.specs.Reading.{Fields, Missing, references_of, greatest_of}
 use Rattle.qpack_spec.specs.BlockReading.{reading_of_bytes, meaning_over_all, written_block}
-use Rattle.qpack_spec.specs.Table.{table_of, fields_in, window, insert_count, with_numbers, with_unacknowledged, below_limit}
+use Rattle.qpack_spec.specs.Table.{table_of, fields_in, window, insert_count, with_numbers, with_unacknowledged}
+use Rattle.qpack_spec.specs.Table.{below_limit}
 use Rattle.qpack_spec.specs.Rule.{rule, block_of}
 use Rattle.qpack_spec.specs.Session.{KeptBlock, stream_at, Session, Event, Encode, Decode, ToDecoder, ToEncoder}
 use Rattle.qpack_spec.specs.Session.{Outcome, Encoded, Decoded, MissingReferences, Delivered, Heard, Refused, NoMemory}
@@ -30,7 +32,8 @@ pub record WritesBlock (v : Session) (s : ℕ) (fields : List Field) (required :
   pub is_greatest : greatest_of (references_of (insert_count v.encoder) (rule v.encoder fields).lines) ≡ required
   pub handed_are : block.fields ≡ fields
   pub ends : block.end ≡ length v'.encoder_stream
-  pub stream_gains : v'.encoder_stream ≡ v.encoder_stream ++ written_encoder_instructions (rule v.encoder fields).instructions
+  pub stream_gains : v'.encoder_stream ≡ v.encoder_stream
+      ++ written_encoder_instructions (rule v.encoder fields).instructions
   pub keeps_references : v'.encoder.unacknowledged ≡ with_unacknowledged v.encoder.unacknowledged s
       (with_numbers [] (references_of (insert_count v.encoder) (rule v.encoder fields).lines))
 
@@ -41,7 +44,8 @@ pub record Lockstep (capacity : ℕ) (v : Session) : Type 0 where
   pub in_flight : List EncoderInstruction
   pub received : History
   pub made : History
-  pub carried : Carried EncoderInstruction SpellsEncoderInstruction v.encoder_stream v.encoder_stream_taken taken in_flight
+  pub carried : Carried EncoderInstruction SpellsEncoderInstruction v.encoder_stream v.encoder_stream_taken taken
+      in_flight
   pub taken_lead : Leads (initial_history capacity) taken received
   pub in_flight_lead : Leads received in_flight made
   pub decoder_is : v.decoder ≡ table_of (window_of received)
@@ -51,7 +55,8 @@ pub record Lockstep (capacity : ℕ) (v : Session) : Type 0 where
 pub record Accounts (v : Session) : Type 0 where
   pub heard : List DecoderInstruction
   pub in_flight : List DecoderInstruction
-  pub carried : Carried DecoderInstruction SpellsDecoderInstruction v.decoder_stream v.decoder_stream_taken heard in_flight
+  pub carried : Carried DecoderInstruction SpellsDecoderInstruction v.decoder_stream v.decoder_stream_taken heard
+      in_flight
   pub adds_up : v.encoder.known_received_count + increment_sum in_flight + v.unreported ≡ insert_count v.decoder
 
 -- of both streams no more is taken than was delivered, and no more delivered than written
@@ -81,20 +86,26 @@ pub record Advances (v v' : Session) : Type 0 where
 -- knows to be received. It is their number that the encoder holds against its limit, and no more are unreadable at the
 -- decoder, which received what is known to be received.
 pub record RunsByTheRule (capacity limit : ℕ) (events : List (Event × Outcome)) (v : Session) : Type 0 where
+  -- the events with their answers lead here
   pub run : Run (initial_session capacity limit) events v
+  -- what an encode answers next is its block's required insert count, and what it writes is the rule's
   pub writes : (s : ℕ) (fields : List Field) (required : ℕ) (v' : Session)
       → Step v (Encode s fields) (Encoded required) v'
       → WritesBlock v s fields required v'
+  -- each table is what its instructions make of an empty one, and within its capacity
   pub lockstep : Lockstep capacity v
   pub encoder_fits : total_size (fields_in v.encoder.live) ≤ v.encoder.capacity
   pub decoder_fits : total_size (fields_in v.decoder.live) ≤ v.decoder.capacity
+  -- the blocked blocks are within the limit; the encoder counts them so, and blocks one more only below the limit
   pub blocked : blocked_blocks v ≤ limit
   pub counts_blocked : length v.encoder.blocked ≡ blocked_blocks v
-  pub unreadable_within : unreadable_blocks v ≤ blocked_blocks v
-  pub may_block_more : below_limit v.encoder ≡ nat_lt (blocked_blocks v) limit
   pub limit_is : v.encoder.limit ≡ limit
+  pub may_block_more : below_limit v.encoder ≡ nat_lt (blocked_blocks v) limit
+  pub unreadable_within : unreadable_blocks v ≤ blocked_blocks v
+  -- what the encoder knows to be received was received, and all else that was is accounted for
   pub received : v.encoder.known_received_count ≤ insert_count v.decoder
   pub accounts : Accounts v
+  -- both streams are in order, and go only forward
   pub ordered : IsOrdered v
   pub advances : (e : Event) (o : Outcome) (v' : Session) → Step v e o v' → Advances v v'
 
@@ -140,8 +151,8 @@ decodes_on s (p ∷ ps) = decode_of s p.0 p.1 + decodes_on s ps
 abbrev pub next_encode : ℕ → List (Event × Outcome) → Option AnsweredEncode
 next_encode s events = slice_get (encodes_on s events) (decodes_on s events)
 
--- an answer with fields: those that were handed to the next encode of the stream, the sum of their sizes, held at 2^64
--- - 1, and whether any entry is required
+-- an answer with fields: those that were handed to the encode that wrote the stream's next block, the sum of their
+-- sizes, held at 2^64 - 1, and whether any entry is required
 pub record AnswersFields (events : List (Event × Outcome)) (s : ℕ) (fields : List Field) (size : ℕ)
     (is_dynamic : Bool) : Type 0 where
   pub encode : AnsweredEncode
@@ -162,12 +173,15 @@ pub record DecodesWhatWasHanded (capacity : ℕ) (events : List (Event × Outcom
   pub answers : (s : ℕ) (fields : List Field) (size : ℕ) (is_dynamic : Bool) (v' : Session)
       → Step v (Decode s) (Decoded fields size is_dynamic) v'
       → AnswersFields events s fields size is_dynamic
+  -- the blocks of a stream are those of its encodes, and as many are decoded as decodes answered fields
   pub blocks_are : (s : ℕ) → map (λ b. encode_behind b) (stream_at v.streams s).blocks ≡ encodes_on s events
   pub decoded_are : (s : ℕ) → (stream_at v.streams s).decoded ≡ decodes_on s events
+  -- the bytes of the next block, and the lines of every block
   pub reads : (s : ℕ) (b : KeptBlock) → (stream_at v.streams s).cancelled ≡ false → next_block v s ≡ Some b
       → b.required ≤ insert_count v.decoder
       → reading_of_bytes (window v.decoder) b.bytes ≡ Fields b.fields (nat_lt 0 b.required)
-  pub meanings : (instructions : List EncoderInstruction) (all : History) → Joined SpellsEncoderInstruction v.encoder_stream instructions
+  pub meanings : (instructions : List EncoderInstruction) (all : History)
+      → Joined SpellsEncoderInstruction v.encoder_stream instructions
       → Leads (initial_history capacity) instructions all
       → (s position : ℕ) (b : KeptBlock) → slice_get (stream_at v.streams s).blocks position ≡ Some b
       → meaning_over_all all b.bytes b.required ≡ Ok b.fields
@@ -189,11 +203,12 @@ pub data DecodeAnswer (events : List (Event × Outcome)) (v : Session) (s : ℕ)
 -- were delivered by a delivery that was answered, whatever happened since.
 pub record WaitsOnlyForInsertions (events : List (Event × Outcome)) (v : Session) : Type 0 where
   pub answers : (s : ℕ) (o : Outcome) (v' : Session) → Step v (Decode s) o v' → DecodeAnswer events v s o
+  -- once a delivery is answered that reached the block's end, its decode never again answers that anything is missing
   pub never_again : (n received : ℕ) (delivered : Session) → Step v (ToDecoder n) (Delivered received) delivered
       → (later : List (Event × Outcome)) (u : Session) → Run delivered later u
       → (s : ℕ) (b : KeptBlock) → next_block u s ≡ Some b → b.end ≤ delivered.encoder_stream_delivered
       → (required : ℕ) (u' : Session) → Step u (Decode s) (MissingReferences required) u' → ⊥
-  -- such a delivery takes the instructions of each block whose end it reached, and behind them nothing is missing
+  -- such a delivery takes the instructions of each block whose end it reached, and behind those nothing is missing
   pub takes : (n received : ℕ) (v' : Session) → Step v (ToDecoder n) (Delivered received) v'
       → (s position : ℕ) (b : KeptBlock) → slice_get (stream_at v'.streams s).blocks position ≡ Some b
       → b.end ≤ v'.encoder_stream_delivered → b.end ≤ v'.encoder_stream_taken

@@ -14,7 +14,8 @@ use Rattle.qpack_spec.specs.Stream.{Joined}
 use Rattle.qpack_spec.specs.Prefix.{Prefix, PrefixFault, SpellsPrefix, sign_bit, written_prefix, prefix_at, read_prefix}
 use Rattle.qpack_spec.specs.Window.{Window, maximum_capacity, window_insert_count}
 use Rattle.qpack_spec.specs.History.{History, whole_window}
-use Rattle.qpack_spec.specs.Reading.{Fault, BadForm, line_field, prepend_field, fields_of, Block, reading_behind, reading}
+use Rattle.qpack_spec.specs.Reading.{Fault, BadForm, line_field, prepend_field, fields_of, Block, reading_behind}
+use Rattle.qpack_spec.specs.Reading.{reading}
 use Rattle.qpack_spec.specs.BlockReading.{base_behind, meaning_over_all, StopsAt, in_bytes, in_line, ReadsSome, ReadsTo}
 use Rattle.qpack_spec.specs.BlockReading.{or_bad_form, fields_at, fields_in_bytes, bytes_behind, reading_of_bytes}
 use Rattle.qpack_spec.specs.BlockReading.{written_block}
@@ -40,7 +41,8 @@ followed_is (Err e) rs = refl
 
 -- one line in front
 step_at : (steps : ℕ) (w : Window) (base : ℕ) (encoding more : List ℕ) (l : Line) → SpellsLine encoding l
-    → fields_at (suc steps) w base (encoding ++ more) ≡ prepend_field (line_field w base l) (fields_at steps w base more)
+    → fields_at (suc steps) w base (encoding ++ more)
+        ≡ prepend_field (line_field w base l) (fields_at steps w base more)
 unfolding fields_at
 step_at steps w base encoding more l s =
     let again : form_at line_form (encoding ++ more) ≡ Ok (l, more) = form_again line_form encoding more l s in
@@ -48,7 +50,8 @@ step_at steps w base encoding more l s =
     let again' = rw e at again in
     rw (e, again') (followed_is (line_field w base l) (fields_at steps w base more))
 
-spelled_length : (encoding more : List ℕ) (l : Line) → SpellsLine encoding l → length more < length (encoding ++ more)
+pub spelled_length : (encoding more : List ℕ) (l : Line) → SpellsLine encoding l → length more
+    < length (encoding ++ more)
 spelled_length encoding more l s = omega (arith, length-append encoding more, ap length s.begins)
 
 no_bytes : (steps : ℕ) (w : Window) (base : ℕ) → fields_at steps w base [] ≡ Ok []
@@ -145,7 +148,8 @@ fields_found (suc steps) w base (b ∷ bytes) h =
     subst (ReadsTo w base (b ∷ bytes)) (sym (next_is steps w base b bytes))
     (go (λ x le. fields_found steps w base x le) (form_at line_form (b ∷ bytes)) refl)
   where
-    line : (l : Line) (rest encoding : List ℕ) → b ∷ bytes ≡ encoding ++ rest → SpellsLine encoding l → (r : Result Field Fault)
+    line : (l : Line) (rest encoding : List ℕ) → b ∷ bytes ≡ encoding ++ rest → SpellsLine encoding l
+        → (r : Result Field Fault)
         → line_field w base l ≡ r → ReadsTo w base rest (fields_at steps w base rest)
         → ReadsTo w base (b ∷ bytes) (prepend_field r (fields_at steps w base rest))
     line l rest encoding p s (Err e) q k = stops_at w base b bytes e (in_line encoding rest l p s q)
@@ -256,10 +260,12 @@ prefix_same : (p : Prefix) (sign : Bool) → p.sign ≡ sign
 prefix_same p sign e =
     ap (λ (b : Bool). let q : Prefix = record { count = p.count; sign = b; delta = p.delta } in q) (sym e)
 
-pub prefix_again : (encoding rest : List ℕ) (p : Prefix) → SpellsPrefix encoding p → prefix_at (encoding ++ rest) ≡ Ok (p, rest)
+pub prefix_again : (encoding rest : List ℕ) (p : Prefix) → SpellsPrefix encoding p → prefix_at (encoding ++ rest)
+    ≡ Ok (p, rest)
 unfolding prefix_at
 prefix_again encoding rest p s =
-    let e : encoding ++ rest ≡ s.head ++ (s.tail ++ rest) = ap (λ x. x ++ rest) s.parts ∙ append_assoc s.head s.tail rest in
+    let e : encoding ++ rest ≡ s.head ++ (s.tail ++ rest) = ap (λ x. x ++ rest) s.parts
+        ∙ append_assoc s.head s.tail rest in
     rw (e, index_again 8 s.head (s.tail ++ rest) p.count s.count, index_again 7 s.tail rest p.delta (s.sign, s.delta))
     (ap (λ (q : Prefix). let r : Result (Prefix × List ℕ) FormFault = Ok (q, rest) in
     r) (prefix_same p (nat_eq s.sign 1) s.is_sign))

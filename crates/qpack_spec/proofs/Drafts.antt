@@ -12,20 +12,24 @@ use Rattle.qpack_spec.specs.Line.{Line, IndexedStatic, IndexedDynamic, IndexedPo
 use Rattle.qpack_spec.specs.Line.{NamedPostBase, Literal}
 use Rattle.qpack_spec.specs.Window.{Window, absolute_entry, window_after, effect, Inserts}
 use Rattle.qpack_spec.specs.History.{History, window_of, whole_window, history_after, Leads}
-use Rattle.qpack_spec.specs.Reading.{Fault, field_with_value, static_field, line_field, fields_of, references_of_line, references_of}
-use Rattle.qpack_spec.specs.Table.{Entry, UnacknowledgedBlock, Table, sent_entry, fields_in, window, insert_count, has_number, with_number}
-use Rattle.qpack_spec.specs.Table.{with_reference, can_evict, eviction_count_for, has_room, below_limit, may_reference, with_entry}
+use Rattle.qpack_spec.specs.Reading.{Fault, field_with_value, static_field, line_field, fields_of, references_of_line}
+use Rattle.qpack_spec.specs.Reading.{references_of}
+use Rattle.qpack_spec.specs.Table.{Entry, UnacknowledgedBlock, Table, sent_entry, fields_in, window, insert_count}
+use Rattle.qpack_spec.specs.Table.{has_number, with_number}
+use Rattle.qpack_spec.specs.Table.{with_reference, can_evict, eviction_count_for, has_room, below_limit, may_reference}
+use Rattle.qpack_spec.specs.Table.{with_entry}
 use Rattle.qpack_spec.specs.Table.{newest_index, without_references}
-use Rattle.qpack_spec.specs.Rule.{Draft, with_line, with_referencing_line, instruction_for, entries_left, with_new_entry, name_reference_line}
+use Rattle.qpack_spec.specs.Rule.{Draft, with_line, with_referencing_line, instruction_for, entries_left}
+use Rattle.qpack_spec.specs.Rule.{with_new_entry, name_reference_line}
 use Rattle.qpack_spec.specs.Rule.{literal_by_entry, literal, insertion_or_literal, by_entry, by_static, rule_field}
 use Rattle.qpack_spec.specs.Rule.{rule_fields, empty_draft, rule}
-use Rattle.qpack_spec.proofs.Lists.{every_append, every_drop, every_weaker, get_drop, get_append_end}
+use Rattle.qpack_spec.proofs.Lists.{every_all, every_append, every_drop, every_weaker, get_drop, get_append_end}
 use Rattle.qpack_spec.proofs.Windows.{Sound, leads_append, leads_sound, window_grown, grows_one, Kept, kept_growing}
 use Rattle.qpack_spec.proofs.Windows.{eviction_count_push}
 use Rattle.qpack_spec.proofs.References.{KeepsReferences, refers_plain, refers_named, refers_inserts, refers_blank}
 use Rattle.qpack_spec.proofs.References.{static_names, static_name_names, literal_names, indexed_names}
 use Rattle.qpack_spec.proofs.References.{named_line_names}
-use Rattle.qpack_spec.proofs.Readings.{entry_relative, entry_post_base, fields_kept, fields_push}
+use Rattle.qpack_spec.proofs.Readings.{static_means, entry_relative, entry_post_base, fields_kept, fields_push}
 use Rattle.qpack_spec.proofs.Places.{FoundEntry, newest_found, static_found, static_name_found, same_name, same_field}
 use Rattle.qpack_spec.proofs.Places.{named_field, instruction_effect, window_entered, IsFree, evicted_free}
 use Rattle.qpack_spec.proofs.Places.{every_track, above_dropped, opened_above, drops_received}
@@ -74,10 +78,6 @@ live_whole t h i g e q =
     let n : t.dropped + i + 1 - 0 - 1 ≡ h.dropped + i = omega arith in
     rw (lt-ltb 0 (t.dropped + i + 1) (omega arith), n, ← get_drop, ← l) q
 
-every_all : {X : Type 0} (P : X → Type 0) → ((x : X) → P x) → (xs : List X) → AllByRecursion P xs
-every_all P f [] = tt
-every_all P f (x ∷ xs) = (f x, every_all P f xs)
-
 -- a line that names nothing
 drafting_writes : (t0 : Table) (h0 : History) (done : List Field) (d : Draft) (l : Line) (f : Field)
     (k : Drafting t0 h0 done d)
@@ -102,7 +102,8 @@ keeps_naming h t a k = record { shares = k.shares; marked = k.marked; behind = k
 -- a line that names a live entry
 drafting_names : (t0 : Table) (h0 : History) (done : List Field) (d : Draft) (a : ℕ) (l : Line) (f : Field)
     (k : Drafting t0 h0 done d)
-    → references_of_line (insert_count t0) l ≡ a ∷ [] → line_field (whole_window k.history) (insert_count t0) l ≡ Ok f → IsLive d.table a
+    → references_of_line (insert_count t0) l ≡ a ∷ [] → line_field (whole_window k.history) (insert_count t0) l ≡ Ok f
+        → IsLive d.table a
     → MayStand t0 a → Drafting t0 h0 (done ++ f ∷ []) (with_referencing_line d a l)
 unfolding with_reference
 drafting_names t0 h0 done d a l f k referenced m live may =
@@ -116,14 +117,10 @@ drafting_names t0 h0 done d a l f k referenced m live may =
       may = every_track (MayStand t0) d.table.referenced a k.may may;
     }
 
-static_ok : (i : ℕ) (g : Field) → slice_get static_table i ≡ Some g → static_field i ≡ Ok g
-unfolding static_field
-static_ok i g e = rw e refl
-
 valued_found : (r : Result Field Fault) (g f : Field) → r ≡ Ok g → f.name ≡ g.name → field_with_value f.value r ≡ Ok f
 valued_found r g f e n = rw e (ap (λ (x : Field). let q : Result Field Fault = Ok x in q) (named_field f g n))
 
--- what may be named stays within the limit
+-- what may be referenced stays within the limit
 may_stand : (t0 : Table) (h0 : History) (done : List Field) (d : Draft) (a : ℕ) → Drafting t0 h0 done d
     → may_reference d.table a ≡ true → MayStand t0 a
 unfolding may_reference
@@ -132,7 +129,8 @@ may_stand t0 h0 done d a k h = pick (or_cases (below_limit d.table) (nat_le a d.
     pick : (below_limit d.table ≡ true) ⊎ (nat_le a d.table.known_received_count ≡ true) → MayStand t0 a
     pick (inl t) = let lt : length d.table.blocked < d.table.limit =
         ltb-true _ _ t in inl (rw (← k.references.blocked, ← k.references.limit) lt)
-    pick (inr t) = let le : a ≤ d.table.known_received_count = leb-true _ _ t in inr (rw (← k.references.known_received_count) le)
+    pick (inr t) = let le : a
+        ≤ d.table.known_received_count = leb-true _ _ t in inr (rw (← k.references.known_received_count) le)
 
 -- the new table of an insertion
 pub record Room (t : Table) (f : Field) : Type 0 where
@@ -155,7 +153,8 @@ count_after : (t : Table) (f : Field) → eviction_count_for t f ≤ length t.li
     → insert_count (with_entry t (sent_entry f)) ≡ insert_count t + 1
 unfolding with_entry
 count_after t f h =
-    omega (arith, length-drop (eviction_count_for t f) (t.live ++ sent_entry f ∷ []), length-append t.live (sent_entry f ∷ []))
+    omega (arith, length-drop (eviction_count_for t f) (t.live ++ sent_entry f ∷ []), length-append t.live
+        (sent_entry f ∷ []))
 
 dropped_after : (t : Table) (f : Field) → (with_entry t (sent_entry f)).dropped ≡ t.dropped + eviction_count_for t f
 unfolding with_entry
@@ -166,7 +165,8 @@ live_after : (t : Table) (f : Field) (xs : List ℕ) → eviction_count_for t f 
     → ((x : ℕ) → t.dropped < x → x ≤ t.dropped + eviction_count_for t f → has_number x xs ≡ false)
     → AllByRecursion (IsLive t) xs → AllByRecursion (IsLive (with_entry t (sent_entry f))) xs
 live_after t f xs b none h =
-    every_weaker (λ a. (t.dropped + eviction_count_for t f < a) × (a ≤ insert_count t)) (IsLive (with_entry t (sent_entry f)))
+    every_weaker (λ a. (t.dropped + eviction_count_for t f < a) × (a ≤ insert_count t))
+        (IsLive (with_entry t (sent_entry f)))
     (λ a r. (rw (dropped_after t f) r.0, omega (arith, count_after t f b, r.1)))
     xs (above_dropped t.dropped (insert_count t) (eviction_count_for t f) xs none h)
 
@@ -174,9 +174,11 @@ opened_after : (t : Table) (f : Field) → eviction_count_for t f ≤ length t.l
     → ((x : ℕ) → t.dropped < x → x ≤ t.dropped + eviction_count_for t f
     → list_any (λ (b : UnacknowledgedBlock). has_number x b.entries) t.unacknowledged ≡ false)
     → AllByRecursion (λ (b : UnacknowledgedBlock). AllByRecursion (IsLive t) b.entries) t.unacknowledged
-    → AllByRecursion (λ (b : UnacknowledgedBlock). AllByRecursion (IsLive (with_entry t (sent_entry f))) b.entries) t.unacknowledged
+    → AllByRecursion (λ (b : UnacknowledgedBlock). AllByRecursion
+        (IsLive (with_entry t (sent_entry f))) b.entries) t.unacknowledged
 opened_after t f b none h =
-    every_weaker (λ (x : UnacknowledgedBlock). AllByRecursion (λ a. (t.dropped + eviction_count_for t f < a) × (a ≤ insert_count t)) x.entries)
+    every_weaker (λ (x : UnacknowledgedBlock). AllByRecursion
+        (λ a. (t.dropped + eviction_count_for t f < a) × (a ≤ insert_count t)) x.entries)
     (λ (x : UnacknowledgedBlock). AllByRecursion (IsLive (with_entry t (sent_entry f))) x.entries)
     (λ x r. every_weaker (λ a. (t.dropped + eviction_count_for t f < a)
     × (a ≤ insert_count t)) (IsLive (with_entry t (sent_entry f)))
@@ -201,7 +203,8 @@ keeps_inserted h t f s k r =
     }
 
 -- the new entry among all insertions
-new_whole : (h : History) (f : Field) → absolute_entry (whole_window (history_after h (Inserts f))) (length h.inserted + 1) ≡ Some f
+new_whole : (h : History) (f : Field)
+    → absolute_entry (whole_window (history_after h (Inserts f))) (length h.inserted + 1) ≡ Some f
 unfolding absolute_entry whole_window history_after
 new_whole h f =
     let n : length h.inserted + 1 - 0 - 1 ≡ length h.inserted = omega arith in
@@ -247,7 +250,8 @@ drafting_inserts t0 h0 done d f s0 k blocked r =
     let none : (x : ℕ) → t.dropped < x → x ≤ t.dropped + eviction_count_for t f → IsFree t x =
     evicted_free t (eviction_count_for t f) r.drops b k.table.marked in
     let same_count : insert_count t ≡ length h.inserted = count_inserted t h k.table.shares s in
-    let new : absolute_entry (whole_window (history_after h (Inserts f))) (insert_count t + 1) ≡ Some f = rw same_count (new_whole h f) in
+    let new : absolute_entry (whole_window (history_after h (Inserts f))) (insert_count t + 1)
+        ≡ Some f = rw same_count (new_whole h f) in
     let same = same_rest t f in
     let live : AllByRecursion (IsLive (with_entry t (sent_entry f))) (with_number t.referenced (insert_count t + 1)) =
     every_track (IsLive (with_entry t (sent_entry f))) t.referenced (insert_count t + 1)
@@ -255,20 +259,24 @@ drafting_inserts t0 h0 done d f s0 k blocked r =
     (rw (dropped_after t f) (omega arith), omega (arith, count_after t f b)) in
     record {
       history = history_after h (Inserts f);
-      leads = leads_append h0 d.instructions (instruction_for f (entries_left t f) ∷ []) h (history_after h (Inserts f)) k.leads
+      leads = leads_append h0 d.instructions (instruction_for f (entries_left t f) ∷ []) h
+          (history_after h (Inserts f)) k.leads
           (Inserts f, one_effect t h f k.table.shares b r, refl);
       table = keeps_naming (history_after h (Inserts f)) (with_entry t (sent_entry f)) (insert_count t + 1)
           (keeps_inserted h t f s k.table r);
       references = refers_inserts t0 d f k.references;
       referenced = rw same.now_named (live_same (with_entry t (sent_entry f))
-          (with_reference (with_entry t (sent_entry f)) (insert_count t + 1)) (with_number t.referenced (insert_count t + 1)) same.same_dropped
+          (with_reference (with_entry t (sent_entry f)) (insert_count t + 1))
+              (with_number t.referenced (insert_count t + 1)) same.same_dropped
           same.same_live live);
-      means = fields_push (whole_window (history_after h (Inserts f))) (insert_count t0) d.lines (IndexedPostBase (insert_count t - insert_count t0)) done f
+      means = fields_push (whole_window (history_after h (Inserts f))) (insert_count t0) d.lines
+          (IndexedPostBase (insert_count t - insert_count t0)) done f
           (fields_kept (whole_window h) (whole_window (history_after h (Inserts f))) (insert_count t0) d.lines done
           (every_all (Kept (whole_window h) (whole_window (history_after h (Inserts f))))
           (λ a. kept_growing h (history_after h (Inserts f)) a (grows_one h (Inserts f)))
           (references_of (insert_count t0) d.lines)) k.means)
-          (post_line (whole_window (history_after h (Inserts f))) (insert_count t0) (insert_count t) f k.references.base new);
+          (post_line (whole_window (history_after h (Inserts f))) (insert_count t0)
+              (insert_count t) f k.references.base new);
       may = rw same.now_named (every_track (MayStand t0) t.referenced (insert_count t + 1) k.may (inl blocked));
     }
 
@@ -281,12 +289,12 @@ indexed_line w base a f le e = let q : base - (base - a) ≡ a =
 static_line : (w : Window) (base i : ℕ) (f : Field) → slice_get static_table i ≡ Some f
     → line_field w base (IndexedStatic i) ≡ Ok f
 unfolding line_field
-static_line w base i f e = static_ok i f e
+static_line w base i f e = static_means i f e
 
 static_name_line : (w : Window) (base i : ℕ) (f g : Field) → slice_get static_table i ≡ Some g → f.name ≡ g.name
     → line_field w base (NamedStatic i f.value) ≡ Ok f
 unfolding line_field
-static_name_line w base i f g e q = valued_found (static_field i) g f (static_ok i g e) q
+static_name_line w base i f g e q = valued_found (static_field i) g f (static_means i g e) q
 
 literal_line : (w : Window) (base : ℕ) (f : Field) → line_field w base (Literal f.name f.value) ≡ Ok f
 unfolding line_field
@@ -308,7 +316,8 @@ line_by_name w base a f g e q =
 found_whole : (t : Table) (h : History) (p : Field → Bool) (a : ℕ) → window t ≡ window_of h → (at : FoundEntry t p a)
     → absolute_entry (whole_window h) a ≡ Some at.item
 found_whole t h p a e at =
-    subst (λ (x : ℕ). absolute_entry (whole_window h) x ≡ Some at.item) at.index (live_whole t h at.place at.item e at.there)
+    subst (λ (x : ℕ). absolute_entry (whole_window h) x ≡ Some at.item) at.index
+        (live_whole t h at.place at.item e at.there)
 
 drafting_literal_by_entry : (t0 : Table) (h0 : History) (done : List Field) (d : Draft) (f : Field)
     → Drafting t0 h0 done d
@@ -322,9 +331,11 @@ drafting_literal_by_entry t0 h0 done d f k (Some a) e =
     let means =
     line_by_name (whole_window k.history) (insert_count t0) a f at.item
     (found_whole d.table k.history (has_name f.name) a k.table.shares at) (same_name f.name at.item at.passes) in
-    cond_both (may_reference d.table a) (with_referencing_line d a (name_reference_line (insert_count t0) a f)) (with_line d (Literal f.name f.value))
+    cond_both (may_reference d.table a) (with_referencing_line d a (name_reference_line (insert_count t0) a f))
+        (with_line d (Literal f.name f.value))
     (Drafting t0 h0 (done ++ f ∷ []))
-    (λ t. drafting_names t0 h0 done d a (name_reference_line (insert_count t0) a f) f k (named_line_names (insert_count t0) a f) means
+    (λ t. drafting_names t0 h0 done d a (name_reference_line (insert_count t0) a f) f k
+        (named_line_names (insert_count t0) a f) means
     (at.above, at.within) (may_stand t0 h0 done d a k t))
     (λ _. drafting_writes t0 h0 done d (Literal f.name f.value) f k (literal_names (insert_count t0) f.name f.value)
     (literal_line (whole_window k.history) (insert_count t0) f))
@@ -350,25 +361,29 @@ drafting_insertion_or_literal t0 h0 done d f s k =
 
 drafting_by_entry : (t0 : Table) (h0 : History) (done : List Field) (d : Draft) (f : Field) → Sound h0
     → Drafting t0 h0 done d
-    → (o : Option ℕ) → newest_index d.table (is_field f) ≡ o → Drafting t0 h0 (done ++ f ∷ []) (by_entry (insert_count t0) d f o)
+    → (o : Option ℕ) → newest_index d.table (is_field f) ≡ o
+        → Drafting t0 h0 (done ++ f ∷ []) (by_entry (insert_count t0) d f o)
 drafting_by_entry t0 h0 done d f s k None e = drafting_insertion_or_literal t0 h0 done d f s k
 drafting_by_entry t0 h0 done d f s k (Some a) e =
     let at = newest_found d.table (is_field f) a e in
     let there : absolute_entry (whole_window k.history) a ≡ Some f =
     found_whole d.table k.history (is_field f) a k.table.shares at
     ∙ ap Some (sym (same_field f at.item at.passes)) in
-    cond_both (nat_le a (insert_count t0) && may_reference d.table a) (with_referencing_line d a (IndexedDynamic (insert_count t0 - a)))
+    cond_both (nat_le a (insert_count t0) && may_reference d.table a)
+        (with_referencing_line d a (IndexedDynamic (insert_count t0 - a)))
     (insertion_or_literal (insert_count t0) d f) (Drafting t0 h0 (done ++ f ∷ []))
     (λ t. let p = and_parts (nat_le a (insert_count t0)) (may_reference d.table a) t in
     let le : a ≤ insert_count t0 = leb-true _ _ p.0 in
     drafting_names t0 h0 done d a (IndexedDynamic (insert_count t0 - a)) f k (indexed_names (insert_count t0) a le)
-    (indexed_line (whole_window k.history) (insert_count t0) a f le there) (at.above, at.within) (may_stand t0 h0 done d a k p.1))
+    (indexed_line (whole_window k.history) (insert_count t0) a f le there) (at.above, at.within)
+        (may_stand t0 h0 done d a k p.1))
     (λ _. drafting_insertion_or_literal t0 h0 done d f s k)
 
 drafting_by_static : (t0 : Table) (h0 : History) (done : List Field) (d : Draft) (f : Field) → Sound h0
     → Drafting t0 h0 done d
     → (o : Option ℕ) → static_index f ≡ o → Drafting t0 h0 (done ++ f ∷ []) (by_static (insert_count t0) d f o)
-drafting_by_static t0 h0 done d f s k None e = drafting_by_entry t0 h0 done d f s k (newest_index d.table (is_field f)) refl
+drafting_by_static t0 h0 done d f s k None e = drafting_by_entry t0 h0 done d f s k
+    (newest_index d.table (is_field f)) refl
 drafting_by_static t0 h0 done d f s k (Some i) e =
     drafting_writes t0 h0 done d (IndexedStatic i) f k (static_names (insert_count t0) i)
     (static_line (whole_window k.history) (insert_count t0) i f (static_found f i e))
@@ -405,7 +420,7 @@ drafting_blank t0 h0 k =
     }
 
 -- THE RULE: the block means the fields under all insertions, its instructions lead from the old table to the new one,
--- each entry that it names is live, and may be named
+-- each entry that it names is live, and may be referenced
 pub rule_drafts : (t : Table) (h : History) (fs : List Field) → Sound h → KeepsTable h t → Drafting t h fs (rule t fs)
 unfolding rule
 rule_drafts t h fs s k = drafting_fields t h [] (empty_draft t) fs s (drafting_blank t h k)

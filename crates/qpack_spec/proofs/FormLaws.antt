@@ -38,7 +38,8 @@ nothing_cut (NameAndValue n make) = refl
 spelled_some : {L : Type 0} (form : Form L) (l : L) → SpellsForm form [] l → ⊥
 spelled_some form l s = let a = made_again form [] [] l s in let b = nothing_made form in absurd cc
 
-whole_string : (n : ℕ) (encoding : List ℕ) (f : StringFault) → RefusesString n encoding f → is_cut (BadString f) ≡ true → ⊥
+whole_string : (n : ℕ) (encoding : List ℕ) (f : StringFault) → RefusesString n encoding f → is_cut (BadString f) ≡ true
+    → ⊥
 whole_string n encoding EndsEarly r c = r
 whole_string n encoding LengthOverflows r c = absurd cc
 whole_string n encoding (BadHuffman g) r c = absurd cc
@@ -79,7 +80,8 @@ unfolding form_at
 form_takes form_of [] l rest e = absurd cc
 form_takes {L} form_of (b ∷ bs) l rest e = go (form_of b) refl e
   where
-    named : (form : Form L) → form_of b ≡ Some form → (encoding : List ℕ) → b ∷ bs ≡ encoding ++ rest → SpellsForm form encoding l
+    named : (form : Form L) → form_of b ≡ Some form → (encoding : List ℕ) → b ∷ bs ≡ encoding ++ rest
+        → SpellsForm form encoding l
         → TakesSpelling L form_of (b ∷ bs) l rest
     named form q [] p s = absurd (spelled_some form l s)
     named form q (c ∷ cs) p s =
@@ -102,7 +104,8 @@ form_takes {L} form_of (b ∷ bs) l rest e = go (form_of b) refl e
     go None q h = absurd cc
     go (Some form) q h = let t = made_takes form (b ∷ bs) l rest h in named form q t.encoding t.parts t.spells
 
-pub form_again : {L : Type 0} (form_of : ℕ → Option (Form L)) (encoding rest : List ℕ) (l : L) → Spells L form_of encoding l
+pub form_again : {L : Type 0} (form_of : ℕ → Option (Form L)) (encoding rest : List ℕ) (l : L)
+    → Spells L form_of encoding l
     → form_at form_of (encoding ++ rest) ≡ Ok (l, rest)
 unfolding form_at
 form_again form_of encoding rest l s =
@@ -169,7 +172,8 @@ reads_form_refusals form_of bytes e c = (
   λ b. ap (form_at form_of) b.parts ∙ form_refused form_of b.encoding b.rest e b.holds,
 )
 
-refuses_whole : {L : Type 0} (form_of : ℕ → Option (Form L)) (encoding : List ℕ) (e : FormFault) → Refuses L form_of encoding e
+refuses_whole : {L : Type 0} (form_of : ℕ → Option (Form L)) (encoding : List ℕ) (e : FormFault)
+    → Refuses L form_of encoding e
     → is_cut e ≡ false
 refuses_whole form_of encoding e r = go (is_cut e) refl
   where

@@ -1,4 +1,4 @@
--- Worked rows of lines, instructions, decoder_instructions and prefixes in bytes, computed by the definitions.
+-- Worked rows of lines, instructions, decoder instructions and prefixes in bytes, computed by the definitions.
 use Rattle.std.proofs.Common.{ℕ, ◌-◌, ◌^◌, ◌≡◌, true, false, List, [], ◌∷◌, None, Some, Result, Ok, Err, refl}
 use Rattle.std.specs.Prelude.{codes, negsuc}
 use Rattle.qpack_spec.specs.Integer.{written_groups, groups_at, integer_at, written_integer, Overflow, UnexpectedEnd}
@@ -11,19 +11,25 @@ use Rattle.qpack_spec.specs.Form.{Index, IndexAndValue, NameAndValue, FormFault,
 use Rattle.qpack_spec.specs.Form.{form_at}
 use Rattle.qpack_spec.specs.Line.{Line, IndexedStatic, IndexedDynamic, IndexedPostBase, NamedStatic, NamedDynamic}
 use Rattle.qpack_spec.specs.Line.{NamedPostBase, Literal, line_form, written_line, written_lines}
-use Rattle.qpack_spec.specs.Instruction.{EncoderInstruction, InsertStaticName, InsertDynamicName, InsertLiteralName, Duplicate}
-use Rattle.qpack_spec.specs.Instruction.{SetCapacity, DecoderInstruction, Acknowledgment, Cancellation, Increment, encoder_instruction_form}
-use Rattle.qpack_spec.specs.Instruction.{decoder_instruction_form, written_encoder_instruction, written_encoder_instructions, written_decoder_instruction}
+use Rattle.qpack_spec.specs.Instruction.{EncoderInstruction, InsertStaticName, InsertDynamicName, InsertLiteralName}
+use Rattle.qpack_spec.specs.Instruction.{Duplicate}
+use Rattle.qpack_spec.specs.Instruction.{SetCapacity, DecoderInstruction, Acknowledgment, Cancellation, Increment}
+use Rattle.qpack_spec.specs.Instruction.{encoder_instruction_form}
+use Rattle.qpack_spec.specs.Instruction.{decoder_instruction_form, written_encoder_instruction}
+use Rattle.qpack_spec.specs.Instruction.{written_encoder_instructions, written_decoder_instruction}
 use Rattle.qpack_spec.specs.Instruction.{written_decoder_instructions}
 use Rattle.qpack_spec.specs.Prefix.{Prefix, OutOfRange, BelowZero, prefix_for, required_at, read_required, read_base}
 use Rattle.qpack_spec.specs.Prefix.{read_prefix, written_prefix, prefix_at}
 use Rattle.qpack_spec.specs.Window.{eviction_count, absolute_entry, relative_entry, insertion, effect, window_after}
 use Rattle.qpack_spec.specs.History.{window_of, whole_window, history_after}
-use Rattle.qpack_spec.specs.Reading.{static_field, relative_field, post_base_field, line_field, fields_of, references_of_line}
+use Rattle.qpack_spec.specs.Reading.{static_field, relative_field, post_base_field, line_field, fields_of}
+use Rattle.qpack_spec.specs.Reading.{references_of_line}
 use Rattle.qpack_spec.specs.Reading.{references_of, greatest_of, reading}
 use Rattle.qpack_spec.specs.BlockReading.{fields_at, reading_of_bytes, written_block}
-use Rattle.qpack_spec.specs.Table.{window, with_number, with_reference, is_evictable, all_evictable, has_room, may_reference, with_entry}
-use Rattle.qpack_spec.specs.Table.{last_position, newest_index, put, with_capacity, apply_encoder_instruction, commit, without_references, without_oldest}
+use Rattle.qpack_spec.specs.Table.{window, with_number, with_reference, is_evictable, all_evictable, has_room}
+use Rattle.qpack_spec.specs.Table.{may_reference, with_entry}
+use Rattle.qpack_spec.specs.Table.{last_position, newest_index, put, with_capacity, apply_encoder_instruction, commit}
+use Rattle.qpack_spec.specs.Table.{without_references, without_oldest}
 use Rattle.qpack_spec.specs.Table.{without_stream, with_increment, apply_decoder_instruction, insert_count}
 use Rattle.qpack_spec.specs.Rule.{instruction_for, rule_field, rule}
 
@@ -42,14 +48,20 @@ prefix_of insert_count delta = record { count = insert_count; sign = false; delt
 
 -- all that has to unfold
 rows : ℕ
-unfolding eviction_count written_groups groups_at integer_at written_integer bits_of ones bytes_by_length bytes_of_length
+unfolding eviction_count written_groups groups_at integer_at written_integer bits_of ones bytes_by_length
+    bytes_of_length
     first_code code_length code_of number_from bytes_of_bits payload_of code_at is_padding item_at text_at text_of_bits
     string_at written_string static_table static_index static_name_index line_form written_line written_lines
-    encoder_instruction_form decoder_instruction_form written_encoder_instruction written_encoder_instructions written_decoder_instruction written_decoder_instructions made_at form_at
-    prefix_for required_at read_required read_base read_prefix written_prefix prefix_at absolute_entry relative_entry insertion effect
-    window_after window_of whole_window history_after static_field relative_field post_base_field line_field fields_of references_of_line references_of
-    greatest_of reading fields_at reading_of_bytes written_block window with_number with_reference is_evictable all_evictable has_room may_reference
-    with_entry last_position newest_index put with_capacity apply_encoder_instruction commit without_references without_oldest without_stream with_increment apply_decoder_instruction
+    encoder_instruction_form decoder_instruction_form written_encoder_instruction written_encoder_instructions
+    written_decoder_instruction written_decoder_instructions made_at form_at
+    prefix_for required_at read_required read_base read_prefix written_prefix prefix_at absolute_entry
+    relative_entry insertion effect
+    window_after window_of whole_window history_after static_field relative_field post_base_field line_field
+    fields_of references_of_line references_of
+    greatest_of reading fields_at reading_of_bytes written_block window with_number with_reference is_evictable
+    all_evictable has_room may_reference
+    with_entry last_position newest_index put with_capacity apply_encoder_instruction commit without_references
+    without_oldest without_stream with_increment apply_decoder_instruction
     instruction_for rule_field rule line_at instruction_at decoder_instruction_at prefix_of
 rows = 0
 
@@ -70,7 +82,8 @@ unfolding rows
 write_duplicate = refl
 
 -- an insertion by a static name
-write_insert_static : (written_encoder_instruction (InsertStaticName 1 (codes "bar"))) ≡ 193 ∷ 131 ∷ 140 ∷ 118 ∷ 127 ∷ []
+write_insert_static : (written_encoder_instruction (InsertStaticName 1 (codes "bar")))
+    ≡ 193 ∷ 131 ∷ 140 ∷ 118 ∷ 127 ∷ []
 unfolding rows
 write_insert_static = refl
 
@@ -167,7 +180,8 @@ unfolding rows
 read_decoder_instructions_65 = refl
 
 -- nine further bytes that go on
-read_overflow : (decoder_instruction_at (63 ∷ 255 ∷ 255 ∷ 255 ∷ 255 ∷ 255 ∷ 255 ∷ 255 ∷ 255 ∷ 255 ∷ [])) ≡ Err (BadInteger Overflow)
+read_overflow : (decoder_instruction_at (63 ∷ 255 ∷ 255 ∷ 255 ∷ 255 ∷ 255 ∷ 255 ∷ 255 ∷ 255 ∷ 255 ∷ []))
+    ≡ Err (BadInteger Overflow)
 unfolding rows
 read_overflow = refl
 
@@ -300,7 +314,7 @@ prefix_far_below : (read_prefix 1 4096 (record { count = 2; sign = true; delta =
 unfolding rows
 prefix_far_below = refl
 
--- a required count past 64 bits
+-- a required insert count past 64 bits
 prefix_great_total : (read_prefix (2 ^ 64 - 1) 4096 (prefix_of 1 0)) ≡ Err OutOfRange
 unfolding rows
 prefix_great_total = refl

@@ -7,16 +7,21 @@ use Rattle.std.proofs.lemmas.List.{append-nil}
 use Rattle.std.proofs.lemmas.List.Folds.{list_any-append}
 use Rattle.qpack_spec.specs.Field.{Field, has_name, is_field}
 use Rattle.qpack_spec.specs.StaticTable.{static_index, static_name_index}
-use Rattle.qpack_spec.specs.Instruction.{EncoderInstruction, InsertStaticName, InsertDynamicName, InsertLiteralName, Duplicate}
+use Rattle.qpack_spec.specs.Instruction.{EncoderInstruction, InsertStaticName, InsertDynamicName, InsertLiteralName}
+use Rattle.qpack_spec.specs.Instruction.{Duplicate}
 use Rattle.qpack_spec.specs.Instruction.{SetCapacity}
 use Rattle.qpack_spec.specs.Line.{IndexedDynamic, IndexedPostBase, NamedStatic, NamedDynamic, NamedPostBase, Literal}
-use Rattle.qpack_spec.specs.Table.{Table, insert_count, has_number, with_number, with_reference, has_room, below_limit, may_reference, sent_entry}
+use Rattle.qpack_spec.specs.Table.{Table, insert_count, has_number, with_number, with_reference, has_room, below_limit}
+use Rattle.qpack_spec.specs.Table.{may_reference, sent_entry}
 use Rattle.qpack_spec.specs.Table.{with_entry, last_position, newest_index}
-use Rattle.qpack_spec.specs.Rule.{Draft, with_line, with_referencing_line, by_name, by_static_name, by_equal, instruction_for}
-use Rattle.qpack_spec.specs.Rule.{entries_left, with_new_entry, name_reference_line, literal_by_entry, literal, insertion_or_literal}
+use Rattle.qpack_spec.specs.Rule.{Draft, with_line, with_referencing_line, by_name, by_static_name, by_equal}
+use Rattle.qpack_spec.specs.Rule.{instruction_for}
+use Rattle.qpack_spec.specs.Rule.{entries_left, with_new_entry, name_reference_line, literal_by_entry, literal}
+use Rattle.qpack_spec.specs.Rule.{insertion_or_literal}
 use Rattle.qpack_spec.specs.Rule.{by_entry, by_static, rule_field, rule_fields, empty_draft, rule}
 use Rattle.qpack_spec.specs.Handle.{AtRelative, AtPostBase, NotFound, lookup_of, Found, found_entry, find_field}
-use Rattle.qpack_spec.specs.Handle.{found_name, answer_of, found_instead, insert_field, literal_at, line_of, instructions_of}
+use Rattle.qpack_spec.specs.Handle.{found_name, answer_of, found_instead, insert_field, literal_at, line_of}
+use Rattle.qpack_spec.specs.Handle.{instructions_of}
 use Rattle.qpack_spec.specs.Handle.{with_insertion, with_found, by_handle, handle_field, handle_fields, HandleIsTheRule}
 use Rattle.qpack_spec.proofs.Places.{FoundEntry, newest_found}
 use Rattle.qpack_spec.proofs.Drafts.{Room, room}
@@ -28,11 +33,13 @@ NamesAbove base t = (a : ℕ) → base < a → a ≤ insert_count t → has_numb
 
 -- ---- numbers that are kept
 
-kept_tracked : (referenced : List ℕ) (x a : ℕ) → has_number a referenced ≡ true → has_number a (with_number referenced x) ≡ true
+kept_tracked : (referenced : List ℕ) (x a : ℕ) → has_number a referenced ≡ true
+    → has_number a (with_number referenced x) ≡ true
 unfolding with_number
 kept_tracked referenced x a h =
     cond_both (has_number x referenced) referenced (referenced ++ x ∷ []) (λ l. has_number a l ≡ true) (λ _. h)
-    (λ _. list_any-append (λ y. nat_eq y a) referenced (x ∷ []) ∙ or_left (has_number a referenced) (has_number a (x ∷ [])) h)
+    (λ _. list_any-append (λ y. nat_eq y a) referenced (x ∷ [])
+        ∙ or_left (has_number a referenced) (has_number a (x ∷ [])) h)
 
 new_tracked : (referenced : List ℕ) (x : ℕ) → has_number x (with_number referenced x) ≡ true
 unfolding with_number
@@ -63,14 +70,18 @@ above_inserted : (base : ℕ) (t : Table) (f : Field) → Room t f → NamesAbov
 above_inserted base t f r k a low high =
     let many : insert_count (with_reference (with_entry t (sent_entry f)) (insert_count t + 1)) ≡ insert_count t + 1 =
     count_naming (with_entry t (sent_entry f)) (insert_count t + 1) ∙ count_entered t f r in
-    let is : (with_reference (with_entry t (sent_entry f)) (insert_count t + 1)).referenced ≡ with_number t.referenced (insert_count t + 1) =
-    named_now (with_entry t (sent_entry f)) (insert_count t + 1) ∙ ap (λ l. with_number l (insert_count t + 1)) (same_named t f) in
+    let is : (with_reference (with_entry t (sent_entry f)) (insert_count t + 1)).referenced
+        ≡ with_number t.referenced (insert_count t + 1) =
+    named_now (with_entry t (sent_entry f)) (insert_count t + 1)
+        ∙ ap (λ l. with_number l (insert_count t + 1)) (same_named t f) in
     ap (has_number a) is ∙ pick (cases_lt (insert_count t) a) many
   where
-    pick : (insert_count t < a) ⊎ (a ≤ insert_count t) → insert_count (with_reference (with_entry t (sent_entry f)) (insert_count t + 1)) ≡ insert_count t + 1
+    pick : (insert_count t < a) ⊎ (a ≤ insert_count t)
+        → insert_count (with_reference (with_entry t (sent_entry f)) (insert_count t + 1)) ≡ insert_count t + 1
         → has_number a (with_number t.referenced (insert_count t + 1)) ≡ true
     pick (inl lt) many = let same : insert_count t + 1 ≡ a =
-        omega (arith, high, many, lt) in subst (λ (x : ℕ). has_number x (with_number t.referenced (insert_count t + 1)) ≡ true) same
+        omega (arith, high, many, lt) in subst
+            (λ (x : ℕ). has_number x (with_number t.referenced (insert_count t + 1)) ≡ true) same
         (new_tracked t.referenced (insert_count t + 1))
     pick (inr le) many = kept_tracked t.referenced (insert_count t + 1) a (k a low le)
 
@@ -171,7 +182,8 @@ insertion_same base d f = both (below_limit d.table && has_room d.table f)
           table = with_reference (with_entry d.table (sent_entry f)) (insert_count d.table + 1);
           lines = d.lines ++ l ∷ [];
           instructions =
-              d.instructions ++ instructions_of f (answer_of i (insert_count d.table - base) (insert_count d.table + 1));
+              d.instructions ++ instructions_of f
+                  (answer_of i (insert_count d.table - base) (insert_count d.table + 1));
         } in x))
         (line_same f i (insert_count d.table - base) (insert_count d.table + 1))
         ∙ ap (λ is. (let x : Draft = record {
@@ -192,10 +204,11 @@ insertion_same base d f = both (below_limit d.table && has_room d.table f)
     both true = done
     both false = name_literal base d f (static_name_index f.name)
 
--- what is found of an entry, by whether it may be named and whether it is up to the base
+-- what is found of an entry, by whether it may be referenced and whether it is up to the base
 abbrev chosen_entry : Bool → Bool → ℕ → ℕ → Table → Found
 chosen_entry b c base a t =
-    cond b (record { lookup = cond c (AtRelative (base - a) a) (AtPostBase (a - base - 1) a); table = with_reference t a })
+    cond b (record { lookup = cond c (AtRelative (base - a) a)
+        (AtPostBase (a - base - 1) a); table = with_reference t a })
     (record { lookup = NotFound; table = t })
 
 entry_same : (base : ℕ) (d : Draft) (f : Field) → NamesAbove base d.table → (o : Option ℕ)
@@ -232,7 +245,8 @@ above_literal : (base : ℕ) (d : Draft) (f : Field) (o : Option ℕ) → NamesA
     → NamesAbove base (literal_by_entry base d f o).table
 above_literal base d f None k = k
 above_literal base d f (Some a) k =
-    cond_both (may_reference d.table a) (with_referencing_line d a (name_reference_line base a f)) (with_line d (Literal f.name f.value))
+    cond_both (may_reference d.table a) (with_referencing_line d a (name_reference_line base a f))
+        (with_line d (Literal f.name f.value))
     (λ (x : Draft). NamesAbove base x.table) (λ _. above_naming base d.table a k) (λ _. k)
 
 above_name : (base : ℕ) (d : Draft) (f : Field) (o : Option ℕ) → NamesAbove base d.table

@@ -1,4 +1,4 @@
--- What holds of each element of a list, and of elements found by their places.
+-- What holds of each element of a list, and of elements found by their positions.
 use Rattle.std.proofs.Common.{◌≤◌, ℕ, zero, ◌+◌, ◌<◌, ◌≡◌, suc, List, [], ◌∷◌, ◌++◌, length}
 use Rattle.std.proofs.Common.{drop, Some, refl, ap, subst, arith}
 use Rattle.std.specs.List.{AllByRecursion, slice_get}
@@ -20,6 +20,11 @@ pub every_weaker : {X : Type 0} (P Q : X → Type 0) → ((x : X) → P x → Q 
     → AllByRecursion Q xs
 every_weaker P Q f [] h = tt
 every_weaker P Q f (x ∷ xs) h = (f x h.0, every_weaker P Q f xs h.1)
+
+-- what holds of everything
+pub every_all : {X : Type 0} (P : X → Type 0) → ((x : X) → P x) → (xs : List X) → AllByRecursion P xs
+every_all P f [] = tt
+every_all P f (x ∷ xs) = (f x, every_all P f xs)
 
 -- from two facts of each
 pub every_both : {X : Type 0} (P Q R : X → Type 0) → ((x : X) → P x → Q x → R x) → (xs : List X) → AllByRecursion P xs

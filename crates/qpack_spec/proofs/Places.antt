@@ -13,11 +13,14 @@ use Rattle.std.proofs.lemmas.Option.{slice_get_within, same_Some}
 use Rattle.std.proofs.lemmas.List.{length-map, length-take-le, drop-map, map-append}
 use Rattle.qpack_spec.specs.Field.{Field, field_size, has_name, is_field}
 use Rattle.qpack_spec.specs.StaticTable.{static_table, IsLeastStatic, NoStatic, static_index, static_name_index}
-use Rattle.qpack_spec.specs.Window.{Window, window_insert_count, relative_entry, insertion, effect, with_value, window_after, Inserts}
-use Rattle.qpack_spec.specs.Table.{Entry, UnacknowledgedBlock, Table, fields_in, window, insert_count, has_number, with_number, with_numbers}
-use Rattle.qpack_spec.specs.Table.{is_evictable, all_evictable, can_evict, eviction_count_for, with_entry, later_position, last_position, newest_index}
+use Rattle.qpack_spec.specs.Window.{Window, window_insert_count, relative_entry, insertion, effect, with_value}
+use Rattle.qpack_spec.specs.Window.{window_after, Inserts}
+use Rattle.qpack_spec.specs.Table.{Entry, UnacknowledgedBlock, Table, fields_in, window, insert_count, has_number}
+use Rattle.qpack_spec.specs.Table.{with_number, with_numbers}
+use Rattle.qpack_spec.specs.Table.{is_evictable, all_evictable, can_evict, eviction_count_for, with_entry}
+use Rattle.qpack_spec.specs.Table.{later_position, last_position, newest_index}
 use Rattle.qpack_spec.specs.Rule.{by_name, by_static_name, by_equal, instruction_for}
-use Rattle.qpack_spec.proofs.StaticPlaces.{place_is_least, name_place_is_least}
+use Rattle.qpack_spec.proofs.StaticPlaces.{field_is, place_is_least, name_place_is_least}
 use Rattle.qpack_spec.proofs.Lists.{every_append, every_left, every_right, get_drop, every_both, every_weaker}
 use Rattle.qpack_spec.proofs.Windows.{size_least}
 
@@ -58,10 +61,6 @@ static_name_found name i e =
 
 pub same_name : (n : List ℕ) (g : Field) → has_name n g ≡ true → n ≡ g.name
 same_name n g h = (bytes_eq-Decides n g.name).0 h
-
-field_is : (n m v w : List ℕ) → n ≡ m → v ≡ w
-    → (let f : Field = record { name = n; value = v } in let g : Field = record { name = m; value = w } in f ≡ g)
-field_is n m v w p q = cc
 
 pub same_field : (f g : Field) → is_field f g ≡ true → f ≡ g
 same_field f g h =
@@ -116,7 +115,8 @@ recent_kept w k i g le h =
     rw (lt-ltb _ _ lt, e, ← get_drop) h
 
 name_effect : (w : Window) (f : Field) (k : ℕ) → k ≤ length w.live → (o : Option ℕ)
-    → last_position (has_name f.name) (drop k w.live) ≡ o → effect w (by_name f (length (drop k w.live)) o) ≡ insertion w f
+    → last_position (has_name f.name) (drop k w.live) ≡ o → effect w (by_name f (length (drop k w.live)) o)
+        ≡ insertion w f
 unfolding effect
 name_effect w f k le (Some i) e =
     let at = last_found (has_name f.name) (drop k w.live) i e in
@@ -195,10 +195,12 @@ all_evictable_at t a (e ∷ es) h m x low high =
     (λ _ q. absurd (cc))
     h
   where
-    pick : is_evictable t a e.sent ≡ true → ((y : ℕ) → suc a ≤ y → y < suc a + length es → IsFree t y) → (a < x) ⊎ (x ≤ a)
+    pick : is_evictable t a e.sent ≡ true → ((y : ℕ) → suc a ≤ y → y < suc a + length es → IsFree t y) → (a < x)
+        ⊎ (x ≤ a)
         → IsFree t x
     pick free rest (inl lt) = rest x (omega arith) (omega arith)
-    pick free rest (inr le) = let same : a ≡ x = omega arith in subst (IsFree t) same (evictable_free t a (rw m.0 at free))
+    pick free rest (inr le) = let same : a
+        ≡ x = omega arith in subst (IsFree t) same (evictable_free t a (rw m.0 at free))
 
 pub every_take : {X : Type 0} (P : X → Type 0) (n : ℕ) (xs : List X) → AllByRecursion P xs
     → AllByRecursion P (take n xs)
@@ -228,7 +230,8 @@ every_track P referenced a h k =
     cond_both (has_number a referenced) referenced (referenced ++ a ∷ []) (AllByRecursion P) (λ _. h)
     (λ _. every_append P referenced (a ∷ []) h (k, tt))
 
-every_has : (P : ℕ → Type 0) (referenced : List ℕ) (a : ℕ) → has_number a referenced ≡ true → AllByRecursion P referenced → P a
+every_has : (P : ℕ → Type 0) (referenced : List ℕ) (a : ℕ) → has_number a referenced ≡ true
+    → AllByRecursion P referenced → P a
 every_has P [] a t h = absurd (cc)
 every_has P (x ∷ xs) a t h = let rest = λ (m : has_number a xs ≡ true). every_has P xs a m h.1 in
     pick rest (or_cases (nat_eq x a) (has_number a xs) t)
@@ -241,7 +244,8 @@ every_untrack : (P : ℕ → Type 0) (referenced : List ℕ) (a : ℕ) → AllBy
     → AllByRecursion P referenced × P a
 unfolding with_number
 every_untrack P referenced a =
-    cond_both (has_number a referenced) referenced (referenced ++ a ∷ []) (λ xs. AllByRecursion P xs → AllByRecursion P referenced × P a)
+    cond_both (has_number a referenced) referenced (referenced ++ a ∷ [])
+        (λ xs. AllByRecursion P xs → AllByRecursion P referenced × P a)
     (λ t h. (h, every_has P referenced a t h))
     (λ _ h. (every_left P referenced (a ∷ []) h, (every_right P referenced (a ∷ []) h).0))
 
@@ -253,7 +257,8 @@ every_tracked P (x ∷ xs) referenced h =
     let q = every_untrack P referenced x r.0 in
     (q.0, (q.1, r.1))
 
-pub tracked_append : (referenced xs ys : List ℕ) → with_numbers referenced (xs ++ ys) ≡ with_numbers (with_numbers referenced xs) ys
+pub tracked_append : (referenced xs ys : List ℕ) → with_numbers referenced (xs ++ ys)
+    ≡ with_numbers (with_numbers referenced xs) ys
 tracked_append referenced [] ys = refl
 tracked_append referenced (x ∷ xs) ys = tracked_append (with_number referenced x) xs ys
 
@@ -267,12 +272,14 @@ track_some (x ∷ xs) a =
 track_longer : (referenced : List ℕ) (a : ℕ) → length referenced ≤ length (with_number referenced a)
 unfolding with_number
 track_longer referenced a =
-    cond_both (has_number a referenced) referenced (referenced ++ a ∷ []) (λ l. length referenced ≤ length l) (λ _. omega arith)
+    cond_both (has_number a referenced) referenced (referenced ++ a ∷ []) (λ l. length referenced ≤ length l)
+        (λ _. omega arith)
     (λ _. omega (arith, length-append referenced (a ∷ [])))
 
 tracked_longer : (xs referenced : List ℕ) → length referenced ≤ length (with_numbers referenced xs)
 tracked_longer [] referenced = omega arith
-tracked_longer (x ∷ xs) referenced = omega (arith, track_longer referenced x, tracked_longer xs (with_number referenced x))
+tracked_longer (x ∷ xs) referenced = omega
+    (arith, track_longer referenced x, tracked_longer xs (with_number referenced x))
 
 pub tracked_none : (xs : List ℕ) → with_numbers [] xs ≡ [] → xs ≡ []
 tracked_none [] e = refl

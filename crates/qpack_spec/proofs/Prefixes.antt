@@ -1,4 +1,4 @@
--- What a prefix is read as: a required count has one reading, and a written prefix is read back.
+-- What a prefix is read as: a required insert count has one reading, and a written prefix is read back.
 use Rattle.std.proofs.Common.{ℕ, zero, suc, ◌+◌, ◌-◌, ◌*◌, ◌/◌, ◌%◌, ◌^◌, ◌<◌, ◌≤◌, ◌≡◌, true, false, List, Result, Ok}
 use Rattle.std.proofs.Common.{refl, ap, ◌∙◌, subst, inl, inr, ◌⊎◌, arith}
 use Rattle.std.specs.Prelude.{nat_lt, nat_le, nat_eq, ◌||◌}
@@ -10,7 +10,7 @@ use Rattle.qpack_spec.specs.Prefix.{read_prefix}
 use Rattle.qpack_spec.specs.Window.{Window, maximum_capacity, window_insert_count}
 use Rattle.qpack_spec.specs.Reading.{fields_of, Block, Fields, Missing, reading}
 
--- ---- the required count
+-- ---- the required insert count
 
 -- a number below n from a multiple of n away
 wrapped : (gap n q : ℕ) → gap < n → (gap + n * q) % n ≡ gap
@@ -147,7 +147,7 @@ reads_written received maximum (suc r) base small reach =
           reads_base = λ _. reads_below (suc r) base le small;
         })
 
--- the base of a written prefix, behind its required count
+-- the base of a written prefix, behind its required insert count
 pub base_written : (maximum required base : ℕ) → 0 < required → 0 < maximum → base < 2 ^ 64
     → (let p = prefix_for maximum required base in read_base p.sign required p.delta ≡ Ok base)
 base_written maximum required base r m small = pick (cases_lt base required)
@@ -176,15 +176,18 @@ maximum_of w = maximum_capacity w.agreed_max w.capacity
 
 -- a block that requires more than was received
 pub reading_missing : (w : Window) (b : Block) (required base : ℕ)
-    → ReadsAs (window_insert_count w) (maximum_of w) required base b.prefix → window_insert_count w < required → reading w b ≡ Missing required
+    → ReadsAs (window_insert_count w) (maximum_of w) required base b.prefix → window_insert_count w < required
+        → reading w b ≡ Missing required
 unfolding reading
 reading_missing w b required base p lt =
-    rw (prefix_dynamic (window_insert_count w) (maximum_of w) required base b.prefix p (omega arith), lt-ltb (window_insert_count w) required lt)
+    rw (prefix_dynamic (window_insert_count w) (maximum_of w) required base b.prefix p (omega arith), lt-ltb
+        (window_insert_count w) required lt)
     refl
 
 -- a block whose lines mean fs
 pub reading_fields : (w : Window) (b : Block) (required base : ℕ) (fs : List Field)
-    → ReadsAs (window_insert_count w) (maximum_of w) required base b.prefix → required ≤ window_insert_count w → 0 < required
+    → ReadsAs (window_insert_count w) (maximum_of w) required base b.prefix → required ≤ window_insert_count w → 0
+        < required
     → fields_of w base b.lines ≡ Ok fs → reading w b ≡ Fields fs true
 unfolding reading
 reading_fields w b required base fs p le r h =
@@ -196,7 +199,9 @@ reading_fields w b required base fs p le r h =
     ) refl
 
 pub reading_plain : (w : Window) (b : Block) (base : ℕ) (fs : List Field)
-    → ReadsAs (window_insert_count w) (maximum_of w) 0 base b.prefix → fields_of w 0 b.lines ≡ Ok fs → reading w b ≡ Fields fs false
+    → ReadsAs (window_insert_count w) (maximum_of w) 0 base b.prefix → fields_of w 0 b.lines ≡ Ok fs → reading w b
+        ≡ Fields fs false
 unfolding reading
 reading_plain w b base fs p h =
-    rw (prefix_plain (window_insert_count w) (maximum_of w) base b.prefix p, le-ltb (window_insert_count w) 0 (omega arith), h) refl
+    rw (prefix_plain (window_insert_count w) (maximum_of w) base b.prefix p, le-ltb (window_insert_count w) 0
+        (omega arith), h) refl

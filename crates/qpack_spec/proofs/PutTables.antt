@@ -1,4 +1,4 @@
--- A table at which nothing is held, as a decoder's is: an instruction does to it what it does to its window.
+-- A table at which everything is evictable, as a decoder's is: an instruction does to it what it does to its window.
 use Rattle.std.proofs.Common.{ℕ, zero, suc, ◌+◌, ◌^◌, ◌≡◌, Bool, true, false, List, [], ◌∷◌, ◌++◌, take, drop, map}
 use Rattle.std.proofs.Common.{Option, None, Some, Result, Ok, Err, refl, sym, ap, ◌∙◌}
 use Rattle.std.specs.List.{slice_get}
@@ -7,13 +7,17 @@ use Rattle.std.proofs.lemmas.List.{drop-map, map-append, length-map}
 use Rattle.qpack_spec.specs.Bytes.{◌>>=◌}
 use Rattle.qpack_spec.specs.Field.{Field, field_size}
 use Rattle.qpack_spec.specs.StaticTable.{static_table}
-use Rattle.qpack_spec.specs.Instruction.{EncoderInstruction, InsertStaticName, InsertDynamicName, InsertLiteralName, Duplicate}
+use Rattle.qpack_spec.specs.Instruction.{EncoderInstruction, InsertStaticName, InsertDynamicName, InsertLiteralName}
+use Rattle.qpack_spec.specs.Instruction.{Duplicate}
 use Rattle.qpack_spec.specs.Instruction.{SetCapacity}
-use Rattle.qpack_spec.specs.Window.{Window, greatest_capacity, window_insert_count, relative_entry, eviction_count, TableRefusal, NoEntry, NoStaticField}
+use Rattle.qpack_spec.specs.Window.{Window, greatest_capacity, window_insert_count, relative_entry, eviction_count}
+use Rattle.qpack_spec.specs.Window.{TableRefusal, NoEntry, NoStaticField}
 use Rattle.qpack_spec.specs.Window.{DoesNotFit, AboveMaximum, Effect, Inserts, Ignored, Resizes, or_refusal, with_value}
 use Rattle.qpack_spec.specs.Window.{insertion, effect, window_after, apply}
-use Rattle.qpack_spec.specs.Table.{Table, put_entry, fields_in, window, insert_count, is_evictable, all_evictable, can_evict}
-use Rattle.qpack_spec.specs.Table.{eviction_count_for, with_entry, put, with_capacity, apply_encoder_instruction, table_of}
+use Rattle.qpack_spec.specs.Table.{Table, put_entry, fields_in, window, insert_count, is_evictable, all_evictable}
+use Rattle.qpack_spec.specs.Table.{can_evict}
+use Rattle.qpack_spec.specs.Table.{eviction_count_for, with_entry, put, with_capacity, apply_encoder_instruction}
+use Rattle.qpack_spec.specs.Table.{table_of}
 
 fields_put : (fs : List Field) → fields_in (map (λ f. put_entry f) fs) ≡ fs
 fields_put [] = refl
@@ -33,7 +37,7 @@ pub count_put : (w : Window) → insert_count (table_of w) ≡ window_insert_cou
 unfolding table_of
 count_put w = ap (λ n. w.dropped + n) (length-map w.live (λ (f : Field). put_entry f))
 
--- nothing is held
+-- everything is evictable
 none_put : (w : Window) (a k : ℕ) (fs : List Field)
     → all_evictable (table_of w) a (take k (map (λ f. put_entry f) fs)) ≡ true
 unfolding all_evictable is_evictable table_of
@@ -103,14 +107,16 @@ put_is : (w : Window) (f : Field) → put (table_of w) f ≡ (insertion w f >>= 
 unfolding put insertion
 put_is w f =
     let k = eviction_count_for (table_of w) f in
-    let d : (nat_lt (insert_count (table_of w)) (2 ^ 62) && can_evict (table_of w) k) ≡ nat_lt (window_insert_count w) (2 ^ 62) =
+    let d : (nat_lt (insert_count (table_of w)) (2 ^ 62) && can_evict (table_of w) k)
+        ≡ nat_lt (window_insert_count w) (2 ^ 62) =
     both_hold (nat_lt (insert_count (table_of w)) (2 ^ 62)) (can_evict (table_of w) k) (drops_put w k)
     ∙ ap (λ n. nat_lt n (2 ^ 62)) (count_put w) in
     three_choices (nat_eq (table_of w).capacity 0) (nat_le (field_size f) (table_of w).capacity) _ _
     (λ e. table_of (window_after w e)) (table_of w) (with_entry (table_of w) (put_entry f)) f d (ignored_put w)
     (entered_put w f)
     ∙ ap (λ (c : ℕ). cond (nat_eq c 0) (Ok Ignored)
-    (cond (nat_le (field_size f) c) (cond (nat_lt (window_insert_count w) (2 ^ 62)) (Ok (Inserts f)) (Ok Ignored)) (Err DoesNotFit))
+    (cond (nat_le (field_size f) c) (cond (nat_lt (window_insert_count w) (2 ^ 62)) (Ok (Inserts f)) (Ok Ignored))
+        (Err DoesNotFit))
     >>= λ e. (let q : Result Table TableRefusal = Ok (table_of (window_after w e)) in q)) (capacity_put w)
 
 -- what is found goes on alike on both sides
@@ -123,7 +129,8 @@ found_put w (Some f) r g = put_is w (g f)
 recent_put : (w : Window) (i : ℕ) → relative_entry (window (table_of w)) i ≡ relative_entry w i
 recent_put w i = ap (λ (x : Window). relative_entry x i) (window_put w)
 
-applies : (w : Window) (i : EncoderInstruction) → apply_encoder_instruction (table_of w) i ≡ (effect w i >>= λ e. Ok (table_of (window_after w e)))
+applies : (w : Window) (i : EncoderInstruction) → apply_encoder_instruction (table_of w) i
+    ≡ (effect w i >>= λ e. Ok (table_of (window_after w e)))
 unfolding apply_encoder_instruction effect
 applies w (InsertStaticName i v) = found_put w (slice_get static_table i) (NoStaticField i) (with_value v)
 applies w (InsertDynamicName i v) = rw (recent_put w i) (found_put w (relative_entry w i) (NoEntry i) (with_value v))
@@ -137,5 +144,6 @@ twice (Ok e) g = refl
 twice (Err d) g = refl
 
 -- an instruction makes of a decoder's table the table of what it makes of its window, and is refused alike
-pub applied_put : (w : Window) (i : EncoderInstruction) → apply_encoder_instruction (table_of w) i ≡ (apply w i >>= λ x. Ok (table_of x))
+pub applied_put : (w : Window) (i : EncoderInstruction) → apply_encoder_instruction (table_of w) i
+    ≡ (apply w i >>= λ x. Ok (table_of x))
 applied_put w i = applies w i ∙ twice (effect w i) (window_after w)

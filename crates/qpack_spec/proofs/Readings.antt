@@ -8,22 +8,31 @@ use Rattle.std.proofs.lemmas.Bool.Decides.{nat_tests}
 use Rattle.std.proofs.lemmas.List.{append-nil, append_assoc}
 use Rattle.std.proofs.lemmas.Option.{slice_get_within}
 use Rattle.qpack_spec.specs.Field.{Field}
+use Rattle.qpack_spec.specs.StaticTable.{static_table}
 use Rattle.qpack_spec.specs.Line.{Line, IndexedStatic, IndexedDynamic, IndexedPostBase, NamedStatic, NamedDynamic}
 use Rattle.qpack_spec.specs.Line.{NamedPostBase, Literal}
 use Rattle.qpack_spec.specs.Window.{Window, absolute_entry, with_value}
-use Rattle.qpack_spec.specs.Reading.{Fault, BelowWindow, AboveWindow, BehindBase, or_fault, field_with_value, relative_field}
-use Rattle.qpack_spec.specs.Reading.{post_base_field, line_field, prepend_field, fields_of, references_of_line, references_of}
-use Rattle.qpack_spec.specs.Reading.{greatest_of}
+use Rattle.qpack_spec.specs.Reading.{Fault, BelowWindow, AboveWindow, BehindBase, or_fault, field_with_value}
+use Rattle.qpack_spec.specs.Reading.{relative_field}
+use Rattle.qpack_spec.specs.Reading.{post_base_field, line_field, prepend_field, fields_of, references_of_line}
+use Rattle.qpack_spec.specs.Reading.{references_of}
+use Rattle.qpack_spec.specs.Reading.{greatest_of, static_field}
 use Rattle.std.specs.List.{AllByRecursion}
 use Rattle.qpack_spec.proofs.Lists.{every_left, every_right, every_weaker}
 use Rattle.qpack_spec.proofs.Windows.{Kept}
+
+-- the static field that is there
+pub static_means : (i : ℕ) (g : Field) → slice_get static_table i ≡ Some g → static_field i ≡ Ok g
+unfolding static_field
+static_means i g e = rw e refl
 
 or_fault_some : (o : Option Field) (e : Fault) (f : Field) → or_fault o e ≡ Ok f → o ≡ Some f
 or_fault_some None e f h = absurd (cc)
 or_fault_some (Some g) e f h = let q : g ≡ f = cc in ap Some q
 
 -- a relative index is its entry
-relative_entry : (w : Window) (base i : ℕ) (f : Field) → relative_field w base i ≡ Ok f → absolute_entry w (base - i) ≡ Some f
+relative_entry : (w : Window) (base i : ℕ) (f : Field) → relative_field w base i ≡ Ok f → absolute_entry w (base - i)
+    ≡ Some f
 unfolding relative_field absolute_entry
 relative_entry w base i f =
     cond_both (nat_lt w.dropped (base - i) && nat_lt 0 (length w.live))
@@ -80,7 +89,8 @@ valued_ok : (v : List ℕ) (r : Result Field Fault) (f : Field) → field_with_v
 valued_ok v (Ok g) f h = (g, refl, cc)
 valued_ok v (Err e) f h = absurd (cc)
 
-valued_from : (v : List ℕ) (r : Result Field Fault) (g f : Field) → r ≡ Ok g → with_value v g ≡ f → field_with_value v r ≡ Ok f
+valued_from : (v : List ℕ) (r : Result Field Fault) (g f : Field) → r ≡ Ok g → with_value v g ≡ f
+    → field_with_value v r ≡ Ok f
 valued_from v r g f e q = rw (e, q) refl
 
 -- a line means the same where its entry is kept
@@ -101,7 +111,8 @@ line_kept w w' base (NamedPostBase i v) f k h =
     (entry_post_base w' base i r.0 (k.0 r.0 (post_base_entry w base i r.0 r.1))) r.2
 line_kept w w' base (Literal n v) f k h = h
 
-pub followed_ok : (r : Result Field Fault) (rs : Result (List Field) Fault) (fs : List Field) → prepend_field r rs ≡ Ok fs
+pub followed_ok : (r : Result Field Fault) (rs : Result (List Field) Fault) (fs : List Field) → prepend_field r rs
+    ≡ Ok fs
     → (f : Field) × (gs : List Field) × (r ≡ Ok f) × (rs ≡ Ok gs) × (f ∷ gs ≡ fs)
 followed_ok (Ok f) (Ok gs) fs h = (f, gs, refl, refl, cc)
 followed_ok (Ok f) (Err e) fs h = absurd (cc)

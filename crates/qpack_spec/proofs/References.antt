@@ -9,9 +9,12 @@ use Rattle.qpack_spec.specs.StaticTable.{static_index, static_name_index}
 use Rattle.qpack_spec.specs.Line.{Line, IndexedStatic, IndexedDynamic, IndexedPostBase, NamedStatic, NamedDynamic}
 use Rattle.qpack_spec.specs.Line.{NamedPostBase, Literal}
 use Rattle.qpack_spec.specs.Reading.{references_of_line, references_of, greatest_of}
-use Rattle.qpack_spec.specs.Table.{Table, sent_entry, insert_count, has_number, with_number, with_numbers, with_reference, has_room, below_limit}
-use Rattle.qpack_spec.specs.Table.{may_reference, with_entry, eviction_count_for, newest_index, without_references, with_unacknowledged, commit}
-use Rattle.qpack_spec.specs.Rule.{Draft, with_line, with_referencing_line, with_new_entry, name_reference_line, literal_by_entry, literal}
+use Rattle.qpack_spec.specs.Table.{Table, sent_entry, insert_count, has_number, with_number, with_numbers}
+use Rattle.qpack_spec.specs.Table.{with_reference, has_room, below_limit}
+use Rattle.qpack_spec.specs.Table.{may_reference, with_entry, eviction_count_for, newest_index, without_references}
+use Rattle.qpack_spec.specs.Table.{with_unacknowledged, commit}
+use Rattle.qpack_spec.specs.Rule.{Draft, with_line, with_referencing_line, with_new_entry, name_reference_line}
+use Rattle.qpack_spec.specs.Rule.{literal_by_entry, literal}
 use Rattle.qpack_spec.specs.Rule.{insertion_or_literal, by_entry, by_static, rule_field, rule_fields, empty_draft, rule}
 use Rattle.qpack_spec.specs.BlockLaws.{BlocksRequireReferences}
 use Rattle.qpack_spec.proofs.Readings.{references_push}
@@ -40,10 +43,12 @@ greatest_track xs a =
     cond_both (has_number a xs) xs (xs ++ a ∷ []) (λ l. greatest_of l ≡ max (greatest_of xs) a)
     (λ t. omega (arith, greatest_above xs a t)) (λ _. greatest_append xs a)
 
-greatest_tracked : (xs referenced : List ℕ) → greatest_of (with_numbers referenced xs) ≡ max (greatest_of referenced) (greatest_of xs)
+greatest_tracked : (xs referenced : List ℕ) → greatest_of (with_numbers referenced xs)
+    ≡ max (greatest_of referenced) (greatest_of xs)
 unfolding greatest_of
 greatest_tracked [] referenced = omega arith
-greatest_tracked (x ∷ xs) referenced = omega (arith, greatest_tracked xs (with_number referenced x), greatest_track referenced x)
+greatest_tracked (x ∷ xs) referenced = omega
+    (arith, greatest_tracked xs (with_number referenced x), greatest_track referenced x)
 
 -- ---- the rule
 
@@ -56,7 +61,8 @@ pub record KeepsReferences (t0 : Table) (d : Draft) : Type 0 where
   pub refs : with_numbers [] (references_of (insert_count t0) d.lines) ≡ d.table.referenced
   pub base : insert_count t0 ≤ insert_count d.table
 
-pub refers_plain : (t0 : Table) (d : Draft) (l : Line) → references_of_line (insert_count t0) l ≡ [] → KeepsReferences t0 d
+pub refers_plain : (t0 : Table) (d : Draft) (l : Line) → references_of_line (insert_count t0) l ≡ []
+    → KeepsReferences t0 d
     → KeepsReferences t0 (with_line d l)
 refers_plain t0 d l plain k =
     record {
@@ -65,19 +71,23 @@ refers_plain t0 d l plain k =
       unacknowledged = k.unacknowledged;
       blocked = k.blocked;
       refs = ap (with_numbers []) (references_push (insert_count t0) d.lines l
-          ∙ ap (λ r. references_of (insert_count t0) d.lines ++ r) plain ∙ append-nil (references_of (insert_count t0) d.lines))
+          ∙ ap (λ r. references_of (insert_count t0) d.lines ++ r) plain
+              ∙ append-nil (references_of (insert_count t0) d.lines))
           ∙ k.refs;
       base = k.base;
     }
 
 -- one reference more
-pushed : (t0 : Table) (d : Draft) (a : ℕ) (l : Line) → references_of_line (insert_count t0) l ≡ a ∷ [] → KeepsReferences t0 d
+pushed : (t0 : Table) (d : Draft) (a : ℕ) (l : Line) → references_of_line (insert_count t0) l ≡ a ∷ []
+    → KeepsReferences t0 d
     → with_numbers [] (references_of (insert_count t0) (d.lines ++ l ∷ [])) ≡ with_number d.table.referenced a
 pushed t0 d a l is k =
-    ap (with_numbers []) (references_push (insert_count t0) d.lines l ∙ ap (λ r. references_of (insert_count t0) d.lines ++ r) is)
+    ap (with_numbers []) (references_push (insert_count t0) d.lines l
+        ∙ ap (λ r. references_of (insert_count t0) d.lines ++ r) is)
     ∙ tracked_append [] (references_of (insert_count t0) d.lines) (a ∷ []) ∙ ap (λ r. with_number r a) k.refs
 
-pub refers_named : (t0 : Table) (d : Draft) (a : ℕ) (l : Line) → references_of_line (insert_count t0) l ≡ a ∷ [] → KeepsReferences t0 d
+pub refers_named : (t0 : Table) (d : Draft) (a : ℕ) (l : Line) → references_of_line (insert_count t0) l ≡ a ∷ []
+    → KeepsReferences t0 d
     → KeepsReferences t0 (with_referencing_line d a l)
 unfolding with_reference
 refers_named t0 d a l is k =
@@ -99,7 +109,8 @@ record AfterInsertion (t t' : Table) : Type 0 where
   pub referenced : t'.referenced ≡ with_number t.referenced (insert_count t + 1)
   pub more : insert_count t ≤ insert_count t'
 
-after_insertion : (t : Table) (f : Field) → AfterInsertion t (with_reference (with_entry t (sent_entry f)) (insert_count t + 1))
+after_insertion : (t : Table) (f : Field)
+    → AfterInsertion t (with_reference (with_entry t (sent_entry f)) (insert_count t + 1))
 unfolding with_entry with_reference
 after_insertion t f =
     record {
@@ -163,7 +174,8 @@ refers_literal_by_entry : (t0 : Table) (d : Draft) (f : Field) → KeepsReferenc
 refers_literal_by_entry t0 d f k None =
     refers_plain t0 d (Literal f.name f.value) (literal_names (insert_count t0) f.name f.value) k
 refers_literal_by_entry t0 d f k (Some a) =
-    cond_both (may_reference d.table a) (with_referencing_line d a (name_reference_line (insert_count t0) a f)) (with_line d (Literal f.name f.value))
+    cond_both (may_reference d.table a) (with_referencing_line d a (name_reference_line (insert_count t0) a f))
+        (with_line d (Literal f.name f.value))
     (KeepsReferences t0)
     (λ _. refers_named t0 d a (name_reference_line (insert_count t0) a f) (named_line_names (insert_count t0) a f) k)
     (λ _. refers_plain t0 d (Literal f.name f.value) (literal_names (insert_count t0) f.name f.value) k)
@@ -171,7 +183,8 @@ refers_literal_by_entry t0 d f k (Some a) =
 refers_literal : (t0 : Table) (d : Draft) (f : Field) → KeepsReferences t0 d → (o : Option ℕ)
     → KeepsReferences t0 (literal (insert_count t0) d f o)
 refers_literal t0 d f k None = refers_literal_by_entry t0 d f k (newest_index d.table (has_name f.name))
-refers_literal t0 d f k (Some i) = refers_plain t0 d (NamedStatic i f.value) (static_name_names (insert_count t0) i f.value) k
+refers_literal t0 d f k (Some i) = refers_plain t0 d (NamedStatic i f.value)
+    (static_name_names (insert_count t0) i f.value) k
 
 refers_insertion : (t0 : Table) (d : Draft) (f : Field) → KeepsReferences t0 d
     → KeepsReferences t0 (insertion_or_literal (insert_count t0) d f)
@@ -184,9 +197,11 @@ refers_by_entry : (t0 : Table) (d : Draft) (f : Field) → KeepsReferences t0 d 
     → KeepsReferences t0 (by_entry (insert_count t0) d f o)
 refers_by_entry t0 d f k None = refers_insertion t0 d f k
 refers_by_entry t0 d f k (Some a) =
-    cond_both (nat_le a (insert_count t0) && may_reference d.table a) (with_referencing_line d a (IndexedDynamic (insert_count t0 - a)))
+    cond_both (nat_le a (insert_count t0) && may_reference d.table a)
+        (with_referencing_line d a (IndexedDynamic (insert_count t0 - a)))
     (insertion_or_literal (insert_count t0) d f) (KeepsReferences t0)
-    (λ t. let le : a ≤ insert_count t0 = leb-true _ _ (and_parts (nat_le a (insert_count t0)) (may_reference d.table a) t).0 in
+    (λ t. let le : a ≤ insert_count t0 = leb-true _ _
+        (and_parts (nat_le a (insert_count t0)) (may_reference d.table a) t).0 in
     refers_named t0 d a (IndexedDynamic (insert_count t0 - a)) (indexed_names (insert_count t0) a le) k)
     (λ _. refers_insertion t0 d f k)
 
@@ -207,14 +222,16 @@ refers_fields t0 d (f ∷ fs) k = refers_fields t0 (rule_field (insert_count t0)
 
 pub refers_blank : (t0 : Table) → KeepsReferences t0 (empty_draft t0)
 unfolding references_of without_references
-refers_blank t0 = record { known_received_count = refl; limit = refl; unacknowledged = refl; blocked = refl; refs = refl; base = omega arith }
+refers_blank t0 = record { known_received_count = refl; limit = refl; unacknowledged = refl; blocked = refl;
+    refs = refl; base = omega arith }
 
 -- at any table, the block of the rule has what its lines reference
 pub rule_references : (t : Table) (fs : List Field) → KeepsReferences t (rule t fs)
 unfolding rule
 rule_references t fs = refers_fields t (empty_draft t) fs (refers_blank t)
 
-committed_opened : (t : Table) (stream required : ℕ) → (commit t stream required).unacknowledged ≡ with_unacknowledged t.unacknowledged stream t.referenced
+committed_opened : (t : Table) (stream required : ℕ) → (commit t stream required).unacknowledged
+    ≡ with_unacknowledged t.unacknowledged stream t.referenced
 unfolding commit
 committed_opened t stream required = refl
 
@@ -224,6 +241,7 @@ blocks_require t stream fields =
     let d = rule t fields in
     let k = rule_references t fields in (
       sym (ap greatest_of k.refs) ∙ omega (arith, greatest_tracked (references_of (insert_count t) d.lines) []),
-      committed_opened d.table stream (greatest_of d.table.referenced) ∙ ap (λ bs. with_unacknowledged bs stream d.table.referenced) k.unacknowledged
+      committed_opened d.table stream (greatest_of d.table.referenced)
+          ∙ ap (λ bs. with_unacknowledged bs stream d.table.referenced) k.unacknowledged
           ∙ ap (with_unacknowledged t.unacknowledged stream) (sym k.refs),
     )

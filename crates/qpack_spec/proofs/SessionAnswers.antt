@@ -1,20 +1,23 @@
 -- Every event has an answer at every session.
 use Rattle.std.proofs.Common.{ℕ, zero, suc, ◌+◌, ◌^◌, ◌<◌, ◌≤◌, ◌≡◌, Bool, true, false, cond, List, [], ◌∷◌, ◌++◌}
 use Rattle.std.proofs.Common.{length, take, drop, Option, None, Some, Result, Ok, Err, refl, sym, ap, ◌∙◌, arith, inl}
-use Rattle.std.proofs.Common.{inr, ◌⊎◌, length-append, append_assoc}
+use Rattle.std.proofs.Common.{inr, length-append, append_assoc}
 use Rattle.std.specs.List.{AllByRecursion, slice_get}
 use Rattle.std.specs.Prelude.{nat_lt, nat_le}
 use Rattle.std.proofs.lemmas.Bool.{ltb-true}
 use Rattle.qpack_spec.specs.Bytes.{Begins, ◌>>=◌}
 use Rattle.qpack_spec.specs.Form.{FormFault, is_cut, Form, Spells, Refuses, Truncates, form_at}
-use Rattle.qpack_spec.specs.Instruction.{EncoderInstruction, DecoderInstruction, encoder_instruction_form, decoder_instruction_form}
+use Rattle.qpack_spec.specs.Instruction.{EncoderInstruction, DecoderInstruction, encoder_instruction_form}
+use Rattle.qpack_spec.specs.Instruction.{decoder_instruction_form}
 use Rattle.qpack_spec.specs.Stream.{Joined}
 use Rattle.qpack_spec.specs.Window.{TableRefusal}
 use Rattle.qpack_spec.specs.Table.{Table, window, apply_encoder_instruction, apply_decoder_instruction, with_capacity}
 use Rattle.qpack_spec.specs.Session.{sum_of, stream_at, Session, Event, Encode, Decode, ToDecoder, ToEncoder}
 use Rattle.qpack_spec.specs.Session.{Acknowledge, Cancel, ChangeCapacity, Outcome, decode_outcome, NoMemory, IsPiece}
-use Rattle.qpack_spec.specs.Session.{apply_encoder_instructions, apply_decoder_instructions, unreported_after, EndsAtDecoder, takes_all, bad_bytes}
-use Rattle.qpack_spec.specs.Session.{bad_instruction, DeliversToDecoder, EndsAtEncoder, takes_all_at_encoder, bad_bytes_at_encoder, bad_decoder_instruction}
+use Rattle.qpack_spec.specs.Session.{apply_encoder_instructions, apply_decoder_instructions, unreported_after}
+use Rattle.qpack_spec.specs.Session.{EndsAtDecoder, takes_all, bad_bytes}
+use Rattle.qpack_spec.specs.Session.{bad_instruction, DeliversToDecoder, EndsAtEncoder, takes_all_at_encoder}
+use Rattle.qpack_spec.specs.Session.{bad_bytes_at_encoder, bad_decoder_instruction}
 use Rattle.qpack_spec.specs.Session.{DeliversToEncoder, skip_reason, LawfulStep, Step}
 use Rattle.qpack_spec.specs.Reading.{Reading, Fields, Missing, Faulty}
 use Rattle.qpack_spec.specs.BlockReading.{reading_of_bytes}
@@ -22,10 +25,14 @@ use Rattle.qpack_spec.specs.SessionLaws.{EventsHaveAnswers}
 use Rattle.qpack_spec.proofs.FormLaws.{form_takes, form_refusal, reads_form_truncation}
 
 -- how a reading of lines ends behind those that were taken: the rest is truncated, or refused, or the next step is
-data Stops (L : Type 0) (form_of : ℕ → Option (Form L)) (step : Table → L → Result Table TableRefusal) (t : Table) (rest : List ℕ) : Type 0 where
+data Stops (L : Type 0) (form_of : ℕ → Option (Form L)) (step : Table → L
+    → Result Table TableRefusal) (t : Table) (rest : List ℕ) : Type 0 where
   truncated : Truncates form_of rest → Stops L form_of step t rest
-  refused_bytes : (fault : FormFault) → Begins (λ encoding. Refuses L form_of encoding fault) rest → Stops L form_of step t rest
-  refused_step : (encoding more : List ℕ) (l : L) (e : TableRefusal) → rest ≡ encoding ++ more → Spells L form_of encoding l → step t l ≡ Err e
+  refused_bytes : (fault : FormFault) → Begins (λ encoding. Refuses L form_of encoding fault) rest
+      → Stops L form_of step t rest
+  refused_step : (encoding more : List ℕ) (l : L) (e : TableRefusal) → rest ≡ encoding ++ more
+      → Spells L form_of encoding l
+      → step t l ≡ Err e
       → Stops L form_of step t rest
 
 record ReadsOn (L : Type 0) (form_of : ℕ → Option (Form L)) (step : Table → L → Result Table TableRefusal) (all : Table
@@ -40,7 +47,8 @@ record ReadsOn (L : Type 0) (form_of : ℕ → Option (Form L)) (step : Table �
   pub stops : Stops L form_of step table rest
 
 -- any bytes are read on until they are cut, or something is refused
-reads_on : {L : Type 0} (form_of : ℕ → Option (Form L)) (step : Table → L → Result Table TableRefusal) (all : Table → List L
+reads_on : {L : Type 0} (form_of : ℕ → Option (Form L)) (step : Table → L → Result Table TableRefusal)
+    (all : Table → List L
     → Result Table TableRefusal)
     → ((t : Table) → all t [] ≡ Ok t) → ((t : Table) (l : L) (ls : List L)
     → all t (l ∷ ls) ≡ (step t l >>= λ u. all u ls))
@@ -135,12 +143,15 @@ Answers v e = (o : Outcome) × (v' : Session) × LawfulStep v e o v' × (o ≡ N
 
 to_decoder : (v : Session) (n : ℕ) → (o : Outcome) × (v' : Session) × DeliversToDecoder v n o v' × (o ≡ NoMemory → ⊥)
 to_decoder v n =
-    go (reads_on encoder_instruction_form apply_encoder_instruction apply_encoder_instructions (λ t. refl) (λ t l ls. refl)
+    go (reads_on encoder_instruction_form apply_encoder_instruction apply_encoder_instructions (λ t. refl)
+        (λ t l ls. refl)
     (length (drop v.encoder_stream_taken (take (v.encoder_stream_delivered + n) v.encoder_stream))) v.decoder
     (drop v.encoder_stream_taken (take (v.encoder_stream_delivered + n) v.encoder_stream)) (omega arith))
   where
-    delivers : (r : ReadsOn EncoderInstruction encoder_instruction_form apply_encoder_instruction apply_encoder_instructions v.decoder
-        (drop v.encoder_stream_taken (take (v.encoder_stream_delivered + n) v.encoder_stream))) (o : Outcome) (v' : Session)
+    delivers : (r : ReadsOn EncoderInstruction encoder_instruction_form apply_encoder_instruction
+        apply_encoder_instructions v.decoder
+        (drop v.encoder_stream_taken (take (v.encoder_stream_delivered + n) v.encoder_stream))) (o : Outcome)
+            (v' : Session)
         → EndsAtDecoder v n r.table r.front r.rest o v' → DeliversToDecoder v n o v'
     delivers r o v' e =
         record {
@@ -154,8 +165,10 @@ to_decoder v n =
           ends = e;
         }
 
-    ends : (r : ReadsOn EncoderInstruction encoder_instruction_form apply_encoder_instruction apply_encoder_instructions v.decoder
-        (drop v.encoder_stream_taken (take (v.encoder_stream_delivered + n) v.encoder_stream))) → Stops EncoderInstruction encoder_instruction_form apply_encoder_instruction r.table r.rest
+    ends : (r : ReadsOn EncoderInstruction encoder_instruction_form apply_encoder_instruction
+        apply_encoder_instructions v.decoder
+        (drop v.encoder_stream_taken (take (v.encoder_stream_delivered + n) v.encoder_stream)))
+        → Stops EncoderInstruction encoder_instruction_form apply_encoder_instruction r.table r.rest
         → (o : Outcome) × (v' : Session) × DeliversToDecoder v n o v' × (o ≡ NoMemory → ⊥)
     ends r (truncated c) = (
       _,
@@ -168,19 +181,23 @@ to_decoder v n =
     ends r (refused_step encoding more l e cut spells refused) =
         (_, _, delivers r _ _ (bad_instruction encoding more l e cut spells refused refl refl), λ h. absurd cc)
 
-    go : (r : ReadsOn EncoderInstruction encoder_instruction_form apply_encoder_instruction apply_encoder_instructions v.decoder
+    go : (r : ReadsOn EncoderInstruction encoder_instruction_form apply_encoder_instruction apply_encoder_instructions
+        v.decoder
         (drop v.encoder_stream_taken (take (v.encoder_stream_delivered + n) v.encoder_stream)))
         → (o : Outcome) × (v' : Session) × DeliversToDecoder v n o v' × (o ≡ NoMemory → ⊥)
     go r = ends r r.stops
 
 to_encoder : (v : Session) (n : ℕ) → (o : Outcome) × (v' : Session) × DeliversToEncoder v n o v' × (o ≡ NoMemory → ⊥)
 to_encoder v n =
-    go (reads_on decoder_instruction_form apply_decoder_instruction apply_decoder_instructions (λ t. refl) (λ t l ls. refl)
+    go (reads_on decoder_instruction_form apply_decoder_instruction apply_decoder_instructions (λ t. refl)
+        (λ t l ls. refl)
     (length (drop v.decoder_stream_taken (take (v.decoder_stream_delivered + n) v.decoder_stream))) v.encoder
     (drop v.decoder_stream_taken (take (v.decoder_stream_delivered + n) v.decoder_stream)) (omega arith))
   where
-    hears : (r : ReadsOn DecoderInstruction decoder_instruction_form apply_decoder_instruction apply_decoder_instructions v.encoder
-        (drop v.decoder_stream_taken (take (v.decoder_stream_delivered + n) v.decoder_stream))) (o : Outcome) (v' : Session)
+    hears : (r : ReadsOn DecoderInstruction decoder_instruction_form apply_decoder_instruction
+        apply_decoder_instructions v.encoder
+        (drop v.decoder_stream_taken (take (v.decoder_stream_delivered + n) v.decoder_stream))) (o : Outcome)
+            (v' : Session)
         → EndsAtEncoder v n r.table r.front r.rest o v' → DeliversToEncoder v n o v'
     hears r o v' e =
         record {
@@ -194,15 +211,20 @@ to_encoder v n =
           ends = e;
         }
 
-    ends : (r : ReadsOn DecoderInstruction decoder_instruction_form apply_decoder_instruction apply_decoder_instructions v.encoder
-        (drop v.decoder_stream_taken (take (v.decoder_stream_delivered + n) v.decoder_stream))) → Stops DecoderInstruction decoder_instruction_form apply_decoder_instruction r.table r.rest
+    ends : (r : ReadsOn DecoderInstruction decoder_instruction_form apply_decoder_instruction
+        apply_decoder_instructions v.encoder
+        (drop v.decoder_stream_taken (take (v.decoder_stream_delivered + n) v.decoder_stream)))
+            → Stops DecoderInstruction decoder_instruction_form apply_decoder_instruction r.table r.rest
         → (o : Outcome) × (v' : Session) × DeliversToEncoder v n o v' × (o ≡ NoMemory → ⊥)
     ends r (truncated c) = (_, _, hears r _ _ (takes_all_at_encoder c refl refl), λ h. absurd cc)
     ends r (refused_bytes fault c) = (_, _, hears r _ _ (bad_bytes_at_encoder fault c refl refl), λ h. absurd cc)
-    ends r (refused_step encoding more l e cut spells refused) = (_, _, hears r _ _ (bad_decoder_instruction encoding more l e cut spells refused refl refl), λ h. absurd cc)
+    ends r (refused_step encoding more l e cut spells refused) =
+        (_, _, hears r _ _ (bad_decoder_instruction encoding more l e cut spells refused refl refl), λ h. absurd cc)
 
-    go : (r : ReadsOn DecoderInstruction decoder_instruction_form apply_decoder_instruction apply_decoder_instructions v.encoder
-        (drop v.decoder_stream_taken (take (v.decoder_stream_delivered + n) v.decoder_stream))) → (o : Outcome) × (v' : Session) × DeliversToEncoder v n o v'
+    go : (r : ReadsOn DecoderInstruction decoder_instruction_form apply_decoder_instruction apply_decoder_instructions
+        v.encoder
+        (drop v.decoder_stream_taken (take (v.decoder_stream_delivered + n) v.decoder_stream))) → (o : Outcome)
+            × (v' : Session) × DeliversToEncoder v n o v'
         × (o ≡ NoMemory → ⊥)
     go r = ends r r.stops
 
@@ -246,7 +268,8 @@ lawful_answers v (ChangeCapacity n) h = go (with_capacity v.encoder n) refl
   where
     go : (r : Result Table TableRefusal) → with_capacity v.encoder n ≡ r → Answers v (ChangeCapacity n)
     go (Ok t) q = (_, _, inl (record { table = t; is_set = q; answers = refl; leads = refl }), λ x. absurd cc)
-    go (Err e) q = (_, _, inr (inl (record { refusal = e; is_refused = q; answers = refl; stays = refl })), λ x. absurd cc)
+    go (Err e) q =
+        (_, _, inr (inl (record { refusal = e; is_refused = q; answers = refl; stays = refl })), λ x. absurd cc)
 
 pub events_answer : EventsHaveAnswers
 events_answer v e = go (skip_reason v e) refl

@@ -15,18 +15,24 @@ use Rattle.qpack_spec.specs.Form.{BadInteger, BadString, Truncates, Form, Spells
 use Rattle.qpack_spec.specs.Line.{line_form, written_line, written_lines}
 use Rattle.qpack_spec.specs.Instruction.{InsertLiteralName, Acknowledgment, Increment}
 use Rattle.qpack_spec.specs.Instruction.{encoder_instruction_form, decoder_instruction_form}
-use Rattle.qpack_spec.specs.Instruction.{written_encoder_instruction, written_encoder_instructions, written_decoder_instruction, written_decoder_instructions}
+use Rattle.qpack_spec.specs.Instruction.{written_encoder_instruction, written_encoder_instructions}
+use Rattle.qpack_spec.specs.Instruction.{written_decoder_instruction, written_decoder_instructions}
 use Rattle.qpack_spec.specs.Prefix.{prefix_for, required_at, read_required, read_base, read_prefix, written_prefix}
 use Rattle.qpack_spec.specs.Prefix.{prefix_at}
-use Rattle.qpack_spec.specs.Window.{Window, eviction_count, absolute_entry, relative_entry, insertion, effect, window_after}
+use Rattle.qpack_spec.specs.Window.{Window, eviction_count, absolute_entry, relative_entry, insertion, effect}
+use Rattle.qpack_spec.specs.Window.{window_after}
 use Rattle.qpack_spec.specs.Window.{AboveMaximum}
 use Rattle.qpack_spec.specs.History.{window_of, whole_window, history_after}
-use Rattle.qpack_spec.specs.Reading.{static_field, relative_field, post_base_field, line_field, fields_of, references_of_line}
+use Rattle.qpack_spec.specs.Reading.{static_field, relative_field, post_base_field, line_field, fields_of}
+use Rattle.qpack_spec.specs.Reading.{references_of_line}
 use Rattle.qpack_spec.specs.Reading.{references_of, greatest_of, reading}
 use Rattle.qpack_spec.specs.BlockReading.{fields_at, reading_of_bytes, written_block}
-use Rattle.qpack_spec.specs.Table.{Table, empty_table, table_of, insert_count, window, with_number, with_reference, is_evictable, all_evictable}
-use Rattle.qpack_spec.specs.Table.{has_room, may_reference, with_entry, last_position, newest_index, put, with_capacity, apply_encoder_instruction, commit}
-use Rattle.qpack_spec.specs.Table.{without_references, without_oldest, without_stream, with_increment, apply_decoder_instruction}
+use Rattle.qpack_spec.specs.Table.{Table, empty_table, table_of, insert_count, window, with_number, with_reference}
+use Rattle.qpack_spec.specs.Table.{is_evictable, all_evictable}
+use Rattle.qpack_spec.specs.Table.{has_room, may_reference, with_entry, last_position, newest_index, put, with_capacity}
+use Rattle.qpack_spec.specs.Table.{apply_encoder_instruction, commit}
+use Rattle.qpack_spec.specs.Table.{without_references, without_oldest, without_stream, with_increment}
+use Rattle.qpack_spec.specs.Table.{apply_decoder_instruction}
 use Rattle.qpack_spec.specs.Rule.{instruction_for, rule_field, rule}
 use Rattle.qpack_spec.specs.Stream.{Joined}
 use Rattle.qpack_spec.specs.Session.{KeptBlock, KeptStream, stream_at, Session, Encode, Decode, ToDecoder}
@@ -58,7 +64,8 @@ delivered_part = with_decoder_moved written 6 written.decoder 0 0 []
 
 -- the decoder's table behind the instruction
 filled : Table
-filled = let w : Window = record { capacity = 4096; agreed_max = Some 4096; dropped = 0; live = foo_bar ∷ [] } in table_of w
+filled = let w : Window = record { capacity = 4096; agreed_max = Some 4096; dropped = 0;
+    live = foo_bar ∷ [] } in table_of w
 
 delivered : Session
 delivered = with_decoder_moved delivered_part 1 filled 7 0 (1 ∷ [])
@@ -68,7 +75,8 @@ decoded = with_decoded delivered 4
 
 acknowledged : Session
 acknowledged =
-    record (with_kept_stream decoded 4 (record (stream_at decoded.streams 4) { acknowledged = 1 })) { decoder_stream = 1 ∷ 132 ∷ [] }
+    record (with_kept_stream decoded 4
+        (record (stream_at decoded.streams 4) { acknowledged = 1 })) { decoder_stream = 1 ∷ 132 ∷ [] }
 
 -- the encoder's table behind both decoder instructions
 released : Table
@@ -79,14 +87,20 @@ heard_all = with_encoder_moved acknowledged 2 released 2
 
 -- all that has to unfold
 rows : ℕ
-unfolding eviction_count written_groups groups_at integer_at written_integer bits_of ones bytes_by_length bytes_of_length
+unfolding eviction_count written_groups groups_at integer_at written_integer bits_of ones bytes_by_length
+    bytes_of_length
     first_code code_length code_of number_from bytes_of_bits payload_of code_at is_padding item_at text_at text_of_bits
     string_at written_string static_table static_index static_name_index line_form written_line written_lines
-    encoder_instruction_form decoder_instruction_form written_encoder_instruction written_encoder_instructions written_decoder_instruction written_decoder_instructions made_at form_at
-    prefix_for required_at read_required read_base read_prefix written_prefix prefix_at absolute_entry relative_entry insertion effect
-    window_after window_of whole_window history_after static_field relative_field post_base_field line_field fields_of references_of_line references_of
-    greatest_of reading fields_at reading_of_bytes written_block window with_number with_reference is_evictable all_evictable has_room may_reference
-    with_entry last_position newest_index put with_capacity apply_encoder_instruction commit without_references without_oldest without_stream with_increment apply_decoder_instruction
+    encoder_instruction_form decoder_instruction_form written_encoder_instruction written_encoder_instructions
+    written_decoder_instruction written_decoder_instructions made_at form_at
+    prefix_for required_at read_required read_base read_prefix written_prefix prefix_at absolute_entry
+    relative_entry insertion effect
+    window_after window_of whole_window history_after static_field relative_field post_base_field line_field
+    fields_of references_of_line references_of
+    greatest_of reading fields_at reading_of_bytes written_block window with_number with_reference is_evictable
+    all_evictable has_room may_reference
+    with_entry last_position newest_index put with_capacity apply_encoder_instruction commit without_references
+    without_oldest without_stream with_increment apply_decoder_instruction
     instruction_for rule_field rule table_of increment_sum foo_bar filled released begun written delivered_part
     delivered decoded acknowledged heard_all skip_reason
 rows = 0
@@ -170,19 +184,24 @@ piece_0 h = absurd (omega (arith, h.0))
 
 -- insertions stay unreported where memory is refused
 memory_keeps : (v : Session) (n : ℕ) (t : Table) (front rest : List ℕ) (v' : Session)
-    → EndsAtDecoder v n t front rest NoMemory v' → v'.unreported ≡ v.unreported + (insert_count t - insert_count v.decoder)
+    → EndsAtDecoder v n t front rest NoMemory v' → v'.unreported
+        ≡ v.unreported + (insert_count t - insert_count v.decoder)
 memory_keeps v n t front rest v' (takes_all pieces cut sizes sum is goes) = absurd cc
 memory_keeps v n t front rest v' (no_memory is goes) = ap (λ (x : Session). x.unreported) goes
 memory_keeps v n t front rest v' (bad_bytes fault b is goes) = absurd cc
 memory_keeps v n t front rest v' (bad_instruction encoding more i e cut s bad is goes) = absurd cc
 
 -- the known received count is held at the greatest number of 64 bits
-known_held : (with_increment (record (empty_table 0 None 0) { known_received_count = 18446744073709551615 }) 1).known_received_count ≡ 18446744073709551615
+known_held : (with_increment
+    (record (empty_table 0 None 0) { known_received_count = 18446744073709551615 }) 1).known_received_count
+        ≡ 18446744073709551615
 unfolding rows
 known_held = refl
 
 -- which it reaches
-known_reaches : (with_increment (record (empty_table 0 None 0) { known_received_count = 18446744073709551614 }) 1).known_received_count ≡ 18446744073709551615
+known_reaches : (with_increment
+    (record (empty_table 0 None 0) { known_received_count = 18446744073709551614 }) 1).known_received_count
+        ≡ 18446744073709551615
 unfolding rows
 known_reaches = refl
 
@@ -213,7 +232,8 @@ session_sent = refl
 cut_part : Truncates encoder_instruction_form (98 ∷ 148 ∷ 231 ∷ 131 ∷ 140 ∷ 118 ∷ [])
 unfolding rows
 cut_part =
-    (reads_form_truncation encoder_instruction_form (98 ∷ 148 ∷ 231 ∷ 131 ∷ 140 ∷ 118 ∷ [])).0 (BadString EndsEarly, refl, refl)
+    (reads_form_truncation encoder_instruction_form (98 ∷ 148 ∷ 231 ∷ 131 ∷ 140 ∷ 118 ∷ [])).0
+        (BadString EndsEarly, refl, refl)
 
 cut_none : Truncates encoder_instruction_form []
 unfolding rows
@@ -341,7 +361,8 @@ delivers_rest =
         rest = [];
         table = filled;
         offered = refl;
-        joined = line_then encoder_instruction_form _ [] (InsertLiteralName (codes "foo") (codes "bar")) [] insertion_read refl;
+        joined = line_then encoder_instruction_form _ []
+            (InsertLiteralName (codes "foo") (codes "bar")) [] insertion_read refl;
         applies = refl;
         ends = takes_all (1 ∷ []) cut_none ((lit≤ tt, lit≤ tt), tt) refl refl refl;
       },

@@ -3,7 +3,8 @@ use Rattle.std.proofs.Common.{◌≡◌, ◌+◌, zero-add, List, [], ◌∷◌,
 use Rattle.std.proofs.lemmas.List.Sums.{sum_by-append}
 use Rattle.qpack_spec.specs.Field.{Field, field_size, total_size}
 
-total_one : (f : Field) → total_size (f ∷ []) ≡ field_size f
+-- one field
+pub total_one : (f : Field) → total_size (f ∷ []) ≡ field_size f
 total_one f = zero-add (field_size f)
 
 -- a field more at the front

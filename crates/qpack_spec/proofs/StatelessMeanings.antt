@@ -13,10 +13,11 @@ use Rattle.qpack_spec.specs.Reading.{BadForm}
 use Rattle.qpack_spec.specs.Stateless.{StatelessFault, BadSection, NamesEntry, TooLong, saturated_size, stateless_field}
 use Rattle.qpack_spec.specs.Stateless.{or_bad_bytes, within_limit, stateless_at, stateless_reading}
 use Rattle.qpack_spec.specs.StatelessMeaning.{SpellsStatelessField, StopsLine, post_base, in_bytes, in_line, past_limit}
-use Rattle.qpack_spec.specs.StatelessMeaning.{StopsBehind, in_prefix, in_lines, GivesStateless, StatelessReadingIsMeaning}
+use Rattle.qpack_spec.specs.StatelessMeaning.{StopsBehind, in_prefix, in_lines, GivesStateless}
+use Rattle.qpack_spec.specs.StatelessMeaning.{StatelessReadingIsMeaning}
 use Rattle.qpack_spec.proofs.Sizes.{total_first}
 use Rattle.qpack_spec.proofs.FormLaws.{form_takes, form_again}
-use Rattle.qpack_spec.proofs.BlockReadings.{prefix_takes, prefix_again}
+use Rattle.qpack_spec.proofs.BlockReadings.{spelled_length, prefix_takes, prefix_again}
 
 -- ---- what is read of the next line, and behind it
 
@@ -75,16 +76,17 @@ pub limited_ok : (steps limit sum : ℕ) (f : Field) (rest : List ℕ) → satur
 unfolding limited
 limited_ok steps limit sum f rest h = rw (le-ltb _ _ h) refl
 
-pub nothing_left : (steps limit sum : ℕ) → stateless_at steps limit sum [] ≡ Ok []
+pub none_alone : (steps limit sum : ℕ) → stateless_at steps limit sum [] ≡ Ok []
 unfolding stateless_at
-nothing_left zero limit sum = refl
-nothing_left (suc steps) limit sum = refl
+none_alone zero limit sum = refl
+none_alone (suc steps) limit sum = refl
 
 -- ---- reading line by line finds what the lines mean
 
 -- what lines give: fields, or the first fault
 abbrev LinesGive : ℕ → ℕ → List ℕ → Result (List Field) StatelessFault → Type 0
-LinesGive limit sum bytes (Ok fs) = Joined SpellsStatelessField bytes fs × (saturated_size (sum + total_size fs) ≤ limit)
+LinesGive limit sum bytes (Ok fs) = Joined SpellsStatelessField bytes fs
+    × (saturated_size (sum + total_size fs) ≤ limit)
 LinesGive limit sum bytes (Err e) = StopsBehind limit sum bytes e
 
 sum_none : (sum : ℕ) → sum + total_size [] ≡ sum
@@ -127,13 +129,10 @@ line_before limit sum encoding more f (Err e) s k =
       stops = subst (λ (n : ℕ). StopsLine limit n k.first k.more e) (sum_first sum f k.so_far) k.stops;
     }
 
-spelled_length : (encoding more : List ℕ) (l : Line) → SpellsLine encoding l → length more < length (encoding ++ more)
-spelled_length encoding more l s = omega (arith, length-append encoding more, ap length s.begins)
-
 lines_found : (steps limit sum : ℕ) (bytes : List ℕ) → length bytes ≤ steps → saturated_size sum ≤ limit
     → LinesGive limit sum bytes (stateless_at steps limit sum bytes)
 lines_found steps limit sum [] h low =
-    subst (LinesGive limit sum []) (sym (nothing_left steps limit sum)) (refl, low_none limit sum low)
+    subst (LinesGive limit sum []) (sym (none_alone steps limit sum)) (refl, low_none limit sum low)
 lines_found zero limit sum (b ∷ bytes) h low = absurd (omega arith)
 lines_found (suc steps) limit sum (b ∷ bytes) h low =
     by_first (λ n x le low'. lines_found steps limit n x le low') (cases_lt b 32)
@@ -218,7 +217,7 @@ low_means b encoding l form h named s = pick (cases_lt b 16)
         (same_form (line_form b) form (Index 4 IndexedPostBase) named (form_between b p h)) s in
         ap stateless_field k.2
 
-no_entry : (l : Line) (f : Field) → stateless_field l ≡ Ok f → stateless_field l ≡ Err NamesEntry → ⊥
+pub no_entry : (l : Line) (f : Field) → stateless_field l ≡ Ok f → stateless_field l ≡ Err NamesEntry → ⊥
 no_entry l f p q = cc
 
 high_first : (encoding : List ℕ) (f : Field) (s : SpellsStatelessField encoding f) → 32 ≤ s.1.first
@@ -240,7 +239,8 @@ step steps limit sum encoding more f s =
     ∙ ap (next steps limit sum) read ∙ next_ok steps limit sum s.0 more ∙ ap (λ r. meant steps limit sum r more) s.2
     ∙ meant_ok steps limit sum f more
 
-field_length : (encoding more : List ℕ) (f : Field) → SpellsStatelessField encoding f → length more < length (encoding ++ more)
+field_length : (encoding more : List ℕ) (f : Field) → SpellsStatelessField encoding f → length more
+    < length (encoding ++ more)
 field_length encoding more f s = spelled_length encoding more s.0 s.1
 
 -- what holds of a sum holds of its beginning
@@ -251,7 +251,7 @@ fits_first limit sum f fs h = (omega (arith, h, total_first f fs), omega (arith,
 lines_read : (steps limit sum : ℕ) (bytes : List ℕ) (fs : List Field) → length bytes ≤ steps
     → Joined SpellsStatelessField bytes fs → saturated_size (sum + total_size fs) ≤ limit
     → stateless_at steps limit sum bytes ≡ Ok fs
-lines_read steps limit sum bytes [] h j low = ap (stateless_at steps limit sum) j ∙ nothing_left steps limit sum
+lines_read steps limit sum bytes [] h j low = ap (stateless_at steps limit sum) j ∙ none_alone steps limit sum
 lines_read zero limit sum bytes (f ∷ fs) h j low = absurd (omega (arith, ap length j.2, field_length j.0 j.1 f j.3))
 lines_read (suc steps) limit sum bytes (f ∷ fs) h j low =
     let fits = fits_first limit sum f fs low in
@@ -325,7 +325,8 @@ held_none : (limit : ℕ) → saturated_size 0 ≤ limit
 held_none limit = omega arith
 
 section_found : (limit : ℕ) (bytes : List ℕ) → GivesStateless limit bytes (stateless_reading limit bytes)
-section_found limit bytes = subst (GivesStateless limit bytes) (sym (section_is limit bytes)) (go (prefix_at bytes) refl)
+section_found limit bytes = subst (GivesStateless limit bytes) (sym (section_is limit bytes))
+    (go (prefix_at bytes) refl)
   where
     behind : (head lines : List ℕ) (p : Prefix) → bytes ≡ head ++ lines → SpellsPrefix head p
         → (r : Result (List Field) StatelessFault) → LinesGive limit 0 lines r → GivesStateless limit bytes r
@@ -341,7 +342,8 @@ section_found limit bytes = subst (GivesStateless limit bytes) (sym (section_is 
         }
     behind head lines p cut s (Err e) k = in_lines head lines p cut s k
 
-    go : (r : Result (Prefix × List ℕ) FormFault) → prefix_at bytes ≡ r → GivesStateless limit bytes (behind_prefix limit r)
+    go : (r : Result (Prefix × List ℕ) FormFault) → prefix_at bytes ≡ r
+        → GivesStateless limit bytes (behind_prefix limit r)
     go (Err e) q = subst (GivesStateless limit bytes) (sym (prefix_bad limit e)) (in_prefix e q refl)
     go (Ok p) q =
         let t = prefix_takes bytes p.0 p.1 q in

@@ -1,26 +1,31 @@
 -- The stateless pair: what is written without a table is read without one.
 use Rattle.std.proofs.Common.{◌≡◌, ℕ, zero, suc, ◌+◌, ◌≤◌, Bool, false, List, [], ◌∷◌, ◌++◌, length, map, Option, None}
 use Rattle.std.proofs.Common.{Some, Result, Ok, Err, refl, sym, ap, ◌∙◌, arith, lit≤, length-append}
-use Rattle.std.specs.List.{AllByRecursion, slice_get}
+use Rattle.std.specs.List.{AllByRecursion}
 use Rattle.std.proofs.lemmas.Bool.{le-ltb}
 use Rattle.std.proofs.lemmas.List.{append-nil, append_assoc}
 use Rattle.qpack_spec.specs.Bytes.{◌>>=◌}
 use Rattle.qpack_spec.specs.Field.{Field, field_size, has_name, is_field}
 use Rattle.qpack_spec.specs.Integer.{written_integer}
 use Rattle.qpack_spec.specs.Text.{written_string}
-use Rattle.qpack_spec.specs.StaticTable.{static_table, static_index, static_name_index}
+use Rattle.qpack_spec.specs.StaticTable.{static_index, static_name_index}
 use Rattle.qpack_spec.specs.Form.{FormFault, form_at}
 use Rattle.qpack_spec.specs.Line.{Line, line_form, written_line, written_lines}
 use Rattle.qpack_spec.specs.Prefix.{prefix_for}
-use Rattle.qpack_spec.specs.Reading.{static_field, greatest_of}
+use Rattle.qpack_spec.specs.Reading.{greatest_of}
 use Rattle.qpack_spec.specs.BlockReading.{written_block}
-use Rattle.qpack_spec.specs.Table.{Table, empty_table, below_limit, last_position, newest_index, without_references, insert_count}
-use Rattle.qpack_spec.specs.Rule.{Draft, with_line, literal_by_entry, literal, insertion_or_literal, by_entry, by_static}
+use Rattle.qpack_spec.specs.Table.{Table, empty_table, below_limit, last_position, newest_index, without_references}
+use Rattle.qpack_spec.specs.Table.{insert_count}
+use Rattle.qpack_spec.specs.Rule.{Draft, with_line, literal_by_entry, literal, insertion_or_literal, by_entry}
+use Rattle.qpack_spec.specs.Rule.{by_static}
 use Rattle.qpack_spec.specs.Rule.{rule_field, rule_fields, empty_draft, rule, block_of}
-use Rattle.qpack_spec.specs.Stateless.{stateless_literal, stateless_line_of, stateless_line, stateless_block, StatelessFault}
+use Rattle.qpack_spec.specs.Stateless.{stateless_literal, stateless_line_of, stateless_line, stateless_block}
+use Rattle.qpack_spec.specs.Stateless.{StatelessFault}
 use Rattle.qpack_spec.specs.Stateless.{stateless_field, or_bad_bytes, within_limit, stateless_at, stateless_reading}
 use Rattle.qpack_spec.specs.Stateless.{RuleWithoutTable, up_to_limit, StatelessPairAgrees}
 use Rattle.qpack_spec.specs.WrittenLaws.{IsWritableField, IsWritableLine}
+use Rattle.qpack_spec.proofs.Readings.{static_means}
+use Rattle.qpack_spec.proofs.StatelessMeanings.{none_alone}
 use Rattle.qpack_spec.proofs.Places.{static_found, static_name_found, named_field}
 use Rattle.qpack_spec.proofs.FormLaws.{form_again}
 use Rattle.qpack_spec.proofs.WrittenForms.{integer_starts, behind, integer_written, name_starts, lines_spelled}
@@ -40,7 +45,8 @@ literal_is : (base : ℕ) (d : Draft) (f : Field) → d.table ≡ nothing → (o
     → literal base d f o ≡ with_line d (stateless_literal f o)
 literal_is base d f e (Some i) = refl
 literal_is base d f e None =
-    ap (literal_by_entry base d f) (ap (λ (t : Table). newest_index t (has_name f.name)) e ∙ none_newest (has_name f.name))
+    ap (literal_by_entry base d f)
+        (ap (λ (t : Table). newest_index t (has_name f.name)) e ∙ none_newest (has_name f.name))
 
 no_insertion : (base : ℕ) (d : Draft) (f : Field) → d.table ≡ nothing
     → insertion_or_literal base d f ≡ literal base d f (static_name_index f.name)
@@ -106,10 +112,6 @@ record WrittenAlone (f : Field) (l : Line) : Type 0 where
   pub begins : written_line l ≡ first ∷ more
   pub high : 32 ≤ first
 
-static_means : (i : ℕ) (g : Field) → slice_get static_table i ≡ Some g → static_field i ≡ Ok g
-unfolding static_field
-static_means i g e = rw e refl
-
 literal_written : (f : Field) → IsWritableField f → (o : Option ℕ) → static_name_index f.name ≡ o
     → WrittenAlone f (stateless_literal f o)
 unfolding written_line
@@ -139,7 +141,8 @@ literal_written f w None e =
       high = omega (arith, s.high);
     }
 
-line_written : (f : Field) → IsWritableField f → (o : Option ℕ) → static_index f ≡ o → WrittenAlone f (stateless_line_of f o)
+line_written : (f : Field) → IsWritableField f → (o : Option ℕ) → static_index f ≡ o
+    → WrittenAlone f (stateless_line_of f o)
 unfolding written_line
 line_written f w (Some i) e =
     let at = static_found f i e in
@@ -171,11 +174,6 @@ next_read : (steps limit sum : ℕ) (l : Line) (rest : List ℕ) (f : Field) →
     ≡ (within_limit limit sum f >>= λ g. stateless_at steps limit (sum + field_size g) rest >>= λ fs. Ok (g ∷ fs))
 unfolding next_alone
 next_read steps limit sum l rest f e = rw e refl
-
-none_alone : (steps limit sum : ℕ) → stateless_at steps limit sum [] ≡ Ok []
-unfolding stateless_at
-none_alone zero limit sum = refl
-none_alone (suc steps) limit sum = refl
 
 -- within the limit, what goes on behind is the same
 same_behind : (r : Result Field StatelessFault) (f : Field) (h k : Field → Result (List Field) StatelessFault)

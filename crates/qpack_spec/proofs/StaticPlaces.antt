@@ -76,7 +76,7 @@ both_true : (a b : Bool) → a ≡ true → b ≡ true → (a && b) ≡ true
 both_true true b p q = q
 both_true false b p q = absurd cc
 
-field_is : (n m v w : List ℕ) → n ≡ m → v ≡ w
+pub field_is : (n m v w : List ℕ) → n ≡ m → v ≡ w
     → (let f : Field = record { name = n; value = v } in let g : Field = record { name = m; value = w } in f ≡ g)
 field_is n m v w p q = cc
 

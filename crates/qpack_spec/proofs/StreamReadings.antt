@@ -28,7 +28,8 @@ no_line_read {L} form_of bytes e q =
         cut = refl;
         joined = refl;
         cut_off =
-            λ encoding more l p s. (let again = form_again form_of encoding more l s in let same = ap (form_at form_of) p in
+            λ encoding more l p s.
+                (let again = form_again form_of encoding more l s in let same = ap (form_at form_of) p in
             absurd cc);
       };
       ends = pick (is_cut e) refl;
@@ -39,7 +40,8 @@ no_line_read {L} form_of bytes e q =
     pick true c = inl ((reads_form_truncation form_of bytes).0 (e, c, q))
     pick false c = inr (e, form_refusal form_of bytes e q c)
 
-line_read : {L : Type 0} (form_of : ℕ → Option (Form L)) (bytes encoding more : List ℕ) (l : L) → bytes ≡ encoding ++ more
+line_read : {L : Type 0} (form_of : ℕ → Option (Form L)) (bytes encoding more : List ℕ) (l : L) → bytes ≡ encoding
+    ++ more
     → Spells L form_of encoding l
     → StreamReading L form_of more → StreamReading L form_of bytes
 line_read form_of bytes encoding more l p s k =

@@ -4,7 +4,8 @@ use Rattle.std.specs.Prelude.{nat_le}
 use Rattle.std.proofs.lemmas.Bool.{cond_both}
 use Rattle.std.proofs.lemmas.List.{drop-map}
 use Rattle.qpack_spec.specs.Field.{Field}
-use Rattle.qpack_spec.specs.Window.{Window, DoesNotFit, AboveMaximum, eviction_count, greatest_capacity, Resizes, window_after}
+use Rattle.qpack_spec.specs.Window.{Window, DoesNotFit, AboveMaximum, eviction_count, greatest_capacity, Resizes}
+use Rattle.qpack_spec.specs.Window.{window_after}
 use Rattle.qpack_spec.specs.Table.{Entry, Table, fields_in, window, can_evict, with_capacity}
 use Rattle.qpack_spec.specs.TableLaws.{EntriesAreInsertions, CapacitiesAreOfTheWindow}
 use Rattle.qpack_spec.proofs.Results.{ok_is}
@@ -37,7 +38,8 @@ pub capacities_of_window : CapacitiesAreOfTheWindow
 unfolding with_capacity
 capacities_of_window t u n e =
     let evicted = eviction_count n (fields_in t.live) in
-    cond_both (nat_le n (greatest_capacity t.agreed_max)) (cond (can_evict t evicted) (Ok (smaller t n)) (Err DoesNotFit))
+    cond_both (nat_le n (greatest_capacity t.agreed_max))
+        (cond (can_evict t evicted) (Ok (smaller t n)) (Err DoesNotFit))
     (Err AboveMaximum) (λ r. r ≡ Ok u → window u ≡ window_after (window t) (Resizes n))
     (λ _. cond_both (can_evict t evicted) (Ok (smaller t n)) (Err DoesNotFit) (λ r. r ≡ Ok u
     → window u ≡ window_after (window t) (Resizes n))

@@ -12,21 +12,29 @@ use Rattle.qpack_spec.specs.Field.{Field}
 use Rattle.qpack_spec.specs.StaticTable.{field, static_table, static_index, static_name_index}
 use Rattle.qpack_spec.specs.Form.{made_at, form_at}
 use Rattle.qpack_spec.specs.Line.{line_form, written_line, written_lines}
-use Rattle.qpack_spec.specs.Instruction.{EncoderInstruction, InsertStaticName, InsertDynamicName, InsertLiteralName, Duplicate}
-use Rattle.qpack_spec.specs.Instruction.{SetCapacity, DecoderInstruction, Acknowledgment, Cancellation, Increment, encoder_instruction_form}
-use Rattle.qpack_spec.specs.Instruction.{decoder_instruction_form, written_encoder_instruction, written_encoder_instructions, written_decoder_instruction}
+use Rattle.qpack_spec.specs.Instruction.{EncoderInstruction, InsertStaticName, InsertDynamicName, InsertLiteralName}
+use Rattle.qpack_spec.specs.Instruction.{Duplicate}
+use Rattle.qpack_spec.specs.Instruction.{SetCapacity, DecoderInstruction, Acknowledgment, Cancellation, Increment}
+use Rattle.qpack_spec.specs.Instruction.{encoder_instruction_form}
+use Rattle.qpack_spec.specs.Instruction.{decoder_instruction_form, written_encoder_instruction}
+use Rattle.qpack_spec.specs.Instruction.{written_encoder_instructions, written_decoder_instruction}
 use Rattle.qpack_spec.specs.Instruction.{written_decoder_instructions}
 use Rattle.qpack_spec.specs.Prefix.{prefix_for, required_at, read_required, read_base, read_prefix, written_prefix}
 use Rattle.qpack_spec.specs.Prefix.{prefix_at}
-use Rattle.qpack_spec.specs.Window.{eviction_count, absolute_entry, relative_entry, insertion, effect, window_after, TableRefusal, NoEntry, NoStaticField}
+use Rattle.qpack_spec.specs.Window.{eviction_count, absolute_entry, relative_entry, insertion, effect, window_after}
+use Rattle.qpack_spec.specs.Window.{TableRefusal, NoEntry, NoStaticField}
 use Rattle.qpack_spec.specs.Window.{DoesNotFit, AboveMaximum, UnknownStream}
 use Rattle.qpack_spec.specs.History.{window_of, whole_window, history_after}
-use Rattle.qpack_spec.specs.Reading.{static_field, relative_field, post_base_field, line_field, fields_of, references_of_line}
+use Rattle.qpack_spec.specs.Reading.{static_field, relative_field, post_base_field, line_field, fields_of}
+use Rattle.qpack_spec.specs.Reading.{references_of_line}
 use Rattle.qpack_spec.specs.Reading.{references_of, greatest_of, reading}
 use Rattle.qpack_spec.specs.BlockReading.{fields_at, reading_of_bytes, written_block}
-use Rattle.qpack_spec.specs.Table.{Table, empty_table, window, with_number, with_reference, is_evictable, all_evictable, has_room, may_reference}
-use Rattle.qpack_spec.specs.Table.{with_entry, last_position, newest_index, put, with_capacity, apply_encoder_instruction, commit, without_references}
-use Rattle.qpack_spec.specs.Table.{without_oldest, without_stream, with_increment, apply_decoder_instruction, fields_in, insert_count}
+use Rattle.qpack_spec.specs.Table.{Table, empty_table, window, with_number, with_reference, is_evictable, all_evictable}
+use Rattle.qpack_spec.specs.Table.{has_room, may_reference}
+use Rattle.qpack_spec.specs.Table.{with_entry, last_position, newest_index, put, with_capacity}
+use Rattle.qpack_spec.specs.Table.{apply_encoder_instruction, commit, without_references}
+use Rattle.qpack_spec.specs.Table.{without_oldest, without_stream, with_increment, apply_decoder_instruction, fields_in}
+use Rattle.qpack_spec.specs.Table.{insert_count}
 use Rattle.qpack_spec.specs.Rule.{entries_left, instruction_for, rule_field, rule, block_of, committed_table}
 
 -- fields put into a table in turn; a refused one ends it
@@ -73,14 +81,20 @@ duplicates n = Rattle.std.specs.Prelude.replicate n (Duplicate 0)
 
 -- all that has to unfold
 rows : ℕ
-unfolding eviction_count written_groups groups_at integer_at written_integer bits_of ones bytes_by_length bytes_of_length
+unfolding eviction_count written_groups groups_at integer_at written_integer bits_of ones bytes_by_length
+    bytes_of_length
     first_code code_length code_of number_from bytes_of_bits payload_of code_at is_padding item_at text_at text_of_bits
     string_at written_string static_table static_index static_name_index line_form written_line written_lines
-    encoder_instruction_form decoder_instruction_form written_encoder_instruction written_encoder_instructions written_decoder_instruction written_decoder_instructions made_at form_at
-    prefix_for required_at read_required read_base read_prefix written_prefix prefix_at absolute_entry relative_entry insertion effect
-    window_after window_of whole_window history_after static_field relative_field post_base_field line_field fields_of references_of_line references_of
-    greatest_of reading fields_at reading_of_bytes written_block window with_number with_reference is_evictable all_evictable has_room may_reference
-    with_entry last_position newest_index put with_capacity apply_encoder_instruction commit without_references without_oldest without_stream with_increment apply_decoder_instruction
+    encoder_instruction_form decoder_instruction_form written_encoder_instruction written_encoder_instructions
+    written_decoder_instruction written_decoder_instructions made_at form_at
+    prefix_for required_at read_required read_base read_prefix written_prefix prefix_at absolute_entry
+    relative_entry insertion effect
+    window_after window_of whole_window history_after static_field relative_field post_base_field line_field
+    fields_of references_of_line references_of
+    greatest_of reading fields_at reading_of_bytes written_block window with_number with_reference is_evictable
+    all_evictable has_room may_reference
+    with_entry last_position newest_index put with_capacity apply_encoder_instruction commit without_references
+    without_oldest without_stream with_increment apply_decoder_instruction
     instruction_for rule_field rule put_all put_into live_of counts_of apply_all writes_on block_bytes hear_all
     open_count waiting_count duplicates
 rows = 0
@@ -119,7 +133,8 @@ past_greatest = refl
 
 -- the entry that is evicted is not duplicated
 equal_goes_first : (put_into 76 4 ((field (codes "foo") (codes "bar")) ∷ (field (codes "baz") (codes "bar")) ∷ [])
-    >>= λ t. Ok (instruction_for (field (codes "foo") (codes "bar")) (entries_left t (field (codes "foo") (codes "bar")))))
+    >>= λ t. Ok (instruction_for (field (codes "foo") (codes "bar"))
+        (entries_left t (field (codes "foo") (codes "bar")))))
     ≡ Ok (InsertLiteralName (codes "foo") (codes "bar"))
 unfolding rows
 equal_goes_first = refl
@@ -263,20 +278,23 @@ room_for_last : (has_room (record (empty_table 4096 None 1) { dropped = 2 ^ 62 -
 unfolding rows
 room_for_last = refl
 
--- an entry whose name alone an open block uses is held
+-- an entry whose name alone an unacknowledged block uses is held
 literal_name_held : (counts_of (put_into 64 0 ((field (codes "foo") (codes "bar")) ∷ [])
-    >>= λ t. with_capacity (writes_on (with_increment t 1) 4 ((field (codes "foo") (codes "quxx")) ∷ [])) 37)) ≡ Err DoesNotFit
+    >>= λ t. with_capacity (writes_on (with_increment t 1) 4 ((field (codes "foo") (codes "quxx")) ∷ [])) 37))
+        ≡ Err DoesNotFit
 unfolding rows
 literal_name_held = refl
 
 -- which another block does not hold
 literal_name_free : (counts_of (put_into 64 0 ((field (codes "foo") (codes "bar")) ∷ [])
-    >>= λ t. with_capacity (writes_on (with_increment t 1) 4 ((field (codes ":method") (codes "GET")) ∷ [])) 37)) ≡ Ok (2, 1)
+    >>= λ t. with_capacity (writes_on (with_increment t 1) 4 ((field (codes ":method") (codes "GET")) ∷ [])) 37))
+        ≡ Ok (2, 1)
 unfolding rows
 literal_name_free = refl
 
--- a capacity that an open block stands against
-resize_held : (counts_of (with_capacity (writes_on (empty_table 4096 None 1) 4 ((field (codes "foo") (codes "bar")) ∷ []))
+-- a capacity that an unacknowledged block stands against
+resize_held : (counts_of
+    (with_capacity (writes_on (empty_table 4096 None 1) 4 ((field (codes "foo") (codes "bar")) ∷ []))
     37)) ≡ Err DoesNotFit
 unfolding rows
 resize_held = refl
@@ -296,12 +314,14 @@ unfolding rows
 resize_received = refl
 
 -- an insertion at capacity 0
-ignored_at_0 : (counts_of (apply_encoder_instruction (empty_table 0 None 0) (InsertLiteralName (codes "foo") (codes "bar")))) ≡ Ok (1, 0)
+ignored_at_0 : (counts_of
+    (apply_encoder_instruction (empty_table 0 None 0) (InsertLiteralName (codes "foo") (codes "bar")))) ≡ Ok (1, 0)
 unfolding rows
 ignored_at_0 = refl
 
 -- at capacity 33
-too_large_at_33 : (counts_of (apply_encoder_instruction (empty_table 33 None 0) (InsertLiteralName (codes "foo") (codes "bar"))))
+too_large_at_33 : (counts_of
+    (apply_encoder_instruction (empty_table 33 None 0) (InsertLiteralName (codes "foo") (codes "bar"))))
     ≡ Err DoesNotFit
 unfolding rows
 too_large_at_33 = refl
@@ -317,24 +337,28 @@ unfolding rows
 no_entry_at_0 = refl
 
 -- and a static name that is not there
-no_static_at_0 : (counts_of (apply_encoder_instruction (empty_table 0 None 0) (InsertStaticName 99 []))) ≡ Err (NoStaticField 99)
+no_static_at_0 : (counts_of (apply_encoder_instruction (empty_table 0 None 0) (InsertStaticName 99 [])))
+    ≡ Err (NoStaticField 99)
 unfolding rows
 no_static_at_0 = refl
 
 -- an entry far away
-no_far_entry : (counts_of (apply_encoder_instruction (empty_table 4096 None 0) (InsertDynamicName 9223372036854775870 [])))
+no_far_entry : (counts_of
+    (apply_encoder_instruction (empty_table 4096 None 0) (InsertDynamicName 9223372036854775870 [])))
     ≡ Err (NoEntry 9223372036854775870)
 unfolding rows
 no_far_entry = refl
 
 -- a capacity past the greatest
-capacity_past_greatest : (counts_of (apply_encoder_instruction (empty_table 4096 None 0) (SetCapacity 9223372036854775838)))
+capacity_past_greatest :
+    (counts_of (apply_encoder_instruction (empty_table 4096 None 0) (SetCapacity 9223372036854775838)))
     ≡ Err AboveMaximum
 unfolding rows
 capacity_past_greatest = refl
 
 -- capacity 0 empties the table
-capacity_0 : (live_of (put_into 4096 0 ((field (codes "foo") (codes "bar")) ∷ []) >>= λ t. apply_encoder_instruction t (SetCapacity 0)))
+capacity_0 : (live_of
+    (put_into 4096 0 ((field (codes "foo") (codes "bar")) ∷ []) >>= λ t. apply_encoder_instruction t (SetCapacity 0)))
     ≡ Ok []
 unfolding rows
 capacity_0 = refl

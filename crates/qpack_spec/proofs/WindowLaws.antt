@@ -9,15 +9,21 @@ use Rattle.std.proofs.lemmas.List.Sums.{sum_by-append}
 use Rattle.qpack_spec.specs.Bytes.{◌>>=◌}
 use Rattle.qpack_spec.specs.Field.{Field, field_size, total_size}
 use Rattle.qpack_spec.specs.StaticTable.{static_table}
-use Rattle.qpack_spec.specs.Instruction.{EncoderInstruction, InsertStaticName, InsertDynamicName, InsertLiteralName, Duplicate}
+use Rattle.qpack_spec.specs.Instruction.{EncoderInstruction, InsertStaticName, InsertDynamicName, InsertLiteralName}
+use Rattle.qpack_spec.specs.Instruction.{Duplicate}
 use Rattle.qpack_spec.specs.Instruction.{SetCapacity}
-use Rattle.qpack_spec.specs.Window.{Window, window_insert_count, relative_entry, eviction_count, TableRefusal, NoEntry, NoStaticField, DoesNotFit, Effect}
-use Rattle.qpack_spec.specs.Window.{Inserts, Ignored, Resizes, or_refusal, with_value, insertion, effect, window_after, apply}
+use Rattle.qpack_spec.specs.Window.{Window, window_insert_count, relative_entry, eviction_count, TableRefusal, NoEntry}
+use Rattle.qpack_spec.specs.Window.{NoStaticField, DoesNotFit, Effect}
+use Rattle.qpack_spec.specs.Window.{Inserts, Ignored, Resizes, or_refusal, with_value, insertion, effect, window_after}
+use Rattle.qpack_spec.specs.Window.{apply}
 use Rattle.qpack_spec.specs.History.{History, window_of, history_after, empty_history, Leads}
-use Rattle.qpack_spec.specs.WindowLaws.{LiveEntriesAreFew, EvictionCountIsLeast, FrontLeads, DroppedIsGreatest, SetsNoCapacity}
+use Rattle.qpack_spec.specs.WindowLaws.{LiveEntriesAreFew, EvictionCountIsLeast, FrontLeads, DroppedIsGreatest}
+use Rattle.qpack_spec.specs.WindowLaws.{SetsNoCapacity}
 use Rattle.qpack_spec.specs.WindowLaws.{LiveIsLongestTail, all_taken, WindowsFollowHistories}
 use Rattle.qpack_spec.proofs.Results.{bind_ok, ok_is}
-use Rattle.qpack_spec.proofs.Windows.{eviction_count_bound, total_cons, eviction_count_fits, eviction_count_least, Sound, sound_begin}
+use Rattle.qpack_spec.proofs.Sizes.{total_first}
+use Rattle.qpack_spec.proofs.Windows.{eviction_count_bound, eviction_count_fits, eviction_count_least, Sound}
+use Rattle.qpack_spec.proofs.Windows.{sound_begin}
 use Rattle.qpack_spec.proofs.Windows.{sound_grown, allowed, sound_few, live_push, window_grown, leads_sound}
 use Rattle.qpack_spec.proofs.Windows.{leads_split, leads_unique, leads_grows}
 
@@ -25,17 +31,19 @@ use Rattle.qpack_spec.proofs.Windows.{leads_split, leads_unique, leads_grows}
 shorter : (n : ℕ) (fs : List Field) → total_size (drop n fs) ≤ total_size fs
 shorter zero fs = omega arith
 shorter (suc n) [] = omega arith
-shorter (suc n) (f ∷ fs) = omega (arith, shorter n fs, total_cons f fs)
+shorter (suc n) (f ∷ fs) = omega (arith, shorter n fs, total_first f fs)
 
 -- behind d entries, the least number is that of all, or d
 eviction_count_drop : (c : ℕ) (fs : List Field) (d : ℕ) → d + eviction_count c (drop d fs) ≡ max d (eviction_count c fs)
 eviction_count_drop c fs d =
     let up : d + eviction_count c (drop d fs) ≤ max d (eviction_count c fs) = pick (cases_lt d (eviction_count c fs)) in
     let low : eviction_count c fs ≤ d + eviction_count c (drop d fs) =
-    eviction_count_least c fs (d + eviction_count c (drop d fs)) (rw (← drop-drop) (eviction_count_fits c (drop d fs))) in
+    eviction_count_least c fs (d + eviction_count c (drop d fs))
+        (rw (← drop-drop) (eviction_count_fits c (drop d fs))) in
     omega arith
   where
-    pick : (d < eviction_count c fs) ⊎ (eviction_count c fs ≤ d) → d + eviction_count c (drop d fs) ≤ max d (eviction_count c fs)
+    pick : (d < eviction_count c fs) ⊎ (eviction_count c fs ≤ d) → d + eviction_count c (drop d fs)
+        ≤ max d (eviction_count c fs)
     pick (inl lt) =
         let n : d + (eviction_count c fs - d) ≡ eviction_count c fs = omega arith in
         let m : eviction_count c (drop d fs) ≤ eviction_count c fs - d =
@@ -45,12 +53,14 @@ eviction_count_drop c fs d =
         let n : eviction_count c fs + (d - eviction_count c fs) ≡ d = omega arith in
         let m : eviction_count c (drop d fs) ≤ 0 =
         eviction_count_least c (drop d fs) 0 (subst (λ (k : ℕ). total_size (drop k fs) ≤ c) n
-        (rw (← drop-drop) (omega (arith, shorter (d - eviction_count c fs) (drop (eviction_count c fs) fs), eviction_count_fits c fs)))) in
+        (rw (← drop-drop) (omega
+            (arith, shorter (d - eviction_count c fs) (drop (eviction_count c fs) fs), eviction_count_fits c fs)))) in
         omega arith
 
 -- what was dropped is the greater of what was dropped before and what has to go now
 grown_dropped : (h : History) (e : Effect) → Sound h
-    → (history_after h e).dropped ≡ max h.dropped (eviction_count (history_after h e).capacity (history_after h e).inserted)
+    → (history_after h e).dropped
+        ≡ max h.dropped (eviction_count (history_after h e).capacity (history_after h e).inserted)
 unfolding history_after
 grown_dropped h (Inserts f) s =
     ap (λ l. h.dropped + eviction_count h.capacity l) (sym (live_push h f s.in_range))
@@ -65,7 +75,8 @@ live_many h = length-drop h.dropped h.inserted
 
 pub live_few : LiveEntriesAreFew
 live_few capacity agreed_max is h l =
-    omega (arith, sound_few h (leads_sound (empty_history capacity agreed_max) is h l (sound_begin capacity agreed_max)), live_many h)
+    omega (arith, sound_few h
+        (leads_sound (empty_history capacity agreed_max) is h l (sound_begin capacity agreed_max)), live_many h)
 
 pub eviction_count_is_least : EvictionCountIsLeast
 eviction_count_is_least capacity fs = (eviction_count_fits capacity fs, eviction_count_least capacity fs)
@@ -74,7 +85,8 @@ eviction_count_is_least capacity fs = (eviction_count_fits capacity fs, eviction
 at_least : (from : History) (is : List EncoderInstruction) (h : History) → Sound from → Leads from is h → (m : History)
     → FrontLeads from is m → eviction_count m.capacity m.inserted ≤ h.dropped
 at_least from is h s l m f =
-    let split = leads_split from f.front f.rest h (subst (λ (x : List EncoderInstruction). Leads from x h) (sym f.cut) l) in
+    let split = leads_split from f.front f.rest h
+        (subst (λ (x : List EncoderInstruction). Leads from x h) (sym f.cut) l) in
     let same : split.0 ≡ m = leads_unique from f.front split.0 m split.1 f.leads in
     let on : Leads m f.rest h = subst (λ (x : History). Leads x f.rest h) same split.2 in
     let sound : Sound m = leads_sound from f.front m f.leads s in
@@ -82,7 +94,8 @@ at_least from is h s l m f =
 
 -- what was dropped was dropped before, or had to go at the end of a front
 attained : (from : History) (is : List EncoderInstruction) (h : History) → Sound from → Leads from is h
-    → (h.dropped ≡ from.dropped) ⊎ ((m : History) × FrontLeads from is m × (h.dropped ≡ eviction_count m.capacity m.inserted))
+    → (h.dropped ≡ from.dropped)
+        ⊎ ((m : History) × FrontLeads from is m × (h.dropped ≡ eviction_count m.capacity m.inserted))
 attained from [] h s l = inl (ap (λ (x : History). x.dropped) (sym l))
 attained from (i ∷ is) h s l =
     let next = history_after from l.0 in
@@ -90,7 +103,8 @@ attained from (i ∷ is) h s l =
     (cases_lt from.dropped (eviction_count next.capacity next.inserted))
   where
     pick : (h.dropped ≡ (history_after from l.0).dropped)
-        ⊎ ((m : History) × FrontLeads (history_after from l.0) is m × (h.dropped ≡ eviction_count m.capacity m.inserted))
+        ⊎ ((m : History) × FrontLeads (history_after from l.0) is m
+            × (h.dropped ≡ eviction_count m.capacity m.inserted))
         → (from.dropped < eviction_count (history_after from l.0).capacity (history_after from l.0).inserted)
         ⊎ (eviction_count (history_after from l.0).capacity (history_after from l.0).inserted ≤ from.dropped)
         → (h.dropped ≡ from.dropped) ⊎ ((m : History) × FrontLeads from (i ∷ is) m
@@ -124,7 +138,8 @@ dropped_greatest capacity agreed_max is h l = (
   where
     pick : (h.dropped ≡ 0) ⊎ ((m : History) × FrontLeads (empty_history capacity agreed_max) is m
         × (h.dropped ≡ eviction_count m.capacity m.inserted))
-        → (m : History) × FrontLeads (empty_history capacity agreed_max) is m × (h.dropped ≡ eviction_count m.capacity m.inserted)
+        → (m : History) × FrontLeads (empty_history capacity agreed_max) is m
+            × (h.dropped ≡ eviction_count m.capacity m.inserted)
     pick (inl e) = (
       empty_history capacity agreed_max,
       record { front = []; rest = is; cut = refl; leads = refl },
@@ -152,7 +167,8 @@ insertion_keeps w f e h =
     (λ _ q. absurd cc))
     h
 
-keeps_capacity : (w : Window) (i : EncoderInstruction) (e : Effect) → SetsNoCapacity i → effect w i ≡ Ok e → IsNoResize e
+keeps_capacity : (w : Window) (i : EncoderInstruction) (e : Effect) → SetsNoCapacity i → effect w i ≡ Ok e
+    → IsNoResize e
 unfolding effect
 keeps_capacity w (InsertStaticName i v) e n h =
     let r = bind_ok (or_refusal (slice_get static_table i) (NoStaticField i)) (λ f. insertion w (with_value v f)) e
@@ -162,7 +178,8 @@ keeps_capacity w (InsertDynamicName i v) e n h =
     insertion_keeps w (with_value v r.0) e r.2
 keeps_capacity w (InsertLiteralName m v) e n h = insertion_keeps w (record { name = m; value = v }) e h
 keeps_capacity w (Duplicate i) e n h =
-    let r = bind_ok (or_refusal (relative_entry w i) (NoEntry i)) (λ f. insertion w f) e h in insertion_keeps w r.0 e r.2
+    let r = bind_ok (or_refusal (relative_entry w i) (NoEntry i))
+        (λ f. insertion w f) e h in insertion_keeps w r.0 e r.2
 keeps_capacity w (SetCapacity c) e n h = absurd n
 
 -- a longer list has no fewer that have to go
@@ -177,7 +194,8 @@ more_goes c fs f =
         let s = sum_by-append field_size (drop k fs) (f ∷ []) in
         omega (arith, h, ap total_size e, s)
 
-    pick : (k : ℕ) → (k < length fs) ⊎ (length fs ≤ k) → total_size (drop k (fs ++ f ∷ [])) ≤ c → eviction_count c fs ≤ k
+    pick : (k : ℕ) → (k < length fs) ⊎ (length fs ≤ k) → total_size (drop k (fs ++ f ∷ [])) ≤ c → eviction_count c fs
+        ≤ k
     pick k (inl lt) h = eviction_count_least c fs k (within k (omega arith) h)
     pick k (inr le) h = omega (arith, eviction_count_bound c fs, le)
 
@@ -206,9 +224,11 @@ one_grown capacity h (Inserts f) s n o =
     let i = inserted_more h f in
     let low = more_goes capacity h.inserted f in
     let now : eviction_count (history_after h (Inserts f)).capacity (history_after h (Inserts f)).inserted
-    ≡ eviction_count capacity (h.inserted ++ f ∷ []) = ap (λ x. eviction_count x (history_after h (Inserts f)).inserted) c
+    ≡ eviction_count capacity (h.inserted ++ f ∷ []) = ap
+        (λ x. eviction_count x (history_after h (Inserts f)).inserted) c
     ∙ ap (eviction_count capacity) i in
-    let then : eviction_count capacity (history_after h (Inserts f)).inserted ≡ eviction_count capacity (h.inserted ++ f ∷ []) =
+    let then : eviction_count capacity (history_after h (Inserts f)).inserted
+        ≡ eviction_count capacity (h.inserted ++ f ∷ []) =
     ap (eviction_count capacity) i in
     record { same = c; least = omega (arith, d, o.least, low, now, then) }
 one_grown capacity h Ignored s n o = ignored_same capacity h o
@@ -247,18 +267,22 @@ follows : (from : History) (is : List EncoderInstruction) (h : History) → Soun
 follows from [] h s l = ap (λ (x : History). let r : Result Window TableRefusal = Ok (window_of x) in r) l
 follows from (i ∷ is) h s l =
     let e : apply (window_of from) i ≡ Ok (window_of (history_after from l.0)) =
-    ap (λ (r : Result Effect TableRefusal). r >>= λ x. (let q : Result Window TableRefusal = Ok (window_after (window_of from) x) in q))
-    l.1 ∙ ap (λ (x : Window). let q : Result Window TableRefusal = Ok x in q) (sym (window_grown from l.0 s.in_range)) in
+    ap (λ (r : Result Effect TableRefusal). r >>= λ x.
+        (let q : Result Window TableRefusal = Ok (window_after (window_of from) x) in q))
+    l.1 ∙ ap (λ (x : Window). let q : Result Window TableRefusal = Ok x in q)
+        (sym (window_grown from l.0 s.in_range)) in
     ap (λ (r : Result Window TableRefusal). r >>= λ x. all_taken x is) e
     ∙ follows (history_after from l.0) is h (sound_grown from l.0 s (allowed (window_of from) i l.0 l.1)) l.2
 
-followed : (from : History) (is : List EncoderInstruction) (w : Window) → Sound from → all_taken (window_of from) is ≡ Ok w
+followed : (from : History) (is : List EncoderInstruction) (w : Window) → Sound from → all_taken (window_of from) is
+    ≡ Ok w
     → (h : History) × Leads from is h × (w ≡ window_of h)
 followed from [] w s e = (from, refl, sym (ok_is _ _ e))
 followed from (i ∷ is) w s e =
     let a = bind_ok (apply (window_of from) i) (λ x. all_taken x is) w e in
     let b = bind_ok (effect (window_of from) i) (λ x. Ok (window_after (window_of from) x)) a.0 a.1 in
-    let same : a.0 ≡ window_of (history_after from b.0) = sym (ok_is _ _ b.2) ∙ sym (window_grown from b.0 s.in_range) in
+    let same : a.0 ≡ window_of (history_after from b.0) = sym (ok_is _ _ b.2)
+        ∙ sym (window_grown from b.0 s.in_range) in
     let r = followed (history_after from b.0) is w (sound_grown from b.0 s (allowed (window_of from) i b.0 b.1))
     (ap (λ (x : Window). all_taken x is) (sym same) ∙ a.2) in
     (r.0, (b.0, b.1, r.1), r.2)

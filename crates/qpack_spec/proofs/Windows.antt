@@ -7,28 +7,28 @@ use Rattle.std.specs.Prelude.{nat_lt, nat_le, nat_eq}
 use Rattle.std.proofs.lemmas.Bool.{cond_both, lt-ltb, ltb-true, leb-true, le-leb}
 use Rattle.std.proofs.lemmas.Bool.Decides.{nat_tests}
 use Rattle.std.proofs.lemmas.List.{drop-drop, drop-append-le, append_assoc, append-nil, drop_at}
-use Rattle.std.proofs.lemmas.List.Sums.{sum_by-cons}
 use Rattle.qpack_spec.specs.Field.{Field, field_size, total_size}
 use Rattle.qpack_spec.specs.StaticTable.{static_table}
-use Rattle.qpack_spec.specs.Instruction.{EncoderInstruction, InsertStaticName, InsertDynamicName, InsertLiteralName, Duplicate}
+use Rattle.qpack_spec.specs.Instruction.{EncoderInstruction, InsertStaticName, InsertDynamicName, InsertLiteralName}
+use Rattle.qpack_spec.specs.Instruction.{Duplicate}
 use Rattle.qpack_spec.specs.Instruction.{SetCapacity}
-use Rattle.qpack_spec.specs.Window.{Window, greatest_capacity, window_insert_count, absolute_entry, relative_entry, eviction_count, NoEntry, NoStaticField}
+use Rattle.qpack_spec.specs.Window.{Window, greatest_capacity, window_insert_count, absolute_entry, relative_entry}
+use Rattle.qpack_spec.specs.Window.{eviction_count, NoEntry, NoStaticField}
 use Rattle.qpack_spec.specs.Window.{DoesNotFit, AboveMaximum, Effect, Inserts, Ignored, Resizes, or_refusal, with_value}
 use Rattle.qpack_spec.specs.Window.{insertion, effect, window_after}
-use Rattle.qpack_spec.specs.History.{History, window_of, whole_window, history_after, empty_history, initial_history, Leads}
+use Rattle.qpack_spec.specs.History.{History, window_of, whole_window, history_after, empty_history, initial_history}
+use Rattle.qpack_spec.specs.History.{Leads}
+use Rattle.qpack_spec.proofs.Sizes.{total_one, total_first}
 use Rattle.qpack_spec.proofs.Results.{bind_ok, ok_is}
 use Rattle.qpack_spec.proofs.Lists.{get_drop, get_append, get_append_within}
 
 pub size_least : (f : Field) → 32 ≤ field_size f
 size_least f = omega arith
 
-pub total_cons : (f : Field) (fs : List Field) → total_size (f ∷ fs) ≡ field_size f + total_size fs
-total_cons f fs = sum_by-cons field_size f fs
-
 -- each entry takes 32
 entries_fit : (fs : List Field) → 32 * length fs ≤ total_size fs
 entries_fit [] = omega arith
-entries_fit (f ∷ fs) = omega (arith, entries_fit fs, total_cons f fs)
+entries_fit (f ∷ fs) = omega (arith, entries_fit fs, total_first f fs)
 
 pub eviction_count_fits : (c : ℕ) (fs : List Field) → total_size (drop (eviction_count c fs) fs) ≤ c
 unfolding eviction_count
@@ -56,13 +56,11 @@ drop_all (f ∷ fs) = drop_all fs
 pub eviction_count_bound : (c : ℕ) (fs : List Field) → eviction_count c fs ≤ length fs
 eviction_count_bound c fs = eviction_count_least c fs (length fs) (rw (drop_all fs) (omega arith))
 
-one_size : (f : Field) → total_size (f ∷ []) ≡ field_size f
-one_size f = omega arith
-
 -- a field that fits alone is no part of what goes
-pub eviction_count_push : (c : ℕ) (fs : List Field) (f : Field) → field_size f ≤ c → eviction_count c (fs ++ f ∷ []) ≤ length fs
+pub eviction_count_push : (c : ℕ) (fs : List Field) (f : Field) → field_size f ≤ c → eviction_count c (fs ++ f ∷ [])
+    ≤ length fs
 eviction_count_push c fs f h =
-    eviction_count_least c (fs ++ f ∷ []) (length fs) (rw (drop_at fs (f ∷ []) (length fs) refl, one_size f) h)
+    eviction_count_least c (fs ++ f ∷ []) (length fs) (rw (drop_at fs (f ∷ []) (length fs) refl, total_one f) h)
 
 -- a history as instructions make it of an empty table
 pub record Sound (h : History) : Type 0 where
@@ -91,7 +89,8 @@ allowed_insertion w f e h =
     cond_both (nat_eq w.capacity 0) (Ok Ignored) _ (λ r. r ≡ Ok e → Allowed w e)
     (λ _ q. subst (Allowed w) (ok_is _ _ q) tt)
     (λ _. cond_both (nat_le (field_size f) w.capacity) _ (Err DoesNotFit) (λ r. r ≡ Ok e → Allowed w e)
-    (λ fits. cond_both (nat_lt (window_insert_count w) (2 ^ 62)) (Ok (Inserts f)) (Ok Ignored) (λ r. r ≡ Ok e → Allowed w e)
+    (λ fits. cond_both (nat_lt (window_insert_count w) (2 ^ 62)) (Ok (Inserts f)) (Ok Ignored)
+        (λ r. r ≡ Ok e → Allowed w e)
     (λ few q. subst (Allowed w) (ok_is _ _ q) (leb-true _ _ fits, ltb-true _ _ few))
     (λ _ q. subst (Allowed w) (ok_is _ _ q) tt))
     (λ _ q. absurd cc))
@@ -107,9 +106,11 @@ allowed w (InsertDynamicName i v) e h =
     allowed_insertion w (with_value v r.0) e r.2
 allowed w (InsertLiteralName n v) e h = allowed_insertion w (record { name = n; value = v }) e h
 allowed w (Duplicate i) e h =
-    let r = bind_ok (or_refusal (relative_entry w i) (NoEntry i)) (λ f. insertion w f) e h in allowed_insertion w r.0 e r.2
+    let r = bind_ok (or_refusal (relative_entry w i) (NoEntry i))
+        (λ f. insertion w f) e h in allowed_insertion w r.0 e r.2
 allowed w (SetCapacity n) e h =
-    cond_both (nat_le n (greatest_capacity w.agreed_max)) (Ok (Resizes n)) (Err AboveMaximum) (λ r. r ≡ Ok e → Allowed w e)
+    cond_both (nat_le n (greatest_capacity w.agreed_max)) (Ok (Resizes n)) (Err AboveMaximum)
+        (λ r. r ≡ Ok e → Allowed w e)
     (λ t q. subst (Allowed w) (ok_is _ _ q) (leb-true _ _ t))
     (λ _ q. absurd cc)
     h
@@ -181,7 +182,8 @@ sound_grown h (Resizes n) s a =
       few = s.few;
     }
 
-agreed_grown : (most : ℕ) (h : History) (e : Effect) → Agreed most h → Allowed (window_of h) e → Agreed most (history_after h e)
+agreed_grown : (most : ℕ) (h : History) (e : Effect) → Agreed most h → Allowed (window_of h) e
+    → Agreed most (history_after h e)
 unfolding history_after window_of
 agreed_grown most h (Inserts f) s a =
     record { is_agreed = s.is_agreed; within = s.within; roomy = λ _. omega (arith, a.0, s.within) }
@@ -220,7 +222,8 @@ leads_sound h [] h' l s = subst Sound l s
 leads_sound h (i ∷ is) h' l s =
     leads_sound (history_after h l.0) is h' l.2 (sound_grown h l.0 s (allowed (window_of h) i l.0 l.1))
 
-pub leads_agreed : (most : ℕ) (h : History) (is : List EncoderInstruction) (h' : History) → Leads h is h' → Agreed most h
+pub leads_agreed : (most : ℕ) (h : History) (is : List EncoderInstruction) (h' : History) → Leads h is h'
+    → Agreed most h
     → Agreed most h'
 leads_agreed most h [] h' l s = subst (Agreed most) l s
 leads_agreed most h (i ∷ is) h' l s =
@@ -228,7 +231,8 @@ leads_agreed most h (i ∷ is) h' l s =
 
 pub leads_grows : (h : History) (is : List EncoderInstruction) (h' : History) → Leads h is h' → Grows h h'
 leads_grows h [] h' l = subst (Grows h) l (grows_none h)
-leads_grows h (i ∷ is) h' l = grows_both h (history_after h l.0) h' (grows_one h l.0) (leads_grows (history_after h l.0) is h' l.2)
+leads_grows h (i ∷ is) h' l = grows_both h (history_after h l.0) h' (grows_one h l.0)
+    (leads_grows (history_after h l.0) is h' l.2)
 
 pub leads_append : (h : History) (is js : List EncoderInstruction) (m h' : History) → Leads h is m → Leads m js h'
     → Leads h (is ++ js) h'

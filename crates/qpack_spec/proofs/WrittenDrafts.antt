@@ -14,12 +14,17 @@ use Rattle.qpack_spec.specs.Line.{NamedPostBase, Literal, written_line, written_
 use Rattle.qpack_spec.specs.Integer.{written_integer}
 use Rattle.qpack_spec.specs.Huffman.{AreBytes, payload_of}
 use Rattle.qpack_spec.specs.Text.{written_string}
-use Rattle.qpack_spec.specs.Instruction.{EncoderInstruction, InsertStaticName, InsertDynamicName, InsertLiteralName, Duplicate}
+use Rattle.qpack_spec.specs.Instruction.{EncoderInstruction, InsertStaticName, InsertDynamicName, InsertLiteralName}
+use Rattle.qpack_spec.specs.Instruction.{Duplicate}
 use Rattle.qpack_spec.specs.Instruction.{SetCapacity, written_encoder_instruction, written_encoder_instructions}
-use Rattle.qpack_spec.specs.Table.{Entry, Table, sent_entry, fields_in, insert_count, with_reference, eviction_count_for, has_room}
-use Rattle.qpack_spec.specs.Table.{below_limit, may_reference, with_entry, last_position, newest_index, without_references}
-use Rattle.qpack_spec.specs.Rule.{Draft, with_line, with_referencing_line, by_name, by_static_name, by_equal, instruction_for}
-use Rattle.qpack_spec.specs.Rule.{entries_left, with_new_entry, name_reference_line, literal_by_entry, literal, insertion_or_literal}
+use Rattle.qpack_spec.specs.Table.{Entry, Table, sent_entry, fields_in, insert_count, with_reference}
+use Rattle.qpack_spec.specs.Table.{eviction_count_for, has_room}
+use Rattle.qpack_spec.specs.Table.{below_limit, may_reference, with_entry, last_position, newest_index}
+use Rattle.qpack_spec.specs.Table.{without_references}
+use Rattle.qpack_spec.specs.Rule.{Draft, with_line, with_referencing_line, by_name, by_static_name, by_equal}
+use Rattle.qpack_spec.specs.Rule.{instruction_for}
+use Rattle.qpack_spec.specs.Rule.{entries_left, with_new_entry, name_reference_line, literal_by_entry, literal}
+use Rattle.qpack_spec.specs.Rule.{insertion_or_literal}
 use Rattle.qpack_spec.specs.Rule.{by_entry, by_static, rule_field, rule_fields, empty_draft, rule}
 use Rattle.qpack_spec.specs.WrittenLaws.{IsSmall, IsWritableValue, IsByteField, IsByteLine, IsByteEncoderInstruction}
 use Rattle.qpack_spec.specs.WrittenLaws.{IsWritableLine, IsWritableEncoderInstruction}
@@ -53,7 +58,8 @@ pub count_naming : (t : Table) (a : ℕ) → insert_count (with_reference t a) �
 unfolding with_reference
 count_naming t a = refl
 
-naming_written : (d : Draft) (a : ℕ) (l : Line) → WrittenDraft d → IsByteLine l → WrittenDraft (with_referencing_line d a l)
+naming_written : (d : Draft) (a : ℕ) (l : Line) → WrittenDraft d → IsByteLine l
+    → WrittenDraft (with_referencing_line d a l)
 naming_written d a l k w =
     record {
       few = omega (arith, k.few, count_naming d.table a);
@@ -89,8 +95,10 @@ pub count_entered : (t : Table) (f : Field) → Room t f → insert_count (with_
 unfolding with_entry
 count_entered t f r =
     let b : eviction_count_for t f ≤ length t.live =
-    omega (arith, eviction_count_push t.capacity (fields_in t.live) f r.fits, length-map t.live (λ (x : Entry). x.field)) in
-    omega (arith, length-drop (eviction_count_for t f) (t.live ++ sent_entry f ∷ []), length-append t.live (sent_entry f ∷ []))
+    omega (arith, eviction_count_push t.capacity (fields_in t.live) f r.fits, length-map t.live
+        (λ (x : Entry). x.field)) in
+    omega (arith, length-drop (eviction_count_for t f) (t.live ++ sent_entry f ∷ []), length-append t.live
+        (sent_entry f ∷ []))
 
 inserts_written : (base : ℕ) (d : Draft) (f : Field) → WrittenDraft d → IsByteField f → Room d.table f
     → WrittenDraft (with_new_entry base d f)
@@ -112,11 +120,13 @@ inserts_written base d f k w r =
       lines = every_append IsByteLine d.lines (IndexedPostBase (insert_count d.table - base) ∷ []) k.lines
           (omega (arith, r.few), tt);
       instructions =
-          every_append IsByteEncoderInstruction d.instructions (instruction_for f (entries_left d.table f) ∷ []) k.instructions
+          every_append IsByteEncoderInstruction d.instructions
+              (instruction_for f (entries_left d.table f) ∷ []) k.instructions
           (instruction_written f (entries_left d.table f) stay w, tt);
     }
 
-entry_line : (base a : ℕ) (f : Field) → base ≤ 2 ^ 62 → a ≤ 2 ^ 62 → IsByteField f → IsByteLine (name_reference_line base a f)
+entry_line : (base a : ℕ) (f : Field) → base ≤ 2 ^ 62 → a ≤ 2 ^ 62 → IsByteField f
+    → IsByteLine (name_reference_line base a f)
 entry_line base a f b le w =
     cond_both (nat_le a base) (NamedDynamic (base - a) f.value) (NamedPostBase (a - base - 1) f.value) IsByteLine
     (λ _. (omega arith, w.1)) (λ _. (omega arith, w.1))
@@ -126,9 +136,11 @@ by_entry_written : (base : ℕ) (d : Draft) (f : Field) → base ≤ 2 ^ 62 → 
 by_entry_written base d f b k w None e = writes_written d (Literal f.name f.value) k w
 by_entry_written base d f b k w (Some a) e =
     let at = newest_found d.table (has_name f.name) a e in
-    cond_both (may_reference d.table a) (with_referencing_line d a (name_reference_line base a f)) (with_line d (Literal f.name f.value))
+    cond_both (may_reference d.table a) (with_referencing_line d a (name_reference_line base a f))
+        (with_line d (Literal f.name f.value))
     WrittenDraft
-    (λ _. naming_written d a (name_reference_line base a f) k (entry_line base a f b (omega (arith, at.within, k.few)) w))
+    (λ _. naming_written d a (name_reference_line base a f) k
+        (entry_line base a f b (omega (arith, at.within, k.few)) w))
     (λ _. writes_written d (Literal f.name f.value) k w)
 
 literal_written : (base : ℕ) (d : Draft) (f : Field) → base ≤ 2 ^ 62 → WrittenDraft d → IsByteField f → (o : Option ℕ)
@@ -199,7 +211,8 @@ text_fits n flags encoding b h =
 
 value_fits : (head encoding : List ℕ) → AreBytes encoding → length (head ++ written_string 8 0 encoding) < 2 ^ 63
     → IsWritableValue encoding
-value_fits head encoding b h = text_fits 8 0 encoding b (omega (arith, h, length-append head (written_string 8 0 encoding)))
+value_fits head encoding b h = text_fits 8 0 encoding b
+    (omega (arith, h, length-append head (written_string 8 0 encoding)))
 
 line_fits : (l : Line) → IsByteLine l → length (written_line l) < 2 ^ 63 → IsWritableLine l
 unfolding written_line
@@ -221,7 +234,8 @@ lines_fit [] b h = tt
 lines_fit (l ∷ ls) b h = let n = length-append (written_line l) (written_lines ls) in
     (line_fits l b.0 (omega (arith, h, n)), lines_fit ls b.1 (omega (arith, h, n)))
 
-instruction_fits : (i : EncoderInstruction) → IsByteEncoderInstruction i → length (written_encoder_instruction i) < 2 ^ 63
+instruction_fits : (i : EncoderInstruction) → IsByteEncoderInstruction i → length (written_encoder_instruction i)
+    < 2 ^ 63
     → IsWritableEncoderInstruction i
 unfolding written_encoder_instruction
 instruction_fits (InsertStaticName i v) b h = (b.0, value_fits (written_integer 6 3 i) v b.1 h)
@@ -237,5 +251,6 @@ pub instructions_fit : (is : List EncoderInstruction) → AllByRecursion IsByteE
     → length (written_encoder_instructions is) < 2 ^ 63 → AllByRecursion IsWritableEncoderInstruction is
 unfolding written_encoder_instructions
 instructions_fit [] b h = tt
-instructions_fit (i ∷ is) b h = let n = length-append (written_encoder_instruction i) (written_encoder_instructions is) in
+instructions_fit (i ∷ is) b h = let n = length-append (written_encoder_instruction i)
+    (written_encoder_instructions is) in
     (instruction_fits i b.0 (omega (arith, h, n)), instructions_fit is b.1 (omega (arith, h, n)))

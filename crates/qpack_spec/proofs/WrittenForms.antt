@@ -9,7 +9,8 @@ use Rattle.qpack_spec.specs.Form.{Form, Index, IndexAndValue, NameAndValue, Spel
 use Rattle.qpack_spec.specs.Line.{IndexedStatic, IndexedDynamic, IndexedPostBase, NamedStatic, NamedDynamic}
 use Rattle.qpack_spec.specs.Line.{NamedPostBase, Literal, line_form, written_line}
 use Rattle.qpack_spec.specs.Instruction.{InsertStaticName, InsertDynamicName, InsertLiteralName, Duplicate, SetCapacity}
-use Rattle.qpack_spec.specs.Instruction.{Acknowledgment, Cancellation, Increment, encoder_instruction_form, decoder_instruction_form}
+use Rattle.qpack_spec.specs.Instruction.{Acknowledgment, Cancellation, Increment, encoder_instruction_form}
+use Rattle.qpack_spec.specs.Instruction.{decoder_instruction_form}
 use Rattle.qpack_spec.specs.Instruction.{written_encoder_instruction, written_decoder_instruction}
 use Rattle.qpack_spec.specs.WrittenLaws.{IsSmall, IsWritableValue, WrittenLinesAreSpellings}
 use Rattle.qpack_spec.specs.WrittenLaws.{WrittenEncoderInstructionsAreSpellings, WrittenDecoderInstructionsAreSpellings}
@@ -23,7 +24,8 @@ pub record Starts (n flags : ℕ) (encoding : List ℕ) : Type 0 where
   pub begins : encoding ≡ first ∷ more
   pub high : flags ≡ first / 2 ^ n
 
-pub integer_starts : (n : ℕ) (encoding : List ℕ) (flags value : ℕ) → SpellsInteger n encoding flags value → Starts n flags encoding
+pub integer_starts : (n : ℕ) (encoding : List ℕ) (flags value : ℕ) → SpellsInteger n encoding flags value
+    → Starts n flags encoding
 integer_starts n [] flags value s = absurd s.stands
 integer_starts n (b ∷ cs) flags value s = record { first = b; more = cs; begins = refl; high = s.stands.0 }
 
@@ -223,7 +225,8 @@ first_capacity : (b : ℕ) → 1 ≡ b / 2 ^ 5 → encoder_instruction_form b �
 unfolding encoder_instruction_form
 first_capacity b e = rw (le-ltb b 32 (omega arith), lt-ltb b 64 (omega arith)) refl
 
-first_literal_name : (b : ℕ) → 2 * 1 + 1 ≡ b / 2 ^ 5 → encoder_instruction_form b ≡ Some (NameAndValue 6 InsertLiteralName)
+first_literal_name : (b : ℕ) → 2 * 1 + 1 ≡ b / 2 ^ 5 → encoder_instruction_form b
+    ≡ Some (NameAndValue 6 InsertLiteralName)
 unfolding encoder_instruction_form
 first_literal_name b e = rw (le-ltb b 32 (omega arith), le-ltb b 64 (omega arith), lt-ltb b 128 (omega arith)) refl
 
@@ -247,7 +250,8 @@ first_static_name b e =
 pub instructions_spelled : WrittenEncoderInstructionsAreSpellings
 unfolding written_encoder_instruction
 instructions_spelled (InsertStaticName i v) w =
-    by_index_and_value encoder_instruction_form 6 3 i v InsertStaticName (lit≤ tt) (lit≤ tt) (lit≤ tt) w.0 w.1 first_static_name
+    by_index_and_value encoder_instruction_form 6 3 i v InsertStaticName (lit≤ tt) (lit≤ tt)
+        (lit≤ tt) w.0 w.1 first_static_name
 instructions_spelled (InsertDynamicName i v) w =
     by_index_and_value encoder_instruction_form 6 2 i v InsertDynamicName (lit≤ tt) (lit≤ tt) (lit≤ tt) w.0 w.1
     first_dynamic_name
@@ -279,4 +283,5 @@ decoder_instructions_spelled (Acknowledgment s) w =
     by_index decoder_instruction_form 7 1 s Acknowledgment (lit≤ tt) (lit≤ tt) (lit≤ tt) w first_acknowledgment
 decoder_instructions_spelled (Cancellation s) w =
     by_index decoder_instruction_form 6 1 s Cancellation (lit≤ tt) (lit≤ tt) (lit≤ tt) w first_cancellation
-decoder_instructions_spelled (Increment k) w = by_index decoder_instruction_form 6 0 k Increment (lit≤ tt) (lit≤ tt) (lit≤ tt) w first_increment
+decoder_instructions_spelled (Increment k) w = by_index decoder_instruction_form 6 0 k Increment (lit≤ tt) (lit≤ tt)
+    (lit≤ tt) w first_increment

@@ -14,10 +14,11 @@ ReadingFindsPrefixes =
     (bytes : List ℕ) (p : Prefix) (rest : List ℕ)
     → (prefix_at bytes ≡ Ok (p, rest)) ↔ ((encoding : List ℕ) × (bytes ≡ encoding ++ rest) × SpellsPrefix encoding p)
 
--- an encoded count stands for one required count at most, whatever the total of insertions
+-- an encoded count stands for one required insert count at most, whatever the total of insertions
 abbrev pub CountsHaveOneReading : Type 0
 CountsHaveOneReading =
-    (total entries insert_count r s : ℕ) → 0 < insert_count → IsRequired total entries insert_count r → IsRequired total entries insert_count s
+    (total entries insert_count r s : ℕ) → 0 < insert_count → IsRequired total entries insert_count r
+        → IsRequired total entries insert_count s
     → r ≡ s
 
 -- which is what is computed; where none is computed, it stands for none

@@ -16,7 +16,8 @@ use Rattle.qpack_spec.specs.Reading.{reading_of_fields}
 -- why the next line gives no field: its bytes, or what it names
 pub data StopsAt (w : Window) (base : ℕ) (rest : List ℕ) (e : Fault) : Type 0 where
   in_bytes : (fault : FormFault) → form_at line_form rest ≡ Err fault → e ≡ BadForm fault → StopsAt w base rest e
-  in_line : (encoding more : List ℕ) (l : Line) → rest ≡ encoding ++ more → SpellsLine encoding l → line_field w base l ≡ Err e
+  in_line : (encoding more : List ℕ) (l : Line) → rest ≡ encoding ++ more → SpellsLine encoding l → line_field w base l
+      ≡ Err e
       → StopsAt w base rest e
 
 -- the bytes are lines, which mean the fields
@@ -65,18 +66,20 @@ fields_in_bytes w base bytes = fields_at (length bytes) w base bytes
 abbrev pub bytes_behind : Window → List ℕ → Result (ℕ × ℕ) PrefixFault → Reading
 bytes_behind w rest (Err e) = Faulty (BadPrefix e)
 bytes_behind w rest (Ok p) =
-    if nat_lt (window_insert_count w) p.0 then Missing p.0 else reading_of_fields (fields_in_bytes w p.1 rest) (nat_lt 0 p.0)
+    if nat_lt (window_insert_count w) p.0 then Missing p.0 else reading_of_fields (fields_in_bytes w p.1 rest)
+        (nat_lt 0 p.0)
 
 -- the answer where a prefix stands in front, or none
 abbrev pub section_behind : Window → Result (Prefix × List ℕ) FormFault → Reading
 section_behind w (Err e) = Faulty (BadForm e)
-section_behind w (Ok p) = bytes_behind w p.1 (read_prefix (window_insert_count w) (maximum_capacity w.agreed_max w.capacity) p.0)
+section_behind w (Ok p) = bytes_behind w p.1
+    (read_prefix (window_insert_count w) (maximum_capacity w.agreed_max w.capacity) p.0)
 
 -- what the bytes of a field section mean under a window (section 2.2.1)
 unfoldable pub reading_of_bytes : Window → List ℕ → Reading
 reading_of_bytes w bytes = section_behind w (prefix_at bytes)
 
--- the base behind a required count that is known; nothing counts from it where nothing is required
+-- the base behind a required insert count that is known; nothing counts from it where nothing is required
 abbrev pub base_behind : Prefix → ℕ → Result ℕ PrefixFault
 base_behind p required = if nat_eq required 0 then Ok 0 else read_base p.sign required p.delta
 
@@ -85,8 +88,8 @@ abbrev pub or_bad_prefix : {A : Type 0} → Result A PrefixFault → Result A Fa
 or_bad_prefix (Ok x) = Ok x
 or_bad_prefix (Err e) = Err (BadPrefix e)
 
--- what the lines of a section mean over all insertions ever made, its required count being known: absolute index i is
--- the i-th of them. Capacity, eviction and delivery have no part in it
+-- what the lines of a section mean over all insertions ever made, its required insert count being known: absolute index
+-- i is the i-th of them. Capacity, eviction and delivery have no part in it
 unfoldable pub meaning_over_all : History → List ℕ → ℕ → Result (List Field) Fault
 meaning_over_all all bytes required =
     or_bad_form (prefix_at bytes) >>= λ p. or_bad_prefix (base_behind p.0 required)

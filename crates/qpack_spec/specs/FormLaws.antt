@@ -1,16 +1,18 @@
--- What every reader of lines, instructions and decoder_instructions relies on, as statements; the crate's law functions promise
--- them.
+-- What every reader of lines, instructions and decoder_instructions relies on, as statements; the crate's law functions
+-- promise them.
 use Rattle.std.specs.Prelude.{◌≡◌, ℕ, ◌⊎◌, ◌↔◌, true, false, List, ◌++◌, Option, Ok, Err}
 use Rattle.qpack_spec.specs.Bytes.{Begins}
 use Rattle.qpack_spec.specs.Form.{FormFault, is_cut, Form, Spells, Refuses, Truncates, form_at}
 
 -- one spelling is of one thing
 abbrev pub FormsHaveOneValue : {L : Type 0} → (ℕ → Option (Form L)) → Type 0
-FormsHaveOneValue {L} form_of = (encoding : List ℕ) (l m : L) → Spells L form_of encoding l → Spells L form_of encoding m → l ≡ m
+FormsHaveOneValue {L} form_of = (encoding : List ℕ) (l m : L) → Spells L form_of encoding l
+    → Spells L form_of encoding m → l ≡ m
 
 -- a spelling or a refusal
 abbrev pub EndsForm : {L : Type 0} → (ℕ → Option (Form L)) → List ℕ → Type 0
-EndsForm {L} form_of encoding = ((l : L) × Spells L form_of encoding l) ⊎ ((fault : FormFault) × Refuses L form_of encoding fault)
+EndsForm {L} form_of encoding = ((l : L) × Spells L form_of encoding l)
+    ⊎ ((fault : FormFault) × Refuses L form_of encoding fault)
 
 -- no spelling or refusal begins another
 abbrev pub NoFormBeginsAnother : {L : Type 0} → (ℕ → Option (Form L)) → Type 0
@@ -20,7 +22,8 @@ NoFormBeginsAnother form_of = (a b x y : List ℕ) → EndsForm form_of a → En
 abbrev pub ReadingFindsForms : {L : Type 0} → (ℕ → Option (Form L)) → Type 0
 ReadingFindsForms {L} form_of =
     (bytes : List ℕ) (l : L) (rest : List ℕ)
-    → (form_at form_of bytes ≡ Ok (l, rest)) ↔ ((encoding : List ℕ) × (bytes ≡ encoding ++ rest) × Spells L form_of encoding l)
+    → (form_at form_of bytes ≡ Ok (l, rest)) ↔
+        ((encoding : List ℕ) × (bytes ≡ encoding ++ rest) × Spells L form_of encoding l)
 
 -- each refusal exactly where it stands
 abbrev pub ReadingFindsFormRefusals : {L : Type 0} → (ℕ → Option (Form L)) → Type 0

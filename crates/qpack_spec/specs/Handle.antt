@@ -2,11 +2,13 @@
 use Rattle.std.specs.Prelude.{◌≡◌, ℕ, ◌+◌, ◌-◌, if◌then◌else◌, ◌&&◌, nat_le, List, [], ◌∷◌, ◌++◌, Option, None, Some}
 use Rattle.qpack_spec.specs.Field.{Field, has_name, is_field}
 use Rattle.qpack_spec.specs.StaticTable.{static_index, static_name_index}
-use Rattle.qpack_spec.specs.Instruction.{EncoderInstruction, InsertStaticName, InsertDynamicName, InsertLiteralName, Duplicate}
+use Rattle.qpack_spec.specs.Instruction.{EncoderInstruction, InsertStaticName, InsertDynamicName, InsertLiteralName}
+use Rattle.qpack_spec.specs.Instruction.{Duplicate}
 use Rattle.qpack_spec.specs.Instruction.{SetCapacity}
 use Rattle.qpack_spec.specs.Line.{Line, IndexedStatic, IndexedDynamic, IndexedPostBase, NamedStatic, NamedDynamic}
 use Rattle.qpack_spec.specs.Line.{NamedPostBase, Literal}
-use Rattle.qpack_spec.specs.Table.{Table, insert_count, with_reference, has_room, below_limit, may_reference, sent_entry, with_entry}
+use Rattle.qpack_spec.specs.Table.{Table, insert_count, with_reference, has_room, below_limit, may_reference}
+use Rattle.qpack_spec.specs.Table.{sent_entry, with_entry}
 use Rattle.qpack_spec.specs.Table.{newest_index}
 use Rattle.qpack_spec.specs.Rule.{Draft, instruction_for, entries_left, with_line, empty_draft, rule}
 
@@ -17,16 +19,16 @@ pub data Lookup : Type 0 where
   AtPostBase : (index absolute : ℕ) → Lookup
   NotFound : Lookup
 
--- an entry by its place before or behind the base
+-- an entry by its position before or behind the base
 abbrev pub lookup_of : ℕ → ℕ → Lookup
 lookup_of base a = if nat_le a base then AtRelative (base - a) a else AtPostBase (a - base - 1) a
 
--- the table with what was found named
+-- the table with what was found referenced
 pub record Found : Type 0 where
   pub lookup : Lookup
   pub table : Table
 
--- an entry, if there is one and it may be named: then it is named
+-- an entry, if there is one and it may be referenced: then it is referenced
 abbrev pub found_entry : Table → ℕ → Option ℕ → Found
 found_entry t base None = record { lookup = NotFound; table = t }
 found_entry t base (Some a) =

@@ -4,7 +4,8 @@ use Rattle.qpack_spec.specs.Field.{Field}
 use Rattle.qpack_spec.specs.Instruction.{EncoderInstruction}
 use Rattle.qpack_spec.specs.Window.{Window, eviction_count, Effect, Inserts, Ignored, Resizes, effect}
 
--- capacity, agreed maximum, how many entries were dropped, and every field ever inserted, the first at absolute index 1
+-- capacity, maximum capacity, how many entries were dropped, and every field ever inserted, the first at absolute index
+-- 1
 pub record History : Type 0 where
   pub capacity : ℕ
   pub agreed_max : Option ℕ
@@ -13,7 +14,8 @@ pub record History : Type 0 where
 
 -- what of it is live
 unfoldable pub window_of : History → Window
-window_of h = record { capacity = h.capacity; agreed_max = h.agreed_max; dropped = h.dropped; live = drop h.dropped h.inserted }
+window_of h = record { capacity = h.capacity; agreed_max = h.agreed_max; dropped = h.dropped;
+    live = drop h.dropped h.inserted }
 
 -- nothing dropped: what an absolute index means among all insertions
 unfoldable pub whole_window : History → Window
@@ -27,13 +29,14 @@ history_after h (Inserts f) =
       inserted = h.inserted ++ f ∷ [];
     }
 history_after h Ignored = h
-history_after h (Resizes n) = record h { capacity = n; dropped = h.dropped + eviction_count n (drop h.dropped h.inserted) }
+history_after h (Resizes n) = record h { capacity = n; dropped = h.dropped + eviction_count n
+    (drop h.dropped h.inserted) }
 
 -- an empty table
 abbrev pub empty_history : ℕ → Option ℕ → History
 empty_history capacity agreed_max = record { capacity = capacity; agreed_max = agreed_max; dropped = 0; inserted = [] }
 
--- an empty table, its capacity being the agreed maximum
+-- an empty table, its capacity being the maximum capacity
 abbrev pub initial_history : ℕ → History
 initial_history capacity = empty_history capacity (Some capacity)
 

@@ -1,4 +1,4 @@
--- The instructions of the encoder's stream and of the decoder's, and their bytes (RFC 9204, sections 4.3 and 4.4).
+-- The instructions of the encoder stream and of the decoder's, and their bytes (RFC 9204, sections 4.3 and 4.4).
 use Rattle.std.specs.Prelude.{ℕ, if◌then◌else◌, nat_lt, List, [], ◌∷◌, ◌++◌, Option, None, Some}
 use Rattle.qpack_spec.specs.Integer.{written_integer}
 use Rattle.qpack_spec.specs.Text.{written_string}
@@ -12,7 +12,7 @@ pub data EncoderInstruction : Type 0 where
   Duplicate : (relative : ℕ) → EncoderInstruction
   SetCapacity : (capacity : ℕ) → EncoderInstruction
 
--- a decoder instruction (section 4.4): what the encoder hears
+-- a decoder instruction (section 4.4): what the decoder sends to the encoder
 pub data DecoderInstruction : Type 0 where
   Acknowledgment : (stream : ℕ) → DecoderInstruction
   Cancellation : (stream : ℕ) → DecoderInstruction
@@ -56,7 +56,8 @@ RefusesDecoderInstruction encoding fault = Refuses DecoderInstruction decoder_in
 -- the written spelling of an encoder instruction: every integer the shortest, every string coded
 unfoldable pub written_encoder_instruction : EncoderInstruction → List ℕ
 written_encoder_instruction (InsertStaticName index value) = written_integer 6 3 index ++ written_string 8 0 value
-written_encoder_instruction (InsertDynamicName relative value) = written_integer 6 2 relative ++ written_string 8 0 value
+written_encoder_instruction (InsertDynamicName relative value) = written_integer 6 2 relative
+    ++ written_string 8 0 value
 written_encoder_instruction (InsertLiteralName name value) = written_string 6 1 name ++ written_string 8 0 value
 written_encoder_instruction (Duplicate relative) = written_integer 5 0 relative
 written_encoder_instruction (SetCapacity capacity) = written_integer 5 1 capacity

@@ -7,11 +7,13 @@ use Rattle.qpack_spec.specs.Integer.{TruncatesInteger, integer_at, written_integ
 -- one spelling is of one value, under one list of flags
 abbrev pub IntegersHaveOneValue : Type 0
 IntegersHaveOneValue =
-    (n : ℕ) (encoding : List ℕ) (f g v w : ℕ) → SpellsInteger n encoding f v → SpellsInteger n encoding g w → (f ≡ g) × (v ≡ w)
+    (n : ℕ) (encoding : List ℕ) (f g v w : ℕ) → SpellsInteger n encoding f v → SpellsInteger n encoding g w → (f ≡ g)
+        × (v ≡ w)
 
 -- a spelling or a refusal
 abbrev pub EndsInteger : ℕ → List ℕ → Type 0
-EndsInteger n encoding = ((flags : ℕ) × (value : ℕ) × SpellsInteger n encoding flags value) ⊎ OverflowsInteger n encoding
+EndsInteger n encoding = ((flags : ℕ) × (value : ℕ) × SpellsInteger n encoding flags value)
+    ⊎ OverflowsInteger n encoding
 
 -- no spelling or refusal begins another
 abbrev pub NoIntegerBeginsAnother : Type 0
@@ -29,7 +31,8 @@ abbrev pub WrittenIntegersAreShortest : Type 0
 WrittenIntegersAreShortest =
     (n flags value : ℕ) → IsWritable n flags value
     → StandsFor n (written_integer n flags value) flags value
-    × ((encoding : List ℕ) → StandsFor n encoding flags value → length (written_integer n flags value) ≤ length encoding)
+    × ((encoding : List ℕ) → StandsFor n encoding flags value → length (written_integer n flags value)
+        ≤ length encoding)
 
 -- up to the greatest value that is read, 2^63 + 2^n - 2, it is a spelling, and is read back whole, whatever follows
 abbrev pub WrittenIntegersAreReadBack : Type 0

@@ -20,8 +20,8 @@ pub data PrefixFault : Type 0 where
 abbrev pub most_entries : ℕ → ℕ
 most_entries maximum = maximum / 32
 
--- the prefix that is written for a required count and a base, the maximum capacity being agreed; section 4.5.1.1 has
--- the count modulo 2 MaxEntries, section 4.5.1.2 the distance of the base and its sign
+-- the prefix that is written for a required insert count and a base, the maximum capacity being agreed; section 4.5.1.1
+-- has the count modulo 2 MaxEntries, section 4.5.1.2 the distance of the base and its sign
 unfoldable pub prefix_for : ℕ → ℕ → ℕ → Prefix
 prefix_for maximum required base =
     if nat_eq required 0 || nat_eq maximum 0 then record { count = 0; sign = false; delta = 0 }
@@ -29,8 +29,8 @@ prefix_for maximum required base =
     then record { count = required % (2 * most_entries maximum) + 1; sign = false; delta = base - required }
     else record { count = required % (2 * most_entries maximum) + 1; sign = true; delta = required - base - 1 }
 
--- the required count that an encoded count stands for at a total of insertions, a table having at most so many entries:
--- the number of its residue in the window around the total (section 4.5.1.1)
+-- the required insert count that an encoded count stands for at a total of insertions, a table having at most so many
+-- entries: the number of its residue in the window around the total (section 4.5.1.1)
 pub record IsRequired (total entries count required : ℕ) : Type 0 where
   pub positive : 0 < required
   pub residue : required % (2 * entries) ≡ count - 1
@@ -43,11 +43,11 @@ pub record IsRequired (total entries count required : ℕ) : Type 0 where
 unfoldable pub required_at : ℕ → ℕ → ℕ → ℕ
 required_at top entries count = top - (top + 2 * entries - (count - 1)) % (2 * entries)
 
--- the required count; one that is 0 or no number of 64 bits is out of range
+-- the required insert count; one that is 0 or no number of 64 bits is out of range
 abbrev pub required_in_range : ℕ → Result ℕ PrefixFault
 required_in_range required = if nat_eq required 0 || nat_le (2 ^ 64) required then Err OutOfRange else Ok required
 
--- the required count of a prefix where this many insertions were received; 0 at capacity 0 and for the count 0
+-- the required insert count of a prefix where this many insertions were received; 0 at capacity 0 and for the count 0
 unfoldable pub read_required : ℕ → ℕ → ℕ → Result ℕ PrefixFault
 read_required total maximum count =
     if nat_eq maximum 0 || nat_eq count 0 then Ok 0
@@ -61,7 +61,7 @@ read_base true required delta =
     if nat_lt delta required then Ok (required - delta - 1) else Err
     (BelowZero (negsuc (min (delta - required) (2 ^ 63 - 1))))
 
--- the required count with its base, which is 0 where nothing is required
+-- the required insert count with its base, which is 0 where nothing is required
 abbrev pub with_base : Prefix → Result ℕ PrefixFault → Result (ℕ × ℕ) PrefixFault
 with_base p (Err e) = Err e
 with_base p (Ok required) =
@@ -71,7 +71,7 @@ with_base p (Ok required) =
     and_base required (Err e) = Err e
     and_base required (Ok base) = Ok (required, base)
 
--- the required count and the base of a prefix where this many insertions were received
+-- the required insert count and the base of a prefix where this many insertions were received
 unfoldable pub read_prefix : ℕ → ℕ → Prefix → Result (ℕ × ℕ) PrefixFault
 read_prefix total maximum p = with_base p (read_required total maximum p.count)
 

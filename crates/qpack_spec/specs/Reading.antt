@@ -9,8 +9,8 @@ use Rattle.qpack_spec.specs.Line.{NamedPostBase, Literal}
 use Rattle.qpack_spec.specs.Prefix.{Prefix, PrefixFault, read_prefix}
 use Rattle.qpack_spec.specs.Window.{Window, maximum_capacity, window_insert_count, with_value}
 
--- why a field section means nothing: its bytes, its prefix, or a line that names no entry: one below the window or
--- where nothing is live, one above it (its place is told), one behind the base, or no static field
+-- why a field section means nothing: its bytes, its prefix, or a line that references no entry: one below the window or
+-- where nothing is live, one above it (its position is told), one behind the base, or no static field
 pub data Fault : Type 0 where
   BadForm : (fault : FormFault) → Fault
   BadPrefix : (fault : PrefixFault) → Fault
@@ -68,7 +68,7 @@ unfoldable pub fields_of : Window → ℕ → List Line → Result (List Field) 
 fields_of w base [] = Ok []
 fields_of w base (l ∷ ls) = prepend_field (line_field w base l) (fields_of w base ls)
 
--- the absolute indexes that a line names
+-- the absolute indexes that a line references
 unfoldable pub references_of_line : ℕ → Line → List ℕ
 references_of_line base (IndexedStatic index) = []
 references_of_line base (IndexedDynamic relative) = (base - relative) ∷ []
@@ -78,12 +78,13 @@ references_of_line base (NamedDynamic relative value) = (base - relative) ∷ []
 references_of_line base (NamedPostBase post_base value) = (base + post_base + 1) ∷ []
 references_of_line base (Literal name value) = []
 
--- the absolute indexes that the lines name, in order
+-- the absolute indexes that the lines reference, in order
 unfoldable pub references_of : ℕ → List Line → List ℕ
 references_of base [] = []
 references_of base (l ∷ ls) = references_of_line base l ++ references_of base ls
 
--- the greatest of some indexes, 0 of none: a section's required insert count is that of what it names (section 2.1.2)
+-- the greatest of some indexes, 0 of none: a section's required insert count is that of what it references (section
+-- 2.1.2)
 unfoldable pub greatest_of : List ℕ → ℕ
 greatest_of [] = 0
 greatest_of (a ∷ more) = max a (greatest_of more)
@@ -112,4 +113,5 @@ reading_behind w lines (Ok p) =
 
 -- what a field section means under a window (section 2.2.1)
 unfoldable pub reading : Window → Block → Reading
-reading w b = reading_behind w b.lines (read_prefix (window_insert_count w) (maximum_capacity w.agreed_max w.capacity) b.prefix)
+reading w b = reading_behind w b.lines
+    (read_prefix (window_insert_count w) (maximum_capacity w.agreed_max w.capacity) b.prefix)

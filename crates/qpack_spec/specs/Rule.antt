@@ -4,13 +4,15 @@ use Rattle.std.specs.Prelude.{ℕ, ◌+◌, ◌-◌, if◌then◌else◌, ◌&&�
 use Rattle.std.specs.Prelude.{Some}
 use Rattle.qpack_spec.specs.Field.{Field, has_name, is_field}
 use Rattle.qpack_spec.specs.StaticTable.{static_index, static_name_index}
-use Rattle.qpack_spec.specs.Instruction.{EncoderInstruction, InsertStaticName, InsertDynamicName, InsertLiteralName, Duplicate}
+use Rattle.qpack_spec.specs.Instruction.{EncoderInstruction, InsertStaticName, InsertDynamicName, InsertLiteralName}
+use Rattle.qpack_spec.specs.Instruction.{Duplicate}
 use Rattle.qpack_spec.specs.Line.{Line, IndexedStatic, IndexedDynamic, IndexedPostBase, NamedStatic, NamedDynamic}
 use Rattle.qpack_spec.specs.Line.{NamedPostBase, Literal}
 use Rattle.qpack_spec.specs.Prefix.{prefix_for}
 use Rattle.qpack_spec.specs.Reading.{Block, greatest_of}
 use Rattle.qpack_spec.specs.Window.{maximum_capacity}
-use Rattle.qpack_spec.specs.Table.{Table, fields_in, insert_count, with_reference, eviction_count_for, has_room, below_limit, may_reference}
+use Rattle.qpack_spec.specs.Table.{Table, fields_in, insert_count, with_reference, eviction_count_for, has_room}
+use Rattle.qpack_spec.specs.Table.{below_limit, may_reference}
 use Rattle.qpack_spec.specs.Table.{sent_entry, with_entry, last_position, newest_index, without_references, commit}
 
 -- a block in progress: the table, the lines and the instructions so far
@@ -23,7 +25,7 @@ pub record Draft : Type 0 where
 abbrev pub with_line : Draft → Line → Draft
 with_line d l = record d { lines = d.lines ++ l ∷ [] }
 
--- one line more, which names an entry
+-- one line more, which references an entry
 abbrev pub with_referencing_line : Draft → ℕ → Line → Draft
 with_referencing_line d a l = record d { table = with_reference d.table a; lines = d.lines ++ l ∷ [] }
 
@@ -61,12 +63,14 @@ with_new_entry base d f =
 
 -- a literal with the name of an entry, which stood at the block's start or behind it
 abbrev pub name_reference_line : ℕ → ℕ → Field → Line
-name_reference_line base a f = if nat_le a base then NamedDynamic (base - a) f.value else NamedPostBase (a - base - 1) f.value
+name_reference_line base a f = if nat_le a base then NamedDynamic (base - a) f.value else NamedPostBase
+    (a - base - 1) f.value
 
--- a literal, by the newest entry of the name if it may be named
+-- a literal, by the newest entry of the name if it may be referenced
 abbrev pub literal_by_entry : ℕ → Draft → Field → Option ℕ → Draft
 literal_by_entry base d f (Some a) =
-    if may_reference d.table a then with_referencing_line d a (name_reference_line base a f) else with_line d (Literal f.name f.value)
+    if may_reference d.table a then with_referencing_line d a (name_reference_line base a f) else with_line d
+        (Literal f.name f.value)
 literal_by_entry base d f None = with_line d (Literal f.name f.value)
 
 -- a literal, by the least static field of the name
@@ -77,9 +81,10 @@ literal base d f None = literal_by_entry base d f (newest_index d.table (has_nam
 -- an insertion where a block more may be blocked and there is room, else a literal
 abbrev pub insertion_or_literal : ℕ → Draft → Field → Draft
 insertion_or_literal base d f =
-    if below_limit d.table && has_room d.table f then with_new_entry base d f else literal base d f (static_name_index f.name)
+    if below_limit d.table
+        && has_room d.table f then with_new_entry base d f else literal base d f (static_name_index f.name)
 
--- the newest equal entry, if it stood at the block's start and may be named
+-- the newest equal entry, if it stood at the block's start and may be referenced
 abbrev pub by_entry : ℕ → Draft → Field → Option ℕ → Draft
 by_entry base d f (Some a) =
     if nat_le a base && may_reference d.table a
@@ -109,14 +114,15 @@ empty_draft t = record { table = without_references t; lines = []; instructions 
 unfoldable pub rule : Table → List Field → Draft
 rule t fs = rule_fields (insert_count t) (empty_draft t) fs
 
--- the required insert count of a block (section 2.1.2): the greatest index that its lines name
+-- the required insert count of a block (section 2.1.2): the greatest index that its lines reference
 abbrev pub required_insert_count : Draft → ℕ
 required_insert_count d = greatest_of d.table.referenced
 
 -- the block that is written
 abbrev pub block_of : Table → Draft → Block
 block_of t d =
-    record { prefix = prefix_for (maximum_capacity t.agreed_max t.capacity) (required_insert_count d) (insert_count t); lines = d.lines }
+    record { prefix = prefix_for (maximum_capacity t.agreed_max t.capacity) (required_insert_count d)
+        (insert_count t); lines = d.lines }
 
 -- the table behind it
 abbrev pub committed_table : Draft → ℕ → Table

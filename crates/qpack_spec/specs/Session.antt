@@ -7,22 +7,26 @@ use Rattle.std.specs.List.{AllByRecursion, filter}
 use Rattle.qpack_spec.specs.Bytes.{Begins, ◌>>=◌}
 use Rattle.qpack_spec.specs.Field.{Field, total_size}
 use Rattle.qpack_spec.specs.Form.{FormFault, Truncates}
-use Rattle.qpack_spec.specs.Instruction.{EncoderInstruction, SetCapacity, DecoderInstruction, Acknowledgment, Cancellation, Increment}
-use Rattle.qpack_spec.specs.Instruction.{encoder_instruction_form, decoder_instruction_form, SpellsEncoderInstruction, RefusesEncoderInstruction}
-use Rattle.qpack_spec.specs.Instruction.{SpellsDecoderInstruction, RefusesDecoderInstruction, written_encoder_instruction, written_encoder_instructions}
+use Rattle.qpack_spec.specs.Instruction.{EncoderInstruction, SetCapacity, DecoderInstruction, Acknowledgment}
+use Rattle.qpack_spec.specs.Instruction.{Cancellation, Increment}
+use Rattle.qpack_spec.specs.Instruction.{encoder_instruction_form, decoder_instruction_form, SpellsEncoderInstruction}
+use Rattle.qpack_spec.specs.Instruction.{RefusesEncoderInstruction}
+use Rattle.qpack_spec.specs.Instruction.{SpellsDecoderInstruction, RefusesDecoderInstruction}
+use Rattle.qpack_spec.specs.Instruction.{written_encoder_instruction, written_encoder_instructions}
 use Rattle.qpack_spec.specs.Instruction.{written_decoder_instruction, written_decoder_instructions}
 use Rattle.qpack_spec.specs.Stream.{Joined}
 use Rattle.qpack_spec.specs.Window.{TableRefusal, NoEntry, NoStaticField, DoesNotFit, AboveMaximum, UnknownStream}
 use Rattle.qpack_spec.specs.History.{initial_history, window_of}
 use Rattle.qpack_spec.specs.Reading.{Fault, Reading, Fields, Missing, Faulty}
 use Rattle.qpack_spec.specs.BlockReading.{reading_of_bytes, written_block}
-use Rattle.qpack_spec.specs.Table.{Table, empty_table, table_of, window, insert_count, has_number, without_references, apply_encoder_instruction, apply_decoder_instruction}
+use Rattle.qpack_spec.specs.Table.{Table, empty_table, table_of, window, insert_count, has_number, without_references}
+use Rattle.qpack_spec.specs.Table.{apply_encoder_instruction, apply_decoder_instruction}
 use Rattle.qpack_spec.specs.Table.{with_capacity}
 use Rattle.qpack_spec.specs.Rule.{rule, required_insert_count, block_of, committed_table}
 use Rattle.qpack_spec.specs.Stateless.{saturated_size}
 use Rattle.qpack_spec.specs.WrittenLaws.{IsByteField}
 
--- a block: its bytes, the required count that was answered, how long the encoder's stream was at its end, and the
+-- a block: its bytes, the required insert count that was answered, how long the encoder stream was at its end, and the
 -- fields that were handed to the encoder
 pub record KeptBlock : Type 0 where
   pub bytes : List ℕ
@@ -42,8 +46,8 @@ pub record RequestStream (B : Type 0) : Type 0 where
 abbrev pub KeptStream : Type 0
 KeptStream = RequestStream KeptBlock
 
--- the two ends, the insertions that the decoder did not yet report, the encoder's stream with how much of it was
--- delivered and taken, the decoder's stream likewise, and the request streams
+-- the two ends, the insertions that the decoder did not yet report, the encoder stream with how much of it was
+-- delivered and taken, the decoder stream likewise, and the request streams
 pub record Session : Type 0 where
   pub encoder : Table
   pub decoder : Table
@@ -105,7 +109,7 @@ with_stream ps s k = (s, k) ∷ ps
 abbrev pub with_kept_stream : Session → ℕ → KeptStream → Session
 with_kept_stream v s k = record v { streams = with_stream v.streams s k }
 
--- how a session begins: both tables empty, the capacity agreed
+-- how a session begins: both tables empty, the maximum capacity agreed
 abbrev pub initial_session : ℕ → ℕ → Session
 initial_session capacity limit =
     record {
@@ -153,7 +157,7 @@ next_block v s = oldest_undecoded (stream_at v.streams s)
 abbrev pub requires_entry : KeptBlock → Bool
 requires_entry b = not (nat_eq b.required 0)
 
--- a decoded block that requires an entry waits for its acknowledgment
+-- a decoded block that requires an entry is to be acknowledged
 abbrev pub awaits_acknowledgment : {B : Type 0} → (B → Bool) → RequestStream B → Bool
 awaits_acknowledgment requires k = nat_lt k.acknowledged (length (filter requires (take k.decoded k.blocks)))
 
@@ -195,7 +199,8 @@ skip_reason v (Decode s) =
 skip_reason v (ToDecoder n) = None
 skip_reason v (ToEncoder n) = None
 skip_reason v (Acknowledge s) =
-    let k = stream_at v.streams s in if nat_le (2 ^ 62) s then Some 1 else unless_cancelled k (awaits_acknowledgment requires_entry k) 4
+    let k = stream_at v.streams s in if nat_le (2 ^ 62) s then Some 1 else unless_cancelled k
+        (awaits_acknowledgment requires_entry k) 4
 skip_reason v (Cancel s) = if nat_le (2 ^ 62) s then Some 1 else unless_cancelled (stream_at v.streams s) true 0
 skip_reason v (ChangeCapacity n) = None
 
@@ -217,15 +222,15 @@ with_block v s fs =
     record v {
       encoder = committed_table d s;
       encoder_stream = encoder_stream;
-      streams = (s, record k { blocks = k.blocks ++ b ∷ [] })
-          ∷ v.streams;
+      streams = with_stream v.streams s (record k { blocks = k.blocks ++ b ∷ [] });
     }
 
 -- the session behind a block that was given up: its insertions stand and were written
 abbrev pub after_refused_encode : Session → List Field → Session
 after_refused_encode v fs =
     let d = rule v.encoder fs in
-    record v { encoder = without_references d.table; encoder_stream = v.encoder_stream ++ written_encoder_instructions d.instructions }
+    record v { encoder = without_references d.table; encoder_stream = v.encoder_stream
+        ++ written_encoder_instructions d.instructions }
 
 -- the session behind a decoded block
 abbrev pub with_decoded : Session → ℕ → Session
@@ -296,12 +301,15 @@ pub data EndsAtDecoder (v : Session) (n : ℕ) (t : Table) (front rest : List �
         → EndsAtDecoder v n t front rest o v'
     no_memory : o ≡ NoMemory → v' ≡ with_decoder_moved v n t (length front) (unreported_after v t) v.decoder_stream
         → EndsAtDecoder v n t front rest o v'
-    bad_bytes : (fault : FormFault) → Begins (λ encoding. RefusesEncoderInstruction encoding fault) rest → o ≡ Refused (BadBytes fault)
-        → v' ≡ with_decoder_moved v n t (length front) (unreported_after v t) v.decoder_stream → EndsAtDecoder v n t front rest o v'
+    bad_bytes : (fault : FormFault) → Begins (λ encoding. RefusesEncoderInstruction encoding fault) rest → o
+        ≡ Refused (BadBytes fault)
+        → v' ≡ with_decoder_moved v n t (length front) (unreported_after v t) v.decoder_stream
+            → EndsAtDecoder v n t front rest o v'
     bad_instruction : (encoding more : List ℕ) (i : EncoderInstruction) (e : TableRefusal) → rest ≡ encoding ++ more
         → SpellsEncoderInstruction encoding i
         → apply_encoder_instruction t i ≡ Err e → o ≡ Refused (BadInstruction e)
-        → v' ≡ with_decoder_moved v n t (length front + (if is_consumed e then length encoding else 0)) (unreported_after v t) v.decoder_stream
+        → v' ≡ with_decoder_moved v n t (length front + (if is_consumed e then length encoding else 0))
+            (unreported_after v t) v.decoder_stream
         → EndsAtDecoder v n t front rest o v'
 
 -- the next n bytes are delivered to the decoder, and offered behind those that it left; it takes lines at their front
@@ -325,17 +333,22 @@ with_encoder_moved v n t consumed =
     }
 
 -- how a delivery to the encoder ends; it takes no memory
-pub data EndsAtEncoder (v : Session) (n : ℕ) (t : Table) (front rest : List ℕ) (o : Outcome) (v' : Session) : Type 0 where
-  takes_all_at_encoder : Truncates decoder_instruction_form rest → o ≡ Heard → v' ≡ with_encoder_moved v n t (length front)
+pub data EndsAtEncoder (v : Session) (n : ℕ) (t : Table) (front rest : List ℕ) (o : Outcome)
+    (v' : Session) : Type 0 where
+  takes_all_at_encoder : Truncates decoder_instruction_form rest → o ≡ Heard → v'
+      ≡ with_encoder_moved v n t (length front)
       → EndsAtEncoder v n t front rest o v'
-  bad_bytes_at_encoder : (fault : FormFault) → Begins (λ encoding. RefusesDecoderInstruction encoding fault) rest → o ≡ Refused (BadBytes fault)
+  bad_bytes_at_encoder : (fault : FormFault) → Begins (λ encoding. RefusesDecoderInstruction encoding fault) rest → o
+      ≡ Refused (BadBytes fault)
       → v' ≡ with_encoder_moved v n t (length front) → EndsAtEncoder v n t front rest o v'
-  bad_decoder_instruction : (encoding more : List ℕ) (r : DecoderInstruction) (e : TableRefusal) → rest ≡ encoding ++ more → SpellsDecoderInstruction encoding r
+  bad_decoder_instruction : (encoding more : List ℕ) (r : DecoderInstruction) (e : TableRefusal) → rest ≡ encoding
+      ++ more → SpellsDecoderInstruction encoding r
       → apply_decoder_instruction t r ≡ Err e
       → o ≡ Refused (BadInstruction e) → v' ≡ with_encoder_moved v n t (length front + length encoding)
       → EndsAtEncoder v n t front rest o v'
 
--- the next n bytes are delivered to the encoder, and offered behind those that it left; it hears decoder_instructions at their front
+-- the next n bytes are delivered to the encoder, and offered behind those that it left; it takes decoder instructions
+-- at their front
 pub record DeliversToEncoder (v : Session) (n : ℕ) (o : Outcome) (v' : Session) : Type 0 where
   pub lines : List DecoderInstruction
   pub front : List ℕ
@@ -381,7 +394,8 @@ pub record SetsCapacity (v : Session) (n : ℕ) (o : Outcome) (v' : Session) : T
   pub table : Table
   pub is_set : with_capacity v.encoder n ≡ Ok table
   pub answers : o ≡ CapacitySet
-  pub leads : v' ≡ record v { encoder = table; encoder_stream = v.encoder_stream ++ written_encoder_instruction (SetCapacity n) }
+  pub leads : v' ≡ record v { encoder = table; encoder_stream = v.encoder_stream
+      ++ written_encoder_instruction (SetCapacity n) }
 
 -- the encoder's table refuses a capacity
 pub record RefusesCapacity (v : Session) (n : ℕ) (o : Outcome) (v' : Session) : Type 0 where
@@ -402,12 +416,14 @@ with_acknowledged v s =
 abbrev pub with_cancelled : Session → ℕ → Session
 with_cancelled v s =
     let k = stream_at v.streams s in
-    record (with_kept_stream v s (record k { cancelled = true })) { decoder_stream = v.decoder_stream ++ written_decoder_instruction (Cancellation s) }
+    record (with_kept_stream v s (record k { cancelled = true })) { decoder_stream = v.decoder_stream
+        ++ written_decoder_instruction (Cancellation s) }
 
 -- what a lawful event does
 unfoldable pub LawfulStep : Session → Event → Outcome → Session → Type 0
 LawfulStep v (Encode s fs) o v' =
-    ((o ≡ Encoded (required_insert_count (rule v.encoder fs))) × (v' ≡ with_block v s fs)) ⊎ GivesUp v fs o v' ⊎ LeavesAll v o v'
+    ((o ≡ Encoded (required_insert_count (rule v.encoder fs))) × (v' ≡ with_block v s fs)) ⊎ GivesUp v fs o v'
+        ⊎ LeavesAll v o v'
 LawfulStep v (Decode s) o v' = DecodesNext v s o v' ⊎ LeavesAll v o v'
 LawfulStep v (ToDecoder n) o v' = DeliversToDecoder v n o v'
 LawfulStep v (ToEncoder n) o v' = DeliversToEncoder v n o v'

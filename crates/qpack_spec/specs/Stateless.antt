@@ -1,5 +1,5 @@
--- Field sections that name no entry: what is written with no table at hand, and read so (RFC 9204, sections 2.1 and
--- 4.5).
+-- Field sections that reference no entry: what is written with no table at hand, and read so (RFC 9204, sections 2.1
+-- and 4.5).
 use Rattle.std.specs.Prelude.{◌≡◌, ℕ, zero, suc, ◌+◌, ◌-◌, ◌^◌, min, false, if◌then◌else◌, nat_lt, List, [], ◌∷◌}
 use Rattle.std.specs.Prelude.{length, map, Option, None, Some, Result, Ok, Err}
 use Rattle.std.specs.List.{AllByRecursion}
@@ -35,8 +35,8 @@ abbrev pub stateless_block : List Field → Block
 stateless_block fs =
     record { prefix = record { count = 0; sign = false; delta = 0 }; lines = map (λ f. stateless_line f) fs }
 
--- why a section can't be read alone: its bytes or a static index, a line that names an entry, or a sum of sizes that
--- passes the limit
+-- why a section can't be read alone: its bytes or a static index, a line that references an entry, or a sum of sizes
+-- that passes the limit
 pub data StatelessFault : Type 0 where
   BadSection : (fault : Fault) → StatelessFault
   NamesEntry : StatelessFault
@@ -69,7 +69,8 @@ or_bad_bytes (Err e) = Err (BadSection (BadForm e))
 -- the next field, where the sizes so far have this sum: refused if the limit is passed
 abbrev pub within_limit : ℕ → ℕ → Field → Result Field StatelessFault
 within_limit limit sum f =
-    if nat_lt limit (saturated_size (sum + field_size f)) then Err (TooLong (saturated_size (sum + field_size f))) else Ok f
+    if nat_lt limit (saturated_size (sum + field_size f)) then Err
+        (TooLong (saturated_size (sum + field_size f))) else Ok f
 
 -- the fields of the lines in turn, in so many steps at most; a post-base line, whose first bits are 000, is refused by
 -- its first byte alone

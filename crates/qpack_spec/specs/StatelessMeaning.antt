@@ -74,29 +74,36 @@ StatelessReadingIsMeaning =
 abbrev pub no_table : Option ℕ → Window
 no_table agreed_max = record { capacity = 0; agreed_max = agreed_max; dropped = 0; live = [] }
 
--- the fault under such a table where a line is refused alone because it names an entry: no entry is there; or the bytes
--- of a post-base line can't be read, which is refused alone by its first byte
+-- the fault under such a table of a line that references an entry: no entry is there
 abbrev pub IsNoEntry : Fault → Type 0
 IsNoEntry (BelowWindow index) = Unit {0}
 IsNoEntry (BehindBase index) = Unit {0}
-IsNoEntry (BadForm fault) = Unit {0}
+IsNoEntry (BadForm fault) = ⊥
 IsNoEntry (BadPrefix fault) = ⊥
 IsNoEntry (AboveWindow place) = ⊥
 IsNoEntry (NotStatic index) = ⊥
 
--- what is read alone, with what is read under an empty table of capacity 0: the same fields, of which none requires an
--- entry; the same fault; a fault for a line that names an entry. Past the limit fields or a fault may stand there
-abbrev pub AgreesWithoutTable : Result (List Field) StatelessFault → Reading → Type 0
-AgreesWithoutTable (Ok fs) r = r ≡ Fields fs false
-AgreesWithoutTable (Err (BadSection e)) r = r ≡ Faulty e
-AgreesWithoutTable (Err NamesEntry) r = (e : Fault) × (r ≡ Faulty e) × IsNoEntry e
-AgreesWithoutTable (Err (TooLong sum)) r = (required : ℕ) → r ≡ Missing required → ⊥
+-- the fault under such a table of bytes that are refused alone because a line references an entry: no entry is there;
+-- or the bytes of a post-base line can't be read, which is refused alone by its first byte
+pub data NamesNoEntry (bytes : List ℕ) (e : Fault) : Type 0 where
+  no_entry : IsNoEntry e → NamesNoEntry bytes e
+  unread_post_base : (front more : List ℕ) (first : ℕ) (fault : FormFault) → bytes ≡ front ++ first ∷ more → first < 32
+      → form_at line_form (first ∷ more) ≡ Err fault → e ≡ BadForm fault → NamesNoEntry bytes e
+
+-- what bytes are read as alone, with what they are read as under an empty table of capacity 0: the same fields, of
+-- which none requires an entry; the same fault; a fault for a line that references an entry. Past the limit fields or a
+-- fault may stand there
+abbrev pub AgreesWithoutTable : List ℕ → Result (List Field) StatelessFault → Reading → Type 0
+AgreesWithoutTable bytes (Ok fs) r = r ≡ Fields fs false
+AgreesWithoutTable bytes (Err (BadSection e)) r = r ≡ Faulty e
+AgreesWithoutTable bytes (Err NamesEntry) r = (e : Fault) × (r ≡ Faulty e) × NamesNoEntry bytes e
+AgreesWithoutTable bytes (Err (TooLong sum)) r = (required : ℕ) → r ≡ Missing required → ⊥
 
 -- reading alone is reading under an empty table of capacity 0, up to the limit; and where that reads fields, they are
 -- read alone, up to the limit. A prefix is refused by neither for what it says
 abbrev pub StatelessIsWithoutTable : Type 0
 StatelessIsWithoutTable =
     (agreed_max : Option ℕ) → maximum_capacity agreed_max 0 ≡ 0 → (limit : ℕ) (bytes : List ℕ)
-    → AgreesWithoutTable (stateless_reading limit bytes) (reading_of_bytes (no_table agreed_max) bytes)
+    → AgreesWithoutTable bytes (stateless_reading limit bytes) (reading_of_bytes (no_table agreed_max) bytes)
     × ((fs : List Field) (is_dynamic : Bool) → reading_of_bytes (no_table agreed_max) bytes ≡ Fields fs is_dynamic
     → (is_dynamic ≡ false) × (stateless_reading limit bytes ≡ up_to_limit limit 0 fs))

@@ -20,7 +20,7 @@ pub record Holds (L : Type 0) (Spells : List ℕ → L
   pub joined : Joined Spells front lines
   pub cut_off : IsCutOff Spells rest
 
--- a stream of which the first lines were taken, up to a place, and the others are under way
+-- a stream of which the first lines were taken, up to a position, and the others are under way
 pub record Carried (L : Type 0) (Spells : List ℕ → L
     → Type 0) (bytes : List ℕ) (place : ℕ) (taken in_flight : List L) : Type 0 where
   pub front : List ℕ

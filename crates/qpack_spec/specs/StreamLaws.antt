@@ -32,7 +32,8 @@ pub record HasOneReading (L : Type 0) (form_of : ℕ → Option (Form L)) (bytes
   pub rest : List ℕ
   pub holds : Holds L (λ t l. Spells L form_of t l) bytes lines rest
   pub ends : Truncates form_of rest ⊎ ((fault : FormFault) × Begins (λ t. Refuses L form_of t fault) rest)
-  pub only : (ms : List L) (more : List ℕ) → Holds L (λ t l. Spells L form_of t l) bytes ms more → (lines ≡ ms) × (rest ≡ more)
+  pub only : (ms : List L) (more : List ℕ) → Holds L (λ t l. Spells L form_of t l) bytes ms more
+      → (lines ≡ ms) × (rest ≡ more)
 
 -- every byte list has a reading, and just one
 abbrev pub EveryStreamHasAReading : {L : Type 0} → (ℕ → Option (Form L)) → Type 0

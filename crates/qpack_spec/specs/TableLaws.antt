@@ -12,9 +12,11 @@ EntriesAreInsertions = (t : Table) (e : Entry) → window (with_entry t e) ≡ w
 
 -- a capacity that is taken is one of the window
 abbrev pub CapacitiesAreOfTheWindow : Type 0
-CapacitiesAreOfTheWindow = (t u : Table) (n : ℕ) → with_capacity t n ≡ Ok u → window u ≡ window_after (window t) (Resizes n)
+CapacitiesAreOfTheWindow = (t u : Table) (n : ℕ) → with_capacity t n ≡ Ok u → window u
+    ≡ window_after (window t) (Resizes n)
 
--- a decoder's table, at which nothing is held, goes as its window: taken alike and refused alike
+-- a decoder's table, at which everything is evictable, goes as its window: taken alike and refused alike
 abbrev pub DecodersTableGoesAsItsWindow : Type 0
 DecodersTableGoesAsItsWindow =
-    (w : Window) (i : EncoderInstruction) → apply_encoder_instruction (table_of w) i ≡ (apply w i >>= λ x. Ok (table_of x))
+    (w : Window) (i : EncoderInstruction) → apply_encoder_instruction (table_of w) i
+        ≡ (apply w i >>= λ x. Ok (table_of x))

@@ -4,11 +4,12 @@ use Rattle.std.specs.Prelude.{length, drop, Option, None, Some, slice_get, Resul
 use Rattle.qpack_spec.specs.Bytes.{◌>>=◌}
 use Rattle.qpack_spec.specs.Field.{Field, field_size, total_size}
 use Rattle.qpack_spec.specs.StaticTable.{static_table}
-use Rattle.qpack_spec.specs.Instruction.{EncoderInstruction, InsertStaticName, InsertDynamicName, InsertLiteralName, Duplicate}
+use Rattle.qpack_spec.specs.Instruction.{EncoderInstruction, InsertStaticName, InsertDynamicName, InsertLiteralName}
+use Rattle.qpack_spec.specs.Instruction.{Duplicate}
 use Rattle.qpack_spec.specs.Instruction.{SetCapacity}
 
--- capacity, agreed maximum, how many entries were dropped, and the live ones, the oldest first. Absolute indexes begin
--- at 1: the live ones are dropped + 1 to dropped + length live (section 3.2.4, which begins at 0)
+-- capacity, maximum capacity, how many entries were dropped, and the live ones, the oldest first. Absolute indexes
+-- begin at 1: the live ones are dropped + 1 to dropped + length live (section 3.2.4, which begins at 0)
 pub record Window : Type 0 where
   pub capacity : ℕ
   pub agreed_max : Option ℕ
@@ -20,7 +21,7 @@ abbrev pub maximum_capacity : Option ℕ → ℕ → ℕ
 maximum_capacity None capacity = capacity
 maximum_capacity (Some most) capacity = most
 
--- the greatest capacity that may be set (section 3.2.3): the agreed maximum, and never 2^30 or more
+-- the greatest capacity that may be set (section 3.2.3): the maximum capacity, and never 2^30 or more
 abbrev pub greatest_capacity : Option ℕ → ℕ
 greatest_capacity None = 2 ^ 30 - 1
 greatest_capacity (Some most) = min most (2 ^ 30 - 1)
@@ -35,15 +36,17 @@ absolute_entry w absolute = if nat_lt w.dropped absolute then slice_get w.live (
 
 -- the live entry of an instruction's relative index: 0 is the newest (section 3.2.5)
 unfoldable pub relative_entry : Window → ℕ → Option Field
-relative_entry w relative = if nat_lt relative (length w.live) then slice_get w.live (length w.live - 1 - relative) else None
+relative_entry w relative = if nat_lt relative (length w.live) then slice_get w.live
+    (length w.live - 1 - relative) else None
 
 -- the least number of oldest entries whose removal lets the rest fit (section 3.2.2)
 unfoldable pub eviction_count : ℕ → List Field → ℕ
 eviction_count capacity [] = 0
 eviction_count capacity (f ∷ fs) = if nat_le (total_size (f ∷ fs)) capacity then 0 else suc (eviction_count capacity fs)
 
--- why an instruction is refused: it names no live entry or no static field, a field is larger than the capacity or a
--- held entry stands against a capacity, a capacity is above the greatest one, or no block of the stream is open
+-- why an instruction is refused: it references no live entry or no static field, a field is larger than the capacity or
+-- a an entry that is not evictable stands against a capacity, a capacity is above the greatest one, or no block of the
+-- stream is open
 pub data TableRefusal : Type 0 where
   NoEntry : (relative : ℕ) → TableRefusal
   NoStaticField : (index : ℕ) → TableRefusal

@@ -3,7 +3,8 @@ use Rattle.std.specs.Prelude.{◌≡◌, ℕ, ◌*◌, ◌≤◌, ◌↔◌, Lis
 use Rattle.std.specs.List.{AllByRecursion}
 use Rattle.qpack_spec.specs.Bytes.{◌>>=◌}
 use Rattle.qpack_spec.specs.Field.{Field, total_size}
-use Rattle.qpack_spec.specs.Instruction.{EncoderInstruction, InsertStaticName, InsertDynamicName, InsertLiteralName, Duplicate}
+use Rattle.qpack_spec.specs.Instruction.{EncoderInstruction, InsertStaticName, InsertDynamicName, InsertLiteralName}
+use Rattle.qpack_spec.specs.Instruction.{Duplicate}
 use Rattle.qpack_spec.specs.Instruction.{SetCapacity}
 use Rattle.qpack_spec.specs.Window.{Window, eviction_count, TableRefusal, apply}
 use Rattle.qpack_spec.specs.History.{History, window_of, empty_history, Leads}
@@ -11,7 +12,8 @@ use Rattle.qpack_spec.specs.History.{History, window_of, empty_history, Leads}
 -- live entries number at most a 32nd of the capacity (RFC 9204, section 3.2.1)
 abbrev pub LiveEntriesAreFew : Type 0
 LiveEntriesAreFew =
-    (capacity : ℕ) (agreed_max : Option ℕ) (is : List EncoderInstruction) (h : History) → Leads (empty_history capacity agreed_max) is h
+    (capacity : ℕ) (agreed_max : Option ℕ) (is : List EncoderInstruction) (h : History)
+        → Leads (empty_history capacity agreed_max) is h
     → 32 * length (window_of h).live ≤ h.capacity
 
 -- what has to go is the least number of oldest entries whose removal lets the rest fit (section 3.2.2)
@@ -32,9 +34,12 @@ pub record FrontLeads (from : History) (is : List EncoderInstruction) (m : Histo
 -- capacity of that front's end: at least that of each, and that of one
 abbrev pub DroppedIsGreatest : Type 0
 DroppedIsGreatest =
-    (capacity : ℕ) (agreed_max : Option ℕ) (is : List EncoderInstruction) (h : History) → Leads (empty_history capacity agreed_max) is h
-    → ((m : History) → FrontLeads (empty_history capacity agreed_max) is m → eviction_count m.capacity m.inserted ≤ h.dropped)
-    × ((m : History) × FrontLeads (empty_history capacity agreed_max) is m × (h.dropped ≡ eviction_count m.capacity m.inserted))
+    (capacity : ℕ) (agreed_max : Option ℕ) (is : List EncoderInstruction) (h : History)
+        → Leads (empty_history capacity agreed_max) is h
+    → ((m : History) → FrontLeads (empty_history capacity agreed_max) is m → eviction_count m.capacity m.inserted
+        ≤ h.dropped)
+    × ((m : History) × FrontLeads (empty_history capacity agreed_max) is m
+        × (h.dropped ≡ eviction_count m.capacity m.inserted))
 
 -- the longest tail that fits
 pub record IsLongestTail (capacity : ℕ) (all live : List Field) : Type 0 where
@@ -54,7 +59,8 @@ SetsNoCapacity (SetCapacity capacity) = ⊥
 -- with one capacity the live entries are the longest tail of all insertions that fits (section 3.2.2)
 abbrev pub LiveIsLongestTail : Type 0
 LiveIsLongestTail =
-    (capacity : ℕ) (agreed_max : Option ℕ) (is : List EncoderInstruction) (h : History) → AllByRecursion SetsNoCapacity is
+    (capacity : ℕ) (agreed_max : Option ℕ) (is : List EncoderInstruction) (h : History)
+        → AllByRecursion SetsNoCapacity is
     → Leads (empty_history capacity agreed_max) is h → IsLongestTail capacity h.inserted (window_of h).live
 
 -- the window after some instructions
@@ -66,5 +72,6 @@ all_taken w (i ∷ is) = apply w i >>= λ x. all_taken x is
 abbrev pub WindowsFollowHistories : Type 0
 WindowsFollowHistories =
     (capacity : ℕ) (agreed_max : Option ℕ) (is : List EncoderInstruction) (w : Window)
-    → (all_taken (window_of (empty_history capacity agreed_max)) is ≡ Ok w) ↔ ((h : History) × Leads (empty_history capacity agreed_max) is h
+    → (all_taken (window_of (empty_history capacity agreed_max)) is ≡ Ok w) ↔
+        ((h : History) × Leads (empty_history capacity agreed_max) is h
     × (w ≡ window_of h))

@@ -1,5 +1,5 @@
--- What is written of lines, instructions and decoder_instructions is a spelling, so that it is read back whole; the crate's law
--- functions promise it.
+-- What is written of lines, instructions and decoder_instructions is a spelling, so that it is read back whole; the
+-- crate's law functions promise it.
 use Rattle.std.specs.Prelude.{◌≡◌, ℕ, ◌^◌, ◌<◌, List, length}
 use Rattle.std.specs.List.{AllByRecursion}
 use Rattle.qpack_spec.specs.Prefix.{Prefix, SpellsPrefix, written_prefix}
@@ -10,9 +10,12 @@ use Rattle.qpack_spec.specs.Field.{Field}
 use Rattle.qpack_spec.specs.Huffman.{AreBytes, payload_of}
 use Rattle.qpack_spec.specs.Line.{Line, IndexedStatic, IndexedDynamic, IndexedPostBase, NamedStatic, NamedDynamic}
 use Rattle.qpack_spec.specs.Line.{NamedPostBase, Literal, SpellsLine, written_line}
-use Rattle.qpack_spec.specs.Instruction.{EncoderInstruction, InsertStaticName, InsertDynamicName, InsertLiteralName, Duplicate}
-use Rattle.qpack_spec.specs.Instruction.{SetCapacity, DecoderInstruction, Acknowledgment, Cancellation, Increment, SpellsEncoderInstruction}
-use Rattle.qpack_spec.specs.Instruction.{SpellsDecoderInstruction, written_encoder_instruction, written_decoder_instruction}
+use Rattle.qpack_spec.specs.Instruction.{EncoderInstruction, InsertStaticName, InsertDynamicName, InsertLiteralName}
+use Rattle.qpack_spec.specs.Instruction.{Duplicate}
+use Rattle.qpack_spec.specs.Instruction.{SetCapacity, DecoderInstruction, Acknowledgment, Cancellation, Increment}
+use Rattle.qpack_spec.specs.Instruction.{SpellsEncoderInstruction}
+use Rattle.qpack_spec.specs.Instruction.{SpellsDecoderInstruction, written_encoder_instruction}
+use Rattle.qpack_spec.specs.Instruction.{written_decoder_instruction}
 
 -- the numbers that are written are below 2^63; those of this layer end at 2^62
 abbrev pub IsSmall : ℕ → Type 0
@@ -94,7 +97,8 @@ WrittenEncoderInstructionsAreSpellings = (i : EncoderInstruction) → IsWritable
 
 -- what is written of a decoder instruction is a spelling of it
 abbrev pub WrittenDecoderInstructionsAreSpellings : Type 0
-WrittenDecoderInstructionsAreSpellings = (r : DecoderInstruction) → IsWritableDecoderInstruction r → SpellsDecoderInstruction (written_decoder_instruction r) r
+WrittenDecoderInstructionsAreSpellings = (r : DecoderInstruction) → IsWritableDecoderInstruction r
+    → SpellsDecoderInstruction (written_decoder_instruction r) r
 
 -- what is written of a prefix is a spelling of it
 abbrev pub WrittenPrefixesAreSpellings : Type 0

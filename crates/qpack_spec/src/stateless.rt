@@ -1,4 +1,4 @@
-//! Laws of field sections that name no entry.
+//! Laws of field sections that reference no entry.
 
 ghost use Rattle.qpack_spec.specs.Stateless.{RuleWithoutTable, StatelessPairAgrees};
 ghost use Rattle.qpack_spec.specs.StatelessMeaning.{StatelessReadingIsMeaning, StatelessIsWithoutTable};

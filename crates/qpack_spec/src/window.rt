@@ -1,6 +1,7 @@
 //! Laws of the window of a dynamic table, which both ends share (RFC 9204, section 3.2).
 
-ghost use Rattle.qpack_spec.specs.WindowLaws.{LiveEntriesAreFew, EvictionCountIsLeast, DroppedIsGreatest, LiveIsLongestTail};
+ghost use Rattle.qpack_spec.specs.WindowLaws.{LiveEntriesAreFew, EvictionCountIsLeast, DroppedIsGreatest};
+ghost use Rattle.qpack_spec.specs.WindowLaws.{LiveIsLongestTail};
 ghost use Rattle.qpack_spec.specs.WindowLaws.{WindowsFollowHistories};
 
 /// Live entries number at most a 32nd of the capacity.

@@ -5,7 +5,8 @@ use Rattle.std.specs.Prelude.{nat_eq}
 use Rattle.std.proofs.lemmas.Bool.{lt-ltb, le-ltb, lt-leb, le-leb, ne_eqb}
 use Rattle.std.proofs.lemmas.List.{drop-append-le, length-map}
 use Rattle.qpack_spec.specs.Field.{Field, field_size}
-use Rattle.qpack_spec.specs.Table.{Table, Entry, insert_count, fields_in, can_evict, eviction_count_for, has_room, with_entry}
+use Rattle.qpack_spec.specs.Table.{Table, Entry, insert_count, fields_in, can_evict, eviction_count_for, has_room}
+use Rattle.qpack_spec.specs.Table.{with_entry}
 use Rattle.qpack_spec.specs.Table.{put_entry, put, with_capacity}
 use Rattle.qpack_spec.specs.Window.{DoesNotFit, AboveMaximum, eviction_count, greatest_capacity}
 use Rattle.qpack_spec.proofs.Windows.{eviction_count_push}
@@ -80,7 +81,8 @@ resized_against_held t n most held = rw (le-leb n (greatest_capacity t.agreed_ma
 
 pub resized_to : (t : Table) (n dropped : ℕ) (live : List Entry) → n ≤ greatest_capacity t.agreed_max
     → can_evict t (eviction_count n (fields_in t.live)) ≡ true
-    → dropped ≡ t.dropped + eviction_count n (fields_in t.live) → live ≡ drop (eviction_count n (fields_in t.live)) t.live
+    → dropped ≡ t.dropped + eviction_count n (fields_in t.live) → live
+        ≡ drop (eviction_count n (fields_in t.live)) t.live
     → with_capacity t n ≡ Ok (record t { capacity = n; dropped = dropped; live = live })
 unfolding with_capacity
 resized_to t n dropped live most free d l = rw (le-leb n (greatest_capacity t.agreed_max) most, free, d, l) refl

@@ -6,7 +6,8 @@ use Rattle.std.proofs.lemmas.Bool.{cases_lt, lt-ltb, le-ltb}
 use Rattle.std.proofs.lemmas.Option.{slice_get_cases, slice_get_past}
 use Rattle.qpack_spec.specs.Window.{Window, window_insert_count, absolute_entry, relative_entry}
 use Rattle.qpack_spec.specs.Reading.{BelowWindow, AboveWindow, BehindBase, or_fault, relative_field, post_base_field}
-use Rattle.qpack_table.specs.Positions.{positions_of, IsLive, IsPositionOf, IsNotEvicted, newest_relative_index, relative_index}
+use Rattle.qpack_table.specs.Positions.{positions_of, IsLive, IsPositionOf, IsNotEvicted, newest_relative_index}
+use Rattle.qpack_table.specs.Positions.{relative_index}
 use Rattle.qpack_table.specs.Positions.{post_base_index}
 
 -- ---- absolute indexes
@@ -58,12 +59,14 @@ at_position w absolute position is =
 
 -- ---- relative indexes
 
-pub recent_is_entry : (w : Window) (relative : ℕ) → relative_entry w relative ≡ absolute_entry w (newest_relative_index (positions_of w) relative)
+pub recent_is_entry : (w : Window) (relative : ℕ) → relative_entry w relative
+    ≡ absolute_entry w (newest_relative_index (positions_of w) relative)
 unfolding relative_entry
 recent_is_entry w relative =
     elim (cases_lt relative (length w.live)) [
       | inl h ↦
-          let position : IsPositionOf (positions_of w) (window_insert_count w - relative) (length w.live - 1 - relative) = omega (arith, h) in
+          let position : IsPositionOf (positions_of w) (window_insert_count w - relative)
+              (length w.live - 1 - relative) = omega (arith, h) in
           rw (lt-ltb relative (length w.live) h) (sym
           (at_position w (window_insert_count w - relative) (length w.live - 1 - relative) position))
       | inr h ↦
@@ -95,7 +98,8 @@ relative_dropped w base relative none =
 -- ---- post-base indexes
 
 pub post_base_is_entry : (w : Window) (base post_base : ℕ)
-    → post_base_field w base post_base ≡ or_fault (absolute_entry w (post_base_index base post_base)) (BehindBase post_base)
+    → post_base_field w base post_base
+        ≡ or_fault (absolute_entry w (post_base_index base post_base)) (BehindBase post_base)
 unfolding post_base_field
 post_base_is_entry w base post_base =
     elim (cases_lt w.dropped (base + post_base + 1)) [

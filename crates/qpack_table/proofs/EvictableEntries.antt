@@ -29,7 +29,8 @@ named_if_used referenced unacknowledged a = first (has_number a referenced) refl
     rest = length (filter (λ (b : table.UnacknowledgedBlock). has_number a b.entries) unacknowledged)
 
     first : (b : Bool) → has_number a referenced ≡ b
-        → (has_number a referenced || list_any (λ (b : table.UnacknowledgedBlock). has_number a b.entries) unacknowledged)
+        → (has_number a referenced
+            || list_any (λ (b : table.UnacknowledgedBlock). has_number a b.entries) unacknowledged)
         ≡ nat_lt 0 (uses referenced unacknowledged a)
     first true e = rw e (sym (lt-ltb 0 (1 + rest) (omega arith)))
     first false e = let none : 0 + rest ≡ rest = omega arith in
@@ -49,16 +50,19 @@ pub evictable_used : (t : table.Table) (a n : ℕ) (sent : Bool) → n ≡ uses 
     → is_evictable t a sent ≡ false
 unfolding is_evictable
 evictable_used t a n sent e h =
-    ap not (by_either (has_number a t.referenced) (list_any (λ (b : table.UnacknowledgedBlock). has_number a b.entries) t.unacknowledged)
+    ap not (by_either (has_number a t.referenced)
+        (list_any (λ (b : table.UnacknowledgedBlock). has_number a b.entries) t.unacknowledged)
     (sent && nat_lt t.known_received_count a)
-    (named_if_used t.referenced t.unacknowledged a ∙ lt-ltb 0 (uses t.referenced t.unacknowledged a) (omega (arith, e, h))))
+    (named_if_used t.referenced t.unacknowledged a
+        ∙ lt-ltb 0 (uses t.referenced t.unacknowledged a) (omega (arith, e, h))))
 
 pub evictable_unused : (t : table.Table) (a n : ℕ) (sent : Bool) → n ≡ uses t.referenced t.unacknowledged a → n ≡ 0
     → is_evictable t a sent ≡ not (sent && nat_lt t.known_received_count a)
 unfolding is_evictable
 evictable_unused t a n sent e h =
     let none : uses t.referenced t.unacknowledged a ≡ 0 = omega (arith, e, h) in
-    ap not (by_neither (has_number a t.referenced) (list_any (λ (b : table.UnacknowledgedBlock). has_number a b.entries) t.unacknowledged)
+    ap not (by_neither (has_number a t.referenced)
+        (list_any (λ (b : table.UnacknowledgedBlock). has_number a b.entries) t.unacknowledged)
     (sent && nat_lt t.known_received_count a)
     (named_if_used t.referenced t.unacknowledged a ∙ ap (nat_lt 0) none))
 
@@ -68,7 +72,8 @@ entry_there [] position e h is = absurd (omega (arith, h))
 entry_there (x ∷ es) zero e h is = ap (λ (y : Entry). Some (entry_of y)) (sym is)
 entry_there (x ∷ es) (suc k) e h is = entry_there es k e (omega (arith, h)) is
 
-pub evictable_at : (t : table.Table) (es : List Entry) (position : ℕ) (e : Entry) (answer : Bool) → t.live ≡ entries_of es
+pub evictable_at : (t : table.Table) (es : List Entry) (position : ℕ) (e : Entry) (answer : Bool) → t.live
+    ≡ entries_of es
     → position < length es → e ≡ get_or es position e
     → answer ≡ is_evictable t (t.dropped + position + 1) e.sent → IsEvictableAt t position answer
 evictable_at t es position e answer live h is same =
@@ -77,14 +82,16 @@ evictable_at t es position e answer live h is same =
     rw there same
 
 -- the first of those that are left to test
-next_tested : (xs : List table.Entry) (evicted position : ℕ) (x : table.Entry) → position < evicted → slice_get xs position ≡ Some x
+next_tested : (xs : List table.Entry) (evicted position : ℕ) (x : table.Entry) → position < evicted
+    → slice_get xs position ≡ Some x
     → drop position (take evicted xs) ≡ x ∷ drop (position + 1) (take evicted xs)
 next_tested [] evicted position x h is = absurd cc
 next_tested (y ∷ ys) zero position x h is = absurd (omega (arith, h))
 next_tested (y ∷ ys) (suc evicted) zero x h is = let s : y ≡ x = cc in ap (λ z. z ∷ take evicted ys) s
 next_tested (y ∷ ys) (suc evicted) (suc position) x h is =
     let next : suc position + 1 ≡ suc (position + 1) = omega arith in
-    next_tested ys evicted position x (omega (arith, h)) is ∙ ap (λ (n : ℕ). x ∷ drop n (take (suc evicted) (y ∷ ys))) (sym next)
+    next_tested ys evicted position x (omega (arith, h)) is
+        ∙ ap (λ (n : ℕ). x ∷ drop n (take (suc evicted) (y ∷ ys))) (sym next)
 
 there_is : {X : Type 0} (xs : List X) (position : ℕ) → position < length xs → (x : X) × (slice_get xs position ≡ Some x)
 there_is [] position h = absurd (omega (arith, h))
@@ -92,7 +99,8 @@ there_is (x ∷ xs) zero h = (x, refl)
 there_is (x ∷ xs) (suc position) h = there_is xs position (omega (arith, h))
 
 -- one position further
-all_evictable_step : (t : table.Table) (evicted position : ℕ) (answer : Bool) → position < evicted → evicted ≤ length t.live
+all_evictable_step : (t : table.Table) (evicted position : ℕ) (answer : Bool) → position < evicted → evicted
+    ≤ length t.live
     → IsEvictableAt t position answer
     → all_evictable t (suc (t.dropped + position)) (drop position (take evicted t.live))
     ≡ (if answer then all_evictable t (suc (t.dropped + (position + 1))) (drop (position + 1) (take evicted t.live))
@@ -106,11 +114,13 @@ all_evictable_step t evicted position answer h few at =
     let there : t.dropped + (position + 1) ≡ suc (t.dropped + position) = omega arith in
     rw (next_tested t.live evicted position some.0 h some.1, there, is, here) refl
 
-pub stops_at_first : (t : table.Table) (evicted position : ℕ) → position < evicted → evicted ≤ length t.live → IsEvictableAt t position false
+pub stops_at_first : (t : table.Table) (evicted position : ℕ) → position < evicted → evicted ≤ length t.live
+    → IsEvictableAt t position false
     → all_evictable t (suc (t.dropped + position)) (drop position (take evicted t.live)) ≡ false
 stops_at_first t evicted position h few at = all_evictable_step t evicted position false h few at
 
-pub free_goes_on : (t : table.Table) (evicted position : ℕ) → position < evicted → evicted ≤ length t.live → IsEvictableAt t position true
+pub free_goes_on : (t : table.Table) (evicted position : ℕ) → position < evicted → evicted ≤ length t.live
+    → IsEvictableAt t position true
     → all_evictable t (suc (t.dropped + position)) (drop position (take evicted t.live))
     ≡ all_evictable t (suc (t.dropped + (position + 1))) (drop (position + 1) (take evicted t.live))
 free_goes_on t evicted position h few at = all_evictable_step t evicted position true h few at
@@ -138,7 +148,8 @@ below_or_not a b =
     ]
 
 -- a sent entry is received if the known received count reached its absolute index
-pub sent_received : (known_received_count dropped position absolute : ℕ) (sent : Bool) → sent ≡ true → absolute ≡ dropped + position
+pub sent_received : (known_received_count dropped position absolute : ℕ) (sent : Bool) → sent ≡ true → absolute
+    ≡ dropped + position
     → nat_lt absolute known_received_count ≡ not (sent && nat_lt known_received_count (dropped + position + 1))
 sent_received known_received_count dropped position absolute sent e h =
     rw (e, h) (below_or_not known_received_count (dropped + position))

@@ -10,7 +10,8 @@ use Rattle.qpack_spec.specs.Table.{fields_in}
 use Rattle.qpack_spec.specs.Table as table
 use Rattle.qpack_spec.specs.Window.{eviction_count}
 use Rattle.qpack_spec.proofs.Sizes.{total_first, total_last}
-use Rattle.qpack_spec.proofs.Windows.{eviction_count_fits, eviction_count_least, eviction_count_bound, eviction_count_push}
+use Rattle.qpack_spec.proofs.Windows.{eviction_count_fits, eviction_count_least, eviction_count_bound}
+use Rattle.qpack_spec.proofs.Windows.{eviction_count_push}
 use Rattle.qpack_spec.proofs.Lists.{get_drop, get_append_within}
 use Rattle.qpack_table.specs.Positions.{Positions}
 use Rattle.qpack_table.specs.Tables.{entry_of, entries_of, uses, IsKept}
@@ -93,7 +94,8 @@ pub record GoneSoFar (room : ℕ) (es : List Entry) (rest evicted : ℕ) : Type 
   pub least : evicted ≤ eviction_count room (fields_in (entries_of es))
 
 -- the first of what is left
-pub first_size : (room : ℕ) (es : List Entry) (rest evicted : ℕ) (e : Entry) → evicted < length es → e ≡ get_or es evicted e
+pub first_size : (room : ℕ) (es : List Entry) (rest evicted : ℕ) (e : Entry) → evicted < length es → e
+    ≡ get_or es evicted e
     → GoneSoFar room es rest evicted
     → rest ≡ field_size (field_at e) + total_size (drop (evicted + 1) (fields_in (entries_of es)))
 first_size room es rest evicted e h is k =
@@ -154,11 +156,13 @@ shed all now i size less e rest a b front same =
 
 -- what a table keeps, with fewer entries
 kept_less : (v w : Positions) (es now : List Entry) (size left capacity capacity' : ℕ) (referenced named' : List ℕ)
-    (unacknowledged opened' : List table.UnacknowledgedBlock) (k : ℕ) → IsKept v es size capacity referenced unacknowledged
+    (unacknowledged opened' : List table.UnacknowledgedBlock) (k : ℕ)
+        → IsKept v es size capacity referenced unacknowledged
     → k ≤ length es → now ≡ drop k es → left ≡ total_size (drop k (fields_in (entries_of es)))
     → w.dropped ≡ v.dropped + k → w.total ≡ v.total
     → capacity' ≡ capacity → named' ≡ referenced → opened' ≡ unacknowledged → IsKept w now left capacity' named' opened'
-kept_less v w es now size left capacity capacity' referenced named' unacknowledged opened' k kept few items sum dropped total
+kept_less v w es now size left capacity capacity' referenced named' unacknowledged opened' k kept few items sum dropped
+    total
     same_capacity same_named same_opened =
     rw (same_named, same_opened) (record {
       counted = omega (
@@ -197,7 +201,8 @@ joined_entries [] e = refl
 joined_entries (x ∷ es) e = ap (λ (l : List table.Entry). entry_of x ∷ l) (joined_entries es e)
 
 -- the last one is the new one
-last_is : (xs : List Entry) (e x : Entry) (position : ℕ) → length xs ≤ position → slice_get (xs ++ e ∷ []) position ≡ Some x
+last_is : (xs : List Entry) (e x : Entry) (position : ℕ) → length xs ≤ position → slice_get (xs ++ e ∷ []) position
+    ≡ Some x
     → (e ≡ x) × (position ≡ length xs)
 last_is [] e x zero h at = (cc, refl)
 last_is [] e x (suc position) h at = absurd cc
@@ -207,14 +212,17 @@ last_is (y ∷ xs) e x (suc position) h at = let r = last_is xs e x position (om
 
 -- what a table keeps, with some entries less and one more
 pub kept_inserted : (v w : Positions) (es now : List Entry) (size left capacity : ℕ) (referenced : List ℕ)
-    (unacknowledged : List table.UnacknowledgedBlock) (e : Entry) (k : ℕ) → IsKept v es size capacity referenced unacknowledged
+    (unacknowledged : List table.UnacknowledgedBlock) (e : Entry) (k : ℕ)
+        → IsKept v es size capacity referenced unacknowledged
     → field_size (field_at e) ≤ capacity → k ≡ eviction_count capacity (fields_in (entries_of es) ++ field_at e ∷ [])
     → now ≡ drop k es ++ e ∷ []
     → left ≡ total_size (drop k (fields_in (entries_of es))) + field_size (field_at e) → e.uses ≡ 0
     → w.dropped ≡ v.dropped + k → w.total ≡ v.total + 1 → IsKept w now left capacity referenced unacknowledged
-kept_inserted v w es now size left capacity referenced unacknowledged e k kept room evicted items sum unused dropped total =
+kept_inserted v w es now size left capacity referenced unacknowledged e k kept room evicted items sum unused dropped
+    total =
     let fs = fields_in (entries_of es) in
-    let few : k ≤ length es = omega (arith, evicted, eviction_count_push capacity fs (field_at e) room, fields-length es) in
+    let few : k ≤ length es = omega
+        (arith, evicted, eviction_count_push capacity fs (field_at e) room, fields-length es) in
     let within : k ≤ length fs = omega (arith, few, fields-length es) in
     let fits : total_size (drop k fs) + field_size (field_at e) ≤ capacity =
     omega (
@@ -276,16 +284,20 @@ evicted_within es f capacity k fits evicted = omega (
 
 -- what a table keeps, with fewer entries and another capacity
 pub kept_resized : (v w : Positions) (es now : List Entry) (size left capacity most : ℕ) (referenced : List ℕ)
-    (unacknowledged : List table.UnacknowledgedBlock) (k freed : ℕ) → IsKept v es size capacity referenced unacknowledged
+    (unacknowledged : List table.UnacknowledgedBlock) (k freed : ℕ)
+        → IsKept v es size capacity referenced unacknowledged
     → k ≡ eviction_count most (fields_in (entries_of es)) → most < 2 ^ 30 → now ≡ drop k es
     → freed + total_size (drop k (fields_in (entries_of es))) ≡ total_size (fields_in (entries_of es))
-    → left ≡ size - freed → w.dropped ≡ v.dropped + k → w.total ≡ v.total → IsKept w now left most referenced unacknowledged
-kept_resized v w es now size left capacity most referenced unacknowledged k freed kept evicted small items sum rest dropped total =
+    → left ≡ size - freed → w.dropped ≡ v.dropped + k → w.total ≡ v.total
+        → IsKept w now left most referenced unacknowledged
+kept_resized v w es now size left capacity most referenced unacknowledged k freed kept evicted small items sum rest
+    dropped total =
     let fs = fields_in (entries_of es) in
     let few : k ≤ length es = omega (arith, evicted, eviction_count_bound most fs, fields-length es) in
     let is : left ≡ total_size (drop k fs) = omega (arith, rest, sum, kept.sum) in
     let less =
-    kept_less v w es now size left capacity capacity referenced referenced unacknowledged unacknowledged k kept few items is dropped total
+    kept_less v w es now size left capacity capacity referenced referenced unacknowledged unacknowledged k kept few
+    items is dropped total
     refl refl refl in
     record {
       counted = less.counted;

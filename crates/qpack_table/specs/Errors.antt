@@ -4,7 +4,7 @@ use Rattle.qpack_table.specs.declared.vas.Error.TheVariants.{RelativeIndex, Post
 use Rattle.qpack_table.specs.declared.dynamic.Error.{Error as TableError}
 use Rattle.qpack_table.specs.declared.dynamic.Error.TheVariants.{BadRelativeIndex, BadPostbaseIndex, BadIndex}
 
--- an index that names no live entry
+-- an index that references no live entry
 abbrev pub table_error_of_index : IndexError → TableError
 table_error_of_index (RelativeIndex index) = BadRelativeIndex index
 table_error_of_index (PostbaseIndex index) = BadPostbaseIndex index

@@ -24,20 +24,20 @@ entry_of e = record { field = field_of e.field; sent = e.sent }
 abbrev pub entries_of : List Entry → List table.Entry
 entries_of es = map (λ e. entry_of e) es
 
--- an open block
+-- an unacknowledged block
 abbrev pub block_of : UnacknowledgedBlock → table.UnacknowledgedBlock
 block_of b = record { stream = b.stream_id; entries = b.entries.items }
 
 abbrev pub blocks_of : List UnacknowledgedBlock → List table.UnacknowledgedBlock
 blocks_of bs = map (λ b. block_of b) bs
 
--- how many blocks name an entry: the one in progress and the open ones
+-- how many blocks reference an entry: the one in progress and the unacknowledged ones
 abbrev pub uses : List ℕ → List table.UnacknowledgedBlock → ℕ → ℕ
 uses referenced unacknowledged absolute = (if has_number absolute referenced then 1 else 0) + length
     (filter (λ b. has_number absolute b.entries) unacknowledged)
 
--- what the table keeps: its positions are those of its entries, whose sizes are added up and fit the capacity, and each is
--- counted by how many blocks name it; none names an entry that was never inserted
+-- what the table keeps: its positions are those of its entries, whose sizes are added up and fit the capacity, and each
+-- is counted by how many blocks name it; none references an entry that was never inserted
 pub record IsKept (positions : Positions) (live : List Entry) (size capacity : ℕ) (referenced : List ℕ)
     (unacknowledged : List table.UnacknowledgedBlock) : Type 0 where
   pub counted : positions.total ≡ positions.dropped + length live
@@ -79,7 +79,8 @@ Changes (Ok done) read old new = read ≡ Ok new
 Changes (Err e) read old new = IsRefusedFor read (refusal_of e) × (new ≡ old)
 
 -- the same of a change that asks for memory where `asks` holds; refused that, the table is as before too
-abbrev pub ChangesWithMemory : Type 0 → Result ⊤ Error → Result table.Table TableRefusal → table.Table → table.Table → Type 0
+abbrev pub ChangesWithMemory : Type 0 → Result ⊤ Error → Result table.Table TableRefusal → table.Table → table.Table
+    → Type 0
 ChangesWithMemory asks (Err Memory) read old new = asks × (new ≡ old)
 ChangesWithMemory asks result read old new = Changes result read old new
 

@@ -31,7 +31,7 @@ pub enum Error {
     /// smaller capacity (RFC 9204, sections 2.1.1 and 3.2.2).
     #[error("no room within the capacity")]
     MaxTableSizeReached,
-    /// A capacity is above the greatest that may be set: the agreed maximum, and never 2^30 bytes or more
+    /// A capacity is above the greatest that may be set: the maximum capacity, and never 2^30 bytes or more
     /// (RFC 9204, section 3.2.3).
     #[error("capacity too large")]
     MaximumTableSizeTooLarge,

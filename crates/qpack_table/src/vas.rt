@@ -14,7 +14,8 @@
 //! ```
 
 ghost use Rattle.std.specs.Prelude.{◌≡◌, ◌+◌, ◌^◌, ◌<◌, ◌≤◌, ◌↔◌, IsTrue, IsOk, IfOk, IfErr, IsSome, IfSome};
-ghost use Rattle.qpack_table.specs.Positions.{IsLive, WasEvicted, IsPositionOf, IsNotEvicted, live_count, newest_relative_index};
+ghost use Rattle.qpack_table.specs.Positions.{IsLive, WasEvicted, IsPositionOf, IsNotEvicted, live_count};
+ghost use Rattle.qpack_table.specs.Positions.{newest_relative_index};
 ghost use Rattle.qpack_table.specs.Positions.{relative_index, post_base_index};
 ghost use Rattle.qpack_table.specs.declared.vas.Error.TheVariants.{RelativeIndex as NoRelative};
 ghost use Rattle.qpack_table.specs.declared.vas.Error.TheVariants.{PostbaseIndex as NoPostBase, Index as NoPlace};
@@ -28,7 +29,7 @@ pub type RelativeIndex = usize;
 /// An index counted up from the first entry ever inserted, which has 1 (RFC 9204, section 3.2.4).
 pub type AbsoluteIndex = usize;
 
-/// Why an index names no live entry. Each tells the index as it was handed in.
+/// Why an index references no live entry. Each tells the index as it was handed in.
 #[derive(Debug, PartialEq, Drop, ThisError)]
 pub enum Error {
     /// The entry of this relative index is dropped, or before the first one, or nothing is live.

@@ -213,7 +213,8 @@ alone_refusal {L} a c (b ∷ bs) fault e k = go (form_for a b) refl
         subst (λ (g : KindFault). Begins (λ x. RefusesKind a x g) (b ∷ bs)) (sym u.told)
         (record { encoding = w.encoding; rest = w.rest; parts = w.parts; holds = inl w.holds })
 
-whole_form : {L : Type 0} (form_of : ℕ → Option (Form L)) (encoding : List ℕ) (f : FormFault) → Refuses L form_of encoding f
+whole_form : {L : Type 0} (form_of : ℕ → Option (Form L)) (encoding : List ℕ) (f : FormFault)
+    → Refuses L form_of encoding f
     → is_cut f ≡ false
 whole_form form_of encoding f r = go (is_cut f) refl
   where
@@ -248,7 +249,8 @@ alone_follows a c = record {
 -- ---- and so is the reading of all forms, whatever first bytes name them; no first bits are foreign
 
 pub forms_follow : {L : Type 0} (form_of : ℕ → Option (Form L)) (refuses : List ℕ → KindFault → Type 0)
-    → ((encoding : List ℕ) (fault : FormFault) → (refuses encoding (Unreadable fault) → Refuses L form_of encoding fault)
+    → ((encoding : List ℕ) (fault : FormFault)
+        → (refuses encoding (Unreadable fault) → Refuses L form_of encoding fault)
     × (Refuses L form_of encoding fault → refuses encoding (Unreadable fault)))
     → ((encoding : List ℕ) (bits : ℕ) → refuses encoding (Foreign bits) → ⊥)
     → Follows L (λ encoding l. Spells L form_of encoding l) refuses (λ bytes. or_unreadable (form_at form_of bytes))
@@ -268,7 +270,8 @@ forms_follow {L} form_of refuses same none = record {
   where
     told_again : (encoding rest : List ℕ) (fault : KindFault) → refuses encoding fault
         → (let r : Result (L × List ℕ) KindFault = or_unreadable (form_at form_of (encoding ++ rest)) in r) ≡ Err fault
-    told_again encoding rest (Unreadable f) r = ap or_unreadable (form_refused form_of encoding rest f ((same encoding f).0 r))
+    told_again encoding rest (Unreadable f) r = ap or_unreadable
+        (form_refused form_of encoding rest f ((same encoding f).0 r))
     told_again encoding rest (Foreign bits) r = absurd (none encoding bits r)
 
     all_whole : (encoding : List ℕ) (fault : KindFault) → refuses encoding fault → is_cut_kind fault ≡ false

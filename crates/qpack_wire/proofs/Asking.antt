@@ -20,7 +20,8 @@ use Rattle.qpack_wire.proofs.Readers.{failed}
 
 -- ---- the fronts of a form
 
-pub in_turn : {P Q : List ℕ → Type 0} (bytes encoding rest : List ℕ) → bytes ≡ encoding ++ rest → P encoding → Begins Q rest
+pub in_turn : {P Q : List ℕ → Type 0} (bytes encoding rest : List ℕ) → bytes ≡ encoding ++ rest → P encoding
+    → Begins Q rest
     → Begins (InTurn P Q) bytes
 in_turn bytes encoding rest e p b = record {
   encoding = encoding ++ b.encoding;
@@ -41,7 +42,8 @@ asks_second : {L : Type 0} (n : ℕ) (make : List ℕ → List ℕ → L) (bytes
     → IsOkAnd r (λ m. Begins (HoldsPayload 8) m.2) → Begins (AsksForm (NameAndValue n make)) bytes
 asks_second {L} n make bytes (Ok m) e h =
     let t = string_takes n bytes m.0 m.1 m.2 e in
-    let b = in_turn {P = λ t. (name : List ℕ) × HoldsText n name t} bytes t.encoding m.2 t.parts (m.1, (m.0, t.spells)) h in
+    let b = in_turn {P = λ t. (name : List ℕ) × HoldsText n name t} bytes t.encoding m.2 t.parts
+        (m.1, (m.0, t.spells)) h in
     record { encoding = b.encoding; rest = b.rest; parts = b.parts; holds = inr b.holds }
 asks_second n make bytes (Err f) e h = absurd h
 

@@ -3,7 +3,8 @@ use Rattle.std.proofs.Common.{◌≡◌, ℕ, List, [], ◌∷◌, ◌++◌, Opt
 use Rattle.std.proofs.Common.{inl}
 use Rattle.std.proofs.lemmas.List.{append_cancel_left}
 use Rattle.qpack_spec.specs.Form.{Form, Spells}
-use Rattle.qpack_spec.specs.Instruction.{EncoderInstruction, DecoderInstruction, SpellsEncoderInstruction, SpellsDecoderInstruction, encoder_instruction_form}
+use Rattle.qpack_spec.specs.Instruction.{EncoderInstruction, DecoderInstruction, SpellsEncoderInstruction}
+use Rattle.qpack_spec.specs.Instruction.{SpellsDecoderInstruction, encoder_instruction_form}
 use Rattle.qpack_spec.specs.Instruction.{decoder_instruction_form}
 use Rattle.qpack_spec.specs.Stream.{Joined, IsCutOff, Holds}
 use Rattle.qpack_spec.proofs.FormLaws.{one_form, no_form_begins}
@@ -87,7 +88,9 @@ forms_plain form_of = record {
 }
 
 pub instructions_any_cutting : CuttingChangesNothing SpellsEncoderInstruction
-instructions_any_cutting = any_cutting EncoderInstruction SpellsEncoderInstruction (forms_plain encoder_instruction_form)
+instructions_any_cutting = any_cutting EncoderInstruction SpellsEncoderInstruction
+    (forms_plain encoder_instruction_form)
 
 pub decoder_instructions_any_cutting : CuttingChangesNothing SpellsDecoderInstruction
-decoder_instructions_any_cutting = any_cutting DecoderInstruction SpellsDecoderInstruction (forms_plain decoder_instruction_form)
+decoder_instructions_any_cutting = any_cutting DecoderInstruction SpellsDecoderInstruction
+    (forms_plain decoder_instruction_form)

@@ -68,7 +68,8 @@ spelled a encoding l same s = record {
   spells = s.spells;
 }
 
-alone : (a : Kind Line) (encoding : List ℕ) (l : Line) (s : SpellsLine encoding l) → form_for a s.first ≡ line_form s.first
+alone : (a : Kind Line) (encoding : List ℕ) (l : Line) (s : SpellsLine encoding l) → form_for a s.first
+    ≡ line_form s.first
     → SpellsKind a encoding l
 alone a encoding l s same = record {
   first = s.first;
@@ -113,7 +114,8 @@ apart encoding l s =
                   | inl h ↦ inr (inr (inr (inr (alone literal encoding l s (same_literal s.first h32 h)))))
                   | inr h64 ↦
                       elim (cases_lt s.first 128) [
-                        | inl h ↦ inr (inr (inl (alone literal_with_name_ref encoding l s (same_name_ref s.first h64 h))))
+                        | inl h ↦ inr (inr (inl
+                            (alone literal_with_name_ref encoding l s (same_name_ref s.first h64 h))))
                         | inr h128 ↦ inl (alone indexed encoding l s (same_indexed s.first h128
                             (byte_first s.first s.form s.names)))
                       ]

@@ -3,7 +3,8 @@ use Rattle.std.proofs.Common.{◌≡◌, ℕ, ◌/◌, ◌%◌, None, Some, refl
 use Rattle.std.specs.Prelude.{nat_eq, if◌then◌else◌}
 use Rattle.qpack_spec.specs.Form.{Form, Index, IndexAndValue}
 use Rattle.qpack_spec.specs.Instruction as instruction
-use Rattle.qpack_spec.specs.Instruction.{EncoderInstruction, InsertStaticName, InsertDynamicName, SetCapacity, DecoderInstruction}
+use Rattle.qpack_spec.specs.Instruction.{EncoderInstruction, InsertStaticName, InsertDynamicName, SetCapacity}
+use Rattle.qpack_spec.specs.Instruction.{DecoderInstruction}
 use Rattle.qpack_spec.specs.Instruction.{Acknowledgment, Cancellation, Increment}
 use Rattle.qpack_wire.specs.Alone.{SpellsKind, RefusesKind, kind_at}
 use Rattle.qpack_wire.specs.Instructions.{insert_with_name_ref, insert_without_name_ref, duplicate}
@@ -65,7 +66,8 @@ pub insert_count_increment_follows : Follows DecoderInstruction (SpellsKind inse
     (RefusesKind insert_count_increment) (kind_at insert_count_increment)
 insert_count_increment_follows = alone_follows insert_count_increment coherent_insert_count_increment
 
-pub header_ack_follows : Follows DecoderInstruction (SpellsKind header_ack) (RefusesKind header_ack) (kind_at header_ack)
+pub header_ack_follows : Follows DecoderInstruction (SpellsKind header_ack) (RefusesKind header_ack)
+    (kind_at header_ack)
 header_ack_follows = alone_follows header_ack coherent_header_ack
 
 pub stream_cancel_follows : Follows DecoderInstruction (SpellsKind stream_cancel) (RefusesKind stream_cancel)

@@ -18,7 +18,8 @@ pub record Follows (L : Type 0) (spells : List ℕ → L → Type 0) (refuses : 
   pub again : (encoding rest : List ℕ) (l : L) → spells encoding l → read (encoding ++ rest) ≡ Ok (l, rest)
   pub refusal : (bytes : List ℕ) (fault : KindFault) → read bytes ≡ Err fault → is_cut_kind fault ≡ false
       → Begins (λ encoding. refuses encoding fault) bytes
-  pub refused : (encoding rest : List ℕ) (fault : KindFault) → refuses encoding fault → read (encoding ++ rest) ≡ Err fault
+  pub refused : (encoding rest : List ℕ) (fault : KindFault) → refuses encoding fault → read (encoding ++ rest)
+      ≡ Err fault
   pub whole : (encoding : List ℕ) (fault : KindFault) → refuses encoding fault → is_cut_kind fault ≡ false
 
 -- ---- truncation

@@ -7,7 +7,8 @@ use Rattle.qpack_spec.specs.Integer.{UnexpectedEnd}
 use Rattle.qpack_spec.specs.Form.{BadInteger, Form, Index, IndexAndValue, NameAndValue, form_at}
 use Rattle.qpack_spec.specs.Instruction as instruction
 use Rattle.qpack_spec.specs.Instruction.{EncoderInstruction, InsertStaticName, InsertDynamicName, InsertLiteralName}
-use Rattle.qpack_spec.specs.Instruction.{SetCapacity, DecoderInstruction, Acknowledgment, Cancellation, Increment, encoder_instruction_form}
+use Rattle.qpack_spec.specs.Instruction.{SetCapacity, DecoderInstruction, Acknowledgment, Cancellation, Increment}
+use Rattle.qpack_spec.specs.Instruction.{encoder_instruction_form}
 use Rattle.qpack_spec.specs.Instruction.{decoder_instruction_form, SpellsEncoderInstruction, SpellsDecoderInstruction}
 use Rattle.qpack_wire.specs.Alone.{Kind, KindFault, Unreadable, form_for, or_unreadable, kind_at}
 use Rattle.qpack_wire.specs.Instructions.{insert_with_name_ref, insert_without_name_ref, duplicate}
@@ -258,7 +259,8 @@ as_cancel b rest h e f =
 pub as_ack : (b : ℕ) (rest : List ℕ) → b < 256 → BeginsWith b rest → decoder_instruction_of_first b ≡ decoder.HeaderAck
     → kind_at header_ack rest ≡ decoder_instruction_at rest
 as_ack b rest h e f =
-    as_form decoder_instruction_form header_ack coherent_header_ack b rest e (shares_ack b (told_decoder b decoder.HeaderAck f) h)
+    as_form decoder_instruction_form header_ack coherent_header_ack b rest e
+        (shares_ack b (told_decoder b decoder.HeaderAck f) h)
 
 -- each decoder instruction, where the first byte tells it
 pub ruleset decoder_by_first = (as_increment, as_cancel, as_ack, no_unknown_decoder)
@@ -281,7 +283,10 @@ pub no_decoder_instruction : (seen rest : List ℕ) → length seen ≡ 0 → se
 no_decoder_instruction seen rest h e = nothing_at decoder_instruction_form seen rest h e
 
 pub instruction_follows : Follows EncoderInstruction SpellsEncoderInstruction RefusesEncoderLine encoder_instruction_at
-instruction_follows = forms_follow encoder_instruction_form RefusesEncoderLine (λ encoding f. (λ r. r, λ r. r)) (λ encoding bits r. r)
+instruction_follows = forms_follow encoder_instruction_form RefusesEncoderLine (λ encoding f. (λ r. r, λ r. r))
+    (λ encoding bits r. r)
 
-pub decoder_instruction_follows : Follows DecoderInstruction SpellsDecoderInstruction RefusesDecoderLine decoder_instruction_at
-decoder_instruction_follows = forms_follow decoder_instruction_form RefusesDecoderLine (λ encoding f. (λ r. r, λ r. r)) (λ encoding bits r. r)
+pub decoder_instruction_follows : Follows DecoderInstruction SpellsDecoderInstruction RefusesDecoderLine
+    decoder_instruction_at
+decoder_instruction_follows = forms_follow decoder_instruction_form RefusesDecoderLine (λ encoding f. (λ r. r, λ r. r))
+    (λ encoding bits r. r)

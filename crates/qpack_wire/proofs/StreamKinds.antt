@@ -3,7 +3,8 @@ use Rattle.std.proofs.Common.{◌≡◌, ℕ, ◌/◌, ◌<◌, List, Option, So
 use Rattle.std.specs.Prelude.{nat_eq}
 use Rattle.std.proofs.lemmas.Bool.{eqb-true, le-ltb, cases_lt}
 use Rattle.qpack_spec.specs.Form.{Form, Spells}
-use Rattle.qpack_spec.specs.Instruction.{EncoderInstruction, DecoderInstruction, SpellsEncoderInstruction, SpellsDecoderInstruction, encoder_instruction_form}
+use Rattle.qpack_spec.specs.Instruction.{EncoderInstruction, DecoderInstruction, SpellsEncoderInstruction}
+use Rattle.qpack_spec.specs.Instruction.{SpellsDecoderInstruction, encoder_instruction_form}
 use Rattle.qpack_spec.specs.Instruction.{decoder_instruction_form}
 use Rattle.qpack_wire.specs.Alone.{Kind, form_for, SpellsKind}
 use Rattle.qpack_wire.specs.Instructions.{insert_with_name_ref, insert_without_name_ref, duplicate}
@@ -14,7 +15,8 @@ use Rattle.qpack_wire.proofs.StreamForms.{Shares, shares_duplicate, shares_size_
 use Rattle.qpack_wire.proofs.StreamForms.{shares_increment, shares_cancel, shares_ack}
 
 -- a spelling of the stream is one of the kind that shares its first byte's form, and back
-alone : {L : Type 0} (form_of : ℕ → Option (Form L)) (a : Kind L) (encoding : List ℕ) (l : L) (s : Spells L form_of encoding l)
+alone : {L : Type 0} (form_of : ℕ → Option (Form L)) (a : Kind L) (encoding : List ℕ) (l : L)
+    (s : Spells L form_of encoding l)
     → Shares form_of a s.first → SpellsKind a encoding l
 alone form_of a encoding l s h = record {
   first = s.first;
@@ -130,22 +132,26 @@ increments : (b : ℕ) (form : Form DecoderInstruction) → form_for insert_coun
 increments b form e =
     let q = eqb-true (b / 64) 0 (test_holds (nat_eq (b / 64) 0) _ form e) in shares_increment b (omega (arith, q))
 
-cancels : (b : ℕ) (form : Form DecoderInstruction) → form_for stream_cancel b ≡ Some form → Shares decoder_instruction_form stream_cancel b
+cancels : (b : ℕ) (form : Form DecoderInstruction) → form_for stream_cancel b ≡ Some form
+    → Shares decoder_instruction_form stream_cancel b
 cancels b form e = let q = eqb-true (b / 64) 1 (test_holds (nat_eq (b / 64) 1) _ form e) in
     shares_cancel b (omega (arith, q)) (omega (arith, q))
 
-acks : (b : ℕ) (form : Form DecoderInstruction) → form_for header_ack b ≡ Some form → Shares decoder_instruction_form header_ack b
+acks : (b : ℕ) (form : Form DecoderInstruction) → form_for header_ack b ≡ Some form
+    → Shares decoder_instruction_form header_ack b
 acks b form e = let q = eqb-true (b / 128) 1 (test_holds (nat_eq (b / 128) 1) _ form e) in
     shares_ack b (omega (arith, q)) (omega (arith, q))
 
 decoder_kind : (encoding : List ℕ) (r : DecoderInstruction) → SpellsDecoderInstruction encoding r
-    → SpellsKind insert_count_increment encoding r ⊎ (SpellsKind stream_cancel encoding r ⊎ SpellsKind header_ack encoding r)
+    → SpellsKind insert_count_increment encoding r
+        ⊎ (SpellsKind stream_cancel encoding r ⊎ SpellsKind header_ack encoding r)
 decoder_kind encoding r s =
     elim (cases_lt s.first 64) [
       | inl h ↦ inl (alone decoder_instruction_form insert_count_increment encoding r s (shares_increment s.first h))
       | inr h64 ↦
           elim (cases_lt s.first 128) [
-            | inl h ↦ inr (inl (alone decoder_instruction_form stream_cancel encoding r s (shares_cancel s.first h64 h)))
+            | inl h ↦ inr (inl (alone decoder_instruction_form stream_cancel encoding r s
+                (shares_cancel s.first h64 h)))
             | inr h128 ↦ inr (inr (alone decoder_instruction_form header_ack encoding r s
                 (shares_ack s.first h128 (decoder_byte s.first s.form s.names))))
           ]

@@ -48,12 +48,15 @@ IsTruncated {L} spells refuses bytes =
     → ((l : L) → spells encoding l → ⊥) × ((fault : KindFault) → refuses encoding fault → ⊥)
 
 -- what is read is spelled so, and the cursor moves past exactly it
-abbrev pub FindsSpelling : {V L : Type 0} → (V → L) → (List ℕ → L → Type 0) → CursorView → CursorView → Result V ParseError
+abbrev pub FindsSpelling : {V L : Type 0} → (V → L) → (List ℕ → L → Type 0) → CursorView → CursorView
+    → Result V ParseError
     → Type 0
-FindsSpelling view spells old new r = IfOk r (λ v. (encoding : List ℕ) × spells encoding (view v) × MovesPast encoding old new)
+FindsSpelling view spells old new r = IfOk r
+    (λ v. (encoding : List ℕ) × spells encoding (view v) × MovesPast encoding old new)
 
 -- what is spelled so is read, whatever follows, unless memory is refused
-abbrev pub ReadsSpelling : {V L : Type 0} → (V → L) → (List ℕ → L → Type 0) → CursorView → CursorView → Result V ParseError
+abbrev pub ReadsSpelling : {V L : Type 0} → (V → L) → (List ℕ → L → Type 0) → CursorView → CursorView
+    → Result V ParseError
     → Type 0
 ReadsSpelling {V} {L} view spells old new r =
     (encoding rest : List ℕ) (l : L) → spells encoding l → old.rest ≡ encoding ++ rest

@@ -1,6 +1,7 @@
 -- The instructions that are read alone make up each stream, as statements; the crate's law functions promise them.
 use Rattle.std.specs.Prelude.{ℕ, ◌⊎◌, ◌↔◌, List}
-use Rattle.qpack_spec.specs.Instruction.{EncoderInstruction, DecoderInstruction, SpellsEncoderInstruction, SpellsDecoderInstruction}
+use Rattle.qpack_spec.specs.Instruction.{EncoderInstruction, DecoderInstruction, SpellsEncoderInstruction}
+use Rattle.qpack_spec.specs.Instruction.{SpellsDecoderInstruction}
 use Rattle.qpack_wire.specs.Alone.{SpellsKind}
 use Rattle.qpack_wire.specs.Instructions.{insert_with_name_ref, insert_without_name_ref, duplicate}
 use Rattle.qpack_wire.specs.Instructions.{dynamic_table_size_update, insert_count_increment, header_ack, stream_cancel}

@@ -15,7 +15,8 @@ prefix_of p = record { count = p.encoded_insert_count; sign = p.sign_negative; d
 -- the bytes are refused: the count is, or the delta behind a whole count
 abbrev pub RefusesPrefix : List ℕ → KindFault → Type 0
 RefusesPrefix encoding (Unreadable fault) =
-    RefusesIndex 8 encoding fault ⊎ InTurn (λ t. (count : ℕ) × HoldsIndex 8 count t) (λ t. RefusesIndex 7 t fault) encoding
+    RefusesIndex 8 encoding fault
+        ⊎ InTurn (λ t. (count : ℕ) × HoldsIndex 8 count t) (λ t. RefusesIndex 7 t fault) encoding
 RefusesPrefix encoding (Foreign bits) = ⊥
 
 -- the prefix at the front of the bytes, and the bytes behind it

@@ -12,7 +12,8 @@ use Rattle.qpack_wire.specs.Answers.{FailsEarly, IsTruncated, TellsRefusal, Fail
 abbrev pub FindsInstruction : {V L : Type 0} → (V → L) → (List ℕ → L → Type 0) → CursorView → CursorView
     → Result (Option V) ParseError → Type 0
 FindsInstruction view spells old new (Ok None) = Unit {0}
-FindsInstruction view spells old new (Ok (Some v)) = (encoding : List ℕ) × spells encoding (view v) × MovesPast encoding old new
+FindsInstruction view spells old new (Ok (Some v)) = (encoding : List ℕ) × spells encoding (view v)
+    × MovesPast encoding old new
 FindsInstruction view spells old new (Err e) = Unit {0}
 
 -- the answer is seen as this, and what moves moved

@@ -2,12 +2,16 @@
 -- (RFC 9204, sections 4.3 and 4.4).
 use Rattle.std.specs.Prelude.{ℕ, List, Result, if◌then◌else◌, nat_lt}
 use Rattle.qpack_spec.specs.Form.{form_at}
-use Rattle.qpack_spec.specs.Instruction.{EncoderInstruction, DecoderInstruction, encoder_instruction_form, decoder_instruction_form, RefusesEncoderInstruction}
+use Rattle.qpack_spec.specs.Instruction.{EncoderInstruction, DecoderInstruction, encoder_instruction_form}
+use Rattle.qpack_spec.specs.Instruction.{decoder_instruction_form, RefusesEncoderInstruction}
 use Rattle.qpack_spec.specs.Instruction.{RefusesDecoderInstruction}
 use Rattle.qpack_wire.specs.Alone.{KindFault, Unreadable, Foreign, or_unreadable}
-use Rattle.qpack_wire.specs.Instructions.{encoder_instruction_of_insert_with_name_ref, encoder_instruction_of_insert_without_name_ref}
-use Rattle.qpack_wire.specs.Instructions.{encoder_instruction_of_duplicate, encoder_instruction_of_dynamic_table_size_update}
-use Rattle.qpack_wire.specs.Instructions.{decoder_instruction_of_insert_count_increment, decoder_instruction_of_header_ack, decoder_instruction_of_stream_cancel}
+use Rattle.qpack_wire.specs.Instructions.{encoder_instruction_of_insert_with_name_ref}
+use Rattle.qpack_wire.specs.Instructions.{encoder_instruction_of_insert_without_name_ref}
+use Rattle.qpack_wire.specs.Instructions.{encoder_instruction_of_duplicate}
+use Rattle.qpack_wire.specs.Instructions.{encoder_instruction_of_dynamic_table_size_update}
+use Rattle.qpack_wire.specs.Instructions.{decoder_instruction_of_insert_count_increment}
+use Rattle.qpack_wire.specs.Instructions.{decoder_instruction_of_header_ack, decoder_instruction_of_stream_cancel}
 use Rattle.qpack_wire.specs.declared.stream.encoder_stream.EncoderInstruction.{EncoderInstruction as EncoderKind}
 use Rattle.qpack_wire.specs.declared.stream.encoder_stream.EncoderInstruction.TheVariants as encoder
 use Rattle.qpack_wire.specs.declared.stream.encoder_stream.EncoderLine.{EncoderLine}

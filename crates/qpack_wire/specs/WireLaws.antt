@@ -18,7 +18,8 @@ SpellingsHaveOneInstruction {L} spells = (encoding : List ℕ) (l m : L) → spe
 
 -- a spelling or a refusal
 abbrev pub EndsInstruction : {L : Type 0} → (List ℕ → L → Type 0) → (List ℕ → KindFault → Type 0) → List ℕ → Type 0
-EndsInstruction {L} spells refuses encoding = ((l : L) × spells encoding l) ⊎ ((fault : KindFault) × refuses encoding fault)
+EndsInstruction {L} spells refuses encoding = ((l : L) × spells encoding l)
+    ⊎ ((fault : KindFault) × refuses encoding fault)
 
 -- no spelling or refusal begins another
 abbrev pub NoInstructionBeginsAnother : {L : Type 0} → (List ℕ → L → Type 0) → (List ℕ → KindFault → Type 0) → Type 0

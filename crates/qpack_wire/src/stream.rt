@@ -1,4 +1,4 @@
-//! The instructions of the encoder's stream and of the decoder's (RFC 9204, sections 4.3 and 4.4).
+//! The instructions of the encoder stream and of the decoder's (RFC 9204, sections 4.3 and 4.4).
 
 pub mod decoder_stream;
 pub mod encoder_stream;

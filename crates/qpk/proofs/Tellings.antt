@@ -9,10 +9,12 @@ use Rattle.qpk.specs.declared.text.Fault.TheVariants.{Memory}
 use Rattle.qpk.specs.declared.refusal.Refusal.{Refusal}
 use Rattle.qpk.specs.declared.refusal.Refusal.TheVariants as refusal
 
-pub told_as : (r : Refusal) (old new : Option (List ℕ)) (line written : List ℕ) → written ≡ line → IsLineOf r line → AppendsFront old new written → TellsInPlace r old new
+pub told_as : (r : Refusal) (old new : Option (List ℕ)) (line written : List ℕ) → written ≡ line → IsLineOf r line
+    → AppendsFront old new written → TellsInPlace r old new
 told_as r old new line written e said wrote = (r, inl refl, line, said, subst (AppendsFront old new) e wrote)
 
-pub told_of_memory : (r : Refusal) (old new : Option (List ℕ)) (written : List ℕ) → written ≡ codes "qpk: refused: memory" ++ 10 ∷ [] → IsFault r → AppendsFront old new written
+pub told_of_memory : (r : Refusal) (old new : Option (List ℕ)) (written : List ℕ) → written
+    ≡ codes "qpk: refused: memory" ++ 10 ∷ [] → IsFault r → AppendsFront old new written
     → TellsInPlace r old new
 told_of_memory r old new written e fault wrote = (refusal.Fault Memory, inr (fault, refl), written, e, wrote)
 
@@ -25,14 +27,18 @@ memory_may_be command None = tt
 memory_may_be command (Some bytes) = memory_has command bytes
 
 -- a run that ends for a fault may as well end for want of memory
-memory_ends : {Z : Type 0} (words : List (String Z)) (input old new : Option (List ℕ)) (r : Refusal) → IsFault r → EndsFor words input old new r → EndsFor words input old new (refusal.Fault Memory)
+memory_ends : {Z : Type 0} (words : List (String Z)) (input old new : Option (List ℕ)) (r : Refusal) → IsFault r
+    → EndsFor words input old new r → EndsFor words input old new (refusal.Fault Memory)
 memory_ends words input old new r (fault, e) ends =
     let known : EndsFor words input old new (refusal.Fault fault) = subst (EndsFor words input old new) e ends in
     (known.0, known.1, memory_may_be known.0 input, known.3)
 
 -- what was told is why the run ended
-pub ends_told : {Z : Type 0} (words : List (String Z)) (input old new fold fnew : Option (List ℕ)) (r : Refusal) → EndsFor words input old new r → TellsInPlace r fold fnew
+pub ends_told : {Z : Type 0} (words : List (String Z)) (input old new fold fnew : Option (List ℕ)) (r : Refusal)
+    → EndsFor words input old new r → TellsInPlace r fold fnew
     → (s : Refusal) × EndsFor words input old new s × (line : List ℕ) × IsLineOf s line × AppendsFront fold fnew line
-ends_told words input old new fold fnew r ends (told, inl e, line, said, wrote) = (told, subst (EndsFor words input old new) (sym e) ends, line, said, wrote)
+ends_told words input old new fold fnew r ends (told, inl e, line, said, wrote) =
+    (told, subst (EndsFor words input old new) (sym e) ends, line, said, wrote)
 ends_told words input old new fold fnew r ends (told, inr (fault, e), line, said, wrote) =
-    (told, subst (EndsFor words input old new) (sym e) (memory_ends words input old new r fault ends), line, said, wrote)
+    (told, subst (EndsFor words input old new) (sym e)
+        (memory_ends words input old new r fault ends), line, said, wrote)

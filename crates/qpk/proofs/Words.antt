@@ -4,20 +4,24 @@ use Rattle.std.specs.Prelude.{String, string_bytes, Option, None, MatchOption}
 use Rattle.qpk.specs.Serving.{AsksForNothing, SaysNumber}
 use Rattle.qpk.specs.declared.serve.Command.TheVariants.{Encode, Decode}
 
-pub one_word : {Z : Type 0} (ws : List (String Z)) (w : String Z) → 1 ≤ length ws → length ws < 2 → w ≡ get_or ws 0 w → map string_bytes ws ≡ string_bytes w ∷ []
+pub one_word : {Z : Type 0} (ws : List (String Z)) (w : String Z) → 1 ≤ length ws → length ws < 2 → w ≡ get_or ws 0 w
+    → map string_bytes ws ≡ string_bytes w ∷ []
 one_word [] w least most e = absurd (omega arith)
 one_word (x ∷ []) w least most e = ap (λ v. string_bytes v ∷ []) (sym e)
 one_word (x ∷ y ∷ ws) w least most e = absurd (omega arith)
 
-pub two_words : {Z : Type 0} (ws : List (String Z)) (v w : String Z) → 2 ≤ length ws → length ws < 3 → v ≡ get_or ws 0 v → w ≡ get_or ws 1 w
+pub two_words : {Z : Type 0} (ws : List (String Z)) (v w : String Z) → 2 ≤ length ws → length ws < 3 → v
+    ≡ get_or ws 0 v → w ≡ get_or ws 1 w
     → map string_bytes ws ≡ string_bytes v ∷ string_bytes w ∷ []
 two_words [] v w least most e f = absurd (omega arith)
 two_words (x ∷ []) v w least most e f = absurd (omega arith)
-two_words (x ∷ y ∷ []) v w least most e f = ap (λ a. string_bytes a ∷ string_bytes y ∷ []) (sym e) ∙ ap (λ b. string_bytes v ∷ string_bytes b ∷ []) (sym f)
+two_words (x ∷ y ∷ []) v w least most e f = ap (λ a. string_bytes a ∷ string_bytes y ∷ []) (sym e)
+    ∙ ap (λ b. string_bytes v ∷ string_bytes b ∷ []) (sym f)
 two_words (x ∷ y ∷ z ∷ ws) v w least most e f = absurd (omega arith)
 
 -- two words, the second of which says no number, ask for nothing
-pub no_number : {Z : Type 0} (ws : List (String Z)) (first second : List ℕ) → map string_bytes ws ≡ first ∷ second ∷ [] → ((n : ℕ) → SaysNumber second n → ⊥) → AsksForNothing ws
+pub no_number : {Z : Type 0} (ws : List (String Z)) (first second : List ℕ) → map string_bytes ws ≡ first ∷ second ∷ []
+    → ((n : ℕ) → SaysNumber second n → ⊥) → AsksForNothing ws
 no_number ws first second two none Encode asked = let e = sym two ∙ asked in cc
 no_number ws first second two none (Decode limit) asked =
     let e = sym two ∙ asked.1 in

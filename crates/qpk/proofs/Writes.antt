@@ -1,5 +1,6 @@
 -- Writes of one piece after the other.
-use Rattle.std.proofs.Common.{◌≡◌, ℕ, ◌+◌, List, ◌++◌, ◌-◌, ◌≤◌, length, Option, Some, None, take, drop, refl, sym, ap, subst, arith, append_assoc, append-nil, ◌∙◌}
+use Rattle.std.proofs.Common.{◌≡◌, ℕ, ◌+◌, List, ◌++◌, ◌-◌, ◌≤◌, length, Option, Some, None, take, drop, refl, sym, ap}
+use Rattle.std.proofs.Common.{subst, arith, append_assoc, append-nil, ◌∙◌}
 use Rattle.std.proofs.Math.Seq.{take-add}
 use Rattle.std.specs.Io.KnownBytes.{Appends, Keeps}
 use Rattle.std.proofs.lemmas.List.{drop-drop, take_all, length-drop}
@@ -26,15 +27,19 @@ written_none (Some old) bytes = (0, refl, sym (append-nil old))
 
 -- the rest of a slice, as it is taken
 rest_is : (xs : List ℕ) (m : ℕ) → take (length xs - m) (drop m xs) ≡ drop m xs
-rest_is xs m = take_all (length xs - m) (drop m xs) (subst (λ (k : ℕ). k ≤ length xs - m) (sym (length-drop m xs)) (omega arith))
+rest_is xs m = take_all (length xs - m) (drop m xs)
+    (subst (λ (k : ℕ). k ≤ length xs - m) (sym (length-drop m xs)) (omega arith))
 
-pub written_more : (a b c : Option (List ℕ)) (bytes rest after : List ℕ) (m : ℕ) → Written a b bytes rest → Appends b c (take m rest) → after ≡ take (length rest - m) (drop m rest)
+pub written_more : (a b c : Option (List ℕ)) (bytes rest after : List ℕ) (m : ℕ) → Written a b bytes rest
+    → Appends b c (take m rest) → after ≡ take (length rest - m) (drop m rest)
     → Written a c bytes after
 written_more a b c bytes rest after m (n, left, wrote) more e = (
   n + m,
   e ∙ rest_is rest m ∙ ap (drop m) left ∙ drop-drop m n bytes,
-  subst (Appends a c) (ap (λ l. take n bytes ++ take m l) left ∙ sym (take-add n m bytes)) (appends_two a b c (take n bytes) (take m rest) wrote more),
+  subst (Appends a c) (ap (λ l. take n bytes ++ take m l) left ∙ sym (take-add n m bytes))
+      (appends_two a b c (take n bytes) (take m rest) wrote more),
 )
 
-pub written_kept : (a b c : Option (List ℕ)) (bytes rest : List ℕ) → Written a b bytes rest → Keeps b c → Written a c bytes rest
+pub written_kept : (a b c : Option (List ℕ)) (bytes rest : List ℕ) → Written a b bytes rest → Keeps b c
+    → Written a c bytes rest
 written_kept a b c bytes rest (n, left, wrote) kept = (n, left, appends_kept a b c _ wrote kept)

@@ -20,7 +20,8 @@ with_name_byte b (Some f) = Some (record { name = b ∷ f.name; value = f.value 
 -- the field of a line: the name ends at the first TAB
 abbrev pub field_of_line : List ℕ → Option Field
 field_of_line [] = None
-field_of_line (b ∷ bytes) = if nat_eq b 9 then Some (record { name = []; value = bytes }) else with_name_byte b (field_of_line bytes)
+field_of_line (b ∷ bytes) = if nat_eq b 9 then Some (record { name = []; value = bytes }) else with_name_byte b
+    (field_of_line bytes)
 
 -- a field more at the front
 abbrev pub with_field : ℕ → Option Field → Result (List Field) ℕ → Result (List Field) ℕ

@@ -6,7 +6,8 @@ ghost use Rattle.qpack_spec.specs.Field.{total_size};
 ghost use Rattle.qpack_spec.specs.Stateless.{saturated_size};
 ghost use Rattle.h3_qpack.specs.Stateless.{fields_in};
 ghost use Rattle.qpk.specs.Refusals.{AppendsFront, IsLineOf, TellsInPlace};
-ghost use Rattle.qpk.specs.Serving.{AsksFor, AsksForNothing, Answers, AnswersInput, EndsFor, SaysNumber, printed_fields};
+ghost use Rattle.qpk.specs.Serving.{AsksFor, AsksForNothing, Answers, AnswersInput, EndsFor, SaysNumber};
+ghost use Rattle.qpk.specs.Serving.{printed_fields};
 
 use crate::refusal::Refusal;
 use crate::text::{Fault, decode_text, encode_text};
@@ -39,8 +40,8 @@ pub fn serve<R: Read, W: Write, E: Write>(
     ensures answered { result ≡ 0 → (command : Command) × AsksFor words.now command × IfSome (R.remaining input.old) (λ bytes.
         (out : List ℕ) × Answers command bytes out × Appends (W.contents output.old) (W.contents output.new) out) }
     ensures quiet { result ≡ 0 → E.contents faults.new ≡ E.contents faults.old }
-    // Else why: other words, an input that can't be read or has a fault, an output that can't be written, which then has
-    // a front of the answer. The line of it is written to the faults, as far as they take it.
+    // Else why: other words, an input that can't be read or has a fault, an output that can't be written, which then
+    // has a front of the answer. The line of it is written to the faults, as far as they take it.
     ensures refused { result ≢ 0 → (result ≡ 1) × (refusal : Refusal)
         × EndsFor words.now (R.remaining input.old) (W.contents output.old) (W.contents output.new) refusal
         × (line : List ℕ) × IsLineOf refusal line × AppendsFront (E.contents faults.old) (E.contents faults.new) line }

@@ -3,7 +3,8 @@
 ghost use Rattle.std.specs.Prelude.{◌≡◌};
 ghost use Rattle.hex.specs.Hex.{decode_of};
 ghost use Rattle.qpk.specs.FieldText.{lines_of, fields_from};
-ghost use Rattle.qpk.specs.Answers.{encode_answer, EncodesText, ReadsFields, without_feed, DecodesText, fault_of_decoder};
+ghost use Rattle.qpk.specs.Answers.{encode_answer, EncodesText, ReadsFields, without_feed, DecodesText};
+ghost use Rattle.qpk.specs.Answers.{fault_of_decoder};
 ghost use Rattle.qpk.specs.Refusals.{fault_text};
 ghost use Rattle.qpk.specs.declared.text.Fault.TheVariants.{Memory};
 

@@ -1,13 +1,13 @@
-//! The names of the static table, each with its places (RFC 9204, Appendix A). They stand in three parts, since
+//! The names of the static table, each with its positions (RFC 9204, Appendix A). They stand in three parts, since
 //! what a check takes grows faster than the references of a function.
 
 ghost use Rattle.std.specs.Prelude.{◌-◌, ◌^◌, ◌≤◌, [], slice_index_or};
 ghost use Rattle.qpack_base.specs.StaticFields.{AreNamesOfLength, AreNamesBetween, names_at, name_rows_at};
 
-/// A name and all its places in the table, rising.
+/// A name and all its positions in the table, rising.
 pub(super) type Name = (&'static [u8], &'static [usize]);
 
-/// The names of this length, each with all its places, rising.
+/// The names of this length, each with all its positions, rising.
 #[tactic(auto, using(crate::proofs::StaticNames::names_there, crate::proofs::StaticNames::no_names_past))]
 pub(super) fn names_of_length(length: usize) -> &'static [Name]
     ensures { AreNamesOfLength length (names_at result.now) }

@@ -5,7 +5,8 @@ ghost use Rattle.std.specs.Prelude.{slice_get};
 ghost use Rattle.std.specs.VecDeque.{deque_capacity};
 ghost use Rattle.qpack_base.specs.HeaderFields.{field_of};
 ghost use Rattle.qpack_spec.specs.Field.{Field, field_size, total_size};
-ghost use Rattle.qpack_spec.specs.Table.{empty_table, insert_count, window, fields_in, can_evict, eviction_count_for, with_entry};
+ghost use Rattle.qpack_spec.specs.Table.{empty_table, insert_count, window, fields_in, can_evict, eviction_count_for};
+ghost use Rattle.qpack_spec.specs.Table.{with_entry};
 ghost use Rattle.qpack_spec.specs.Table.{put, with_capacity};
 ghost use Rattle.qpack_spec.specs.Reading.{relative_field, post_base_field};
 ghost use Rattle.qpack_spec.specs.Window.{eviction_count, relative_entry, greatest_capacity};
@@ -36,15 +37,15 @@ struct Entry {
     field: HeaderField,
     /// Whether an encoder's handle inserted it, and so sent it.
     sent: bool,
-    /// How many blocks name it: open ones, and the one in progress.
+    /// How many blocks name it: unacknowledged ones, and the one in progress.
     uses: usize,
 }
 
-/// A block that waits for its acknowledgment.
+/// A block that is to be acknowledged.
 #[derive(Debug, Drop)]
 struct UnacknowledgedBlock {
     stream_id: u64,
-    /// The absolute indexes that its lines name.
+    /// The absolute indexes that its lines reference.
     entries: Vec<usize>,
 }
 
@@ -260,9 +261,9 @@ impl DynamicTable {
     }
 
     /// Puts a field, as a decoder does: entries that have to go are evicted then (RFC 9204, section 3.2.2). It is
-    /// passed over at capacity 0, behind the 2^62th insertion and where a held entry would have to go, and
-    /// refused if it is larger than the capacity. Only a field that is inserted takes memory. Refused, nothing
-    /// changes.
+    /// passed over at capacity 0, behind the 2^62th insertion and where an entry that is not evictable would have to be
+    /// evicted, and refused if it is larger than the capacity. Only a field that is inserted takes memory. Refused,
+    /// nothing changes.
     #[tactic(auto, using(crate::proofs::Changes::put_without_entry))]
     pub fn put(&mut self, field: HeaderField) -> Result<(), Error>
         ensures { ChangesWithMemory (IsInserted self.old (field_of field)) result
@@ -298,8 +299,8 @@ impl DynamicTable {
     }
 
     /// Sets the capacity in bytes: what doesn't fit goes, the oldest first (RFC 9204, section 3.2.3). It is
-    /// refused above the agreed maximum and from 2^30 on, and where a held entry would have to go. Refused,
-    /// nothing changes.
+    /// refused above the maximum capacity and from 2^30 on, and where an entry that is not evictable would have to be
+    /// evicted. Refused, nothing changes.
     pub fn set_max_size(&mut self, size: usize) -> Result<(), Error>
         ensures { Changes result (with_capacity self.old size) self.old self.new }
     {

@@ -74,7 +74,7 @@ pub enum BlockLine {
 
 impl BlockLine {
     /// Reads the line at the cursor, in the form that its first byte names. Where it is refused, the
-    /// cursor's place is not told.
+    /// cursor's position is unspecified.
     pub fn decode(alloc: Global, buf: &mut Cursor) -> Result<BlockLine, ParseError>
         ensures decodes { Decodes line_of SpellsLine RefusesBlockLine buf.old buf.new result }
         // Memory is refused only where a string whose payload is not empty stands whole.

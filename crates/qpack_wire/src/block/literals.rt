@@ -73,7 +73,7 @@ impl LiteralWithNameRef {
         LiteralWithNameRef::Dynamic { index, value }
     }
 
-    /// Reads such a line at the cursor. Where it is refused, the cursor's place is not told.
+    /// Reads such a line at the cursor. On error the cursor's position is unspecified.
     pub fn decode(alloc: Global, buf: &mut Cursor) -> Result<LiteralWithNameRef, ParseError>
         ensures decodes { Decodes line_of_literal_with_name_ref (SpellsKind literal_with_name_ref)
             (RefusesKind literal_with_name_ref) buf.old buf.new result }
@@ -187,7 +187,7 @@ impl LiteralWithPostBaseNameRef {
         LiteralWithPostBaseNameRef { index, value }
     }
 
-    /// Reads such a line at the cursor. Where it is refused, the cursor's place is not told.
+    /// Reads such a line at the cursor. On error the cursor's position is unspecified.
     pub fn decode(alloc: Global, buf: &mut Cursor) -> Result<LiteralWithPostBaseNameRef, ParseError>
         ensures decodes { Decodes line_of_literal_with_post_base_name_ref (SpellsKind literal_with_post_base_name_ref)
             (RefusesKind literal_with_post_base_name_ref) buf.old buf.new result }
@@ -285,7 +285,7 @@ impl Literal {
     }
 
     /// Reads such a line at the cursor. A first byte of another form is refused whole, before
-    /// anything is read. Where it is refused, the cursor's place is not told.
+    /// anything is read. On error the cursor's position is unspecified.
     pub fn decode(alloc: Global, buf: &mut Cursor) -> Result<Literal, ParseError>
         ensures decodes { Decodes line_of_literal (SpellsKind literal) (RefusesKind literal) buf.old buf.new result }
         // Memory is refused only where a string whose payload is not empty stands whole.

@@ -7,7 +7,8 @@ ghost use Rattle.qpack_wire.specs.Alone.{SpellsKind, RefusesKind, kind_at};
 ghost use Rattle.qpack_wire.specs.Answers.{ReadsForm};
 ghost use Rattle.qpack_wire.specs.StreamAnswers.{DecodesInstruction, ReadsStream};
 ghost use Rattle.qpack_wire.specs.Instructions.{insert_count_increment, header_ack, stream_cancel};
-ghost use Rattle.qpack_wire.specs.Instructions.{decoder_instruction_of_insert_count_increment, decoder_instruction_of_header_ack};
+ghost use Rattle.qpack_wire.specs.Instructions.{decoder_instruction_of_insert_count_increment};
+ghost use Rattle.qpack_wire.specs.Instructions.{decoder_instruction_of_header_ack};
 ghost use Rattle.qpack_wire.specs.Instructions.{decoder_instruction_of_stream_cancel};
 ghost use Rattle.qpack_wire.specs.Writes.{Writes};
 
@@ -32,7 +33,7 @@ pub struct InsertCountIncrement(pub usize);
 
 impl InsertCountIncrement {
     /// Reads such an instruction at the cursor, or none of a truncated one. Takes no memory. Where none is read, the
-    /// cursor's place is not told.
+    /// cursor's position is unspecified.
     pub fn decode(buf: &mut Cursor) -> Result<Option<InsertCountIncrement>, ParseError>
         ensures decodes { DecodesInstruction decoder_instruction_of_insert_count_increment (SpellsKind insert_count_increment)
             (RefusesKind insert_count_increment) buf.old buf.new result }
@@ -83,7 +84,7 @@ pub struct HeaderAck(pub u64);
 
 impl HeaderAck {
     /// Reads such an instruction at the cursor, or none of a truncated one. Takes no memory. Where none is read, the
-    /// cursor's place is not told.
+    /// cursor's position is unspecified.
     pub fn decode(buf: &mut Cursor) -> Result<Option<HeaderAck>, ParseError>
         ensures decodes { DecodesInstruction decoder_instruction_of_header_ack (SpellsKind header_ack)
             (RefusesKind header_ack) buf.old buf.new result }
@@ -130,7 +131,7 @@ pub struct StreamCancel(pub u64);
 
 impl StreamCancel {
     /// Reads such an instruction at the cursor, or none of a truncated one. Takes no memory. Where none is read, the
-    /// cursor's place is not told.
+    /// cursor's position is unspecified.
     pub fn decode(buf: &mut Cursor) -> Result<Option<StreamCancel>, ParseError>
         ensures decodes { DecodesInstruction decoder_instruction_of_stream_cancel (SpellsKind stream_cancel)
             (RefusesKind stream_cancel) buf.old buf.new result }

@@ -3,7 +3,8 @@
 ghost use Rattle.std.specs.Prelude.{◌≡◌, ◌∷◌, drop, Err};
 ghost use Rattle.qpack_base.specs.declared.parse_error.ParseError.TheVariants.{Memory};
 ghost use Rattle.qpack_wire.specs.Answers.{ReadsForm};
-ghost use Rattle.qpack_wire.specs.StreamLines.{decoder_instruction_of_first, decoder_instruction_of, decoder_instruction_at};
+ghost use Rattle.qpack_wire.specs.StreamLines.{decoder_instruction_of_first, decoder_instruction_of};
+ghost use Rattle.qpack_wire.specs.StreamLines.{decoder_instruction_at};
 
 use crate::stream::ends::or_none;
 use crate::stream::lines::Wire;
@@ -56,11 +57,14 @@ pub enum DecoderLine {
 }
 
 impl Wire for DecoderLine {
-    ghost use Rattle.qpack_spec.specs.Instruction.{DecoderInstruction, SpellsDecoderInstruction, written_decoder_instruction};
+    ghost use Rattle.qpack_spec.specs.Instruction.{DecoderInstruction, SpellsDecoderInstruction};
+    ghost use Rattle.qpack_spec.specs.Instruction.{written_decoder_instruction};
     ghost use Rattle.qpack_spec.specs.WrittenLaws.{IsWritableDecoderInstruction};
     ghost use Rattle.qpack_wire.specs.StreamLines.{RefusesDecoderLine};
-    ghost use Rattle.qpack_wire.specs.StreamLineLaws.{written_decoder_instructions_spelled, written_decoder_instructions_read_back};
-    ghost use Rattle.qpack_wire.specs.StreamLineLaws.{spellings_have_one_decoder_instruction, no_decoder_instruction_begins_another};
+    ghost use Rattle.qpack_wire.specs.StreamLineLaws.{written_decoder_instructions_spelled};
+    ghost use Rattle.qpack_wire.specs.StreamLineLaws.{written_decoder_instructions_read_back};
+    ghost use Rattle.qpack_wire.specs.StreamLineLaws.{spellings_have_one_decoder_instruction};
+    ghost use Rattle.qpack_wire.specs.StreamLineLaws.{no_decoder_instruction_begins_another};
 
     ghost Line = { DecoderInstruction };
 

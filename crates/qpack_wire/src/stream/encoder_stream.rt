@@ -5,7 +5,8 @@ ghost use Rattle.qpack_spec.specs.Instruction.{encoder_instruction_form};
 ghost use Rattle.qpack_base.specs.declared.parse_error.ParseError.TheVariants.{Memory};
 ghost use Rattle.qpack_wire.specs.Answers.{ReadsForm};
 ghost use Rattle.qpack_wire.specs.Memory.{AsksForMemory};
-ghost use Rattle.qpack_wire.specs.StreamLines.{encoder_instruction_of_first, encoder_instruction_of, encoder_instruction_at};
+ghost use Rattle.qpack_wire.specs.StreamLines.{encoder_instruction_of_first, encoder_instruction_of};
+ghost use Rattle.qpack_wire.specs.StreamLines.{encoder_instruction_at};
 
 use crate::stream::ends::or_none;
 use crate::stream::inserts::{
@@ -64,7 +65,8 @@ pub enum EncoderLine {
 }
 
 impl Wire for EncoderLine {
-    ghost use Rattle.qpack_spec.specs.Instruction.{EncoderInstruction, SpellsEncoderInstruction, written_encoder_instruction};
+    ghost use Rattle.qpack_spec.specs.Instruction.{EncoderInstruction, SpellsEncoderInstruction};
+    ghost use Rattle.qpack_spec.specs.Instruction.{written_encoder_instruction};
     ghost use Rattle.qpack_spec.specs.WrittenLaws.{IsWritableEncoderInstruction};
     ghost use Rattle.qpack_wire.specs.StreamLines.{RefusesEncoderLine};
     ghost use Rattle.qpack_wire.specs.StreamLineLaws.{written_instructions_spelled, written_instructions_read_back};

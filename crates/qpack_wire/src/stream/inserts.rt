@@ -72,7 +72,7 @@ impl InsertWithNameRef {
     }
 
     /// Reads such an instruction at the cursor, or none of a truncated one. Where none is read, the
-    /// cursor's place is not told.
+    /// cursor's position is unspecified.
     pub fn decode(alloc: Global, buf: &mut Cursor) -> Result<Option<InsertWithNameRef>, ParseError>
         ensures decodes { DecodesInstruction encoder_instruction_of_insert_with_name_ref (SpellsKind insert_with_name_ref)
             (RefusesKind insert_with_name_ref) buf.old buf.new result }
@@ -188,7 +188,7 @@ impl InsertWithoutNameRef {
     }
 
     /// Reads such an instruction at the cursor, or none of a truncated one. Where none is read, the
-    /// cursor's place is not told.
+    /// cursor's position is unspecified.
     pub fn decode(
         alloc: Global,
         buf: &mut Cursor,

@@ -31,7 +31,7 @@ pub struct Duplicate(pub usize);
 
 impl Duplicate {
     /// Reads such an instruction at the cursor, or none of a truncated one. Takes no memory. Where none is read, the
-    /// cursor's place is not told.
+    /// cursor's position is unspecified.
     pub fn decode(buf: &mut Cursor) -> Result<Option<Duplicate>, ParseError>
         ensures decodes { DecodesInstruction encoder_instruction_of_duplicate (SpellsKind duplicate)
             (RefusesKind duplicate) buf.old buf.new result }
@@ -78,7 +78,7 @@ pub struct DynamicTableSizeUpdate(pub usize);
 
 impl DynamicTableSizeUpdate {
     /// Reads such an instruction at the cursor, or none of a truncated one. Takes no memory. Where none is read, the
-    /// cursor's place is not told.
+    /// cursor's position is unspecified.
     pub fn decode(buf: &mut Cursor) -> Result<Option<DynamicTableSizeUpdate>, ParseError>
         ensures decodes { DecodesInstruction encoder_instruction_of_dynamic_table_size_update
             (SpellsKind dynamic_table_size_update) (RefusesKind dynamic_table_size_update) buf.old buf.new result }

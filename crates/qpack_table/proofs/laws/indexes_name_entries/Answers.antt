@@ -3,7 +3,8 @@ use Rattle.qpack_table.proofs.Entries.{relative_dropped, post_base_is_entry}
 use Rattle.qpack_table.proofs.laws.indexes_name_entries.Goals as goal
 
 pub returns-clause-positions : goal.returns-clause-positions
-returns-clause-positions c = λ w absolute. ((there_is_live w absolute, live_is_there w absolute), at_position w absolute)
+returns-clause-positions c = λ w absolute.
+    ((there_is_live w absolute, live_is_there w absolute), at_position w absolute)
 
 pub returns-clause-recent : goal.returns-clause-recent
 returns-clause-recent c = recent_is_entry

@@ -6,4 +6,5 @@ use Rattle.h3_qpack.specs.Stateless.{fields_in}
 use Rattle.qpk.proofs.serve.show.Given as goal
 
 abbrev pub invariant-loop-field : goal.invariant-loop-field
-invariant-loop-field l = string_bytes l.text ≡ flat_map (λ f. text_of f ++ 10 ∷ []) (fields_in (take l.field-index l.decoded.fields.items))
+invariant-loop-field l = string_bytes l.text
+    ≡ flat_map (λ f. text_of f ++ 10 ∷ []) (fields_in (take l.field-index l.decoded.fields.items))

@@ -2,7 +2,8 @@ use Rattle.std.proofs.Common.{◌≡◌, ◌<◌, ◌+◌, ◌-◌, length, refl
 use Rattle.std.proofs.lemmas.List.{length-map}
 use Rattle.qpack_spec.specs.Table.{Table, insert_count}
 use Rattle.qpack_table.specs.Tables.{entry_of}
-use Rattle.qpack_table.proofs.EvictableEntries.{evictable_at, evictable_used, evictable_unused, item_there, sent_received, not_sent}
+use Rattle.qpack_table.proofs.EvictableEntries.{evictable_at, evictable_used, evictable_unused, item_there}
+use Rattle.qpack_table.proofs.EvictableEntries.{sent_received, not_sent}
 use Rattle.qpack_table.proofs.dynamic.table.DynamicTable.is_evictable.Goals as goal
 
 pub returns-then-entry-gt0 : goal.returns-then-entry-gt0
@@ -32,8 +33,10 @@ returns-then-not-entry c =
     let used = c.self.invariant.used c.args.position c.index-entry.result.now
     (item_there _ _ _ within c.index-entry.ensures) in
     rw (← c.self.view_is)
-    (evictable_at _ c.self.inside.entries.items c.args.position c.index-entry.result.now _ refl within c.index-entry.ensures
-    (not_sent _ _ _ c.if-not-entry.true ∙ sym (evictable_unused _ _ _ c.index-entry.result.now.sent used (omega arith))))
+    (evictable_at _ c.self.inside.entries.items c.args.position c.index-entry.result.now _ refl within
+        c.index-entry.ensures
+    (not_sent _ _ _ c.if-not-entry.true
+        ∙ sym (evictable_unused _ _ _ c.index-entry.result.now.sent used (omega arith))))
 
 pub returns-else-not-entry : goal.returns-else-not-entry
 returns-else-not-entry c =
@@ -46,7 +49,8 @@ returns-else-not-entry c =
     ) in
     let used = c.self.invariant.used c.args.position c.index-entry.result.now
     (item_there _ _ _ within c.index-entry.ensures) in
-    let position : c.total_inserted.result - c.len.result + c.args.position ≡ c.self.inside.vas.dropped + c.args.position =
+    let position : c.total_inserted.result - c.len.result + c.args.position
+        ≡ c.self.inside.vas.dropped + c.args.position =
     omega (
       arith,
       ap (λ (t : Table). insert_count t) c.self.view_is,
@@ -55,6 +59,7 @@ returns-else-not-entry c =
       c.len.ensures,
     ) in
     rw (← c.self.view_is)
-    (evictable_at _ c.self.inside.entries.items c.args.position c.index-entry.result.now _ refl within c.index-entry.ensures
+    (evictable_at _ c.self.inside.entries.items c.args.position c.index-entry.result.now _ refl within
+        c.index-entry.ensures
     (sent_received _ c.self.inside.vas.dropped c.args.position _ _ c.if-not-entry.false position
     ∙ sym (evictable_unused _ _ _ c.index-entry.result.now.sent used (omega arith))))
