@@ -3,10 +3,9 @@ use Rattle.std.proofs.Common.{◌≡◌, ℕ, List, drop, Some, Ok, sym, subst, 
 use Rattle.std.specs.Prelude.{slice_get}
 use Rattle.qpack_spec.specs.Bytes.{Begins}
 use Rattle.qpack_spec.specs.Field.{Field}
-use Rattle.qpack_spec.specs.Line.{Line, line_form, SpellsLine}
+use Rattle.qpack_spec.specs.Line.{Line, SpellsLine}
 use Rattle.qpack_spec.specs.Prefix.{Prefix, SpellsPrefix}
 use Rattle.qpack_base.specs.Cursor.{CursorView, MovesPast}
-use Rattle.qpack_wire.specs.Memory.{AsksForMemory}
 use Rattle.h3_qpack.specs.Stateless.{stateless_field_at}
 use Rattle.qpack_wire.proofs.Asking.{in_turn}
 use Rattle.h3_qpack.specs.Memory.{HoldsPrefix, HoldsLine, AsksLine, AsksSectionForMemory}
@@ -18,9 +17,6 @@ HasBegun all rest = (rest ≡ all) ⊎ Begins HoldsLine all
 
 pub asks_held : (bytes : List ℕ) → Begins HoldsLine bytes → Begins AsksLine bytes
 asks_held bytes b = record { encoding = b.encoding; rest = b.rest; parts = b.parts; holds = inl b.holds }
-
-pub asks_front : (bytes : List ℕ) → AsksForMemory line_form bytes → Begins AsksLine bytes
-asks_front bytes b = record { encoding = b.encoding; rest = b.rest; parts = b.parts; holds = inr b.holds }
 
 -- a line that was found
 pub asks_found : (old new : CursorView) (l : Line) → (encoding : List ℕ) × SpellsLine encoding l

@@ -42,7 +42,7 @@ abbrev pub good : List Field → Result (List Field) StatelessFault
 good fs = Ok fs
 
 -- a line whose field was read stands at the front
-pub record TakesLine (b : ℕ) (cs rest : List ℕ) : Type 0 where
+record TakesLine (b : ℕ) (cs rest : List ℕ) : Type 0 where
   pub line : Line
   pub takes : TakesSpelling Line line_form (b ∷ cs) line rest
 

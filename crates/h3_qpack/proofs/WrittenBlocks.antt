@@ -5,13 +5,10 @@ use Rattle.std.proofs.Math.Seq.{take-append_seam}
 use Rattle.std.specs.Prelude.{MatchOption}
 use Rattle.std.specs.Borrow.{Bor}
 use Rattle.qpack_spec.specs.Field.{Field}
-use Rattle.qpack_spec.specs.Line.{Line, Literal, written_line, written_lines}
+use Rattle.qpack_spec.specs.Line.{Line, written_line, written_lines}
 use Rattle.qpack_spec.specs.Prefix.{written_prefix, prefix_for}
 use Rattle.qpack_spec.specs.BlockReading.{written_block}
-use Rattle.qpack_spec.specs.StaticTable.{static_index, static_name_index, IsLeastStatic, NoStatic}
-use Rattle.qpack_spec.specs.Stateless.{stateless_literal, stateless_line_of, stateless_line, stateless_block}
-use Rattle.qpack_spec.proofs.StaticPlaces.{name_place_is_least}
-use Rattle.qpack_spec.proofs.Places.{static_found}
+use Rattle.qpack_spec.specs.Stateless.{stateless_line, stateless_block}
 use Rattle.qpack_base.specs.declared.field.HeaderField.{HeaderField}
 use Rattle.qpack_base.specs.HeaderFields.{field_of, fields_behind}
 
@@ -27,12 +24,12 @@ lines_of_more [] f = refl
 lines_of_more (g ∷ fs) f = ap (λ (ls : List Line). stateless_line g ∷ ls) (lines_of_more fs f)
 
 -- of no fields it is the prefix that requires nothing
-pub block_of_none : written_block (stateless_block []) ≡ written_prefix (prefix_for 0 0 0)
+block_of_none : written_block (stateless_block []) ≡ written_prefix (prefix_for 0 0 0)
 unfolding written_block written_lines prefix_for
 block_of_none = append-nil (written_prefix (record { count = 0; sign = false; delta = 0 }))
 
 -- of a field more it has the field's line more
-pub block_of_more : (fs : List Field) (f : Field)
+block_of_more : (fs : List Field) (f : Field)
     → written_block (stateless_block (fs ++ f ∷ []))
     ≡ written_block (stateless_block fs) ++ written_line (stateless_line f)
 unfolding written_block
@@ -68,21 +65,3 @@ pub behind_more : (fs : List (Bor HeaderField)) (f : Bor HeaderField)
     → fields_behind (fs ++ f ∷ []) ≡ fields_behind fs ++ field_of f.now ∷ []
 behind_more [] f = refl
 behind_more (g ∷ fs) f = ap (λ (xs : List Field). field_of g.now ∷ xs) (behind_more fs f)
-
--- ---- the line of a field
-
-none_named : (name : List ℕ) → static_name_index name ≡ None → NoStatic (λ g. g.name ≡ name)
-none_named name e = subst (λ (o : Option ℕ). MatchOption o (NoStatic (λ g. g.name ≡ name))
-    (IsLeastStatic (λ g. g.name ≡ name))) e (name_place_is_least name)
-
--- where no static field has the name, none is the field
-no_name_no_field : (f : Field) → static_name_index f.name ≡ None → static_index f ≡ None
-no_name_no_field f e = go (static_index f) refl
-  where
-    go : (o : Option ℕ) → static_index f ≡ o → static_index f ≡ None
-    go None p = p
-    go (Some i) p = absurd (none_named f.name e i f (static_found f i p) refl)
-
--- the line where no static field has the name
-pub line_in_full : (f : Field) → None ≡ static_name_index f.name → stateless_line f ≡ Literal f.name f.value
-line_in_full f e = ap (stateless_line_of f) (no_name_no_field f (sym e)) ∙ ap (stateless_literal f) (sym e)

@@ -75,7 +75,7 @@ GivesFault (Err e) fault = Tells e fault
 abbrev pub FindsFields : ℕ → List ℕ → Decoded → Type 0
 FindsFields limit bytes d =
     MeansStateless limit bytes (fields_in d.fields.items)
-        × (d.mem_size ≡ saturated_size (total_size (fields_in d.fields.items)))
+    × (d.mem_size ≡ saturated_size (total_size (fields_in d.fields.items)))
     × (d.dyn_ref ≡ false)
 
 -- the error tells why the bytes mean nothing, or memory was refused

@@ -1,6 +1,6 @@
 //! Header fields to blocks (RFC 9204, section 2.1).
 
-ghost use Rattle.std.specs.Prelude.{◌≡◌, ◌++◌, ◌≤◌, IfOk, IfErr, OnOk, OnErr, take, vec_len, vec_capacity};
+ghost use Rattle.std.specs.Prelude.{◌≡◌, ◌++◌, ◌≤◌, IfOk, IfErr, OnErr, take, vec_len, vec_capacity};
 ghost use Rattle.std.specs.Iterator.{IsFinite};
 ghost use Rattle.qpack_spec.specs.Field.{total_size};
 ghost use Rattle.qpack_spec.specs.Line.{written_line};
@@ -15,7 +15,7 @@ ghost use Rattle.h3_qpack.specs.declared.encoder.EncoderError.TheVariants.{Memor
 use qpack_base::coding::NoMemory;
 use qpack_base::field::HeaderField;
 use qpack_base::parse_error::ParseError;
-use qpack_base::static_::StaticTable;
+use qpack_base::static_::{StaticMatch, StaticTable};
 use qpack_base::{prefix_int, prefix_string};
 use qpack_table::dynamic;
 use qpack_wire::block::{HeaderPrefix, Indexed, Literal, LiteralWithNameRef};
@@ -152,11 +152,11 @@ fn append_line<A: Allocator>(
     ensures writes { Writes (written_line (stateless_line (field_of field.now))) block.old block.new result }
     ensures memory { IfErr result (λ e. e ≡ NoRoom) }
 {
-    let Some(name_index) = StaticTable::find_name(field.name.as_slice()) else {
-        return Literal::write(field.name.as_slice(), field.value.as_slice(), block);
-    };
-    if let Some(index) = StaticTable::find(field) {
-        return Ok(Indexed::Static(index).encode(block)?);
+    let name = field.name.as_slice();
+    let value = field.value.as_slice();
+    match StaticTable::lookup(name, value) {
+        Some(StaticMatch::Field(index)) => Ok(Indexed::Static(index).encode(block)?),
+        Some(StaticMatch::Name(index)) => LiteralWithNameRef::write_static(index, value, block),
+        None => Literal::write(name, value, block),
     }
-    LiteralWithNameRef::write_static(name_index, field.value.as_slice(), block)
 }

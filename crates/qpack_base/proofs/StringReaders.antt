@@ -48,7 +48,7 @@ Read = Result (ℕ × List ℕ × List ℕ) StringFault
 pub string_found : (n : ℕ) (old new : CursorView) (r : Result (Vec ℕ) Error)
     → ReadsString old new r (string_at n old.rest)
     → IfOk r (λ v. (encoding : List ℕ) × (flags : ℕ) × SpellsString n encoding flags v.items
-        × MovesPast encoding old new)
+    × MovesPast encoding old new)
 string_found n old new (Ok v) h =
     let t = string_takes n old.rest h.0.0 v.items new.rest h.0.1 in (t.encoding, h.0.0, t.spells, (t.parts, h.1))
 string_found n old new (Err e) h = tt
@@ -64,7 +64,7 @@ refused_else encoding old new flags value rest e read is h = absurd h
 pub string_only : (n : ℕ) (old new : CursorView) (r : Result (Vec ℕ) Error)
     → ReadsString old new r (string_at n old.rest)
     → (encoding rest : List ℕ) (flags : ℕ) (value : List ℕ) → SpellsString n encoding flags value → old.rest ≡ encoding
-        ++ rest
+    ++ rest
     → GivesValue r value (MovesPast encoding old new)
 string_only n old new (Ok v) h encoding rest flags value spells parts =
     let a = ap (string_at n) parts ∙ string_again n encoding rest flags value spells in
@@ -128,13 +128,13 @@ string_truncates n old new r h =
 pub string_faulty : (n : ℕ) (old new : CursorView) (r : Result (Vec ℕ) Error)
     → ReadsString old new r (string_at n old.rest)
     → (fault : HuffmanFault) → IsFaulty r fault
-        → Begins (λ encoding. RefusesString n encoding (BadHuffman fault)) old.rest
+    → Begins (λ encoding. RefusesString n encoding (BadHuffman fault)) old.rest
 string_faulty n old new r h fault f = ((reads_refusals n old.rest).1 fault).0
     (faulty_is old new r (string_at n old.rest) fault h f)
 
 pub string_refused : (n : ℕ) (old new : CursorView) (r : Result (Vec ℕ) Error)
     → ReadsString old new r (string_at n old.rest)
     → (fault : HuffmanFault) → Begins (λ encoding. RefusesString n encoding (BadHuffman fault)) old.rest
-        → GivesFault r fault
+    → GivesFault r fault
 string_refused n old new r h fault b = gives_fault old new r (string_at n old.rest) fault h
     (((reads_refusals n old.rest).1 fault).1 b)

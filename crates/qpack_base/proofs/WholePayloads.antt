@@ -101,14 +101,22 @@ whole_payload n bytes h = go (string_at n bytes) refl h
         → Begins (HoldsPayload n) bytes
     go (Ok x) e some =
         let t = string_takes n bytes x.0 x.1 x.2 e in
-        record { encoding = t.encoding; rest = x.2; parts = t.parts;
-            holds = some_payload n x.0 t.encoding x.1 t.spells some }
+        record {
+          encoding = t.encoding;
+          rest = x.2;
+          parts = t.parts;
+          holds = some_payload n x.0 t.encoding x.1 t.spells some;
+        }
     go (Err EndsEarly) e some = absurd some
     go (Err LengthOverflows) e some = absurd some
     go (Err (BadHuffman fault)) e some =
         let b = ((reads_refusals n bytes).1 fault).0 e in
-        record { encoding = b.encoding; rest = b.rest; parts = b.parts;
-            holds = faulty_payload n fault b.encoding b.holds }
+        record {
+          encoding = b.encoding;
+          rest = b.rest;
+          parts = b.parts;
+          holds = faulty_payload n fault b.encoding b.holds;
+        }
 
 -- memory is refused only to a whole payload
 pub string_memory : (n : ℕ) (old new : CursorView) (r : Result (Vec ℕ) Error)

@@ -54,11 +54,8 @@ impl HeaderField {
 
     /// The field with another value.
     pub fn with_value(&self, value: Vec<u8>) -> Result<HeaderField, NoMemory>
-        ensures { IfOk result (λ field. field_of field ≡ record {
-          name = (field_of self.now).name;
-          value =
-              value.items;
-        }) }
+        ensures { IfOk result (λ field. field_of field ≡
+            record { name = (field_of self.now).name; value = value.items }) }
     {
         Ok(HeaderField {
             name: self.name.clone()?,

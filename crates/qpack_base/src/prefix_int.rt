@@ -42,11 +42,11 @@ pub fn decode(size: u8, buf: &mut Cursor) -> Result<(u8, u64), Error>
     requires least { 1 ≤ size }
     requires most { size ≤ 8 }
     // What is read is spelled so, and the cursor moves past exactly it.
-    ensures found { IfOk result (λ x. (encoding : List ℕ) × SpellsInteger size encoding x.0 x.1
-        × MovesPast encoding buf.old buf.new) }
+    ensures found { IfOk result (λ x. (encoding : List ℕ) × SpellsInteger size encoding x.0 x.1 ×
+        MovesPast encoding buf.old buf.new) }
     // What is spelled so is read, whatever follows.
-    ensures only { (encoding rest : List ℕ) (flags value : ℕ) → SpellsInteger size encoding flags value
-        → buf.old.rest ≡ encoding ++ rest →
+    ensures only { (encoding rest : List ℕ) (flags value : ℕ) → SpellsInteger size encoding flags value →
+        buf.old.rest ≡ encoding ++ rest →
         (result ≡ Ok (flags, value)) × MovesPast encoding buf.old buf.new }
     ensures overflow { (result ≡ Err Overflow) ↔ Begins (OverflowsInteger size) buf.old.rest }
     ensures truncated { (result ≡ Err Truncated) ↔ TruncatesInteger size buf.old.rest }
@@ -105,8 +105,8 @@ pub fn encode<A: Allocator>(
     requires most { size ≤ 8 }
     ensures ok { OnOk result (buf.new.items ≡ buf.old.items ++ written_integer size flags value) }
     ensures err { OnErr result (buf.new.items ≡ buf.old.items) }
-    ensures succeeds { vec_len buf.old + length (written_integer size flags value) ≤ vec_capacity buf.old
-        → IsOk result }
+    ensures succeeds { vec_len buf.old + length (written_integer size flags value) ≤ vec_capacity buf.old →
+        IsOk result }
     ensures still { vec_len buf.old + length (written_integer size flags value) ≤ vec_capacity buf.old →
         vec_capacity buf.new ≡ vec_capacity buf.old }
     ensures capacity { vec_capacity buf.old ≤ vec_capacity buf.new }

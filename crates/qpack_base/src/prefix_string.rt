@@ -112,20 +112,20 @@ pub fn decode(alloc: Global, size: u8, buf: &mut Cursor) -> Result<Vec<u8>, Erro
     requires least { 2 ≤ size }
     requires most { size ≤ 8 }
     // What is read is spelled so, and the cursor moves past exactly it.
-    ensures found { IfOk result (λ v. (encoding : List ℕ) × (flags : ℕ) × SpellsString size encoding flags v.items
-        × MovesPast encoding buf.old buf.new) }
+    ensures found { IfOk result (λ v. (encoding : List ℕ) × (flags : ℕ) × SpellsString size encoding flags v.items ×
+        MovesPast encoding buf.old buf.new) }
     // What is spelled so is read, whatever follows, unless memory is refused.
-    ensures only { (encoding rest : List ℕ) (flags : ℕ) (value : List ℕ) → SpellsString size encoding flags value
-        → buf.old.rest ≡ encoding ++ rest →
+    ensures only { (encoding rest : List ℕ) (flags : ℕ) (value : List ℕ) → SpellsString size encoding flags value →
+        buf.old.rest ≡ encoding ++ rest →
         GivesValue result value (MovesPast encoding buf.old buf.new) }
-    ensures overflow { (result ≡ Err (BadLength Overflow)) ↔ Begins
-        (λ encoding. RefusesString size encoding LengthOverflows) buf.old.rest }
+    ensures overflow { (result ≡ Err (BadLength Overflow)) ↔
+        Begins (λ encoding. RefusesString size encoding LengthOverflows) buf.old.rest }
     ensures truncated { (result ≡ Err Truncated) ↔ TruncatesString size buf.old.rest }
     // A coded payload that means nothing is refused for its fault, unless memory is refused.
-    ensures faulty { (fault : HuffmanFault) → IsFaulty result fault
-        → Begins (λ encoding. RefusesString size encoding (BadHuffman fault)) buf.old.rest }
-    ensures refused { (fault : HuffmanFault) → Begins
-        (λ encoding. RefusesString size encoding (BadHuffman fault)) buf.old.rest → GivesFault result fault }
+    ensures faulty { (fault : HuffmanFault) → IsFaulty result fault →
+        Begins (λ encoding. RefusesString size encoding (BadHuffman fault)) buf.old.rest }
+    ensures refused { (fault : HuffmanFault) →
+        Begins (λ encoding. RefusesString size encoding (BadHuffman fault)) buf.old.rest → GivesFault result fault }
     // Memory is refused only to a whole payload.
     ensures memory { result ≡ Err NoRoom → Begins (HoldsPayload size) buf.old.rest }
     // The same, as reading from left to right.
@@ -149,8 +149,8 @@ pub fn encode<A: Allocator>(
     ensures ok { OnOk result (buf.new.items ≡ buf.old.items ++ written_string size flags value.now) }
     ensures err { OnErr result (buf.new.items ≡ buf.old.items) }
     ensures memory { IfErr result (λ e. e ≡ NoRoom) }
-    ensures succeeds { vec_len buf.old + length (written_string size flags value.now) ≤ vec_capacity buf.old
-        → IsOk result }
+    ensures succeeds { vec_len buf.old + length (written_string size flags value.now) ≤ vec_capacity buf.old →
+        IsOk result }
     ensures still { vec_len buf.old + length (written_string size flags value.now) ≤ vec_capacity buf.old →
         vec_capacity buf.new ≡ vec_capacity buf.old }
     ensures capacity { vec_capacity buf.old ≤ vec_capacity buf.new }

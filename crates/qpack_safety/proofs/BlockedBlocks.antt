@@ -272,6 +272,6 @@ counts_all_heard t u (r ∷ rs) ps e c = pick (apply_decoder_instruction t r) re
     pick : (o : Result Table TableRefusal) → apply_decoder_instruction t r ≡ o
         → (o >>= λ x. apply_decoder_instructions x rs) ≡ Ok u
         → ((x : Table) → apply_decoder_instructions x rs ≡ Ok u → CountsBlocked x ps → CountsBlocked u ps)
-            → CountsBlocked u ps
+        → CountsBlocked u ps
     pick (Err f) h q rest = absurd cc
     pick (Ok x) h q rest = rest x q (counts_heard t x r ps h c)

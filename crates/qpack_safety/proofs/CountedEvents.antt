@@ -37,7 +37,7 @@ counted_block v s fs c =
       fields = fs;
     } in
     counts_pushed v.encoder d.table s
-        (record old { blocks = old.blocks ++ b ∷ [] }) b v.streams k.known_received_count k.blocked refl
+    (record old { blocks = old.blocks ++ b ∷ [] }) b v.streams k.known_received_count k.blocked refl
     c
 
 unnamed_known : (t : Table) → (without_references t).known_received_count ≡ t.known_received_count
@@ -53,7 +53,7 @@ counted_given_up v fs c =
     let d = rule v.encoder fs in
     let k = rule_references v.encoder fs in
     counts_table v.encoder (without_references d.table) v.streams (unnamed_known d.table ∙ k.known_received_count)
-        (unnamed_waiting d.table
+    (unnamed_waiting d.table
     ∙ k.blocked) c
 
 counted_resized : (v : Session) (n : ℕ) (t : Table) → with_capacity v.encoder n ≡ Ok t → CountsItsBlocks v
@@ -64,7 +64,7 @@ counted_resized v n t e c = pick (resized_cases v.encoder n)
     same u q =
         let z = same_resized v.encoder n in
         counts_table v.encoder u v.streams (ap (λ (x : Table). x.known_received_count) q ∙ z.z_known)
-            (ap (λ (x : Table). x.blocked) q
+        (ap (λ (x : Table). x.blocked) q
         ∙ z.z_waiting) c
 
     pick : (CanResize v.encoder n × (with_capacity v.encoder n ≡ Ok (resized_table v.encoder n)))

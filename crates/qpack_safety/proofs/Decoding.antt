@@ -57,7 +57,7 @@ decoder_instruction_other : (capacity : ℕ) (h : History) (encoder_stream : Lis
     (unacknowledged : List UnacknowledgedBlock) (rs : List DecoderInstruction)
     (r : DecoderInstruction) (q : ℕ) (st : AbstractStream) → IsNoAck q r → IsNoCancel q r
     → KeepsStream capacity h encoder_stream unacknowledged rs q st
-        → KeepsStream capacity h encoder_stream unacknowledged (rs ++ r ∷ []) q st
+    → KeepsStream capacity h encoder_stream unacknowledged (rs ++ r ∷ []) q st
 decoder_instruction_other capacity h encoder_stream unacknowledged rs r q st a c k =
     record {
       acknowledged = k.acknowledged;
@@ -138,7 +138,7 @@ inv_acked capacity limit w s t k =
           (stream_acked capacity k.made (w.taken ++ w.in_flight) w.encoder.unacknowledged w.decoder_in_flight s st t
           (k.streams s))
           (λ q d. decoder_instruction_other capacity k.made
-              (w.taken ++ w.in_flight) w.encoder.unacknowledged w.decoder_in_flight
+          (w.taken ++ w.in_flight) w.encoder.unacknowledged w.decoder_in_flight
           (Acknowledgment s) q (stream_at w.streams q) d tt (k.streams q));
     }
   where
@@ -182,7 +182,7 @@ inv_cancelled capacity limit w s k =
             blocks = old.blocks;
           })
           (λ q d. decoder_instruction_other capacity k.made
-              (w.taken ++ w.in_flight) w.encoder.unacknowledged w.decoder_in_flight
+          (w.taken ++ w.in_flight) w.encoder.unacknowledged w.decoder_in_flight
           (Cancellation s) q (stream_at w.streams q) tt d (k.streams q));
     }
   where

@@ -77,7 +77,7 @@ takes_all capacity limit w (l ∷ lines) still k e =
       ap length g.inserts,
     ) in
     let unreported : (take_next w w.in_flight).unreported
-        ≡ w.unreported + (window_insert_count next - window_insert_count w.decoder) =
+    ≡ w.unreported + (window_insert_count next - window_insert_count w.decoder) =
     ap (λ (x : AbstractSession). x.unreported) one in
     let decoder : (take_next w w.in_flight).decoder ≡ next = ap (λ (x : AbstractSession). x.decoder) one in
     record {
@@ -140,7 +140,7 @@ hears_all capacity limit w (r ∷ lines) still k e =
       l_encoder =
           ap (λ (o : Result Table TableRefusal). o >>= λ x. apply_decoder_instructions x lines) t.1
           ∙ ap (λ (x : Table). apply_decoder_instructions x lines) (sym (ap (λ (x : AbstractSession). x.encoder) one))
-              ∙ rest.l_encoder;
+          ∙ rest.l_encoder;
       l_decoder = rest.l_decoder ∙ ap (λ (x : AbstractSession). x.decoder) one;
       l_unreported = rest.l_unreported ∙ ap (λ (x : AbstractSession). x.unreported) one;
       l_taken = rest.l_taken ∙ ap (λ (x : AbstractSession). x.taken) one;

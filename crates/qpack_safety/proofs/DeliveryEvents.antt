@@ -55,18 +55,18 @@ pub record Moved (capacity limit : ℕ) (v : Session) (w : AbstractSession) (n :
 
 pub moved : (capacity limit : ℕ) (v : Session) (w : AbstractSession) (n : ℕ) (o : Outcome) (v' : Session) → Refines v w
     → Invariant capacity limit w → (c : DeliversToDecoder v n o v')
-        → Moved capacity limit v w n c.lines c.front c.rest c.table
+    → Moved capacity limit v w n c.lines c.front c.rest c.table
 moved capacity limit v w n o v' sh k c =
     let on =
     carried_on SpellsEncoderInstruction (wire encoder_instruction_form) v.encoder_stream v.encoder_stream_taken
-        (v.encoder_stream_delivered + n) w.taken
+    (v.encoder_stream_delivered + n) w.taken
     w.in_flight c.lines c.front c.rest sh.encoder_stream (omega (arith, sh.sent_order)) c.offered c.joined in
     let t : Took w (after_steps (taking_all c.lines) w) c.lines on.still =
     takes_lines capacity limit w c.lines on.still k on.goes_on in
     let table_is : c.table ≡ table_of (after_steps (taking_all c.lines) w).decoder =
     ok_is _ _ (sym c.applies ∙ ap (λ (x : Table). apply_encoder_instructions x c.lines) sh.decoder_is ∙ t.t_decoder) in
     let before : insert_count v.decoder ≡ window_insert_count w.decoder = ap insert_count sh.decoder_is
-        ∙ count_put w.decoder in
+    ∙ count_put w.decoder in
     let behind : insert_count c.table ≡ window_insert_count (after_steps (taking_all c.lines) w).decoder =
     ap insert_count table_is ∙ count_put (after_steps (taking_all c.lines) w).decoder in
     record {
@@ -90,7 +90,7 @@ moved capacity limit v w n o v' sh k c =
 moved_shown : (capacity limit : ℕ) (v : Session) (w : AbstractSession) (n : ℕ) (lines : List EncoderInstruction)
     (front rest : List ℕ) (table : Table) → Refines v w → Moved capacity limit v w n lines front rest table
     → Refines (with_decoder_moved v n table (length front) (unreported_after v table) v.decoder_stream)
-        (after_steps (taking_all lines) w)
+    (after_steps (taking_all lines) w)
 moved_shown capacity limit v w n lines front rest table sh m =
     let t = m.took in
     let same : (after_steps (taking_all lines) w).taken ++ (after_steps (taking_all lines) w).in_flight
@@ -123,7 +123,7 @@ no_bad_bytes capacity limit v w n lines front rest table fault m b =
 -- what stands at the front of bytes that are lines is the first of them
 first_line : {L : Type 0} (form_of : ℕ → Option (Form L)) (still : List L) (rest more encoding behind : List ℕ) (l : L)
     → Joined (λ t x. Spells L form_of t x) (rest ++ more) still → rest ≡ encoding ++ behind
-        → Spells L form_of encoding l
+    → Spells L form_of encoding l
     → (others : List L) × (still ≡ l ∷ others)
 first_line form_of [] rest more encoding behind l j e s = let q =
     s.begins in absurd (let r : encoding ++ (behind ++ more) ≡ [] = sym (append_assoc encoding behind more)
@@ -150,7 +150,7 @@ no_bad_instruction capacity limit v w n lines front rest table encoding more i e
     ∙ f.1) in
     ok_not_err (apply (after_steps (taking_all lines) w).decoder i) e next
     (sym (applied_put (after_steps (taking_all lines) w).decoder i)
-        ∙ ap (λ x. apply_encoder_instruction x i) (sym m.table_is) ∙ bad)
+    ∙ ap (λ x. apply_encoder_instruction x i) (sym m.table_is) ∙ bad)
 
 pub lands_delivered : (capacity limit : ℕ) (v : Session) (w : AbstractSession) (n : ℕ) (o : Outcome) (v' : Session)
     → Refines v w → Invariant capacity limit w → DeliversToDecoder v n o v' → RefinesSome capacity limit v'
@@ -165,7 +165,7 @@ lands_delivered capacity limit v w n o v' sh k c = go (moved capacity limit v w 
         let shown = moved_shown capacity limit v w n c.lines c.front c.rest c.table sh m in
         let w1 = after_steps (taking_all c.lines) w in
         at (with_decoder_moved v n c.table (length c.front) 0
-            (v.decoder_stream ++ written_decoder_instructions (increments pieces))) goes (record {
+        (v.decoder_stream ++ written_decoder_instructions (increments pieces))) goes (record {
           abstract = record w1 { decoder_in_flight = w1.decoder_in_flight ++ increments pieces; unreported = 0 };
           refines = record {
             encoder_is = shown.encoder_is;
@@ -176,7 +176,7 @@ lands_delivered capacity limit v w n o v' sh k c = go (moved capacity limit v w 
             heard_lines = shown.heard_lines;
             decoder_stream =
                 carried_more SpellsDecoderInstruction v.decoder_stream
-                    (written_decoder_instructions (increments pieces)) v.decoder_stream_taken shown.heard_lines
+                (written_decoder_instructions (increments pieces)) v.decoder_stream_taken shown.heard_lines
                 w1.decoder_in_flight (increments pieces) shown.decoder_stream
                 (decoder_instructions_joined (increments pieces) (increments_writable pieces sizes));
             told_order = shown.told_order;
@@ -226,7 +226,7 @@ reached : (capacity limit : ℕ) (v : Session) (w : AbstractSession) (n : ℕ) (
 reached capacity limit v w n o v' sh k c =
     let on =
     carried_on SpellsDecoderInstruction (wire decoder_instruction_form) v.decoder_stream v.decoder_stream_taken
-        (v.decoder_stream_delivered + n) sh.heard_lines
+    (v.decoder_stream_delivered + n) sh.heard_lines
     w.decoder_in_flight c.lines c.front c.rest sh.decoder_stream (omega (arith, sh.told_order)) c.offered c.joined
     in
     let t : Listens w (after_steps (hearing_all c.lines) w) c.lines on.still =
@@ -256,7 +256,7 @@ no_bad_decoder_instruction_bytes : (capacity limit : ℕ) (v : Session) (w : Abs
 no_bad_decoder_instruction_bytes capacity limit v w n lines front rest table before fault m b =
     nothing_left SpellsDecoderInstruction (λ encoding. RefusesDecoderInstruction encoding fault)
     (λ encoding r e. (let q = r.begins in absurd cc))
-        (λ a b x y l r s e. refusal_apart decoder_instruction_form fault a b x y l r s e)
+    (λ a b x y l r s e. refusal_apart decoder_instruction_form fault a b x y l r s e)
     m.on.still rest m.on.more b.encoding b.rest m.on.left b.parts b.holds
 
 ok_not_refused : (r : Result Table TableRefusal) (e : TableRefusal) → IsOk r → r ≡ Err e → ⊥
@@ -266,17 +266,17 @@ ok_not_refused (Err d) e h q = absurd cc
 no_bad_decoder_instruction : (capacity limit : ℕ) (v : Session) (w : AbstractSession) (n : ℕ)
     (lines : List DecoderInstruction)
     (front rest : List ℕ) (table : Table) (before : List DecoderInstruction) (encoding more : List ℕ)
-        (r : DecoderInstruction) (e : TableRefusal)
+    (r : DecoderInstruction) (e : TableRefusal)
     → Reached capacity limit v w n lines front rest table before
     → rest ≡ encoding ++ more → SpellsDecoderInstruction encoding r → apply_decoder_instruction table r ≡ Err e → ⊥
 no_bad_decoder_instruction capacity limit v w n lines front rest table before encoding more r e m cut s bad =
     let f = first_line decoder_instruction_form m.on.still rest m.on.more encoding more r m.on.left cut s in
     let next =
     (inv_safe capacity limit (after_steps (hearing_all lines) w) m.keeps).hears_next r f.0
-        (m.listens.l_decoder_instructions
+    (m.listens.l_decoder_instructions
     ∙ f.1) in
     ok_not_refused (apply_decoder_instruction (after_steps (hearing_all lines) w).encoder r) e next
-        (ap (λ x. apply_decoder_instruction x r) (sym m.table_is)
+    (ap (λ x. apply_decoder_instruction x r) (sym m.table_is)
     ∙ bad)
 
 pub lands_heard : (capacity limit : ℕ) (v : Session) (w : AbstractSession) (n : ℕ) (o : Outcome) (v' : Session)
@@ -306,10 +306,10 @@ lands_heard capacity limit v w n o v' sh k c = go (reached capacity limit v w n 
         (record { abstract = after_steps (hearing_all c.lines) w; refines = shown m; keeps = m.keeps })
     go m (bad_bytes_at_encoder fault b is goes) =
         absurd (no_bad_decoder_instruction_bytes capacity limit v w n c.lines c.front c.rest c.table sh.heard_lines
-            fault m b)
+        fault m b)
     go m (bad_decoder_instruction encoding more r e cut s bad is goes) =
         absurd (no_bad_decoder_instruction capacity limit v w n c.lines c.front c.rest c.table sh.heard_lines encoding
-            more r e m cut s
+        more r e m cut s
         bad)
 
 pub heard_lawful : (capacity limit : ℕ) (v : Session) (w : AbstractSession) (n : ℕ) (fault : StreamFault)
@@ -323,4 +323,4 @@ heard_lawful capacity limit v w n fault v' sh k c = go (reached capacity limit v
         no_bad_decoder_instruction_bytes capacity limit v w n c.lines c.front c.rest c.table sh.heard_lines f m b
     go m (bad_decoder_instruction encoding more r e cut s bad is goes) =
         no_bad_decoder_instruction capacity limit v w n c.lines c.front c.rest c.table sh.heard_lines encoding more r e
-            m cut s bad
+        m cut s bad

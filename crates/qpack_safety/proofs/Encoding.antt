@@ -36,7 +36,7 @@ opens_other s q (a ∷ as') bs d = open_push s q (a ∷ as') bs ∙ (rw (ne_eqb 
 opens_own : (s : ℕ) (referenced : List ℕ) (bs : List UnacknowledgedBlock)
     → (greatest_of referenced ≡ 0 → referenced ≡ [])
     → open_of s (with_unacknowledged bs s referenced) ≡ open_of s bs
-        ++ cond (not (nat_eq (greatest_of referenced) 0)) (referenced ∷ []) []
+    ++ cond (not (nat_eq (greatest_of referenced) 0)) (referenced ∷ []) []
 unfolding greatest_of
 opens_own s [] bs plain = sym (append-nil (open_of s bs))
 opens_own s (a ∷ as') bs plain =
@@ -102,7 +102,7 @@ blocked_committed : (t0 t : Table) (s : ℕ) → t.known_received_count ≡ t0.k
 blocked_committed t0 t s k e may b =
     rw (same_committed t s (greatest_of t.referenced)).c_waiting
     (cond_both (nat_lt t.known_received_count (greatest_of t.referenced))
-        (t.blocked ++ greatest_of t.referenced ∷ []) t.blocked (λ ws. length ws
+    (t.blocked ++ greatest_of t.referenced ∷ []) t.blocked (λ ws. length ws
     ≤ t0.limit)
     (λ up. let lt : t.known_received_count < greatest_of t.referenced = ltb-true _ _ up in
     pick (greatest_has (MayStand t0) t.referenced (omega arith) may) lt)
@@ -125,12 +125,12 @@ stream_encoded : (capacity : ℕ) (h : History) (encoder_stream : List EncoderIn
     (unacknowledged : List UnacknowledgedBlock)
     (decoder_in_flight : List DecoderInstruction) (s : ℕ) (st : AbstractStream) (b : AbstractBlock)
     → KeepsStream capacity h encoder_stream unacknowledged decoder_in_flight s st
-        → KeepsBlock capacity h encoder_stream b
+    → KeepsBlock capacity h encoder_stream b
     → KeepsStream capacity h encoder_stream (with_unacknowledged unacknowledged s b.referenced) decoder_in_flight s
     (record st { blocks = st.blocks ++ b ∷ [] })
 stream_encoded capacity h encoder_stream unacknowledged decoder_in_flight s st b k ok =
     let own : open_of s (with_unacknowledged unacknowledged s b.referenced) ≡ open_of s unacknowledged
-        ++ cond (is_dynamic b) (b.referenced ∷ []) [] =
+    ++ cond (is_dynamic b) (b.referenced ∷ []) [] =
     opens_own s b.referenced unacknowledged ok.plain in
     let more : filter is_dynamic (st.blocks ++ b ∷ [])
     ≡ filter is_dynamic st.blocks ++ cond (is_dynamic b) (b ∷ []) [] =
@@ -139,8 +139,11 @@ stream_encoded capacity h encoder_stream unacknowledged decoder_in_flight s st b
       acknowledged = omega (arith, k.acknowledged, filter_take_append is_dynamic st.decoded st.blocks (b ∷ []));
       fits = fits_more s decoder_in_flight (length (open_of s unacknowledged))
           (length (open_of s (with_unacknowledged unacknowledged s b.referenced)))
-          (rw own (omega (arith, length-append (open_of s unacknowledged)
-              (cond (is_dynamic b) (b.referenced ∷ []) [])))) k.fits;
+          (rw own (omega (
+            arith,
+            length-append (open_of s unacknowledged)
+                (cond (is_dynamic b) (b.referenced ∷ []) []),
+          ))) k.fits;
       stays_open = λ c.
           let few : acks_in s decoder_in_flight ≤ length (open_of s unacknowledged) =
           fits_count s decoder_in_flight (length (open_of s unacknowledged)) k.fits (k.quiet c) in
@@ -148,11 +151,11 @@ stream_encoded capacity h encoder_stream unacknowledged decoder_in_flight s st b
           omega (arith, k.acknowledged, filter_take is_dynamic st.decoded st.blocks) in
           ap (drop (acks_in s decoder_in_flight)) own
           ∙ drop-append-le (acks_in s decoder_in_flight) (open_of s unacknowledged)
-              (cond (is_dynamic b) (b.referenced ∷ []) [])
+          (cond (is_dynamic b) (b.referenced ∷ []) [])
           few
           ∙ ap (λ x. x ++ cond (is_dynamic b) (b.referenced ∷ []) []) (k.stays_open c)
           ∙ ap (λ x. map (λ (y : AbstractBlock). y.referenced) (drop st.acknowledged (filter is_dynamic st.blocks))
-              ++ x)
+          ++ x)
           (sym (map_cond (is_dynamic b) b))
           ∙ sym (map-append (λ (y : AbstractBlock). y.referenced) (drop st.acknowledged (filter is_dynamic st.blocks))
           (cond (is_dynamic b) (b ∷ []) []))
@@ -212,15 +215,19 @@ inv_encoded capacity limit w s fs k =
     let g : Grows k.made p.history = leads_grows k.made d.instructions p.history p.leads in
     let encoder_stream = w.taken ++ (w.in_flight ++ d.instructions) in
     let regroup : (w.taken ++ w.in_flight) ++ d.instructions
-        ≡ encoder_stream = append_assoc w.taken w.in_flight d.instructions in
+    ≡ encoder_stream = append_assoc w.taken w.in_flight d.instructions in
     let required = greatest_of d.table.referenced in
     let c = same_committed d.table s required in
     let b : AbstractBlock =
-    record { block = block_of w.encoder d; referenced = d.table.referenced; end = length encoder_stream;
-        fields = fs } in
+    record {
+      block = block_of w.encoder d;
+      referenced = d.table.referenced;
+      end = length encoder_stream;
+      fields = fs;
+    } in
     let ok : KeepsBlock capacity p.history encoder_stream b = block_kept capacity limit w fs k p in
     let opened' : (commit d.table s required).unacknowledged
-        ≡ with_unacknowledged w.encoder.unacknowledged s d.table.referenced =
+    ≡ with_unacknowledged w.encoder.unacknowledged s d.table.referenced =
     c.c_opened ∙ ap (λ bs. with_unacknowledged bs s d.table.referenced) p.references.unacknowledged in
     let grown_stream =
     λ (q : ℕ). subst (λ (x : List EncoderInstruction). KeepsStream capacity p.history x w.encoder.unacknowledged
@@ -238,7 +245,7 @@ inv_encoded capacity limit w s fs k =
       known_received_count = omega (arith, k.known_received_count, c.c_known, p.references.known_received_count);
       blocked =
           rw (← k.same_limit) (blocked_committed w.encoder d.table s p.references.known_received_count
-              p.references.blocked p.may
+          p.references.blocked p.may
           (rw k.same_limit k.blocked));
       streams =
           streams_update (λ (q : ℕ) (v : AbstractStream). KeepsStream capacity p.history encoder_stream
@@ -248,7 +255,7 @@ inv_encoded capacity limit w s fs k =
           (stream_at w.streams s) b (grown_stream s) ok))
           (λ q apart. rw opened' (stream_opened capacity p.history encoder_stream w.encoder.unacknowledged
           (with_unacknowledged w.encoder.unacknowledged s d.table.referenced) w.decoder_in_flight q
-              (stream_at w.streams q)
+          (stream_at w.streams q)
           (opens_other s q d.table.referenced w.encoder.unacknowledged apart) (grown_stream q)));
     }
 

@@ -89,7 +89,7 @@ same_stream : (v : Session) (t s : ℕ) (k : KeptStream) (decoder_stream : List 
     → Adds v (record v { streams = (t, k) ∷ v.streams; decoder_stream = decoder_stream }) s [] 0
 same_stream v t s k decoder_stream b d =
     subst (Adds v (record v { streams = (t, k) ∷ v.streams; decoder_stream = decoder_stream }) s [])
-        (cond_zero (nat_eq t s))
+    (cond_zero (nat_eq t s))
     (adds_decoded v t s k 0 decoder_stream b (d ∙ omega arith))
 
 adds_block : (v : Session) (t : ℕ) (fs : List Field) (s : ℕ)

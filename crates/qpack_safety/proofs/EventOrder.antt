@@ -50,12 +50,24 @@ writes_moves v v' encoder_stream decoder_stream o w =
       ordered = record {
         encoder_stream_taken = omega (arith, o.encoder_stream_taken, w.sent_taken_is, w.sent_delivered_is);
         encoder_stream_delivered =
-            omega (arith, o.encoder_stream_delivered, w.sent_delivered_is, ap length w.sent_is, length-append
-                v.encoder_stream encoder_stream);
+            omega (
+              arith,
+              o.encoder_stream_delivered,
+              w.sent_delivered_is,
+              ap length w.sent_is,
+              length-append
+                  v.encoder_stream encoder_stream,
+            );
         decoder_stream_taken = omega (arith, o.decoder_stream_taken, w.told_taken_is, w.told_delivered_is);
         decoder_stream_delivered =
-            omega (arith, o.decoder_stream_delivered, w.told_delivered_is, ap length w.told_is, length-append
-                v.decoder_stream decoder_stream);
+            omega (
+              arith,
+              o.decoder_stream_delivered,
+              w.told_delivered_is,
+              ap length w.told_is,
+              length-append
+                  v.decoder_stream decoder_stream,
+            );
       };
     }
 
@@ -107,7 +119,7 @@ consumed_within false front encoding more rest e = omega arith
 
 delivery_moves : (v : Session) (n : ℕ) (t : Table) (front rest : List ℕ) (o : Outcome) (v' : Session) → IsOrdered v
     → v.encoder_stream_taken + length front + length rest
-        ≡ min (v.encoder_stream_delivered + n) (length v.encoder_stream)
+    ≡ min (v.encoder_stream_delivered + n) (length v.encoder_stream)
     → EndsAtDecoder v n t front rest o v' → Moves v v'
 delivery_moves v n t front rest o v' d place (takes_all pieces cut sizes sum is goes) =
     subst (Moves v) (sym goes) (delivers_moves v n t (length front) 0 _ d (omega (arith, place)))
@@ -125,7 +137,7 @@ delivery_moves v n t front rest o v' d place (bad_instruction encoding more i e 
 -- the encoder is delivered bytes
 hearing_one : (v : Session) (n : ℕ) (t : Table) (consumed : ℕ) → IsOrdered v
     → v.decoder_stream_taken + consumed ≤ min (v.decoder_stream_delivered + n) (length v.decoder_stream)
-        → Moves v (with_encoder_moved v n t consumed)
+    → Moves v (with_encoder_moved v n t consumed)
 hearing_one v n t consumed o within =
     record {
       encoder_stream = extends_none v.encoder_stream;
@@ -145,7 +157,7 @@ hearing_one v n t consumed o within =
 
 hearing_moves : (v : Session) (n : ℕ) (t : Table) (front rest : List ℕ) (o : Outcome) (v' : Session) → IsOrdered v
     → v.decoder_stream_taken + length front + length rest
-        ≡ min (v.decoder_stream_delivered + n) (length v.decoder_stream)
+    ≡ min (v.decoder_stream_delivered + n) (length v.decoder_stream)
     → EndsAtEncoder v n t front rest o v' → Moves v v'
 hearing_moves v n t front rest o v' d place (takes_all_at_encoder cut is goes) =
     subst (Moves v) (sym goes) (hearing_one v n t (length front) d (omega (arith, place)))
@@ -201,12 +213,12 @@ happens_moves v (Decode t) o v' d (inr h) = stays_ordered v v' d h.1
 happens_moves v (ToDecoder n) o v' d h =
     delivery_moves v n h.table h.front h.rest o v' d
     (piece_ends v.encoder_stream h.front h.rest v.encoder_stream_taken (v.encoder_stream_delivered + n) h.offered
-        (omega (arith, d.encoder_stream_taken))
+    (omega (arith, d.encoder_stream_taken))
     (omega (arith, d.encoder_stream_taken, d.encoder_stream_delivered))) h.ends
 happens_moves v (ToEncoder n) o v' d h =
     hearing_moves v n h.table h.front h.rest o v' d
     (piece_ends v.decoder_stream h.front h.rest v.decoder_stream_taken (v.decoder_stream_delivered + n) h.offered
-        (omega (arith, d.decoder_stream_taken))
+    (omega (arith, d.decoder_stream_taken))
     (omega (arith, d.decoder_stream_taken, d.decoder_stream_delivered))) h.ends
 happens_moves v (Acknowledge t) o v' d (inl h) =
     wrote v v' _ [] _ d h.1 (record {

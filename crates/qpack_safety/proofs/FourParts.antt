@@ -76,8 +76,12 @@ opened_invariant capacity limit =
       some = opened_lands capacity limit;
       counted = record { small = lit≤ tt; above = refl; counts = λ n le. refl };
       ordered =
-          record { encoder_stream_taken = lit≤ tt; encoder_stream_delivered = lit≤ tt; decoder_stream_taken = lit≤ tt;
-              decoder_stream_delivered = lit≤ tt };
+          record {
+            encoder_stream_taken = lit≤ tt;
+            encoder_stream_delivered = lit≤ tt;
+            decoder_stream_taken = lit≤ tt;
+            decoder_stream_delivered = lit≤ tt;
+          };
     }
 
 -- ---- (a)
@@ -148,7 +152,7 @@ in_accounts capacity limit v r =
     let k = r.keeps in
     let sh = r.refines in
     let many : insert_count v.decoder ≡ window_insert_count w.decoder = ap insert_count sh.decoder_is
-        ∙ count_put w.decoder in
+    ∙ count_put w.decoder in
     record {
       heard = sh.heard_lines;
       in_flight = w.decoder_in_flight;
@@ -167,13 +171,13 @@ in_accounts capacity limit v r =
 
 by_the_rule : (capacity limit : ℕ) (events : List (Event × Outcome)) (v : Session)
     → Run (initial_session capacity limit) events v → SessionInvariant capacity limit v
-        → RunsByTheRule capacity limit events v
+    → RunsByTheRule capacity limit events v
 by_the_rule capacity limit events v run r =
     let w = r.some.abstract in
     let sh = r.some.refines in
     let safe : Safe capacity limit w = inv_safe capacity limit w r.some.keeps in
     let many : insert_count v.decoder ≡ window_insert_count w.decoder = ap insert_count sh.decoder_is
-        ∙ count_put w.decoder in
+    ∙ count_put w.decoder in
     let known_received_count : v.encoder.known_received_count ≤ insert_count v.decoder =
     omega (arith, safe.received, many, ap (λ (t : Table). t.known_received_count) sh.encoder_is) in
     let counted : length v.encoder.blocked ≡ blocked_blocks v = counts_all v.encoder v.streams r.counted in
@@ -219,7 +223,7 @@ hearing_of v n o v' (inr h) = h.1
 
 delivery_answers : (capacity limit : ℕ) (v : Session) (n : ℕ) (o : Outcome) (v' : Session)
     → RefinesSome capacity limit v → DeliversToDecoder v n o v' → (o ≡ Delivered (insert_count v'.decoder))
-        ⊎ (o ≡ NoMemory)
+    ⊎ (o ≡ NoMemory)
 delivery_answers capacity limit v n o v' r c = go c.ends
   where
     refused : (fault : StreamFault) → o ≡ Refused fault → ⊥
@@ -335,7 +339,7 @@ decode_gives capacity limit events v run r s fields size is_dynamic v' (inr (non
 
 decodes_handed : (capacity limit : ℕ) (events : List (Event × Outcome)) (v : Session)
     → Run (initial_session capacity limit) events v → RefinesSome capacity limit v
-        → DecodesWhatWasHanded capacity events v
+    → DecodesWhatWasHanded capacity events v
 decodes_handed capacity limit events v run r =
     let a = λ (s : ℕ). runs_add (initial_session capacity limit) events v s run in
     record {
@@ -384,7 +388,7 @@ not_missing capacity limit u r s b next taken required u' (inr (none, inl h)) =
     let same : c ≡ b = same_some c b (sym h.is_next ∙ next) in
     let reads : ReadsExactly u c = reads_next capacity limit u r s c (decode_live u s none) h.is_next in
     let le : c.required ≤ insert_count u.decoder = reads.in_time
-        (omega (arith, taken, ap (λ (x : KeptBlock). x.end) same)) in
+    (omega (arith, taken, ap (λ (x : KeptBlock). x.end) same)) in
     absurd (fields_not_missing c.fields (saturated_size (total_size c.fields)) (nat_lt 0 c.required) required
     (sym (answer_fields u c reads le) ∙ sym h.answers))
 
@@ -413,7 +417,7 @@ never_missing capacity limit v r n received m g later u run s b next reached req
     delivers_whole capacity limit v r.some.abstract n received m r.some.refines r.some.keeps
     (delivery_of v n (Delivered received) m g)
     u ru.some.abstract ru.some.refines
-        (extends_both v.encoder_stream m.encoder_stream u.encoder_stream first.encoder_stream since.encoder_stream) s
+    (extends_both v.encoder_stream m.encoder_stream u.encoder_stream first.encoder_stream since.encoder_stream) s
     (stream_at u.streams s).decoded b next reached in
     not_missing capacity limit u ru.some s b next (omega (arith, taken, since.encoder_stream_taken)) required u' miss
 
@@ -429,7 +433,7 @@ delivery_takes capacity limit v r n received m g =
 
 waits_only : (capacity limit : ℕ) (events : List (Event × Outcome)) (v : Session)
     → Run (initial_session capacity limit) events v → SessionInvariant capacity limit v
-        → WaitsOnlyForInsertions events v
+    → WaitsOnlyForInsertions events v
 waits_only capacity limit events v run r =
     record {
       answers = decode_answers capacity limit events v run r.some;
@@ -443,7 +447,7 @@ waits_only capacity limit events v run r =
 pub sessions_safe : SessionsAreSafe
 sessions_safe capacity limit events v run =
     let r = runs_invariant capacity limit (initial_session capacity limit) events v
-        (opened_invariant capacity limit) run in
+    (opened_invariant capacity limit) run in
     record {
       follows = by_the_rule capacity limit events v run r;
       refuses = refuses_nothing capacity limit v r.some;

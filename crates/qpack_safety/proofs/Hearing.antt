@@ -186,7 +186,7 @@ increment_heard : (capacity : ℕ) (h : History) (encoder_stream : List EncoderI
     (unacknowledged : List UnacknowledgedBlock) (rs : List DecoderInstruction)
     (n q : ℕ) (st : AbstractStream)
     → KeepsStream capacity h encoder_stream unacknowledged (Increment n ∷ rs) q st
-        → KeepsStream capacity h encoder_stream unacknowledged rs q st
+    → KeepsStream capacity h encoder_stream unacknowledged rs q st
 increment_heard capacity h encoder_stream unacknowledged rs n q st k =
     record {
       acknowledged = k.acknowledged;
@@ -201,11 +201,11 @@ pub ack_finds : (capacity limit : ℕ) (w : AbstractSession) (s : ℕ) (rest : L
     → Invariant capacity limit w
     → w.decoder_in_flight ≡ Acknowledgment s ∷ rest
     → (bs : List UnacknowledgedBlock) × (without_oldest s w.encoder.unacknowledged ≡ Some bs)
-        × Released s w.encoder.unacknowledged bs
+    × Released s w.encoder.unacknowledged bs
 ack_finds capacity limit w s rest k e =
     let f : AcksFit s (Acknowledgment s ∷ rest) (length (open_of s w.encoder.unacknowledged)) =
     subst (λ (l : List DecoderInstruction). AcksFit s l (length (open_of s w.encoder.unacknowledged))) e
-        (k.streams s).fits in
+    (k.streams s).fits in
     release_some s w.encoder.unacknowledged (fits_ack_own s rest (length (open_of s w.encoder.unacknowledged)) f).0
 
 -- what an increment changes
@@ -256,7 +256,7 @@ inv_heard capacity limit w (Acknowledgment s) rest e k =
     } in
     subst (λ (o : Option (List UnacknowledgedBlock)). Invariant capacity limit
     (after_hear w rest (or_refusal o (UnknownStream s) >>= λ bs. Ok (record w.encoder { unacknowledged = bs }))))
-        (sym f.1)
+    (sym f.1)
     next
 inv_heard capacity limit w (Cancellation s) rest e k =
     let all = releases_stream s w.encoder.unacknowledged in
@@ -269,7 +269,7 @@ inv_heard capacity limit w (Cancellation s) rest e k =
       encoder =
           kept_opened k.made w.encoder (without_stream s w.encoder.unacknowledged)
           (all.all_stay (λ (b : UnacknowledgedBlock). AllByRecursion
-              (IsLive w.encoder) b.entries) k.encoder.held) k.encoder;
+          (IsLive w.encoder) b.entries) k.encoder.held) k.encoder;
       same_limit = k.same_limit;
       known_received_count = omega (arith, k.known_received_count, ap increment_sum e, increments_cons_cancel s rest);
       blocked = k.blocked;
@@ -279,8 +279,13 @@ inv_heard capacity limit w (Cancellation s) rest e k =
     }
 inv_heard capacity limit w (Increment n) rest e k =
     let small : w.encoder.known_received_count + n ≤ 2 ^ 62 =
-    omega (arith, k.known_received_count, ap increment_sum e, increments_cons n rest,
-        (sound_received capacity limit w k).few) in
+    omega (
+      arith,
+      k.known_received_count,
+      ap increment_sum e,
+      increments_cons n rest,
+      (sound_received capacity limit w k).few,
+    ) in
     let same = same_raised w.encoder n small in
     record {
       received = k.received;
@@ -295,7 +300,7 @@ inv_heard capacity limit w (Increment n) rest e k =
       blocked = omega (arith, k.blocked, same.r_waiting);
       streams =
           λ q. rw same.r_opened
-              (increment_heard capacity k.made (w.taken ++ w.in_flight) w.encoder.unacknowledged rest n q
+          (increment_heard capacity k.made (w.taken ++ w.in_flight) w.encoder.unacknowledged rest n q
           (stream_at w.streams q) (rw (← e) (k.streams q)));
     }
 

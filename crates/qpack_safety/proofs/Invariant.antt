@@ -49,7 +49,7 @@ block_grows capacity h h' encoder_stream more b g k =
       written = k.written;
       means = fields_kept (whole_window h) (whole_window h') k.base b.block.lines b.fields
           (every_all (Kept (whole_window h) (whole_window h')) (λ a. kept_growing h h' a g)
-              (references_of k.base b.block.lines))
+          (references_of k.base b.block.lines))
           k.means;
       references = k.references;
       plain = k.plain;
@@ -94,7 +94,7 @@ pub stream_opened : (capacity : ℕ) (h : History) (encoder_stream : List Encode
     (unacknowledged opened' : List UnacknowledgedBlock)
     (decoder_in_flight : List DecoderInstruction) (s : ℕ) (st : AbstractStream)
     → open_of s opened' ≡ open_of s unacknowledged
-        → KeepsStream capacity h encoder_stream unacknowledged decoder_in_flight s st
+    → KeepsStream capacity h encoder_stream unacknowledged decoder_in_flight s st
     → KeepsStream capacity h encoder_stream opened' decoder_in_flight s st
 stream_opened capacity h encoder_stream unacknowledged opened' decoder_in_flight s st e k =
     record {

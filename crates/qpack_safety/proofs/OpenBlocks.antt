@@ -24,7 +24,7 @@ release_some s (b ∷ bs) h = pick (nat_eq b.stream s) refl (release_some s bs)
   where
     pick : (t : Bool) → nat_eq b.stream s ≡ t
         → (0 < length (open_of s bs) → (rest : List UnacknowledgedBlock) × (without_oldest s bs ≡ Some rest)
-            × Released s bs rest)
+        × Released s bs rest)
         → (rest : List UnacknowledgedBlock) × (without_oldest s (b ∷ bs) ≡ Some rest) × Released s (b ∷ bs) rest
     pick true t r = (
       bs,
@@ -77,7 +77,7 @@ releases_stream s (b ∷ bs) = pick (nat_eq b.stream s) refl (releases_stream s 
 -- the unacknowledged blocks of a stream after one more
 pub open_push : (s q : ℕ) (referenced : List ℕ) (bs : List UnacknowledgedBlock)
     → open_of q (bs ++ record { stream = s; entries = referenced } ∷ []) ≡ open_of q bs
-        ++ cond (nat_eq s q) (referenced ∷ []) []
+    ++ cond (nat_eq s q) (referenced ∷ []) []
 unfolding open_of
 open_push s q referenced [] =
     elim (nat_eq s q) as (λ b. cond b (referenced ∷ []) [] ≡ cond b (referenced ∷ []) []) [ true ↦ refl | false ↦ refl ]

@@ -97,7 +97,7 @@ kept_resized h t n s k c =
       behind = rw (z.z_dropped, z.z_known) (drops_received t evicted k.behind none);
       held = rw z.z_opened (every_weaker (λ (x : UnacknowledgedBlock). AllByRecursion (λ a. (t.dropped + evicted < a)
           × (a ≤ insert_count t)) x.entries)
-              (λ (x : UnacknowledgedBlock). AllByRecursion (IsLive (resized_table t n)) x.entries)
+          (λ (x : UnacknowledgedBlock). AllByRecursion (IsLive (resized_table t n)) x.entries)
           (λ x r. every_weaker (λ a. (t.dropped + evicted < a) × (a ≤ insert_count t)) (IsLive (resized_table t n))
           (λ a q. (
             rw z.z_dropped q.0,
@@ -110,7 +110,7 @@ kept_resized h t n s k c =
             ),
           )) x.entries r)
           t.unacknowledged (opened_above t.dropped (insert_count t) evicted t.unacknowledged
-              (λ x low high. (none x low high).unopened) k.held));
+          (λ x low high. (none x low high).unopened) k.held));
     }
 
 bound_same : (t : Table) (h : History) (n : ℕ) → window t ≡ window_of h → n ≤ greatest_capacity t.agreed_max
@@ -134,7 +134,7 @@ inv_resized capacity limit w n c k =
       taken_leads = k.taken_leads;
       in_flight_leads =
           leads_append k.received w.in_flight (SetCapacity n ∷ []) k.made
-              (history_after k.made (Resizes n)) k.in_flight_leads
+          (history_after k.made (Resizes n)) k.in_flight_leads
           (Resizes n, one, refl);
       decoder = k.decoder;
       encoder = kept_resized k.made w.encoder n s k.encoder c;
@@ -144,7 +144,7 @@ inv_resized capacity limit w n c k =
       streams =
           λ q. rw (z.z_opened, ← append_assoc) (stream_grows capacity k.made (history_after k.made (Resizes n))
           (w.taken ++ w.in_flight) (SetCapacity n ∷ []) w.encoder.unacknowledged w.decoder_in_flight q
-              (stream_at w.streams q)
+          (stream_at w.streams q)
           (grows_one k.made (Resizes n)) (k.streams q));
     }
 

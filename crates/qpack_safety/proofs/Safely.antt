@@ -42,7 +42,7 @@ undecoded_live capacity limit w k s b live there dynamic =
     let st = stream_at w.streams s in
     let ok = k.streams s in
     let held : AllByRecursion (λ (r : List ℕ). AllByRecursion (IsLive w.encoder) r)
-        (open_of s w.encoder.unacknowledged) =
+    (open_of s w.encoder.unacknowledged) =
     every_open (λ (r : List ℕ). AllByRecursion (IsLive w.encoder) r) s w.encoder.unacknowledged k.encoder.held in
     let held' : AllByRecursion (λ (r : List ℕ). AllByRecursion (IsLive w.encoder) r)
     (map (λ (x : AbstractBlock). x.referenced) (drop st.acknowledged (filter is_dynamic st.blocks))) =
@@ -125,7 +125,7 @@ block_reads : (capacity received agreed_max : ℕ) (made : History) (encoder_str
 block_reads capacity received agreed_max made encoder_stream b ok e reach =
     subst (λ (p : Prefix). ReadsAs received agreed_max (greatest_of b.referenced) ok.base p) (sym ok.written)
     (subst (λ (a : ℕ). ReadsAs received a (greatest_of b.referenced) ok.base
-        (prefix_for capacity (greatest_of b.referenced) ok.base))
+    (prefix_for capacity (greatest_of b.referenced) ok.base))
     (sym e)
     (reads_written received capacity (greatest_of b.referenced) ok.base (omega (arith, ok.few)) reach))
 
@@ -149,17 +149,17 @@ decodes_exactly capacity limit w k s b live there = pick (cases_lt 0 (greatest_o
 
     reads : (0 < greatest_of b.referenced → InReach (window_insert_count w.decoder) capacity (greatest_of b.referenced))
         → ReadsAs (window_insert_count w.decoder) (maximum_of w.decoder)
-            (greatest_of b.referenced) ok.base b.block.prefix
+        (greatest_of b.referenced) ok.base b.block.prefix
     reads reach =
         block_reads capacity (window_insert_count w.decoder) (maximum_of w.decoder) k.made
-            (w.taken ++ w.in_flight) b ok agreed_max reach
+        (w.taken ++ w.in_flight) b ok agreed_max reach
 
     pick : (0 < greatest_of b.referenced) ⊎ (greatest_of b.referenced ≤ 0) → DecodesExactly w b
     pick (inl positive) =
         let held : AllByRecursion (IsLive w.encoder) b.referenced =
         undecoded_live capacity limit w k s b live there positive in
         let top : IsLive w.encoder (greatest_of b.referenced) = greatest_has
-            (IsLive w.encoder) b.referenced positive held in
+        (IsLive w.encoder) b.referenced positive held in
         let p = reads (λ r. in_reach capacity limit w k (greatest_of b.referenced) top r) in
         let g : Grows k.received k.made = leads_grows k.received w.in_flight k.made k.in_flight_leads in
         let d : w.encoder.dropped ≡ k.made.dropped = dropped_same w.encoder k.made k.encoder.shares in
@@ -212,8 +212,13 @@ inv_safe capacity limit w k =
       decodes = decodes_exactly capacity limit w k;
       blocked = k.blocked;
       received =
-          omega (arith, k.known_received_count, ap window_insert_count k.decoder, total_window k.received
-              (sound_received capacity limit w k));
+          omega (
+            arith,
+            k.known_received_count,
+            ap window_insert_count k.decoder,
+            total_window k.received
+                (sound_received capacity limit w k),
+          );
       encoder_fits = fits_table w.encoder k.made k.encoder.shares (sound_made capacity limit w k);
       decoder_fits = fits_window w.decoder k.received k.decoder (sound_received capacity limit w k);
       received_history = k.received;

@@ -171,12 +171,12 @@ fronts_order S W (l ∷ ls) (m ∷ ms) a b x y j k e le =
 -- instructions that end within what was taken were taken
 taken_within : (v : Session) (w : AbstractSession) (place many : ℕ) → Refines v w
     → EndsAt v.encoder_stream (w.taken ++ w.in_flight) place many → place ≤ v.encoder_stream_taken → many
-        ≤ length w.taken
+    ≤ length w.taken
 taken_within v w place many sh e le =
     let c = sh.encoder_stream in
     let same : e.front ++ e.rest ≡ c.front ++ ([] ++ c.rest) = sym e.cut ∙ c.cut in
     let r = reads_delivered SpellsEncoderInstruction
-        (wire encoder_instruction_form) w.taken e.first [] c.front [] c.rest e.front
+    (wire encoder_instruction_form) w.taken e.first [] c.front [] c.rest e.front
     e.rest c.front_joined (nothing_cut_off SpellsEncoderInstruction (wire encoder_instruction_form)) e.joined same
     (omega (arith, le, e.place_is, c.ends)) in
     omega (arith, r, e.many_is)
@@ -202,7 +202,7 @@ reads_exactly capacity limit v w sh k s b live next =
     let d : DecodesExactly w at.0 = (inv_safe capacity limit w k).decodes s at.0 (sym old.cancelled_is ∙ live) there in
     let shown = at.2 in
     let many : insert_count v.decoder ≡ window_insert_count w.decoder = ap insert_count sh.decoder_is
-        ∙ count_put w.decoder in
+    ∙ count_put w.decoder in
     let same : reading_of_bytes (window v.decoder) b.bytes ≡ reading w.decoder at.0.block =
     ap (λ (t : Table). reading_of_bytes (window t) b.bytes) sh.decoder_is
     ∙ ap (λ (x : Window). reading_of_bytes x b.bytes) (window_put w.decoder)
@@ -243,9 +243,12 @@ base_known capacity made encoder_stream b ok = pick (cases_lt 0 (required_count 
         let zero_count : required_count b ≡ 0 = omega arith in
         let is : nat_eq (required_count b) 0 ≡ true = eq-eqb (required_count b) 0 zero_count in
         let plain : references_of ok.base b.block.lines ≡ [] =
-        tracked_none (references_of ok.base b.block.lines) (ok.references ∙ ok.plain zero_count) in
-        (0, rw is refl, sym (fields_plain (whole_window made) (whole_window made) ok.base 0 b.block.lines plain)
-            ∙ ok.means)
+        tracked_none (references_of ok.base b.block.lines) (ok.references ∙ ok.plain zero_count) in (
+          0,
+          rw is refl,
+          sym (fields_plain (whole_window made) (whole_window made) ok.base 0 b.block.lines plain)
+              ∙ ok.means,
+        )
 
 -- bytes that are lines are one list of them
 lines_same : (bytes : List ℕ) (ls ms : List EncoderInstruction) → Joined SpellsEncoderInstruction bytes ls
@@ -257,7 +260,7 @@ lines_same bytes ls ms j k =
 
 pub means_handed : (capacity limit : ℕ) (v : Session) (w : AbstractSession) → Refines v w → Invariant capacity limit w
     → (instructions : List EncoderInstruction) (all : History)
-        → Joined SpellsEncoderInstruction v.encoder_stream instructions
+    → Joined SpellsEncoderInstruction v.encoder_stream instructions
     → Leads (initial_history capacity) instructions all
     → (s place : ℕ) (b : KeptBlock) → slice_get (stream_at v.streams s).blocks place ≡ Some b
     → meaning_over_all all b.bytes b.required ≡ Ok b.fields
@@ -289,16 +292,16 @@ means_handed capacity limit v w sh k instructions all j l s place b there =
 pub delivers_whole : (capacity limit : ℕ) (v : Session) (w : AbstractSession) (n received : ℕ) (v' : Session)
     → Refines v w → Invariant capacity limit w → DeliversToDecoder v n (Delivered received) v'
     → (u : Session) (x : AbstractSession) → Refines u x → Extends v.encoder_stream u.encoder_stream
-        → (s position : ℕ) (b : KeptBlock)
+    → (s position : ℕ) (b : KeptBlock)
     → slice_get (stream_at u.streams s).blocks position ≡ Some b → b.end ≤ v'.encoder_stream_delivered → b.end
-        ≤ v'.encoder_stream_taken
+    ≤ v'.encoder_stream_taken
 delivers_whole capacity limit v w n received v' sh k c u x su more s position b there le =
     go (moved capacity limit v w n (Delivered received) v' sh k c) c.ends
   where
     whole_window : (m : Moved capacity limit v w n c.lines c.front c.rest c.table)
         → Truncates encoder_instruction_form c.rest
         → b.end ≤ min (v.encoder_stream_delivered + n) (length v.encoder_stream) → b.end
-            ≤ v.encoder_stream_taken + length c.front
+        ≤ v.encoder_stream_taken + length c.front
     whole_window m cut within =
         let found =
         agrees_get (RefinesBlock u.encoder_stream (x.taken ++ x.in_flight)) (stream_at u.streams s).blocks
@@ -312,12 +315,12 @@ delivers_whole capacity limit v w n received v' sh k c u x su more s position b 
         ∙ ap (λ l. carried.front ++ l) (append_assoc c.rest m.on.more more.0) in
         let few =
         reads_delivered SpellsEncoderInstruction (wire encoder_instruction_form)
-            (w.taken ++ c.lines) e.first [] carried.front
+        (w.taken ++ c.lines) e.first [] carried.front
         c.rest behind e.front e.rest carried.front_joined (λ encoding l i q y. (cut encoding l q).0 i y) e.joined same
         (omega (arith, e.place_is, within, m.place, carried.ends)) in
         let short =
         fronts_order SpellsEncoderInstruction (wire encoder_instruction_form) e.first
-            (w.taken ++ c.lines) e.front carried.front
+        (w.taken ++ c.lines) e.front carried.front
         e.rest (c.rest ++ behind) e.joined carried.front_joined same few in
         omega (arith, short, e.place_is, carried.ends)
 

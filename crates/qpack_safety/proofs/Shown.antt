@@ -114,17 +114,25 @@ pub instructions_joined : (is : List EncoderInstruction) → AllByRecursion IsWr
     → Joined SpellsEncoderInstruction (written_encoder_instructions is) is
 unfolding written_encoder_instructions
 instructions_joined [] w = refl
-instructions_joined (i ∷ is) w =
-    (written_encoder_instruction i, written_encoder_instructions is, refl, instructions_spelled i w.0,
-        instructions_joined is w.1)
+instructions_joined (i ∷ is) w = (
+  written_encoder_instruction i,
+  written_encoder_instructions is,
+  refl,
+  instructions_spelled i w.0,
+  instructions_joined is w.1,
+)
 
 pub decoder_instructions_joined : (rs : List DecoderInstruction) → AllByRecursion IsWritableDecoderInstruction rs
     → Joined SpellsDecoderInstruction (written_decoder_instructions rs) rs
 unfolding written_decoder_instructions
 decoder_instructions_joined [] w = refl
-decoder_instructions_joined (r ∷ rs) w =
-    (written_decoder_instruction r, written_decoder_instructions rs, refl, decoder_instructions_spelled r w.0,
-        decoder_instructions_joined rs w.1)
+decoder_instructions_joined (r ∷ rs) w = (
+  written_decoder_instruction r,
+  written_decoder_instructions rs,
+  refl,
+  decoder_instructions_spelled r w.0,
+  decoder_instructions_joined rs w.1,
+)
 
 pub one_joined : {L : Type 0} (S : List ℕ → L → Type 0) (encoding : List ℕ) (l : L) → S encoding l
     → Joined S encoding (l ∷ [])

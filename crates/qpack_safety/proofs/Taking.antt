@@ -41,12 +41,12 @@ taken_known : (received : History) (e : Effect) (w : AbstractSession) → Sound 
     ≡ length received.inserted
     → w.encoder.known_received_count + increment_sum w.decoder_in_flight +
     (w.unreported + (window_insert_count (window_of (history_after received e)) - window_insert_count w.decoder))
-        ≡ length (history_after received e).inserted
+    ≡ length (history_after received e).inserted
 taken_known received e w s s' d k =
     let before : window_insert_count w.decoder ≡ length received.inserted = ap window_insert_count d
-        ∙ total_window received s in
+    ∙ total_window received s in
     let after' : window_insert_count (window_of (history_after received e))
-        ≡ length (history_after received e).inserted =
+    ≡ length (history_after received e).inserted =
     total_window (history_after received e) s' in
     let g : Grows received (history_after received e) = grows_one received e in
     omega (arith, k, length-append received.inserted g.more, ap length g.inserts)
@@ -72,7 +72,7 @@ inv_taken capacity limit w k i rest e t =
       made = k.made;
       taken_leads =
           leads_append (initial_history capacity) w.taken (i ∷ []) k.received
-              (history_after k.received t.effect_of) k.taken_leads
+          (history_after k.received t.effect_of) k.taken_leads
           (t.effect_of, t.is_effect, refl);
       in_flight_leads = t.rest_leads;
       decoder = refl;

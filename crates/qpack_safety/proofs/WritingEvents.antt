@@ -158,7 +158,7 @@ block_fits v s fs f =
 encoded_shown : (capacity limit : ℕ) (v : Session) (w : AbstractSession) (s : ℕ) (fs : List Field) → Refines v w
     → Invariant capacity limit w → AllByRecursion IsByteField fs
     → EncodeFits v.encoder_stream w.encoder fs
-        → RefinesSome capacity limit (with_block (record v { encoder = w.encoder }) s fs)
+    → RefinesSome capacity limit (with_block (record v { encoder = w.encoder }) s fs)
 encoded_shown capacity limit v w s fs sh k wr fits =
     let d = rule w.encoder fs in
     let wd : WrittenDraft d = rule_written w.encoder fs (few_insertions capacity limit w k) wr in
@@ -169,14 +169,14 @@ encoded_shown capacity limit v w s fs sh k wr fits =
     append_assoc w.taken w.in_flight d.instructions in
     let carried =
     carried_more SpellsEncoderInstruction v.encoder_stream more v.encoder_stream_taken w.taken w.in_flight
-        d.instructions sh.encoder_stream
+    d.instructions sh.encoder_stream
     (instructions_joined d.instructions (instructions_fit d.instructions wd.instructions
     (instructions_short v.encoder_stream d.instructions fits.0))) in
     let grown =
     λ (q : ℕ). subst (λ (l : List EncoderInstruction). RefinesStream encoder_stream l (stream_at v.streams q)
     (stream_at w.streams q)) regroup
     (shows_grow v.encoder_stream more (w.taken ++ w.in_flight) d.instructions (stream_at v.streams q)
-        (stream_at w.streams q)
+    (stream_at w.streams q)
     (sh.streams_are q)) in
     let kept = stream_at v.streams s in
     let st = stream_at w.streams s in
@@ -253,17 +253,17 @@ abandoned_shown capacity limit v w fs sh k wr fits =
         unreported_is = sh.unreported_is;
         encoder_stream =
             carried_more SpellsEncoderInstruction v.encoder_stream more v.encoder_stream_taken w.taken w.in_flight
-                d.instructions
+            d.instructions
             sh.encoder_stream (instructions_joined d.instructions
             (instructions_fit d.instructions wd.instructions
-                (instructions_short v.encoder_stream d.instructions fits)));
+            (instructions_short v.encoder_stream d.instructions fits)));
         sent_order = sh.sent_order;
         heard_lines = sh.heard_lines;
         decoder_stream = sh.decoder_stream;
         told_order = sh.told_order;
         streams_are =
             λ q. subst (λ (l : List EncoderInstruction). RefinesStream (v.encoder_stream ++ more) l
-                (stream_at v.streams q)
+            (stream_at v.streams q)
             (stream_at w.streams q)) regroup
             (shows_grow v.encoder_stream more (w.taken ++ w.in_flight) d.instructions (stream_at v.streams q)
             (stream_at w.streams q) (sh.streams_are q));
@@ -277,10 +277,10 @@ pub lands_given_up : (capacity limit : ℕ) (v : Session) (w : AbstractSession) 
 lands_given_up capacity limit v w fs sh k wr f =
     let fits : length (v.encoder_stream ++ written_encoder_instructions (rule w.encoder fs).instructions) < 2 ^ 63 =
     subst (λ (t : Table). length (v.encoder_stream ++ written_encoder_instructions (rule t fs).instructions)
-        < 2 ^ 63) sh.encoder_is
+    < 2 ^ 63) sh.encoder_is
     f.sent_fits in
     subst (λ (t : Table). RefinesSome capacity limit (after_refused_encode (record v { encoder = t }) fs))
-        (sym sh.encoder_is)
+    (sym sh.encoder_is)
     (abandoned_shown capacity limit v w fs sh k wr fits)
 
 -- ---- a capacity is set
@@ -301,7 +301,7 @@ small_capacity t u n e = pick (resized_cases t n)
 pub lands_resized : (capacity limit : ℕ) (v : Session) (w : AbstractSession) (n : ℕ) (t : Table) → Refines v w
     → Invariant capacity limit w → with_capacity v.encoder n ≡ Ok t
     → RefinesSome capacity limit
-        (record v { encoder = t; encoder_stream = v.encoder_stream ++ written_encoder_instruction (SetCapacity n) })
+    (record v { encoder = t; encoder_stream = v.encoder_stream ++ written_encoder_instruction (SetCapacity n) })
 lands_resized capacity limit v w n t sh k e =
     let same : with_capacity w.encoder n ≡ Ok t = ap (λ x. with_capacity x n) (sym sh.encoder_is) ∙ e in
     let more = written_encoder_instruction (SetCapacity n) in
@@ -318,7 +318,7 @@ lands_resized capacity limit v w n t sh k e =
         unreported_is = sh.unreported_is;
         encoder_stream =
             carried_more SpellsEncoderInstruction v.encoder_stream more v.encoder_stream_taken w.taken w.in_flight
-                (SetCapacity n ∷ [])
+            (SetCapacity n ∷ [])
             sh.encoder_stream spelled;
         sent_order = sh.sent_order;
         heard_lines = sh.heard_lines;
@@ -326,7 +326,7 @@ lands_resized capacity limit v w n t sh k e =
         told_order = sh.told_order;
         streams_are =
             λ q. subst (λ (l : List EncoderInstruction). RefinesStream (v.encoder_stream ++ more) l
-                (stream_at v.streams q)
+            (stream_at v.streams q)
             (stream_at w.streams q)) regroup
             (shows_grow v.encoder_stream more (w.taken ++ w.in_flight) (SetCapacity n ∷ []) (stream_at v.streams q)
             (stream_at w.streams q) (sh.streams_are q));
@@ -390,7 +390,7 @@ lawful_on s k lawful reason = one (nat_le (2 ^ 62) s) refl k.cancelled refl lawf
 
 waits_same : (v : Session) (w : AbstractSession) (s : ℕ) → Refines v w → (stream_at v.streams s).cancelled ≡ false
     → awaits_acknowledgment requires_entry (stream_at v.streams s) ≡ true
-        → waits_for_acknowledgment (stream_at w.streams s) ≡ true
+    → waits_for_acknowledgment (stream_at w.streams s) ≡ true
 waits_same v w s sh live h =
     let kept = stream_at v.streams s in
     let st = stream_at w.streams s in
@@ -407,7 +407,7 @@ waits_same v w s sh live h =
 
 pub lands_acknowledged : (capacity limit : ℕ) (v : Session) (w : AbstractSession) (s : ℕ) → Refines v w
     → Invariant capacity limit w
-        → Lawful s (stream_at v.streams s) (awaits_acknowledgment requires_entry (stream_at v.streams s))
+    → Lawful s (stream_at v.streams s) (awaits_acknowledgment requires_entry (stream_at v.streams s))
     → (let k = stream_at v.streams s in RefinesSome capacity limit
     (record (with_kept_stream v s (record k { acknowledged = k.acknowledged + 1 }))
     { decoder_stream = v.decoder_stream ++ written_decoder_instruction (Acknowledgment s) }))
@@ -419,7 +419,7 @@ lands_acknowledged capacity limit v w s sh k ok =
     let more = written_decoder_instruction (Acknowledgment s) in
     let spelled =
     one_joined SpellsDecoderInstruction more (Acknowledgment s)
-        (decoder_instructions_spelled (Acknowledgment s) (omega (arith, ok.small))) in
+    (decoder_instructions_spelled (Acknowledgment s) (omega (arith, ok.small))) in
     let new : RefinesStream v.encoder_stream lines (record kept { acknowledged = kept.acknowledged + 1 })
     (record st { acknowledged = st.acknowledged + 1 }) =
     record {
@@ -443,7 +443,7 @@ lands_acknowledged capacity limit v w s sh k ok =
         heard_lines = sh.heard_lines;
         decoder_stream =
             carried_more SpellsDecoderInstruction v.decoder_stream more v.decoder_stream_taken sh.heard_lines
-                w.decoder_in_flight
+            w.decoder_in_flight
             (Acknowledgment s ∷ []) sh.decoder_stream spelled;
         told_order = sh.told_order;
         streams_are =
@@ -457,8 +457,10 @@ lands_acknowledged capacity limit v w s sh k ok =
 pub lands_cancelled : (capacity limit : ℕ) (v : Session) (w : AbstractSession) (s : ℕ) → Refines v w
     → Invariant capacity limit w → s < 2 ^ 62
     → (let k = stream_at v.streams s in RefinesSome capacity limit
-    (record (with_kept_stream v s (record k { cancelled = true })) { decoder_stream = v.decoder_stream
-        ++ written_decoder_instruction (Cancellation s) }))
+    (record (with_kept_stream v s (record k { cancelled = true })) {
+      decoder_stream = v.decoder_stream
+          ++ written_decoder_instruction (Cancellation s);
+    }))
 lands_cancelled capacity limit v w s sh k small =
     let kept = stream_at v.streams s in
     let st = stream_at w.streams s in
@@ -467,7 +469,7 @@ lands_cancelled capacity limit v w s sh k small =
     let more = written_decoder_instruction (Cancellation s) in
     let spelled =
     one_joined SpellsDecoderInstruction more (Cancellation s)
-        (decoder_instructions_spelled (Cancellation s) (omega (arith, small))) in
+    (decoder_instructions_spelled (Cancellation s) (omega (arith, small))) in
     let new : RefinesStream v.encoder_stream lines (record kept { cancelled = true }) (record st { cancelled = true }) =
     record {
       blocks_are = old.blocks_are;
@@ -490,7 +492,7 @@ lands_cancelled capacity limit v w s sh k small =
         heard_lines = sh.heard_lines;
         decoder_stream =
             carried_more SpellsDecoderInstruction v.decoder_stream more v.decoder_stream_taken sh.heard_lines
-                w.decoder_in_flight (Cancellation s ∷ [])
+            w.decoder_in_flight (Cancellation s ∷ [])
             sh.decoder_stream spelled;
         told_order = sh.told_order;
         streams_are =

@@ -42,7 +42,7 @@ followed_is (Err e) rs = refl
 -- one line in front
 step_at : (steps : ℕ) (w : Window) (base : ℕ) (encoding more : List ℕ) (l : Line) → SpellsLine encoding l
     → fields_at (suc steps) w base (encoding ++ more)
-        ≡ prepend_field (line_field w base l) (fields_at steps w base more)
+    ≡ prepend_field (line_field w base l) (fields_at steps w base more)
 unfolding fields_at
 step_at steps w base encoding more l s =
     let again : form_at line_form (encoding ++ more) ≡ Ok (l, more) = form_again line_form encoding more l s in
@@ -265,7 +265,7 @@ pub prefix_again : (encoding rest : List ℕ) (p : Prefix) → SpellsPrefix enco
 unfolding prefix_at
 prefix_again encoding rest p s =
     let e : encoding ++ rest ≡ s.head ++ (s.tail ++ rest) = ap (λ x. x ++ rest) s.parts
-        ∙ append_assoc s.head s.tail rest in
+    ∙ append_assoc s.head s.tail rest in
     rw (e, index_again 8 s.head (s.tail ++ rest) p.count s.count, index_again 7 s.tail rest p.delta (s.sign, s.delta))
     (ap (λ (q : Prefix). let r : Result (Prefix × List ℕ) FormFault = Ok (q, rest) in
     r) (prefix_same p (nat_eq s.sign 1) s.is_sign))

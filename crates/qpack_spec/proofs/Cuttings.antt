@@ -46,8 +46,12 @@ reads_front : {L : Type 0} (S : List ℕ → L → Type 0) (W : Wire L S) (lines
     (front rest more : List ℕ)
     → Joined S front lines → Joined S (front ++ (rest ++ more)) in_flight → Read L S lines in_flight rest more
 reads_front S W [] in_flight front rest more j f =
-    record { still = in_flight; goes_on = refl; left = subst
-        (λ (b : List ℕ). Joined S (b ++ (rest ++ more)) in_flight) j f }
+    record {
+      still = in_flight;
+      goes_on = refl;
+      left = subst
+          (λ (b : List ℕ). Joined S (b ++ (rest ++ more)) in_flight) j f;
+    }
 reads_front S W (l ∷ lines) [] front rest more j f =
     let none : front ≡ [] = nil_append front (rest ++ more) f in
     let a : j.0 ≡ [] = nil_append j.0 j.1 (sym j.2 ∙ none) in
@@ -60,13 +64,13 @@ reads_front S W (l ∷ lines) (i ∷ in_flight) front rest more j f =
     append_cancel_left f.0 (j.1 ++ (rest ++ more)) f.1 (ap (λ b. b ++ (j.1 ++ (rest ++ more))) (sym same.0)
     ∙ both) in
     let r = reads_front S W lines in_flight j.1 rest more j.4
-        (subst (λ (b : List ℕ). Joined S b in_flight) (sym tail) f.4) in
+    (subst (λ (b : List ℕ). Joined S b in_flight) (sym tail) f.4) in
     record { still = r.still; goes_on = (λ n. (sym same.1) n ∷ r.goes_on n); left = r.left }
 
 -- what is left of a piece begins with nothing that begins no line
 pub nothing_left : {L : Type 0} (S : List ℕ → L → Type 0) (R : List ℕ → Type 0)
     → ((encoding : List ℕ) → R encoding → encoding ≡ [] → ⊥)
-        → ((a b x y : List ℕ) (l : L) → R a → S b l → a ++ x ≡ b ++ y → ⊥)
+    → ((a b x y : List ℕ) (l : L) → R a → S b l → a ++ x ≡ b ++ y → ⊥)
     → (still : List L) (rest more a b : List ℕ) → Joined S (rest ++ more) still → rest ≡ a ++ b → R a → ⊥
 nothing_left S R some apart [] rest more a b j e r = some a r (nil_append a b (sym e ∙ nil_append rest more j))
 nothing_left S R some apart (l ∷ still) rest more a b j e r =
@@ -151,7 +155,7 @@ carried_on {L} S W bytes place most taken in_flight lines front rest c order pie
 -- more is written behind what is under way
 pub carried_more : {L : Type 0} (S : List ℕ → L
     → Type 0) (bytes more : List ℕ) (place : ℕ) (taken in_flight lines : List L)
-        → Carried L S bytes place taken in_flight
+    → Carried L S bytes place taken in_flight
     → Joined S more lines → Carried L S (bytes ++ more) place taken (in_flight ++ lines)
 carried_more S bytes more place taken in_flight lines c j =
     record {

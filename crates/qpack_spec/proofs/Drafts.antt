@@ -103,7 +103,7 @@ keeps_naming h t a k = record { shares = k.shares; marked = k.marked; behind = k
 drafting_names : (t0 : Table) (h0 : History) (done : List Field) (d : Draft) (a : ℕ) (l : Line) (f : Field)
     (k : Drafting t0 h0 done d)
     → references_of_line (insert_count t0) l ≡ a ∷ [] → line_field (whole_window k.history) (insert_count t0) l ≡ Ok f
-        → IsLive d.table a
+    → IsLive d.table a
     → MayStand t0 a → Drafting t0 h0 (done ++ f ∷ []) (with_referencing_line d a l)
 unfolding with_reference
 drafting_names t0 h0 done d a l f k referenced m live may =
@@ -153,8 +153,12 @@ count_after : (t : Table) (f : Field) → eviction_count_for t f ≤ length t.li
     → insert_count (with_entry t (sent_entry f)) ≡ insert_count t + 1
 unfolding with_entry
 count_after t f h =
-    omega (arith, length-drop (eviction_count_for t f) (t.live ++ sent_entry f ∷ []), length-append t.live
-        (sent_entry f ∷ []))
+    omega (
+      arith,
+      length-drop (eviction_count_for t f) (t.live ++ sent_entry f ∷ []),
+      length-append t.live
+          (sent_entry f ∷ []),
+    )
 
 dropped_after : (t : Table) (f : Field) → (with_entry t (sent_entry f)).dropped ≡ t.dropped + eviction_count_for t f
 unfolding with_entry
@@ -166,7 +170,7 @@ live_after : (t : Table) (f : Field) (xs : List ℕ) → eviction_count_for t f 
     → AllByRecursion (IsLive t) xs → AllByRecursion (IsLive (with_entry t (sent_entry f))) xs
 live_after t f xs b none h =
     every_weaker (λ a. (t.dropped + eviction_count_for t f < a) × (a ≤ insert_count t))
-        (IsLive (with_entry t (sent_entry f)))
+    (IsLive (with_entry t (sent_entry f)))
     (λ a r. (rw (dropped_after t f) r.0, omega (arith, count_after t f b, r.1)))
     xs (above_dropped t.dropped (insert_count t) (eviction_count_for t f) xs none h)
 
@@ -175,10 +179,10 @@ opened_after : (t : Table) (f : Field) → eviction_count_for t f ≤ length t.l
     → list_any (λ (b : UnacknowledgedBlock). has_number x b.entries) t.unacknowledged ≡ false)
     → AllByRecursion (λ (b : UnacknowledgedBlock). AllByRecursion (IsLive t) b.entries) t.unacknowledged
     → AllByRecursion (λ (b : UnacknowledgedBlock). AllByRecursion
-        (IsLive (with_entry t (sent_entry f))) b.entries) t.unacknowledged
+    (IsLive (with_entry t (sent_entry f))) b.entries) t.unacknowledged
 opened_after t f b none h =
     every_weaker (λ (x : UnacknowledgedBlock). AllByRecursion
-        (λ a. (t.dropped + eviction_count_for t f < a) × (a ≤ insert_count t)) x.entries)
+    (λ a. (t.dropped + eviction_count_for t f < a) × (a ≤ insert_count t)) x.entries)
     (λ (x : UnacknowledgedBlock). AllByRecursion (IsLive (with_entry t (sent_entry f))) x.entries)
     (λ x r. every_weaker (λ a. (t.dropped + eviction_count_for t f < a)
     × (a ≤ insert_count t)) (IsLive (with_entry t (sent_entry f)))
@@ -251,7 +255,7 @@ drafting_inserts t0 h0 done d f s0 k blocked r =
     evicted_free t (eviction_count_for t f) r.drops b k.table.marked in
     let same_count : insert_count t ≡ length h.inserted = count_inserted t h k.table.shares s in
     let new : absolute_entry (whole_window (history_after h (Inserts f))) (insert_count t + 1)
-        ≡ Some f = rw same_count (new_whole h f) in
+    ≡ Some f = rw same_count (new_whole h f) in
     let same = same_rest t f in
     let live : AllByRecursion (IsLive (with_entry t (sent_entry f))) (with_number t.referenced (insert_count t + 1)) =
     every_track (IsLive (with_entry t (sent_entry f))) t.referenced (insert_count t + 1)
@@ -267,7 +271,7 @@ drafting_inserts t0 h0 done d f s0 k blocked r =
       references = refers_inserts t0 d f k.references;
       referenced = rw same.now_named (live_same (with_entry t (sent_entry f))
           (with_reference (with_entry t (sent_entry f)) (insert_count t + 1))
-              (with_number t.referenced (insert_count t + 1)) same.same_dropped
+          (with_number t.referenced (insert_count t + 1)) same.same_dropped
           same.same_live live);
       means = fields_push (whole_window (history_after h (Inserts f))) (insert_count t0) d.lines
           (IndexedPostBase (insert_count t - insert_count t0)) done f
@@ -276,7 +280,7 @@ drafting_inserts t0 h0 done d f s0 k blocked r =
           (λ a. kept_growing h (history_after h (Inserts f)) a (grows_one h (Inserts f)))
           (references_of (insert_count t0) d.lines)) k.means)
           (post_line (whole_window (history_after h (Inserts f))) (insert_count t0)
-              (insert_count t) f k.references.base new);
+          (insert_count t) f k.references.base new);
       may = rw same.now_named (every_track (MayStand t0) t.referenced (insert_count t + 1) k.may (inl blocked));
     }
 
@@ -317,7 +321,7 @@ found_whole : (t : Table) (h : History) (p : Field → Bool) (a : ℕ) → windo
     → absolute_entry (whole_window h) a ≡ Some at.item
 found_whole t h p a e at =
     subst (λ (x : ℕ). absolute_entry (whole_window h) x ≡ Some at.item) at.index
-        (live_whole t h at.place at.item e at.there)
+    (live_whole t h at.place at.item e at.there)
 
 drafting_literal_by_entry : (t0 : Table) (h0 : History) (done : List Field) (d : Draft) (f : Field)
     → Drafting t0 h0 done d
@@ -332,10 +336,10 @@ drafting_literal_by_entry t0 h0 done d f k (Some a) e =
     line_by_name (whole_window k.history) (insert_count t0) a f at.item
     (found_whole d.table k.history (has_name f.name) a k.table.shares at) (same_name f.name at.item at.passes) in
     cond_both (may_reference d.table a) (with_referencing_line d a (name_reference_line (insert_count t0) a f))
-        (with_line d (Literal f.name f.value))
+    (with_line d (Literal f.name f.value))
     (Drafting t0 h0 (done ++ f ∷ []))
     (λ t. drafting_names t0 h0 done d a (name_reference_line (insert_count t0) a f) f k
-        (named_line_names (insert_count t0) a f) means
+    (named_line_names (insert_count t0) a f) means
     (at.above, at.within) (may_stand t0 h0 done d a k t))
     (λ _. drafting_writes t0 h0 done d (Literal f.name f.value) f k (literal_names (insert_count t0) f.name f.value)
     (literal_line (whole_window k.history) (insert_count t0) f))
@@ -362,7 +366,7 @@ drafting_insertion_or_literal t0 h0 done d f s k =
 drafting_by_entry : (t0 : Table) (h0 : History) (done : List Field) (d : Draft) (f : Field) → Sound h0
     → Drafting t0 h0 done d
     → (o : Option ℕ) → newest_index d.table (is_field f) ≡ o
-        → Drafting t0 h0 (done ++ f ∷ []) (by_entry (insert_count t0) d f o)
+    → Drafting t0 h0 (done ++ f ∷ []) (by_entry (insert_count t0) d f o)
 drafting_by_entry t0 h0 done d f s k None e = drafting_insertion_or_literal t0 h0 done d f s k
 drafting_by_entry t0 h0 done d f s k (Some a) e =
     let at = newest_found d.table (is_field f) a e in
@@ -370,13 +374,13 @@ drafting_by_entry t0 h0 done d f s k (Some a) e =
     found_whole d.table k.history (is_field f) a k.table.shares at
     ∙ ap Some (sym (same_field f at.item at.passes)) in
     cond_both (nat_le a (insert_count t0) && may_reference d.table a)
-        (with_referencing_line d a (IndexedDynamic (insert_count t0 - a)))
+    (with_referencing_line d a (IndexedDynamic (insert_count t0 - a)))
     (insertion_or_literal (insert_count t0) d f) (Drafting t0 h0 (done ++ f ∷ []))
     (λ t. let p = and_parts (nat_le a (insert_count t0)) (may_reference d.table a) t in
     let le : a ≤ insert_count t0 = leb-true _ _ p.0 in
     drafting_names t0 h0 done d a (IndexedDynamic (insert_count t0 - a)) f k (indexed_names (insert_count t0) a le)
     (indexed_line (whole_window k.history) (insert_count t0) a f le there) (at.above, at.within)
-        (may_stand t0 h0 done d a k p.1))
+    (may_stand t0 h0 done d a k p.1))
     (λ _. drafting_insertion_or_literal t0 h0 done d f s k)
 
 drafting_by_static : (t0 : Table) (h0 : History) (done : List Field) (d : Draft) (f : Field) → Sound h0

@@ -51,8 +51,12 @@ index_refusal n bytes e h c = go (integer_at n bytes) refl h
     go (Err Overflow) q k =
         let same : BadInteger Overflow ≡ e = cc in
         subst (λ (f : FormFault). Begins (λ t. RefusesIndex n t f) bytes) same
-        (let b = overflow_begins n bytes q in record { encoding = b.encoding; rest = b.rest; parts = b.parts;
-            holds = b.holds })
+        (let b = overflow_begins n bytes q in record {
+          encoding = b.encoding;
+          rest = b.rest;
+          parts = b.parts;
+          holds = b.holds;
+        })
     go (Err UnexpectedEnd) q k = let same : BadInteger UnexpectedEnd ≡ e = cc in let d = ap is_cut same in absurd cc
 
 record TakesText (n : ℕ) (bytes : List ℕ) (value : List ℕ) (rest : List ℕ) : Type 0 where
@@ -111,8 +115,12 @@ made_takes {L} (Index n make) bytes l rest e =
     let b = bind_ok (or_bad_integer (integer_at n bytes)) (λ i. Ok (make i.1, i.2)) (l, rest) e in
     let t = index_takes n bytes b.0 b.1 in
     let p = ok_pair (make b.0.1) l b.0.2 rest b.2 in
-    record { encoding = t.encoding; parts = t.parts
-        ∙ ap (λ x. t.encoding ++ x) p.1; spells = (b.0.1, t.holds, sym p.0) }
+    record {
+      encoding = t.encoding;
+      parts = t.parts
+          ∙ ap (λ x. t.encoding ++ x) p.1;
+      spells = (b.0.1, t.holds, sym p.0);
+    }
 made_takes {L} (IndexAndValue n make) bytes l rest e =
     let b = bind_ok (or_bad_integer (integer_at n bytes)) (λ i. value_at (make i.1) i.2) (l, rest) e in
     let c = bind_ok (or_bad_string (string_at 8 b.0.2)) (λ v. Ok (make b.0.1 v.1, v.2)) (l, rest) b.2 in
@@ -168,12 +176,12 @@ made_refused (Index n make) encoding rest e s = rw (index_refused n encoding res
 made_refused (IndexAndValue n make) encoding rest e (inl s) = rw (index_refused n encoding rest e s) refl
 made_refused (IndexAndValue n make) encoding rest e (inr s) =
     let q : encoding ++ rest ≡ s.head ++ (s.tail ++ rest) = ap (λ x. x ++ rest) s.parts
-        ∙ append_assoc s.head s.tail rest in
+    ∙ append_assoc s.head s.tail rest in
     rw (q, index_again n s.head (s.tail ++ rest) s.first.0 s.first.1, text_refused 8 s.tail rest e s.second) refl
 made_refused (NameAndValue n make) encoding rest e (inl s) = rw (text_refused n encoding rest e s) refl
 made_refused (NameAndValue n make) encoding rest e (inr s) =
     let q : encoding ++ rest ≡ s.head ++ (s.tail ++ rest) = ap (λ x. x ++ rest) s.parts
-        ∙ append_assoc s.head s.tail rest in
+    ∙ append_assoc s.head s.tail rest in
     rw (q, text_again n s.head (s.tail ++ rest) s.first.0 s.first.1, text_refused 8 s.tail rest e s.second) refl
 
 -- a refusal is that of the first reading, or of the second behind it
@@ -214,8 +222,12 @@ made_refusal (IndexAndValue n make) bytes e h c =
         ⊎ ((i : ℕ × ℕ × List ℕ) × (or_bad_integer (integer_at n bytes) ≡ Ok i) × (value_at (make i.1) i.2 ≡ Err e))
         → Begins (λ t. RefusesForm (IndexAndValue n make) t e) bytes
     pick (inl k) = let b =
-        index_refusal n bytes e k c in record { encoding = b.encoding; rest = b.rest; parts = b.parts;
-            holds = inl b.holds }
+        index_refusal n bytes e k c in record {
+          encoding = b.encoding;
+          rest = b.rest;
+          parts = b.parts;
+          holds = inl b.holds;
+        }
     pick (inr k) =
         let t = index_takes n bytes k.0 k.1 in
         let b = text_refusal 8 k.0.2 e (value_whole (make k.0.1) k.0.2 e k.2) c in
@@ -238,8 +250,12 @@ made_refusal (NameAndValue n make) bytes e h c =
         ⊎ ((m : ℕ × List ℕ × List ℕ) × (or_bad_string (string_at n bytes) ≡ Ok m) × (value_at (make m.1) m.2 ≡ Err e))
         → Begins (λ t. RefusesForm (NameAndValue n make) t e) bytes
     pick (inl k) = let b =
-        text_refusal n bytes e k c in record { encoding = b.encoding; rest = b.rest; parts = b.parts;
-            holds = inl b.holds }
+        text_refusal n bytes e k c in record {
+          encoding = b.encoding;
+          rest = b.rest;
+          parts = b.parts;
+          holds = inl b.holds;
+        }
     pick (inr k) =
         let t = text_takes n bytes k.0 k.1 in
         let b = text_refusal 8 k.0.2 e (value_whole (make k.0.1) k.0.2 e k.2) c in

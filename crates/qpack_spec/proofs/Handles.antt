@@ -39,7 +39,7 @@ unfolding with_number
 kept_tracked referenced x a h =
     cond_both (has_number x referenced) referenced (referenced ++ x ∷ []) (λ l. has_number a l ≡ true) (λ _. h)
     (λ _. list_any-append (λ y. nat_eq y a) referenced (x ∷ [])
-        ∙ or_left (has_number a referenced) (has_number a (x ∷ [])) h)
+    ∙ or_left (has_number a referenced) (has_number a (x ∷ [])) h)
 
 new_tracked : (referenced : List ℕ) (x : ℕ) → has_number x (with_number referenced x) ≡ true
 unfolding with_number
@@ -71,9 +71,9 @@ above_inserted base t f r k a low high =
     let many : insert_count (with_reference (with_entry t (sent_entry f)) (insert_count t + 1)) ≡ insert_count t + 1 =
     count_naming (with_entry t (sent_entry f)) (insert_count t + 1) ∙ count_entered t f r in
     let is : (with_reference (with_entry t (sent_entry f)) (insert_count t + 1)).referenced
-        ≡ with_number t.referenced (insert_count t + 1) =
+    ≡ with_number t.referenced (insert_count t + 1) =
     named_now (with_entry t (sent_entry f)) (insert_count t + 1)
-        ∙ ap (λ l. with_number l (insert_count t + 1)) (same_named t f) in
+    ∙ ap (λ l. with_number l (insert_count t + 1)) (same_named t f) in
     ap (has_number a) is ∙ pick (cases_lt (insert_count t) a) many
   where
     pick : (insert_count t < a) ⊎ (a ≤ insert_count t)
@@ -81,7 +81,7 @@ above_inserted base t f r k a low high =
         → has_number a (with_number t.referenced (insert_count t + 1)) ≡ true
     pick (inl lt) many = let same : insert_count t + 1 ≡ a =
         omega (arith, high, many, lt) in subst
-            (λ (x : ℕ). has_number x (with_number t.referenced (insert_count t + 1)) ≡ true) same
+        (λ (x : ℕ). has_number x (with_number t.referenced (insert_count t + 1)) ≡ true) same
         (new_tracked t.referenced (insert_count t + 1))
     pick (inr le) many = kept_tracked t.referenced (insert_count t + 1) a (k a low le)
 
@@ -183,7 +183,7 @@ insertion_same base d f = both (below_limit d.table && has_room d.table f)
           lines = d.lines ++ l ∷ [];
           instructions =
               d.instructions ++ instructions_of f
-                  (answer_of i (insert_count d.table - base) (insert_count d.table + 1));
+              (answer_of i (insert_count d.table - base) (insert_count d.table + 1));
         } in x))
         (line_same f i (insert_count d.table - base) (insert_count d.table + 1))
         ∙ ap (λ is. (let x : Draft = record {
@@ -207,8 +207,11 @@ insertion_same base d f = both (below_limit d.table && has_room d.table f)
 -- what is found of an entry, by whether it may be referenced and whether it is up to the base
 abbrev chosen_entry : Bool → Bool → ℕ → ℕ → Table → Found
 chosen_entry b c base a t =
-    cond b (record { lookup = cond c (AtRelative (base - a) a)
-        (AtPostBase (a - base - 1) a); table = with_reference t a })
+    cond b (record {
+      lookup = cond c (AtRelative (base - a) a)
+          (AtPostBase (a - base - 1) a);
+      table = with_reference t a;
+    })
     (record { lookup = NotFound; table = t })
 
 entry_same : (base : ℕ) (d : Draft) (f : Field) → NamesAbove base d.table → (o : Option ℕ)
@@ -246,7 +249,7 @@ above_literal : (base : ℕ) (d : Draft) (f : Field) (o : Option ℕ) → NamesA
 above_literal base d f None k = k
 above_literal base d f (Some a) k =
     cond_both (may_reference d.table a) (with_referencing_line d a (name_reference_line base a f))
-        (with_line d (Literal f.name f.value))
+    (with_line d (Literal f.name f.value))
     (λ (x : Draft). NamesAbove base x.table) (λ _. above_naming base d.table a k) (λ _. k)
 
 above_name : (base : ℕ) (d : Draft) (f : Field) (o : Option ℕ) → NamesAbove base d.table

@@ -116,7 +116,7 @@ recent_kept w k i g le h =
 
 name_effect : (w : Window) (f : Field) (k : ℕ) → k ≤ length w.live → (o : Option ℕ)
     → last_position (has_name f.name) (drop k w.live) ≡ o → effect w (by_name f (length (drop k w.live)) o)
-        ≡ insertion w f
+    ≡ insertion w f
 unfolding effect
 name_effect w f k le (Some i) e =
     let at = last_found (has_name f.name) (drop k w.live) i e in
@@ -245,7 +245,7 @@ every_untrack : (P : ℕ → Type 0) (referenced : List ℕ) (a : ℕ) → AllBy
 unfolding with_number
 every_untrack P referenced a =
     cond_both (has_number a referenced) referenced (referenced ++ a ∷ [])
-        (λ xs. AllByRecursion P xs → AllByRecursion P referenced × P a)
+    (λ xs. AllByRecursion P xs → AllByRecursion P referenced × P a)
     (λ t h. (h, every_has P referenced a t h))
     (λ _ h. (every_left P referenced (a ∷ []) h, (every_right P referenced (a ∷ []) h).0))
 
@@ -273,7 +273,7 @@ track_longer : (referenced : List ℕ) (a : ℕ) → length referenced ≤ lengt
 unfolding with_number
 track_longer referenced a =
     cond_both (has_number a referenced) referenced (referenced ++ a ∷ []) (λ l. length referenced ≤ length l)
-        (λ _. omega arith)
+    (λ _. omega arith)
     (λ _. omega (arith, length-append referenced (a ∷ [])))
 
 tracked_longer : (xs referenced : List ℕ) → length referenced ≤ length (with_numbers referenced xs)

@@ -177,17 +177,20 @@ maximum_of w = maximum_capacity w.agreed_max w.capacity
 -- a block that requires more than was received
 pub reading_missing : (w : Window) (b : Block) (required base : ℕ)
     → ReadsAs (window_insert_count w) (maximum_of w) required base b.prefix → window_insert_count w < required
-        → reading w b ≡ Missing required
+    → reading w b ≡ Missing required
 unfolding reading
 reading_missing w b required base p lt =
-    rw (prefix_dynamic (window_insert_count w) (maximum_of w) required base b.prefix p (omega arith), lt-ltb
-        (window_insert_count w) required lt)
+    rw (
+      prefix_dynamic (window_insert_count w) (maximum_of w) required base b.prefix p (omega arith),
+      lt-ltb
+          (window_insert_count w) required lt,
+    )
     refl
 
 -- a block whose lines mean fs
 pub reading_fields : (w : Window) (b : Block) (required base : ℕ) (fs : List Field)
     → ReadsAs (window_insert_count w) (maximum_of w) required base b.prefix → required ≤ window_insert_count w → 0
-        < required
+    < required
     → fields_of w base b.lines ≡ Ok fs → reading w b ≡ Fields fs true
 unfolding reading
 reading_fields w b required base fs p le r h =
@@ -200,8 +203,12 @@ reading_fields w b required base fs p le r h =
 
 pub reading_plain : (w : Window) (b : Block) (base : ℕ) (fs : List Field)
     → ReadsAs (window_insert_count w) (maximum_of w) 0 base b.prefix → fields_of w 0 b.lines ≡ Ok fs → reading w b
-        ≡ Fields fs false
+    ≡ Fields fs false
 unfolding reading
 reading_plain w b base fs p h =
-    rw (prefix_plain (window_insert_count w) (maximum_of w) base b.prefix p, le-ltb (window_insert_count w) 0
-        (omega arith), h) refl
+    rw (
+      prefix_plain (window_insert_count w) (maximum_of w) base b.prefix p,
+      le-ltb (window_insert_count w) 0
+          (omega arith),
+      h,
+    ) refl

@@ -108,7 +108,7 @@ unfolding put insertion
 put_is w f =
     let k = eviction_count_for (table_of w) f in
     let d : (nat_lt (insert_count (table_of w)) (2 ^ 62) && can_evict (table_of w) k)
-        ≡ nat_lt (window_insert_count w) (2 ^ 62) =
+    ≡ nat_lt (window_insert_count w) (2 ^ 62) =
     both_hold (nat_lt (insert_count (table_of w)) (2 ^ 62)) (can_evict (table_of w) k) (drops_put w k)
     ∙ ap (λ n. nat_lt n (2 ^ 62)) (count_put w) in
     three_choices (nat_eq (table_of w).capacity 0) (nat_le (field_size f) (table_of w).capacity) _ _
@@ -116,7 +116,7 @@ put_is w f =
     (entered_put w f)
     ∙ ap (λ (c : ℕ). cond (nat_eq c 0) (Ok Ignored)
     (cond (nat_le (field_size f) c) (cond (nat_lt (window_insert_count w) (2 ^ 62)) (Ok (Inserts f)) (Ok Ignored))
-        (Err DoesNotFit))
+    (Err DoesNotFit))
     >>= λ e. (let q : Result Table TableRefusal = Ok (table_of (window_after w e)) in q)) (capacity_put w)
 
 -- what is found goes on alike on both sides

@@ -72,7 +72,7 @@ refers_plain t0 d l plain k =
       blocked = k.blocked;
       refs = ap (with_numbers []) (references_push (insert_count t0) d.lines l
           ∙ ap (λ r. references_of (insert_count t0) d.lines ++ r) plain
-              ∙ append-nil (references_of (insert_count t0) d.lines))
+          ∙ append-nil (references_of (insert_count t0) d.lines))
           ∙ k.refs;
       base = k.base;
     }
@@ -83,7 +83,7 @@ pushed : (t0 : Table) (d : Draft) (a : ℕ) (l : Line) → references_of_line (i
     → with_numbers [] (references_of (insert_count t0) (d.lines ++ l ∷ [])) ≡ with_number d.table.referenced a
 pushed t0 d a l is k =
     ap (with_numbers []) (references_push (insert_count t0) d.lines l
-        ∙ ap (λ r. references_of (insert_count t0) d.lines ++ r) is)
+    ∙ ap (λ r. references_of (insert_count t0) d.lines ++ r) is)
     ∙ tracked_append [] (references_of (insert_count t0) d.lines) (a ∷ []) ∙ ap (λ r. with_number r a) k.refs
 
 pub refers_named : (t0 : Table) (d : Draft) (a : ℕ) (l : Line) → references_of_line (insert_count t0) l ≡ a ∷ []
@@ -175,7 +175,7 @@ refers_literal_by_entry t0 d f k None =
     refers_plain t0 d (Literal f.name f.value) (literal_names (insert_count t0) f.name f.value) k
 refers_literal_by_entry t0 d f k (Some a) =
     cond_both (may_reference d.table a) (with_referencing_line d a (name_reference_line (insert_count t0) a f))
-        (with_line d (Literal f.name f.value))
+    (with_line d (Literal f.name f.value))
     (KeepsReferences t0)
     (λ _. refers_named t0 d a (name_reference_line (insert_count t0) a f) (named_line_names (insert_count t0) a f) k)
     (λ _. refers_plain t0 d (Literal f.name f.value) (literal_names (insert_count t0) f.name f.value) k)
@@ -198,10 +198,10 @@ refers_by_entry : (t0 : Table) (d : Draft) (f : Field) → KeepsReferences t0 d 
 refers_by_entry t0 d f k None = refers_insertion t0 d f k
 refers_by_entry t0 d f k (Some a) =
     cond_both (nat_le a (insert_count t0) && may_reference d.table a)
-        (with_referencing_line d a (IndexedDynamic (insert_count t0 - a)))
+    (with_referencing_line d a (IndexedDynamic (insert_count t0 - a)))
     (insertion_or_literal (insert_count t0) d f) (KeepsReferences t0)
     (λ t. let le : a ≤ insert_count t0 = leb-true _ _
-        (and_parts (nat_le a (insert_count t0)) (may_reference d.table a) t).0 in
+    (and_parts (nat_le a (insert_count t0)) (may_reference d.table a) t).0 in
     refers_named t0 d a (IndexedDynamic (insert_count t0 - a)) (indexed_names (insert_count t0) a le) k)
     (λ _. refers_insertion t0 d f k)
 
@@ -222,8 +222,14 @@ refers_fields t0 d (f ∷ fs) k = refers_fields t0 (rule_field (insert_count t0)
 
 pub refers_blank : (t0 : Table) → KeepsReferences t0 (empty_draft t0)
 unfolding references_of without_references
-refers_blank t0 = record { known_received_count = refl; limit = refl; unacknowledged = refl; blocked = refl;
-    refs = refl; base = omega arith }
+refers_blank t0 = record {
+  known_received_count = refl;
+  limit = refl;
+  unacknowledged = refl;
+  blocked = refl;
+  refs = refl;
+  base = omega arith;
+}
 
 -- at any table, the block of the rule has what its lines reference
 pub rule_references : (t : Table) (fs : List Field) → KeepsReferences t (rule t fs)

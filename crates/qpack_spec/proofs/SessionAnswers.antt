@@ -144,14 +144,14 @@ Answers v e = (o : Outcome) × (v' : Session) × LawfulStep v e o v' × (o ≡ N
 to_decoder : (v : Session) (n : ℕ) → (o : Outcome) × (v' : Session) × DeliversToDecoder v n o v' × (o ≡ NoMemory → ⊥)
 to_decoder v n =
     go (reads_on encoder_instruction_form apply_encoder_instruction apply_encoder_instructions (λ t. refl)
-        (λ t l ls. refl)
+    (λ t l ls. refl)
     (length (drop v.encoder_stream_taken (take (v.encoder_stream_delivered + n) v.encoder_stream))) v.decoder
     (drop v.encoder_stream_taken (take (v.encoder_stream_delivered + n) v.encoder_stream)) (omega arith))
   where
     delivers : (r : ReadsOn EncoderInstruction encoder_instruction_form apply_encoder_instruction
         apply_encoder_instructions v.decoder
         (drop v.encoder_stream_taken (take (v.encoder_stream_delivered + n) v.encoder_stream))) (o : Outcome)
-            (v' : Session)
+        (v' : Session)
         → EndsAtDecoder v n r.table r.front r.rest o v' → DeliversToDecoder v n o v'
     delivers r o v' e =
         record {
@@ -190,14 +190,14 @@ to_decoder v n =
 to_encoder : (v : Session) (n : ℕ) → (o : Outcome) × (v' : Session) × DeliversToEncoder v n o v' × (o ≡ NoMemory → ⊥)
 to_encoder v n =
     go (reads_on decoder_instruction_form apply_decoder_instruction apply_decoder_instructions (λ t. refl)
-        (λ t l ls. refl)
+    (λ t l ls. refl)
     (length (drop v.decoder_stream_taken (take (v.decoder_stream_delivered + n) v.decoder_stream))) v.encoder
     (drop v.decoder_stream_taken (take (v.decoder_stream_delivered + n) v.decoder_stream)) (omega arith))
   where
     hears : (r : ReadsOn DecoderInstruction decoder_instruction_form apply_decoder_instruction
         apply_decoder_instructions v.encoder
         (drop v.decoder_stream_taken (take (v.decoder_stream_delivered + n) v.decoder_stream))) (o : Outcome)
-            (v' : Session)
+        (v' : Session)
         → EndsAtEncoder v n r.table r.front r.rest o v' → DeliversToEncoder v n o v'
     hears r o v' e =
         record {
@@ -214,7 +214,7 @@ to_encoder v n =
     ends : (r : ReadsOn DecoderInstruction decoder_instruction_form apply_decoder_instruction
         apply_decoder_instructions v.encoder
         (drop v.decoder_stream_taken (take (v.decoder_stream_delivered + n) v.decoder_stream)))
-            → Stops DecoderInstruction decoder_instruction_form apply_decoder_instruction r.table r.rest
+        → Stops DecoderInstruction decoder_instruction_form apply_decoder_instruction r.table r.rest
         → (o : Outcome) × (v' : Session) × DeliversToEncoder v n o v' × (o ≡ NoMemory → ⊥)
     ends r (truncated c) = (_, _, hears r _ _ (takes_all_at_encoder c refl refl), λ h. absurd cc)
     ends r (refused_bytes fault c) = (_, _, hears r _ _ (bad_bytes_at_encoder fault c refl refl), λ h. absurd cc)
@@ -224,7 +224,7 @@ to_encoder v n =
     go : (r : ReadsOn DecoderInstruction decoder_instruction_form apply_decoder_instruction apply_decoder_instructions
         v.encoder
         (drop v.decoder_stream_taken (take (v.decoder_stream_delivered + n) v.decoder_stream))) → (o : Outcome)
-            × (v' : Session) × DeliversToEncoder v n o v'
+        × (v' : Session) × DeliversToEncoder v n o v'
         × (o ≡ NoMemory → ⊥)
     go r = ends r r.stops
 

@@ -64,8 +64,12 @@ delivered_part = with_decoder_moved written 6 written.decoder 0 0 []
 
 -- the decoder's table behind the instruction
 filled : Table
-filled = let w : Window = record { capacity = 4096; agreed_max = Some 4096; dropped = 0;
-    live = foo_bar ∷ [] } in table_of w
+filled = let w : Window = record {
+  capacity = 4096;
+  agreed_max = Some 4096;
+  dropped = 0;
+  live = foo_bar ∷ [];
+} in table_of w
 
 delivered : Session
 delivered = with_decoder_moved delivered_part 1 filled 7 0 (1 ∷ [])
@@ -76,7 +80,7 @@ decoded = with_decoded delivered 4
 acknowledged : Session
 acknowledged =
     record (with_kept_stream decoded 4
-        (record (stream_at decoded.streams 4) { acknowledged = 1 })) { decoder_stream = 1 ∷ 132 ∷ [] }
+    (record (stream_at decoded.streams 4) { acknowledged = 1 })) { decoder_stream = 1 ∷ 132 ∷ [] }
 
 -- the encoder's table behind both decoder instructions
 released : Table
@@ -185,7 +189,7 @@ piece_0 h = absurd (omega (arith, h.0))
 -- insertions stay unreported where memory is refused
 memory_keeps : (v : Session) (n : ℕ) (t : Table) (front rest : List ℕ) (v' : Session)
     → EndsAtDecoder v n t front rest NoMemory v' → v'.unreported
-        ≡ v.unreported + (insert_count t - insert_count v.decoder)
+    ≡ v.unreported + (insert_count t - insert_count v.decoder)
 memory_keeps v n t front rest v' (takes_all pieces cut sizes sum is goes) = absurd cc
 memory_keeps v n t front rest v' (no_memory is goes) = ap (λ (x : Session). x.unreported) goes
 memory_keeps v n t front rest v' (bad_bytes fault b is goes) = absurd cc
@@ -194,14 +198,14 @@ memory_keeps v n t front rest v' (bad_instruction encoding more i e cut s bad is
 -- the known received count is held at the greatest number of 64 bits
 known_held : (with_increment
     (record (empty_table 0 None 0) { known_received_count = 18446744073709551615 }) 1).known_received_count
-        ≡ 18446744073709551615
+    ≡ 18446744073709551615
 unfolding rows
 known_held = refl
 
 -- which it reaches
 known_reaches : (with_increment
     (record (empty_table 0 None 0) { known_received_count = 18446744073709551614 }) 1).known_received_count
-        ≡ 18446744073709551615
+    ≡ 18446744073709551615
 unfolding rows
 known_reaches = refl
 
@@ -233,7 +237,7 @@ cut_part : Truncates encoder_instruction_form (98 ∷ 148 ∷ 231 ∷ 131 ∷ 14
 unfolding rows
 cut_part =
     (reads_form_truncation encoder_instruction_form (98 ∷ 148 ∷ 231 ∷ 131 ∷ 140 ∷ 118 ∷ [])).0
-        (BadString EndsEarly, refl, refl)
+    (BadString EndsEarly, refl, refl)
 
 cut_none : Truncates encoder_instruction_form []
 unfolding rows

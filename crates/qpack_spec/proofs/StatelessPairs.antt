@@ -46,7 +46,7 @@ literal_is : (base : ℕ) (d : Draft) (f : Field) → d.table ≡ nothing → (o
 literal_is base d f e (Some i) = refl
 literal_is base d f e None =
     ap (literal_by_entry base d f)
-        (ap (λ (t : Table). newest_index t (has_name f.name)) e ∙ none_newest (has_name f.name))
+    (ap (λ (t : Table). newest_index t (has_name f.name)) e ∙ none_newest (has_name f.name))
 
 no_insertion : (base : ℕ) (d : Draft) (f : Field) → d.table ≡ nothing
     → insertion_or_literal base d f ≡ literal base d f (static_name_index f.name)

@@ -200,7 +200,7 @@ lines_agree (suc steps) limit sum agreed_max (b ∷ bytes) = pick (cases_lt b 32
   where
     pick : (b < 32) ⊎ (32 ≤ b)
         → ((n : ℕ) (x : List ℕ)
-            → LinesAgree x (stateless_at steps limit n x) (fields_at steps (no_table agreed_max) 0 x))
+        → LinesAgree x (stateless_at steps limit n x) (fields_at steps (no_table agreed_max) 0 x))
         → LinesAgree (b ∷ bytes) (stateless_at (suc steps) limit sum (b ∷ bytes))
         (fields_at (suc steps) (no_table agreed_max) 0 (b ∷ bytes))
     pick (inl less) ih =
@@ -264,7 +264,7 @@ up_to_first steps limit sum f gs rest e = pick (cases_lt limit (saturated_size (
 
 lines_up_to : (steps limit sum : ℕ) (agreed_max : Option ℕ) (bytes : List ℕ) (fs : List Field) → length bytes ≤ steps
     → fields_at steps (no_table agreed_max) 0 bytes ≡ Ok fs → stateless_at steps limit sum bytes
-        ≡ up_to_limit limit sum fs
+    ≡ up_to_limit limit sum fs
 lines_up_to steps limit sum agreed_max [] fs h e =
     let none : fs ≡ [] = ok_is fs [] (sym e ∙ no_fields steps (no_table agreed_max) 0) in
     none_alone steps limit sum ∙ ap (up_to_limit limit sum) (sym none)
@@ -275,7 +275,7 @@ lines_up_to (suc steps) limit sum agreed_max (b ∷ bytes) fs h e =
   where
     by_form : ((n : ℕ) (rest : List ℕ) (gs : List Field) → length rest ≤ steps
         → fields_at steps (no_table agreed_max) 0 rest ≡ Ok gs → stateless_at steps limit n rest
-            ≡ up_to_limit limit n gs)
+        ≡ up_to_limit limit n gs)
         → (r : Result (Line × List ℕ) FormFault) → form_at line_form (b ∷ bytes) ≡ r
         → behind_line steps (no_table agreed_max) 0 r ≡ Ok fs
         → stateless_at (suc steps) limit sum (b ∷ bytes) ≡ up_to_limit limit sum fs
@@ -286,7 +286,7 @@ lines_up_to (suc steps) limit sum agreed_max (b ∷ bytes) fs h e =
         (sym (behind_line_ok steps (no_table agreed_max) 0 x.0 x.1) ∙ k) in
         let alone : stateless_field x.0 ≡ Ok parts.0 =
         line_alone (stateless_field x.0) (line_field (no_table agreed_max) 0 x.0) parts.0
-            (line_agrees agreed_max x.0) parts.2
+        (line_agrees agreed_max x.0) parts.2
         in
         let t = form_takes line_form (b ∷ bytes) x.0 x.1 q in
         let short : length x.1 ≤ steps =
@@ -310,11 +310,11 @@ nothing_required agreed_max p none = rw none refl
 read_behind : (agreed_max : Option ℕ) (bytes rest : List ℕ) (p : Prefix) → maximum_capacity agreed_max 0 ≡ 0
     → prefix_at bytes ≡ Ok (p, rest)
     → reading_of_bytes (no_table agreed_max) bytes
-        ≡ reading_of_fields (fields_in_bytes (no_table agreed_max) 0 rest) false
+    ≡ reading_of_fields (fields_in_bytes (no_table agreed_max) 0 rest) false
 unfolding reading_of_bytes
 read_behind agreed_max bytes rest p none q =
     ap (section_behind (no_table agreed_max)) q
-        ∙ ap (bytes_behind (no_table agreed_max) rest) (nothing_required agreed_max p none)
+    ∙ ap (bytes_behind (no_table agreed_max) rest) (nothing_required agreed_max p none)
 
 read_refused : (agreed_max : Option ℕ) (bytes : List ℕ) (e : FormFault) → prefix_at bytes ≡ Err e
     → reading_of_bytes (no_table agreed_max) bytes ≡ Faulty (BadForm e)
@@ -360,7 +360,7 @@ without_table agreed_max none limit bytes = pick (prefix_at bytes) refl
         let whole : AgreesWithoutTable bytes (stateless_at (length x.1) limit 0 x.1) read =
         subst (λ (b : List ℕ). AgreesWithoutTable b (stateless_at (length x.1) limit 0 x.1) read) (sym t.parts)
         (section_agrees t.encoding x.1 (stateless_at (length x.1) limit 0 x.1)
-            (fields_in_bytes (no_table agreed_max) 0 x.1)
+        (fields_in_bytes (no_table agreed_max) 0 x.1)
         (lines_agree (length x.1) limit 0 agreed_max x.1)) in (
           subst (λ (r : Result (List Field) StatelessFault). AgreesWithoutTable bytes r
               (reading_of_bytes (no_table agreed_max) bytes)) (sym alone)

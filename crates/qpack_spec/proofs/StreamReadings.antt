@@ -29,7 +29,7 @@ no_line_read {L} form_of bytes e q =
         joined = refl;
         cut_off =
             λ encoding more l p s.
-                (let again = form_again form_of encoding more l s in let same = ap (form_at form_of) p in
+            (let again = form_again form_of encoding more l s in let same = ap (form_at form_of) p in
             absurd cc);
       };
       ends = pick (is_cut e) refl;

@@ -39,7 +39,7 @@ unfolding with_capacity
 capacities_of_window t u n e =
     let evicted = eviction_count n (fields_in t.live) in
     cond_both (nat_le n (greatest_capacity t.agreed_max))
-        (cond (can_evict t evicted) (Ok (smaller t n)) (Err DoesNotFit))
+    (cond (can_evict t evicted) (Ok (smaller t n)) (Err DoesNotFit))
     (Err AboveMaximum) (λ r. r ≡ Ok u → window u ≡ window_after (window t) (Resizes n))
     (λ _. cond_both (can_evict t evicted) (Ok (smaller t n)) (Err DoesNotFit) (λ r. r ≡ Ok u
     → window u ≡ window_after (window t) (Resizes n))

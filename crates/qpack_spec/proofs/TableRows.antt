@@ -134,7 +134,7 @@ past_greatest = refl
 -- the entry that is evicted is not duplicated
 equal_goes_first : (put_into 76 4 ((field (codes "foo") (codes "bar")) ∷ (field (codes "baz") (codes "bar")) ∷ [])
     >>= λ t. Ok (instruction_for (field (codes "foo") (codes "bar"))
-        (entries_left t (field (codes "foo") (codes "bar")))))
+    (entries_left t (field (codes "foo") (codes "bar")))))
     ≡ Ok (InsertLiteralName (codes "foo") (codes "bar"))
 unfolding rows
 equal_goes_first = refl
@@ -281,14 +281,14 @@ room_for_last = refl
 -- an entry whose name alone an unacknowledged block uses is held
 literal_name_held : (counts_of (put_into 64 0 ((field (codes "foo") (codes "bar")) ∷ [])
     >>= λ t. with_capacity (writes_on (with_increment t 1) 4 ((field (codes "foo") (codes "quxx")) ∷ [])) 37))
-        ≡ Err DoesNotFit
+    ≡ Err DoesNotFit
 unfolding rows
 literal_name_held = refl
 
 -- which another block does not hold
 literal_name_free : (counts_of (put_into 64 0 ((field (codes "foo") (codes "bar")) ∷ [])
     >>= λ t. with_capacity (writes_on (with_increment t 1) 4 ((field (codes ":method") (codes "GET")) ∷ [])) 37))
-        ≡ Ok (2, 1)
+    ≡ Ok (2, 1)
 unfolding rows
 literal_name_free = refl
 

@@ -39,7 +39,7 @@ eviction_count_drop c fs d =
     let up : d + eviction_count c (drop d fs) ≤ max d (eviction_count c fs) = pick (cases_lt d (eviction_count c fs)) in
     let low : eviction_count c fs ≤ d + eviction_count c (drop d fs) =
     eviction_count_least c fs (d + eviction_count c (drop d fs))
-        (rw (← drop-drop) (eviction_count_fits c (drop d fs))) in
+    (rw (← drop-drop) (eviction_count_fits c (drop d fs))) in
     omega arith
   where
     pick : (d < eviction_count c fs) ⊎ (eviction_count c fs ≤ d) → d + eviction_count c (drop d fs)
@@ -54,13 +54,13 @@ eviction_count_drop c fs d =
         let m : eviction_count c (drop d fs) ≤ 0 =
         eviction_count_least c (drop d fs) 0 (subst (λ (k : ℕ). total_size (drop k fs) ≤ c) n
         (rw (← drop-drop) (omega
-            (arith, shorter (d - eviction_count c fs) (drop (eviction_count c fs) fs), eviction_count_fits c fs)))) in
+        (arith, shorter (d - eviction_count c fs) (drop (eviction_count c fs) fs), eviction_count_fits c fs)))) in
         omega arith
 
 -- what was dropped is the greater of what was dropped before and what has to go now
 grown_dropped : (h : History) (e : Effect) → Sound h
     → (history_after h e).dropped
-        ≡ max h.dropped (eviction_count (history_after h e).capacity (history_after h e).inserted)
+    ≡ max h.dropped (eviction_count (history_after h e).capacity (history_after h e).inserted)
 unfolding history_after
 grown_dropped h (Inserts f) s =
     ap (λ l. h.dropped + eviction_count h.capacity l) (sym (live_push h f s.in_range))
@@ -75,8 +75,12 @@ live_many h = length-drop h.dropped h.inserted
 
 pub live_few : LiveEntriesAreFew
 live_few capacity agreed_max is h l =
-    omega (arith, sound_few h
-        (leads_sound (empty_history capacity agreed_max) is h l (sound_begin capacity agreed_max)), live_many h)
+    omega (
+      arith,
+      sound_few h
+          (leads_sound (empty_history capacity agreed_max) is h l (sound_begin capacity agreed_max)),
+      live_many h,
+    )
 
 pub eviction_count_is_least : EvictionCountIsLeast
 eviction_count_is_least capacity fs = (eviction_count_fits capacity fs, eviction_count_least capacity fs)
@@ -86,7 +90,7 @@ at_least : (from : History) (is : List EncoderInstruction) (h : History) → Sou
     → FrontLeads from is m → eviction_count m.capacity m.inserted ≤ h.dropped
 at_least from is h s l m f =
     let split = leads_split from f.front f.rest h
-        (subst (λ (x : List EncoderInstruction). Leads from x h) (sym f.cut) l) in
+    (subst (λ (x : List EncoderInstruction). Leads from x h) (sym f.cut) l) in
     let same : split.0 ≡ m = leads_unique from f.front split.0 m split.1 f.leads in
     let on : Leads m f.rest h = subst (λ (x : History). Leads x f.rest h) same split.2 in
     let sound : Sound m = leads_sound from f.front m f.leads s in
@@ -95,7 +99,7 @@ at_least from is h s l m f =
 -- what was dropped was dropped before, or had to go at the end of a front
 attained : (from : History) (is : List EncoderInstruction) (h : History) → Sound from → Leads from is h
     → (h.dropped ≡ from.dropped)
-        ⊎ ((m : History) × FrontLeads from is m × (h.dropped ≡ eviction_count m.capacity m.inserted))
+    ⊎ ((m : History) × FrontLeads from is m × (h.dropped ≡ eviction_count m.capacity m.inserted))
 attained from [] h s l = inl (ap (λ (x : History). x.dropped) (sym l))
 attained from (i ∷ is) h s l =
     let next = history_after from l.0 in
@@ -104,7 +108,7 @@ attained from (i ∷ is) h s l =
   where
     pick : (h.dropped ≡ (history_after from l.0).dropped)
         ⊎ ((m : History) × FrontLeads (history_after from l.0) is m
-            × (h.dropped ≡ eviction_count m.capacity m.inserted))
+        × (h.dropped ≡ eviction_count m.capacity m.inserted))
         → (from.dropped < eviction_count (history_after from l.0).capacity (history_after from l.0).inserted)
         ⊎ (eviction_count (history_after from l.0).capacity (history_after from l.0).inserted ≤ from.dropped)
         → (h.dropped ≡ from.dropped) ⊎ ((m : History) × FrontLeads from (i ∷ is) m
@@ -139,7 +143,7 @@ dropped_greatest capacity agreed_max is h l = (
     pick : (h.dropped ≡ 0) ⊎ ((m : History) × FrontLeads (empty_history capacity agreed_max) is m
         × (h.dropped ≡ eviction_count m.capacity m.inserted))
         → (m : History) × FrontLeads (empty_history capacity agreed_max) is m
-            × (h.dropped ≡ eviction_count m.capacity m.inserted)
+        × (h.dropped ≡ eviction_count m.capacity m.inserted)
     pick (inl e) = (
       empty_history capacity agreed_max,
       record { front = []; rest = is; cut = refl; leads = refl },
@@ -179,7 +183,7 @@ keeps_capacity w (InsertDynamicName i v) e n h =
 keeps_capacity w (InsertLiteralName m v) e n h = insertion_keeps w (record { name = m; value = v }) e h
 keeps_capacity w (Duplicate i) e n h =
     let r = bind_ok (or_refusal (relative_entry w i) (NoEntry i))
-        (λ f. insertion w f) e h in insertion_keeps w r.0 e r.2
+    (λ f. insertion w f) e h in insertion_keeps w r.0 e r.2
 keeps_capacity w (SetCapacity c) e n h = absurd n
 
 -- a longer list has no fewer that have to go
@@ -225,10 +229,10 @@ one_grown capacity h (Inserts f) s n o =
     let low = more_goes capacity h.inserted f in
     let now : eviction_count (history_after h (Inserts f)).capacity (history_after h (Inserts f)).inserted
     ≡ eviction_count capacity (h.inserted ++ f ∷ []) = ap
-        (λ x. eviction_count x (history_after h (Inserts f)).inserted) c
+    (λ x. eviction_count x (history_after h (Inserts f)).inserted) c
     ∙ ap (eviction_count capacity) i in
     let then : eviction_count capacity (history_after h (Inserts f)).inserted
-        ≡ eviction_count capacity (h.inserted ++ f ∷ []) =
+    ≡ eviction_count capacity (h.inserted ++ f ∷ []) =
     ap (eviction_count capacity) i in
     record { same = c; least = omega (arith, d, o.least, low, now, then) }
 one_grown capacity h Ignored s n o = ignored_same capacity h o
@@ -268,9 +272,9 @@ follows from [] h s l = ap (λ (x : History). let r : Result Window TableRefusal
 follows from (i ∷ is) h s l =
     let e : apply (window_of from) i ≡ Ok (window_of (history_after from l.0)) =
     ap (λ (r : Result Effect TableRefusal). r >>= λ x.
-        (let q : Result Window TableRefusal = Ok (window_after (window_of from) x) in q))
+    (let q : Result Window TableRefusal = Ok (window_after (window_of from) x) in q))
     l.1 ∙ ap (λ (x : Window). let q : Result Window TableRefusal = Ok x in q)
-        (sym (window_grown from l.0 s.in_range)) in
+    (sym (window_grown from l.0 s.in_range)) in
     ap (λ (r : Result Window TableRefusal). r >>= λ x. all_taken x is) e
     ∙ follows (history_after from l.0) is h (sound_grown from l.0 s (allowed (window_of from) i l.0 l.1)) l.2
 
@@ -282,7 +286,7 @@ followed from (i ∷ is) w s e =
     let a = bind_ok (apply (window_of from) i) (λ x. all_taken x is) w e in
     let b = bind_ok (effect (window_of from) i) (λ x. Ok (window_after (window_of from) x)) a.0 a.1 in
     let same : a.0 ≡ window_of (history_after from b.0) = sym (ok_is _ _ b.2)
-        ∙ sym (window_grown from b.0 s.in_range) in
+    ∙ sym (window_grown from b.0 s.in_range) in
     let r = followed (history_after from b.0) is w (sound_grown from b.0 s (allowed (window_of from) i b.0 b.1))
     (ap (λ (x : Window). all_taken x is) (sym same) ∙ a.2) in
     (r.0, (b.0, b.1, r.1), r.2)

@@ -90,7 +90,7 @@ allowed_insertion w f e h =
     (λ _ q. subst (Allowed w) (ok_is _ _ q) tt)
     (λ _. cond_both (nat_le (field_size f) w.capacity) _ (Err DoesNotFit) (λ r. r ≡ Ok e → Allowed w e)
     (λ fits. cond_both (nat_lt (window_insert_count w) (2 ^ 62)) (Ok (Inserts f)) (Ok Ignored)
-        (λ r. r ≡ Ok e → Allowed w e)
+    (λ r. r ≡ Ok e → Allowed w e)
     (λ few q. subst (Allowed w) (ok_is _ _ q) (leb-true _ _ fits, ltb-true _ _ few))
     (λ _ q. subst (Allowed w) (ok_is _ _ q) tt))
     (λ _ q. absurd cc))
@@ -107,10 +107,10 @@ allowed w (InsertDynamicName i v) e h =
 allowed w (InsertLiteralName n v) e h = allowed_insertion w (record { name = n; value = v }) e h
 allowed w (Duplicate i) e h =
     let r = bind_ok (or_refusal (relative_entry w i) (NoEntry i))
-        (λ f. insertion w f) e h in allowed_insertion w r.0 e r.2
+    (λ f. insertion w f) e h in allowed_insertion w r.0 e r.2
 allowed w (SetCapacity n) e h =
     cond_both (nat_le n (greatest_capacity w.agreed_max)) (Ok (Resizes n)) (Err AboveMaximum)
-        (λ r. r ≡ Ok e → Allowed w e)
+    (λ r. r ≡ Ok e → Allowed w e)
     (λ t q. subst (Allowed w) (ok_is _ _ q) (leb-true _ _ t))
     (λ _ q. absurd cc)
     h

@@ -95,10 +95,18 @@ pub count_entered : (t : Table) (f : Field) → Room t f → insert_count (with_
 unfolding with_entry
 count_entered t f r =
     let b : eviction_count_for t f ≤ length t.live =
-    omega (arith, eviction_count_push t.capacity (fields_in t.live) f r.fits, length-map t.live
-        (λ (x : Entry). x.field)) in
-    omega (arith, length-drop (eviction_count_for t f) (t.live ++ sent_entry f ∷ []), length-append t.live
-        (sent_entry f ∷ []))
+    omega (
+      arith,
+      eviction_count_push t.capacity (fields_in t.live) f r.fits,
+      length-map t.live
+          (λ (x : Entry). x.field),
+    ) in
+    omega (
+      arith,
+      length-drop (eviction_count_for t f) (t.live ++ sent_entry f ∷ []),
+      length-append t.live
+          (sent_entry f ∷ []),
+    )
 
 inserts_written : (base : ℕ) (d : Draft) (f : Field) → WrittenDraft d → IsByteField f → Room d.table f
     → WrittenDraft (with_new_entry base d f)
@@ -121,7 +129,7 @@ inserts_written base d f k w r =
           (omega (arith, r.few), tt);
       instructions =
           every_append IsByteEncoderInstruction d.instructions
-              (instruction_for f (entries_left d.table f) ∷ []) k.instructions
+          (instruction_for f (entries_left d.table f) ∷ []) k.instructions
           (instruction_written f (entries_left d.table f) stay w, tt);
     }
 
@@ -137,10 +145,10 @@ by_entry_written base d f b k w None e = writes_written d (Literal f.name f.valu
 by_entry_written base d f b k w (Some a) e =
     let at = newest_found d.table (has_name f.name) a e in
     cond_both (may_reference d.table a) (with_referencing_line d a (name_reference_line base a f))
-        (with_line d (Literal f.name f.value))
+    (with_line d (Literal f.name f.value))
     WrittenDraft
     (λ _. naming_written d a (name_reference_line base a f) k
-        (entry_line base a f b (omega (arith, at.within, k.few)) w))
+    (entry_line base a f b (omega (arith, at.within, k.few)) w))
     (λ _. writes_written d (Literal f.name f.value) k w)
 
 literal_written : (base : ℕ) (d : Draft) (f : Field) → base ≤ 2 ^ 62 → WrittenDraft d → IsByteField f → (o : Option ℕ)

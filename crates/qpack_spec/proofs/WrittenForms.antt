@@ -251,7 +251,7 @@ pub instructions_spelled : WrittenEncoderInstructionsAreSpellings
 unfolding written_encoder_instruction
 instructions_spelled (InsertStaticName i v) w =
     by_index_and_value encoder_instruction_form 6 3 i v InsertStaticName (lit≤ tt) (lit≤ tt)
-        (lit≤ tt) w.0 w.1 first_static_name
+    (lit≤ tt) w.0 w.1 first_static_name
 instructions_spelled (InsertDynamicName i v) w =
     by_index_and_value encoder_instruction_form 6 2 i v InsertDynamicName (lit≤ tt) (lit≤ tt) (lit≤ tt) w.0 w.1
     first_dynamic_name

@@ -18,7 +18,7 @@ ReadingFindsPrefixes =
 abbrev pub CountsHaveOneReading : Type 0
 CountsHaveOneReading =
     (total entries insert_count r s : ℕ) → 0 < insert_count → IsRequired total entries insert_count r
-        → IsRequired total entries insert_count s
+    → IsRequired total entries insert_count s
     → r ≡ s
 
 -- which is what is computed; where none is computed, it stands for none

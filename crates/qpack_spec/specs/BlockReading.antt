@@ -67,7 +67,7 @@ abbrev pub bytes_behind : Window → List ℕ → Result (ℕ × ℕ) PrefixFaul
 bytes_behind w rest (Err e) = Faulty (BadPrefix e)
 bytes_behind w rest (Ok p) =
     if nat_lt (window_insert_count w) p.0 then Missing p.0 else reading_of_fields (fields_in_bytes w p.1 rest)
-        (nat_lt 0 p.0)
+    (nat_lt 0 p.0)
 
 -- the answer where a prefix stands in front, or none
 abbrev pub section_behind : Window → Result (Prefix × List ℕ) FormFault → Reading

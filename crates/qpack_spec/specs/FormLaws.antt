@@ -23,7 +23,7 @@ abbrev pub ReadingFindsForms : {L : Type 0} → (ℕ → Option (Form L)) → Ty
 ReadingFindsForms {L} form_of =
     (bytes : List ℕ) (l : L) (rest : List ℕ)
     → (form_at form_of bytes ≡ Ok (l, rest)) ↔
-        ((encoding : List ℕ) × (bytes ≡ encoding ++ rest) × Spells L form_of encoding l)
+    ((encoding : List ℕ) × (bytes ≡ encoding ++ rest) × Spells L form_of encoding l)
 
 -- each refusal exactly where it stands
 abbrev pub ReadingFindsFormRefusals : {L : Type 0} → (ℕ → Option (Form L)) → Type 0

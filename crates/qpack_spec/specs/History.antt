@@ -14,8 +14,12 @@ pub record History : Type 0 where
 
 -- what of it is live
 unfoldable pub window_of : History → Window
-window_of h = record { capacity = h.capacity; agreed_max = h.agreed_max; dropped = h.dropped;
-    live = drop h.dropped h.inserted }
+window_of h = record {
+  capacity = h.capacity;
+  agreed_max = h.agreed_max;
+  dropped = h.dropped;
+  live = drop h.dropped h.inserted;
+}
 
 -- nothing dropped: what an absolute index means among all insertions
 unfoldable pub whole_window : History → Window
@@ -29,8 +33,11 @@ history_after h (Inserts f) =
       inserted = h.inserted ++ f ∷ [];
     }
 history_after h Ignored = h
-history_after h (Resizes n) = record h { capacity = n; dropped = h.dropped + eviction_count n
-    (drop h.dropped h.inserted) }
+history_after h (Resizes n) = record h {
+  capacity = n;
+  dropped = h.dropped + eviction_count n
+      (drop h.dropped h.inserted);
+}
 
 -- an empty table
 abbrev pub empty_history : ℕ → Option ℕ → History

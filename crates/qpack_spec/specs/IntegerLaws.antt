@@ -8,7 +8,7 @@ use Rattle.qpack_spec.specs.Integer.{TruncatesInteger, integer_at, written_integ
 abbrev pub IntegersHaveOneValue : Type 0
 IntegersHaveOneValue =
     (n : ℕ) (encoding : List ℕ) (f g v w : ℕ) → SpellsInteger n encoding f v → SpellsInteger n encoding g w → (f ≡ g)
-        × (v ≡ w)
+    × (v ≡ w)
 
 -- a spelling or a refusal
 abbrev pub EndsInteger : ℕ → List ℕ → Type 0
@@ -32,7 +32,7 @@ WrittenIntegersAreShortest =
     (n flags value : ℕ) → IsWritable n flags value
     → StandsFor n (written_integer n flags value) flags value
     × ((encoding : List ℕ) → StandsFor n encoding flags value → length (written_integer n flags value)
-        ≤ length encoding)
+    ≤ length encoding)
 
 -- up to the greatest value that is read, 2^63 + 2^n - 2, it is a spelling, and is read back whole, whatever follows
 abbrev pub WrittenIntegersAreReadBack : Type 0

@@ -70,7 +70,7 @@ name_reference_line base a f = if nat_le a base then NamedDynamic (base - a) f.v
 abbrev pub literal_by_entry : ℕ → Draft → Field → Option ℕ → Draft
 literal_by_entry base d f (Some a) =
     if may_reference d.table a then with_referencing_line d a (name_reference_line base a f) else with_line d
-        (Literal f.name f.value)
+    (Literal f.name f.value)
 literal_by_entry base d f None = with_line d (Literal f.name f.value)
 
 -- a literal, by the least static field of the name
@@ -82,7 +82,7 @@ literal base d f None = literal_by_entry base d f (newest_index d.table (has_nam
 abbrev pub insertion_or_literal : ℕ → Draft → Field → Draft
 insertion_or_literal base d f =
     if below_limit d.table
-        && has_room d.table f then with_new_entry base d f else literal base d f (static_name_index f.name)
+    && has_room d.table f then with_new_entry base d f else literal base d f (static_name_index f.name)
 
 -- the newest equal entry, if it stood at the block's start and may be referenced
 abbrev pub by_entry : ℕ → Draft → Field → Option ℕ → Draft
@@ -121,8 +121,11 @@ required_insert_count d = greatest_of d.table.referenced
 -- the block that is written
 abbrev pub block_of : Table → Draft → Block
 block_of t d =
-    record { prefix = prefix_for (maximum_capacity t.agreed_max t.capacity) (required_insert_count d)
-        (insert_count t); lines = d.lines }
+    record {
+      prefix = prefix_for (maximum_capacity t.agreed_max t.capacity) (required_insert_count d)
+          (insert_count t);
+      lines = d.lines;
+    }
 
 -- the table behind it
 abbrev pub committed_table : Draft → ℕ → Table

@@ -200,7 +200,7 @@ skip_reason v (ToDecoder n) = None
 skip_reason v (ToEncoder n) = None
 skip_reason v (Acknowledge s) =
     let k = stream_at v.streams s in if nat_le (2 ^ 62) s then Some 1 else unless_cancelled k
-        (awaits_acknowledgment requires_entry k) 4
+    (awaits_acknowledgment requires_entry k) 4
 skip_reason v (Cancel s) = if nat_le (2 ^ 62) s then Some 1 else unless_cancelled (stream_at v.streams s) true 0
 skip_reason v (ChangeCapacity n) = None
 
@@ -229,8 +229,11 @@ with_block v s fs =
 abbrev pub after_refused_encode : Session → List Field → Session
 after_refused_encode v fs =
     let d = rule v.encoder fs in
-    record v { encoder = without_references d.table; encoder_stream = v.encoder_stream
-        ++ written_encoder_instructions d.instructions }
+    record v {
+      encoder = without_references d.table;
+      encoder_stream = v.encoder_stream
+          ++ written_encoder_instructions d.instructions;
+    }
 
 -- the session behind a decoded block
 abbrev pub with_decoded : Session → ℕ → Session
@@ -304,12 +307,12 @@ pub data EndsAtDecoder (v : Session) (n : ℕ) (t : Table) (front rest : List �
     bad_bytes : (fault : FormFault) → Begins (λ encoding. RefusesEncoderInstruction encoding fault) rest → o
         ≡ Refused (BadBytes fault)
         → v' ≡ with_decoder_moved v n t (length front) (unreported_after v t) v.decoder_stream
-            → EndsAtDecoder v n t front rest o v'
+        → EndsAtDecoder v n t front rest o v'
     bad_instruction : (encoding more : List ℕ) (i : EncoderInstruction) (e : TableRefusal) → rest ≡ encoding ++ more
         → SpellsEncoderInstruction encoding i
         → apply_encoder_instruction t i ≡ Err e → o ≡ Refused (BadInstruction e)
         → v' ≡ with_decoder_moved v n t (length front + (if is_consumed e then length encoding else 0))
-            (unreported_after v t) v.decoder_stream
+        (unreported_after v t) v.decoder_stream
         → EndsAtDecoder v n t front rest o v'
 
 -- the next n bytes are delivered to the decoder, and offered behind those that it left; it takes lines at their front
@@ -394,8 +397,11 @@ pub record SetsCapacity (v : Session) (n : ℕ) (o : Outcome) (v' : Session) : T
   pub table : Table
   pub is_set : with_capacity v.encoder n ≡ Ok table
   pub answers : o ≡ CapacitySet
-  pub leads : v' ≡ record v { encoder = table; encoder_stream = v.encoder_stream
-      ++ written_encoder_instruction (SetCapacity n) }
+  pub leads : v' ≡ record v {
+    encoder = table;
+    encoder_stream = v.encoder_stream
+        ++ written_encoder_instruction (SetCapacity n);
+  }
 
 -- the encoder's table refuses a capacity
 pub record RefusesCapacity (v : Session) (n : ℕ) (o : Outcome) (v' : Session) : Type 0 where
@@ -416,14 +422,16 @@ with_acknowledged v s =
 abbrev pub with_cancelled : Session → ℕ → Session
 with_cancelled v s =
     let k = stream_at v.streams s in
-    record (with_kept_stream v s (record k { cancelled = true })) { decoder_stream = v.decoder_stream
-        ++ written_decoder_instruction (Cancellation s) }
+    record (with_kept_stream v s (record k { cancelled = true })) {
+      decoder_stream = v.decoder_stream
+          ++ written_decoder_instruction (Cancellation s);
+    }
 
 -- what a lawful event does
 unfoldable pub LawfulStep : Session → Event → Outcome → Session → Type 0
 LawfulStep v (Encode s fs) o v' =
     ((o ≡ Encoded (required_insert_count (rule v.encoder fs))) × (v' ≡ with_block v s fs)) ⊎ GivesUp v fs o v'
-        ⊎ LeavesAll v o v'
+    ⊎ LeavesAll v o v'
 LawfulStep v (Decode s) o v' = DecodesNext v s o v' ⊎ LeavesAll v o v'
 LawfulStep v (ToDecoder n) o v' = DeliversToDecoder v n o v'
 LawfulStep v (ToEncoder n) o v' = DeliversToEncoder v n o v'

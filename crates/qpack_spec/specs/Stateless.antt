@@ -70,7 +70,7 @@ or_bad_bytes (Err e) = Err (BadSection (BadForm e))
 abbrev pub within_limit : ℕ → ℕ → Field → Result Field StatelessFault
 within_limit limit sum f =
     if nat_lt limit (saturated_size (sum + field_size f)) then Err
-        (TooLong (saturated_size (sum + field_size f))) else Ok f
+    (TooLong (saturated_size (sum + field_size f))) else Ok f
 
 -- the fields of the lines in turn, in so many steps at most; a post-base line, whose first bits are 000, is refused by
 -- its first byte alone

@@ -142,8 +142,11 @@ may_reference t a = below_limit t || nat_le a t.known_received_count
 -- the table with one entry more, what has to go being evicted (section 3.2.2)
 unfoldable pub with_entry : Table → Entry → Table
 with_entry t e =
-    record t { dropped = t.dropped + eviction_count_for t e.field; live = drop (eviction_count_for t e.field)
-        (t.live ++ e ∷ []) }
+    record t {
+      dropped = t.dropped + eviction_count_for t e.field;
+      live = drop (eviction_count_for t e.field)
+          (t.live ++ e ∷ []);
+    }
 
 -- an option's position, or that of the element before it
 abbrev pub later_position : Option ℕ → Bool → Option ℕ
@@ -167,7 +170,7 @@ put t f =
     if nat_eq t.capacity 0 then Ok t
     else if nat_le (field_size f) t.capacity
     then (if nat_lt (insert_count t) (2 ^ 62)
-        && can_evict t (eviction_count_for t f) then Ok (with_entry t (put_entry f)) else Ok t)
+    && can_evict t (eviction_count_for t f) then Ok (with_entry t (put_entry f)) else Ok t)
     else Err DoesNotFit
 
 -- another capacity (section 3.2.3): refused above the greatest one, or where an entry that is not evictable would have
@@ -177,7 +180,7 @@ with_capacity t n =
     let evicted = eviction_count n (fields_in t.live) in
     if nat_le n (greatest_capacity t.agreed_max)
     then (if can_evict t evicted then Ok
-        (record t { capacity = n; dropped = t.dropped + evicted; live = drop evicted t.live })
+    (record t { capacity = n; dropped = t.dropped + evicted; live = drop evicted t.live })
     else Err DoesNotFit)
     else Err AboveMaximum
 
@@ -226,8 +229,11 @@ unfoldable pub with_increment : Table → ℕ → Table
 with_increment t n =
     let known_received_count =
     min (t.known_received_count + n)
-        (2 ^ 64 - 1) in record t { known_received_count = known_received_count; blocked = filter
-            (λ r. nat_lt known_received_count r) t.blocked }
+    (2 ^ 64 - 1) in record t {
+      known_received_count = known_received_count;
+      blocked = filter
+          (λ r. nat_lt known_received_count r) t.blocked;
+    }
 
 -- what a decoder instruction makes of the encoder's table (section 4.4): an acknowledgment releases the oldest open
 -- block of its stream, a cancellation every one (section 2.2.2.2)

@@ -19,4 +19,4 @@ CapacitiesAreOfTheWindow = (t u : Table) (n : ℕ) → with_capacity t n ≡ Ok 
 abbrev pub DecodersTableGoesAsItsWindow : Type 0
 DecodersTableGoesAsItsWindow =
     (w : Window) (i : EncoderInstruction) → apply_encoder_instruction (table_of w) i
-        ≡ (apply w i >>= λ x. Ok (table_of x))
+    ≡ (apply w i >>= λ x. Ok (table_of x))

@@ -13,7 +13,7 @@ use Rattle.qpack_spec.specs.History.{History, window_of, empty_history, Leads}
 abbrev pub LiveEntriesAreFew : Type 0
 LiveEntriesAreFew =
     (capacity : ℕ) (agreed_max : Option ℕ) (is : List EncoderInstruction) (h : History)
-        → Leads (empty_history capacity agreed_max) is h
+    → Leads (empty_history capacity agreed_max) is h
     → 32 * length (window_of h).live ≤ h.capacity
 
 -- what has to go is the least number of oldest entries whose removal lets the rest fit (section 3.2.2)
@@ -35,11 +35,11 @@ pub record FrontLeads (from : History) (is : List EncoderInstruction) (m : Histo
 abbrev pub DroppedIsGreatest : Type 0
 DroppedIsGreatest =
     (capacity : ℕ) (agreed_max : Option ℕ) (is : List EncoderInstruction) (h : History)
-        → Leads (empty_history capacity agreed_max) is h
+    → Leads (empty_history capacity agreed_max) is h
     → ((m : History) → FrontLeads (empty_history capacity agreed_max) is m → eviction_count m.capacity m.inserted
-        ≤ h.dropped)
+    ≤ h.dropped)
     × ((m : History) × FrontLeads (empty_history capacity agreed_max) is m
-        × (h.dropped ≡ eviction_count m.capacity m.inserted))
+    × (h.dropped ≡ eviction_count m.capacity m.inserted))
 
 -- the longest tail that fits
 pub record IsLongestTail (capacity : ℕ) (all live : List Field) : Type 0 where
@@ -60,7 +60,7 @@ SetsNoCapacity (SetCapacity capacity) = ⊥
 abbrev pub LiveIsLongestTail : Type 0
 LiveIsLongestTail =
     (capacity : ℕ) (agreed_max : Option ℕ) (is : List EncoderInstruction) (h : History)
-        → AllByRecursion SetsNoCapacity is
+    → AllByRecursion SetsNoCapacity is
     → Leads (empty_history capacity agreed_max) is h → IsLongestTail capacity h.inserted (window_of h).live
 
 -- the window after some instructions
@@ -73,5 +73,5 @@ abbrev pub WindowsFollowHistories : Type 0
 WindowsFollowHistories =
     (capacity : ℕ) (agreed_max : Option ℕ) (is : List EncoderInstruction) (w : Window)
     → (all_taken (window_of (empty_history capacity agreed_max)) is ≡ Ok w) ↔
-        ((h : History) × Leads (empty_history capacity agreed_max) is h
+    ((h : History) × Leads (empty_history capacity agreed_max) is h
     × (w ≡ window_of h))

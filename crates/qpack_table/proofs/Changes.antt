@@ -82,7 +82,7 @@ resized_against_held t n most held = rw (le-leb n (greatest_capacity t.agreed_ma
 pub resized_to : (t : Table) (n dropped : ℕ) (live : List Entry) → n ≤ greatest_capacity t.agreed_max
     → can_evict t (eviction_count n (fields_in t.live)) ≡ true
     → dropped ≡ t.dropped + eviction_count n (fields_in t.live) → live
-        ≡ drop (eviction_count n (fields_in t.live)) t.live
+    ≡ drop (eviction_count n (fields_in t.live)) t.live
     → with_capacity t n ≡ Ok (record t { capacity = n; dropped = dropped; live = live })
 unfolding with_capacity
 resized_to t n dropped live most free d l = rw (le-leb n (greatest_capacity t.agreed_max) most, free, d, l) refl

@@ -66,7 +66,7 @@ recent_is_entry w relative =
     elim (cases_lt relative (length w.live)) [
       | inl h ↦
           let position : IsPositionOf (positions_of w) (window_insert_count w - relative)
-              (length w.live - 1 - relative) = omega (arith, h) in
+          (length w.live - 1 - relative) = omega (arith, h) in
           rw (lt-ltb relative (length w.live) h) (sym
           (at_position w (window_insert_count w - relative) (length w.live - 1 - relative) position))
       | inr h ↦
@@ -99,7 +99,7 @@ relative_dropped w base relative none =
 
 pub post_base_is_entry : (w : Window) (base post_base : ℕ)
     → post_base_field w base post_base
-        ≡ or_fault (absolute_entry w (post_base_index base post_base)) (BehindBase post_base)
+    ≡ or_fault (absolute_entry w (post_base_index base post_base)) (BehindBase post_base)
 unfolding post_base_field
 post_base_is_entry w base post_base =
     elim (cases_lt w.dropped (base + post_base + 1)) [

@@ -30,7 +30,7 @@ named_if_used referenced unacknowledged a = first (has_number a referenced) refl
 
     first : (b : Bool) → has_number a referenced ≡ b
         → (has_number a referenced
-            || list_any (λ (b : table.UnacknowledgedBlock). has_number a b.entries) unacknowledged)
+        || list_any (λ (b : table.UnacknowledgedBlock). has_number a b.entries) unacknowledged)
         ≡ nat_lt 0 (uses referenced unacknowledged a)
     first true e = rw e (sym (lt-ltb 0 (1 + rest) (omega arith)))
     first false e = let none : 0 + rest ≡ rest = omega arith in
@@ -51,10 +51,10 @@ pub evictable_used : (t : table.Table) (a n : ℕ) (sent : Bool) → n ≡ uses 
 unfolding is_evictable
 evictable_used t a n sent e h =
     ap not (by_either (has_number a t.referenced)
-        (list_any (λ (b : table.UnacknowledgedBlock). has_number a b.entries) t.unacknowledged)
+    (list_any (λ (b : table.UnacknowledgedBlock). has_number a b.entries) t.unacknowledged)
     (sent && nat_lt t.known_received_count a)
     (named_if_used t.referenced t.unacknowledged a
-        ∙ lt-ltb 0 (uses t.referenced t.unacknowledged a) (omega (arith, e, h))))
+    ∙ lt-ltb 0 (uses t.referenced t.unacknowledged a) (omega (arith, e, h))))
 
 pub evictable_unused : (t : table.Table) (a n : ℕ) (sent : Bool) → n ≡ uses t.referenced t.unacknowledged a → n ≡ 0
     → is_evictable t a sent ≡ not (sent && nat_lt t.known_received_count a)
@@ -62,7 +62,7 @@ unfolding is_evictable
 evictable_unused t a n sent e h =
     let none : uses t.referenced t.unacknowledged a ≡ 0 = omega (arith, e, h) in
     ap not (by_neither (has_number a t.referenced)
-        (list_any (λ (b : table.UnacknowledgedBlock). has_number a b.entries) t.unacknowledged)
+    (list_any (λ (b : table.UnacknowledgedBlock). has_number a b.entries) t.unacknowledged)
     (sent && nat_lt t.known_received_count a)
     (named_if_used t.referenced t.unacknowledged a ∙ ap (nat_lt 0) none))
 
@@ -91,7 +91,7 @@ next_tested (y ∷ ys) (suc evicted) zero x h is = let s : y ≡ x = cc in ap (�
 next_tested (y ∷ ys) (suc evicted) (suc position) x h is =
     let next : suc position + 1 ≡ suc (position + 1) = omega arith in
     next_tested ys evicted position x (omega (arith, h)) is
-        ∙ ap (λ (n : ℕ). x ∷ drop n (take (suc evicted) (y ∷ ys))) (sym next)
+    ∙ ap (λ (n : ℕ). x ∷ drop n (take (suc evicted) (y ∷ ys))) (sym next)
 
 there_is : {X : Type 0} (xs : List X) (position : ℕ) → position < length xs → (x : X) × (slice_get xs position ≡ Some x)
 there_is [] position h = absurd (omega (arith, h))

@@ -157,7 +157,7 @@ shed all now i size less e rest a b front same =
 -- what a table keeps, with fewer entries
 kept_less : (v w : Positions) (es now : List Entry) (size left capacity capacity' : ℕ) (referenced named' : List ℕ)
     (unacknowledged opened' : List table.UnacknowledgedBlock) (k : ℕ)
-        → IsKept v es size capacity referenced unacknowledged
+    → IsKept v es size capacity referenced unacknowledged
     → k ≤ length es → now ≡ drop k es → left ≡ total_size (drop k (fields_in (entries_of es)))
     → w.dropped ≡ v.dropped + k → w.total ≡ v.total
     → capacity' ≡ capacity → named' ≡ referenced → opened' ≡ unacknowledged → IsKept w now left capacity' named' opened'
@@ -213,7 +213,7 @@ last_is (y ∷ xs) e x (suc position) h at = let r = last_is xs e x position (om
 -- what a table keeps, with some entries less and one more
 pub kept_inserted : (v w : Positions) (es now : List Entry) (size left capacity : ℕ) (referenced : List ℕ)
     (unacknowledged : List table.UnacknowledgedBlock) (e : Entry) (k : ℕ)
-        → IsKept v es size capacity referenced unacknowledged
+    → IsKept v es size capacity referenced unacknowledged
     → field_size (field_at e) ≤ capacity → k ≡ eviction_count capacity (fields_in (entries_of es) ++ field_at e ∷ [])
     → now ≡ drop k es ++ e ∷ []
     → left ≡ total_size (drop k (fields_in (entries_of es))) + field_size (field_at e) → e.uses ≡ 0
@@ -222,7 +222,7 @@ kept_inserted v w es now size left capacity referenced unacknowledged e k kept r
     total =
     let fs = fields_in (entries_of es) in
     let few : k ≤ length es = omega
-        (arith, evicted, eviction_count_push capacity fs (field_at e) room, fields-length es) in
+    (arith, evicted, eviction_count_push capacity fs (field_at e) room, fields-length es) in
     let within : k ≤ length fs = omega (arith, few, fields-length es) in
     let fits : total_size (drop k fs) + field_size (field_at e) ≤ capacity =
     omega (
@@ -285,11 +285,11 @@ evicted_within es f capacity k fits evicted = omega (
 -- what a table keeps, with fewer entries and another capacity
 pub kept_resized : (v w : Positions) (es now : List Entry) (size left capacity most : ℕ) (referenced : List ℕ)
     (unacknowledged : List table.UnacknowledgedBlock) (k freed : ℕ)
-        → IsKept v es size capacity referenced unacknowledged
+    → IsKept v es size capacity referenced unacknowledged
     → k ≡ eviction_count most (fields_in (entries_of es)) → most < 2 ^ 30 → now ≡ drop k es
     → freed + total_size (drop k (fields_in (entries_of es))) ≡ total_size (fields_in (entries_of es))
     → left ≡ size - freed → w.dropped ≡ v.dropped + k → w.total ≡ v.total
-        → IsKept w now left most referenced unacknowledged
+    → IsKept w now left most referenced unacknowledged
 kept_resized v w es now size left capacity most referenced unacknowledged k freed kept evicted small items sum rest
     dropped total =
     let fs = fields_in (entries_of es) in

@@ -58,19 +58,19 @@ recent_missing v t index e none =
     let not : IsLive (positions_of (window t)) (newest_relative_index (positions_of (window t)) index) → ⊥ =
     subst (λ (p : Positions). IsLive p (newest_relative_index p index) → ⊥) e none in
     recent_is_entry (window t) index
-        ∙ none_unless (absolute_entry (window t) (newest_relative_index (positions_of (window t)) index))
+    ∙ none_unless (absolute_entry (window t) (newest_relative_index (positions_of (window t)) index))
     (λ some. not (there_is_live (window t) (newest_relative_index (positions_of (window t)) index) some))
 
 pub recent_there : (v : Positions) (t : table.Table) (index position : ℕ) → v ≡ positions_of (window t)
     → IsPositionOf v (newest_relative_index v index) position → relative_entry (window t) index
-        ≡ slice_get (fields_in t.live) position
+    ≡ slice_get (fields_in t.live) position
 unfolding window
 recent_there v t index position e at =
     let there : IsPositionOf (positions_of (window t))
-        (newest_relative_index (positions_of (window t)) index) position =
+    (newest_relative_index (positions_of (window t)) index) position =
     subst (λ (p : Positions). IsPositionOf p (newest_relative_index p index) position) e at in
     recent_is_entry (window t) index
-        ∙ at_position (window t) (newest_relative_index (positions_of (window t)) index) position there
+    ∙ at_position (window t) (newest_relative_index (positions_of (window t)) index) position there
 
 -- a live entry is found
 pub recent_live : (v : Positions) (t : table.Table) (index position : ℕ) → v ≡ positions_of (window t)
@@ -130,7 +130,7 @@ under_base v t base index position (Ok f) e kept at found refused =
     ∙ ap (λ (o : Option Field). or_fault o (AboveWindow position)) found
 under_base v t base index position (Err x) e kept at found refused =
     let is = relative_at_position (window t) base index position
-        (subst (λ (p : Positions). IsNotEvicted p base index) e kept)
+    (subst (λ (p : Positions). IsNotEvicted p base index) e kept)
     (subst (λ (p : Positions). IsPositionOf p (relative_index base index) position) e at)
     ∙ ap (λ (o : Option Field). or_fault o (AboveWindow position)) refused.1 in
     subst (λ (y : Error). LooksUp (Err y) (relative_field (window t) base index)) (sym refused.0) is
@@ -142,7 +142,7 @@ below_base v t base index e evicted = relative_dropped (window t) base index
 
 pub behind_base : (v : Positions) (t : table.Table) (base index position : ℕ) (r : Result (Bor HeaderField) Error)
     → v ≡ positions_of (window t) → IsLive v (post_base_index base index)
-        → IsPositionOf v (post_base_index base index) position
+    → IsPositionOf v (post_base_index base index) position
     → IfOk r (λ f. slice_get (fields_in t.live) position ≡ Some (field_of f.now))
     → IfErr r (λ e. (e ≡ BadIndex position) × (slice_get (fields_in t.live) position ≡ None))
     → LooksUp r (post_base_field (window t) base index)

@@ -13,7 +13,7 @@ EntriesStandAtPositions =
     (w : Window) (absolute : ℕ)
     → (IsSome (absolute_entry w absolute) ↔ IsLive (positions_of w) absolute)
     × ((position : ℕ) → IsPositionOf (positions_of w) absolute position → absolute_entry w absolute
-        ≡ slice_get w.live position)
+    ≡ slice_get w.live position)
 
 -- the entry of an instruction's relative index is that of the absolute index which it names (section 3.2.5)
 abbrev pub RecentEntriesAreNamed : Type 0
@@ -34,4 +34,4 @@ abbrev pub PostBaseFieldsAreNamed : Type 0
 PostBaseFieldsAreNamed =
     (w : Window) (base post_base : ℕ)
     → post_base_field w base post_base
-        ≡ or_fault (absolute_entry w (post_base_index base post_base)) (BehindBase post_base)
+    ≡ or_fault (absolute_entry w (post_base_index base post_base)) (BehindBase post_base)

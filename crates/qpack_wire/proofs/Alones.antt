@@ -250,7 +250,7 @@ alone_follows a c = record {
 
 pub forms_follow : {L : Type 0} (form_of : ℕ → Option (Form L)) (refuses : List ℕ → KindFault → Type 0)
     → ((encoding : List ℕ) (fault : FormFault)
-        → (refuses encoding (Unreadable fault) → Refuses L form_of encoding fault)
+    → (refuses encoding (Unreadable fault) → Refuses L form_of encoding fault)
     × (Refuses L form_of encoding fault → refuses encoding (Unreadable fault)))
     → ((encoding : List ℕ) (bits : ℕ) → refuses encoding (Foreign bits) → ⊥)
     → Follows L (λ encoding l. Spells L form_of encoding l) refuses (λ bytes. or_unreadable (form_at form_of bytes))

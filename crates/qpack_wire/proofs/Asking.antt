@@ -43,7 +43,7 @@ asks_second : {L : Type 0} (n : ℕ) (make : List ℕ → List ℕ → L) (bytes
 asks_second {L} n make bytes (Ok m) e h =
     let t = string_takes n bytes m.0 m.1 m.2 e in
     let b = in_turn {P = λ t. (name : List ℕ) × HoldsText n name t} bytes t.encoding m.2 t.parts
-        (m.1, (m.0, t.spells)) h in
+    (m.1, (m.0, t.spells)) h in
     record { encoding = b.encoding; rest = b.rest; parts = b.parts; holds = inr b.holds }
 asks_second n make bytes (Err f) e h = absurd h
 

@@ -21,12 +21,6 @@ use Rattle.qpack_wire.proofs.LineForms.{coherent_post_base_name_ref}
 
 -- ---- the forms alone name the line's form
 
-below : (b k : ℕ) → b < k → nat_lt b k ≡ true
-below b k h = lt-ltb b k h
-
-above : (b k : ℕ) → k ≤ b → nat_lt b k ≡ false
-above b k h = le-ltb b k h
-
 -- some form is named
 abbrev Names : Option (Form Line) → Type 0
 Names o = (form : Form Line) × (o ≡ Some form)
@@ -42,7 +36,7 @@ line_named b h =
     (either_names (nat_lt b 32) _ _ (_, refl)
     (either_names (nat_lt b 64) _ _ (_, refl)
     (either_names (nat_lt b 128) _ _ (either_names (nat_eq (b / 16 % 2) 1) _ _ (_, refl) (_, refl))
-    (either_names (nat_lt b 192) _ _ (_, refl) (rw (below b 256 h) (_, refl))))))
+    (either_names (nat_lt b 192) _ _ (_, refl) (rw (lt-ltb b 256 h) (_, refl))))))
 
 -- where a form alone names what a line's first byte does, it is read as the line
 alone_is_line : (a : Kind Line) → Coherent a → (b : ℕ) (bs : List ℕ) → b < 256 → form_for a b ≡ line_form b
@@ -57,11 +51,11 @@ dynamic_index b low high =
     let q : b / 64 ≡ 2 = omega arith in
     rw (
       q,
-      above b 16 (omega arith),
-      above b 32 (omega arith),
-      above b 64 (omega arith),
-      above b 128 low,
-      below b 192 high,
+      le-ltb b 16 (omega arith),
+      le-ltb b 32 (omega arith),
+      le-ltb b 64 (omega arith),
+      le-ltb b 128 low,
+      lt-ltb b 192 high,
     ) refl
 
 static_index : (b : ℕ) → 192 ≤ b → b < 256 → form_for indexed b ≡ line_form b
@@ -70,12 +64,12 @@ static_index b low high =
     let q : b / 64 ≡ 3 = omega arith in
     rw (
       q,
-      above b 16 (omega arith),
-      above b 32 (omega arith),
-      above b 64 (omega arith),
-      above b 128 (omega arith),
-      above b 192 low,
-      below b 256 high,
+      le-ltb b 16 (omega arith),
+      le-ltb b 32 (omega arith),
+      le-ltb b 64 (omega arith),
+      le-ltb b 128 (omega arith),
+      le-ltb b 192 low,
+      lt-ltb b 256 high,
     ) refl
 
 pub same_indexed : (b : ℕ) → 128 ≤ b → b < 256 → form_for indexed b ≡ line_form b
@@ -87,22 +81,22 @@ same_indexed b low high = pick (cases_lt b 192)
 
 pub same_post_base : (b : ℕ) → 16 ≤ b → b < 32 → form_for indexed_with_post_base b ≡ line_form b
 unfolding line_form
-same_post_base b low high = let q : b / 16 ≡ 1 = omega arith in rw (q, above b 16 low, below b 32 high) refl
+same_post_base b low high = let q : b / 16 ≡ 1 = omega arith in rw (q, le-ltb b 16 low, lt-ltb b 32 high) refl
 
 pub same_name_ref : (b : ℕ) → 64 ≤ b → b < 128 → form_for literal_with_name_ref b ≡ line_form b
 unfolding line_form
 same_name_ref b low high =
     let q : b / 16 / 4 ≡ 1 = omega arith in
-    rw (q, above b 16 (omega arith), above b 32 (omega arith), above b 64 low, below b 128 high) refl
+    rw (q, le-ltb b 16 (omega arith), le-ltb b 32 (omega arith), le-ltb b 64 low, lt-ltb b 128 high) refl
 
 pub same_post_base_name_ref : (b : ℕ) → b < 16 → form_for literal_with_post_base_name_ref b ≡ line_form b
 unfolding line_form
-same_post_base_name_ref b high = rw (below (b / 8) 2 (omega arith), below b 16 high) refl
+same_post_base_name_ref b high = rw (lt-ltb (b / 8) 2 (omega arith), lt-ltb b 16 high) refl
 
 pub same_literal : (b : ℕ) → 32 ≤ b → b < 64 → form_for literal b ≡ line_form b
 unfolding line_form
 same_literal b low high =
-    let q : b / 32 ≡ 1 = omega arith in rw (q, above b 16 (omega arith), above b 32 low, below b 64 high) refl
+    let q : b / 32 ≡ 1 = omega arith in rw (q, le-ltb b 16 (omega arith), le-ltb b 32 low, lt-ltb b 64 high) refl
 
 -- ---- each form, where the first byte tells it
 
@@ -116,21 +110,21 @@ Told b field.Indexed = 128 ≤ b
 Told b field.Unknown = ⊥
 
 told_post_base_name_ref : (b : ℕ) → b < 16 → field_of_first b ≡ field.LiteralWithPostBaseNameRef
-told_post_base_name_ref b h = rw (below b 16 h) refl
+told_post_base_name_ref b h = rw (lt-ltb b 16 h) refl
 
 told_post_base : (b : ℕ) → 16 ≤ b → b < 32 → field_of_first b ≡ field.IndexedWithPostBase
-told_post_base b low high = rw (above b 16 low, below b 32 high) refl
+told_post_base b low high = rw (le-ltb b 16 low, lt-ltb b 32 high) refl
 
 told_literal : (b : ℕ) → 32 ≤ b → b < 64 → field_of_first b ≡ field.Literal
-told_literal b low high = rw (above b 16 (omega arith), above b 32 low, below b 64 high) refl
+told_literal b low high = rw (le-ltb b 16 (omega arith), le-ltb b 32 low, lt-ltb b 64 high) refl
 
 told_name_ref : (b : ℕ) → 64 ≤ b → b < 128 → field_of_first b ≡ field.LiteralWithNameRef
 told_name_ref b low high =
-    rw (above b 16 (omega arith), above b 32 (omega arith), above b 64 low, below b 128 high) refl
+    rw (le-ltb b 16 (omega arith), le-ltb b 32 (omega arith), le-ltb b 64 low, lt-ltb b 128 high) refl
 
 told_indexed : (b : ℕ) → 128 ≤ b → field_of_first b ≡ field.Indexed
 told_indexed b low =
-    rw (above b 16 (omega arith), above b 32 (omega arith), above b 64 (omega arith), above b 128 low) refl
+    rw (le-ltb b 16 (omega arith), le-ltb b 32 (omega arith), le-ltb b 64 (omega arith), le-ltb b 128 low) refl
 
 told_at : (b : ℕ) → Told b (field_of_first b)
 told_at b =

@@ -34,7 +34,7 @@ unfolding prefix_at
 prefix_refused encoding rest (Unreadable f) (inl r) = rw (index_refused 8 encoding rest f r) refl
 prefix_refused encoding rest (Unreadable f) (inr r) =
     let q : encoding ++ rest ≡ r.head ++ (r.tail ++ rest) = ap (λ x. x ++ rest) r.parts
-        ∙ append_assoc r.head r.tail rest in
+    ∙ append_assoc r.head r.tail rest in
     rw (q, index_again 8 r.head (r.tail ++ rest) r.first.0 r.first.1, index_refused 7 r.tail rest f r.second) refl
 prefix_refused encoding rest (Foreign bits) r = absurd r
 
@@ -67,8 +67,12 @@ prefix_refusal bytes f e k = pick (prefix_fails bytes f e (or_bad_integer (integ
         × (or_bad_integer (integer_at 7 i.2) ≡ Err f))
         → Begins (λ encoding. RefusesPrefix encoding (Unreadable f)) bytes
     pick (inl h) = let b =
-        index_refusal 8 bytes f h k in record { encoding = b.encoding; rest = b.rest; parts = b.parts;
-            holds = inl b.holds }
+        index_refusal 8 bytes f h k in record {
+          encoding = b.encoding;
+          rest = b.rest;
+          parts = b.parts;
+          holds = inl b.holds;
+        }
     pick (inr h) =
         let t = index_takes 8 bytes h.0 h.1 in
         let b = index_refusal 7 h.0.2 f h.2 k in

@@ -1,7 +1,6 @@
 -- An instruction is that which its first byte names.
-use Rattle.std.proofs.Common.{◌≡◌, ℕ, ◌/◌, ◌<◌, ◌≤◌, true, false, List, [], ◌∷◌, Option, Some, Result, Err, refl, sym}
+use Rattle.std.proofs.Common.{◌≡◌, ℕ, ◌/◌, ◌<◌, ◌≤◌, List, [], ◌∷◌, Option, Some, Result, Err, refl, sym}
 use Rattle.std.proofs.Common.{ap, subst, ◌∙◌, arith, drop, length, inl, inr}
-use Rattle.std.specs.Prelude.{nat_lt}
 use Rattle.std.proofs.lemmas.Bool.{lt-ltb, le-ltb, cases_lt}
 use Rattle.qpack_spec.specs.Integer.{UnexpectedEnd}
 use Rattle.qpack_spec.specs.Form.{BadInteger, Form, Index, IndexAndValue, NameAndValue, form_at}
@@ -27,12 +26,6 @@ use Rattle.qpack_wire.proofs.InstructionForms.{coherent_insert_with_name_ref, co
 use Rattle.qpack_wire.proofs.InstructionForms.{coherent_dynamic_table_size_update, coherent_insert_count_increment}
 use Rattle.qpack_wire.proofs.InstructionForms.{coherent_header_ack, coherent_stream_cancel}
 
-below : (b k : ℕ) → b < k → nat_lt b k ≡ true
-below b k h = lt-ltb b k h
-
-above : (b k : ℕ) → k ≤ b → nat_lt b k ≡ false
-above b k h = le-ltb b k h
-
 -- a byte list that begins with this byte
 abbrev BeginsWith : ℕ → List ℕ → Type 0
 BeginsWith b rest = rest ≡ b ∷ drop 1 rest
@@ -53,19 +46,19 @@ as_form form_of a c b rest e s =
 pub shares_duplicate : (b : ℕ) → b < 32 → Shares encoder_instruction_form duplicate b
 unfolding encoder_instruction_form
 shares_duplicate b h =
-    (Index 5 instruction.Duplicate, (let q : b / 32 ≡ 0 = omega arith in rw q refl), rw (below b 32 h) refl)
+    (Index 5 instruction.Duplicate, (let q : b / 32 ≡ 0 = omega arith in rw q refl), rw (lt-ltb b 32 h) refl)
 
 pub shares_size_update : (b : ℕ) → 32 ≤ b → b < 64 → Shares encoder_instruction_form dynamic_table_size_update b
 unfolding encoder_instruction_form
 shares_size_update b low high =
-    (Index 5 SetCapacity, (let q : b / 32 ≡ 1 = omega arith in rw q refl), rw (above b 32 low, below b 64 high) refl)
+    (Index 5 SetCapacity, (let q : b / 32 ≡ 1 = omega arith in rw q refl), rw (le-ltb b 32 low, lt-ltb b 64 high) refl)
 
 pub shares_literal : (b : ℕ) → 64 ≤ b → b < 128 → Shares encoder_instruction_form insert_without_name_ref b
 unfolding encoder_instruction_form
 shares_literal b low high = (
   NameAndValue 6 InsertLiteralName,
   (let q : b / 64 ≡ 1 = omega arith in rw q refl),
-  rw (above b 32 (omega arith), above b 64 low, below b 128 high) refl,
+  rw (le-ltb b 32 (omega arith), le-ltb b 64 low, lt-ltb b 128 high) refl,
 )
 
 shares_dynamic : (b : ℕ) → 128 ≤ b → b < 192 → Shares encoder_instruction_form insert_with_name_ref b
@@ -73,7 +66,7 @@ unfolding encoder_instruction_form
 shares_dynamic b low high = (
   IndexAndValue 6 InsertDynamicName,
   (let q : b / 64 ≡ 2 = omega arith in rw q refl),
-  rw (above b 32 (omega arith), above b 64 (omega arith), above b 128 low, below b 192 high) refl,
+  rw (le-ltb b 32 (omega arith), le-ltb b 64 (omega arith), le-ltb b 128 low, lt-ltb b 192 high) refl,
 )
 
 shares_static : (b : ℕ) → 192 ≤ b → b < 256 → Shares encoder_instruction_form insert_with_name_ref b
@@ -82,11 +75,11 @@ shares_static b low high = (
   IndexAndValue 6 InsertStaticName,
   (let q : b / 64 ≡ 3 = omega arith in rw q refl),
   rw (
-    above b 32 (omega arith),
-    above b 64 (omega arith),
-    above b 128 (omega arith),
-    above b 192 low,
-    below b 256 high,
+    le-ltb b 32 (omega arith),
+    le-ltb b 64 (omega arith),
+    le-ltb b 128 (omega arith),
+    le-ltb b 192 low,
+    lt-ltb b 256 high,
   ) refl,
 )
 
@@ -106,16 +99,16 @@ ToldEncoder b encoder.Duplicate = b < 32
 ToldEncoder b encoder.Unknown = ⊥
 
 told_duplicate : (b : ℕ) → b < 32 → encoder_instruction_of_first b ≡ encoder.Duplicate
-told_duplicate b h = rw (below b 32 h) refl
+told_duplicate b h = rw (lt-ltb b 32 h) refl
 
 told_size_update : (b : ℕ) → 32 ≤ b → b < 64 → encoder_instruction_of_first b ≡ encoder.DynamicTableSizeUpdate
-told_size_update b low high = rw (above b 32 low, below b 64 high) refl
+told_size_update b low high = rw (le-ltb b 32 low, lt-ltb b 64 high) refl
 
 told_literal : (b : ℕ) → 64 ≤ b → b < 128 → encoder_instruction_of_first b ≡ encoder.InsertWithoutNameRef
-told_literal b low high = rw (above b 32 (omega arith), above b 64 low, below b 128 high) refl
+told_literal b low high = rw (le-ltb b 32 (omega arith), le-ltb b 64 low, lt-ltb b 128 high) refl
 
 told_name : (b : ℕ) → 128 ≤ b → encoder_instruction_of_first b ≡ encoder.InsertWithNameRef
-told_name b low = rw (above b 32 (omega arith), above b 64 (omega arith), above b 128 low) refl
+told_name b low = rw (le-ltb b 32 (omega arith), le-ltb b 64 (omega arith), le-ltb b 128 low) refl
 
 told_encoder : (b : ℕ) (i : EncoderKind) → encoder_instruction_of_first b ≡ i → ToldEncoder b i
 told_encoder b i e =
@@ -197,19 +190,20 @@ pub ruleset encoder_by_first = (
 
 pub shares_increment : (b : ℕ) → b < 64 → Shares decoder_instruction_form insert_count_increment b
 unfolding decoder_instruction_form
-shares_increment b h = (Index 6 Increment, (let q : b / 64 ≡ 0 = omega arith in rw q refl), rw (below b 64 h) refl)
+shares_increment b h = (Index 6 Increment, (let q : b / 64 ≡ 0 = omega arith in rw q refl), rw (lt-ltb b 64 h) refl)
 
 pub shares_cancel : (b : ℕ) → 64 ≤ b → b < 128 → Shares decoder_instruction_form stream_cancel b
 unfolding decoder_instruction_form
 shares_cancel b low high =
-    (Index 6 Cancellation, (let q : b / 64 ≡ 1 = omega arith in rw q refl), rw (above b 64 low, below b 128 high) refl)
+    let first : b / 64 ≡ 1 = omega arith in
+    (Index 6 Cancellation, rw first refl, rw (le-ltb b 64 low, lt-ltb b 128 high) refl)
 
 pub shares_ack : (b : ℕ) → 128 ≤ b → b < 256 → Shares decoder_instruction_form header_ack b
 unfolding decoder_instruction_form
 shares_ack b low high = (
   Index 7 Acknowledgment,
   (let q : b / 128 ≡ 1 = omega arith in rw q refl),
-  rw (above b 64 (omega arith), above b 128 low, below b 256 high) refl,
+  rw (le-ltb b 64 (omega arith), le-ltb b 128 low, lt-ltb b 256 high) refl,
 )
 
 -- the first bytes of each decoder instruction
@@ -220,13 +214,13 @@ ToldDecoder b decoder.InsertCountIncrement = b < 64
 ToldDecoder b decoder.Unknown = ⊥
 
 told_increment : (b : ℕ) → b < 64 → decoder_instruction_of_first b ≡ decoder.InsertCountIncrement
-told_increment b h = rw (below b 64 h) refl
+told_increment b h = rw (lt-ltb b 64 h) refl
 
 told_cancel : (b : ℕ) → 64 ≤ b → b < 128 → decoder_instruction_of_first b ≡ decoder.StreamCancel
-told_cancel b low high = rw (above b 64 low, below b 128 high) refl
+told_cancel b low high = rw (le-ltb b 64 low, lt-ltb b 128 high) refl
 
 told_ack : (b : ℕ) → 128 ≤ b → decoder_instruction_of_first b ≡ decoder.HeaderAck
-told_ack b low = rw (above b 64 (omega arith), above b 128 low) refl
+told_ack b low = rw (le-ltb b 64 (omega arith), le-ltb b 128 low) refl
 
 told_decoder : (b : ℕ) (i : DecoderKind) → decoder_instruction_of_first b ≡ i → ToldDecoder b i
 told_decoder b i e =
@@ -260,7 +254,7 @@ pub as_ack : (b : ℕ) (rest : List ℕ) → b < 256 → BeginsWith b rest → d
     → kind_at header_ack rest ≡ decoder_instruction_at rest
 as_ack b rest h e f =
     as_form decoder_instruction_form header_ack coherent_header_ack b rest e
-        (shares_ack b (told_decoder b decoder.HeaderAck f) h)
+    (shares_ack b (told_decoder b decoder.HeaderAck f) h)
 
 -- each decoder instruction, where the first byte tells it
 pub ruleset decoder_by_first = (as_increment, as_cancel, as_ack, no_unknown_decoder)

@@ -144,7 +144,7 @@ acks b form e = let q = eqb-true (b / 128) 1 (test_holds (nat_eq (b / 128) 1) _ 
 
 decoder_kind : (encoding : List ℕ) (r : DecoderInstruction) → SpellsDecoderInstruction encoding r
     → SpellsKind insert_count_increment encoding r
-        ⊎ (SpellsKind stream_cancel encoding r ⊎ SpellsKind header_ack encoding r)
+    ⊎ (SpellsKind stream_cancel encoding r ⊎ SpellsKind header_ack encoding r)
 decoder_kind encoding r s =
     elim (cases_lt s.first 64) [
       | inl h ↦ inl (alone decoder_instruction_form insert_count_increment encoding r s (shares_increment s.first h))

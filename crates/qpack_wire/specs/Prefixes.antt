@@ -16,7 +16,7 @@ prefix_of p = record { count = p.encoded_insert_count; sign = p.sign_negative; d
 abbrev pub RefusesPrefix : List ℕ → KindFault → Type 0
 RefusesPrefix encoding (Unreadable fault) =
     RefusesIndex 8 encoding fault
-        ⊎ InTurn (λ t. (count : ℕ) × HoldsIndex 8 count t) (λ t. RefusesIndex 7 t fault) encoding
+    ⊎ InTurn (λ t. (count : ℕ) × HoldsIndex 8 count t) (λ t. RefusesIndex 7 t fault) encoding
 RefusesPrefix encoding (Foreign bits) = ⊥
 
 -- the prefix at the front of the bytes, and the bytes behind it

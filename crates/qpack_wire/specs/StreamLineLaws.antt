@@ -36,7 +36,7 @@ pub written_instructions_read_back : WrittenIsReadBack encoder_instruction_at Is
     written_encoder_instruction
 written_instructions_read_back l rest h =
     ap or_unreadable (form_again encoder_instruction_form (written_encoder_instruction l) rest l
-        (instructions_spelled l h))
+    (instructions_spelled l h))
 
 pub spellings_have_one_instruction : SpellingsHaveOneInstruction SpellsEncoderInstruction
 spellings_have_one_instruction = one_form encoder_instruction_form
@@ -55,7 +55,7 @@ pub written_decoder_instructions_read_back : WrittenIsReadBack decoder_instructi
     written_decoder_instruction
 written_decoder_instructions_read_back l rest h =
     ap or_unreadable (form_again decoder_instruction_form (written_decoder_instruction l) rest l
-        (decoder_instructions_spelled l h))
+    (decoder_instructions_spelled l h))
 
 pub spellings_have_one_decoder_instruction : SpellingsHaveOneInstruction SpellsDecoderInstruction
 spellings_have_one_decoder_instruction = one_form decoder_instruction_form

@@ -44,7 +44,7 @@ line_ends (b ∷ bytes) h = go (eqb b 10) (at 10 bytes) h (λ l. line_ends bytes
     go : (t : Bool) (n : ℕ) → cond (not t) (1 + n) 0 < length (b ∷ bytes)
         → (n < length bytes → lines_of bytes ≡ take n bytes ∷ lines_of (drop (suc n) bytes))
         → cond t ([] ∷ lines_of bytes) (with_byte b (lines_of bytes))
-            ≡ take (cond (not t) (1 + n) 0) (b ∷ bytes) ∷ lines_of (drop (suc (cond (not t) (1 + n) 0)) (b ∷ bytes))
+        ≡ take (cond (not t) (1 + n) 0) (b ∷ bytes) ∷ lines_of (drop (suc (cond (not t) (1 + n) 0)) (b ∷ bytes))
     go true n h more = refl
     go false n h more = rw (one_more n, more (omega arith)) refl
 
@@ -94,8 +94,11 @@ field_ends (b ∷ bytes) h = go (eqb b 9) (at 9 bytes) h (λ l. field_ends bytes
     go : (t : Bool) (n : ℕ) → cond (not t) (1 + n) 0 < length (b ∷ bytes)
         → (n < length bytes → field_of_line bytes ≡ Some (record { name = take n bytes; value = drop (suc n) bytes }))
         → cond t (Some (record { name = []; value = bytes })) (with_name_byte b (field_of_line bytes))
-            ≡ Some (record { name = take (cond (not t) (1 + n) 0) (b ∷ bytes); value = drop
-                (suc (cond (not t) (1 + n) 0)) (b ∷ bytes) })
+        ≡ Some (record {
+          name = take (cond (not t) (1 + n) 0) (b ∷ bytes);
+          value = drop
+              (suc (cond (not t) (1 + n) 0)) (b ∷ bytes);
+        })
     go true n h more = refl
     go false n h more = rw (one_more n, more (omega arith)) refl
 
@@ -111,7 +114,7 @@ no_field (b ∷ bytes) h = go (eqb b 9) (at 9 bytes) h (λ l. no_field bytes l)
 
 pub field_parts : (bytes : List ℕ) (o : Option Parts) → MatchOption o (found 9 bytes ≡ None) (PartsAt 9 bytes)
     → MatchOption o (field_of_line bytes ≡ None)
-        (λ parts. field_of_line bytes ≡ Some (record { name = parts.0.now; value = parts.1.now }))
+    (λ parts. field_of_line bytes ≡ Some (record { name = parts.0.now; value = parts.1.now }))
 field_parts bytes None h = no_field bytes (nowhere 9 bytes h)
 field_parts bytes (Some x) h =
     let n = place_is 9 bytes h.0 h.1 in

@@ -39,6 +39,11 @@ pub ends_told : {Z : Type 0} (words : List (String Z)) (input old new fold fnew 
     → (s : Refusal) × EndsFor words input old new s × (line : List ℕ) × IsLineOf s line × AppendsFront fold fnew line
 ends_told words input old new fold fnew r ends (told, inl e, line, said, wrote) =
     (told, subst (EndsFor words input old new) (sym e) ends, line, said, wrote)
-ends_told words input old new fold fnew r ends (told, inr (fault, e), line, said, wrote) =
-    (told, subst (EndsFor words input old new) (sym e)
-        (memory_ends words input old new r fault ends), line, said, wrote)
+ends_told words input old new fold fnew r ends (told, inr (fault, e), line, said, wrote) = (
+  told,
+  subst (EndsFor words input old new) (sym e)
+      (memory_ends words input old new r fault ends),
+  line,
+  said,
+  wrote,
+)

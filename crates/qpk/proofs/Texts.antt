@@ -23,7 +23,7 @@ with_front front (Err n) = Err n
 pub encoded : (bytes : List ℕ) (s : Iter HeaderField) (xs : List HeaderField) (before block text : List ℕ) (size : ℕ)
     → before ≡ [] → iter_rest s ≡ xs → fields_from 1 (lines_of bytes) ≡ Ok (fields_in xs)
     → DrainsFields fronts s
-        (λ fs. (block ≡ before ++ written_block (stateless_block fs)) × (size ≡ saturated_size (total_size fs)))
+    (λ fs. (block ≡ before ++ written_block (stateless_block fs)) × (size ≡ saturated_size (total_size fs)))
     → text ≡ encode_lower block → encode_answer bytes ≡ Ok text
 encoded bytes s xs before block text size b e read d t =
     let same = fields_from_slice s xs d.0 e d.1 in

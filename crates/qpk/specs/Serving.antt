@@ -42,7 +42,7 @@ abbrev pub Answers : Command → List ℕ → List ℕ → Type 0
 Answers Encode input out = (text : List ℕ) × (encode_answer input ≡ Ok text) × (out ≡ text ++ 10 ∷ [])
 Answers (Decode limit) input out =
     (block : List ℕ) × (fs : List Field) × (decode_of (without_feed input) ≡ Ok block)
-        × (stateless_reading limit block ≡ Ok fs) × (out ≡ printed_fields fs)
+    × (stateless_reading limit block ≡ Ok fs) × (out ≡ printed_fields fs)
 
 -- the fault that stands in a command's input, or want of memory
 abbrev pub HasFault : Command → List ℕ → Fault → Type 0
@@ -63,6 +63,6 @@ EndsFor words input old new refusal.Usage = AsksForNothing words × (new ≡ old
 EndsFor words input old new refusal.Input = (command : Command) × AsksFor words command × (new ≡ old)
 EndsFor words input old new refusal.Output =
     (command : Command) × AsksFor words command
-        × IfSome input (λ bytes. (out : List ℕ) × Answers command bytes out × AppendsFront old new out)
+    × IfSome input (λ bytes. (out : List ℕ) × Answers command bytes out × AppendsFront old new out)
 EndsFor words input old new (refusal.Fault fault) =
     (command : Command) × AsksFor words command × IfSome input (λ bytes. HasFault command bytes fault) × (new ≡ old)

@@ -37,7 +37,8 @@ pub fn serve<R: Read, W: Write, E: Write>(
     faults: &mut E,
 ) -> u8
     // At status 0 the answer to the input was written, and nothing else.
-    ensures answered { result ≡ 0 → (command : Command) × AsksFor words.now command × IfSome (R.remaining input.old) (λ bytes.
+    ensures answered { result ≡ 0 → (command : Command) × AsksFor words.now command
+        × IfSome (R.remaining input.old) (λ bytes.
         (out : List ℕ) × Answers command bytes out × Appends (W.contents output.old) (W.contents output.new) out) }
     ensures quiet { result ≡ 0 → E.contents faults.new ≡ E.contents faults.old }
     // Else why: other words, an input that can't be read or has a fault, an output that can't be written, which then
@@ -80,9 +81,11 @@ fn run<R: Read, W: Write>(
     input: &mut R,
     output: &mut W,
 ) -> Result<(), Refusal>
-    ensures answered { IfOk result (λ _. (command : Command) × AsksFor words.now command × IfSome (R.remaining input.old) (λ bytes.
+    ensures answered { IfOk result
+        (λ _. (command : Command) × AsksFor words.now command × IfSome (R.remaining input.old) (λ bytes.
         (out : List ℕ) × Answers command bytes out × Appends (W.contents output.old) (W.contents output.new) out)) }
-    ensures refused { IfErr result (EndsFor words.now (R.remaining input.old) (W.contents output.old) (W.contents output.new)) }
+    ensures refused { IfErr result
+        (EndsFor words.now (R.remaining input.old) (W.contents output.old) (W.contents output.new)) }
 {
     let Some(command) = read_command(words) else {
         return Err(Refusal::Usage);

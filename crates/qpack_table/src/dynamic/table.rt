@@ -149,7 +149,8 @@ impl DynamicTable {
     /// The live field of an instruction's relative index, 0 the newest (RFC 9204, section 3.2.5).
     pub fn get_relative(&self, index: usize) -> Result<&HeaderField, Error>
         ensures found { IfOk result (λ field. relative_entry (window self.now) index ≡ Some (field_of field.now)) }
-        ensures refused { IfErr result (λ e. (e ≡ BadRelativeIndex index) × (relative_entry (window self.now) index ≡ None)) }
+        ensures refused { IfErr result
+            (λ e. (e ≡ BadRelativeIndex index) × (relative_entry (window self.now) index ≡ None)) }
     {
         let position = self.positions().relative(index)?;
         self.field_at(position)
@@ -180,7 +181,8 @@ impl DynamicTable {
 
     /// The live field at a position.
     fn field_at(&self, position: usize) -> Result<&HeaderField, Error>
-        ensures found { IfOk result (λ field. slice_get (fields_in self.now.live) position ≡ Some (field_of field.now)) }
+        ensures found { IfOk result
+            (λ field. slice_get (fields_in self.now.live) position ≡ Some (field_of field.now)) }
         ensures refused { IfErr result (λ e. (e ≡ BadIndex position)
             × (slice_get (fields_in self.now.live) position ≡ None)) }
     {
@@ -343,15 +345,19 @@ impl DynamicTableDecoder<'_> {
 }
 
 /// The oldest entries go; the sum of their sizes is answered.
-fn drop_oldest(entries: &mut VecDeque<Entry>, vas: &mut VirtualAddressSpace, evicted: usize) -> usize
+fn drop_oldest(
+    entries: &mut VecDeque<Entry>,
+    vas: &mut VirtualAddressSpace,
+    evicted: usize,
+) -> usize
     requires there { evicted ≤ length entries.old.items }
     requires counted { vas.old.total ≡ vas.old.dropped + length entries.old.items }
     requires small { total_size (fields_in (entries_of entries.old.items)) < 2 ^ 63 }
     ensures left { entries.new.items ≡ drop evicted entries.old.items }
     ensures capacity { deque_capacity entries.new ≡ deque_capacity entries.old }
     ensures dropped { vas.new ≡ record vas.old { dropped = vas.old.dropped + evicted } }
-    ensures freed { result + total_size (drop evicted (fields_in (entries_of entries.old.items)))
-        ≡ total_size (fields_in (entries_of entries.old.items)) }
+    ensures freed { result + total_size (drop evicted (fields_in (entries_of entries.old.items))) ≡
+        total_size (fields_in (entries_of entries.old.items)) }
 {
     let mut freed = 0;
     for _ in 0..evicted {

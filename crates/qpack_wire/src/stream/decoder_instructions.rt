@@ -35,7 +35,8 @@ impl InsertCountIncrement {
     /// Reads such an instruction at the cursor, or none of a truncated one. Takes no memory. Where none is read, the
     /// cursor's position is unspecified.
     pub fn decode(buf: &mut Cursor) -> Result<Option<InsertCountIncrement>, ParseError>
-        ensures decodes { DecodesInstruction decoder_instruction_of_insert_count_increment (SpellsKind insert_count_increment)
+        ensures decodes { DecodesInstruction decoder_instruction_of_insert_count_increment
+            (SpellsKind insert_count_increment)
             (RefusesKind insert_count_increment) buf.old buf.new result }
         ensures no_memory { result ≡ Err Memory → ⊥ }
         // The same, as reading from left to right.
@@ -49,7 +50,9 @@ impl InsertCountIncrement {
     /// room for the spelling it succeeds and takes no memory.
     #[tactic(auto, unfolding(qpack_spec::specs::Instruction::written_decoder_instruction))]
     pub fn encode<A: Allocator>(&self, buf: &mut Vec<u8, A>) -> Result<(), NoMemory>
-        ensures writes { Writes (written_decoder_instruction (decoder_instruction_of_insert_count_increment self.now)) buf.old buf.new result }
+        ensures writes { Writes
+            (written_decoder_instruction
+            (decoder_instruction_of_insert_count_increment self.now)) buf.old buf.new result }
     {
         prefix_int::encode(INCREMENT_SIZE, INCREMENT, self.0 as u64, buf)
     }
@@ -90,7 +93,8 @@ impl HeaderAck {
             (RefusesKind header_ack) buf.old buf.new result }
         ensures no_memory { result ≡ Err Memory → ⊥ }
         // The same, as reading from left to right.
-        ensures exact { ReadsStream decoder_instruction_of_header_ack buf.old buf.new result (kind_at header_ack buf.old.rest) }
+        ensures exact { ReadsStream decoder_instruction_of_header_ack buf.old buf.new result
+            (kind_at header_ack buf.old.rest) }
     {
         or_none(read_header_ack(buf))
     }
@@ -99,7 +103,8 @@ impl HeaderAck {
     /// room for the spelling it succeeds and takes no memory.
     #[tactic(auto, unfolding(qpack_spec::specs::Instruction::written_decoder_instruction))]
     pub fn encode<A: Allocator>(&self, buf: &mut Vec<u8, A>) -> Result<(), NoMemory>
-        ensures writes { Writes (written_decoder_instruction (decoder_instruction_of_header_ack self.now)) buf.old buf.new result }
+        ensures writes { Writes
+            (written_decoder_instruction (decoder_instruction_of_header_ack self.now)) buf.old buf.new result }
     {
         prefix_int::encode(ACKNOWLEDGMENT_SIZE, ACKNOWLEDGMENT, self.0, buf)
     }
@@ -107,7 +112,8 @@ impl HeaderAck {
 
 #[tactic(auto, unfolding(crate::specs::Alone::kind_at, qpack_spec::specs::Form::made_at))]
 pub(crate) fn read_header_ack(buf: &mut Cursor) -> Result<HeaderAck, ParseError>
-    ensures exact { ReadsForm decoder_instruction_of_header_ack buf.old buf.new result (kind_at header_ack buf.old.rest) }
+    ensures exact { ReadsForm decoder_instruction_of_header_ack buf.old buf.new result
+        (kind_at header_ack buf.old.rest) }
     ensures no_memory { result ≡ Err Memory → ⊥ }
 {
     match prefix_int::decode(ACKNOWLEDGMENT_SIZE, buf)? {
@@ -147,7 +153,8 @@ impl StreamCancel {
     /// room for the spelling it succeeds and takes no memory.
     #[tactic(auto, unfolding(qpack_spec::specs::Instruction::written_decoder_instruction))]
     pub fn encode<A: Allocator>(&self, buf: &mut Vec<u8, A>) -> Result<(), NoMemory>
-        ensures writes { Writes (written_decoder_instruction (decoder_instruction_of_stream_cancel self.now)) buf.old buf.new result }
+        ensures writes { Writes
+            (written_decoder_instruction (decoder_instruction_of_stream_cancel self.now)) buf.old buf.new result }
     {
         prefix_int::encode(CANCELLATION_SIZE, CANCELLATION, self.0, buf)
     }
@@ -155,7 +162,8 @@ impl StreamCancel {
 
 #[tactic(auto, unfolding(crate::specs::Alone::kind_at, qpack_spec::specs::Form::made_at))]
 pub(crate) fn read_stream_cancel(buf: &mut Cursor) -> Result<StreamCancel, ParseError>
-    ensures exact { ReadsForm decoder_instruction_of_stream_cancel buf.old buf.new result (kind_at stream_cancel buf.old.rest) }
+    ensures exact { ReadsForm decoder_instruction_of_stream_cancel buf.old buf.new result
+        (kind_at stream_cancel buf.old.rest) }
     ensures no_memory { result ≡ Err Memory → ⊥ }
 {
     match prefix_int::decode(CANCELLATION_SIZE, buf)? {

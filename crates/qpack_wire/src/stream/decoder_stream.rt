@@ -6,12 +6,12 @@ ghost use Rattle.qpack_wire.specs.Answers.{ReadsForm};
 ghost use Rattle.qpack_wire.specs.StreamLines.{decoder_instruction_of_first, decoder_instruction_of};
 ghost use Rattle.qpack_wire.specs.StreamLines.{decoder_instruction_at};
 
-use crate::stream::ends::or_none;
-use crate::stream::lines::Wire;
 use crate::stream::decoder_instructions::{
     self, ACKNOWLEDGMENT, ACKNOWLEDGMENT_SIZE, CANCELLATION, CANCELLATION_SIZE, HeaderAck,
     InsertCountIncrement, StreamCancel,
 };
+use crate::stream::ends::or_none;
+use crate::stream::lines::Wire;
 use qpack_base::coding::{Cursor, NoMemory};
 use qpack_base::parse_error::ParseError;
 use qpack_base::prefix_int;

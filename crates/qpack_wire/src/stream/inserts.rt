@@ -74,7 +74,8 @@ impl InsertWithNameRef {
     /// Reads such an instruction at the cursor, or none of a truncated one. Where none is read, the
     /// cursor's position is unspecified.
     pub fn decode(alloc: Global, buf: &mut Cursor) -> Result<Option<InsertWithNameRef>, ParseError>
-        ensures decodes { DecodesInstruction encoder_instruction_of_insert_with_name_ref (SpellsKind insert_with_name_ref)
+        ensures decodes { DecodesInstruction encoder_instruction_of_insert_with_name_ref
+            (SpellsKind insert_with_name_ref)
             (RefusesKind insert_with_name_ref) buf.old buf.new result }
         // Memory is refused only where a string whose payload is not empty stands whole.
         ensures memory { result ≡ Err Memory → AsksForMemory (form_for insert_with_name_ref) buf.old.rest }
@@ -110,7 +111,8 @@ impl InsertWithNameRef {
         value: &[u8],
         buf: &mut Vec<u8, A>,
     ) -> Result<(), prefix_string::Error>
-        ensures writes { Writes (written_encoder_instruction (InsertStaticName index value.now)) buf.old buf.new result }
+        ensures writes { Writes
+            (written_encoder_instruction (InsertStaticName index value.now)) buf.old buf.new result }
         ensures memory { IfErr result (λ e. e ≡ NoRoom) }
     {
         put_index_and_value(NAMED_SIZE, NAMED_STATIC, index as u64, value, buf)
@@ -124,7 +126,8 @@ impl InsertWithNameRef {
         value: &[u8],
         buf: &mut Vec<u8, A>,
     ) -> Result<(), prefix_string::Error>
-        ensures writes { Writes (written_encoder_instruction (InsertDynamicName index value.now)) buf.old buf.new result }
+        ensures writes { Writes
+            (written_encoder_instruction (InsertDynamicName index value.now)) buf.old buf.new result }
         ensures memory { IfErr result (λ e. e ≡ NoRoom) }
     {
         put_index_and_value(NAMED_SIZE, NAMED_DYNAMIC, index as u64, value, buf)
@@ -221,7 +224,8 @@ impl InsertWithoutNameRef {
         value: &[u8],
         buf: &mut Vec<u8, A>,
     ) -> Result<(), prefix_string::Error>
-        ensures writes { Writes (written_encoder_instruction (InsertLiteralName name.now value.now)) buf.old buf.new result }
+        ensures writes { Writes
+            (written_encoder_instruction (InsertLiteralName name.now value.now)) buf.old buf.new result }
         ensures memory { IfErr result (λ e. e ≡ NoRoom) }
     {
         put_name_and_value(LITERAL_SIZE, LITERAL, name, value, buf)

@@ -37,7 +37,8 @@ impl Duplicate {
             (RefusesKind duplicate) buf.old buf.new result }
         ensures no_memory { result ≡ Err Memory → ⊥ }
         // The same, as reading from left to right.
-        ensures exact { ReadsStream encoder_instruction_of_duplicate buf.old buf.new result (kind_at duplicate buf.old.rest) }
+        ensures exact { ReadsStream encoder_instruction_of_duplicate buf.old buf.new result
+            (kind_at duplicate buf.old.rest) }
     {
         or_none(read_duplicate(buf))
     }
@@ -46,7 +47,8 @@ impl Duplicate {
     /// room for the spelling it succeeds and takes no memory.
     #[tactic(auto, unfolding(qpack_spec::specs::Instruction::written_encoder_instruction))]
     pub fn encode<A: Allocator>(&self, buf: &mut Vec<u8, A>) -> Result<(), NoMemory>
-        ensures writes { Writes (written_encoder_instruction (encoder_instruction_of_duplicate self.now)) buf.old buf.new result }
+        ensures writes { Writes
+            (written_encoder_instruction (encoder_instruction_of_duplicate self.now)) buf.old buf.new result }
     {
         prefix_int::encode(DUPLICATE_SIZE, DUPLICATE, self.0 as u64, buf)
     }
@@ -94,7 +96,8 @@ impl DynamicTableSizeUpdate {
     /// room for the spelling it succeeds and takes no memory.
     #[tactic(auto, unfolding(qpack_spec::specs::Instruction::written_encoder_instruction))]
     pub fn encode<A: Allocator>(&self, buf: &mut Vec<u8, A>) -> Result<(), NoMemory>
-        ensures writes { Writes (written_encoder_instruction (encoder_instruction_of_dynamic_table_size_update self.now)) buf.old
+        ensures writes { Writes
+            (written_encoder_instruction (encoder_instruction_of_dynamic_table_size_update self.now)) buf.old
             buf.new result }
     {
         prefix_int::encode(CAPACITY_SIZE, CAPACITY, self.0 as u64, buf)

@@ -14,7 +14,7 @@ returns-in-len1 c =
 pub returns-in_ok-limit-in-len2 : goal.returns-in_ok-limit-in-len2
 returns-in_ok-limit-in-len2 c =
     let m = two_words c.args.words.now c.word-item-then-words-lt3.result c.limit-item.result c.in-len2.len_at_least
-        c.in-len2.len_below c.word-item-then-words-lt3.is c.limit-item.is in
+    c.in-len2.len_below c.word-item-then-words-lt3.is c.limit-item.is in
     let s = (slice_eq-Decides Decides-eqb _ _ _ c.eq-then-words-lt3.ensures).0 c.if-eq-2.true in
     let limit = c.as_str-in-len2.ensures.value in (
       c.as_str-in-len2.result.now,
@@ -26,9 +26,9 @@ returns-in_ok-limit-in-len2 c =
 pub returns-in_err-limit-in-len2 : goal.returns-in_err-limit-in-len2
 returns-in_err-limit-in-len2 c =
     let m = two_words c.args.words.now c.word-item-then-words-lt3.result c.limit-item.result c.in-len2.len_at_least
-        c.in-len2.len_below c.word-item-then-words-lt3.is c.limit-item.is in
+    c.in-len2.len_below c.word-item-then-words-lt3.is c.limit-item.is in
     let limit = c.as_str-in-len2.ensures.value in
     none_is c.from_residual.result _ _ c.from_residual.ensures
     (no_number c.args.words.now (string_bytes c.word-item-then-words-lt3.result) c.as_str-in-len2.result.now
-        (m ∙ ap (λ (b : List ℕ). string_bytes c.word-item-then-words-lt3.result ∷ b ∷ [])
-            (sym limit)) c.in_err-limit-in-len2.ensures)
+    (m ∙ ap (λ (b : List ℕ). string_bytes c.word-item-then-words-lt3.result ∷ b ∷ [])
+    (sym limit)) c.in_err-limit-in-len2.ensures)

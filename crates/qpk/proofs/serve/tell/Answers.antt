@@ -8,8 +8,8 @@ pub returns : goal.returns
 returns g c = elim c.match-line.branch [
   | in-Ok w ↦ told_as c.args.refusal.now _ _ _ _
       (c.as_bytes.ensures.value ∙ c.as_str.ensures.value
-          ∙ ap cow_str_bytes w.line-is) w.in-Ok.ensures.line c.write_bytes.ensures.front
+      ∙ ap cow_str_bytes w.line-is) w.in-Ok.ensures.line c.write_bytes.ensures.front
   | in-Err w ↦ told_of_memory c.args.refusal.now _ _ _
       (c.as_bytes.ensures.value ∙ c.as_str.ensures.value
-          ∙ ap cow_str_bytes w.line-is) w.in-Err.ensures.memory c.write_bytes.ensures.front
+      ∙ ap cow_str_bytes w.line-is) w.in-Err.ensures.memory c.write_bytes.ensures.front
 ]

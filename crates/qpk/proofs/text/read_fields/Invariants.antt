@@ -7,7 +7,7 @@ use Rattle.qpk.proofs.text.read_fields.Given as goal
 abbrev pub invariant-loop-rest : goal.invariant-loop-rest
 invariant-loop-rest l =
     (with_front (fields_in l.fields.items) (fields_from (l.number + 1) (lines_of l.rest))
-        ≡ fields_from 1 (lines_of l.text))
+    ≡ fields_from 1 (lines_of l.text))
     × (l.number + length l.rest ≤ length l.text)
 
 abbrev pub decreases-loop-rest : goal.decreases-loop-rest

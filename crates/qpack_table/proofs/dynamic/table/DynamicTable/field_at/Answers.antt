@@ -5,7 +5,7 @@ use Rattle.qpack_table.proofs.dynamic.table.DynamicTable.field_at.Goals as goal
 pub returns-in-Some-clause-found : goal.returns-in-Some-clause-found
 returns-in-Some-clause-found c =
     let within : c.args.position
-        < length c.self.inside.entries.items = omega (arith, c.in-Some.ensures.variant.0 refl) in
+    < length c.self.inside.entries.items = omega (arith, c.in-Some.ensures.variant.0 refl) in
     rw (← c.self.view_is)
     (field_there c.self.inside.entries.items c.args.position c.in-Some.entry.now within c.in-Some.ensures.lookup)
 

@@ -13,6 +13,6 @@ returns-in_err-position c =
 pub returns : goal.returns
 returns c =
     behind_base c.positions.result.now c.args.self.now c.args.base c.args.index c.in_ok-position.position
-        c.field_at.result
+    c.field_at.result
     c.positions.ensures (c.in_ok-position.ensures.live.0 refl) c.in_ok-position.ensures.found c.field_at.ensures.found
     c.field_at.ensures.refused

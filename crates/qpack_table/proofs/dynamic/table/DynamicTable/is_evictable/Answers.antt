@@ -34,9 +34,9 @@ returns-then-not-entry c =
     (item_there _ _ _ within c.index-entry.ensures) in
     rw (← c.self.view_is)
     (evictable_at _ c.self.inside.entries.items c.args.position c.index-entry.result.now _ refl within
-        c.index-entry.ensures
+    c.index-entry.ensures
     (not_sent _ _ _ c.if-not-entry.true
-        ∙ sym (evictable_unused _ _ _ c.index-entry.result.now.sent used (omega arith))))
+    ∙ sym (evictable_unused _ _ _ c.index-entry.result.now.sent used (omega arith))))
 
 pub returns-else-not-entry : goal.returns-else-not-entry
 returns-else-not-entry c =
@@ -50,7 +50,7 @@ returns-else-not-entry c =
     let used = c.self.invariant.used c.args.position c.index-entry.result.now
     (item_there _ _ _ within c.index-entry.ensures) in
     let position : c.total_inserted.result - c.len.result + c.args.position
-        ≡ c.self.inside.vas.dropped + c.args.position =
+    ≡ c.self.inside.vas.dropped + c.args.position =
     omega (
       arith,
       ap (λ (t : Table). insert_count t) c.self.view_is,
@@ -60,6 +60,6 @@ returns-else-not-entry c =
     ) in
     rw (← c.self.view_is)
     (evictable_at _ c.self.inside.entries.items c.args.position c.index-entry.result.now _ refl within
-        c.index-entry.ensures
+    c.index-entry.ensures
     (sent_received _ c.self.inside.vas.dropped c.args.position _ _ c.if-not-entry.false position
     ∙ sym (evictable_unused _ _ _ c.index-entry.result.now.sent used (omega arith))))

@@ -44,12 +44,12 @@ drop_oldest-freed-requires-clause-there c =
 pub invariant_of-self : goal.invariant_of-self
 invariant_of-self c =
     let evicted : c.eviction_count-evicted.result
-        ≡ eviction_count c.args.size (fields_in (entries_of c.self.inside.entries.items)) =
+    ≡ eviction_count c.args.size (fields_in (entries_of c.self.inside.entries.items)) =
     c.eviction_count-evicted.ensures
-        ∙ ap (λ (t : Table). eviction_count c.args.size (fields_in t.live)) (sym c.self.view_is) in
+    ∙ ap (λ (t : Table). eviction_count c.args.size (fields_in t.live)) (sym c.self.view_is) in
     kept_resized c.self.inside.vas c.drop_oldest-freed.new.vas c.self.inside.entries.items
     c.drop_oldest-freed.new.entries.items _ _ _ c.args.size _ _ c.eviction_count-evicted.result
-        c.drop_oldest-freed.result
+    c.drop_oldest-freed.result
     c.self.invariant
     evicted (omega (arith, c.greatest_capacity.ensures.most)) c.drop_oldest-freed.ensures.left
     c.drop_oldest-freed.ensures.freed refl
@@ -59,13 +59,17 @@ invariant_of-self c =
 pub returns : goal.returns
 returns c =
     let evicted : c.eviction_count-evicted.result
-        ≡ eviction_count c.args.size (fields_in (entries_of c.self.inside.entries.items)) =
+    ≡ eviction_count c.args.size (fields_in (entries_of c.self.inside.entries.items)) =
     c.eviction_count-evicted.ensures
-        ∙ ap (λ (t : Table). eviction_count c.args.size (fields_in t.live)) (sym c.self.view_is) in
+    ∙ ap (λ (t : Table). eviction_count c.args.size (fields_in t.live)) (sym c.self.view_is) in
     rw (← c.self.view_is) (resized_to _ c.args.size c.drop_oldest-freed.new.vas.dropped
     (entries_of c.drop_oldest-freed.new.entries.items)
-    (omega (arith, c.greatest_capacity.ensures.agreed_max, ap
-        (λ (t : Table). greatest_capacity t.agreed_max) c.self.view_is))
+    (omega (
+      arith,
+      c.greatest_capacity.ensures.agreed_max,
+      ap
+          (λ (t : Table). greatest_capacity t.agreed_max) c.self.view_is,
+    ))
     (ap (λ (t : Table). can_evict t (eviction_count c.args.size (fields_in t.live))) c.self.view_is
     ∙ ap (λ (n : ℕ). can_evict c.args.self.now n) (sym c.eviction_count-evicted.ensures) ∙ sym c.can_evict.ensures
     ∙ c.if-not-can_evict.false)
