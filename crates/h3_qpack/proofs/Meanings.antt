@@ -10,7 +10,8 @@ use Rattle.qpack_wire.specs.Answers.{ReadAs}
 use Rattle.h3_qpack.specs.declared.decoder.Decoded.{Decoded}
 use Rattle.h3_qpack.specs.declared.decoder.DecoderError.{DecoderError}
 use Rattle.h3_qpack.specs.declared.decoder.DecoderError.TheVariants.{MissingRefs, Memory}
-use Rattle.h3_qpack.specs.Stateless.{fault_of, FailsStateless, Decodes, Tells, GivesFields, GivesFault, FindsFields}
+use Rattle.h3_qpack.specs.Stateless.{fault_of, FailsStateless, DecodesStateless, Tells, GivesFields, GivesFault}
+use Rattle.h3_qpack.specs.Stateless.{FindsFields}
 use Rattle.h3_qpack.specs.Stateless.{FindsFault, fields_in}
 
 abbrev good : List Field → Result (List Field) StatelessFault
@@ -39,12 +40,12 @@ fault_told e read h other = tell (fault_of e) h
     tell (Some f) h = (f, refl, h)
 
 pub decoded_found : (limit : ℕ) (bytes : List ℕ) (r : Result Decoded DecoderError)
-    → Decodes r (stateless_reading limit bytes) → IfOk r (FindsFields limit bytes)
+    → DecodesStateless r (stateless_reading limit bytes) → IfOk r (FindsFields limit bytes)
 decoded_found limit bytes (Ok d) h = ((reading_alone limit bytes (Ok (fields_in d.fields.items))).0 h.0, h.1, h.2)
 decoded_found limit bytes (Err e) h = tt
 
 pub decoded_only : (limit : ℕ) (bytes : List ℕ) (r : Result Decoded DecoderError)
-    → Decodes r (stateless_reading limit bytes)
+    → DecodesStateless r (stateless_reading limit bytes)
     → (fields : List Field) → MeansStateless limit bytes fields → GivesFields r fields
 decoded_only limit bytes (Ok d) h fields m =
     ok_is (fields_in d.fields.items) fields (sym h.0 ∙ (reading_alone limit bytes (Ok fields)).1 m)
@@ -52,13 +53,13 @@ decoded_only limit bytes (Err e) h fields m =
     no_fault e fields (subst (FailsStateless e) ((reading_alone limit bytes (Ok fields)).1 m) h)
 
 pub decoded_refused : (limit : ℕ) (bytes : List ℕ) (r : Result Decoded DecoderError)
-    → Decodes r (stateless_reading limit bytes) → IfErr r (FindsFault limit bytes)
+    → DecodesStateless r (stateless_reading limit bytes) → IfErr r (FindsFault limit bytes)
 decoded_refused limit bytes (Ok d) h = tt
 decoded_refused limit bytes (Err e) h = λ other. let t =
     fault_told e (stateless_reading limit bytes) h other in (t.0, t.1, (reading_alone limit bytes (Err t.0)).0 t.2)
 
 pub decoded_told : (limit : ℕ) (bytes : List ℕ) (r : Result Decoded DecoderError)
-    → Decodes r (stateless_reading limit bytes)
+    → DecodesStateless r (stateless_reading limit bytes)
     → (fault : StatelessFault) → StopsStateless limit bytes fault → GivesFault r fault
 decoded_told limit bytes (Ok d) h fault s = let e = sym h.0 ∙ (reading_alone limit bytes (Err fault)).1 s in cc
 decoded_told limit bytes (Err e) h fault s = subst (FailsStateless e) ((reading_alone limit bytes (Err fault)).1 s) h

@@ -45,11 +45,11 @@ FailsStateless Memory read = Unit {0}
 FailsStateless e read = ReadAs read (fault_of e)
 
 -- the fields that were read and their size, nothing being required; or why there are none
-abbrev pub Decodes : Result Decoded DecoderError → Result (List Field) StatelessFault → Type 0
-Decodes (Ok d) read =
+abbrev pub DecodesStateless : Result Decoded DecoderError → Result (List Field) StatelessFault → Type 0
+DecodesStateless (Ok d) read =
     (read ≡ Ok (fields_in d.fields.items)) × (d.mem_size ≡ saturated_size (total_size (fields_in d.fields.items)))
     × (d.dyn_ref ≡ false)
-Decodes (Err e) read = FailsStateless e read
+DecodesStateless (Err e) read = FailsStateless e read
 
 -- nothing is left, of a list as long as before
 abbrev pub IsFinished : CursorView → CursorView → Type 0

@@ -9,7 +9,8 @@ ghost use Rattle.qpack_wire.specs.BlockLines.{line_of};
 ghost use Rattle.h3_qpack.specs.Errors.{decoder_error_of_parse, decoder_error_of_static, decoder_error_of_table};
 ghost use Rattle.h3_qpack.specs.Errors.{decoder_error_of_integer, decoder_error_of_string};
 ghost use Rattle.h3_qpack.specs.Memory.{AsksLine, AsksSectionForMemory};
-ghost use Rattle.h3_qpack.specs.Stateless.{IsFinished, Decodes, GivesFields, GivesFault, FindsFields, FindsFault};
+ghost use Rattle.h3_qpack.specs.Stateless.{IsFinished, DecodesStateless, GivesFields, GivesFault, FindsFields};
+ghost use Rattle.h3_qpack.specs.Stateless.{FindsFault};
 ghost use Rattle.h3_qpack.specs.Stateless.{ReadsStatelessField, GivesStatelessField, stateless_field_at};
 ghost use Rattle.h3_qpack.specs.declared.decoder.DecoderError.TheVariants.{InvalidIndex, Memory};
 
@@ -169,7 +170,7 @@ impl<T: Drop> From<AllocFailed<T>> for DecoderError {
     }
 }
 
-/// Decodes the block that the cursor has left without a dynamic table, up to a sum of sizes. The
+/// DecodesStateless the block that the cursor has left without a dynamic table, up to a sum of sizes. The
 /// block's prefix is read, and means nothing here.
 pub fn decode_stateless(
     alloc: Global,
@@ -189,14 +190,14 @@ pub fn decode_stateless(
     // Memory is refused only behind a prefix, and there only behind a line or a string whose payload is not empty.
     ensures memory { result ≡ Err Memory → AsksSectionForMemory buf.old.rest }
     // The same, as reading from left to right.
-    ensures exact { Decodes result (stateless_reading max_size buf.old.rest) }
+    ensures exact { DecodesStateless result (stateless_reading max_size buf.old.rest) }
 {
     read_block(alloc, buf, max_size)
 }
 
 #[tactic(auto, unfolding(qpack_spec::specs::Stateless::stateless_reading))]
 fn read_block(alloc: Global, buf: &mut Cursor, max_size: u64) -> Result<Decoded, DecoderError>
-    ensures exact { Decodes result (stateless_reading max_size buf.old.rest) }
+    ensures exact { DecodesStateless result (stateless_reading max_size buf.old.rest) }
     ensures finished { OnOk result (IsFinished buf.old buf.new) }
     ensures memory { result ≡ Err Memory → AsksSectionForMemory buf.old.rest }
 {
@@ -206,7 +207,7 @@ fn read_block(alloc: Global, buf: &mut Cursor, max_size: u64) -> Result<Decoded,
 
 /// Reads lines to the end of the cursor.
 fn read_lines(alloc: Global, buf: &mut Cursor, max_size: u64) -> Result<Decoded, DecoderError>
-    ensures exact { Decodes result (stateless_at (length buf.old.rest) max_size 0 buf.old.rest) }
+    ensures exact { DecodesStateless result (stateless_at (length buf.old.rest) max_size 0 buf.old.rest) }
     ensures finished { OnOk result (IsFinished buf.old buf.new) }
     ensures memory { result ≡ Err Memory → Begins AsksLine buf.old.rest }
 {

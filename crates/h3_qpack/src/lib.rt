@@ -4,8 +4,6 @@
 
 pub mod decoder;
 pub mod encoder;
-#[cfg(test)]
-mod tests;
 
 pub use decoder::{Decoded, DecoderError, decode_stateless};
 pub use encoder::{EncoderError, encode_stateless};

@@ -2,7 +2,7 @@ pub mod Groups
 pub mod WrittenGroups
 pub mod Readers
 pub mod StaticNames
-pub mod FirstPlaces
+pub mod FirstIndexes
 pub mod StaticRows
 pub mod CodeTables
 pub mod LoadedBits

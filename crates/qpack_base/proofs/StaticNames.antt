@@ -68,17 +68,17 @@ entries_agree row t =
     (λ e h. (bytes_eq-Decides e.1 (indexes_with_name e.0)).0 h) row (AllPass-from_list_all entry_test row t)
 
 entry_is : (n m : List ℕ) (p q : List ℕ) → n ≡ m → p ≡ q → (let e : Entry = (n, p) in let f : Entry = (m, q) in e ≡ f)
-entry_is n m p q same_name same_places = cc
+entry_is n m p q same_name same_indexes = cc
 
 -- an entry of the name, where entries have their positions
 entry_there : (row : List Entry) (name : List ℕ) → All (λ e. e.1 ≡ indexes_with_name e.0) row
     → list_any (λ e. bytes_eq e.0 name) row ≡ true → Contains row (name, indexes_with_name name)
-entry_there row name places t =
+entry_there row name indexes t =
     let some = some_passes (λ e. bytes_eq e.0 name) row t in
     let is_name : some.0.0 ≡ name = (bytes_eq-Decides some.0.0 name).0 some.2 in
-    let has_places : some.0.1 ≡ indexes_with_name some.0.0 =
-    All-contains (λ e. e.1 ≡ indexes_with_name e.0) row some.0 places some.1 in
-    let is = entry_is some.0.0 name some.0.1 (indexes_with_name name) is_name (has_places
+    let has_indexes : some.0.1 ≡ indexes_with_name some.0.0 =
+    All-contains (λ e. e.1 ≡ indexes_with_name e.0) row some.0 indexes some.1 in
+    let is = entry_is some.0.0 name some.0.1 (indexes_with_name name) is_name (has_indexes
     ∙ ap (λ (n : List ℕ). indexes_with_name n) is_name) in
     subst (λ (e : Entry). Contains row e) is some.1
 
@@ -100,13 +100,13 @@ names_agree first limit rows t = record { at = agree }
         let both = and_parts (list_all (list_all entry_test) rows)
         (list_all (field_test first limit rows) static_table) t in
         let row = slice_index_or rows (n - first) [] in
-        let places = entries_agree row (row_passes (list_all entry_test) rows (n - first) refl both.0) in
+        let indexes = entries_agree row (row_passes (list_all entry_test) rows (n - first) refl both.0) in
         record {
-          places = places;
+          indexes = indexes;
           complete = λ k f at is.
               let passes = passes_at (field_test first limit rows) static_table k f both.1 at in
               let there = in_part first limit rows f (omega (arith, least, is)) (omega (arith, most, is)) passes in
-              entry_there row f.name places
+              entry_there row f.name indexes
               (subst (λ (m : ℕ). list_any (λ e. bytes_eq e.0 f.name) (slice_index_or rows (m - first) [])
               ≡ true) is there);
         }
@@ -148,44 +148,44 @@ find-map test g (x ∷ xs) = first (test (g x)) (find-map test g xs)
 -- ---- positions
 
 -- the positions of those that pass, from i on
-abbrev places_from : (Field → Bool) → ℕ → List Field → List ℕ
-places_from test i fs = map (λ e. e.0) (filter (λ e. test e.1) (enumerate_from i fs))
+abbrev indexes_from : (Field → Bool) → ℕ → List Field → List ℕ
+indexes_from test i fs = map (λ e. e.0) (filter (λ e. test e.1) (enumerate_from i fs))
 
 -- the first of these
 abbrev first_from : (Field → Bool) → ℕ → List Field → Option ℕ
 first_from test i [] = None
 first_from test i (f ∷ fs) = cond (test f) (Some i) (first_from test (i + 1) fs)
 
-no_places : (test : Field → Bool) (i : ℕ) (fs : List Field)
-    → ((k : ℕ) (f : Field) → slice_get fs k ≡ Some f → test f ≡ false) → places_from test i fs ≡ []
-no_places test i [] h = refl
-no_places test i (f ∷ fs) h = let e : test f ≡ false = h 0 f refl in rw e (no_places test (i + 1) fs (λ k. h (suc k)))
+no_indexes : (test : Field → Bool) (i : ℕ) (fs : List Field)
+    → ((k : ℕ) (f : Field) → slice_get fs k ≡ Some f → test f ≡ false) → indexes_from test i fs ≡ []
+no_indexes test i [] h = refl
+no_indexes test i (f ∷ fs) h = let e : test f ≡ false = h 0 f refl in rw e (no_indexes test (i + 1) fs (λ k. h (suc k)))
 
 -- ---- what the look finds
 
 entry_at : Bor (List ℕ) × Bor (List ℕ) → Entry
 entry_at e = (e.0.now, e.1.now)
 
-pub places_found : (name : List ℕ) (names : List (Bor (List ℕ) × Bor (List ℕ))) (e : Bor (List ℕ) × Bor (List ℕ))
+pub indexes_found : (name : List ℕ) (names : List (Bor (List ℕ) × Bor (List ℕ))) (e : Bor (List ℕ) × Bor (List ℕ))
     → AreNamesOfLength (length name) (names_at names)
     → Some e ≡ find (λ e. bytes_eq name e.0.now) names → e.1.now ≡ indexes_with_name name
 unfolding entry_at
-places_found name names e are h =
+indexes_found name names e are h =
     let test = λ (e : Entry). bytes_eq name e.0 in
     let at : find test (names_at names) ≡ Some (entry_at e) = find-map test entry_at names
     ∙ ap (λ (o : Option (Bor (List ℕ) × Bor (List ℕ))). option_map entry_at o) (sym h) in
-    let r = found (λ (e : Entry). e.1 ≡ indexes_with_name e.0) test (names_at names) (entry_at e) are.places at in
+    let r = found (λ (e : Entry). e.1 ≡ indexes_with_name e.0) test (names_at names) (entry_at e) are.indexes at in
     r.0 ∙ ap (λ (n : List ℕ). indexes_with_name n) (sym ((bytes_eq-Decides name e.0.now).0 r.1))
 
-pub places_missing : (name : List ℕ) (names : List (Bor (List ℕ) × Bor (List ℕ)))
+pub indexes_missing : (name : List ℕ) (names : List (Bor (List ℕ) × Bor (List ℕ)))
     → AreNamesOfLength (length name) (names_at names)
     → None ≡ find (λ e. bytes_eq name e.0.now) names → [] ≡ indexes_with_name name
 unfolding entry_at indexes_with_name
-places_missing name names are h =
+indexes_missing name names are h =
     let test = λ (e : Entry). bytes_eq name e.0 in
     let at : find test (names_at names) ≡ None = find-map test entry_at names
     ∙ ap (λ (o : Option (Bor (List ℕ) × Bor (List ℕ))). option_map entry_at o) (sym h) in
-    sym (no_places (has_name name) 0 static_table (λ k f is. false_from_ne_true (has_name name f) (λ same.
+    sym (no_indexes (has_name name) 0 static_table (λ k f is. false_from_ne_true (has_name name f) (λ same.
     let same_name : name ≡ f.name = (bytes_eq-Decides name f.name).0 same in
     let there = are.complete k f is (ap (λ (n : List ℕ). length n) (sym same_name)) in
     both_ways (test (f.name, indexes_with_name f.name))
@@ -194,14 +194,14 @@ places_missing name names are h =
       indexes_with_name f.name,
     ) (missing test (names_at names) at) there) same)))
 
--- ---- the first place
+-- ---- the first index
 
-first_place : (test : Field → Bool) (i : ℕ) (fs : List Field)
-    → slice_get (places_from test i fs) 0 ≡ first_from test i fs
-first_place test i [] = refl
-first_place test i (f ∷ fs) = first (test f) (first_place test (i + 1) fs)
+first_index : (test : Field → Bool) (i : ℕ) (fs : List Field)
+    → slice_get (indexes_from test i fs) 0 ≡ first_from test i fs
+first_index test i [] = refl
+first_index test i (f ∷ fs) = first (test f) (first_index test (i + 1) fs)
   where
-    first : (b : Bool) → slice_get (places_from test (i + 1) fs) 0 ≡ first_from test (i + 1) fs
+    first : (b : Bool) → slice_get (indexes_from test (i + 1) fs) 0 ≡ first_from test (i + 1) fs
         → slice_get (map (λ e. e.0) (cond b ((i, f) ∷ filter (λ e. test e.1) (enumerate_from (i + 1) fs))
         (filter (λ e. test e.1) (enumerate_from (i + 1) fs)))) 0
         ≡ cond b (Some i) (first_from test (i + 1) fs)
@@ -211,7 +211,7 @@ first_place test i (f ∷ fs) = first (test f) (first_place test (i + 1) fs)
 -- a look at the positions of those that pass, by a test of what stands there
 first_of_both : (test more : Field → Bool) (look : ℕ → Bool) (i : ℕ) (fs : List Field)
     → ((k : ℕ) (f : Field) → slice_get fs k ≡ Some f → look (i + k) ≡ more f)
-    → find look (places_from test i fs) ≡ first_from (λ f. test f && more f) i fs
+    → find look (indexes_from test i fs) ≡ first_from (λ f. test f && more f) i fs
 first_of_both test more look i [] h = refl
 first_of_both test more look i (f ∷ fs) h =
     let zero_is : i + 0 ≡ i = omega arith in
@@ -221,7 +221,7 @@ first_of_both test more look i (f ∷ fs) h =
     (λ k g is. let next : i + suc k ≡ i + 1 + k = omega arith in
     subst (λ (n : ℕ). look n ≡ more g) next (h (suc k) g is)))
   where
-    first : (b c : Bool) → look i ≡ c → find look (places_from test (i + 1) fs)
+    first : (b c : Bool) → look i ≡ c → find look (indexes_from test (i + 1) fs)
         ≡ first_from (λ f. test f && more f) (i + 1) fs
         → find look (map (λ e. e.0) (cond b ((i, f) ∷ filter (λ e. test e.1) (enumerate_from (i + 1) fs))
         (filter (λ e. test e.1) (enumerate_from (i + 1) fs))))
@@ -263,29 +263,29 @@ from_front : (o : Option ℕ) → option_map (λ n. 0 + n) o ≡ o
 from_front None = refl
 from_front (Some n) = let e : 0 + n ≡ n = omega arith in rw e refl
 
-pub first_is_name_place : (name : List ℕ) → slice_get (indexes_with_name name) 0 ≡ static_name_index name
+pub first_is_name_index : (name : List ℕ) → slice_get (indexes_with_name name) 0 ≡ static_name_index name
 unfolding indexes_with_name static_name_index
-first_is_name_place name =
-    first_place (has_name name) 0 static_table ∙ first_from_position (has_name name) 0 static_table
+first_is_name_index name =
+    first_index (has_name name) 0 static_table ∙ first_from_position (has_name name) 0 static_table
     ∙ from_front (position (has_name name) static_table)
 
 value_there : (f : Field) (k : ℕ) (g : Field) → slice_get static_table k ≡ Some g
     → has_value_at f.value (0 + k) ≡ bytes_eq f.value g.value
 value_there f k g is = let e : 0 + k ≡ k = omega arith in rw e (ap (λ (o : Option Field). is_value_of f.value o) is)
 
-found_is_place : (f : Field) → find (has_value_at f.value) (indexes_with_name f.name) ≡ static_index f
+found_is_index : (f : Field) → find (has_value_at f.value) (indexes_with_name f.name) ≡ static_index f
 unfolding indexes_with_name static_index
-found_is_place f =
+found_is_index f =
     first_of_both (has_name f.name) (λ g. bytes_eq f.value g.value) (has_value_at f.value) 0 static_table
     (value_there f)
     ∙ first_from_position (is_field f) 0 static_table
     ∙ from_front (position (is_field f) static_table)
 
 -- where the names and values are handed over apart
-pub place_is_first : (f : Field) (name value : List ℕ) (places : List ℕ) (r : Option ℕ) → name ≡ f.name
-    → value ≡ f.value → places ≡ indexes_with_name name → r ≡ find (has_value_at value) places
+pub index_is_first : (f : Field) (name value : List ℕ) (indexes : List ℕ) (r : Option ℕ) → name ≡ f.name
+    → value ≡ f.value → indexes ≡ indexes_with_name name → r ≡ find (has_value_at value) indexes
     → r ≡ static_index f
-place_is_first f name value places r n v p is = rw (is, p, n, v) (found_is_place f)
+index_is_first f name value indexes r n v p is = rw (is, p, n, v) (found_is_index f)
 
 -- ---- the row of a length
 
@@ -293,12 +293,12 @@ rows-length : (rows : List (Bor (List (Bor (List ℕ) × Bor (List ℕ))))) → 
 rows-length [] = refl
 rows-length (r ∷ rows) = ap (λ (n : ℕ). suc n) (rows-length rows)
 
-pub no_names_past : (rows : List (Bor (List (Bor (List ℕ) × Bor (List ℕ))))) (n place : ℕ)
-    → AreNamesOfLength n (slice_index_or (name_rows_at rows) place []) → IsItemAt rows place None
+pub no_names_past : (rows : List (Bor (List (Bor (List ℕ) × Bor (List ℕ))))) (n index : ℕ)
+    → AreNamesOfLength n (slice_index_or (name_rows_at rows) index []) → IsItemAt rows index None
     → AreNamesOfLength n []
-no_names_past rows n place are past =
-    let l : length (name_rows_at rows) ≤ place = omega (arith, rows-length rows) in
-    subst (λ row. AreNamesOfLength n row) (get_or_past (name_rows_at rows) place [] l) are
+no_names_past rows n index are past =
+    let l : length (name_rows_at rows) ≤ index = omega (arith, rows-length rows) in
+    subst (λ row. AreNamesOfLength n row) (get_or_past (name_rows_at rows) index [] l) are
 
 row_at : (rows : List (Bor (List (Bor (List ℕ) × Bor (List ℕ))))) (n : ℕ) (r : Bor (List (Bor (List ℕ) × Bor (List ℕ))))
     → n < length rows → slice_index_or rows n r ≡ r → slice_index_or (name_rows_at rows) n [] ≡ names_at r.now
@@ -306,7 +306,7 @@ row_at [] n r h e = absurd (omega arith)
 row_at (s ∷ rows) zero r h e = ap (λ (x : Bor (List (Bor (List ℕ) × Bor (List ℕ)))). names_at x.now) e
 row_at (s ∷ rows) (suc n) r h e = row_at rows n r (omega arith) e
 
-pub names_there : (rows : List (Bor (List (Bor (List ℕ) × Bor (List ℕ))))) (n place : ℕ)
-    (r : Bor (List (Bor (List ℕ) × Bor (List ℕ)))) → AreNamesOfLength n (slice_index_or (name_rows_at rows) place [])
-    → place < length rows → slice_index_or rows place r ≡ r → AreNamesOfLength n (names_at r.now)
-names_there rows n place r are h e = subst (λ row. AreNamesOfLength n row) (row_at rows place r h e) are
+pub names_there : (rows : List (Bor (List (Bor (List ℕ) × Bor (List ℕ))))) (n index : ℕ)
+    (r : Bor (List (Bor (List ℕ) × Bor (List ℕ)))) → AreNamesOfLength n (slice_index_or (name_rows_at rows) index [])
+    → index < length rows → slice_index_or rows index r ≡ r → AreNamesOfLength n (names_at r.now)
+names_there rows n index r are h e = subst (λ row. AreNamesOfLength n row) (row_at rows index r h e) are

@@ -23,20 +23,20 @@ unfolding static_table
 static-length = refl
 
 -- a row of the part of so many rows from `first` on
-pub row_there : (rows : List (Bor (List ℕ) × Bor (List ℕ))) (n first place index : ℕ) (d : Bor (List ℕ) × Bor (List ℕ))
-    → fields_at rows ≡ take n (drop first static_table) → first + place ≡ index → place < n → first + n ≤ 99
-    → Some (field_at (get_or rows place d)) ≡ slice_get static_table index
-row_there rows n first place index d are is within fits =
+pub row_there : (rows : List (Bor (List ℕ) × Bor (List ℕ))) (n first at index : ℕ) (d : Bor (List ℕ) × Bor (List ℕ))
+    → fields_at rows ≡ take n (drop first static_table) → first + at ≡ index → at < n → first + n ≤ 99
+    → Some (field_at (get_or rows at d)) ≡ slice_get static_table index
+row_there rows n first at index d are is within fits =
     let some : n ≤ length (drop first static_table) = omega (arith, static-length, length-drop first static_table) in
     let all : length rows ≡ n =
     sym (length-map rows field_at) ∙ ap (λ (l : List Field). length l) are
     ∙ length-take-le n (drop first static_table) some in
-    let there : slice_get rows place ≡ Some (get_or rows place d) =
-    slice_get-get_or rows place d (omega (arith, all)) in
-    sym (slice_get-map field_at rows place ∙ ap (option_map field_at) there)
-    ∙ ap (λ (l : List Field). slice_get l place) are
-    ∙ get_take n (drop first static_table) place within
-    ∙ get_drop first static_table place
+    let there : slice_get rows at ≡ Some (get_or rows at d) =
+    slice_get-get_or rows at d (omega (arith, all)) in
+    sym (slice_get-map field_at rows at ∙ ap (option_map field_at) there)
+    ∙ ap (λ (l : List Field). slice_get l at) are
+    ∙ get_take n (drop first static_table) at within
+    ∙ get_drop first static_table at
     ∙ ap (slice_get static_table) is
 
 pub no_row : (index : ℕ) → 99 ≤ index → None ≡ slice_get static_table index
@@ -52,8 +52,8 @@ match_field f r i is some =
 pub match_name : (f : Field) (r first : Option ℕ) → r ≡ static_index f → r ≡ None → first ≡ static_name_index f.name
     → option_map (λ i. found.Name i) first ≡ match_of (static_index f) (static_name_index f.name)
 match_name f r first is none name =
-    let place : static_index f ≡ None = sym is ∙ none in
-    rw (place, sym name) (names first)
+    let at : static_index f ≡ None = sym is ∙ none in
+    rw (at, sym name) (names first)
   where
     names : (o : Option ℕ) → option_map (λ i. found.Name i) o ≡ match_of None o
     names None = refl

@@ -8,7 +8,7 @@ pub mod Integers
 pub mod HeaderFields
 pub mod StaticFields
 pub mod HuffmanTables
-pub mod BitPlaces
+pub mod BitPositions
 pub mod Payloads
 pub mod Strings
 pub mod WrittenPayloads

@@ -26,13 +26,13 @@ abbrev pub is_value_of : List ℕ → Option Field → Bool
 is_value_of value None = false
 is_value_of value (Some f) = bytes_eq value f.value
 
--- whether the field at a place of the static table has the value
+-- whether the field at a index of the static table has the value
 abbrev pub has_value_at : List ℕ → ℕ → Bool
-has_value_at value place = is_value_of value (slice_get static_table place)
+has_value_at value index = is_value_of value (slice_get static_table index)
 
 -- names of one length: each stands with all its positions, and no name of that length in the static table is missing
 pub record AreNamesOfLength (n : ℕ) (names : List (List ℕ × List ℕ)) : Type 0 where
-  pub places : All (λ e. e.1 ≡ indexes_with_name e.0) names
+  pub indexes : All (λ e. e.1 ≡ indexes_with_name e.0) names
   pub complete : (k : ℕ) (f : Field) → IsStaticAt k f → length f.name ≡ n
       → Contains names (f.name, indexes_with_name f.name)
 

@@ -33,7 +33,7 @@ impl<T: Drop> From<AllocFailed<T>> for NoMemory {
 /// What reading a value answers.
 pub type Result<T> = std::result::Result<T, UnexpectedEnd>;
 
-/// A place in a byte slice, from which reading goes on.
+/// A position in a byte slice, from which reading goes on.
 #[derive(Debug, Drop)]
 pub struct Cursor<'a> {
     rest: &'a [u8],
@@ -60,7 +60,7 @@ impl<'a> Cursor<'a> {
         }
     }
 
-    /// Another cursor at this place, to look ahead with.
+    /// Another cursor at this position, to look ahead with.
     pub fn fork(&self) -> Cursor<'a>
         ensures { result ≡ self.now }
     {

@@ -56,8 +56,8 @@ impl StaticTable {
     pub fn lookup(name: &[u8], value: &[u8]) -> Option<StaticMatch>
         ensures { result ≡ match_of (static_index (field name.now value.now)) (static_name_index name.now) }
     {
-        let places = places_of(name);
-        match (place_of_value(places, value), places.first()) {
+        let indexes = indexes_of(name);
+        match (index_of_value(indexes, value), indexes.first()) {
             (Some(index), _) => Some(StaticMatch::Field(index)),
             (None, Some(index)) => Some(StaticMatch::Name(*index)),
             (None, None) => None,
@@ -70,7 +70,7 @@ impl StaticTable {
         ensures none { IfNone result (NoStatic (λ f. f ≡ field_of field.now)) }
         ensures exact { result ≡ static_index (field_of field.now) }
     {
-        place_of_value(places_of(field.name.as_slice()), field.value.as_slice())
+        index_of_value(indexes_of(field.name.as_slice()), field.value.as_slice())
     }
 
     /// The least index of a field with the name.
@@ -79,12 +79,12 @@ impl StaticTable {
         ensures none { IfNone result (NoStatic (λ f. f.name ≡ name.now)) }
         ensures exact { result ≡ static_name_index name.now }
     {
-        places_of(name).first().copied()
+        indexes_of(name).first().copied()
     }
 }
 
 /// All positions with this name, rising.
-fn places_of(name: &[u8]) -> &'static [usize]
+fn indexes_of(name: &[u8]) -> &'static [usize]
     ensures { result.now ≡ indexes_with_name name.now }
 {
     let Some(entry) = entry_of(names_of_length(name.len()), name) else {
@@ -101,18 +101,18 @@ fn entry_of(names: &'static [Name], name: &[u8]) -> Option<&'static Name>
 }
 
 /// The first of the positions whose field has this value.
-fn place_of_value(places: &[usize], value: &[u8]) -> Option<usize>
-    ensures { result ≡ find (λ place. has_value_at value.now place) places.now }
+fn index_of_value(indexes: &[usize], value: &[u8]) -> Option<usize>
+    ensures { result ≡ find (λ index. has_value_at value.now index) indexes.now }
 {
-    places
+    indexes
         .iter()
         .copied()
-        .find(|&place| has_value(place, value))
+        .find(|&index| has_value(index, value))
 }
 
-/// Whether the field at the place has this value.
-fn has_value(place: usize, value: &[u8]) -> bool
-    ensures { result ≡ has_value_at value.now place }
+/// Whether the field at the index has this value.
+fn has_value(index: usize, value: &[u8]) -> bool
+    ensures { result ≡ has_value_at value.now index }
 {
-    row(place).is_some_and(|row| value == row.1)
+    row(index).is_some_and(|row| value == row.1)
 }

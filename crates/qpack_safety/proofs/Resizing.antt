@@ -17,7 +17,7 @@ use Rattle.qpack_spec.specs.Session.{stream_at}
 use Rattle.qpack_safety.specs.AbstractSession.{AbstractSession, after_resize}
 use Rattle.qpack_spec.proofs.Lists.{every_drop, every_weaker}
 use Rattle.qpack_spec.proofs.Windows.{Sound, leads_append, window_grown, grows_one, eviction_count_bound}
-use Rattle.qpack_spec.proofs.Places.{IsFree, evicted_free, opened_above, drops_received}
+use Rattle.qpack_spec.proofs.Positions.{IsFree, evicted_free, opened_above, drops_received}
 use Rattle.qpack_spec.proofs.Drafts.{IsLive, IsSent, KeepsTable}
 use Rattle.qpack_safety.proofs.Invariant.{stream_grows, Invariant, sound_made}
 

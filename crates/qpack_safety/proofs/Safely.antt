@@ -20,7 +20,7 @@ use Rattle.qpack_spec.proofs.Windows.{kept_received}
 use Rattle.qpack_spec.proofs.Readings.{fields_kept, fields_plain, below_greatest, greatest_has}
 use Rattle.qpack_spec.proofs.Prefixes.{InReach, ReadsAs, reads_written, maximum_of, reading_missing, reading_fields}
 use Rattle.qpack_spec.proofs.Prefixes.{reading_plain}
-use Rattle.qpack_spec.proofs.Places.{every_tracked, tracked_none}
+use Rattle.qpack_spec.proofs.Positions.{every_tracked, tracked_none}
 use Rattle.qpack_spec.proofs.Drafts.{IsLive, count_inserted}
 use Rattle.qpack_safety.specs.AbstractSafety.{DecodesExactly, Safe, AlwaysSafe}
 use Rattle.qpack_safety.proofs.OpenBlocks.{open_of, every_open}

@@ -24,14 +24,14 @@ use Rattle.qpack_spec.specs.Session.{after_refused_encode, with_decoded, EndsAtD
 use Rattle.qpack_spec.specs.Session.{bad_instruction, DeliversToDecoder, LawfulStep, Step, IsByteEvent, FitsMemory}
 use Rattle.qpack_spec.specs.Session.{is_read}
 use Rattle.qpack_spec.specs.WrittenLaws.{IsByteField}
-use Rattle.qpack_spec.proofs.Places.{every_take}
+use Rattle.qpack_spec.proofs.Positions.{every_take}
 use Rattle.qpack_spec.proofs.BlockReadings.{written_read, written_means}
 use Rattle.qpack_spec.proofs.PutTables.{window_put, count_put}
 use Rattle.qpack_spec.specs.Prefix.{Prefix, read_base}
 use Rattle.qpack_spec.proofs.Lists.{every_get}
 use Rattle.qpack_spec.proofs.Windows.{Agreed, agreed_start, leads_agreed, leads_append, leads_unique}
 use Rattle.qpack_spec.proofs.Readings.{fields_plain}
-use Rattle.qpack_spec.proofs.Places.{tracked_none}
+use Rattle.qpack_spec.proofs.Positions.{tracked_none}
 use Rattle.qpack_spec.proofs.Prefixes.{base_written}
 use Rattle.qpack_safety.specs.AbstractSafety.{DecodesExactly}
 use Rattle.qpack_safety.specs.SessionSafety.{Extends}

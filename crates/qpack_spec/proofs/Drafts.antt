@@ -30,9 +30,10 @@ use Rattle.qpack_spec.proofs.References.{KeepsReferences, refers_plain, refers_n
 use Rattle.qpack_spec.proofs.References.{static_names, static_name_names, literal_names, indexed_names}
 use Rattle.qpack_spec.proofs.References.{named_line_names}
 use Rattle.qpack_spec.proofs.Readings.{static_means, entry_relative, entry_post_base, fields_kept, fields_push}
-use Rattle.qpack_spec.proofs.Places.{FoundEntry, newest_found, static_found, static_name_found, same_name, same_field}
-use Rattle.qpack_spec.proofs.Places.{named_field, instruction_effect, window_entered, IsFree, evicted_free}
-use Rattle.qpack_spec.proofs.Places.{every_track, above_dropped, opened_above, drops_received}
+use Rattle.qpack_spec.proofs.Positions.{FoundEntry, newest_found, static_found, static_name_found, same_name}
+use Rattle.qpack_spec.proofs.Positions.{same_field}
+use Rattle.qpack_spec.proofs.Positions.{named_field, instruction_effect, window_entered, IsFree, evicted_free}
+use Rattle.qpack_spec.proofs.Positions.{every_track, above_dropped, opened_above, drops_received}
 
 abbrev pub IsLive : Table → ℕ → Type 0
 IsLive t a = (t.dropped < a) × (a ≤ insert_count t)

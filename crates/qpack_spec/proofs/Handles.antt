@@ -23,7 +23,7 @@ use Rattle.qpack_spec.specs.Handle.{AtRelative, AtPostBase, NotFound, lookup_of,
 use Rattle.qpack_spec.specs.Handle.{found_name, answer_of, found_instead, insert_field, literal_at, line_of}
 use Rattle.qpack_spec.specs.Handle.{instructions_of}
 use Rattle.qpack_spec.specs.Handle.{with_insertion, with_found, by_handle, handle_field, handle_fields, HandleIsTheRule}
-use Rattle.qpack_spec.proofs.Places.{FoundEntry, newest_found}
+use Rattle.qpack_spec.proofs.Positions.{FoundEntry, newest_found}
 use Rattle.qpack_spec.proofs.Drafts.{Room, room}
 use Rattle.qpack_spec.proofs.WrittenDrafts.{count_naming, count_entered, count_unnamed}
 

@@ -1,12 +1,12 @@
 pub mod Results
 pub mod Integers
 pub mod WrittenIntegers
-pub mod StaticPlaces
+pub mod StaticIndexes
 pub mod Lists
 pub mod Windows
 pub mod Readings
 pub mod Prefixes
-pub mod Places
+pub mod Positions
 pub mod References
 pub mod Drafts
 pub mod CodeTable

@@ -18,7 +18,7 @@ use Rattle.qpack_spec.specs.Rule.{literal_by_entry, literal}
 use Rattle.qpack_spec.specs.Rule.{insertion_or_literal, by_entry, by_static, rule_field, rule_fields, empty_draft, rule}
 use Rattle.qpack_spec.specs.BlockLaws.{BlocksRequireReferences}
 use Rattle.qpack_spec.proofs.Readings.{references_push}
-use Rattle.qpack_spec.proofs.Places.{tracked_append}
+use Rattle.qpack_spec.proofs.Positions.{tracked_append}
 
 -- ---- the greatest of what is tracked
 

@@ -26,7 +26,7 @@ use Rattle.qpack_spec.specs.Stateless.{RuleWithoutTable, up_to_limit, StatelessP
 use Rattle.qpack_spec.specs.WrittenLaws.{IsWritableField, IsWritableLine}
 use Rattle.qpack_spec.proofs.Readings.{static_means}
 use Rattle.qpack_spec.proofs.StatelessMeanings.{none_alone}
-use Rattle.qpack_spec.proofs.Places.{static_found, static_name_found, named_field}
+use Rattle.qpack_spec.proofs.Positions.{static_found, static_name_found, named_field}
 use Rattle.qpack_spec.proofs.FormLaws.{form_again}
 use Rattle.qpack_spec.proofs.WrittenForms.{integer_starts, behind, integer_written, name_starts, lines_spelled}
 use Rattle.qpack_spec.proofs.WrittenDrafts.{static_small}

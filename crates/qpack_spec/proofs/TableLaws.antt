@@ -9,7 +9,7 @@ use Rattle.qpack_spec.specs.Window.{window_after}
 use Rattle.qpack_spec.specs.Table.{Entry, Table, fields_in, window, can_evict, with_capacity}
 use Rattle.qpack_spec.specs.TableLaws.{EntriesAreInsertions, CapacitiesAreOfTheWindow}
 use Rattle.qpack_spec.proofs.Results.{ok_is}
-use Rattle.qpack_spec.proofs.Places.{window_entered}
+use Rattle.qpack_spec.proofs.Positions.{window_entered}
 
 pub entries_inserted : EntriesAreInsertions
 entries_inserted t e = window_entered t e

@@ -30,7 +30,7 @@ use Rattle.qpack_spec.specs.WrittenLaws.{IsSmall, IsWritableValue, IsByteField, 
 use Rattle.qpack_spec.specs.WrittenLaws.{IsWritableLine, IsWritableEncoderInstruction}
 use Rattle.qpack_spec.proofs.Lists.{every_append}
 use Rattle.qpack_spec.proofs.Windows.{eviction_count_push}
-use Rattle.qpack_spec.proofs.Places.{newest_found, static_found, static_name_found}
+use Rattle.qpack_spec.proofs.Positions.{newest_found, static_found, static_name_found}
 use Rattle.qpack_spec.proofs.Drafts.{Room, room}
 
 -- a block in progress whose numbers are small and whose strings are bytes

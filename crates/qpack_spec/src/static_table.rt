@@ -14,11 +14,11 @@ pub fn static_fields_differ()
 {}
 
 /// Looking for a field finds its index exactly if it stands there.
-pub fn static_place_is_least()
+pub fn static_index_is_least()
     ensures { StaticIndexIsLeast }
 {}
 
 /// Looking for a name finds the least index of a field with it, exactly if there is one.
-pub fn static_name_place_is_least()
+pub fn static_name_index_is_least()
     ensures { StaticNameIndexIsLeast }
 {}

@@ -3,7 +3,10 @@
 use h3_qpack::coding::Cursor;
 use h3_qpack::prefix_int::Error;
 use h3_qpack::prefix_string::Error as StringError;
-use h3_qpack::{Decoded, DecoderError, HeaderField, decode_stateless, encode_stateless};
+use h3_qpack::{
+    Decoded, DecoderError, EncoderError, HeaderField, decode_stateless, encode_stateless,
+};
+use qpack_testing::{again, field, same};
 use std::alloc::Global;
 use std::test::Fail;
 
@@ -42,67 +45,83 @@ static ROWS: [Row; 4] = [
     },
 ];
 
-/// Decodes a block up to a sum of sizes.
+/// Decodes a block up to a sum of sizes, and again where memory was refused.
 fn decode(alloc: Global, block: &[u8], limit: u64) -> Result<Decoded, DecoderError> {
-    decode_stateless(alloc, &mut Cursor::new(block), limit)
+    match decode_stateless(alloc, &mut Cursor::new(block), limit) {
+        Err(DecoderError::Memory) => decode_stateless(alloc, &mut Cursor::new(block), limit),
+        answer => answer,
+    }
 }
 
-/// Whether the fields are written as this block with this size, and read from it.
-fn agree(
-    alloc: Global,
-    fields: &Vec<HeaderField>,
-    block: &[u8],
-    size: u64,
-) -> Result<bool, DecoderError> {
+/// Writes the fields as a block, and again after a refusal, which must leave the vector as it was.
+fn put(fields: &Vec<HeaderField>, block: &mut Vec<u8>) -> Result<u64, Fail> {
+    let len = block.len();
+    match encode_stateless(block, fields.iter()) {
+        Err(EncoderError::Memory) => {
+            same(block.len(), len)?;
+            Ok(encode_stateless(block, fields.iter())?)
+        }
+        answer => Ok(answer?),
+    }
+}
+
+/// The fields are written as this block with this size, and read from it.
+fn agree(alloc: Global, fields: &Vec<HeaderField>, block: &[u8], size: u64) -> Result<(), Fail> {
     let mut written = Vec::new(alloc);
-    let told = encode_stateless(&mut written, fields.iter());
+    same(put(fields, &mut written)?, size)?;
+    same(written.as_slice(), block)?;
     let decoded = decode(alloc, block, size)?;
-    Ok(
-        told == Ok(size)
-            && written.as_slice() == block
-            && decoded.fields == *fields
-            && decoded.mem_size == size
-            && !decoded.dyn_ref,
-    )
+    same(decoded.fields == *fields, true)?;
+    same((decoded.mem_size, decoded.dyn_ref), (size, false))
+}
+
+/// Fields with these names and values.
+fn fields_of(alloc: Global, pairs: &[(&[u8], &[u8])]) -> Result<Vec<HeaderField>, Fail> {
+    let mut fields = again(|| Vec::with_capacity(alloc, pairs.len()))?;
+    for (name, value) in pairs {
+        fields.push(field(alloc, name, value)?)?;
+    }
+    Ok(fields)
 }
 
 #[test]
 fn fields_and_blocks(rt: HostRuntime) -> Result<(), Fail> {
-    let alloc = rt.alloc();
-    let none = Vec::new(alloc);
-    assert!(rt; agree(alloc, &none, b"\x00\x00", 0)?);
-    let mut all = Vec::new(alloc);
     for row in &ROWS {
-        let mut alone = Vec::new(alloc);
-        alone.push(HeaderField::from_pair(alloc, row.name, row.value)?)?;
-        assert!(rt; agree(alloc, &alone, row.block, row.size)?);
-        all.push(HeaderField::from_pair(alloc, row.name, row.value)?)?;
+        let alone = fields_of(rt.alloc(), &[(row.name, row.value)])?;
+        agree(rt.alloc(), &alone, row.block, row.size)?;
     }
-    let block = b"\x00\x00\xd1\x52\x81\x0f\x5f\x09\x82\x10\x03\x2a\x94\xe7\x83\x8c\x76\x7f";
-    assert!(rt; agree(alloc, &all, block, 158)?);
     Ok(())
 }
 
 #[test]
+fn no_field_and_four(rt: HostRuntime) -> Result<(), Fail> {
+    let none = Vec::new(rt.alloc());
+    agree(rt.alloc(), &none, b"\x00\x00", 0)?;
+    let mut all = again(|| Vec::with_capacity(rt.alloc(), 4))?;
+    for row in &ROWS {
+        all.push(field(rt.alloc(), row.name, row.value)?)?;
+    }
+    let block = b"\x00\x00\xd1\x52\x81\x0f\x5f\x09\x82\x10\x03\x2a\x94\xe7\x83\x8c\x76\x7f";
+    agree(rt.alloc(), &all, block, 158)
+}
+
+#[test]
 fn the_sum_of_sizes_is_limited(rt: HostRuntime) -> Result<(), Fail> {
-    let alloc = rt.alloc();
-    let mut fields = Vec::new(alloc);
-    fields.push(HeaderField::from_pair(alloc, b"trailer", b"value")?)?;
-    fields.push(HeaderField::from_pair(alloc, b"trailer2", b"value2")?)?;
-    let mut block = Vec::new(alloc);
-    assert!(rt; encode_stateless(&mut block, fields.iter()) == Ok(90));
-    assert!(rt; decode(alloc, &block, 2) == Err(DecoderError::HeaderTooLong(44)));
-    assert!(rt; decode(alloc, &block, 89) == Err(DecoderError::HeaderTooLong(90)));
-    assert!(rt; agree(alloc, &fields, &block, 90)?);
-    Ok(())
+    let pairs: [(&[u8], &[u8]); 2] = [(b"trailer", b"value"), (b"trailer2", b"value2")];
+    let fields = fields_of(rt.alloc(), &pairs)?;
+    let mut block = Vec::new(rt.alloc());
+    same(put(&fields, &mut block)?, 90)?;
+    for (limit, size) in [(2, 44), (89, 90)] {
+        let refused = decode(rt.alloc(), &block, limit).err();
+        same(refused, Some(DecoderError::HeaderTooLong(size)))?;
+    }
+    agree(rt.alloc(), &fields, &block, 90)
 }
 
 #[test]
 fn a_prefix_means_nothing_without_a_table(rt: HostRuntime) -> Result<(), Fail> {
     let decoded = decode(rt.alloc(), b"\x05\x00", 0)?;
-    assert_eq!(rt; decoded.fields.len(), 0);
-    assert_eq!(rt; decoded.mem_size, 0);
-    Ok(())
+    same((decoded.fields.len(), decoded.mem_size), (0, 0))
 }
 
 /// Blocks, and why they are refused.
@@ -135,10 +154,9 @@ static REFUSED: [(&[u8], DecoderError); 12] = [
 
 #[test]
 fn other_blocks_are_refused(rt: HostRuntime) -> Result<(), Fail> {
-    let alloc = rt.alloc();
     for (block, error) in &REFUSED {
-        let answer = decode(alloc, block, 4096);
-        assert!(rt; matches!(&answer, Err(e) if e == error));
+        let refused = decode(rt.alloc(), block, 4096).err();
+        same(refused.as_ref(), Some(error))?;
     }
     Ok(())
 }

@@ -9,6 +9,3 @@ pub use crate::block::indexes::{Indexed, IndexedWithPostBase};
 pub use crate::block::line::{BlockLine, HeaderBlockField};
 pub use crate::block::literals::{Literal, LiteralWithNameRef, LiteralWithPostBaseNameRef};
 pub use crate::block::prefix::HeaderPrefix;
-
-#[cfg(test)]
-mod tests;

@@ -6,5 +6,3 @@ pub mod block;
 mod form;
 pub mod laws;
 pub mod stream;
-#[cfg(test)]
-mod testing;

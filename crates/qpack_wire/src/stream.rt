@@ -14,6 +14,3 @@ pub use crate::stream::encoder_stream::{EncoderInstruction, EncoderLine};
 pub use crate::stream::inserts::{InsertWithNameRef, InsertWithoutNameRef};
 pub use crate::stream::lines::{Wire, next_line};
 pub use crate::stream::updates::{Duplicate, DynamicTableSizeUpdate};
-
-#[cfg(test)]
-mod tests;

@@ -10,7 +10,7 @@ use Rattle.qpack_spec.specs.Field.{Field}
 use Rattle.qpack_spec.specs.BlockReading.{written_block}
 use Rattle.qpack_spec.specs.Stateless.{stateless_block, stateless_reading}
 use Rattle.qpack_base.specs.declared.field.HeaderField.{HeaderField}
-use Rattle.h3_qpack.specs.Stateless.{Decodes, FailsStateless, fields_in}
+use Rattle.h3_qpack.specs.Stateless.{DecodesStateless, FailsStateless, fields_in}
 use Rattle.h3_qpack.specs.declared.decoder.Decoded.{Decoded}
 use Rattle.h3_qpack.specs.declared.decoder.DecoderError.{DecoderError}
 use Rattle.h3_qpack.specs.declared.decoder.DecoderError.TheVariants as decoder
@@ -61,7 +61,7 @@ FailsHexadecimal Memory limit read = Unit {0}
 
 -- what the bytes that a text stands for decode to
 abbrev pub DecodesText : Result Decoded Fault → ℕ → Result (List ℕ) FromHexError → Type 0
-DecodesText (Ok d) limit (Ok bytes) = Decodes (Ok d) (stateless_reading limit bytes)
+DecodesText (Ok d) limit (Ok bytes) = DecodesStateless (Ok d) (stateless_reading limit bytes)
 DecodesText (Ok d) limit (Err e) = ⊥
 DecodesText (Err e) limit read = FailsHexadecimal e limit read
 

@@ -1,9 +1,9 @@
-//! Places in a payload, counted in bits.
+//! Positions in a payload, counted in bits.
 
 ghost use Rattle.std.specs.Prelude.{◌≡◌, ◌+◌, ◌-◌, ◌*◌, ◌/◌, ◌%◌, ◌^◌, ◌<◌};
-ghost use Rattle.qpack_base.specs.BitPlaces.{place_of};
+ghost use Rattle.qpack_base.specs.BitPositions.{position_of};
 
-/// A place in a payload, the bit `bit` of the byte `byte`, and how many bits from it on are meant.
+/// A position in a payload, the bit `bit` of the byte `byte`, and how many bits from it on are meant.
 #[derive(Clone, Debug, Default, Drop, PartialEq)]
 pub struct BitWindow {
     pub byte: u64,
@@ -27,7 +27,7 @@ impl BitWindow {
     pub fn forwards(&mut self, step: u64)
         requires bits_fit { self.old.bit + self.old.count < 2 ^ 64 }
         requires bytes_fit { self.old.byte + (self.old.bit + self.old.count) / 8 < 2 ^ 64 }
-        ensures place { place_of self.new ≡ place_of self.old + self.old.count }
+        ensures position { position_of self.new ≡ position_of self.old + self.old.count }
         ensures within { self.new.bit < 8 }
         ensures count { self.new.count ≡ step }
     {

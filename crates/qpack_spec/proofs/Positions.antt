@@ -20,7 +20,7 @@ use Rattle.qpack_spec.specs.Table.{with_number, with_numbers}
 use Rattle.qpack_spec.specs.Table.{is_evictable, all_evictable, can_evict, eviction_count_for, with_entry}
 use Rattle.qpack_spec.specs.Table.{later_position, last_position, newest_index}
 use Rattle.qpack_spec.specs.Rule.{by_name, by_static_name, by_equal, instruction_for}
-use Rattle.qpack_spec.proofs.StaticPlaces.{field_is, place_is_least, name_place_is_least}
+use Rattle.qpack_spec.proofs.StaticIndexes.{field_is, index_is_least, name_index_is_least}
 use Rattle.qpack_spec.proofs.Lists.{every_append, every_left, every_right, get_drop, every_both, every_weaker}
 use Rattle.qpack_spec.proofs.Windows.{size_least}
 
@@ -48,7 +48,7 @@ last_found {X} p (x ∷ xs) i h = pick (last_position p xs) refl (p x) refl (las
 pub static_found : (f : Field) (i : ℕ) → static_index f ≡ Some i → slice_get static_table i ≡ Some f
 static_found f i e =
     let is : IsLeastStatic (λ g. g ≡ f) i =
-    subst (λ (o : Option ℕ). MatchOption o (NoStatic (λ g. g ≡ f)) (IsLeastStatic (λ g. g ≡ f))) e (place_is_least f) in
+    subst (λ (o : Option ℕ). MatchOption o (NoStatic (λ g. g ≡ f)) (IsLeastStatic (λ g. g ≡ f))) e (index_is_least f) in
     is.at.1 ∙ ap Some is.at.2
 
 pub static_name_found : (name : List ℕ) (i : ℕ) → static_name_index name ≡ Some i
@@ -56,7 +56,7 @@ pub static_name_found : (name : List ℕ) (i : ℕ) → static_name_index name �
 static_name_found name i e =
     let is : IsLeastStatic (λ g. g.name ≡ name) i =
     subst (λ (o : Option ℕ). MatchOption o (NoStatic (λ g. g.name ≡ name)) (IsLeastStatic (λ g. g.name ≡ name))) e
-    (name_place_is_least name) in
+    (name_index_is_least name) in
     (is.at.0, is.at.1, sym is.at.2)
 
 pub same_name : (n : List ℕ) (g : Field) → has_name n g ≡ true → n ≡ g.name

@@ -93,9 +93,9 @@ is_field-Decides f g = (
 has_name-Decides : (name : List ℕ) (g : Field) → Decides (has_name name g) (g.name ≡ name)
 has_name-Decides name g = (λ e. sym ((bytes_eq-Decides name g.name).0 e), λ e. (bytes_eq-Decides name g.name).1 (sym e))
 
-pub place_is_least : StaticIndexIsLeast
+pub index_is_least : StaticIndexIsLeast
 unfolding static_index
-place_is_least f =
+index_is_least f =
     go (position (is_field f) static_table) (places (is_field f) (λ g. g ≡ f) static_table (is_field-Decides f))
   where
     go : (o : Option ℕ) → MatchOption o (NoStatic (λ g. g ≡ f)) (IsPlace (λ g. g ≡ f) static_table)
@@ -103,9 +103,9 @@ place_is_least f =
     go None h = h
     go (Some i) h = record { at = h.at; before = h.before }
 
-pub name_place_is_least : StaticNameIndexIsLeast
+pub name_index_is_least : StaticNameIndexIsLeast
 unfolding static_name_index
-name_place_is_least name =
+name_index_is_least name =
     go (position (has_name name) static_table)
     (places (has_name name) (λ g. g.name ≡ name) static_table (has_name-Decides name))
   where

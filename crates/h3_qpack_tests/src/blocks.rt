@@ -1,0 +1,56 @@
+//! Blocks where memory is refused.
+
+use h3_qpack::coding::{Cursor, NoMemory};
+use h3_qpack::{Decoded, DecoderError, HeaderField, decode_stateless, encode_stateless};
+use linked_list_allocator::LocalHeap;
+use qpack_testing::{again, field, same};
+use std::alloc::Global;
+use std::test::Fail;
+
+/// Three fields, one in each form.
+fn three_fields(alloc: Global) -> Result<Vec<HeaderField>, NoMemory> {
+    let mut fields = again(|| Vec::with_capacity(alloc, 3))?;
+    fields.push(field(alloc, b":method", b"GET")?)?;
+    fields.push(field(alloc, b"age", b"1")?)?;
+    fields.push(field(alloc, b"foo", b"bar")?)?;
+    Ok(fields)
+}
+
+#[test]
+fn a_refused_block_leaves_the_vector(rt: HostRuntime) -> Result<(), Fail> {
+    let fields = three_fields(rt.alloc())?;
+    let heap = again(|| LocalHeap::new(rt.alloc(), 256))?;
+    let mut block = Vec::new(&heap);
+    let mut refusals = 0u32;
+    for _ in 0..50u32 {
+        let len = block.len();
+        match encode_stateless(&mut block, fields.iter()) {
+            Ok(size) => same((size, block.len()), (116, len.saturating_add(13)))?,
+            Err(_) => {
+                refusals = refusals.saturating_add(1);
+                same(block.len(), len)?;
+            }
+        }
+    }
+    same((refusals > 0, refusals < 50), (true, true))
+}
+
+/// Decodes the block of the three fields.
+fn decode(alloc: Global) -> Result<Decoded, DecoderError> {
+    let block = b"\x00\x00\xd1\x52\x81\x0f\x2a\x94\xe7\x83\x8c\x76\x7f";
+    decode_stateless(alloc, &mut Cursor::new(block), 116)
+}
+
+#[test]
+fn a_refused_block_can_be_decoded_again(rt: HostRuntime) -> Result<(), Fail> {
+    let fields = three_fields(rt.alloc())?;
+    let decoded = match decode(rt.alloc()) {
+        Ok(decoded) => decoded,
+        Err(e) => {
+            same(e, DecoderError::Memory)?;
+            decode(rt.alloc())?
+        }
+    };
+    same(decoded.fields == fields, true)?;
+    same(decoded.mem_size, 116)
+}

@@ -1,0 +1,7 @@
+//! What no clause of `h3_qpack` says, through public calls: printed texts, and blocks where memory is refused.
+#![tactic(auto)]
+
+#[cfg(test)]
+mod blocks;
+#[cfg(test)]
+mod texts;
