@@ -1,5 +1,5 @@
--- The forms that lines, instructions and decoder_instructions have in bytes (RFC 9204, sections 4.3 to 4.5): the first
--- bits of a byte name the form, and behind them stand an integer, an integer and a string, or two strings.
+-- The forms that lines, encoder instructions and decoder instructions have in bytes (RFC 9204, sections 4.3 to 4.5):
+-- the first bits of a byte name the form, and behind them stand an integer, an integer and a string, or two strings.
 use Rattle.std.specs.Prelude.{◌≡◌, ℕ, ◌⊎◌, Bool, true, false, List, [], ◌∷◌, ◌++◌, Option, None, Some, Result, Ok, Err}
 use Rattle.qpack_spec.specs.Bytes.{◌>>=◌}
 use Rattle.qpack_spec.specs.Integer.{IntegerFault, Overflow, UnexpectedEnd, SpellsInteger, OverflowsInteger, integer_at}

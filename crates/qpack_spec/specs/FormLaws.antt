@@ -1,5 +1,5 @@
--- What every reader of lines, instructions and decoder_instructions relies on, as statements; the crate's law functions
--- promise them.
+-- What every reader of lines, encoder instructions and decoder instructions relies on, as statements; the crate's law
+-- functions promise them.
 use Rattle.std.specs.Prelude.{◌≡◌, ℕ, ◌⊎◌, ◌↔◌, true, false, List, ◌++◌, Option, Ok, Err}
 use Rattle.qpack_spec.specs.Bytes.{Begins}
 use Rattle.qpack_spec.specs.Form.{FormFault, is_cut, Form, Spells, Refuses, Truncates, form_at}

@@ -244,7 +244,7 @@ abbrev pub apply_encoder_instructions : Table → List EncoderInstruction → Re
 apply_encoder_instructions t [] = Ok t
 apply_encoder_instructions t (i ∷ is) = apply_encoder_instruction t i >>= λ u. apply_encoder_instructions u is
 
--- the table behind some decoder_instructions
+-- the table behind some decoder instructions
 abbrev pub apply_decoder_instructions : Table → List DecoderInstruction → Result Table TableRefusal
 apply_decoder_instructions t [] = Ok t
 apply_decoder_instructions t (r ∷ rs) = apply_decoder_instruction t r >>= λ u. apply_decoder_instructions u rs
@@ -315,7 +315,8 @@ pub data EndsAtDecoder (v : Session) (n : ℕ) (t : Table) (front rest : List �
         (unreported_after v t) v.decoder_stream
         → EndsAtDecoder v n t front rest o v'
 
--- the next n bytes are delivered to the decoder, and offered behind those that it left; it takes lines at their front
+-- the next n bytes are delivered to the decoder, and offered behind those that it left; it takes instructions at their
+-- front
 pub record DeliversToDecoder (v : Session) (n : ℕ) (o : Outcome) (v' : Session) : Type 0 where
   pub lines : List EncoderInstruction
   pub front : List ℕ

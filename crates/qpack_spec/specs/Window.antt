@@ -9,7 +9,9 @@ use Rattle.qpack_spec.specs.Instruction.{Duplicate}
 use Rattle.qpack_spec.specs.Instruction.{SetCapacity}
 
 -- capacity, maximum capacity, how many entries were dropped, and the live ones, the oldest first. Absolute indexes
--- begin at 1: the live ones are dropped + 1 to dropped + length live (section 3.2.4, which begins at 0)
+-- begin at 1: the live ones are dropped + 1 to dropped + length live (section 3.2.4, which begins at 0).
+--     absolute index   1 .. dropped | dropped + 1 ..       .. dropped + length live
+--                      evicted      | the oldest live one   the newest one, an instruction's relative index 0
 pub record Window : Type 0 where
   pub capacity : ℕ
   pub agreed_max : Option ℕ

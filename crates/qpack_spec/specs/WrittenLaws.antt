@@ -1,5 +1,5 @@
--- What is written of lines, instructions and decoder_instructions is a spelling, so that it is read back whole; the
--- crate's law functions promise it.
+-- What is written of lines, encoder instructions and decoder instructions is a spelling, so that it is read back whole;
+-- the crate's law functions promise it.
 use Rattle.std.specs.Prelude.{◌≡◌, ℕ, ◌^◌, ◌<◌, List, length}
 use Rattle.std.specs.List.{AllByRecursion}
 use Rattle.qpack_spec.specs.Prefix.{Prefix, SpellsPrefix, written_prefix}

@@ -1,4 +1,4 @@
-//! Laws of the bytes of lines, instructions and decoder_instructions (RFC 9204, sections 4.3 to 4.5).
+//! Laws of the bytes of lines, encoder instructions and decoder instructions (RFC 9204, sections 4.3 to 4.5).
 
 ghost use Rattle.qpack_spec.specs.FormLaws.{FormsHaveOneValue, NoFormBeginsAnother, ReadingFindsForms};
 ghost use Rattle.qpack_spec.specs.FormLaws.{ReadingFindsFormRefusals, ReadingFindsFormTruncation};

@@ -31,7 +31,7 @@ fn the_newest_entry_is_first(_rt: HostRuntime) -> Result<(), Fail> {
 }
 
 #[test]
-fn places_begin_at_the_oldest_live_entry(_rt: HostRuntime) -> Result<(), Fail> {
+fn positions_begin_at_the_oldest_live_entry(_rt: HostRuntime) -> Result<(), Fail> {
     let space = space(21, 15);
     same((space.total_inserted(), space.largest_ref()), (21, 6))?;
     same(space.relative(0), Ok(5))?;

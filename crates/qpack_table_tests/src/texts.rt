@@ -12,7 +12,7 @@ fn errors_of_indexes_say_what_they_are(rt: HostRuntime) -> Result<(), Fail> {
             vas::Error::PostbaseIndex(8),
             "no entry at post-base index 8",
         ),
-        (vas::Error::Index(9), "no entry at place 9"),
+        (vas::Error::Index(9), "no entry at position 9"),
     ];
     for (error, text) in &errors {
         prints(rt.alloc(), error, text)?;
@@ -26,7 +26,7 @@ fn errors_of_the_table_say_what_they_are(rt: HostRuntime) -> Result<(), Fail> {
     let errors = [
         (Error::BadRelativeIndex(7), "no entry at relative index 7"),
         (Error::BadPostbaseIndex(8), "no entry at post-base index 8"),
-        (Error::BadIndex(9), "no entry at place 9"),
+        (Error::BadIndex(9), "no entry at position 9"),
         (Error::MaxTableSizeReached, "no room within the capacity"),
         (Error::MaximumTableSizeTooLarge, "capacity too large"),
         (

@@ -18,7 +18,7 @@ pub enum HuffmanDecodingError {
     #[error("missing bits")]
     MissingBits(BitWindow),
     /// Behind the last code stand thirty ones, EOS.
-    #[error("unhandled code code")]
+    #[error("unhandled code word")]
     Unhandled(BitWindow, usize),
 }
 
