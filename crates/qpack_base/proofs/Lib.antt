@@ -17,3 +17,4 @@ pub mod AddedBits
 pub mod PutCodes
 pub mod PutStrings
 pub mod FieldLists
+pub mod FieldOrder

@@ -2,6 +2,9 @@
 use Rattle.std.specs.Prelude.{ℕ, List, [], ◌∷◌, ◌++◌, map, Option}
 use Rattle.std.specs.Borrow.{Bor}
 use Rattle.std.specs.Iterator.{Drains}
+use Rattle.std.specs.declared.cmp.Ordering.{Ordering}
+use Rattle.std.specs.Ordering.{nat_cmp, ordering_then}
+use Rattle.std.specs.Cmp.Lexicographic.{slice_cmp}
 use Rattle.std.specs.Cow.{cow_slice_items}
 use Rattle.std.specs.Hash.{HashWrites, slice, u8}
 use Rattle.std.specs.Str.{encode_utf8_all}
@@ -21,6 +24,10 @@ fields_behind fs = map (λ f. field_of f.now) fs
 abbrev pub DrainsFields : {S : Type 0} → (S → Option (Bor HeaderField) → S → Type 0) → S → (List Field → Type 0)
     → Type 0
 DrainsFields steps it P = (fs : List (Bor HeaderField)) × Drains steps it fs × P (fields_behind fs)
+
+-- the order of fields: by name, then by value, each byte by byte
+unfoldable pub field_cmp : Field → Field → Ordering
+field_cmp f g = ordering_then (slice_cmp nat_cmp f.name g.name) (slice_cmp nat_cmp f.value g.value)
 
 -- the name, a TAB and the value, with U+FFFD for what is no UTF-8
 abbrev pub text_of : Field → List ℕ

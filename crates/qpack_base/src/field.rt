@@ -2,12 +2,14 @@
 
 ghost use Rattle.std.specs.Prelude.{◌≡◌, ◌+◌, ◌-◌, ◌^◌, ◌↔◌, min, fold, IfOk, IsTrue, string_bytes};
 ghost use Rattle.qpack_spec.specs.Field.{field_size};
-ghost use Rattle.qpack_base.specs.HeaderFields.{field_of, text_of, hash_input_of};
+ghost use Rattle.std.specs.Ordering.{is_eq};
+ghost use Rattle.qpack_base.specs.HeaderFields.{field_of, field_cmp, text_of, hash_input_of};
 
 use crate::coding::NoMemory;
 use bstr::ByteSlice;
 use std::alloc::Global;
 use std::borrow::CowSlice;
+use std::cmp::Ordering;
 use std::fmt;
 use std::hash::{Hash, Hasher};
 
@@ -15,8 +17,8 @@ use std::hash::{Hash, Hasher};
 pub const ESTIMATED_OVERHEAD_BYTES: usize = 32;
 
 /// A name and a value, each borrowed for good or owned. Two fields are equal, and hash alike, exactly
-/// if their names and their values are the same bytes.
-#[derive(Debug, PartialEq, Eq, Hash, Clone, Drop)]
+/// if their names and their values are the same bytes; they are ordered by name, then by value, byte by byte.
+#[derive(Debug, PartialEq, Eq, PartialOrd, Ord, Hash, Clone, Drop)]
 pub struct HeaderField {
     pub name: CowSlice<'static, u8>,
     pub value: CowSlice<'static, u8>,
@@ -96,6 +98,16 @@ pub fn equality_is_of_bytes(field: &HeaderField, other: &HeaderField) -> bool
     ensures bytes { IsTrue result ↔ (field_of field.now ≡ field_of other.now) }
 {
     field == other
+}
+
+/// What `cmp` answers: the order of the names, then that of the values, each byte by byte. Fields that are equal,
+/// and no others, tie.
+pub fn order_is_of_bytes(field: &HeaderField, other: &HeaderField) -> Ordering
+    ensures operator { result ≡ ⟦<HeaderField as Ord>⟧.cmp field.now other.now }
+    ensures bytes { result ≡ field_cmp (field_of field.now) (field_of other.now) }
+    ensures equal { IsTrue (is_eq result) ↔ (field_of field.now ≡ field_of other.now) }
+{
+    field.cmp(other)
 }
 
 /// Feeds a field to a hasher and another to a second one, whatever hashers they are, and answers whether the

@@ -1,8 +1,9 @@
 //! Header fields.
 
-use qpack_base::field::{HeaderField, equal_fields_hash_alike, equality_is_of_bytes};
+use qpack_base::field::{HeaderField, equal_fields_hash_alike, equality_is_of_bytes, order_is_of_bytes};
 use qpack_testing::{again, field, prints, same};
 use std::borrow::CowSlice;
+use std::cmp::Ordering;
 use std::hash::{DefaultHasher, Hasher};
 use std::test::Fail;
 
@@ -27,6 +28,17 @@ fn fields_are_their_bytes(rt: HostRuntime) -> Result<(), Fail> {
         (name.as_slice(), value.as_slice()),
         (b"foo".as_slice(), b"quxx".as_slice()),
     )
+}
+
+#[test]
+fn fields_are_ordered_by_name_then_value(rt: HostRuntime) -> Result<(), Fail> {
+    let lent = lent(b"foo", b"bar");
+    let owned = field(rt.alloc(), b"foo", b"bar")?;
+    let longer = field(rt.alloc(), b"foo", b"bar2")?;
+    let named = field(rt.alloc(), b"fop", b"")?;
+    same(order_is_of_bytes(&lent, &owned), Ordering::Equal)?;
+    same(order_is_of_bytes(&longer, &lent), Ordering::Greater)?;
+    same(order_is_of_bytes(&longer, &named), Ordering::Less)
 }
 
 #[test]
