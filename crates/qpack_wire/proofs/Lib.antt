@@ -9,5 +9,6 @@ pub mod StreamReaders
 pub mod InstructionForms
 pub mod StreamForms
 pub mod Cuttings
+pub mod NextLines
 pub mod StreamKinds
 pub mod AloneRows

@@ -13,3 +13,4 @@ pub mod Cuttings
 pub mod KindLaws
 pub mod Writes
 pub mod Memory
+pub mod NextLines

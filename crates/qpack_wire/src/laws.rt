@@ -4,6 +4,9 @@ ghost use Rattle.qpack_spec.specs.Instruction.{SpellsEncoderInstruction, SpellsD
 ghost use Rattle.qpack_wire.specs.Cuttings.{CuttingChangesNothing};
 ghost use Rattle.qpack_wire.specs.KindLaws.{EncodersHaveFourKinds, DecodersHaveThreeKinds};
 ghost use Rattle.qpack_wire.specs.LineLaws.{LinesHaveFiveForms};
+ghost use Rattle.qpack_wire.specs.NextLines.{NextLinesAreTheReading};
+ghost use Rattle.qpack_wire.specs.StreamLines.{encoder_instruction_of, decoder_instruction_of};
+ghost use Rattle.qpack_wire.specs.StreamLines.{RefusesEncoderLine, RefusesDecoderLine};
 
 /// The five forms make up the lines: a spelling of a line is a spelling in one of them.
 pub fn lines_have_five_forms()
@@ -22,4 +25,12 @@ pub fn instructions_have_their_kinds()
 pub fn cutting_changes_nothing()
     ensures instructions { CuttingChangesNothing SpellsEncoderInstruction }
     ensures decoder_instructions { CuttingChangesNothing SpellsDecoderInstruction }
+{}
+
+/// Calls of `next_line` one behind the other, until one reads no line, find the instructions that the bytes hold, and
+/// leave the cursor at the rest: of all readings of these bytes the only one, as `streams_have_one_reading` says.
+pub fn next_lines_are_the_reading()
+    ensures instructions { NextLinesAreTheReading encoder_instruction_of SpellsEncoderInstruction RefusesEncoderLine }
+    ensures decoder_instructions
+        { NextLinesAreTheReading decoder_instruction_of SpellsDecoderInstruction RefusesDecoderLine }
 {}
