@@ -1,9 +1,9 @@
 -- The tables of the Huffman code, tested entry by entry against the code.
-use Rattle.std.proofs.Common.{◌≡◌, ℕ, zero, suc, ◌+◌, ◌-◌, ◌/◌, ◌^◌, ◌<◌, Bool, true, false, ◌&&◌, List, [], ◌∷◌}
-use Rattle.std.proofs.Common.{refl, subst, arith}
+use Rattle.std.proofs.Common.{◌≡◌, ℕ, zero, suc, ◌+◌, ◌-◌, ◌/◌, ◌^◌, ◌<◌, ◌≤◌, Bool, true, false, ◌&&◌, List, [], ◌∷◌}
+use Rattle.std.proofs.Common.{refl, subst, arith, inl, inr}
 use Rattle.std.specs.Prelude.{nat_lt, nat_le, slice_index_or}
 use Rattle.std.specs.Str.{bytes_eq}
-use Rattle.std.proofs.lemmas.Bool.{ltb-true, leb-true}
+use Rattle.std.proofs.lemmas.Bool.{ltb-true, leb-true, cases_eq}
 use Rattle.std.proofs.lemmas.Slice.Eq.{bytes_eq-Decides}
 use Rattle.qpack_spec.specs.Huffman.{bits_of, code_of}
 use Rattle.qpack_base.specs.HuffmanTables.{BeginsWithCode, IsCodeOf, AreShortCodes, AreCodes}
@@ -51,8 +51,20 @@ short_code es p window h =
       is = (bytes_eq-Decides (code_of e.0) (bits_of e.1 (window / 2 ^ (8 - e.1)))).0 c.1;
     }
 
-pub short_codes_agree : (es : List (ℕ × ℕ)) → passes_from short_test 254 0 es ≡ true → AreShortCodes es
-short_codes_agree es p = record { at = short_code es p }
+abbrev bits_at : List (ℕ × ℕ) → ℕ → ℕ
+bits_at es window = (slice_index_or es window (0, 0)).1
+
+last_two : (es : List (ℕ × ℕ)) → nat_le 64 (bits_at es 254) ≡ true → nat_le 64 (bits_at es 255) ≡ true
+    → (window : ℕ) → 254 ≤ window → window < 256 → 64 ≤ bits_at es window
+last_two es p q window least most =
+    elim (cases_eq window 254) [
+      | inl e ↦ rw e (leb-true _ _ p)
+      | inr n ↦ let e : window ≡ 255 = omega arith in rw e (leb-true _ _ q)
+    ]
+
+pub short_codes_agree : (es : List (ℕ × ℕ)) → passes_from short_test 254 0 es ≡ true
+    → nat_le 64 (bits_at es 254) ≡ true → nat_le 64 (bits_at es 255) ≡ true → AreShortCodes es
+short_codes_agree es p q r = record { at = short_code es p; past = last_two es q r }
 
 abbrev code_test : ℕ → ℕ × ℕ → Bool
 code_test byte e =

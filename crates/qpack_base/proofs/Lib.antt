@@ -6,6 +6,7 @@ pub mod FirstIndexes
 pub mod StaticRows
 pub mod CodeTables
 pub mod LoadedBits
+pub mod HighBits
 pub mod LongCodes
 pub mod Items
 pub mod LastItems
@@ -15,6 +16,7 @@ pub mod StringReaders
 pub mod WrittenCodes
 pub mod AddedBits
 pub mod PutCodes
+pub mod WholeCodes
 pub mod PutStrings
 pub mod FieldLists
 pub mod FieldOrder

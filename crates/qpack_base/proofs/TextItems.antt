@@ -1,10 +1,11 @@
 -- The text of a payload, item by item.
 use Rattle.std.proofs.Common.{◌≡◌, ℕ, zero, suc, ◌<◌, List, [], ◌∷◌, ◌++◌, length, Option, Some, None, Result, Ok}
 use Rattle.std.proofs.Common.{Err, refl, sym, ap, ◌∙◌, arith, append_assoc, append-nil}
-use Rattle.qpack_spec.specs.Huffman.{HuffmanFault, item_at, with_front, text_after, text_at, text_of_bits}
+use Rattle.qpack_spec.specs.Huffman.{HuffmanFault, code_of, bits_of_text, AreBytes, item_at, with_front, text_after, text_at, text_of_bits}
 use Rattle.qpack_base.specs.declared.prefix_string.decoding.HuffmanDecodingError.{HuffmanDecodingError}
-use Rattle.qpack_base.specs.Payloads.{huffman_fault_of, item_of, GivesItem}
-use Rattle.qpack_base.proofs.Items.{item_shorter}
+use Rattle.std.proofs.lemmas.List.Concat.{flat_map-cons}
+use Rattle.qpack_base.specs.Payloads.{huffman_fault_of, item_of, GivesItem, PassesCodes}
+use Rattle.qpack_base.proofs.Items.{item_shorter, item_code}
 
 same_after : (o : Option (Result ℕ HuffmanFault)) (m n : Result (List ℕ) HuffmanFault)
     → ((x : Result ℕ HuffmanFault) → o ≡ Some x → m ≡ n) → text_after o m ≡ text_after o n
@@ -36,6 +37,10 @@ front_more : (out : List ℕ) (b : ℕ) (m : Result (List ℕ) HuffmanFault)
 front_more out b (Ok t) = ap (λ (l : List ℕ). Ok l) (sym (append_assoc out (b ∷ []) t))
 front_more out b (Err f) = refl
 
+front_joined : (a b : List ℕ) (m : Result (List ℕ) HuffmanFault) → with_front a (with_front b m) ≡ with_front (a ++ b) m
+front_joined a b (Ok t) = ap (λ (l : List ℕ). Ok l) (sym (append_assoc a b t))
+front_joined a b (Err f) = refl
+
 pub front_none : (m : Result (List ℕ) HuffmanFault) → with_front [] m ≡ m
 front_none (Ok t) = refl
 front_none (Err f) = refl
@@ -53,3 +58,22 @@ pub at_byte : (old new out : List ℕ) (b : ℕ) (whole : Result (List ℕ) Huff
     → with_front out (text_of_bits old) ≡ whole → with_front (out ++ b ∷ []) (text_of_bits new) ≡ whole
 at_byte old new out b whole g inv = sym (front_more out b (text_of_bits new))
     ∙ sym (ap (with_front out) (text_step old new (Some (Ok b)) g)) ∙ inv
+
+-- ---- codes that were passed
+
+codes_passed : (text old new : List ℕ) → AreBytes text → old ≡ bits_of_text text ++ new
+    → text_of_bits old ≡ with_front text (text_of_bits new)
+codes_passed [] old new h e = ap text_of_bits e ∙ sym (front_none (text_of_bits new))
+codes_passed (b ∷ text) old new h e =
+    let behind = bits_of_text text ++ new in
+    let front : old ≡ code_of b ++ behind = e ∙ ap (λ (l : List ℕ). l ++ new) (flat_map-cons code_of b text)
+    ∙ append_assoc (code_of b) (bits_of_text text) new in
+    text_step old behind (Some (Ok b)) (item_code old behind b h.0 front)
+    ∙ ap (with_front (b ∷ [])) (codes_passed text behind new h.1 refl) ∙ front_joined (b ∷ []) text (text_of_bits new)
+
+-- what was appended, and what the rest means
+pub text_passed : (old new items appended : List ℕ) → PassesCodes old new items appended
+    → with_front appended (text_of_bits new) ≡ with_front items (text_of_bits old)
+text_passed old new items appended p =
+    ap (λ (l : List ℕ). with_front l (text_of_bits new)) p.append ∙ sym (front_joined items p.text (text_of_bits new))
+    ∙ sym (ap (with_front items) (codes_passed p.text old new p.are p.bits))

@@ -12,7 +12,7 @@ use Rattle.qpack_base.specs.HuffmanTables.{IsCodeOf}
 pub code_bits : (b : ℕ) (entry : ℕ × ℕ) → IsCodeOf b entry → length (code_of b) ≡ entry.0
 code_bits b entry w = ap length w.is ∙ bits_length entry.0 entry.1
 
-one_code : (b : ℕ) → bits_of_text (b ∷ []) ≡ code_of b
+pub one_code : (b : ℕ) → bits_of_text (b ∷ []) ≡ code_of b
 one_code b = flat_map-cons code_of b [] ∙ append-nil (code_of b)
 
 -- one byte more

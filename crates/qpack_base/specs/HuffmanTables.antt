@@ -17,9 +17,11 @@ pub record IsCodeOf (byte : ℕ) (entry : ℕ × ℕ) : Type 0 where
   pub fits : entry.1 < 2 ^ entry.0
   pub is : code_of byte ≡ bits_of entry.0 entry.1
 
--- the table of eight bits: each entry's code begins the bits of its place, below FE
+-- the table of eight bits: each entry's code begins the bits of its place, below FE; the last two have more bits than
+-- are ever loaded
 pub record AreShortCodes (table : List (ℕ × ℕ)) : Type 0 where
   pub at : (window : ℕ) → window < 254 → BeginsWithCode window (slice_index_or table window (0, 0))
+  pub past : (window : ℕ) → 254 ≤ window → window < 256 → 64 ≤ (slice_index_or table window (0, 0)).1
 
 -- the table of codes: each entry is the code of the byte of its place
 pub record AreCodes (table : List (ℕ × ℕ)) : Type 0 where

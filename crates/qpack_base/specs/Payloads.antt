@@ -1,10 +1,12 @@
 -- What readers of Huffman coded payloads answer, and which bits they leave.
-use Rattle.std.specs.Prelude.{◌≡◌, ℕ, ◌-◌, ◌^◌, ◌%◌, ◌<◌, ◌≤◌, ◌⊎◌, List, [], ◌++◌, Option, Some, None, Result, Ok, Err}
-use Rattle.qpack_spec.specs.Huffman.{HuffmanFault, bits_of, bits_of_bytes, item_at}
+use Rattle.std.specs.Prelude.{◌≡◌, ℕ, ◌-◌, ◌*◌, ◌/◌, ◌^◌, ◌%◌, ◌<◌, ◌≤◌, ◌⊎◌, List, [], ◌++◌, Option, Some, None}
+use Rattle.std.specs.Prelude.{Result, Ok, Err}
+use Rattle.qpack_spec.specs.Huffman.{HuffmanFault, bits_of, bits_of_bytes, code_of, AreBytes, bits_of_text, item_at}
 use Rattle.qpack_spec.specs.Huffman as huffman
 use Rattle.qpack_base.specs.declared.prefix_string.decoding.HuffmanDecodingError.{HuffmanDecodingError}
 use Rattle.qpack_base.specs.declared.prefix_string.decoding.HuffmanDecodingError.TheVariants.{MissingBits, Unhandled}
 use Rattle.qpack_base.specs.declared.prefix_string.decoding.Bits.{Bits}
+use Rattle.qpack_base.specs.declared.prefix_string.ahead.Ahead.{Ahead}
 
 -- the fault that an error stands for
 abbrev pub huffman_fault_of : HuffmanDecodingError → HuffmanFault
@@ -45,3 +47,26 @@ item_of (Some (Err e)) = Some (Err (huffman_fault_of e))
 pub record GivesItem (old : List ℕ) (item : Option (Result ℕ HuffmanDecodingError)) (new : List ℕ) : Type 0 where
   pub is : item_of item ≡ (item_at old).0
   pub left : new ≡ (item_at old).1
+
+-- ---- a whole payload
+
+-- the bits that are still to be read, where the loaded ones are the highest
+abbrev pub bits_ahead : Ahead → List ℕ
+bits_ahead a = bits_of a.count (a.loaded / 2 ^ (64 - a.count)) ++ bits_of_bytes a.rest.now
+
+-- no other bits are loaded: below them there are zeros
+pub record IsAhead (a : Ahead) : Type 0 where
+  pub few : a.count < 64
+  pub zeros : a.loaded ≡ a.loaded / 2 ^ (64 - a.count) * 2 ^ (64 - a.count)
+
+-- the highest bits of `count` are the code of the byte, if there are so many as it has (RFC 7541, Appendix B)
+pub record BeginsCode (count loaded byte bits : ℕ) : Type 0 where
+  pub byte_is : byte < 256
+  pub is : bits ≤ count → code_of byte ≡ bits_of bits (loaded / 2 ^ (count - bits))
+
+-- the bits passed are the codes of the bytes appended (RFC 7541, section 5.2)
+pub record PassesCodes (old new items appended : List ℕ) : Type 0 where
+  pub text : List ℕ
+  pub are : AreBytes text
+  pub bits : old ≡ bits_of_text text ++ new
+  pub append : appended ≡ items ++ text

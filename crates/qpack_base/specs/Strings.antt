@@ -59,6 +59,11 @@ ReadsText (Err (HuffmanDecoding e)) read = read ≡ Err (huffman_fault_of e)
 ReadsText (Err Memory) read = TakesMemory read
 ReadsText (Err e) read = ⊥
 
+-- the same, where memory may be refused
+abbrev pub ReadsRest : Result (Vec ℕ) Error → Result (List ℕ) HuffmanFault → Type 0
+ReadsRest (Err Memory) read = Unit {0}
+ReadsRest r read = ReadsText r read
+
 -- ---- the same by cases
 
 -- the answer is the value, and what moves moved; or memory was refused

@@ -4,12 +4,12 @@
 ghost use Rattle.std.specs.Prelude.{◌≡◌, ◌≢◌, ℕ, ◌≤◌, ◌-◌, ◌++◌, ◌↔◌, List, [], Err, IfOk, IfErr, OnOk, OnErr, IsOk};
 ghost use Rattle.std.specs.Prelude.{◌+◌, length, vec_len, vec_capacity};
 ghost use Rattle.qpack_spec.specs.Bytes.{Begins};
-ghost use Rattle.qpack_spec.specs.Huffman.{HuffmanFault, bits_of_bytes, text_of_bits};
+ghost use Rattle.qpack_spec.specs.Huffman.{HuffmanFault, bits_of_bytes, with_front, text_of_bits};
 ghost use Rattle.qpack_spec.specs.Text.{LengthOverflows, BadHuffman, SpellsString, RefusesString, TruncatesString};
 ghost use Rattle.qpack_spec.specs.Text.{HoldsPayload, string_at, written_string};
 ghost use Rattle.qpack_base.specs.Cursor.{MovesPast};
 ghost use Rattle.qpack_base.specs.Payloads.{huffman_fault_of};
-ghost use Rattle.qpack_base.specs.Strings.{error_of_integer, meaning, ReadsString, ReadsText, GivesValue, IsFaulty};
+ghost use Rattle.qpack_base.specs.Strings.{error_of_integer, meaning, ReadsString, ReadsText, ReadsRest, GivesValue, IsFaulty};
 ghost use Rattle.qpack_base.specs.Strings.{GivesFault};
 ghost use Rattle.qpack_base.specs.declared.prefix_string.Error.TheVariants.{UnexpectedEnd as Truncated};
 ghost use Rattle.qpack_base.specs.declared.prefix_string.Error.TheVariants.{Integer as BadLength};
@@ -17,6 +17,7 @@ ghost use Rattle.qpack_base.specs.declared.prefix_string.Error.TheVariants.{Huff
 ghost use Rattle.qpack_base.specs.declared.prefix_string.Error.TheVariants.{Memory as NoRoom};
 ghost use Rattle.qpack_base.specs.declared.prefix_int.Error.TheVariants.{Overflow};
 
+mod ahead;
 mod bitwin;
 mod decoding;
 mod decoding_tables;
@@ -25,6 +26,7 @@ mod encoding_table;
 
 use crate::coding::{Cursor, NoMemory, make_room};
 use crate::prefix_int;
+use crate::prefix_string::ahead::push_codes;
 pub use crate::prefix_string::bitwin::BitWindow;
 pub use crate::prefix_string::decoding::{DecodeIter, HpackStringDecode, HuffmanDecodingError};
 pub use crate::prefix_string::encoding::{HpackStringEncode, HuffmanEncodingError};
@@ -193,13 +195,21 @@ fn read_payload(alloc: Global, flags: u8, payload: &[u8]) -> Result<Vec<u8>, Err
     read_text(alloc, payload)
 }
 
-/// The text that a coded payload means.
+/// The text that a coded payload means. No code has fewer than five bits, so that is the room that is asked for.
 fn read_text(alloc: Global, payload: &[u8]) -> Result<Vec<u8>, Error>
     requires { payload.now ≢ [] }
     ensures { ReadsText result (text_of_bits (bits_of_bytes payload.now)) }
 {
-    let mut text = Vec::with_capacity(alloc, payload.len() + payload.len() / 2)?;
-    for byte in DecodeIter::new(payload) {
+    let text = Vec::with_capacity(alloc, payload.len() / 5 * 8 + 6)?;
+    let (text, rest) = push_codes(text, payload);
+    push_rest(text, rest)
+}
+
+/// The text with the rest of a payload behind it.
+fn push_rest(mut text: Vec<u8>, rest: DecodeIter) -> Result<Vec<u8>, Error>
+    ensures { ReadsRest result (with_front text.items (text_of_bits rest.entry)) }
+{
+    for byte in rest {
         text.push(byte?)?;
     }
     Ok(text)

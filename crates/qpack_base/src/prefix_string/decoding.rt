@@ -1,10 +1,10 @@
 //! Reading Huffman coded payloads (RFC 7541, section 5.2 and Appendix B).
 
-ghost use Rattle.std.specs.Prelude.{◌≡◌, ℕ, ◌+◌, ◌*◌, ◌/◌, ◌%◌, ◌^◌, ◌<◌, ◌≤◌, ◌-◌, List, [], length, slice_index};
-ghost use Rattle.std.specs.Prelude.{MatchOption};
+ghost use Rattle.std.specs.Prelude.{◌≡◌, ℕ, ◌+◌, ◌*◌, ◌/◌, ◌%◌, ◌^◌, ◌<◌, ◌≤◌, ◌-◌, List, [], ◌++◌, length};
+ghost use Rattle.std.specs.Prelude.{MatchOption, OnOk, slice_index};
 ghost use Rattle.std.specs.Iterator.{at_most};
-ghost use Rattle.qpack_spec.specs.Huffman.{bits_of_bytes, bytes_by_length, code_at};
-ghost use Rattle.qpack_base.specs.Payloads.{GivesItem, ReadsCode, bits_left, IsLoaded, IsFull, KeepsRest};
+ghost use Rattle.qpack_spec.specs.Huffman.{bits_of, bits_of_bytes, bytes_by_length, code_at};
+ghost use Rattle.qpack_base.specs.Payloads.{GivesItem, ReadsCode, bits_left, IsLoaded, IsFull, KeepsRest, BeginsCode};
 
 use crate::prefix_string::bitwin::BitWindow;
 use crate::prefix_string::decoding_tables::{LONG, long_codes, short_codes};
@@ -34,6 +34,9 @@ struct Bits<'a> {
 
 /// How many loaded bits serve every code.
 const ENOUGH: u32 = 32;
+
+/// More bits than are ever loaded, 256 times.
+const NO_CODE: u32 = 0x4000;
 
 /// Thirty ones.
 const EOS: usize = 0x3fff_ffff;
@@ -142,6 +145,7 @@ impl<'a> Bits<'a> {
         ensures gives { ReadsCode (bits_left self.old) (bits_left self.new) result
             (code_at bytes_by_length 0 0 (bits_left self.old)) }
         ensures loaded { IsLoaded self.new }
+        ensures rest { OnOk result (self.new.rest.now ≡ self.old.rest.now) }
     {
         let rows = long_codes();
         for row in rows {
@@ -195,6 +199,30 @@ impl<'a> Bits<'a> {
     }
 }
 
+/// The byte whose code of more than eight bits the lowest `count` bits of `loaded` begin with, and 256 times how many
+/// bits that has; or `NO_CODE`. It is one number, and no reference is taken, so that a caller's loop keeps its state in
+/// registers.
+#[inline(never)]
+pub(super) fn long_code(loaded: u64, count: u32) -> u32
+    requires few { count < 64 }
+    requires fits { loaded < 2 ^ count }
+    ensures { BeginsCode count loaded (result % 256) (result / 256) }
+{
+    if count < 8 || loaded >> (count - 8) < LONG {
+        return NO_CODE;
+    }
+    let mut bits = Bits {
+        rest: &[],
+        loaded,
+        count,
+        length: 0,
+    };
+    match bits.long_code() {
+        Ok(byte) => u32::from(byte) + 0x100 * (count - bits.count),
+        Err(_) => NO_CODE,
+    }
+}
+
 /// The byte whose code is the number, where those of the bytes are the numbers from `first` on.
 fn byte_at(number: u64, first: u64, bytes: &[u8]) -> Option<u8>
     ensures { MatchOption result (first ≤ number → length bytes.now ≤ number - first)
@@ -243,6 +271,22 @@ impl<'a> DecodeIter<'a> {
     {
         DecodeIter {
             bits: Bits::new(payload),
+        }
+    }
+
+    /// Over the lowest `count` bits of `loaded`, and then those of `rest`, which ends a payload of `length` bytes.
+    pub(super) fn behind(loaded: u64, count: u32, rest: &'a [u8], length: usize) -> DecodeIter<'a>
+        requires few { count < 64 }
+        requires fits { loaded < 2 ^ count }
+        ensures { result ≡ bits_of count loaded ++ bits_of_bytes rest.now }
+    {
+        DecodeIter {
+            bits: Bits {
+                rest,
+                loaded,
+                count,
+                length,
+            },
         }
     }
 }

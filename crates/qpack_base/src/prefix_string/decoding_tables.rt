@@ -6,7 +6,8 @@ ghost use Rattle.qpack_base.specs.HuffmanTables.{AreShortCodes, rows_at, long_ro
 /// From here on, eight bits begin no code of at most eight bits.
 pub(super) const LONG: u64 = 0xfe;
 
-/// For each eight bits the byte whose code they begin with, and how many bits that code has.
+/// For each eight bits the byte whose code they begin with, and how many bits that code has. The last two begin no such
+/// code, and have more bits than are ever loaded.
 pub(super) fn short_codes() -> &'static [(u8, u8); 256]
     ensures { AreShortCodes result.now }
 {
@@ -276,8 +277,8 @@ static SHORT: [(u8, u8); 256] = [
     (59, 8),
     (88, 8),
     (90, 8),
-    (0, 0),
-    (0, 0),
+    (0, 64),
+    (0, 64),
 ];
 
 static LONG_ROWS: [(u8, u32, &[u8]); 17] = [

@@ -1,33 +1,21 @@
+use Rattle.std.proofs.Common.{ℕ, List, Result, ap, subst, ◌∙◌}
 use Rattle.std.proofs.lemmas.Result.{err_from_is_err_and}
-use Rattle.qpack_spec.specs.Huffman.{text_of_bits}
-use Rattle.qpack_base.proofs.WholePayloads.{takes_memory}
-use Rattle.qpack_base.proofs.TextItems.{at_end, at_fault, at_byte}
+use Rattle.qpack_spec.specs.Huffman.{HuffmanFault, bits_of_bytes, with_front, text_of_bits}
+use Rattle.qpack_base.specs.Strings.{ReadsRest}
+use Rattle.qpack_base.proofs.WholePayloads.{takes_memory, reads_whole}
+use Rattle.qpack_base.proofs.TextItems.{front_none, text_passed}
 use Rattle.qpack_base.proofs.prefix_string.read_text.Goals as goal
-
-pub returns-in_err-byte : goal.returns-in_err-byte
-returns-in_err-byte c =
-    let step = rw c.in_err-byte.was at c.in-Some.ensures.steps in
-    let p = err_from_is_err_and c.from_residual-in_err-byte.result c.from_residual-in_err-byte.ensures.1 in
-    rw (p.1, p.2) (at_fault c.loop-byte.byte-iterator c.next.new.self c.loop-byte.text.items c.in_err-byte.field-0.0
-    (text_of_bits _) step c.loop-byte.invariant)
-
-pub loop-byte-preserved : goal.loop-byte-preserved
-loop-byte-preserved c =
-    let step = rw c.in_ok-byte.was at c.in-Some.ensures.steps in
-    rw c.in_ok-push.ensures.items
-    (at_byte c.loop-byte.byte-iterator c.next.new.self c.loop-byte.text.items c.in_ok-byte.field-0
-    (text_of_bits _) step c.loop-byte.invariant)
-
-pub returns : goal.returns
-returns c = at_end c.loop-byte.byte-iterator c.next.new.self c.loop-byte.text.items
-    (text_of_bits _) c.in-None.ensures.steps c.loop-byte.invariant
 
 pub returns-in_err-text : goal.returns-in_err-text
 returns-in_err-text c =
     let p = err_from_is_err_and c.from_residual.result c.from_residual.ensures.1 in
     rw (p.1, p.2) (takes_memory c.args.payload.now c.requires)
 
-pub returns-in_err-push : goal.returns-in_err-push
-returns-in_err-push c =
-    let p = err_from_is_err_and c.from_residual-in_err-push.result c.from_residual-in_err-push.ensures.1 in
-    rw (p.1, p.2) (takes_memory c.args.payload.now c.requires)
+pub returns : goal.returns
+returns c =
+    let whole = bits_of_bytes c.args.payload.now in
+    let read = text_passed whole c.push_codes-text.result.1 c.in_ok-text.text.items c.push_codes-text.result.0.items
+    c.push_codes-text.ensures ∙ ap (λ (l : List ℕ). with_front l (text_of_bits whole)) c.in_ok-text.ensures.items
+    ∙ front_none (text_of_bits whole) in
+    reads_whole c.args.payload.now c.push_rest.result c.requires
+    (subst (λ (m : Result (List ℕ) HuffmanFault). ReadsRest c.push_rest.result m) read c.push_rest.ensures)

@@ -5,4 +5,4 @@ use Rattle.qpack_base.proofs.prefix_string.decoding_tables.short_codes.Goals as 
 
 pub returns : goal.returns
 unfolding bits_of bytes_by_length bytes_of_length first_code code_length code_of
-returns c = short_codes_agree _ refl
+returns c = short_codes_agree _ refl refl refl

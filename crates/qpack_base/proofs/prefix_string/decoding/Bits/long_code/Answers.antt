@@ -1,4 +1,4 @@
-use Rattle.std.proofs.Common.{ℕ, List, [], sym, ◌∙◌, arith}
+use Rattle.std.proofs.Common.{ℕ, List, [], refl, sym, ◌∙◌, arith}
 use Rattle.std.specs.Borrow.{Bor}
 use Rattle.qpack_spec.specs.Huffman.{bits_of_bytes}
 use Rattle.qpack_base.specs.Payloads.{bits_left}
@@ -16,6 +16,7 @@ loop-row-init c =
       loaded = c.requires.loaded;
       code = sym (long_reads b.count b.loaded (bits_of_bytes b.rest.now) c.requires.eight c.requires.loaded.fits
           c.requires.long (enough b c.requires.full));
+      rest = refl;
     }
 
 pub returns-then-bits-self-clause-gives : goal.returns-then-bits-self-clause-gives
@@ -52,6 +53,7 @@ loop-row-preserved c =
       rows = c.loop-row.invariant.rows;
       loaded = c.loop-row.invariant.loaded;
       code = sym passed ∙ c.loop-row.invariant.code;
+      rest = c.loop-row.invariant.rest;
     }
 
 pub returns-clause-gives : goal.returns-clause-gives

@@ -11,4 +11,5 @@ invariant-loop-row l = record {
   loaded : IsLoaded l.self;
   code : row_code (drop l.row-index long_rows) l.self.count l.self.loaded (bits_of_bytes l.self.rest.now)
       ≡ code_at bytes_by_length 0 0 (bits_left l.fn.self);
+  rest : l.self.rest.now ≡ l.fn.self.rest.now;
 }

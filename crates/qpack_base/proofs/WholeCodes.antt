@@ -1,0 +1,122 @@
+-- The code that comes next, read whole.
+use Rattle.std.proofs.Common.{◌≡◌, ℕ, ◌+◌, ◌-◌, ◌*◌, ◌/◌, ◌%◌, ◌^◌, ◌<◌, ◌≤◌, List, [], ◌∷◌, ◌++◌, length, Ok, refl, sym, ap}
+use Rattle.std.proofs.Common.{subst, ◌∙◌, arith, append-nil, append_assoc, inl, inr}
+use Rattle.std.proofs.lemmas.List.{length-append}
+use Rattle.qpack_spec.specs.Huffman.{bits_of, bits_of_bytes, code_of, bytes_by_length, code_at, bits_of_text}
+use Rattle.qpack_spec.proofs.Bits.{bits_are, bits_length, bits_append, parts_same}
+use Rattle.qpack_spec.proofs.Codes.{code_found}
+use Rattle.std.specs.Prelude.{slice_index_or}
+use Rattle.std.proofs.lemmas.Bool.{cases_lt}
+use Rattle.std.proofs.lemmas.Nat.{shr-shr}
+use Rattle.qpack_base.specs.HuffmanTables.{BeginsWithCode, AreShortCodes}
+use Rattle.qpack_base.specs.Payloads.{BeginsCode, PassesCodes}
+use Rattle.std.proofs.lemmas.Grind.{flat_map-append}
+use Rattle.qpack_base.proofs.AddedBits.{bytes_join}
+use Rattle.qpack_base.proofs.WrittenCodes.{one_code}
+use Rattle.qpack_base.proofs.HighBits.{IsHigh, high_front}
+
+pub none_ahead : (n : ℕ) (bytes : List ℕ) → bits_of 0 n ++ bits_of_bytes bytes ≡ bits_of_bytes bytes
+unfolding bits_of
+none_ahead n bytes = refl
+
+abbrev alone : ℕ → ℕ → List ℕ
+alone count loaded = bits_of count loaded ++ bits_of_bytes []
+
+-- a code was read of bits that stand alone, and so many are left
+pub record ReadsAlone (count loaded left number b : ℕ) : Type 0 where
+  pub byte : b < 256
+  pub parts : bits_of count loaded ≡ code_of b ++ bits_of left number
+  pub sum : count ≡ length (code_of b) + left
+
+pub reads_alone : (count loaded left number b : ℕ)
+    → code_at bytes_by_length 0 0 (alone count loaded) ≡ Ok (b, alone left number) → ReadsAlone count loaded left number b
+reads_alone count loaded left number b e =
+    let one = append-nil (bits_of count loaded) in
+    let two = append-nil (bits_of left number) in
+    let read : code_at bytes_by_length 0 0 (bits_of count loaded) ≡ Ok (b, bits_of left number) =
+    ap (code_at bytes_by_length 0 0) (sym one) ∙ e ∙ ap (λ (l : List ℕ). Ok (b, l)) two in
+    let f = code_found (bits_of count loaded) b (bits_of left number) (bits_are count loaded) read in
+    record {
+      byte = f.byte;
+      parts = f.parts;
+      sum = omega (
+        arith,
+        ap (λ (l : List ℕ). length l) f.parts,
+        length-append (code_of b) (bits_of left number),
+        bits_length count loaded,
+        bits_length left number,
+      );
+    }
+
+pub begins_alone : (count loaded left number b : ℕ) → ReadsAlone count loaded left number b
+    → BeginsCode count loaded b (count - left)
+begins_alone count loaded left number b r =
+    let n = count - left in
+    let sum = r.sum in
+    let back : count - n ≡ left = omega arith in
+    let whole : bits_of count loaded ≡ bits_of n (loaded / 2 ^ (count - n)) ++ bits_of (count - n) loaded =
+    bits_append n (count - n) count loaded (omega arith) in
+    let same : length (code_of b) ≡ length (bits_of n (loaded / 2 ^ (count - n))) =
+    omega (arith, bits_length n (loaded / 2 ^ (count - n))) in
+    record {
+      byte_is = r.byte;
+      is = λ _. (parts_same (code_of b) (bits_of n (loaded / 2 ^ (count - n))) (bits_of left number)
+          (bits_of (count - n) loaded) same (sym r.parts ∙ whole)).0;
+    }
+
+-- byte and bits as one number
+pub one_number : (count loaded b n x : ℕ) → b < 256 → x ≡ b + 256 * n → BeginsCode count loaded b n
+    → BeginsCode count loaded (x % 256) (x / 256)
+one_number count loaded b n x h e w =
+    let m : x % 256 ≡ b = omega arith in
+    let d : x / 256 ≡ n = omega arith in
+    rw (m, d) w
+
+-- ---- by the table
+
+abbrev entry_at : List (ℕ × ℕ) → ℕ → ℕ × ℕ
+entry_at table window = slice_index_or table window (0, 0)
+
+-- the highest eight bits begin with it
+short_code : (loaded count number bits : ℕ) (entry : ℕ × ℕ) → IsHigh loaded count number
+    → BeginsWithCode (loaded / 2 ^ 56) entry → bits ≡ entry.1 → bits ≤ count
+    → code_of entry.0 ≡ bits_of bits (number / 2 ^ (count - bits))
+short_code loaded count number bits entry h w e le =
+    let most : bits ≤ 8 = omega (arith, w.most) in
+    let k : 56 + (8 - bits) ≡ 64 - bits = omega arith in
+    w.is ∙ ap (λ (n : ℕ). bits_of n (loaded / 2 ^ 56 / 2 ^ (8 - n))) (sym e)
+    ∙ ap (bits_of bits) (shr-shr loaded 56 (8 - bits) ∙ ap (λ (n : ℕ). loaded / 2 ^ n) k
+    ∙ high_front loaded count number bits h le)
+
+pub short_begins : (loaded count number bits : ℕ) (table : List (ℕ × ℕ)) → IsHigh loaded count number → count < 64
+    → loaded / 2 ^ 56 < 256 → AreShortCodes table → bits ≡ (entry_at table (loaded / 2 ^ 56)).1 → bits ≤ count
+    → BeginsCode count number (entry_at table (loaded / 2 ^ 56)).0 bits
+short_begins loaded count number bits table h few within t e le =
+    elim (cases_lt (loaded / 2 ^ 56) 254) [
+      | inl lt ↦
+          let w = t.at (loaded / 2 ^ 56) lt in
+          record { byte_is = w.byte; is = λ _. short_code loaded count number bits (entry_at table (loaded / 2 ^ 56)) h w e le }
+      | inr ge ↦ absurd (let p = t.past (loaded / 2 ^ 56) ge within in omega arith)
+    ]
+
+-- ---- codes that were passed
+
+pub nothing_passed : (old new items : List ℕ) → new ≡ old → PassesCodes old new items items
+nothing_passed old new items e = record { text = []; are = tt; bits = sym e; append = sym (append-nil items) }
+
+-- one code more
+pub one_passed : (old now left items appended more : List ℕ) (b : ℕ) → PassesCodes old now items appended → b < 256
+    → now ≡ code_of b ++ left → more ≡ appended ++ b ∷ [] → PassesCodes old left items more
+one_passed old now left items appended more b p h front e = record {
+  text = p.text ++ b ∷ [];
+  are = bytes_join p.text (b ∷ []) p.are (h, tt);
+  bits = p.bits ∙ ap (λ (l : List ℕ). bits_of_text p.text ++ l) front
+      ∙ sym (append_assoc (bits_of_text p.text) (code_of b) left)
+      ∙ ap (λ (l : List ℕ). l ++ left) (ap (λ (l : List ℕ). bits_of_text p.text ++ l) (sym (one_code b))
+      ∙ sym (flat_map-append code_of p.text (b ∷ [])));
+  append = e ∙ ap (λ (l : List ℕ). l ++ b ∷ []) p.append ∙ append_assoc items p.text (b ∷ []);
+}
+
+pub passed_on : (old now left items appended : List ℕ) → PassesCodes old now items appended → left ≡ now
+    → PassesCodes old left items appended
+passed_on old now left items appended p e = subst (λ (l : List ℕ). PassesCodes old l items appended) (sym e) p

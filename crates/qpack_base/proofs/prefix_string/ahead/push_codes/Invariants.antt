@@ -1,0 +1,13 @@
+use Rattle.std.proofs.Common.{◌-◌, vec_len, vec_capacity}
+use Rattle.qpack_spec.specs.Huffman.{bits_of_bytes}
+use Rattle.qpack_base.specs.Payloads.{bits_ahead, IsAhead, PassesCodes}
+use Rattle.qpack_base.proofs.prefix_string.ahead.push_codes.Given as goal
+
+abbrev pub invariant-loop-ahead : goal.invariant-loop-ahead
+invariant-loop-ahead l = record {
+  ahead : IsAhead l.ahead;
+  passes : PassesCodes (bits_of_bytes l.payload) (bits_ahead l.ahead) l.fn.text.items l.text.items;
+}
+
+abbrev pub decreases-loop-ahead : goal.decreases-loop-ahead
+decreases-loop-ahead l = vec_capacity l.text - vec_len l.text

@@ -1,0 +1,143 @@
+//! Reading the codes of a whole payload, one after the other (RFC 7541, section 5.2 and Appendix B). What is loaded
+//! is passed by value, so that it stays in registers.
+
+ghost use Rattle.std.specs.Prelude.{◌≡◌, ◌*◌, ◌-◌, ◌/◌, ◌^◌, ◌<◌, ◌≤◌, ◌++◌, length};
+ghost use Rattle.qpack_spec.specs.Huffman.{bits_of, bits_of_bytes};
+ghost use Rattle.qpack_base.specs.Payloads.{bits_ahead, IsAhead, BeginsCode, PassesCodes};
+
+use crate::prefix_string::decoding::{DecodeIter, long_code};
+use crate::prefix_string::decoding_tables::short_codes;
+
+/// The bits of a payload that are still to be read: the highest `count` bits of `loaded`, and then those of `rest`.
+#[derive(Clone, Copy)]
+struct Ahead<'a> {
+    rest: &'a [u8],
+    loaded: u64,
+    count: u32,
+}
+
+/// A code: its byte, and how many bits it has.
+#[derive(Clone, Copy)]
+struct Code {
+    byte: u8,
+    bits: u32,
+}
+
+impl<'a> Ahead<'a> {
+    #[inline(always)]
+    fn new(payload: &'a [u8]) -> Ahead<'a>
+        ensures left { bits_ahead result ≡ bits_of_bytes payload.now }
+        ensures ahead { IsAhead result }
+    {
+        Ahead {
+            rest: payload,
+            loaded: 0,
+            count: 0,
+        }
+    }
+
+    /// Loads four bytes or the last ones, where fewer than 32 bits are loaded.
+    #[inline(always)]
+    fn load(self) -> Ahead<'a>
+        requires { IsAhead self }
+        ensures left { bits_ahead result ≡ bits_ahead self.entry }
+        ensures ahead { IsAhead result }
+    {
+        if self.count >= 32 || self.rest.is_empty() {
+            return self;
+        }
+        let Some((code, rest)) = self.rest.split_first_chunk::<4>() else {
+            return self.load_last();
+        };
+        let [first, second, third, fourth] = code;
+        let code = u32::from_be_bytes([*first, *second, *third, *fourth]);
+        Ahead {
+            rest,
+            loaded: self.loaded + ((u64::from(code) << 32) >> self.count),
+            count: self.count + 32,
+        }
+    }
+
+    /// Loads the last bytes, which are fewer than four.
+    #[inline(always)]
+    fn load_last(self) -> Ahead<'a>
+        requires ahead { IsAhead self }
+        requires room { self.count < 32 }
+        requires few { length self.rest.now < 4 }
+        ensures left { bits_ahead result ≡ bits_ahead self.entry }
+        ensures ahead { IsAhead result }
+    {
+        let mut ahead = self;
+        while let Some((first, rest)) = ahead.rest.split_first() {
+            ahead = Ahead {
+                rest,
+                loaded: ahead.loaded + ((u64::from(*first) << 56) >> ahead.count),
+                count: ahead.count + 8,
+            };
+        }
+        ahead
+    }
+
+    /// The code that comes next, if so many bits are loaded as it has.
+    #[inline(always)]
+    fn code(self) -> Code
+        requires { IsAhead self }
+        ensures { BeginsCode self.entry.count (self.entry.loaded / 2 ^ (64 - self.entry.count)) result.byte result.bits }
+    {
+        let (byte, bits) = short_codes()[(self.loaded >> 56) as usize];
+        let bits = u32::from(bits);
+        if bits <= self.count {
+            return Code { byte, bits };
+        }
+        let long = long_code(self.lowest(), self.count);
+        Code {
+            byte: (long % 0x100) as u8,
+            bits: long / 0x100,
+        }
+    }
+
+    /// Passes bits that are loaded.
+    #[inline(always)]
+    fn pass(self, bits: u32) -> Ahead<'a>
+        requires ahead { IsAhead self }
+        requires there { bits ≤ self.count }
+        ensures left { bits_ahead self.entry ≡ bits_of bits (self.entry.loaded / 2 ^ (64 - self.entry.count) / 2 ^ (self.entry.count - bits)) ++
+            bits_ahead result }
+        ensures ahead { IsAhead result }
+    {
+        Ahead {
+            rest: self.rest,
+            loaded: self.loaded << bits,
+            count: self.count - bits,
+        }
+    }
+
+    /// The loaded bits as the lowest of a number.
+    #[inline(always)]
+    fn lowest(self) -> u64
+        requires { IsAhead self }
+        ensures is { result ≡ self.entry.loaded / 2 ^ (64 - self.entry.count) }
+        ensures fits { result < 2 ^ self.entry.count }
+    {
+        (self.loaded >> 1) >> (63 - self.count)
+    }
+}
+
+/// Appends the bytes whose codes stand at the front of the payload, up to what is no code, and as far as there is free
+/// room for them. Answers what is left of the payload, too.
+pub(super) fn push_codes(mut text: Vec<u8>, payload: &[u8]) -> (Vec<u8>, DecodeIter<'_>)
+    ensures { PassesCodes (bits_of_bytes payload.now) result.1 text.items result.0.items }
+{
+    let mut ahead = Ahead::new(payload);
+    while text.len() < text.capacity() {
+        ahead = ahead.load();
+        let code = ahead.code();
+        if code.bits > ahead.count {
+            break;
+        }
+        text.push_reserved(code.byte);
+        ahead = ahead.pass(code.bits);
+    }
+    let rest = DecodeIter::behind(ahead.lowest(), ahead.count, ahead.rest, payload.len());
+    (text, rest)
+}
