@@ -7,15 +7,8 @@ use Rattle.std.proofs.lemmas.Grind.{flat_map-append}
 use Rattle.std.proofs.lemmas.Nat.{pow_pos, mul-add-lt}
 use Rattle.qpack_spec.specs.Huffman.{bits_of, bits_of_bytes, AreBytes}
 use Rattle.qpack_spec.proofs.Bits.{bits_append, bits_push, bits_cut, ones_number}
-use Rattle.qpack_base.specs.WrittenPayloads.{AddsBits, AddsLastBits}
+use Rattle.qpack_base.specs.WrittenPayloads.{AddsBits, AddsLastBits, HasAdded}
 use Rattle.qpack_base.proofs.LoadedBits.{IsFour, load_four}
-
--- the bytes appended and then the lowest `left` bits of a number are these bits
-pub record HasAdded (whole : List ℕ) (left number : ℕ) (old new : List ℕ) : Type 0 where
-  pub bytes : List ℕ
-  pub are : AreBytes bytes
-  pub items : new ≡ old ++ bytes
-  pub bits : bits_of_bytes bytes ++ bits_of left number ≡ whole
 
 no_bits : (n : ℕ) → bits_of 0 n ≡ []
 unfolding bits_of

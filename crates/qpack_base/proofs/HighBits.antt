@@ -85,7 +85,7 @@ spread q b r c = omega arith
 products : (a b c : ℕ) → a * c ≡ a / b * (b * c) + a % b * c
 products a b c = ap (λ (n : ℕ). n * c) (sym (div-add-mod a b)) ∙ spread (a / b) b (a % b) c
 
-cut_product : (a b c : ℕ) → 0 < b → 0 < c → a * c % (b * c) ≡ a % b * c
+pub cut_product : (a b c : ℕ) → 0 < b → 0 < c → a * c % (b * c) ≡ a % b * c
 cut_product a b c pb pc =
     let low = mod_below a b pb in
     let small = small_times (a % b) b c low pc in

@@ -68,6 +68,13 @@ last_end old new few none e stop =
     let is = bits_alone old none ∙ ones_number old.count old.loaded (all_ones old.count old.loaded few e) in
     item_end (bits_left old) (bits_left new) (ap (is_padding 8) is ∙ ones_end old.count few) stop
 
+-- fewer than eight ones are the end
+pub is_the_end : (count loaded : ℕ) (rest : List ℕ) → count < 8 → length rest ≡ 0 → loaded + 1 ≡ 2 ^ count
+    → is_padding 8 (bits_of count loaded ++ bits_of_bytes rest) ≡ true
+is_the_end count loaded [] few none e =
+    ap (is_padding 8) (append-nil (bits_of count loaded) ∙ ones_number count loaded e) ∙ ones_end count few
+is_the_end count loaded (b ∷ rest) few none e = absurd (omega (arith, none))
+
 -- bits that are no ones don't end a text
 no_end : (count loaded : ℕ) → count < 8 → loaded < 2 ^ count → (filled count loaded ≡ 255 → ⊥)
     → is_padding 8 (bits_of count loaded) ≡ false

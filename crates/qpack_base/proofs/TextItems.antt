@@ -1,11 +1,12 @@
 -- The text of a payload, item by item.
 use Rattle.std.proofs.Common.{◌≡◌, ℕ, zero, suc, ◌<◌, List, [], ◌∷◌, ◌++◌, length, Option, Some, None, Result, Ok}
-use Rattle.std.proofs.Common.{Err, refl, sym, ap, ◌∙◌, arith, append_assoc, append-nil}
-use Rattle.qpack_spec.specs.Huffman.{HuffmanFault, code_of, bits_of_text, AreBytes, item_at, with_front, text_after, text_at, text_of_bits}
+use Rattle.std.proofs.Common.{Err, true, refl, sym, ap, ◌∙◌, arith, append_assoc, append-nil}
+use Rattle.qpack_spec.specs.Huffman.{HuffmanFault, code_of, bits_of_text, AreBytes, is_padding}
+use Rattle.qpack_spec.specs.Huffman.{item_at, with_front, text_after, text_at, text_of_bits}
 use Rattle.qpack_base.specs.declared.prefix_string.decoding.HuffmanDecodingError.{HuffmanDecodingError}
 use Rattle.std.proofs.lemmas.List.Concat.{flat_map-cons}
 use Rattle.qpack_base.specs.Payloads.{huffman_fault_of, item_of, GivesItem, PassesCodes}
-use Rattle.qpack_base.proofs.Items.{item_shorter, item_code}
+use Rattle.qpack_base.proofs.Items.{item_shorter, item_code, item_end}
 
 same_after : (o : Option (Result ℕ HuffmanFault)) (m n : Result (List ℕ) HuffmanFault)
     → ((x : Result ℕ HuffmanFault) → o ≡ Some x → m ≡ n) → text_after o m ≡ text_after o n
@@ -77,3 +78,10 @@ pub text_passed : (old new items appended : List ℕ) → PassesCodes old new it
 text_passed old new items appended p =
     ap (λ (l : List ℕ). with_front l (text_of_bits new)) p.append ∙ sym (front_joined items p.text (text_of_bits new))
     ∙ sym (ap (with_front items) (codes_passed p.text old new p.are p.bits))
+
+-- all was passed, up to the end
+pub whole_passed : (old new appended : List ℕ) → PassesCodes old new [] appended → is_padding 8 new ≡ true
+    → text_of_bits old ≡ Ok appended
+whole_passed old new appended p e =
+    at_end new [] appended (text_of_bits old) (item_end new [] e refl)
+    (text_passed old new [] appended p ∙ front_none (text_of_bits old))

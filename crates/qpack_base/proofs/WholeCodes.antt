@@ -1,5 +1,6 @@
 -- The code that comes next, read whole.
-use Rattle.std.proofs.Common.{◌≡◌, ℕ, ◌+◌, ◌-◌, ◌*◌, ◌/◌, ◌%◌, ◌^◌, ◌<◌, ◌≤◌, List, [], ◌∷◌, ◌++◌, length, Ok, refl, sym, ap}
+use Rattle.std.proofs.Common.{◌≡◌, ℕ, ◌+◌, ◌-◌, ◌*◌, ◌/◌, ◌%◌, ◌^◌, ◌<◌, ◌≤◌, List, []}
+use Rattle.std.proofs.Common.{◌∷◌, ◌++◌, length, Ok, refl, sym, ap}
 use Rattle.std.proofs.Common.{subst, ◌∙◌, arith, append-nil, append_assoc, inl, inr}
 use Rattle.std.proofs.lemmas.List.{length-append}
 use Rattle.qpack_spec.specs.Huffman.{bits_of, bits_of_bytes, code_of, bytes_by_length, code_at, bits_of_text}
@@ -29,7 +30,8 @@ pub record ReadsAlone (count loaded left number b : ℕ) : Type 0 where
   pub sum : count ≡ length (code_of b) + left
 
 pub reads_alone : (count loaded left number b : ℕ)
-    → code_at bytes_by_length 0 0 (alone count loaded) ≡ Ok (b, alone left number) → ReadsAlone count loaded left number b
+    → code_at bytes_by_length 0 0 (alone count loaded) ≡ Ok (b, alone left number)
+    → ReadsAlone count loaded left number b
 reads_alone count loaded left number b e =
     let one = append-nil (bits_of count loaded) in
     let two = append-nil (bits_of left number) in
@@ -59,7 +61,7 @@ begins_alone count loaded left number b r =
     let same : length (code_of b) ≡ length (bits_of n (loaded / 2 ^ (count - n))) =
     omega (arith, bits_length n (loaded / 2 ^ (count - n))) in
     record {
-      byte_is = r.byte;
+      byte_is = λ _. r.byte;
       is = λ _. (parts_same (code_of b) (bits_of n (loaded / 2 ^ (count - n))) (bits_of left number)
           (bits_of (count - n) loaded) same (sym r.parts ∙ whole)).0;
     }
@@ -95,7 +97,10 @@ short_begins loaded count number bits table h few within t e le =
     elim (cases_lt (loaded / 2 ^ 56) 254) [
       | inl lt ↦
           let w = t.at (loaded / 2 ^ 56) lt in
-          record { byte_is = w.byte; is = λ _. short_code loaded count number bits (entry_at table (loaded / 2 ^ 56)) h w e le }
+          record {
+            byte_is = λ _. w.byte;
+            is = λ _. short_code loaded count number bits (entry_at table (loaded / 2 ^ 56)) h w e le;
+          }
       | inr ge ↦ absurd (let p = t.past (loaded / 2 ^ 56) ge within in omega arith)
     ]
 

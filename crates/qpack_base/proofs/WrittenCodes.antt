@@ -57,3 +57,24 @@ pub count_odd : (text : List ℕ) (i bytes bits : ℕ) → length text ≤ i →
     → min (bytes + 1) (2 ^ 64 - 1) ≡ min (length (payload_of text)) (2 ^ 64 - 1)
 count_odd text i bytes bits h c n = let k = count_all text i bytes bits h c in
     omega (arith, k.0, k.1, payload_length text)
+
+-- ---- the bits summed
+
+pub sum_more : (text : List ℕ) (i bits n : ℕ) (entry : ℕ × ℕ) → i < length text
+    → bits ≡ length (bits_of_text (take i text)) → IsCodeOf (get_or text i 0) entry → n ≡ entry.0
+    → (bits + n ≡ length (bits_of_text (take (i + 1) text))) × (n ≤ 30)
+sum_more text i bits n entry h s w e = (
+  omega (
+    arith,
+    ap (λ (l : List ℕ). length l) (text_more text i h),
+    length-append (bits_of_text (take i text)) (code_of (get_or text i 0)),
+    code_bits (get_or text i 0) entry w,
+  ),
+  omega (arith, w.most),
+)
+
+pub sum_all : (text : List ℕ) (i bits : ℕ) → length text ≤ i → bits ≡ length (bits_of_text (take i text))
+    → bits + 7 < 2 ^ 64 → (bits + 7) / 8 ≡ min (length (payload_of text)) (2 ^ 64 - 1)
+sum_all text i bits h s few =
+    let all = ap (λ (l : List ℕ). length (bits_of_text l)) (take_all i text h) in
+    omega (arith, all, payload_length text)

@@ -61,7 +61,7 @@ pub record IsAhead (a : Ahead) : Type 0 where
 
 -- the highest bits of `count` are the code of the byte, if there are so many as it has (RFC 7541, Appendix B)
 pub record BeginsCode (count loaded byte bits : ℕ) : Type 0 where
-  pub byte_is : byte < 256
+  pub byte_is : bits ≤ count → byte < 256
   pub is : bits ≤ count → code_of byte ≡ bits_of bits (loaded / 2 ^ (count - bits))
 
 -- the bits passed are the codes of the bytes appended (RFC 7541, section 5.2)

@@ -9,8 +9,8 @@ ghost use Rattle.qpack_spec.specs.Text.{LengthOverflows, BadHuffman, SpellsStrin
 ghost use Rattle.qpack_spec.specs.Text.{HoldsPayload, string_at, written_string};
 ghost use Rattle.qpack_base.specs.Cursor.{MovesPast};
 ghost use Rattle.qpack_base.specs.Payloads.{huffman_fault_of};
-ghost use Rattle.qpack_base.specs.Strings.{error_of_integer, meaning, ReadsString, ReadsText, ReadsRest, GivesValue, IsFaulty};
-ghost use Rattle.qpack_base.specs.Strings.{GivesFault};
+ghost use Rattle.qpack_base.specs.Strings.{error_of_integer, meaning, ReadsString, ReadsText, ReadsRest};
+ghost use Rattle.qpack_base.specs.Strings.{GivesValue, IsFaulty, GivesFault};
 ghost use Rattle.qpack_base.specs.declared.prefix_string.Error.TheVariants.{UnexpectedEnd as Truncated};
 ghost use Rattle.qpack_base.specs.declared.prefix_string.Error.TheVariants.{Integer as BadLength};
 ghost use Rattle.qpack_base.specs.declared.prefix_string.Error.TheVariants.{HuffmanDecoding as BadPayload};
@@ -202,6 +202,9 @@ fn read_text(alloc: Global, payload: &[u8]) -> Result<Vec<u8>, Error>
 {
     let text = Vec::with_capacity(alloc, payload.len() / 5 * 8 + 6)?;
     let (text, rest) = push_codes(text, payload);
+    if rest.is_end() {
+        return Ok(text);
+    }
     push_rest(text, rest)
 }
 

@@ -82,11 +82,12 @@ impl<'a> Ahead<'a> {
     #[inline(always)]
     fn code(self) -> Code
         requires { IsAhead self }
-        ensures { BeginsCode self.entry.count (self.entry.loaded / 2 ^ (64 - self.entry.count)) result.byte result.bits }
+        ensures { BeginsCode self.entry.count (self.entry.loaded / 2 ^ (64 - self.entry.count)) result.byte
+            result.bits }
     {
         let (byte, bits) = short_codes()[(self.loaded >> 56) as usize];
         let bits = u32::from(bits);
-        if bits <= self.count {
+        if bits <= self.count || self.count < 8 {
             return Code { byte, bits };
         }
         let long = long_code(self.lowest(), self.count);
@@ -101,7 +102,8 @@ impl<'a> Ahead<'a> {
     fn pass(self, bits: u32) -> Ahead<'a>
         requires ahead { IsAhead self }
         requires there { bits ≤ self.count }
-        ensures left { bits_ahead self.entry ≡ bits_of bits (self.entry.loaded / 2 ^ (64 - self.entry.count) / 2 ^ (self.entry.count - bits)) ++
+        ensures left { bits_ahead self.entry ≡
+            bits_of bits (self.entry.loaded / 2 ^ (64 - self.entry.count) / 2 ^ (self.entry.count - bits)) ++
             bits_ahead result }
         ensures ahead { IsAhead result }
     {

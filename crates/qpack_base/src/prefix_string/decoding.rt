@@ -1,9 +1,9 @@
 //! Reading Huffman coded payloads (RFC 7541, section 5.2 and Appendix B).
 
 ghost use Rattle.std.specs.Prelude.{◌≡◌, ℕ, ◌+◌, ◌*◌, ◌/◌, ◌%◌, ◌^◌, ◌<◌, ◌≤◌, ◌-◌, List, [], ◌++◌, length};
-ghost use Rattle.std.specs.Prelude.{MatchOption, OnOk, slice_index};
+ghost use Rattle.std.specs.Prelude.{MatchOption, OnOk, IsTrue, true, slice_index};
 ghost use Rattle.std.specs.Iterator.{at_most};
-ghost use Rattle.qpack_spec.specs.Huffman.{bits_of, bits_of_bytes, bytes_by_length, code_at};
+ghost use Rattle.qpack_spec.specs.Huffman.{bits_of, bits_of_bytes, bytes_by_length, code_at, is_padding};
 ghost use Rattle.qpack_base.specs.Payloads.{GivesItem, ReadsCode, bits_left, IsLoaded, IsFull, KeepsRest, BeginsCode};
 
 use crate::prefix_string::bitwin::BitWindow;
@@ -288,6 +288,18 @@ impl<'a> DecodeIter<'a> {
                 length,
             },
         }
+    }
+
+    /// Whether what is left is seen to be the end: fewer than eight ones.
+    #[inline(always)]
+    pub(super) fn is_end(&self) -> bool
+        ensures { IsTrue result → is_padding 8 self.now ≡ true }
+    {
+        let bits = &self.bits;
+        if !bits.rest.is_empty() || bits.count >= 8 {
+            return false;
+        }
+        bits.loaded == power(bits.count) - 1
     }
 }
 

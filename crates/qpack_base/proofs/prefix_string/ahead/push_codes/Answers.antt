@@ -23,7 +23,7 @@ loop-ahead-preserved c =
       ahead = c.pass-ahead.ensures.ahead;
       passes = one_passed (bits_of_bytes c.args.payload.now) now left c.args.text.items c.loop-ahead.text.items
           c.push_reserved.new.self.items c.code-code.result.byte c.loop-ahead.invariant.passes
-          c.code-code.ensures.byte_is front c.push_reserved.ensures.items;
+          (c.code-code.ensures.byte_is c.if-code-ahead.false) front c.push_reserved.ensures.items;
     }
 
 pub returns : goal.returns

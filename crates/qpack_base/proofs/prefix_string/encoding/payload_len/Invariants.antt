@@ -1,6 +1,11 @@
+use Rattle.std.proofs.Common.{◌≡◌, ◌*◌, ◌≤◌, length, take}
+use Rattle.qpack_spec.specs.Huffman.{bits_of_text}
 use Rattle.qpack_base.specs.HuffmanTables.{AreCodes}
-use Rattle.qpack_base.proofs.WrittenCodes.{IsCounted}
 use Rattle.qpack_base.proofs.prefix_string.encoding.payload_len.Given as goal
 
 abbrev pub invariant-loop-byte : goal.invariant-loop-byte
-invariant-loop-byte l = AreCodes l.codes × IsCounted l.text l.byte-index l.bytes l.bits
+invariant-loop-byte l = record {
+  codes : AreCodes l.codes;
+  sum : l.bits ≡ length (bits_of_text (take l.byte-index l.text));
+  most : l.bits ≤ 30 * l.byte-index;
+}

@@ -1,6 +1,7 @@
 use Rattle.std.proofs.Common.{◌≡◌, ℕ, ◌+◌, ◌-◌, ◌*◌, ◌/◌, ◌%◌, refl, ap, subst, ◌∙◌, arith}
 use Rattle.qpack_spec.specs.Huffman.{bits_of}
-use Rattle.qpack_base.proofs.AddedBits.{HasAdded, added_more, adds_byte, adds_last}
+use Rattle.qpack_base.specs.WrittenPayloads.{HasAdded}
+use Rattle.qpack_base.proofs.AddedBits.{added_more, adds_byte, adds_last}
 use Rattle.qpack_base.proofs.prefix_string.encoding.put_last.Goals as goal
 
 pub loop-left-preserved : goal.loop-left-preserved

@@ -1,6 +1,6 @@
 use Rattle.std.proofs.Common.{◌≡◌, ◌+◌, ◌/◌, ◌%◌, ◌≤◌, vec_len, vec_capacity}
 use Rattle.qpack_spec.specs.Huffman.{bits_of}
-use Rattle.qpack_base.proofs.AddedBits.{HasAdded}
+use Rattle.qpack_base.specs.WrittenPayloads.{HasAdded}
 use Rattle.qpack_base.proofs.prefix_string.encoding.put_last.Given as goal
 
 abbrev pub invariant-loop-left : goal.invariant-loop-left

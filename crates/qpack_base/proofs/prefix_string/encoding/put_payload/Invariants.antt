@@ -1,16 +1,14 @@
-use Rattle.std.proofs.Common.{◌≡◌, ◌+◌, ◌*◌, ◌^◌, ◌<◌, length, take, vec_len, vec_capacity}
-use Rattle.qpack_spec.specs.Huffman.{bits_of_text}
-use Rattle.qpack_base.specs.HuffmanTables.{AreCodes}
-use Rattle.qpack_base.proofs.AddedBits.{HasAdded}
+use Rattle.std.proofs.Common.{◌≡◌, ◌<◌, length, vec_len, vec_capacity}
+use Rattle.qpack_base.proofs.PutCodes.{IsPut}
 use Rattle.qpack_base.proofs.prefix_string.encoding.put_payload.Given as goal
 
-abbrev pub invariant-loop-byte : goal.invariant-loop-byte
-invariant-loop-byte g l = record {
-  added : HasAdded (bits_of_text (take l.byte-index l.text)) l.count l.loaded l.initial.buf.items l.buf.items;
-  codes : AreCodes l.codes;
-  fits : l.loaded < 2 ^ l.count;
-  few : l.count < 32;
-  counted : 8 * vec_len l.buf + l.count
-      ≡ 8 * vec_len l.initial.buf + length (bits_of_text (take l.byte-index l.text));
+abbrev pub invariant-loop-four : goal.invariant-loop-four
+invariant-loop-four g l = record {
+  put : IsPut l.text l.rest l.pending.count l.pending.bits (vec_len l.initial.buf) (vec_len l.buf)
+      l.initial.buf.items l.buf.items;
+  few : l.pending.count < 32;
   capacity : vec_capacity l.buf ≡ vec_capacity l.initial.buf;
 }
+
+abbrev pub decreases-loop-four : goal.decreases-loop-four
+decreases-loop-four g l = length l.rest
