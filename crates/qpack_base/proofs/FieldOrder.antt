@@ -19,10 +19,15 @@ pub equal_is_field : (f g : Field) → is_eq (field_cmp f g) ≡ is_field f g
 unfolding field_cmp
 equal_is_field f g = is_eq_then _ _ ∙ (λ i. is_eq-slice_cmp f.name g.name i && is_eq-slice_cmp f.value g.value i)
 
+ties_itself : (f : Field) → is_eq (field_cmp f f) ≡ true
+ties_itself f =
+    let name = (bytes_eq-Decides f.name f.name).1 refl in
+    let value = (bytes_eq-Decides f.value f.value).1 refl in
+    equal_is_field f f ∙ (λ i. name i && value i)
+
 -- fields tie exactly where they are equal
 pub ties_are_equal : (f g : Field) → IsTrue (is_eq (field_cmp f g)) ↔ (f ≡ g)
 ties_are_equal f g = (
   (λ h. same_field f g (sym (equal_is_field f g) ∙ h)),
-  λ e. subst (λ (x : Field). is_eq (field_cmp f x) ≡ true) e
-      (equal_is_field f f ∙ (λ i. (bytes_eq-Decides f.name f.name).1 refl i && (bytes_eq-Decides f.value f.value).1 refl i)),
+  λ e. subst (λ (x : Field). is_eq (field_cmp f x) ≡ true) e (ties_itself f),
 )

@@ -20,3 +20,4 @@ pub mod WholeCodes
 pub mod PutStrings
 pub mod FieldLists
 pub mod FieldOrder
+pub mod SameBytes

@@ -2,6 +2,7 @@
 //! header fields and the static table.
 #![tactic(auto)]
 
+pub mod bytes;
 pub mod coding;
 pub mod field;
 pub mod parse_error;

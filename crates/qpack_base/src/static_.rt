@@ -8,6 +8,7 @@ ghost use Rattle.qpack_base.specs.HeaderFields.{field_of};
 ghost use Rattle.qpack_base.specs.StaticFields.{match_of, indexes_with_name, has_value_at};
 ghost use Rattle.qpack_base.specs.declared.static_.Error.TheVariants.{Unknown};
 
+use crate::bytes::same;
 use crate::field::HeaderField;
 use names::{Name, names_of_length};
 use rows::row;
@@ -97,7 +98,7 @@ fn indexes_of(name: &[u8]) -> &'static [usize]
 fn entry_of(names: &'static [Name], name: &[u8]) -> Option<&'static Name>
     ensures { option_copied result ≡ find (λ e. bytes_eq name.now e.0.now) names.now }
 {
-    names.iter().find(|entry| name == entry.0)
+    names.iter().find(|entry| same(name, entry.0))
 }
 
 /// The first of the positions whose field has this value.
@@ -114,5 +115,5 @@ fn index_of_value(indexes: &[usize], value: &[u8]) -> Option<usize>
 fn has_value(index: usize, value: &[u8]) -> bool
     ensures { result ≡ has_value_at value.now index }
 {
-    row(index).is_some_and(|row| value == row.1)
+    row(index).is_some_and(|row| same(value, row.1))
 }

@@ -1,7 +1,7 @@
 //! Reading the codes of a whole payload, one after the other (RFC 7541, section 5.2 and Appendix B). What is loaded
 //! is passed by value, so that it stays in registers.
 
-ghost use Rattle.std.specs.Prelude.{◌≡◌, ◌*◌, ◌-◌, ◌/◌, ◌^◌, ◌<◌, ◌≤◌, ◌++◌, length};
+ghost use Rattle.std.specs.Prelude.{◌≡◌, ◌*◌, ◌-◌, ◌/◌, ◌^◌, ◌<◌, ◌≤◌, ◌++◌, IfSome, length};
 ghost use Rattle.qpack_spec.specs.Huffman.{bits_of, bits_of_bytes};
 ghost use Rattle.qpack_base.specs.Payloads.{bits_ahead, IsAhead, BeginsCode, PassesCodes};
 
@@ -78,23 +78,23 @@ impl<'a> Ahead<'a> {
         ahead
     }
 
-    /// The code that comes next, if so many bits are loaded as it has.
+    /// The code of more than eight bits that comes next, where so many are loaded.
     #[inline(always)]
-    fn code(self) -> Code
+    fn long_code(self) -> Option<Code>
         requires { IsAhead self }
-        ensures { BeginsCode self.entry.count (self.entry.loaded / 2 ^ (64 - self.entry.count)) result.byte
-            result.bits }
+        ensures { IfSome result (λ code. (code.bits ≤ self.entry.count) × BeginsCode self.entry.count
+            (self.entry.loaded / 2 ^ (64 - self.entry.count)) code.byte code.bits) }
     {
-        let (byte, bits) = short_codes()[(self.loaded >> 56) as usize];
-        let bits = u32::from(bits);
-        if bits <= self.count || self.count < 8 {
-            return Code { byte, bits };
+        if self.count < 8 {
+            return None;
         }
         let long = long_code(self.lowest(), self.count);
-        Code {
-            byte: (long % 0x100) as u8,
-            bits: long / 0x100,
+        let bits = long / 0x100;
+        if bits > self.count {
+            return None;
         }
+        let byte = (long % 0x100) as u8;
+        Some(Code { byte, bits })
     }
 
     /// Passes bits that are loaded.
@@ -133,10 +133,16 @@ pub(super) fn push_codes(mut text: Vec<u8>, payload: &[u8]) -> (Vec<u8>, DecodeI
     let mut ahead = Ahead::new(payload);
     while text.len() < text.capacity() {
         ahead = ahead.load();
-        let code = ahead.code();
-        if code.bits > ahead.count {
-            break;
+        let (byte, bits) = short_codes()[(ahead.loaded >> 56) as usize];
+        let bits = u32::from(bits);
+        if bits <= ahead.count {
+            text.push_reserved(byte);
+            ahead = ahead.pass(bits);
+            continue;
         }
+        let Some(code) = ahead.long_code() else {
+            break;
+        };
         text.push_reserved(code.byte);
         ahead = ahead.pass(code.bits);
     }

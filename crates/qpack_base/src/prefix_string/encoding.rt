@@ -101,7 +101,7 @@ impl Pending {
     }
 
     /// Appends the codes of a text behind them into the free room, but for fewer than 32 bits.
-    #[inline(never)]
+    #[inline(always)]
     fn put_each<A: Allocator>(self, text: &[u8], buf: &mut Vec<u8, A>) -> Pending
         requires few { self.count < 32 }
         requires room { 8 * vec_len buf.old + self.count + length (bits_of_text text.now) ≤ 8 * vec_capacity buf.old }
@@ -136,7 +136,22 @@ impl Pending {
         if pending.count < 64 {
             return pending.flush(buf);
         }
-        self.put_each(four, buf)
+        self.put_long(four, buf)
+    }
+
+    /// `put_each`, kept out of the loop of those whose codes are not long.
+    #[inline(never)]
+    fn put_long<A: Allocator>(self, text: &[u8], buf: &mut Vec<u8, A>) -> Pending
+        requires few { self.count < 32 }
+        requires room { 8 * vec_len buf.old + self.count + length (bits_of_text text.now) ≤ 8 * vec_capacity buf.old }
+        ensures added { HasAdded (bits_of self.count self.bits ++ bits_of_text text.now) result.count
+            result.bits buf.old.items buf.new.items }
+        ensures few { result.count < 32 }
+        ensures len { 8 * vec_len buf.new + result.count ≡
+            8 * vec_len buf.old + self.count + length (bits_of_text text.now) }
+        ensures capacity { vec_capacity buf.new ≡ vec_capacity buf.old }
+    {
+        self.put_each(text, buf)
     }
 }
 

@@ -1,0 +1,67 @@
+-- Byte strings are equal exactly where their parts are.
+use Rattle.std.proofs.Common.{◌≡◌, ℕ, zero, suc, ◌+◌, ◌<◌, ◌≤◌, Bool, true, false, List, [], ◌∷◌, ◌++◌}
+use Rattle.std.proofs.Common.{◌∙◌, length, take, drop, get_or, refl, sym, ap, arith, w64}
+use Rattle.std.specs.Int.{from_le_bytes, to_le_bytes}
+use Rattle.std.specs.Str.{bytes_eq}
+use Rattle.std.proofs.lemmas.List.{take_more, take_all}
+use Rattle.std.proofs.lemmas.Nat.{le_bytes_8}
+use Rattle.std.proofs.lemmas.Slice.Eq.{bytes_eq-Decides}
+use Rattle.qpack_spec.specs.Huffman.{AreBytes}
+use Rattle.qpack_spec.proofs.Bits.{parts_same}
+
+-- strings that are equal, or not
+pub equal_true : (a b : List ℕ) → a ≡ b → true ≡ bytes_eq a b
+equal_true a b e = sym ((bytes_eq-Decides a b).1 e)
+
+pub equal_false : (a b : List ℕ) → (a ≡ b → ⊥) → false ≡ bytes_eq a b
+equal_false a b n = go (bytes_eq a b) refl
+  where
+    go : (r : Bool) → bytes_eq a b ≡ r → false ≡ r
+    go true e = absurd (n ((bytes_eq-Decides a b).0 e))
+    go false e = refl
+
+-- strings that are equal exactly where others are
+pub equal_as : (a b c d : List ℕ) → (a ≡ b → c ≡ d) → (c ≡ d → a ≡ b) → bytes_eq c d ≡ bytes_eq a b
+equal_as a b c d f g = go (bytes_eq c d) refl
+  where
+    go : (r : Bool) → bytes_eq c d ≡ r → r ≡ bytes_eq a b
+    go true e = equal_true a b (g ((bytes_eq-Decides c d).0 e))
+    go false e = equal_false a b (λ h. let t = sym e ∙ (bytes_eq-Decides c d).1 (f h) in absurd cc)
+
+are_at : (xs : List ℕ) → AreBytes xs → (i : ℕ) → get_or xs i 0 < 256
+are_at [] h i = omega arith
+are_at (b ∷ xs) h zero = h.0
+are_at (b ∷ xs) h (suc i) = are_at xs h.1 i
+
+pub are_taken : (n : ℕ) (xs : List ℕ) → AreBytes xs → AreBytes (take n xs)
+are_taken zero xs h = tt
+are_taken (suc n) [] h = tt
+are_taken (suc n) (b ∷ xs) h = (h.0, are_taken n xs h.1)
+
+pub are_dropped : (n : ℕ) (xs : List ℕ) → AreBytes xs → AreBytes (drop n xs)
+are_dropped zero xs h = h
+are_dropped (suc n) [] h = tt
+are_dropped (suc n) (b ∷ xs) h = are_dropped n xs h.1
+
+-- eight bytes are their number
+pub words_same : (x y : List ℕ) → length x ≡ 8 → length y ≡ 8 → AreBytes x → AreBytes y
+    → from_le_bytes w64 x ≡ from_le_bytes w64 y → x ≡ y
+words_same x y h k p q e = sym (le_bytes_8 x _ h (are_at x p) refl) ∙ ap (to_le_bytes w64) e
+    ∙ le_bytes_8 y _ k (are_at y q) refl
+
+pub front_same : (x y a b : List ℕ) → x ≡ y → bytes_eq a b ≡ bytes_eq (x ++ a) (y ++ b)
+front_same x y a b e =
+    equal_as (x ++ a) (y ++ b) a b (λ h. (parts_same x y a b (ap (λ (l : List ℕ). length l) e) h).1)
+    (λ h. ap (λ (l : List ℕ). l ++ a) e ∙ ap (λ (l : List ℕ). y ++ l) h)
+
+pub front_differs : (x y a b : List ℕ) → length x ≡ length y → (x ≡ y → ⊥) → false ≡ bytes_eq (x ++ a) (y ++ b)
+front_differs x y a b h n = equal_false (x ++ a) (y ++ b) (λ e. n (parts_same x y a b h e).0)
+
+-- byte by byte
+pub fronts_more : (a b : List ℕ) (i : ℕ) → i < length a → i < length b → take i a ≡ take i b
+    → get_or a i 0 ≡ get_or b i 0 → take (i + 1) a ≡ take (i + 1) b
+fronts_more a b i h k e f = take_more a i 0 h ∙ ap (λ (l : List ℕ). l ++ get_or a i 0 ∷ []) e
+    ∙ ap (λ (n : ℕ). take i b ++ n ∷ []) f ∙ sym (take_more b i 0 k)
+
+pub fronts_all : (a b : List ℕ) (i : ℕ) → length a ≤ i → length b ≤ i → take i a ≡ take i b → a ≡ b
+fronts_all a b i h k e = sym (take_all i a h) ∙ e ∙ take_all i b k

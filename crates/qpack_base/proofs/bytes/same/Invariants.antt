@@ -1,0 +1,15 @@
+use Rattle.std.proofs.Common.{◌≡◌, length}
+use Rattle.std.specs.Str.{bytes_eq}
+use Rattle.qpack_spec.specs.Huffman.{AreBytes}
+use Rattle.qpack_base.proofs.bytes.same.Given as goal
+
+abbrev pub invariant-loop-x : goal.invariant-loop-x
+invariant-loop-x l = record {
+  len : length l.left ≡ length l.right;
+  left_are : AreBytes l.left;
+  right_are : AreBytes l.right;
+  same : bytes_eq l.left l.right ≡ bytes_eq l.a l.b;
+}
+
+abbrev pub decreases-loop-x : goal.decreases-loop-x
+decreases-loop-x l = length l.left
