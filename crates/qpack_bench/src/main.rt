@@ -7,7 +7,7 @@ mod corpus;
 mod timing;
 
 use h3_qpack::coding::NoMemory;
-use h3_qpack::prefix_string::HuffmanEncodingError;
+use h3_qpack::prefix_string::{self, HuffmanEncodingError};
 use h3_qpack::{DecoderError, EncoderError};
 use std::alloc::{AllocError, AllocFailed, Global};
 use std::{env, fs, io};
@@ -25,6 +25,9 @@ pub enum Problem {
     /// No memory was left.
     #[error("out of memory")]
     Memory,
+    /// A string was not written or read.
+    #[error("{0}")]
+    String(prefix_string::Error),
     /// Fields were not encoded.
     #[error("{0}")]
     Encoder(EncoderError),
@@ -60,6 +63,12 @@ impl From<NoMemory> for Problem {
 impl From<HuffmanEncodingError> for Problem {
     fn from(_e: HuffmanEncodingError) -> Problem {
         Problem::Memory
+    }
+}
+
+impl From<prefix_string::Error> for Problem {
+    fn from(e: prefix_string::Error) -> Problem {
+        Problem::String(e)
     }
 }
 

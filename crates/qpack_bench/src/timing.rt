@@ -3,7 +3,7 @@
 use crate::Problem;
 use crate::corpus::{fields_len, text_len};
 use h3_qpack::coding::Cursor;
-use h3_qpack::prefix_string::{HpackStringDecode, HpackStringEncode};
+use h3_qpack::prefix_string::{self, HpackStringDecode, HpackStringEncode};
 use h3_qpack::{HeaderField, decode_stateless, encode_stateless};
 use std::alloc::Global;
 use std::time::Instant;
@@ -69,7 +69,38 @@ fn time_huffman(
             }
         }
     }
-    tell(rt, "decode of the code", work, start, read)
+    tell(rt, "decode of the code", work, start, read)?;
+    time_strings(rt, alloc, &texts, work, rounds)
+}
+
+/// Times string literals read, each into a vector of its own.
+fn time_strings(
+    rt: &HostRuntime,
+    alloc: Global,
+    texts: &[Vec<u8>],
+    work: Work,
+    rounds: u64,
+) -> Result<(), Problem> {
+    let mut literals = Vec::new(alloc);
+    for text in texts {
+        literals.push(literal_of(alloc, text.as_slice())?)?;
+    }
+    let start = Instant::now(rt)?;
+    let mut read = 0u64;
+    for _ in 0..rounds {
+        for literal in &literals {
+            let text = prefix_string::decode(alloc, 8, &mut Cursor::new(literal))?;
+            read = read.saturating_add(text.len() as u64);
+        }
+    }
+    tell(rt, "decode of strings", work, start, read)
+}
+
+/// The string literal of a text, with a prefix of eight bits.
+fn literal_of(alloc: Global, text: &[u8]) -> Result<Vec<u8>, Problem> {
+    let mut literal = Vec::new(alloc);
+    prefix_string::encode(8, 0, text, &mut literal)?;
+    Ok(literal)
 }
 
 /// Encodes the lists into one vector, again and again; how many bytes were written.
