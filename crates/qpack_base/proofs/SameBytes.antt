@@ -1,10 +1,10 @@
 -- Byte strings are equal exactly where their parts are.
 use Rattle.std.proofs.Common.{◌≡◌, ℕ, zero, suc, ◌+◌, ◌<◌, ◌≤◌, Bool, true, false, List, [], ◌∷◌, ◌++◌}
-use Rattle.std.proofs.Common.{◌∙◌, length, take, drop, get_or, refl, sym, ap, arith, w64}
+use Rattle.std.proofs.Common.{◌∙◌, length, take, drop, get_or, refl, sym, ap, arith, w32, w64}
 use Rattle.std.specs.Int.{from_le_bytes, to_le_bytes}
 use Rattle.std.specs.Str.{bytes_eq}
 use Rattle.std.proofs.lemmas.List.{take_more, take_all}
-use Rattle.std.proofs.lemmas.Nat.{le_bytes_8}
+use Rattle.std.proofs.lemmas.Nat.{le_bytes_4, le_bytes_8}
 use Rattle.std.proofs.lemmas.Slice.Eq.{bytes_eq-Decides}
 use Rattle.qpack_spec.specs.Huffman.{AreBytes}
 use Rattle.qpack_spec.proofs.Bits.{parts_same}
@@ -48,6 +48,12 @@ pub words_same : (x y : List ℕ) → length x ≡ 8 → length y ≡ 8 → AreB
     → from_le_bytes w64 x ≡ from_le_bytes w64 y → x ≡ y
 words_same x y h k p q e = sym (le_bytes_8 x _ h (are_at x p) refl) ∙ ap (to_le_bytes w64) e
     ∙ le_bytes_8 y _ k (are_at y q) refl
+
+-- and so are four
+pub halves_same : (x y : List ℕ) → length x ≡ 4 → length y ≡ 4 → AreBytes x → AreBytes y
+    → from_le_bytes w32 x ≡ from_le_bytes w32 y → x ≡ y
+halves_same x y h k p q e = sym (le_bytes_4 x _ h (are_at x p) refl) ∙ ap (to_le_bytes w32) e
+    ∙ le_bytes_4 y _ k (are_at y q) refl
 
 pub front_same : (x y a b : List ℕ) → x ≡ y → bytes_eq a b ≡ bytes_eq (x ++ a) (y ++ b)
 front_same x y a b e =

@@ -23,7 +23,25 @@ pub fn same(a: &[u8], b: &[u8]) -> bool
         left = behind;
         right = beyond;
     }
-    same_each(left, right)
+    same_rest(left, right)
+}
+
+/// The same of strings of one length, which are fewer than eight bytes: four of them, and then each.
+#[inline(always)]
+fn same_rest(a: &[u8], b: &[u8]) -> bool
+    requires { length a.now ≡ length b.now }
+    ensures { result ≡ bytes_eq a.now b.now }
+{
+    let Some((x, behind)) = a.split_first_chunk::<4>() else {
+        return same_each(a, b);
+    };
+    let Some((y, beyond)) = b.split_first_chunk::<4>() else {
+        return false;
+    };
+    if u32::from_le_bytes(*x) != u32::from_le_bytes(*y) {
+        return false;
+    }
+    same_each(behind, beyond)
 }
 
 /// The same of strings of one length, byte by byte.
