@@ -1,40 +1,15 @@
 -- Which entries are evictable.
-use Rattle.std.proofs.Common.{◌≡◌, ℕ, zero, suc, ◌+◌, ◌<◌, ◌≤◌, Bool, true, false, ◌||◌, ◌&&◌, List, [], ◌∷◌, length}
+use Rattle.std.proofs.Common.{◌≡◌, ℕ, zero, suc, ◌+◌, ◌<◌, ◌≤◌, Bool, true, false, ◌||◌, ◌&&◌, List, [], ◌∷◌, ◌++◌, length}
 use Rattle.std.proofs.Common.{take, drop, get_or, Some, refl, sym, ap, subst, ◌∙◌, arith, inl, inr}
-use Rattle.std.specs.Prelude.{filter, not, slice_get, nat_lt, IfSome, if◌then◌else◌}
+use Rattle.std.specs.Prelude.{not, slice_get, nat_lt, IfSome, if◌then◌else◌}
 use Rattle.std.specs.List.{list_any}
 use Rattle.std.proofs.lemmas.Bool.{cases_lt, lt-ltb, le-ltb}
 use Rattle.std.proofs.lemmas.List.{drop_all, length-take}
 use Rattle.qpack_spec.specs.Table as table
 use Rattle.qpack_spec.specs.Table.{has_number, is_evictable, all_evictable}
-use Rattle.qpack_table.specs.Tables.{entry_of, entries_of, uses, IsEvictableAt}
-use Rattle.qpack_table.specs.declared.dynamic.table.Entry.{Entry}
-
-any_counted : {X : Type 0} (p : X → Bool) (xs : List X) → list_any p xs ≡ nat_lt 0 (length (filter p xs))
-any_counted p [] = refl
-any_counted p (x ∷ xs) = first (p x) refl (any_counted p xs)
-  where
-    first : (b : Bool) → p x ≡ b → list_any p xs ≡ nat_lt 0 (length (filter p xs))
-        → list_any p (x ∷ xs) ≡ nat_lt 0 (length (filter p (x ∷ xs)))
-    first true e rest = rw e (sym (lt-ltb 0 (suc (length (filter p xs))) (omega arith)))
-    first false e rest = rw e rest
-
--- an entry is named exactly if some block uses it
-named_if_used : (referenced : List ℕ) (unacknowledged : List table.UnacknowledgedBlock) (a : ℕ)
-    → (has_number a referenced || list_any (λ (b : table.UnacknowledgedBlock). has_number a b.entries) unacknowledged)
-    ≡ nat_lt 0 (uses referenced unacknowledged a)
-named_if_used referenced unacknowledged a = first (has_number a referenced) refl
-  where
-    rest : ℕ
-    rest = length (filter (λ (b : table.UnacknowledgedBlock). has_number a b.entries) unacknowledged)
-
-    first : (b : Bool) → has_number a referenced ≡ b
-        → (has_number a referenced
-        || list_any (λ (b : table.UnacknowledgedBlock). has_number a b.entries) unacknowledged)
-        ≡ nat_lt 0 (uses referenced unacknowledged a)
-    first true e = rw e (sym (lt-ltb 0 (1 + rest) (omega arith)))
-    first false e = let none : 0 + rest ≡ rest = omega arith in
-        rw (e, none) (any_counted (λ (b : table.UnacknowledgedBlock). has_number a b.entries) unacknowledged)
+use Rattle.qpack_table.specs.Tables.{entry_of, entries_of, times, references_in, IsEvictableAt}
+use Rattle.qpack_table.proofs.References.{named_if_used}
+use Rattle.qpack_table.specs.declared.dynamic.entry.Entry.{Entry}
 
 by_either : (x y z : Bool) → (x || y) ≡ true → (x || (y || z)) ≡ true
 by_either true y z e = refl
@@ -46,7 +21,7 @@ by_neither true y z e = absurd cc
 by_neither false true z e = absurd cc
 by_neither false false z e = refl
 
-pub evictable_used : (t : table.Table) (a n : ℕ) (sent : Bool) → n ≡ uses t.referenced t.unacknowledged a → 0 < n
+pub evictable_used : (t : table.Table) (a n : ℕ) (sent : Bool) → n ≡ times a (t.referenced ++ references_in t.unacknowledged) → 0 < n
     → is_evictable t a sent ≡ false
 unfolding is_evictable
 evictable_used t a n sent e h =
@@ -54,13 +29,13 @@ evictable_used t a n sent e h =
     (list_any (λ (b : table.UnacknowledgedBlock). has_number a b.entries) t.unacknowledged)
     (sent && nat_lt t.known_received_count a)
     (named_if_used t.referenced t.unacknowledged a
-    ∙ lt-ltb 0 (uses t.referenced t.unacknowledged a) (omega (arith, e, h))))
+    ∙ lt-ltb 0 (times a (t.referenced ++ references_in t.unacknowledged)) (omega (arith, e, h))))
 
-pub evictable_unused : (t : table.Table) (a n : ℕ) (sent : Bool) → n ≡ uses t.referenced t.unacknowledged a → n ≡ 0
+pub evictable_unused : (t : table.Table) (a n : ℕ) (sent : Bool) → n ≡ times a (t.referenced ++ references_in t.unacknowledged) → n ≡ 0
     → is_evictable t a sent ≡ not (sent && nat_lt t.known_received_count a)
 unfolding is_evictable
 evictable_unused t a n sent e h =
-    let none : uses t.referenced t.unacknowledged a ≡ 0 = omega (arith, e, h) in
+    let none : times a (t.referenced ++ references_in t.unacknowledged) ≡ 0 = omega (arith, e, h) in
     ap not (by_neither (has_number a t.referenced)
     (list_any (λ (b : table.UnacknowledgedBlock). has_number a b.entries) t.unacknowledged)
     (sent && nat_lt t.known_received_count a)

@@ -1,7 +1,6 @@
 -- The entries that go, one at a time.
 use Rattle.std.proofs.Common.{◌≡◌, ℕ, zero, suc, ◌+◌, ◌-◌, ◌^◌, ◌<◌, ◌≤◌, List, [], ◌∷◌, ◌++◌, length, drop, get_or}
-use Rattle.std.proofs.Common.{Some, refl, sym, ap, subst, ◌∙◌, arith, inl, inr}
-use Rattle.std.specs.Prelude.{slice_get}
+use Rattle.std.proofs.Common.{refl, sym, ap, subst, ◌∙◌, arith, inl, inr}
 use Rattle.std.proofs.lemmas.Bool.{cases_lt}
 use Rattle.std.proofs.lemmas.List.{drop-drop, drop-append-le, drop-map, length-drop, length-append}
 use Rattle.qpack_base.specs.HeaderFields.{field_of}
@@ -12,10 +11,9 @@ use Rattle.qpack_spec.specs.Window.{eviction_count}
 use Rattle.qpack_spec.proofs.Sizes.{total_first, total_last}
 use Rattle.qpack_spec.proofs.Windows.{eviction_count_fits, eviction_count_least, eviction_count_bound}
 use Rattle.qpack_spec.proofs.Windows.{eviction_count_push}
-use Rattle.qpack_spec.proofs.Lists.{get_drop, get_append_within}
 use Rattle.qpack_table.specs.Positions.{Positions}
-use Rattle.qpack_table.specs.Tables.{entry_of, entries_of, uses, IsKept}
-use Rattle.qpack_table.specs.declared.dynamic.table.Entry.{Entry}
+use Rattle.qpack_table.specs.Tables.{entry_of, entries_of, IsSized}
+use Rattle.qpack_table.specs.declared.dynamic.entry.Entry.{Entry}
 
 -- fewer fields are no larger
 shorter : (n : ℕ) (fs : List Field) → total_size (drop n fs) ≤ total_size fs
@@ -154,37 +152,25 @@ shed all now i size less e rest a b front same =
       few = omega (arith, ap (λ (es : List Entry). length es) (sym a ∙ front), length-drop i all);
     }
 
--- what a table keeps, with fewer entries
-kept_less : (v w : Positions) (es now : List Entry) (size left capacity capacity' : ℕ) (referenced named' : List ℕ)
-    (unacknowledged opened' : List table.UnacknowledgedBlock) (k : ℕ)
-    → IsKept v es size capacity referenced unacknowledged
+-- the sizes that a table keeps, with fewer entries
+sized_less : (v w : Positions) (es now : List Entry) (size left capacity : ℕ) (k : ℕ) → IsSized v es size capacity
     → k ≤ length es → now ≡ drop k es → left ≡ total_size (drop k (fields_in (entries_of es)))
-    → w.dropped ≡ v.dropped + k → w.total ≡ v.total
-    → capacity' ≡ capacity → named' ≡ referenced → opened' ≡ unacknowledged → IsKept w now left capacity' named' opened'
-kept_less v w es now size left capacity capacity' referenced named' unacknowledged opened' k kept few items sum dropped
-    total
-    same_capacity same_named same_opened =
-    rw (same_named, same_opened) (record {
-      counted = omega (
-        arith,
-        kept.counted,
-        few,
-        dropped,
-        total,
-        ap (λ (l : List Entry). length l) items,
-        length-drop k es,
-      );
-      sum = sum ∙ ap (λ (l : List Field). total_size l) (fields_drop k es
-          ∙ ap (λ (l : List Entry). fields_in (entries_of l)) (sym items));
-      fits = omega (arith, kept.fits, kept.sum, sum, shorter k (fields_in (entries_of es)), same_capacity);
-      small = omega (arith, kept.small, same_capacity);
-      used = λ position e at.
-          let there : slice_get es (k + position) ≡ Some e = sym (get_drop k es position)
-          ∙ ap (λ (l : List Entry). slice_get l position) (sym items) ∙ at in
-          let absolute : w.dropped + position + 1 ≡ v.dropped + (k + position) + 1 = omega (arith, dropped) in
-          kept.used (k + position) e there ∙ ap (λ (a : ℕ). uses referenced unacknowledged a) (sym absolute);
-      behind = λ absolute above. kept.behind absolute (omega (arith, above, total));
-    })
+    → w.dropped ≡ v.dropped + k → w.total ≡ v.total → IsSized w now left capacity
+sized_less v w es now size left capacity k kept few items sum dropped total = record {
+  counted = omega (
+    arith,
+    kept.counted,
+    few,
+    dropped,
+    total,
+    ap (λ (l : List Entry). length l) items,
+    length-drop k es,
+  );
+  sum = sum ∙ ap (λ (l : List Field). total_size l) (fields_drop k es
+      ∙ ap (λ (l : List Entry). fields_in (entries_of l)) (sym items));
+  fits = omega (arith, kept.fits, kept.sum, sum, shorter k (fields_in (entries_of es)));
+  small = kept.small;
+}
 
 pub live_less : (es now : List Entry) (k : ℕ) → now ≡ drop k es → entries_of now ≡ drop k (entries_of es)
 live_less es now k items = ap (λ (l : List Entry). entries_of l) items ∙ sym (drop-map entry_of k es)
@@ -200,26 +186,14 @@ pub joined_entries : (es : List Entry) (e : Entry) → entries_of (es ++ e ∷ [
 joined_entries [] e = refl
 joined_entries (x ∷ es) e = ap (λ (l : List table.Entry). entry_of x ∷ l) (joined_entries es e)
 
--- the last one is the new one
-last_is : (xs : List Entry) (e x : Entry) (position : ℕ) → length xs ≤ position → slice_get (xs ++ e ∷ []) position
-    ≡ Some x
-    → (e ≡ x) × (position ≡ length xs)
-last_is [] e x zero h at = (cc, refl)
-last_is [] e x (suc position) h at = absurd cc
-last_is (y ∷ xs) e x zero h at = absurd (omega (arith, h))
-last_is (y ∷ xs) e x (suc position) h at = let r = last_is xs e x position (omega (arith, h)) at in
-    (r.0, ap (λ (n : ℕ). suc n) r.1)
-
--- what a table keeps, with some entries less and one more
-pub kept_inserted : (v w : Positions) (es now : List Entry) (size left capacity : ℕ) (referenced : List ℕ)
-    (unacknowledged : List table.UnacknowledgedBlock) (e : Entry) (k : ℕ)
-    → IsKept v es size capacity referenced unacknowledged
+-- the sizes that a table keeps, with some entries less and one more
+pub sized_inserted : (v w : Positions) (es now : List Entry) (size left capacity : ℕ) (e : Entry) (k : ℕ)
+    → IsSized v es size capacity
     → field_size (field_at e) ≤ capacity → k ≡ eviction_count capacity (fields_in (entries_of es) ++ field_at e ∷ [])
     → now ≡ drop k es ++ e ∷ []
-    → left ≡ total_size (drop k (fields_in (entries_of es))) + field_size (field_at e) → e.uses ≡ 0
-    → w.dropped ≡ v.dropped + k → w.total ≡ v.total + 1 → IsKept w now left capacity referenced unacknowledged
-kept_inserted v w es now size left capacity referenced unacknowledged e k kept room evicted items sum unused dropped
-    total =
+    → left ≡ total_size (drop k (fields_in (entries_of es))) + field_size (field_at e)
+    → w.dropped ≡ v.dropped + k → w.total ≡ v.total + 1 → IsSized w now left capacity
+sized_inserted v w es now size left capacity e k kept room evicted items sum dropped total =
     let fs = fields_in (entries_of es) in
     let few : k ≤ length es = omega
     (arith, evicted, eviction_count_push capacity fs (field_at e) room, fields-length es) in
@@ -249,22 +223,6 @@ kept_inserted v w es now size left capacity referenced unacknowledged e k kept r
       sum = omega (arith, sum, ap (λ (l : List Field). total_size l) fields, total_last (drop k fs) (field_at e));
       fits = omega (arith, sum, fits);
       small = kept.small;
-      used = λ position x at.
-          let there : slice_get (drop k es ++ e ∷ []) position ≡ Some x =
-          ap (λ (l : List Entry). slice_get l position) (sym items) ∙ at in
-          elim (cases_lt position (length (drop k es))) [
-            | inl h ↦
-                let old : slice_get es (k + position) ≡ Some x = sym (get_drop k es position)
-                ∙ sym (get_append_within (drop k es) (e ∷ []) position h) ∙ there in
-                let absolute : w.dropped + position + 1 ≡ v.dropped + (k + position) + 1 = omega (arith, dropped) in
-                kept.used (k + position) x old ∙ ap (λ (a : ℕ). uses referenced unacknowledged a) (sym absolute)
-            | inr h ↦
-                let r = last_is (drop k es) e x position h there in
-                let behind : v.total < w.dropped + position + 1 =
-                omega (arith, kept.counted, few, dropped, r.1, length-drop k es) in
-                ap (λ (y : Entry). y.uses) (sym r.0) ∙ unused ∙ sym (kept.behind (w.dropped + position + 1) behind)
-          ];
-      behind = λ absolute above. kept.behind absolute (omega (arith, above, total));
     }
 
 -- what is freed leaves the rest
@@ -282,28 +240,30 @@ evicted_within es f capacity k fits evicted = omega (
   fields-length es,
 )
 
--- what a table keeps, with fewer entries and another capacity
-pub kept_resized : (v w : Positions) (es now : List Entry) (size left capacity most : ℕ) (referenced : List ℕ)
-    (unacknowledged : List table.UnacknowledgedBlock) (k freed : ℕ)
-    → IsKept v es size capacity referenced unacknowledged
+-- the sizes that a table keeps, with fewer entries and another capacity
+pub sized_resized : (v w : Positions) (es now : List Entry) (size left capacity most : ℕ) (k freed : ℕ)
+    → IsSized v es size capacity
     → k ≡ eviction_count most (fields_in (entries_of es)) → most < 2 ^ 30 → now ≡ drop k es
     → freed + total_size (drop k (fields_in (entries_of es))) ≡ total_size (fields_in (entries_of es))
-    → left ≡ size - freed → w.dropped ≡ v.dropped + k → w.total ≡ v.total
-    → IsKept w now left most referenced unacknowledged
-kept_resized v w es now size left capacity most referenced unacknowledged k freed kept evicted small items sum rest
-    dropped total =
+    → left ≡ size - freed → w.dropped ≡ v.dropped + k → w.total ≡ v.total → IsSized w now left most
+sized_resized v w es now size left capacity most k freed kept evicted small items sum rest dropped total =
     let fs = fields_in (entries_of es) in
     let few : k ≤ length es = omega (arith, evicted, eviction_count_bound most fs, fields-length es) in
     let is : left ≡ total_size (drop k fs) = omega (arith, rest, sum, kept.sum) in
-    let less =
-    kept_less v w es now size left capacity capacity referenced referenced unacknowledged unacknowledged k kept few
-    items is dropped total
-    refl refl refl in
+    let less = sized_less v w es now size left capacity k kept few items is dropped total in
     record {
       counted = less.counted;
       sum = less.sum;
       fits = omega (arith, is, ap (λ (n : ℕ). total_size (drop n fs)) evicted, eviction_count_fits most fs);
       small = small;
-      used = less.used;
-      behind = less.behind;
     }
+
+-- no more go at another capacity than there are
+pub resized_within : (es : List Entry) (most k : ℕ) → k ≡ eviction_count most (fields_in (entries_of es))
+    → k ≤ length es
+resized_within es most k evicted = omega (
+  arith,
+  evicted,
+  eviction_count_bound most (fields_in (entries_of es)),
+  fields-length es,
+)

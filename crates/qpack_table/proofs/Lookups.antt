@@ -19,7 +19,7 @@ use Rattle.qpack_table.specs.Positions.{post_base_index}
 use Rattle.qpack_table.specs.Tables.{entry_of, entries_of, LooksUp}
 use Rattle.qpack_table.specs.declared.dynamic.Error.{Error}
 use Rattle.qpack_table.specs.declared.dynamic.Error.TheVariants.{BadIndex}
-use Rattle.qpack_table.specs.declared.dynamic.table.Entry.{Entry}
+use Rattle.qpack_table.specs.declared.dynamic.entry.Entry.{Entry}
 use Rattle.qpack_table.proofs.Entries.{there_is_live, live_is_there, at_position, recent_is_entry, relative_at_position}
 use Rattle.qpack_table.proofs.Entries.{relative_dropped, post_base_is_entry}
 

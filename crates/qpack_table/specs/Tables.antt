@@ -1,6 +1,8 @@
 -- The dynamic table as the code holds it.
-use Rattle.std.specs.Prelude.{◌≡◌, ℕ, ◌+◌, ◌≤◌, ◌<◌, ◌^◌, ⊤, Bool, IsTrue, if◌then◌else◌, List, map, filter, length}
+use Rattle.std.specs.Prelude.{◌≡◌, ℕ, ◌+◌, ◌≤◌, ◌<◌, ◌^◌, ⊤, Bool, IsTrue, nat_eq, if◌then◌else◌}
+use Rattle.std.specs.Prelude.{List, [], ◌∷◌, ◌++◌, map, length}
 use Rattle.std.specs.Prelude.{Option, Some, None, IfSome, slice_get, Result, Ok, Err}
+use Rattle.std.specs.List.{AllByRecursion}
 use Rattle.std.specs.Borrow.{Bor}
 use Rattle.qpack_base.specs.HeaderFields.{field_of}
 use Rattle.qpack_base.specs.Refusals.{IsRefusedFor}
@@ -14,8 +16,8 @@ use Rattle.qpack_table.specs.Positions.{Positions}
 use Rattle.qpack_table.specs.declared.dynamic.Error.{Error}
 use Rattle.qpack_table.specs.declared.dynamic.Error.TheVariants.{BadRelativeIndex, BadPostbaseIndex, BadIndex}
 use Rattle.qpack_table.specs.declared.dynamic.Error.TheVariants.{MaxTableSizeReached, MaximumTableSizeTooLarge, Memory}
-use Rattle.qpack_table.specs.declared.dynamic.table.Entry.{Entry}
-use Rattle.qpack_table.specs.declared.dynamic.table.UnacknowledgedBlock.{UnacknowledgedBlock}
+use Rattle.qpack_table.specs.declared.dynamic.entry.Entry.{Entry}
+use Rattle.qpack_table.specs.declared.dynamic.entry.UnacknowledgedBlock.{UnacknowledgedBlock}
 
 -- a live entry
 abbrev pub entry_of : Entry → table.Entry
@@ -31,22 +33,60 @@ block_of b = record { stream = b.stream_id; entries = b.entries.items }
 abbrev pub blocks_of : List UnacknowledgedBlock → List table.UnacknowledgedBlock
 blocks_of bs = map (λ b. block_of b) bs
 
--- how many blocks reference an entry: the one in progress and the unacknowledged ones
-abbrev pub uses : List ℕ → List table.UnacknowledgedBlock → ℕ → ℕ
-uses referenced unacknowledged absolute = (if has_number absolute referenced then 1 else 0) + length
-    (filter (λ b. has_number absolute b.entries) unacknowledged)
+-- how often a number is among some
+abbrev pub times : ℕ → List ℕ → ℕ
+times a [] = 0
+times a (x ∷ xs) = (if nat_eq x a then 1 else 0) + times a xs
 
--- what the table keeps: its positions are those of its entries, whose sizes are added up and fit the capacity, and each
--- is counted by how many blocks name it; none references an entry that was never inserted
-pub record IsKept (positions : Positions) (live : List Entry) (size capacity : ℕ) (referenced : List ℕ)
+-- the references of unacknowledged blocks
+abbrev pub references_in : List table.UnacknowledgedBlock → List ℕ
+references_in [] = []
+references_in (b ∷ bs) = b.entries ++ references_in bs
+
+-- no number stands there twice
+abbrev pub NoneTwice : List ℕ → Type 0
+NoneTwice xs = (a : ℕ) → times a xs ≤ 1
+
+-- each live entry is counted by how often these references name it
+abbrev pub AreUsed : ℕ → List Entry → List ℕ → Type 0
+AreUsed dropped live references =
+    (position : ℕ) (e : Entry) → slice_get live position ≡ Some e → e.uses ≡ times (dropped + position + 1) references
+
+-- each live entry says whether it is among these
+abbrev pub AreFlagged : ℕ → List Entry → List ℕ → Type 0
+AreFlagged dropped live referenced =
+    (position : ℕ) (e : Entry) → slice_get live position ≡ Some e
+    → e.referenced ≡ has_number (dropped + position + 1) referenced
+
+-- what the table keeps of its references: each entry says whether the block in progress references it, and counts its
+-- uses by that block and the unacknowledged ones; a block references an entry once, and none that was never inserted
+pub record IsTracked (positions : Positions) (live : List Entry) (referenced : List ℕ)
     (unacknowledged : List table.UnacknowledgedBlock) : Type 0 where
+  pub flagged : AreFlagged positions.dropped live referenced
+  pub used : AreUsed positions.dropped live (referenced ++ references_in unacknowledged)
+  pub once : NoneTwice referenced
+  pub each_once : AllByRecursion (λ b. NoneTwice b.entries) unacknowledged
+  pub behind : (absolute : ℕ) → positions.total < absolute
+      → times absolute (referenced ++ references_in unacknowledged) ≡ 0
+
+-- the positions of the table are those of its entries, whose sizes are added up and fit the capacity
+pub record IsSized (positions : Positions) (live : List Entry) (size capacity : ℕ) : Type 0 where
   pub counted : positions.total ≡ positions.dropped + length live
   pub sum : size ≡ total_size (fields_in (entries_of live))
   pub fits : size ≤ capacity
   pub small : capacity < 2 ^ 30
-  pub used : (position : ℕ) (e : Entry) → slice_get live position ≡ Some e
-      → e.uses ≡ uses referenced unacknowledged (positions.dropped + position + 1)
-  pub behind : (absolute : ℕ) → positions.total < absolute → uses referenced unacknowledged absolute ≡ 0
+
+-- a number is at most each of these
+abbrev pub IsLeast : ℕ → List ℕ → Type 0
+IsLeast least xs = AllByRecursion (λ x. least ≤ x) xs
+
+-- what the table keeps: its sizes, its references, and a number that is at most each required insert count of blocked
+-- blocks
+pub record IsKept (positions : Positions) (live : List Entry) (size capacity : ℕ) (referenced : List ℕ)
+    (unacknowledged : List table.UnacknowledgedBlock) (least_blocked : ℕ) (blocked : List ℕ) : Type 0 where
+  pub sized : IsSized positions live size capacity
+  pub tracked : IsTracked positions live referenced unacknowledged
+  pub least : IsLeast least_blocked blocked
 
 -- the answer is whether the live entry at a position is evictable
 abbrev pub IsEvictableAt : table.Table → ℕ → Bool → Type 0

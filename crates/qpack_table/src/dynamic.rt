@@ -10,6 +10,7 @@ use qpack_base::coding::NoMemory;
 use std::alloc::{AllocError, AllocFailed};
 use thiserror::Error as ThisError;
 
+mod entry;
 mod table;
 
 pub use crate::dynamic::table::{DynamicTable, DynamicTableDecoder};

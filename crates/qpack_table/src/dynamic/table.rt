@@ -16,6 +16,7 @@ ghost use Rattle.qpack_table.specs.declared.dynamic.Error.TheVariants.{BadRelati
 ghost use Rattle.qpack_table.specs.declared.dynamic.Error.TheVariants.{MaxBlockedStreamsTooLarge};
 
 use crate::dynamic::Error;
+use crate::dynamic::entry::{Entry, UnacknowledgedBlock, drop_oldest};
 use crate::vas::VirtualAddressSpace;
 use qpack_base::field::HeaderField;
 use std::alloc::{AllocError, Global};
@@ -31,43 +32,27 @@ const TOO_MANY_BLOCKED: usize = 65_535;
 /// The number of insertions at which no more are made.
 const MOST_INSERTIONS: usize = 1 << 62;
 
-/// A live entry.
-#[derive(Debug, Drop)]
-struct Entry {
-    field: HeaderField,
-    /// Whether an encoder's handle inserted it, and so sent it.
-    sent: bool,
-    /// How many blocks name it: unacknowledged ones, and the one in progress.
-    uses: usize,
-}
-
-/// A block that is to be acknowledged.
-#[derive(Debug, Drop)]
-struct UnacknowledgedBlock {
-    stream_id: u64,
-    /// The absolute indexes that its lines reference.
-    entries: Vec<usize>,
-}
-
 /// The dynamic table of one end.
 #[derive(Debug, Drop)]
 pub struct DynamicTable {
     /// The live entries, the oldest first.
-    entries: VecDeque<Entry>,
-    vas: VirtualAddressSpace,
+    pub(super) entries: VecDeque<Entry>,
+    pub(super) vas: VirtualAddressSpace,
     /// The sum of the live fields' sizes, in bytes.
-    mem_size: usize,
-    max_mem_size: usize,
-    agreed_max: Option<usize>,
-    max_blocked: usize,
+    pub(super) mem_size: usize,
+    pub(super) max_mem_size: usize,
+    pub(super) agreed_max: Option<usize>,
+    pub(super) max_blocked: usize,
     /// The known received count.
-    known_received_count: usize,
+    pub(super) known_received_count: usize,
     /// The absolute indexes that the block in progress names.
-    referenced: Vec<usize>,
+    pub(super) referenced: Vec<usize>,
     /// The oldest first.
-    unacknowledged: Vec<UnacknowledgedBlock>,
+    pub(super) unacknowledged: VecDeque<UnacknowledgedBlock>,
     /// The required insert counts above the known received count of committed blocks.
-    blocked: Vec<usize>,
+    pub(super) blocked: Vec<usize>,
+    /// At most each of them.
+    pub(super) least_blocked: usize,
 }
 
 impl Model for DynamicTable {
@@ -89,7 +74,7 @@ impl Model for DynamicTable {
     } };
 
     ghost invariant = { λ a. IsKept a.vas a.entries.items a.mem_size a.max_mem_size a.referenced.items
-        (blocks_of a.unacknowledged.items) };
+        (blocks_of a.unacknowledged.items) a.least_blocked a.blocked.items };
 }
 
 impl DynamicTable {
@@ -106,8 +91,9 @@ impl DynamicTable {
             max_blocked: 0,
             known_received_count: 0,
             referenced: Vec::new(alloc),
-            unacknowledged: Vec::new(alloc),
+            unacknowledged: VecDeque::new(alloc),
             blocked: Vec::new(alloc),
+            least_blocked: usize::MAX,
         }
     }
 
@@ -257,6 +243,7 @@ impl DynamicTable {
         self.entries.push_back_reserved(Entry {
             field,
             sent,
+            referenced: false,
             uses: 0,
         });
         Ok(())
@@ -342,30 +329,4 @@ impl DynamicTableDecoder<'_> {
     {
         self.table.get_postbase(self.base, index)
     }
-}
-
-/// The oldest entries go; the sum of their sizes is answered.
-fn drop_oldest(
-    entries: &mut VecDeque<Entry>,
-    vas: &mut VirtualAddressSpace,
-    evicted: usize,
-) -> usize
-    requires there { evicted ≤ length entries.old.items }
-    requires counted { vas.old.total ≡ vas.old.dropped + length entries.old.items }
-    requires small { total_size (fields_in (entries_of entries.old.items)) < 2 ^ 63 }
-    ensures left { entries.new.items ≡ drop evicted entries.old.items }
-    ensures capacity { deque_capacity entries.new ≡ deque_capacity entries.old }
-    ensures dropped { vas.new ≡ record vas.old { dropped = vas.old.dropped + evicted } }
-    ensures freed { result + total_size (drop evicted (fields_in (entries_of entries.old.items))) ≡
-        total_size (fields_in (entries_of entries.old.items)) }
-{
-    let mut freed = 0;
-    for _ in 0..evicted {
-        let Some(entry) = entries.pop_front() else {
-            break;
-        };
-        freed += entry.field.mem_size();
-        vas.drop();
-    }
-    freed
 }

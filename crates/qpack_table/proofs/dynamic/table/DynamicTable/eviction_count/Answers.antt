@@ -13,9 +13,9 @@ pub loop-evicted-preserved : goal.loop-evicted-preserved
 loop-evicted-preserved c =
     let within : c.loop-evicted.evicted < length c.self.inside.entries.items = omega arith in
     let first = first_size _ _ _ _ c.index.result.now within c.index.ensures c.loop-evicted.invariant in
-    let bound = evicted_bound _ _ _ _ _ c.self.invariant.sum c.loop-evicted.invariant in
+    let bound = evicted_bound _ _ _ _ _ c.self.invariant.sized.sum c.loop-evicted.invariant in
     let exact : c.mem_size-rest.result ≡ field_size (field_of c.index.result.now.field) =
-    omega (arith, first, bound, c.self.invariant.fits, c.self.invariant.small) in
+    omega (arith, first, bound, c.self.invariant.sized.fits, c.self.invariant.sized.small) in
     evicted_more _ _ _ _ _ c.index.result.now within (omega arith) c.index.ensures exact c.loop-evicted.invariant
 
 pub returns-else-rest-room : goal.returns-else-rest-room

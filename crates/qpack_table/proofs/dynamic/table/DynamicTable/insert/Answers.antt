@@ -1,4 +1,4 @@
-use Rattle.std.proofs.Common.{◌≡◌, ◌∷◌, ◌++◌, [], ◌+◌, ◌≤◌, ℕ, List, drop, length, refl, ap, sym, ◌∙◌, arith}
+use Rattle.std.proofs.Common.{◌≡◌, ◌∷◌, ◌++◌, [], ◌+◌, ◌≤◌, ℕ, false, List, drop, length, refl, ap, sym, ◌∙◌, arith}
 use Rattle.std.proofs.lemmas.List.{drop-map}
 use Rattle.qpack_base.specs.HeaderFields.{field_of}
 use Rattle.qpack_spec.specs.Field.{field_size, total_size}
@@ -7,9 +7,10 @@ use Rattle.qpack_spec.specs.Table.{Table, eviction_count_for, fields_in}
 use Rattle.qpack_spec.specs.Window.{eviction_count}
 use Rattle.qpack_table.specs.Positions.{Positions}
 use Rattle.qpack_table.specs.Tables.{entry_of, entries_of}
-use Rattle.qpack_table.specs.declared.dynamic.table.Entry.{Entry}
+use Rattle.qpack_table.specs.declared.dynamic.entry.Entry.{Entry}
 use Rattle.qpack_table.proofs.Changes.{entered}
-use Rattle.qpack_table.proofs.Evictions.{kept_inserted, joined_entries, left_is, evicted_within}
+use Rattle.qpack_table.proofs.Evictions.{joined_entries, left_is, evicted_within}
+use Rattle.qpack_table.proofs.Kept.{kept_put}
 use Rattle.qpack_table.proofs.dynamic.table.DynamicTable.insert.Goals as goal
 
 pub drop_oldest-freed-requires-clause-there : goal.drop_oldest-freed-requires-clause-there
@@ -34,18 +35,18 @@ invariant_of-self-2 c =
     (fields_in (entries_of c.self.inside.entries.items) ++ field_of c.args.field ∷ []) =
     c.requires.evicted ∙ ap (λ (t : Table). eviction_count_for t (field_of c.args.field)) (sym c.self.view_is) in
     let same = c.in_ok-reserve.ensures.items in
-    let new : Entry = record { field = c.args.field; sent = c.args.sent; uses = 0 } in
+    let new : Entry = record { field = c.args.field; sent = c.args.sent; referenced = false; uses = 0 } in
     let size : c.mem_size.result ≡ field_size (field_of c.args.field) =
-    omega (arith, fits, c.self.invariant.small, c.mem_size.ensures) in
+    omega (arith, fits, c.self.invariant.sized.small, c.mem_size.ensures) in
     let freed : c.drop_oldest-freed.result + total_size
     (drop c.args.evicted (fields_in (entries_of c.self.inside.entries.items)))
     ≡ total_size (fields_in (entries_of c.self.inside.entries.items)) =
     rw (← same) c.drop_oldest-freed.ensures.freed in
-    kept_inserted c.self.inside.vas c.add.new.self c.self.inside.entries.items c.push_back_reserved.new.self.items _
-    _ c.self.inside.max_mem_size _ _ new c.args.evicted c.self.invariant fits evicted
+    kept_put c.self.inside.vas c.add.new.self c.self.inside.entries.items c.push_back_reserved.new.self.items _
+    _ c.self.inside.max_mem_size _ _ _ _ new c.args.evicted c.self.invariant fits evicted
     (c.push_back_reserved.ensures.items ∙ ap (λ (l : List Entry). l ++ new ∷ []) (c.drop_oldest-freed.ensures.left
     ∙ ap (λ (l : List Entry). drop c.args.evicted l) same))
-    (left_is _ _ _ _ _ _ c.self.invariant.sum freed size) refl
+    (left_is _ _ _ _ _ _ c.self.invariant.sized.sum freed size) refl refl
     (omega (
       arith,
       ap (λ (p : Positions). p.dropped) c.add.ensures.added,
@@ -65,7 +66,7 @@ returns-clause-ok c =
     (fields_in (entries_of c.self.inside.entries.items) ++ field_of c.args.field ∷ []) =
     c.requires.evicted ∙ ap (λ (t : Table). eviction_count_for t (field_of c.args.field)) (sym c.self.view_is) in
     let same = c.in_ok-reserve.ensures.items in
-    let new : Entry = record { field = c.args.field; sent = c.args.sent; uses = 0 } in
+    let new : Entry = record { field = c.args.field; sent = c.args.sent; referenced = false; uses = 0 } in
     let dropped : c.add.new.self.dropped ≡ c.self.inside.vas.dropped + eviction_count c.self.inside.max_mem_size
     (fields_in (entries_of c.self.inside.entries.items) ++ field_of c.args.field ∷ []) =
     omega (

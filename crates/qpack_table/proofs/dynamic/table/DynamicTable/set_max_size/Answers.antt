@@ -7,7 +7,8 @@ use Rattle.qpack_spec.proofs.Windows.{eviction_count_bound}
 use Rattle.qpack_table.specs.Positions.{Positions}
 use Rattle.qpack_table.specs.Tables.{entry_of, entries_of}
 use Rattle.qpack_table.proofs.Changes.{resized_above, resized_against_held, resized_to}
-use Rattle.qpack_table.proofs.Evictions.{kept_resized, live_less}
+use Rattle.qpack_table.proofs.Evictions.{live_less}
+use Rattle.qpack_table.proofs.Kept.{kept_resized}
 use Rattle.qpack_table.proofs.dynamic.table.DynamicTable.set_max_size.Goals as goal
 
 pub returns-then-size-greatest_capacity : goal.returns-then-size-greatest_capacity
@@ -48,7 +49,7 @@ invariant_of-self c =
     c.eviction_count-evicted.ensures
     ∙ ap (λ (t : Table). eviction_count c.args.size (fields_in t.live)) (sym c.self.view_is) in
     kept_resized c.self.inside.vas c.drop_oldest-freed.new.vas c.self.inside.entries.items
-    c.drop_oldest-freed.new.entries.items _ _ _ c.args.size _ _ c.eviction_count-evicted.result
+    c.drop_oldest-freed.new.entries.items _ _ _ c.args.size _ _ _ _ c.eviction_count-evicted.result
     c.drop_oldest-freed.result
     c.self.invariant
     evicted (omega (arith, c.greatest_capacity.ensures.most)) c.drop_oldest-freed.ensures.left

@@ -1,0 +1,137 @@
+-- The references to entries, and what each entry knows of them.
+use Rattle.std.proofs.Common.{◌≡◌, ℕ, zero, suc, ◌+◌, ◌<◌, ◌≤◌, Bool, true, false, ◌||◌, List, [], ◌∷◌, ◌++◌}
+use Rattle.std.proofs.Common.{length, drop, Some, refl, sym, ap, ◌∙◌, arith, inl, inr}
+use Rattle.std.specs.Prelude.{slice_get, nat_lt, nat_eq, if◌then◌else◌}
+use Rattle.std.specs.List.{list_any}
+use Rattle.std.proofs.lemmas.Bool.{cases_lt, lt-ltb}
+use Rattle.qpack_spec.proofs.Lists.{get_drop, get_append_within}
+use Rattle.qpack_spec.specs.Table as table
+use Rattle.qpack_spec.specs.Table.{has_number}
+use Rattle.qpack_table.specs.Positions.{Positions}
+use Rattle.qpack_table.specs.Tables.{times, references_in, IsTracked}
+use Rattle.qpack_table.specs.declared.dynamic.entry.Entry.{Entry}
+
+-- ---- how often a number is among some
+
+pub times_append : (a : ℕ) (xs ys : List ℕ) → times a (xs ++ ys) ≡ times a xs + times a ys
+times_append a [] ys = omega arith
+times_append a (x ∷ xs) ys =
+    let one : ℕ = if nat_eq x a then 1 else 0 in
+    let more : one + times a (xs ++ ys) ≡ one + times a xs + times a ys = omega (arith, times_append a xs ys) in more
+
+-- a number is among some if it is there once or more
+pub is_among : (a : ℕ) (xs : List ℕ) → has_number a xs ≡ nat_lt 0 (times a xs)
+is_among a [] = refl
+is_among a (x ∷ xs) = first (nat_eq x a) refl (is_among a xs)
+  where
+    first : (b : Bool) → nat_eq x a ≡ b → has_number a xs ≡ nat_lt 0 (times a xs)
+        → has_number a (x ∷ xs) ≡ nat_lt 0 (times a (x ∷ xs))
+    first true e rest = rw e (sym (lt-ltb 0 (1 + times a xs) (omega arith)))
+    first false e rest = let none : 0 + times a xs ≡ times a xs = omega arith in rw (e, none) rest
+
+pub not_among : (a : ℕ) (xs : List ℕ) → times a xs ≡ 0 → has_number a xs ≡ false
+not_among a xs e = is_among a xs ∙ ap (nat_lt 0) e
+
+has_append : (a : ℕ) (xs ys : List ℕ) → has_number a (xs ++ ys) ≡ (has_number a xs || has_number a ys)
+has_append a [] ys = refl
+has_append a (x ∷ xs) ys = first (nat_eq x a) refl (has_append a xs ys)
+  where
+    first : (b : Bool) → nat_eq x a ≡ b → has_number a (xs ++ ys) ≡ (has_number a xs || has_number a ys)
+        → has_number a (x ∷ xs ++ ys) ≡ (has_number a (x ∷ xs) || has_number a ys)
+    first true e rest = rw e refl
+    first false e rest = rw e rest
+
+any_block : (a : ℕ) (bs : List table.UnacknowledgedBlock)
+    → list_any (λ (b : table.UnacknowledgedBlock). has_number a b.entries) bs ≡ has_number a (references_in bs)
+any_block a [] = refl
+any_block a (b ∷ bs) = ap (λ (r : Bool). has_number a b.entries || r) (any_block a bs)
+    ∙ sym (has_append a b.entries (references_in bs))
+
+-- an entry is referenced exactly if some reference names it
+pub named_if_used : (referenced : List ℕ) (unacknowledged : List table.UnacknowledgedBlock) (a : ℕ)
+    → (has_number a referenced || list_any (λ (b : table.UnacknowledgedBlock). has_number a b.entries) unacknowledged)
+    ≡ nat_lt 0 (times a (referenced ++ references_in unacknowledged))
+named_if_used referenced unacknowledged a =
+    ap (λ (r : Bool). has_number a referenced || r) (any_block a unacknowledged)
+    ∙ sym (has_append a referenced (references_in unacknowledged))
+    ∙ is_among a (referenced ++ references_in unacknowledged)
+
+-- ---- entries that go and come
+
+-- what a table keeps of its references, with fewer entries
+pub tracked_less : (v w : Positions) (es now : List Entry) (referenced : List ℕ)
+    (unacknowledged : List table.UnacknowledgedBlock) (k : ℕ) → IsTracked v es referenced unacknowledged
+    → now ≡ drop k es → w.dropped ≡ v.dropped + k → w.total ≡ v.total → IsTracked w now referenced unacknowledged
+tracked_less v w es now referenced unacknowledged k kept items dropped total = record {
+  flagged = λ position e at.
+      kept.flagged (k + position) e (there position e at)
+      ∙ ap (λ (a : ℕ). has_number a referenced) (sym (absolute position));
+  used = λ position e at.
+      kept.used (k + position) e (there position e at)
+      ∙ ap (λ (a : ℕ). times a (referenced ++ references_in unacknowledged)) (sym (absolute position));
+  once = kept.once;
+  each_once = kept.each_once;
+  behind = λ absolute above. kept.behind absolute (omega (arith, above, total));
+}
+  where
+    there : (position : ℕ) (e : Entry) → slice_get now position ≡ Some e → slice_get es (k + position) ≡ Some e
+    there position e at = sym (get_drop k es position) ∙ ap (λ (l : List Entry). slice_get l position) (sym items) ∙ at
+
+    absolute : (position : ℕ) → w.dropped + position + 1 ≡ v.dropped + (k + position) + 1
+    absolute position = omega (arith, dropped)
+
+-- the last one is the new one
+last_is : (xs : List Entry) (e x : Entry) (position : ℕ) → length xs ≤ position → slice_get (xs ++ e ∷ []) position
+    ≡ Some x
+    → (e ≡ x) × (position ≡ length xs)
+last_is [] e x zero h at = (cc, refl)
+last_is [] e x (suc position) h at = absurd cc
+last_is (y ∷ xs) e x zero h at = absurd (omega (arith, h))
+last_is (y ∷ xs) e x (suc position) h at = let r = last_is xs e x position (omega (arith, h)) at in
+    (r.0, ap (λ (n : ℕ). suc n) r.1)
+
+-- an entry behind some, or one of them
+pub data Joined (xs : List Entry) (e x : Entry) (position : ℕ) : Type 0 where
+  Before : (at : slice_get xs position ≡ Some x) → (position < length xs) → Joined xs e x position
+  Last : (is : e ≡ x) → position ≡ length xs → Joined xs e x position
+
+pub joined : (xs : List Entry) (e x : Entry) (position : ℕ) → slice_get (xs ++ e ∷ []) position ≡ Some x
+    → Joined xs e x position
+joined xs e x position at =
+    elim (cases_lt position (length xs)) [
+      | inl h ↦ Before (sym (get_append_within xs (e ∷ []) position h) ∙ at) h
+      | inr h ↦ let r = last_is xs e x position h at in Last r.0 r.1
+    ]
+
+-- what a table keeps of its references, with one entry more that nothing references
+pub tracked_put : (v w : Positions) (es now : List Entry) (e : Entry) (referenced : List ℕ)
+    (unacknowledged : List table.UnacknowledgedBlock) → IsTracked v es referenced unacknowledged
+    → v.total ≡ v.dropped + length es → now ≡ es ++ e ∷ [] → e.referenced ≡ false → e.uses ≡ 0
+    → w.dropped ≡ v.dropped → w.total ≡ v.total + 1 → IsTracked w now referenced unacknowledged
+tracked_put v w es now e referenced unacknowledged kept counted items unflagged unused dropped total = record {
+  flagged = λ position x at. elim (at_either position x at) [
+    | Before old within ↦ kept.flagged position x old
+        ∙ ap (λ (a : ℕ). has_number (a + position + 1) referenced) (sym dropped)
+    | Last is place ↦ ap (λ (y : Entry). y.referenced) (sym is) ∙ unflagged
+        ∙ sym (not_among (w.dropped + position + 1) referenced (omega (
+          arith,
+          kept.behind (w.dropped + position + 1) (new position place),
+          times_append (w.dropped + position + 1) referenced (references_in unacknowledged),
+        )))
+  ];
+  used = λ position x at. elim (at_either position x at) [
+    | Before old within ↦ kept.used position x old
+        ∙ ap (λ (a : ℕ). times (a + position + 1) (referenced ++ references_in unacknowledged)) (sym dropped)
+    | Last is place ↦ ap (λ (y : Entry). y.uses) (sym is) ∙ unused
+        ∙ sym (kept.behind (w.dropped + position + 1) (new position place))
+  ];
+  once = kept.once;
+  each_once = kept.each_once;
+  behind = λ absolute above. kept.behind absolute (omega (arith, above, total));
+}
+  where
+    at_either : (position : ℕ) (x : Entry) → slice_get now position ≡ Some x → Joined es e x position
+    at_either position x at = joined es e x position (ap (λ (l : List Entry). slice_get l position) (sym items) ∙ at)
+
+    new : (position : ℕ) → position ≡ length es → v.total < w.dropped + position + 1
+    new position place = omega (arith, counted, dropped, place)
