@@ -1,16 +1,19 @@
 -- What a table keeps, when entries go and come.
-use Rattle.std.proofs.Common.{◌≡◌, ℕ, ◌+◌, ◌-◌, ◌^◌, ◌<◌, ◌≤◌, false, List, [], ◌∷◌, ◌++◌, length, drop, refl, arith}
-use Rattle.std.proofs.lemmas.List.{length-drop}
+use Rattle.std.proofs.Common.{◌≡◌, ℕ, ◌+◌, ◌-◌, ◌^◌, ◌<◌, ◌≤◌, false, List, [], ◌∷◌, ◌++◌, length, drop, refl, sym, ap, subst, ◌∙◌, arith}
+use Rattle.std.proofs.lemmas.List.{length-drop, length-map}
+use Rattle.std.specs.List.{AllByRecursion}
 use Rattle.qpack_base.specs.HeaderFields.{field_of}
 use Rattle.qpack_spec.specs.Field.{field_size, total_size}
 use Rattle.qpack_spec.specs.Table as table
 use Rattle.qpack_spec.specs.Table.{fields_in}
 use Rattle.qpack_spec.specs.Window.{eviction_count}
 use Rattle.qpack_table.specs.Positions.{Positions}
-use Rattle.qpack_table.specs.Tables.{entries_of, IsKept}
+use Rattle.qpack_table.specs.Tables.{entry_of, entries_of, flags_of, references_in, times, AreUsed, AreCounted, NoneTwice}
+use Rattle.qpack_table.specs.Tables.{IsKept, IsSized, IsTracked}
 use Rattle.qpack_table.specs.declared.dynamic.entry.Entry.{Entry}
 use Rattle.qpack_table.proofs.Evictions.{sized_inserted, sized_resized, evicted_within}
-use Rattle.qpack_table.proofs.References.{tracked_less, tracked_put}
+use Rattle.qpack_table.proofs.References.{times_append, tracked_less, tracked_put, tracked_released}
+use Rattle.qpack_table.proofs.Marks.{used_counted}
 
 -- with fewer entries and another capacity
 pub kept_resized : (v w : Positions) (es now : List Entry) (size left capacity most : ℕ) (referenced : List ℕ)
@@ -51,3 +54,49 @@ kept_put v w es now size left capacity referenced unacknowledged least blocked e
           unflagged unused dropped total;
       least = kept.least;
     }
+
+-- the sizes are those of other entries with the same fields
+pub sized_as : (v : Positions) (es now : List Entry) (size capacity : ℕ) → entries_of now ≡ entries_of es
+    → IsSized v es size capacity → IsSized v now size capacity
+sized_as v es now size capacity same kept = record {
+  counted = omega (
+    arith,
+    kept.counted,
+    length-map now entry_of,
+    length-map es entry_of,
+    ap (λ (l : List table.Entry). length l) same,
+  );
+  sum = kept.sum ∙ ap (λ (l : List table.Entry). total_size (fields_in l)) (sym same);
+  fits = kept.fits;
+  small = kept.small;
+}
+
+-- with some blocks released
+pub kept_released : (v : Positions) (es now : List Entry) (size capacity : ℕ) (referenced : List ℕ)
+    (unacknowledged left : List table.UnacknowledgedBlock) (least : ℕ) (blocked gone : List ℕ) (dropped : ℕ)
+    → IsKept v es size capacity referenced unacknowledged least blocked → dropped ≡ v.dropped
+    → entries_of now ≡ entries_of es → flags_of now ≡ flags_of es
+    → ((rest : List ℕ) → AreUsed dropped es (gone ++ rest) → AreUsed dropped now rest)
+    → ((a : ℕ) → times a (references_in unacknowledged) ≡ times a gone + times a (references_in left))
+    → AllByRecursion (λ b. NoneTwice b.entries) left
+    → IsKept v now size capacity referenced left least blocked
+kept_released v es now size capacity referenced unacknowledged left least blocked gone dropped kept is live flags
+    lowered parted once = record {
+      sized = sized_as v es now size capacity live kept.sized;
+      tracked = tracked_released v es now referenced unacknowledged left gone kept.tracked flags
+          (subst (λ (d : ℕ). (rest : List ℕ) → AreUsed d es (gone ++ rest) → AreUsed d now rest) is lowered) parted once;
+      least = kept.least;
+    }
+
+-- what some blocks reference is counted
+pub counted_released : (v : Positions) (es : List Entry) (referenced : List ℕ)
+    (unacknowledged left : List table.UnacknowledgedBlock) (gone : List ℕ)
+    → IsTracked v es referenced unacknowledged
+    → ((a : ℕ) → times a (references_in unacknowledged) ≡ times a gone + times a (references_in left))
+    → AreCounted v.dropped es gone
+counted_released v es referenced unacknowledged left gone kept parted =
+    used_counted v.dropped es gone (referenced ++ references_in unacknowledged) (λ a. omega (
+      arith,
+      parted a,
+      times_append a referenced (references_in unacknowledged),
+    )) kept.used

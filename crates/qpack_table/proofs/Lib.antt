@@ -1,7 +1,10 @@
 pub mod Entries
 pub mod References
 pub mod Evictions
-pub mod Kept
 pub mod EvictableEntries
+pub mod Marks
+pub mod Kept
+pub mod Tracking
 pub mod Lookups
 pub mod Changes
+pub mod Released

@@ -1,14 +1,14 @@
 -- The references to entries, and what each entry knows of them.
 use Rattle.std.proofs.Common.{◌≡◌, ℕ, zero, suc, ◌+◌, ◌<◌, ◌≤◌, Bool, true, false, ◌||◌, List, [], ◌∷◌, ◌++◌}
-use Rattle.std.proofs.Common.{length, drop, Some, refl, sym, ap, ◌∙◌, arith, inl, inr}
+use Rattle.std.proofs.Common.{length, map, drop, Some, refl, sym, ap, ◌∙◌, arith, inl, inr}
 use Rattle.std.specs.Prelude.{slice_get, nat_lt, nat_eq, if◌then◌else◌}
-use Rattle.std.specs.List.{list_any}
+use Rattle.std.specs.List.{list_any, AllByRecursion}
 use Rattle.std.proofs.lemmas.Bool.{cases_lt, lt-ltb}
 use Rattle.qpack_spec.proofs.Lists.{get_drop, get_append_within}
 use Rattle.qpack_spec.specs.Table as table
 use Rattle.qpack_spec.specs.Table.{has_number}
 use Rattle.qpack_table.specs.Positions.{Positions}
-use Rattle.qpack_table.specs.Tables.{times, references_in, IsTracked}
+use Rattle.qpack_table.specs.Tables.{times, references_in, flags_of, NoneTwice, AreUsed, AreFlagged, IsTracked}
 use Rattle.qpack_table.specs.declared.dynamic.entry.Entry.{Entry}
 
 -- ---- how often a number is among some
@@ -55,6 +55,26 @@ named_if_used referenced unacknowledged a =
     ap (λ (r : Bool). has_number a referenced || r) (any_block a unacknowledged)
     ∙ sym (has_append a referenced (references_in unacknowledged))
     ∙ is_among a (referenced ++ references_in unacknowledged)
+
+-- the old element at a position, by what stays the same
+pub same_map : {X Y : Type 0} (f : X → Y) (xs ys : List X) (i : ℕ) (x : X) → map f xs ≡ map f ys
+    → slice_get xs i ≡ Some x → (y : X) × (slice_get ys i ≡ Some y) × (f y ≡ f x)
+same_map f [] ys i x same at = absurd cc
+same_map f (z ∷ zs) [] i x same at = absurd cc
+same_map f (z ∷ zs) (y ∷ ys) zero x same at =
+    let is : z ≡ x = cc in let here : f z ≡ f y = cc in (y, refl, sym here ∙ ap f is)
+same_map f (z ∷ zs) (y ∷ ys) (suc i) x same at =
+    let rest : map f zs ≡ map f ys = cc in same_map f zs ys i x rest at
+
+pub used_as : (dropped : ℕ) (es : List Entry) (references others : List ℕ)
+    → ((a : ℕ) → times a references ≡ times a others) → AreUsed dropped es references → AreUsed dropped es others
+used_as dropped es references others h used = λ position e at. used position e at ∙ h (dropped + position + 1)
+
+-- the flags are those of other entries that have the same
+pub flagged_as : (dropped : ℕ) (es now : List Entry) (referenced : List ℕ) → flags_of now ≡ flags_of es
+    → AreFlagged dropped es referenced → AreFlagged dropped now referenced
+flagged_as dropped es now referenced same h = λ position e at.
+    let old = same_map (λ (x : Entry). x.referenced) now es position e same at in sym old.2 ∙ h position old.0 old.1
 
 -- ---- entries that go and come
 
@@ -135,3 +155,33 @@ tracked_put v w es now e referenced unacknowledged kept counted items unflagged 
 
     new : (position : ℕ) → position ≡ length es → v.total < w.dropped + position + 1
     new position place = omega (arith, counted, dropped, place)
+
+-- ---- blocks that are released
+
+-- what a table keeps of its references, where some are given up
+pub tracked_released : (v : Positions) (es now : List Entry) (referenced : List ℕ)
+    (unacknowledged left : List table.UnacknowledgedBlock) (gone : List ℕ)
+    → IsTracked v es referenced unacknowledged → flags_of now ≡ flags_of es
+    → ((rest : List ℕ) → AreUsed v.dropped es (gone ++ rest) → AreUsed v.dropped now rest)
+    → ((a : ℕ) → times a (references_in unacknowledged) ≡ times a gone + times a (references_in left))
+    → AllByRecursion (λ b. NoneTwice b.entries) left → IsTracked v now referenced left
+tracked_released v es now referenced unacknowledged left gone kept flags lowered parted once = record {
+  flagged = flagged_as v.dropped es now referenced flags kept.flagged;
+  used = lowered (referenced ++ references_in left) (used_as v.dropped es (referenced ++ references_in unacknowledged)
+      (gone ++ (referenced ++ references_in left)) (λ a. omega (
+        arith,
+        parted a,
+        times_append a referenced (references_in unacknowledged),
+        times_append a referenced (references_in left),
+        times_append a gone (referenced ++ references_in left),
+      )) kept.used);
+  once = kept.once;
+  each_once = once;
+  behind = λ absolute above. omega (
+    arith,
+    kept.behind absolute above,
+    parted absolute,
+    times_append absolute referenced (references_in unacknowledged),
+    times_append absolute referenced (references_in left),
+  );
+}

@@ -1,6 +1,6 @@
 -- The dynamic table as the code holds it.
 use Rattle.std.specs.Prelude.{◌≡◌, ℕ, ◌+◌, ◌≤◌, ◌<◌, ◌^◌, ⊤, Bool, IsTrue, nat_eq, if◌then◌else◌}
-use Rattle.std.specs.Prelude.{List, [], ◌∷◌, ◌++◌, map, length}
+use Rattle.std.specs.Prelude.{List, [], ◌∷◌, ◌++◌, map, filter, length}
 use Rattle.std.specs.Prelude.{Option, Some, None, IfSome, slice_get, Result, Ok, Err}
 use Rattle.std.specs.List.{AllByRecursion}
 use Rattle.std.specs.Borrow.{Bor}
@@ -10,12 +10,13 @@ use Rattle.qpack_base.specs.declared.field.HeaderField.{HeaderField}
 use Rattle.qpack_spec.specs.Field.{Field, total_size}
 use Rattle.qpack_spec.specs.Table as table
 use Rattle.qpack_spec.specs.Table.{has_number, fields_in, is_evictable}
-use Rattle.qpack_spec.specs.Window.{TableRefusal, DoesNotFit, AboveMaximum}
+use Rattle.qpack_spec.specs.Window.{TableRefusal, DoesNotFit, AboveMaximum, UnknownStream}
 use Rattle.qpack_spec.specs.Reading.{Fault, BelowWindow, AboveWindow, BehindBase}
 use Rattle.qpack_table.specs.Positions.{Positions}
 use Rattle.qpack_table.specs.declared.dynamic.Error.{Error}
 use Rattle.qpack_table.specs.declared.dynamic.Error.TheVariants.{BadRelativeIndex, BadPostbaseIndex, BadIndex}
 use Rattle.qpack_table.specs.declared.dynamic.Error.TheVariants.{MaxTableSizeReached, MaximumTableSizeTooLarge, Memory}
+use Rattle.qpack_table.specs.declared.dynamic.Error.TheVariants.{UnknownStreamId}
 use Rattle.qpack_table.specs.declared.dynamic.entry.Entry.{Entry}
 use Rattle.qpack_table.specs.declared.dynamic.entry.UnacknowledgedBlock.{UnacknowledgedBlock}
 
@@ -58,6 +59,18 @@ AreFlagged dropped live referenced =
     (position : ℕ) (e : Entry) → slice_get live position ≡ Some e
     → e.referenced ≡ has_number (dropped + position + 1) referenced
 
+-- the references that the entries count, and those of the block in progress that they know
+abbrev pub uses_of : List Entry → List ℕ
+uses_of es = map (λ e. e.uses) es
+
+abbrev pub flags_of : List Entry → List Bool
+flags_of es = map (λ e. e.referenced) es
+
+-- each live entry counts these references, or more
+abbrev pub AreCounted : ℕ → List Entry → List ℕ → Type 0
+AreCounted dropped live references =
+    (position : ℕ) (e : Entry) → slice_get live position ≡ Some e → times (dropped + position + 1) references ≤ e.uses
+
 -- what the table keeps of its references: each entry says whether the block in progress references it, and counts its
 -- uses by that block and the unacknowledged ones; a block references an entry once, and none that was never inserted
 pub record IsTracked (positions : Positions) (live : List Entry) (referenced : List ℕ)
@@ -88,6 +101,16 @@ pub record IsKept (positions : Positions) (live : List Entry) (size capacity : �
   pub tracked : IsTracked positions live referenced unacknowledged
   pub least : IsLeast least_blocked blocked
 
+-- a stream's oldest block is taken out: what the blocks reference is what it references and what the others do
+pub record IsTaken (stream : ℕ) (block : table.UnacknowledgedBlock) (old new : List table.UnacknowledgedBlock) : Type 0
+  where
+    pub left : table.without_oldest stream old ≡ Some new
+    pub references : (a : ℕ) → times a (references_in old) ≡ times a block.entries + times a (references_in new)
+
+-- the blocks of a stream
+abbrev pub of_stream : ℕ → List table.UnacknowledgedBlock → List table.UnacknowledgedBlock
+of_stream stream bs = filter (λ b. nat_eq b.stream stream) bs
+
 -- the answer is whether the live entry at a position is evictable
 abbrev pub IsEvictableAt : table.Table → ℕ → Bool → Type 0
 IsEvictableAt t position answer =
@@ -102,10 +125,11 @@ lookup_fault_of (BadPostbaseIndex index) = Some (BehindBase index)
 lookup_fault_of (BadIndex position) = Some (AboveWindow position)
 lookup_fault_of e = None
 
--- the refusal of a change that an error stands for (sections 3.2.2 and 3.2.3)
+-- the refusal of a change that an error stands for (sections 3.2.2, 3.2.3 and 4.4.1)
 abbrev pub refusal_of : Error → Option TableRefusal
 refusal_of MaxTableSizeReached = Some DoesNotFit
 refusal_of MaximumTableSizeTooLarge = Some AboveMaximum
+refusal_of (UnknownStreamId stream) = Some (UnknownStream stream)
 refusal_of e = None
 
 -- a field that was looked for, or the refusal of the index

@@ -12,6 +12,7 @@ use thiserror::Error as ThisError;
 
 mod entry;
 mod table;
+mod tracking;
 
 pub use crate::dynamic::table::{DynamicTable, DynamicTableDecoder};
 

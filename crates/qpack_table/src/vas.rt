@@ -176,6 +176,13 @@ impl VirtualAddressSpace {
         self.inserted
     }
 
+    /// How many entries were dropped.
+    pub(crate) fn total_dropped(&self) -> usize
+        ensures { result ≡ self.now.dropped }
+    {
+        self.dropped
+    }
+
     /// The position of an absolute index, from 0 at the oldest live entry. Of dropped entries there is
     /// none.
     fn position(&self, absolute: AbsoluteIndex) -> Option<usize>

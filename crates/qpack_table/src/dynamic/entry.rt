@@ -1,10 +1,10 @@
 //! The live entries of a table, and the blocks that reference them.
 
-ghost use Rattle.std.specs.Prelude.{◌≡◌, ◌+◌, ◌^◌, ◌<◌, ◌≤◌, length, drop};
+ghost use Rattle.std.specs.Prelude.{◌≡◌, ℕ, ◌+◌, ◌^◌, ◌<◌, ◌≤◌, List, [], ◌++◌, length, drop, IfSome, IfNone};
 ghost use Rattle.std.specs.VecDeque.{deque_capacity};
 ghost use Rattle.qpack_spec.specs.Field.{total_size};
 ghost use Rattle.qpack_spec.specs.Table.{fields_in};
-ghost use Rattle.qpack_table.specs.Tables.{entries_of};
+ghost use Rattle.qpack_table.specs.Tables.{entries_of, uses_of, flags_of, AreFlagged, AreUsed, AreCounted};
 
 use crate::vas::VirtualAddressSpace;
 use qpack_base::field::HeaderField;
@@ -28,6 +28,52 @@ pub(super) struct UnacknowledgedBlock {
     pub(super) stream_id: u64,
     /// The absolute indexes that its lines reference.
     pub(super) entries: Vec<usize>,
+}
+
+/// The position of the live entry with an absolute index.
+fn position_of(entries: &VecDeque<Entry>, dropped: usize, absolute: usize) -> Option<usize>
+    ensures found { IfSome result (λ position.
+        (absolute ≡ dropped + position + 1) × (position < length entries.now.items)) }
+    ensures none { IfNone result
+        ((position : ℕ) → position < length entries.now.items → absolute ≡ dropped + position + 1 → ⊥) }
+{
+    let position = absolute.checked_sub(dropped)?.checked_sub(1)?;
+    if position < entries.len() {
+        Some(position)
+    } else {
+        None
+    }
+}
+
+/// No live entry is one that the block in progress references any more, of which these are all.
+pub(super) fn clear_references(entries: &mut VecDeque<Entry>, dropped: usize, references: &[usize])
+    ensures live { entries_of entries.new.items ≡ entries_of entries.old.items }
+    ensures uses { uses_of entries.new.items ≡ uses_of entries.old.items }
+    ensures cleared { AreFlagged dropped entries.old.items references.now
+        → AreFlagged dropped entries.new.items [] }
+{
+    for absolute in references {
+        if let Some(position) = position_of(entries, dropped, *absolute) {
+            entries[position].referenced = false;
+        }
+    }
+}
+
+/// A block is given up that references these entries: each of the live ones has one use less.
+pub(super) fn lower_uses(entries: &mut VecDeque<Entry>, dropped: usize, references: &[usize])
+    requires { AreCounted dropped entries.old.items references.now }
+    ensures live { entries_of entries.new.items ≡ entries_of entries.old.items }
+    ensures flags { flags_of entries.new.items ≡ flags_of entries.old.items }
+    ensures counted { (rest : List ℕ) → AreCounted dropped entries.old.items (references.now ++ rest)
+        → AreCounted dropped entries.new.items rest }
+    ensures lowered { (rest : List ℕ) → AreUsed dropped entries.old.items (references.now ++ rest)
+        → AreUsed dropped entries.new.items rest }
+{
+    for absolute in references {
+        if let Some(position) = position_of(entries, dropped, *absolute) {
+            entries[position].uses -= 1;
+        }
+    }
 }
 
 /// The oldest entries go; the sum of their sizes is answered.

@@ -9,11 +9,11 @@ ghost use Rattle.qpack_spec.specs.Table.{empty_table, insert_count, window, fiel
 ghost use Rattle.qpack_spec.specs.Table.{with_entry};
 ghost use Rattle.qpack_spec.specs.Table.{put, with_capacity};
 ghost use Rattle.qpack_spec.specs.Reading.{relative_field, post_base_field};
-ghost use Rattle.qpack_spec.specs.Window.{eviction_count, relative_entry, greatest_capacity};
+ghost use Rattle.qpack_spec.specs.Window.{eviction_count, relative_entry, greatest_capacity, maximum_capacity};
 ghost use Rattle.qpack_table.specs.Positions.{positions_of};
 ghost use Rattle.qpack_table.specs.Tables.{IsEvictableAt, LooksUp, IsInserted, entries_of, Changes, ChangesWithMemory};
 ghost use Rattle.qpack_table.specs.declared.dynamic.Error.TheVariants.{BadRelativeIndex, BadIndex};
-ghost use Rattle.qpack_table.specs.declared.dynamic.Error.TheVariants.{MaxBlockedStreamsTooLarge};
+ghost use Rattle.qpack_table.specs.declared.dynamic.Error.TheVariants.{MaxBlockedStreamsTooLarge, MaximumTableSizeTooLarge};
 
 use crate::dynamic::Error;
 use crate::dynamic::entry::{Entry, UnacknowledgedBlock, drop_oldest};
@@ -285,6 +285,29 @@ impl DynamicTable {
             None => GREATEST_CAPACITY,
             Some(most) => most.min(GREATEST_CAPACITY),
         }
+    }
+
+    /// The maximum capacity in bytes: what was agreed, and the present capacity until something is (RFC 9204, section
+    /// 3.2.3).
+    pub fn agreed_max(&self) -> usize
+        ensures { result ≡ maximum_capacity self.now.agreed_max self.now.capacity }
+    {
+        self.agreed_max.unwrap_or(self.max_mem_size)
+    }
+
+    /// Agrees on a maximum capacity in bytes, before anything is inserted; a capacity above it is not set any more
+    /// (RFC 9204, section 3.2.3). It is refused from 2^30 on, and takes no memory. Refused, nothing changes.
+    pub fn set_agreed_max(&mut self, max: usize) -> Result<(), Error>
+        requires empty { insert_count self.old ≡ 0 }
+        requires most { self.old.capacity ≤ max }
+        ensures ok { OnOk result ((max < 2 ^ 30) × (self.new ≡ record self.old { agreed_max = Some max })) }
+        ensures err { IfErr result (λ e. (e ≡ MaximumTableSizeTooLarge) × (2 ^ 30 ≤ max) × (self.new ≡ self.old)) }
+    {
+        if max > GREATEST_CAPACITY {
+            return Err(Error::MaximumTableSizeTooLarge);
+        }
+        self.agreed_max = Some(max);
+        Ok(())
     }
 
     /// Sets the capacity in bytes: what doesn't fit goes, the oldest first (RFC 9204, section 3.2.3). It is

@@ -1,0 +1,7 @@
+use Rattle.std.proofs.Common.{drop}
+use Rattle.qpack_table.proofs.Marks.{Lowered}
+use Rattle.qpack_table.proofs.dynamic.entry.lower_uses.Given as goal
+
+abbrev pub invariant-loop-absolute : goal.invariant-loop-absolute
+invariant-loop-absolute l =
+    Lowered l.dropped l.initial.entries.items l.entries.items (drop l.absolute-index l.references) l.references
