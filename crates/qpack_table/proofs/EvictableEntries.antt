@@ -132,3 +132,10 @@ sent_received known_received_count dropped position absolute sent e h =
 pub not_sent : (known_received_count a : ℕ) (sent : Bool) → sent ≡ false
     → not sent ≡ not (sent && nat_lt known_received_count a)
 not_sent known_received_count a sent e = rw e refl
+
+-- one entry, read twice
+pub read_twice : {X : Type 0} (xs : List X) (position : ℕ) (x y : X) → position < length xs → x ≡ get_or xs position x
+    → y ≡ get_or xs position y → x ≡ y
+read_twice xs position x y within a b =
+    let first = item_there xs position x within a in
+    let second = item_there xs position y within b in cc

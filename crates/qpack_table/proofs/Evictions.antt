@@ -10,7 +10,7 @@ use Rattle.qpack_spec.specs.Table as table
 use Rattle.qpack_spec.specs.Window.{eviction_count}
 use Rattle.qpack_spec.proofs.Sizes.{total_first, total_last}
 use Rattle.qpack_spec.proofs.Windows.{eviction_count_fits, eviction_count_least, eviction_count_bound}
-use Rattle.qpack_spec.proofs.Windows.{eviction_count_push}
+use Rattle.qpack_spec.proofs.Windows.{eviction_count_push, size_least}
 use Rattle.qpack_table.specs.Positions.{Positions}
 use Rattle.qpack_table.specs.Tables.{entry_of, entries_of, IsSized}
 use Rattle.qpack_table.specs.declared.dynamic.entry.Entry.{Entry}
@@ -267,3 +267,21 @@ resized_within es most k evicted = omega (
   eviction_count_bound most (fields_in (entries_of es)),
   fields-length es,
 )
+
+fields_few : (fs : List Field) → length fs ≤ total_size fs
+fields_few [] = omega arith
+fields_few (f ∷ fs) = omega (arith, fields_few fs, total_first f fs, size_least f)
+
+-- a table's entries are fewer than its bytes
+pub few_entries : (v : Positions) (es : List Entry) (size capacity : ℕ) → IsSized v es size capacity
+    → length (fields_in (entries_of es)) < 2 ^ 30
+few_entries v es size capacity kept = omega (
+  arith,
+  kept.sum,
+  kept.fits,
+  kept.small,
+  fields_few (fields_in (entries_of es)),
+)
+
+pub few_live : (v : Positions) (es : List Entry) (size capacity : ℕ) → IsSized v es size capacity → length es < 2 ^ 30
+few_live v es size capacity kept = omega (arith, few_entries v es size capacity kept, fields-length es)

@@ -5,6 +5,10 @@ pub mod EvictableEntries
 pub mod Marks
 pub mod Kept
 pub mod Tracking
+pub mod InProgress
+pub mod Newest
 pub mod Lookups
 pub mod Changes
 pub mod Released
+pub mod Sent
+pub mod Insertions

@@ -1,5 +1,5 @@
-//! The dynamic table (RFC 9204, section 3.2): its errors, and the table itself. An encoder's handle, which
-//! names entries and tracks them, is not there yet.
+//! The dynamic table (RFC 9204, section 3.2): its errors, the table itself, and an encoder's handle, which references its
+//! entries.
 
 ghost use Rattle.std.specs.Prelude.{◌≡◌};
 ghost use Rattle.qpack_table.specs.Errors.{table_error_of_index};
@@ -10,10 +10,17 @@ use qpack_base::coding::NoMemory;
 use std::alloc::{AllocError, AllocFailed};
 use thiserror::Error as ThisError;
 
+mod block;
+mod encoder;
 mod entry;
+mod lookups;
+mod newest;
 mod table;
 mod tracking;
 
+pub use crate::dynamic::encoder::{
+    DynamicInsertionResult, DynamicLookupResult, DynamicTableEncoder,
+};
 pub use crate::dynamic::table::{DynamicTable, DynamicTableDecoder};
 
 /// Why the dynamic table did not do what it was asked for.

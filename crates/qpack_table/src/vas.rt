@@ -178,7 +178,8 @@ impl VirtualAddressSpace {
 
     /// How many entries were dropped.
     pub(crate) fn total_dropped(&self) -> usize
-        ensures { result ≡ self.now.dropped }
+        ensures exact { result ≡ self.now.dropped }
+        ensures most { result ≤ 2 ^ 62 }
     {
         self.dropped
     }

@@ -6,7 +6,7 @@ ghost use Rattle.std.specs.VecDeque.{deque_capacity};
 ghost use Rattle.qpack_base.specs.HeaderFields.{field_of};
 ghost use Rattle.qpack_spec.specs.Field.{Field, field_size, total_size};
 ghost use Rattle.qpack_spec.specs.Table.{empty_table, insert_count, window, fields_in, can_evict, eviction_count_for};
-ghost use Rattle.qpack_spec.specs.Table.{with_entry};
+ghost use Rattle.qpack_spec.specs.Table.{with_entry, with_reference, sent_entry};
 ghost use Rattle.qpack_spec.specs.Table.{put, with_capacity};
 ghost use Rattle.qpack_spec.specs.Reading.{relative_field, post_base_field};
 ghost use Rattle.qpack_spec.specs.Window.{eviction_count, relative_entry, greatest_capacity, maximum_capacity};
@@ -30,7 +30,7 @@ const GREATEST_CAPACITY: usize = (1 << 30) - 1;
 const TOO_MANY_BLOCKED: usize = 65_535;
 
 /// The number of insertions at which no more are made.
-const MOST_INSERTIONS: usize = 1 << 62;
+pub(super) const MOST_INSERTIONS: usize = 1 << 62;
 
 /// The dynamic table of one end.
 #[derive(Debug, Drop)]
@@ -179,7 +179,7 @@ impl DynamicTable {
     }
 
     /// The least number of oldest entries whose removal lets the rest fit so many bytes.
-    fn eviction_count(&self, room: usize) -> usize
+    pub(super) fn eviction_count(&self, room: usize) -> usize
         ensures { result ≡ eviction_count room (fields_in self.now.live) }
     {
         let mut rest = self.mem_size;
@@ -192,7 +192,7 @@ impl DynamicTable {
     }
 
     /// How many of the oldest entries go before a field of so many bytes stands (RFC 9204, section 3.2.2).
-    fn evicted_for(&self, size: usize) -> usize
+    pub(super) fn evicted_for(&self, size: usize) -> usize
         requires fits { size ≤ self.now.capacity }
         ensures exact { (field : Field) → field_size field ≡ size → result ≡ eviction_count_for self.now field }
         ensures within { result ≤ length self.now.live }
@@ -215,7 +215,7 @@ impl DynamicTable {
     }
 
     /// Whether so many of the oldest entries may go.
-    fn can_evict(&self, evicted: usize) -> bool
+    pub(super) fn can_evict(&self, evicted: usize) -> bool
         requires { evicted ≤ length self.now.live }
         ensures { result ≡ can_evict self.now evicted }
     {
@@ -246,6 +246,36 @@ impl DynamicTable {
             referenced: false,
             uses: 0,
         });
+        Ok(())
+    }
+
+    /// Inserts a field that an encoder sends, and the block in progress references it. Refused, which is for memory
+    /// alone, nothing changes.
+    pub(super) fn insert_sent(
+        &mut self,
+        field: HeaderField,
+        evicted: usize,
+    ) -> Result<(), AllocError>
+        requires few { insert_count self.old < 2 ^ 62 }
+        requires fits { field_size (field_of field) ≤ self.old.capacity }
+        requires evicted { evicted ≡ eviction_count_for self.old (field_of field) }
+        ensures ok { OnOk result (self.new
+            ≡ with_reference (with_entry self.old (sent_entry (field_of field))) (insert_count self.old + 1)) }
+        ensures err { OnErr result (self.new ≡ self.old) }
+    {
+        self.entries.reserve(1)?;
+        self.referenced.reserve(1)?;
+        let freed = drop_oldest(&mut self.entries, &mut self.vas, evicted);
+        let size = field.mem_size();
+        self.mem_size = self.mem_size - freed + size;
+        let absolute = self.vas.add();
+        self.entries.push_back_reserved(Entry {
+            field,
+            sent: true,
+            referenced: true,
+            uses: 1,
+        });
+        self.referenced.push_reserved(absolute);
         Ok(())
     }
 

@@ -13,12 +13,12 @@ returns-in_default c = (
 )
 
 pub lower_uses-requires : goal.lower_uses-requires
-lower_uses-requires c = rw c.total_dropped.ensures (counted_released c.self.inside.vas _ _ _
+lower_uses-requires c = rw c.total_dropped.ensures.exact (counted_released c.self.inside.vas _ _ _
     (blocks_of c.take_oldest.new.blocks.items) _ c.self.invariant.tracked
     (taken_parted c.args.stream_id (block_of c.in-Some.block) _ _ _ c.in-Some.ensures.taken c.deref.ensures.value))
 
 pub invariant_of-self-2 : goal.invariant_of-self-2
-invariant_of-self-2 c = kept_released c.self.inside.vas _ _ _ _ _ _ _ _ _ _ _ c.self.invariant c.total_dropped.ensures
+invariant_of-self-2 c = kept_released c.self.inside.vas _ _ _ _ _ _ _ _ _ _ _ c.self.invariant c.total_dropped.ensures.exact
     c.lower_uses.ensures.live c.lower_uses.ensures.flags c.lower_uses.ensures.lowered
     (taken_parted c.args.stream_id (block_of c.in-Some.block) _ _ _ c.in-Some.ensures.taken c.deref.ensures.value)
     (every_left_of (λ (b : table.UnacknowledgedBlock). NoneTwice b.entries) c.args.stream_id _ _

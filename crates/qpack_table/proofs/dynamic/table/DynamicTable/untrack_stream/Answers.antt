@@ -8,13 +8,13 @@ use Rattle.qpack_table.proofs.Released.{cancelled}
 use Rattle.qpack_table.proofs.dynamic.table.DynamicTable.untrack_stream.Goals as goal
 
 pub release_stream-requires : goal.release_stream-requires
-release_stream-requires c = rw c.total_dropped-dropped.ensures (counted_released c.self.inside.vas _ _ _
+release_stream-requires c = rw c.total_dropped-dropped.ensures.exact (counted_released c.self.inside.vas _ _ _
     (blocks_of (filter (λ b. not (nat_eq b.stream_id c.args.stream_id)) c.self.inside.unacknowledged.items)) _
     c.self.invariant.tracked (stream_parted c.args.stream_id c.self.inside.unacknowledged.items _ refl))
 
 pub invariant_of-self : goal.invariant_of-self
 invariant_of-self c = kept_released c.self.inside.vas _ _ _ _ _ _ _ _ _ _ _ c.self.invariant
-    c.total_dropped-dropped.ensures
+    c.total_dropped-dropped.ensures.exact
     c.release_stream.ensures.live c.release_stream.ensures.flags c.release_stream.ensures.lowered
     (stream_parted c.args.stream_id c.self.inside.unacknowledged.items _ c.drop_stream.ensures)
     (rw (stream_left c.args.stream_id c.self.inside.unacknowledged.items _ c.drop_stream.ensures)

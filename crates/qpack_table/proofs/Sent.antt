@@ -1,0 +1,122 @@
+-- An entry that is sent, and referenced by the block in progress.
+use Rattle.std.proofs.Common.{◌≡◌, ℕ, ◌+◌, ◌^◌, ◌<◌, ◌≤◌, Bool, true, false, List, [], ◌∷◌, ◌++◌}
+use Rattle.std.proofs.Common.{length, drop, refl, sym, ap, ◌∙◌, arith}
+use Rattle.std.specs.Prelude.{slice_set, nat_le}
+use Rattle.std.proofs.lemmas.Bool.{lt-ltb, le-ltb, lt-leb, le-leb}
+use Rattle.std.proofs.lemmas.List.{length-drop}
+use Rattle.qpack_base.specs.HeaderFields.{field_of}
+use Rattle.qpack_base.specs.declared.field.HeaderField.{HeaderField}
+use Rattle.qpack_spec.specs.Field.{Field, field_size, total_size}
+use Rattle.qpack_spec.specs.Table as table
+use Rattle.qpack_spec.specs.Table.{Table, fields_in, insert_count, has_number, sent_entry, with_entry, with_reference}
+use Rattle.qpack_spec.specs.Table.{eviction_count_for, can_evict, has_room, below_limit, may_reference}
+use Rattle.qpack_spec.specs.Table.{without_references}
+use Rattle.qpack_spec.specs.Window.{eviction_count}
+use Rattle.qpack_spec.proofs.Lists.{get_append_end}
+use Rattle.qpack_table.specs.Positions.{Positions}
+use Rattle.qpack_table.specs.Tables.{entries_of, references_in, IsKept, IsTracked}
+use Rattle.qpack_table.specs.declared.dynamic.entry.Entry.{Entry}
+use Rattle.qpack_table.proofs.Changes.{entered}
+use Rattle.qpack_table.proofs.Evictions.{evicted_within, joined_entries}
+use Rattle.qpack_table.proofs.References.{times_append, not_among}
+use Rattle.qpack_table.proofs.Kept.{kept_put, sized_as}
+use Rattle.qpack_table.proofs.InProgress.{tracked_referenced, with_new}
+
+set_last : {X : Type 0} (xs : List X) (x y : X) → slice_set (xs ++ x ∷ []) (length xs) y ≡ xs ++ y ∷ []
+set_last [] x y = refl
+set_last (z ∷ zs) x y = ap (λ l. z ∷ l) (set_last zs x y)
+
+-- an entry that is sent and referenced, and as if it were neither referenced nor used yet
+abbrev pub sent_now : HeaderField → Entry
+sent_now f = record { field = f; sent = true; referenced = true; uses = 1 }
+
+abbrev sent_before : HeaderField → Entry
+sent_before f = record { field = f; sent = true; referenced = false; uses = 0 }
+
+pub kept_sent : (v w : Positions) (es now : List Entry) (size left capacity : ℕ) (referenced more : List ℕ)
+    (unacknowledged : List table.UnacknowledgedBlock) (least : ℕ) (blocked : List ℕ) (f : HeaderField) (k n : ℕ)
+    → IsKept v es size capacity referenced unacknowledged least blocked
+    → field_size (field_of f) ≤ capacity
+    → k ≡ eviction_count capacity (fields_in (entries_of es) ++ field_of f ∷ [])
+    → now ≡ drop k es ++ sent_now f ∷ []
+    → left ≡ total_size (drop k (fields_in (entries_of es))) + field_size (field_of f)
+    → w.dropped ≡ v.dropped + k → w.total ≡ v.total + 1 → n ≡ w.total → more ≡ referenced ++ n ∷ []
+    → IsKept w now left capacity more unacknowledged least blocked
+kept_sent v w es now size left capacity referenced more unacknowledged least blocked f k n kept room evicted items sum
+    dropped total new last =
+    let mid : List Entry = drop k es ++ sent_before f ∷ [] in
+    let few : k ≤ length es = evicted_within es (field_of f) capacity k room evicted in
+    let put = kept_put v w es mid size left capacity referenced unacknowledged least blocked (sent_before f) k kept room
+    evicted refl sum refl refl dropped total in
+    let set : now ≡ slice_set mid (length (drop k es)) (sent_now f) =
+    items ∙ sym (set_last (drop k es) (sent_before f) (sent_now f)) in
+    let same : entries_of now ≡ entries_of mid =
+    ap (λ (l : List Entry). entries_of l) items ∙ joined_entries (drop k es) (sent_now f)
+    ∙ sym (joined_entries (drop k es) (sent_before f)) in
+    record {
+      sized = sized_as w mid now left capacity same put.sized;
+      tracked = tracked_referenced w mid now referenced more unacknowledged n (length (drop k es)) (sent_before f)
+          (sent_now f) put.tracked
+          (omega (arith, new, total, dropped, kept.sized.counted, few, length-drop k es)) (omega (arith, new))
+          (get_append_end (drop k es) (sent_before f)) refl refl set last;
+      least = put.least;
+    }
+
+-- a number that is to come is not referenced yet
+pub not_referenced : (v : Positions) (es : List Entry) (referenced : List ℕ)
+    (unacknowledged : List table.UnacknowledgedBlock) (a : ℕ) → IsTracked v es referenced unacknowledged → v.total < a
+    → has_number a referenced ≡ false
+not_referenced v es referenced unacknowledged a kept above = not_among a referenced (omega (
+  arith,
+  kept.behind a above,
+  times_append a referenced (references_in unacknowledged),
+))
+
+referenced_behind : (t : Table) (e : table.Entry) (a : ℕ) (more : List ℕ) → has_number a t.referenced ≡ false
+    → more ≡ t.referenced ++ a ∷ []
+    → record (with_entry t e) { referenced = more } ≡ with_reference (with_entry t e) a
+unfolding with_reference with_entry
+referenced_behind t e a more none is = rw (with_new a t.referenced none, is) refl
+
+pub entered_and_referenced : (t : Table) (f : Field) (dropped a : ℕ) (live : List table.Entry) (more : List ℕ)
+    → field_size f ≤ t.capacity → dropped ≡ t.dropped + eviction_count_for t f
+    → live ≡ drop (eviction_count_for t f) t.live ++ sent_entry f ∷ [] → a ≡ insert_count t + 1
+    → has_number a t.referenced ≡ false → more ≡ t.referenced ++ a ∷ []
+    → record t { dropped = dropped; live = live; referenced = more }
+    ≡ with_reference (with_entry t (sent_entry f)) (insert_count t + 1)
+entered_and_referenced t f dropped a live more fits d l new none is =
+    ap (λ (u : Table). record u { referenced = more }) (entered t (sent_entry f) dropped live fits d l)
+    ∙ referenced_behind t (sent_entry f) a more none is
+    ∙ ap (λ (n : ℕ). with_reference (with_entry t (sent_entry f)) n) new
+
+-- ---- whether an entry may be referenced, and whether there is room
+
+pub may_below : (t : Table) (a : ℕ) → below_limit t ≡ true → true ≡ may_reference t a
+unfolding may_reference
+may_below t a e = rw e refl
+
+pub may_received : (t : Table) (a known : ℕ) → below_limit t ≡ false → known ≡ t.known_received_count
+    → nat_le a known ≡ may_reference t a
+unfolding may_reference
+may_received t a known e is = rw (e, is) refl
+
+pub room_too_large : (t : Table) (f : Field) → t.capacity < field_size f → has_room t f ≡ false
+unfolding has_room
+room_too_large t f large = rw (lt-leb (field_size f) t.capacity large) refl
+
+pub room_too_late : (t : Table) (f : Field) → field_size f ≤ t.capacity → 2 ^ 62 ≤ insert_count t
+    → has_room t f ≡ false
+unfolding has_room
+room_too_late t f fits late =
+    rw (le-leb (field_size f) t.capacity fits, le-ltb (insert_count t) (2 ^ 62) late) refl
+
+pub room_by_entries : (t : Table) (f : Field) (evicted : ℕ) (b : Bool) → field_size f ≤ t.capacity
+    → insert_count t < 2 ^ 62 → evicted ≡ eviction_count_for t f → can_evict t evicted ≡ b → has_room t f ≡ b
+unfolding has_room
+room_by_entries t f evicted b fits few is e =
+    rw (le-leb (field_size f) t.capacity fits, lt-ltb (insert_count t) (2 ^ 62) few)
+    (ap (λ (n : ℕ). can_evict t n) (sym is) ∙ e)
+
+pub same_count : (t : Table) → insert_count (without_references t) ≡ insert_count t
+unfolding without_references
+same_count t = refl

@@ -1,0 +1,18 @@
+use Rattle.std.proofs.Common.{refl, sym, ◌∙◌, arith}
+use Rattle.qpack_table.proofs.Newest.{found_last, still_none, found_none}
+use Rattle.qpack_table.proofs.dynamic.newest.last_field.Goals as goal
+
+pub returns-then-is_equal : goal.returns-then-is_equal
+returns-then-is_equal c = sym (found_last _ _ _ _ c.index.result.now c.loop-position.invariant.within c.loop-position-test.true
+    refl c.index.ensures (sym c.is_equal.ensures ∙ c.if-is_equal.true) c.loop-position.invariant.none)
+
+pub loop-position-preserved : goal.loop-position-preserved
+loop-position-preserved c = record {
+  within = omega arith;
+  none = still_none _ _ _ _ c.index.result.now c.loop-position.invariant.within c.loop-position-test.true refl
+      c.index.ensures (sym c.is_equal.ensures ∙ c.if-is_equal.false) c.loop-position.invariant.none;
+}
+
+pub returns : goal.returns
+returns c = sym (found_none _ c.args.entries.now.items c.loop-position.position (omega arith)
+    c.loop-position.invariant.none)

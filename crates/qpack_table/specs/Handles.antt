@@ -1,0 +1,74 @@
+-- What the encoder's handle answers.
+use Rattle.std.specs.Prelude.{◌≡◌, ℕ, ◌<◌, ⊤, [], Result, Ok, Err, Option, Some, None}
+use Rattle.std.specs.Prelude.{if◌then◌else◌, nat_lt}
+use Rattle.qpack_spec.specs.Table as table
+use Rattle.qpack_spec.specs.Handle.{Lookup, AtStatic, AtRelative, AtPostBase, Found, Insertion, Insertable}
+use Rattle.qpack_spec.specs.Handle as handle
+use Rattle.qpack_table.specs.declared.dynamic.Error.{Error}
+use Rattle.qpack_table.specs.declared.dynamic.Error.TheVariants.{Memory}
+use Rattle.qpack_table.specs.declared.dynamic.encoder.DynamicLookupResult.{DynamicLookupResult}
+use Rattle.qpack_table.specs.declared.dynamic.encoder.DynamicLookupResult.TheVariants.{Static, Relative, PostBase}
+use Rattle.qpack_table.specs.declared.dynamic.encoder.DynamicLookupResult.TheVariants.{NotFound}
+use Rattle.qpack_table.specs.declared.dynamic.encoder.DynamicInsertionResult.{DynamicInsertionResult}
+use Rattle.qpack_table.specs.declared.dynamic.encoder.DynamicInsertionResult.TheVariants.{Inserted, Duplicated}
+use Rattle.qpack_table.specs.declared.dynamic.encoder.DynamicInsertionResult.TheVariants.{InsertedWithNameRef}
+use Rattle.qpack_table.specs.declared.dynamic.encoder.DynamicInsertionResult.TheVariants.{InsertedWithStaticNameRef}
+use Rattle.qpack_table.specs.declared.dynamic.encoder.DynamicInsertionResult.TheVariants.{NotInserted}
+
+-- where a field or its name was found
+abbrev pub lookup_of : DynamicLookupResult → Lookup
+lookup_of (Static index) = AtStatic index
+lookup_of (Relative index absolute) = AtRelative index absolute
+lookup_of (PostBase index absolute) = AtPostBase index absolute
+lookup_of NotFound = handle.NotFound
+
+-- how a field was inserted, or where its name was found instead
+abbrev pub insertion_of : DynamicInsertionResult → Insertion
+insertion_of (Inserted postbase absolute) = handle.Inserted postbase absolute
+insertion_of (Duplicated relative postbase absolute) = handle.Duplicated relative postbase absolute
+insertion_of (InsertedWithNameRef postbase relative absolute) = handle.InsertedWithName relative postbase absolute
+insertion_of (InsertedWithStaticNameRef postbase index absolute) =
+    handle.InsertedWithStaticName postbase index absolute
+insertion_of (NotInserted lookup) = handle.NotInserted (lookup_of lookup)
+
+-- an absolute index, unless the entry was dropped
+abbrev pub kept_index : Option ℕ → ℕ → Option ℕ
+kept_index None dropped = None
+kept_index (Some absolute) dropped = if nat_lt dropped absolute then Some absolute else None
+
+-- an entry is handed out, which the block in progress then references
+abbrev pub HandsOut : Lookup → Type 0
+HandsOut (AtStatic index) = ⊥
+HandsOut (AtRelative index absolute) = ⊤
+HandsOut (AtPostBase index absolute) = ⊤
+HandsOut handle.NotFound = ⊥
+
+-- a field is inserted, or an entry of its name is handed out
+abbrev pub InsertsOrHandsOut : Insertion → Type 0
+InsertsOrHandsOut (handle.NotInserted lookup) = HandsOut lookup
+InsertsOrHandsOut insertion = ⊤
+
+-- what was looked for is found as the definition finds it, and referenced; memory is refused only where an entry is
+-- handed out, and then nothing changes
+abbrev pub Finds : Result DynamicLookupResult Error → Found → table.Table → table.Table → Type 0
+Finds (Ok lookup) found old new = let answer : Found = record { lookup = lookup_of lookup; table = new } in
+    found ≡ answer
+Finds (Err e) found old new = (e ≡ Memory) × HandsOut found.lookup × (new ≡ old)
+
+-- a field is inserted as the definition inserts it, or its name is found; memory is refused only where something is
+-- inserted or handed out, and then nothing changes
+abbrev pub Inserts : Result DynamicInsertionResult Error → Insertable → table.Table → table.Table → Type 0
+Inserts (Ok insertion) inserted old new =
+    let answer : Insertable = record { insertion = insertion_of insertion; table = new } in inserted ≡ answer
+Inserts (Err e) inserted old new = (e ≡ Memory) × InsertsOrHandsOut inserted.insertion × (new ≡ old)
+
+-- a block that references an entry is opened, and counted as blocked if it is
+abbrev pub OpensOrBlocks : table.Table → ℕ → Type 0
+OpensOrBlocks t required = t.referenced ≡ [] → t.known_received_count < required
+
+-- the block in progress ends as the definition ends it; memory is refused only where it is opened or blocked, and then
+-- what it references is given back
+abbrev pub Commits : Result ⊤ Error → ℕ → ℕ → table.Table → table.Table → Type 0
+Commits (Ok done) stream required old new = new ≡ table.commit old stream required
+Commits (Err e) stream required old new =
+    (e ≡ Memory) × OpensOrBlocks old required × (new ≡ table.without_references old)

@@ -1,0 +1,134 @@
+//! The block in progress: what it references, and its end (RFC 9204, section 2.1).
+
+ghost use Rattle.std.specs.Prelude.{◌≡◌, ℕ, ◌+◌, ◌<◌, ◌≤◌, List, [], ◌∷◌, ◌++◌, true, length, if◌then◌else◌};
+ghost use Rattle.std.specs.Prelude.{OnOk, OnErr, vec_len, vec_capacity, min};
+ghost use Rattle.qpack_spec.specs.Table.{without_references, with_reference, with_unacknowledged, insert_count};
+ghost use Rattle.qpack_table.specs.Tables.{AreFlagged, entries_of, uses_of, blocks_of};
+ghost use Rattle.qpack_spec.specs.Table.{commit};
+ghost use Rattle.qpack_table.specs.Handles.{Commits, OpensOrBlocks};
+ghost use Rattle.qpack_table.specs.Tables.{IsLeast};
+
+use crate::dynamic::Error;
+use crate::dynamic::entry::{Entry, UnacknowledgedBlock, clear_references, lower_uses};
+use crate::dynamic::table::DynamicTable;
+use std::alloc::AllocError;
+use std::collections::VecDeque;
+use std::mem;
+
+impl DynamicTable {
+    /// The block in progress references a live entry too. Refused, which is for memory alone, nothing changes.
+    pub(super) fn reference(&mut self, absolute: usize) -> Result<(), AllocError>
+        requires live { self.old.dropped < absolute }
+        requires inserted { absolute ≤ insert_count self.old }
+        ensures ok { OnOk result (self.new ≡ with_reference self.old absolute) }
+        ensures err { OnErr result (self.new ≡ self.old) }
+    {
+        let position = absolute - self.vas.total_dropped() - 1;
+        if self.entries[position].referenced {
+            return Ok(());
+        }
+        self.referenced.push(absolute)?;
+        let entry = &mut self.entries[position];
+        entry.referenced = true;
+        entry.uses += 1;
+        Ok(())
+    }
+
+    /// The block in progress is given up: what it references is referenced no more. It takes no memory.
+    pub(super) fn release_references(&mut self)
+        ensures { self.new ≡ without_references self.old }
+    {
+        let dropped = self.vas.total_dropped();
+        clear_references(&mut self.entries, dropped, &self.referenced);
+        lower_uses(&mut self.entries, dropped, &self.referenced);
+        self.referenced.clear();
+    }
+
+    /// The block in progress ends, with this required insert count. Refused, which is for memory alone, it is given up.
+    pub(super) fn commit_block(&mut self, stream_id: u64, required: usize) -> Result<(), Error>
+        ensures { Commits result stream_id required self.old self.new }
+    {
+        match self.end_block(stream_id, required) {
+            Ok(()) => Ok(()),
+            Err(_) => {
+                self.release_references();
+                Err(Error::Memory)
+            }
+        }
+    }
+
+    /// The same; refused, nothing changes.
+    fn end_block(&mut self, stream_id: u64, required: usize) -> Result<(), AllocError>
+        ensures ok { OnOk result (self.new ≡ commit self.old stream_id required) }
+        ensures err { OnErr result (self.new ≡ self.old) }
+        ensures asks { OnErr result (OpensOrBlocks self.old required) }
+    {
+        let is_blocked = required > self.known_received_count;
+        reserve_if(&mut self.blocked, is_blocked)?;
+        let dropped = self.vas.total_dropped();
+        open_block(
+            &mut self.entries,
+            dropped,
+            &mut self.referenced,
+            &mut self.unacknowledged,
+            stream_id,
+        )?;
+        push_if(&mut self.blocked, is_blocked, required);
+        self.least_blocked = self.least_blocked.min(required);
+        Ok(())
+    }
+}
+
+/// The block in progress waits for an acknowledgment, if it references an entry. Refused, nothing changes.
+fn open_block(
+    entries: &mut VecDeque<Entry>,
+    dropped: usize,
+    referenced: &mut Vec<usize>,
+    unacknowledged: &mut VecDeque<UnacknowledgedBlock>,
+    stream_id: u64,
+) -> Result<(), AllocError>
+    ensures live { entries_of entries.new.items ≡ entries_of entries.old.items }
+    ensures uses { uses_of entries.new.items ≡ uses_of entries.old.items }
+    ensures cleared { OnOk result (AreFlagged dropped entries.old.items referenced.old.items
+        → AreFlagged dropped entries.new.items []) }
+    ensures none { OnOk result (referenced.new.items ≡ []) }
+    ensures opened { OnOk result (blocks_of unacknowledged.new.items
+        ≡ with_unacknowledged (blocks_of unacknowledged.old.items) stream_id referenced.old.items) }
+    ensures err { OnErr result ((entries.new ≡ entries.old) × (referenced.new.items ≡ referenced.old.items)
+        × (unacknowledged.new.items ≡ unacknowledged.old.items)) }
+    ensures asks { OnErr result (referenced.old.items ≡ [] → ⊥) }
+{
+    if referenced.is_empty() {
+        return Ok(());
+    }
+    unacknowledged.reserve(1)?;
+    let references = mem::try_take(referenced)?;
+    clear_references(entries, dropped, &references);
+    unacknowledged.push_back_reserved(UnacknowledgedBlock {
+        stream_id,
+        entries: references,
+    });
+    Ok(())
+}
+
+/// Makes room for one number more, if it is needed.
+fn reserve_if(numbers: &mut Vec<usize>, is_needed: bool) -> Result<(), AllocError>
+    ensures items { numbers.new.items ≡ numbers.old.items }
+    ensures room { OnOk result (is_needed ≡ true → vec_len numbers.new < vec_capacity numbers.new) }
+    ensures asks { OnErr result (is_needed ≡ true) }
+{
+    if is_needed {
+        numbers.reserve(1)?;
+    }
+    Ok(())
+}
+
+/// Puts a number behind the others, if it is needed.
+fn push_if(numbers: &mut Vec<usize>, is_needed: bool, number: usize)
+    requires { is_needed ≡ true → vec_len numbers.old < vec_capacity numbers.old }
+    ensures { numbers.new.items ≡ (if is_needed then numbers.old.items ++ number ∷ [] else numbers.old.items) }
+{
+    if is_needed {
+        numbers.push_reserved(number);
+    }
+}

@@ -1,0 +1,163 @@
+//! An encoder's handle on the table: a block in progress, which references entries (RFC 9204, section 2.1).
+
+ghost use Rattle.std.specs.Prelude.{◌≡◌, IsOk};
+ghost use Rattle.qpack_base.specs.HeaderFields.{field_of};
+ghost use Rattle.qpack_spec.specs.Handle.{find_field, insert_field};
+ghost use Rattle.qpack_spec.specs.Table.{insert_count, without_references};
+ghost use Rattle.qpack_spec.specs.Window.{maximum_capacity};
+ghost use Rattle.qpack_table.specs.Handles.{Finds, Inserts, Commits};
+
+use crate::dynamic::Error;
+use crate::dynamic::table::DynamicTable;
+use qpack_base::field::HeaderField;
+
+/// Where a field or its name was found. Absolute indexes begin at 1.
+#[derive(Debug, PartialEq, Clone, Copy)]
+pub enum DynamicLookupResult {
+    /// A static field with the name.
+    Static(usize),
+    /// An entry that stood at the block's start, by its relative index under the base (RFC 9204, section 3.2.5).
+    Relative { index: usize, absolute: usize },
+    /// A later entry, by its post-base index (RFC 9204, section 3.2.6).
+    PostBase { index: usize, absolute: usize },
+    /// None that may be referenced.
+    NotFound,
+}
+
+/// How a field was inserted, which tells its instruction, or where its name was found instead. The entry is named by its
+/// post-base index, and by its absolute one; the original or the name by its relative index as an instruction counts it,
+/// 0 the newest entry before the insertion.
+#[derive(Debug, PartialEq, Clone, Copy)]
+pub enum DynamicInsertionResult {
+    /// With a name of its own (RFC 9204, section 4.3.3).
+    Inserted {
+        postbase: usize,
+        absolute: usize,
+    },
+    /// As a duplicate (RFC 9204, section 4.3.4).
+    Duplicated {
+        relative: usize,
+        postbase: usize,
+        absolute: usize,
+    },
+    /// With the name of an entry (RFC 9204, section 4.3.2).
+    InsertedWithNameRef {
+        postbase: usize,
+        relative: usize,
+        absolute: usize,
+    },
+    /// With the name of a static field (RFC 9204, section 4.3.2).
+    InsertedWithStaticNameRef {
+        postbase: usize,
+        index: usize,
+        absolute: usize,
+    },
+    /// Not inserted: one more block may not be blocked, or there is no room.
+    NotInserted(DynamicLookupResult),
+}
+
+impl DynamicTable {
+    /// Begins a block of a stream, which references nothing yet. Its base is the insert count.
+    pub fn encoder(&mut self, stream_id: u64) -> DynamicTableEncoder<'_>
+        ensures same_table { result.table.ghost_name ≡ self.entry.ghost_name }
+        ensures table { result.table.now ≡ without_references self.old }
+        ensures stream { result.stream_id ≡ stream_id }
+        ensures base { result.base ≡ insert_count self.old }
+    {
+        self.release_references();
+        let base = self.total_inserted();
+        DynamicTableEncoder {
+            table: self,
+            stream_id,
+            base,
+        }
+    }
+}
+
+/// A block in progress. It must be spent, by `commit` or `release`; what it references stands in the table.
+pub struct DynamicTableEncoder<'a> {
+    table: &'a mut DynamicTable,
+    stream_id: u64,
+    base: usize,
+}
+
+impl DynamicTableEncoder<'_> {
+    /// The capacity of the table in bytes.
+    pub fn max_size(&self) -> usize
+        ensures { result ≡ self.now.table.now.capacity }
+    {
+        self.table.max_mem_size()
+    }
+
+    /// The base of the block, which is the insert count at its start.
+    pub fn base(&self) -> usize
+        ensures { result ≡ self.now.base }
+    {
+        self.base
+    }
+
+    /// How many insertions were ever made.
+    pub fn total_inserted(&self) -> usize
+        ensures { result ≡ insert_count self.now.table.now }
+    {
+        self.table.total_inserted()
+    }
+
+    /// The maximum capacity in bytes (RFC 9204, section 3.2.3).
+    pub fn agreed_max(&self) -> usize
+        ensures { result ≡ maximum_capacity self.now.table.now.agreed_max self.now.table.now.capacity }
+    {
+        self.table.agreed_max()
+    }
+
+    /// Looks for the newest entry that is this field. If it may be referenced, it is, and it is answered. Refused, which
+    /// is for memory alone, nothing changes.
+    pub fn find(&mut self, field: &HeaderField) -> Result<DynamicLookupResult, Error>
+        ensures same_table { self.new.table.ghost_name ≡ self.old.table.ghost_name }
+        ensures stream { self.new.stream_id ≡ self.old.stream_id }
+        ensures base { self.new.base ≡ self.old.base }
+        ensures found { Finds result (find_field self.old.table.now self.old.base (field_of field.now))
+            self.old.table.now self.new.table.now }
+    {
+        self.table.find_field(self.base, field)
+    }
+
+    /// Inserts a field, if one more block may be blocked and there is room: what has to go is evicted, and the new entry
+    /// is referenced. Else its name is looked for, in the static table and then among the entries, of which the newest
+    /// is referenced, if it may be. Refused, which is for memory alone, nothing changes.
+    pub fn insert(&mut self, field: &HeaderField) -> Result<DynamicInsertionResult, Error>
+        ensures same_table { self.new.table.ghost_name ≡ self.old.table.ghost_name }
+        ensures stream { self.new.stream_id ≡ self.old.stream_id }
+        ensures base { self.new.base ≡ self.old.base }
+        ensures inserted { Inserts result (insert_field self.old.table.now self.old.base (field_of field.now))
+            self.old.table.now self.new.table.now }
+    {
+        self.table.insert_field(self.base, field)
+    }
+
+    /// Ends the block, whose required insert count is this. It waits for an acknowledgment if it references an entry,
+    /// and counts as blocked while its required insert count is above the known received count. Refused, which is for
+    /// memory alone, what it references is given back.
+    pub fn commit(self, largest_ref: usize) -> Result<(), Error>
+        ensures { Commits result self.entry.stream_id largest_ref self.entry.table.now self.exit.0.now }
+    {
+        let DynamicTableEncoder {
+            table,
+            stream_id,
+            base: _,
+        } = self;
+        table.commit_block(stream_id, largest_ref)
+    }
+
+    /// Gives the block up: what it references is referenced no more.
+    pub fn release(self)
+        ensures { self.exit.0.now ≡ without_references self.entry.table.now }
+    {
+        let DynamicTableEncoder {
+            table,
+            stream_id: _,
+            base: _,
+        } = self;
+        table.release_references();
+    }
+}

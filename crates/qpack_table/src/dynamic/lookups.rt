@@ -1,0 +1,237 @@
+//! What an encoder's handle asks of the table for a field: to find an entry, or to insert one (RFC 9204, section 2.1).
+
+ghost use Rattle.std.specs.Prelude.{◌≡◌, ℕ, ◌+◌, ◌-◌, ◌^◌, ◌<◌, ◌≤◌, true, false, IfOk, IfErr, IfSome, IfNone, OnOk};
+ghost use Rattle.std.specs.Prelude.{◌&&◌, drop, length};
+ghost use Rattle.qpack_base.specs.HeaderFields.{field_of};
+ghost use Rattle.qpack_spec.specs.Handle.{found_entry, find_field, found_name, insert_field, answer_of};
+ghost use Rattle.qpack_spec.specs.Rule.{instruction_for, entries_left};
+ghost use Rattle.qpack_spec.specs.StaticTable.{static_name_index};
+ghost use Rattle.qpack_spec.specs.Table.{insert_count, has_room, eviction_count_for, below_limit, may_reference};
+ghost use Rattle.qpack_spec.specs.Table.{with_reference, with_entry, sent_entry, fields_in};
+ghost use Rattle.qpack_table.specs.declared.dynamic.Error.TheVariants.{Memory as NoRoom};
+ghost use Rattle.qpack_spec.specs.Handle as handle;
+ghost use Rattle.qpack_table.specs.Handles.{Finds, Inserts, lookup_of, insertion_of, kept_index};
+
+use crate::dynamic::Error;
+use crate::dynamic::encoder::{DynamicInsertionResult, DynamicLookupResult};
+use crate::dynamic::table::{DynamicTable, MOST_INSERTIONS};
+use qpack_base::coding::NoMemory;
+use qpack_base::field::HeaderField;
+use qpack_base::static_::StaticTable;
+
+impl DynamicTable {
+    /// Finds the newest entry that is this field, and references it, if it may be referenced.
+    pub(super) fn find_field(
+        &mut self,
+        base: usize,
+        field: &HeaderField,
+    ) -> Result<DynamicLookupResult, Error>
+        ensures { Finds result (find_field self.old base (field_of field.now)) self.old self.new }
+    {
+        let newest = self.newest_field(field);
+        self.find_entry(base, newest)
+    }
+
+    /// Finds a name: that of a static field, or of the newest entry that has it, which is referenced if it may be.
+    fn find_name(&mut self, base: usize, field: &HeaderField) -> Result<DynamicLookupResult, Error>
+        ensures { Finds result (found_name self.old base (field_of field.now)
+            (static_name_index (field_of field.now).name)) self.old self.new }
+    {
+        if let Some(index) = StaticTable::find_name(field.name.as_slice()) {
+            return Ok(DynamicLookupResult::Static(index));
+        }
+        let newest = self.newest_of_name(field.name.as_slice());
+        self.find_entry(base, newest)
+    }
+
+    /// Finds a live entry, and references it, if there is one and it may be referenced.
+    fn find_entry(
+        &mut self,
+        base: usize,
+        newest: Option<usize>,
+    ) -> Result<DynamicLookupResult, Error>
+        requires live { IfSome newest (λ absolute. self.old.dropped < absolute) }
+        requires inserted { IfSome newest (λ absolute. absolute ≤ insert_count self.old) }
+        ensures { Finds result (found_entry self.old base newest) self.old self.new }
+    {
+        let Some(absolute) = newest else {
+            return Ok(DynamicLookupResult::NotFound);
+        };
+        if !self.may_reference(absolute) {
+            return Ok(DynamicLookupResult::NotFound);
+        }
+        self.reference(absolute)?;
+        Ok(lookup_under(base, absolute))
+    }
+
+    /// Whether one more block may be blocked (RFC 9204, section 2.1.2).
+    fn is_below_limit(&self) -> bool
+        ensures { result ≡ below_limit self.now }
+    {
+        self.blocked.len() < self.max_blocked
+    }
+
+    /// Whether an entry may be referenced: one more block may be blocked, or it is known to be received (RFC 9204,
+    /// section 2.1.2).
+    fn may_reference(&self, absolute: usize) -> bool
+        ensures { result ≡ may_reference self.now absolute }
+    {
+        self.is_below_limit() || absolute <= self.known_received_count
+    }
+
+    /// How many of the oldest entries go before a field stands, if there is room for it: it fits, insertions are left,
+    /// and what has to go may go (RFC 9204, section 2.1.1).
+    fn room_for(&self, field: &HeaderField) -> Option<usize>
+        ensures room { IfSome result (λ evicted. has_room self.now (field_of field.now) ≡ true) }
+        ensures evicted { IfSome result (λ evicted. evicted ≡ eviction_count_for self.now (field_of field.now)) }
+        ensures none { IfNone result (has_room self.now (field_of field.now) ≡ false) }
+    {
+        let size = field.mem_size();
+        if size > self.max_mem_size() {
+            return None;
+        }
+        if self.total_inserted() >= MOST_INSERTIONS {
+            return None;
+        }
+        let evicted = self.evicted_for(size);
+        if self.can_evict(evicted) {
+            Some(evicted)
+        } else {
+            None
+        }
+    }
+
+    /// How many of the oldest entries go before a field is inserted, if one more block may be blocked and there is room.
+    fn insertable(&self, field: &HeaderField) -> Option<usize>
+        ensures inserted { IfSome result
+            (λ evicted. (below_limit self.now && has_room self.now (field_of field.now)) ≡ true) }
+        ensures room { IfSome result (λ evicted. has_room self.now (field_of field.now) ≡ true) }
+        ensures evicted { IfSome result (λ evicted. evicted ≡ eviction_count_for self.now (field_of field.now)) }
+        ensures none { IfNone result ((below_limit self.now && has_room self.now (field_of field.now)) ≡ false) }
+    {
+        if !self.is_below_limit() {
+            return None;
+        }
+        self.room_for(field)
+    }
+
+    /// Inserts a field, and references it, if one more block may be blocked and there is room. Else its name is found.
+    pub(super) fn insert_field(
+        &mut self,
+        base: usize,
+        field: &HeaderField,
+    ) -> Result<DynamicInsertionResult, Error>
+        ensures { Inserts result (insert_field self.old base (field_of field.now)) self.old self.new }
+    {
+        if let Some(evicted) = self.insertable(field) {
+            return self.insert_in_room(base, field, evicted);
+        }
+        let lookup = self.find_name(base, field)?;
+        Ok(DynamicInsertionResult::NotInserted(lookup))
+    }
+
+    /// Inserts a field for which there is room, and references it. The search for an equal entry or one of its name comes
+    /// first, before what has to go is evicted. Refused, which is for memory alone, nothing changes.
+    fn insert_in_room(
+        &mut self,
+        base: usize,
+        field: &HeaderField,
+        evicted: usize,
+    ) -> Result<DynamicInsertionResult, Error>
+        requires room { has_room self.old (field_of field.now) ≡ true }
+        requires evicted { evicted ≡ eviction_count_for self.old (field_of field.now) }
+        ensures ok { IfOk result (λ r. insertion_of r ≡ answer_of
+            (instruction_for (field_of field.now) (entries_left self.old (field_of field.now)))
+            (insert_count self.old - base) (insert_count self.old + 1)) }
+        ensures new { OnOk result (self.new ≡ with_reference (with_entry self.old (sent_entry (field_of field.now)))
+            (insert_count self.old + 1)) }
+        ensures err { IfErr result (λ e. (e ≡ NoRoom) × (self.new ≡ self.old)) }
+    {
+        let insertion = self.insertion_of(base, field, evicted);
+        let copy = stored(field)?;
+        self.insert_sent(copy, evicted)?;
+        Ok(insertion)
+    }
+
+    /// How a field is inserted once so many of the oldest entries are evicted: by the newest equal entry that stays, by
+    /// a static field's name, by the newest entry of its name that stays, or with a name of its own.
+    fn insertion_of(
+        &self,
+        base: usize,
+        field: &HeaderField,
+        evicted: usize,
+    ) -> DynamicInsertionResult
+        requires few { insert_count self.now < 2 ^ 62 }
+        requires evicted { evicted ≤ length self.now.live }
+        ensures { insertion_of result ≡ answer_of
+            (instruction_for (field_of field.now) (drop evicted (fields_in self.now.live)))
+            (insert_count self.now - base) (insert_count self.now + 1) }
+    {
+        let total = self.total_inserted();
+        let (postbase, absolute) = (total.saturating_sub(base), total + 1);
+        let dropped = self.vas.total_dropped() + evicted;
+        if let Some(newest) = above(self.newest_field(field), dropped) {
+            return DynamicInsertionResult::Duplicated {
+                relative: total - newest,
+                postbase,
+                absolute,
+            };
+        }
+        if let Some(index) = StaticTable::find_name(field.name.as_slice()) {
+            return DynamicInsertionResult::InsertedWithStaticNameRef {
+                postbase,
+                index,
+                absolute,
+            };
+        }
+        match above(self.newest_of_name(field.name.as_slice()), dropped) {
+            Some(newest) => DynamicInsertionResult::InsertedWithNameRef {
+                postbase,
+                relative: total - newest,
+                absolute,
+            },
+            None => DynamicInsertionResult::Inserted { postbase, absolute },
+        }
+    }
+}
+
+/// The field as it is stored: with the name of the static field lent, if that has it.
+fn stored(field: &HeaderField) -> Result<HeaderField, NoMemory>
+    ensures { IfOk result (λ copy. field_of copy ≡ field_of field.now) }
+{
+    let known = StaticTable::find_name(field.name.as_slice()).and_then(|index| StaticTable::get(
+        index,
+    ).ok());
+    match known {
+        Some(known) => Ok(HeaderField {
+            name: known.name,
+            value: field.value.clone()?,
+        }),
+        None => Ok(field.clone()?),
+    }
+}
+
+/// An absolute index, if it is that of an entry that was not dropped.
+fn above(newest: Option<usize>, dropped: usize) -> Option<usize>
+    ensures { result ≡ kept_index newest dropped }
+{
+    newest.filter(|absolute| *absolute > dropped)
+}
+
+/// An entry by its index before the base or behind it (RFC 9204, sections 3.2.5 and 3.2.6).
+fn lookup_under(base: usize, absolute: usize) -> DynamicLookupResult
+    requires { 0 < absolute }
+    ensures { lookup_of result ≡ handle.lookup_of base absolute }
+{
+    if absolute <= base {
+        DynamicLookupResult::Relative {
+            index: base - absolute,
+            absolute,
+        }
+    } else {
+        DynamicLookupResult::PostBase {
+            index: absolute - base - 1,
+            absolute,
+        }
+    }
+}
