@@ -1,5 +1,6 @@
 -- Which entries are evictable.
-use Rattle.std.proofs.Common.{◌≡◌, ℕ, zero, suc, ◌+◌, ◌<◌, ◌≤◌, Bool, true, false, ◌||◌, ◌&&◌, List, [], ◌∷◌, ◌++◌, length}
+use Rattle.std.proofs.Common.{◌≡◌, ℕ, zero, suc, ◌+◌, ◌<◌, ◌≤◌, Bool, true, false, ◌||◌, ◌&&◌, List, [], ◌∷◌, ◌++◌}
+use Rattle.std.proofs.Common.{length}
 use Rattle.std.proofs.Common.{take, drop, get_or, Some, refl, sym, ap, subst, ◌∙◌, arith, inl, inr}
 use Rattle.std.specs.Prelude.{not, slice_get, nat_lt, IfSome, if◌then◌else◌}
 use Rattle.std.specs.List.{list_any}
@@ -21,7 +22,8 @@ by_neither true y z e = absurd cc
 by_neither false true z e = absurd cc
 by_neither false false z e = refl
 
-pub evictable_used : (t : table.Table) (a n : ℕ) (sent : Bool) → n ≡ times a (t.referenced ++ references_in t.unacknowledged) → 0 < n
+pub evictable_used : (t : table.Table) (a n : ℕ) (sent : Bool) → n ≡ times a (t.referenced ++ references_in
+    t.unacknowledged) → 0 < n
     → is_evictable t a sent ≡ false
 unfolding is_evictable
 evictable_used t a n sent e h =
@@ -31,7 +33,8 @@ evictable_used t a n sent e h =
     (named_if_used t.referenced t.unacknowledged a
     ∙ lt-ltb 0 (times a (t.referenced ++ references_in t.unacknowledged)) (omega (arith, e, h))))
 
-pub evictable_unused : (t : table.Table) (a n : ℕ) (sent : Bool) → n ≡ times a (t.referenced ++ references_in t.unacknowledged) → n ≡ 0
+pub evictable_unused : (t : table.Table) (a n : ℕ) (sent : Bool) → n ≡ times a (t.referenced ++ references_in
+    t.unacknowledged) → n ≡ 0
     → is_evictable t a sent ≡ not (sent && nat_lt t.known_received_count a)
 unfolding is_evictable
 evictable_unused t a n sent e h =

@@ -6,7 +6,8 @@ use Rattle.std.specs.List.{AllByRecursion}
 use Rattle.std.proofs.lemmas.Bool.{cases_lt, lt-ltb}
 use Rattle.qpack_spec.proofs.Lists.{every_append, every_weaker}
 use Rattle.qpack_spec.specs.Table as table
-use Rattle.qpack_spec.specs.Table.{has_number, with_number, with_unacknowledged, without_references, with_reference, commit}
+use Rattle.qpack_spec.specs.Table.{has_number, with_number, with_unacknowledged, without_references, with_reference}
+use Rattle.qpack_spec.specs.Table.{commit}
 use Rattle.qpack_table.specs.Positions.{Positions}
 use Rattle.qpack_table.specs.Tables.{times, references_in, uses_of, flags_of, NoneTwice, AreUsed, AreFlagged}
 use Rattle.qpack_table.specs.Tables.{AreCounted, IsTracked, IsLeast, entry_of, entries_of}
@@ -39,7 +40,8 @@ pub tracked_given_up : (v : Positions) (es cleared now : List Entry) (referenced
     → (AreFlagged dropped es first → AreFlagged dropped cleared []) → flags_of now ≡ flags_of cleared
     → ((rest : List ℕ) → AreUsed dropped cleared (second ++ rest) → AreUsed dropped now rest)
     → IsTracked v now [] unacknowledged
-tracked_given_up v es cleared now referenced unacknowledged first second dropped kept at one two uses clear flags lower =
+tracked_given_up v es cleared now referenced unacknowledged first second dropped kept at one two uses clear flags
+    lower =
     record {
       flagged = flagged_as v.dropped cleared now [] flags
           (subst (λ (d : ℕ). AreFlagged d es referenced → AreFlagged d cleared []) at

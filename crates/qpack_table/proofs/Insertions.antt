@@ -11,7 +11,8 @@ use Rattle.qpack_spec.specs.Table.{Table, fields_in, insert_count, newest_index,
 use Rattle.qpack_spec.specs.Table.{eviction_count_for, with_reference, with_entry, sent_entry}
 use Rattle.qpack_spec.specs.Rule.{instruction_for, entries_left}
 use Rattle.qpack_spec.specs.Handle as handle
-use Rattle.qpack_spec.specs.Handle.{answer_of, find_field, found_entry, insert_field, found_name, found_instead, Insertion, Found}
+use Rattle.qpack_spec.specs.Handle.{answer_of, find_field, found_entry, insert_field, found_name, found_instead}
+use Rattle.qpack_spec.specs.Handle.{Insertion, Found}
 use Rattle.qpack_spec.specs.Instruction.{EncoderInstruction, InsertStaticName, InsertDynamicName, InsertLiteralName}
 use Rattle.qpack_spec.specs.Instruction.{Duplicate, SetCapacity}
 use Rattle.qpack_spec.proofs.Windows.{eviction_count_push}
@@ -88,7 +89,8 @@ pub room_few : (t : Table) (f : Field) → has_room t f ≡ true → insert_coun
 unfolding has_room
 room_few t f e = elim (cases_lt (insert_count t) (2 ^ 62)) [
   | inl lt ↦ lt
-  | inr le ↦ let no = rw (le-leb (field_size f) t.capacity (room_fits t f e), le-ltb (insert_count t) (2 ^ 62) le) at e in
+  | inr le ↦ let no = rw (le-leb (field_size f) t.capacity (room_fits t f e), le-ltb (insert_count t) (2 ^ 62) le)
+      at e in
       absurd cc
 ]
 

@@ -1,5 +1,6 @@
 -- What a table keeps, when entries go and come.
-use Rattle.std.proofs.Common.{◌≡◌, ℕ, ◌+◌, ◌-◌, ◌^◌, ◌<◌, ◌≤◌, false, List, [], ◌∷◌, ◌++◌, length, drop, refl, sym, ap, subst, ◌∙◌, arith}
+use Rattle.std.proofs.Common.{◌≡◌, ℕ, ◌+◌, ◌-◌, ◌^◌, ◌<◌, ◌≤◌, false, List, [], ◌∷◌, ◌++◌, length, drop, refl, sym}
+use Rattle.std.proofs.Common.{ap, subst, ◌∙◌, arith}
 use Rattle.std.proofs.lemmas.List.{length-drop, length-map}
 use Rattle.std.specs.List.{AllByRecursion}
 use Rattle.qpack_base.specs.HeaderFields.{field_of}
@@ -8,7 +9,8 @@ use Rattle.qpack_spec.specs.Table as table
 use Rattle.qpack_spec.specs.Table.{fields_in}
 use Rattle.qpack_spec.specs.Window.{eviction_count}
 use Rattle.qpack_table.specs.Positions.{Positions}
-use Rattle.qpack_table.specs.Tables.{entry_of, entries_of, flags_of, references_in, times, AreUsed, AreCounted, NoneTwice}
+use Rattle.qpack_table.specs.Tables.{entry_of, entries_of, flags_of, references_in, times, AreUsed, AreCounted}
+use Rattle.qpack_table.specs.Tables.{NoneTwice}
 use Rattle.qpack_table.specs.Tables.{IsKept, IsSized, IsTracked}
 use Rattle.qpack_table.specs.declared.dynamic.entry.Entry.{Entry}
 use Rattle.qpack_table.proofs.Evictions.{sized_inserted, sized_resized, evicted_within}
@@ -25,7 +27,8 @@ pub kept_resized : (v w : Positions) (es now : List Entry) (size left capacity m
     → IsKept w now left most referenced unacknowledged least blocked
 kept_resized v w es now size left capacity most referenced unacknowledged least blocked k freed kept evicted small items
     rest is dropped total = record {
-      sized = sized_resized v w es now size left capacity most k freed kept.sized evicted small items rest is dropped total;
+      sized = sized_resized v w es now size left capacity most k freed kept.sized evicted small items rest is
+          dropped total;
       tracked = tracked_less v w es now referenced unacknowledged k kept.tracked items dropped total;
       least = kept.least;
     }
@@ -84,7 +87,8 @@ kept_released v es now size capacity referenced unacknowledged left least blocke
     lowered parted once = record {
       sized = sized_as v es now size capacity live kept.sized;
       tracked = tracked_released v es now referenced unacknowledged left gone kept.tracked flags
-          (subst (λ (d : ℕ). (rest : List ℕ) → AreUsed d es (gone ++ rest) → AreUsed d now rest) is lowered) parted once;
+          (subst (λ (d : ℕ). (rest : List ℕ) → AreUsed d es (gone ++ rest) → AreUsed d now rest) is lowered) parted
+          once;
       least = kept.least;
     }
 

@@ -1,6 +1,7 @@
 -- The marks of entries: which ones the block in progress references, and how many blocks reference each.
 use Rattle.std.proofs.Common.{◌≡◌, ℕ, zero, suc, ◌+◌, ◌-◌, ◌<◌, ◌≤◌, Bool, true, false, List, [], ◌∷◌, ◌++◌}
-use Rattle.std.proofs.Common.{length, map, drop, Some, refl, sym, ap, subst, ◌∙◌, arith, rules, get_or, add-one, drop-cons, append-nil, append_assoc}
+use Rattle.std.proofs.Common.{length, map, drop, Some, refl, sym, ap, subst, ◌∙◌, arith, rules, get_or, add-one}
+use Rattle.std.proofs.Common.{drop-cons, append-nil, append_assoc}
 use Rattle.std.specs.Prelude.{slice_get, slice_set, nat_eq}
 use Rattle.std.proofs.lemmas.Bool.{ne_eqb}
 use Rattle.std.proofs.lemmas.List.{drop_all}
@@ -194,7 +195,8 @@ lowered_past dropped before now x left all k past = record {
   flags = k.flags;
   counts = λ rest h p e there.
       subst (λ (n : ℕ). n ≤ e.uses)
-      (other_times x (dropped + p + 1) (left ++ rest) (past p (there_within now p e there))) (k.counts rest h p e there);
+      (other_times x (dropped + p + 1) (left ++ rest) (past p (there_within now p e there))) (k.counts rest h p e
+      there);
   uses = λ rest h p e there.
       k.uses rest h p e there
       ∙ other_times x (dropped + p + 1) (left ++ rest) (past p (there_within now p e there));

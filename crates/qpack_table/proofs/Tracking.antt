@@ -1,6 +1,7 @@
 -- The blocks that are released, and those that are blocked no more.
 use Rattle.std.proofs.Common.{◌≡◌, ℕ, zero, suc, ◌+◌, ◌<◌, ◌≤◌, Bool, true, false, List, [], ◌∷◌, ◌++◌}
-use Rattle.std.proofs.Common.{length, take, drop, get_or, Option, Some, None, refl, sym, ap, subst, ◌∙◌, arith, inl, inr, min}
+use Rattle.std.proofs.Common.{length, take, drop, get_or, Option, Some, None, refl, sym, ap, subst, ◌∙◌, arith, inl}
+use Rattle.std.proofs.Common.{inr, min}
 use Rattle.std.proofs.Common.{add-one, drop-cons, rules}
 use Rattle.std.proofs.Math.Seq.{take-suc}
 use Rattle.std.specs.Prelude.{filter, not, nat_eq, nat_lt, position, IfSome, IfNone}
@@ -224,7 +225,8 @@ released_counted s bs i b references dropped before now all start k within at he
     let parted : left_of s bs i ≡ references ++ left_of s bs (i + 1) =
     left_here s bs i b within at (same_stream s b here) ∙ ap (λ (l : List ℕ). l ++ left_of s bs (i + 1)) (sym is) in
     counted_first dropped now references (left_of s bs (i + 1))
-    (subst (λ (l : List ℕ). AreCounted dropped now l) parted (counted_start dropped before now (left_of s bs i) all start k))
+    (subst (λ (l : List ℕ). AreCounted dropped now l) parted (counted_start dropped before now (left_of s bs i) all
+    start k))
 
 pub released_all : (s : ℕ) (bs : List UnacknowledgedBlock) (i : ℕ) (dropped : ℕ) (before now : List Entry)
     (all : List ℕ) → Lowered dropped before now (left_of s bs i) all → length bs ≤ i

@@ -1,5 +1,5 @@
-//! The dynamic table (RFC 9204, section 3.2): its errors, the table itself, and an encoder's handle, which references its
-//! entries.
+//! The dynamic table (RFC 9204, section 3.2): its errors, the table itself, and an encoder's handle, which references
+//! its entries.
 
 ghost use Rattle.std.specs.Prelude.{◌≡◌};
 ghost use Rattle.qpack_table.specs.Errors.{table_error_of_index};
@@ -26,8 +26,8 @@ pub use crate::dynamic::table::{DynamicTable, DynamicTableDecoder};
 /// Why the dynamic table did not do what it was asked for.
 #[derive(Debug, PartialEq, Drop, ThisError)]
 pub enum Error {
-    /// No live entry has this relative index: the one that it names is dropped, or before the first one,
-    /// or nothing is live (RFC 9204, section 3.2.5).
+    /// No live entry has this relative index: the one that it names is dropped, or before the first one, or nothing
+    /// is live (RFC 9204, section 3.2.5).
     #[error("no entry at relative index {0}")]
     BadRelativeIndex(usize),
     /// No live entry has this post-base index (RFC 9204, section 3.2.6).
@@ -36,12 +36,12 @@ pub enum Error {
     /// No live entry has this position, from 0 at the oldest: a base past the total points behind the newest.
     #[error("no entry at position {0}")]
     BadIndex(usize),
-    /// A field is larger than a capacity above 0, or an entry that may not go yet stands against a
-    /// smaller capacity (RFC 9204, sections 2.1.1 and 3.2.2).
+    /// A field is larger than a capacity above 0, or an entry that may not go yet stands against a smaller capacity
+    /// (RFC 9204, sections 2.1.1 and 3.2.2).
     #[error("no room within the capacity")]
     MaxTableSizeReached,
-    /// A capacity is above the greatest that may be set: the maximum capacity, and never 2^30 bytes or more
-    /// (RFC 9204, section 3.2.3).
+    /// A capacity is above the greatest that may be set: the maximum capacity, and never 2^30 bytes or more (RFC
+    /// 9204, section 3.2.3).
     #[error("capacity too large")]
     MaximumTableSizeTooLarge,
     /// A limit of blocked streams is 65,535 or more (RFC 9204, section 2.1.2).

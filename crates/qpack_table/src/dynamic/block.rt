@@ -44,7 +44,8 @@ impl DynamicTable {
         self.referenced.clear();
     }
 
-    /// The block in progress ends, with this required insert count. Refused, which is for memory alone, it is given up.
+    /// The block in progress ends, with this required insert count. Refused, which is for memory alone, it is given
+    /// up.
     pub(super) fn commit_block(&mut self, stream_id: u64, required: usize) -> Result<(), Error>
         ensures { Commits result stream_id required self.old self.new }
     {

@@ -24,9 +24,9 @@ pub enum DynamicLookupResult {
     NotFound,
 }
 
-/// How a field was inserted, which tells its instruction, or where its name was found instead. The entry is named by its
-/// post-base index, and by its absolute one; the original or the name by its relative index as an instruction counts it,
-/// 0 the newest entry before the insertion.
+/// How a field was inserted, which tells its instruction, or where its name was found instead. The entry is named by
+/// its post-base index, and by its absolute one; the original or the name by its relative index as an instruction
+/// counts it, 0 the newest entry before the insertion.
 #[derive(Debug, PartialEq, Clone, Copy)]
 pub enum DynamicInsertionResult {
     /// With a name of its own (RFC 9204, section 4.3.3).
@@ -110,8 +110,8 @@ impl DynamicTableEncoder<'_> {
         self.table.agreed_max()
     }
 
-    /// Looks for the newest entry that is this field. If it may be referenced, it is, and it is answered. Refused, which
-    /// is for memory alone, nothing changes.
+    /// Looks for the newest entry that is this field. If it may be referenced, it is, and it is answered. Refused,
+    /// which is for memory alone, nothing changes.
     pub fn find(&mut self, field: &HeaderField) -> Result<DynamicLookupResult, Error>
         ensures same_table { self.new.table.ghost_name ≡ self.old.table.ghost_name }
         ensures stream { self.new.stream_id ≡ self.old.stream_id }
@@ -122,9 +122,9 @@ impl DynamicTableEncoder<'_> {
         self.table.find_field(self.base, field)
     }
 
-    /// Inserts a field, if one more block may be blocked and there is room: what has to go is evicted, and the new entry
-    /// is referenced. Else its name is looked for, in the static table and then among the entries, of which the newest
-    /// is referenced, if it may be. Refused, which is for memory alone, nothing changes.
+    /// Inserts a field, if one more block may be blocked and there is room: what has to go is evicted, and the new
+    /// entry is referenced. Else its name is looked for, in the static table and then among the entries, of which the
+    /// newest is referenced, if it may be. Refused, which is for memory alone, nothing changes.
     pub fn insert(&mut self, field: &HeaderField) -> Result<DynamicInsertionResult, Error>
         ensures same_table { self.new.table.ghost_name ≡ self.old.table.ghost_name }
         ensures stream { self.new.stream_id ≡ self.old.stream_id }

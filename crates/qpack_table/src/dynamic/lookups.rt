@@ -1,4 +1,5 @@
-//! What an encoder's handle asks of the table for a field: to find an entry, or to insert one (RFC 9204, section 2.1).
+//! What an encoder's handle asks of the table for a field: to find an entry, or to insert one (RFC 9204, section
+//! 2.1).
 
 ghost use Rattle.std.specs.Prelude.{◌≡◌, ℕ, ◌+◌, ◌-◌, ◌^◌, ◌<◌, ◌≤◌, true, false, IfOk, IfErr, IfSome, IfNone, OnOk};
 ghost use Rattle.std.specs.Prelude.{◌&&◌, drop, length};
@@ -79,8 +80,8 @@ impl DynamicTable {
         self.is_below_limit() || absolute <= self.known_received_count
     }
 
-    /// How many of the oldest entries go before a field stands, if there is room for it: it fits, insertions are left,
-    /// and what has to go may go (RFC 9204, section 2.1.1).
+    /// How many of the oldest entries go before a field stands, if there is room for it: it fits, insertions are
+    /// left, and what has to go may go (RFC 9204, section 2.1.1).
     fn room_for(&self, field: &HeaderField) -> Option<usize>
         ensures room { IfSome result (λ evicted. has_room self.now (field_of field.now) ≡ true) }
         ensures evicted { IfSome result (λ evicted. evicted ≡ eviction_count_for self.now (field_of field.now)) }
@@ -101,7 +102,8 @@ impl DynamicTable {
         }
     }
 
-    /// How many of the oldest entries go before a field is inserted, if one more block may be blocked and there is room.
+    /// How many of the oldest entries go before a field is inserted, if one more block may be blocked and there is
+    /// room.
     fn insertable(&self, field: &HeaderField) -> Option<usize>
         ensures inserted { IfSome result
             (λ evicted. (below_limit self.now && has_room self.now (field_of field.now)) ≡ true) }
@@ -115,7 +117,8 @@ impl DynamicTable {
         self.room_for(field)
     }
 
-    /// Inserts a field, and references it, if one more block may be blocked and there is room. Else its name is found.
+    /// Inserts a field, and references it, if one more block may be blocked and there is room. Else its name is
+    /// found.
     pub(super) fn insert_field(
         &mut self,
         base: usize,
@@ -130,8 +133,8 @@ impl DynamicTable {
         Ok(DynamicInsertionResult::NotInserted(lookup))
     }
 
-    /// Inserts a field for which there is room, and references it. The search for an equal entry or one of its name comes
-    /// first, before what has to go is evicted. Refused, which is for memory alone, nothing changes.
+    /// Inserts a field for which there is room, and references it. The search for an equal entry or one of its name
+    /// comes first, before what has to go is evicted. Refused, which is for memory alone, nothing changes.
     fn insert_in_room(
         &mut self,
         base: usize,
@@ -153,8 +156,8 @@ impl DynamicTable {
         Ok(insertion)
     }
 
-    /// How a field is inserted once so many of the oldest entries are evicted: by the newest equal entry that stays, by
-    /// a static field's name, by the newest entry of its name that stays, or with a name of its own.
+    /// How a field is inserted once so many of the oldest entries are evicted: by the newest equal entry that stays,
+    /// by a static field's name, by the newest entry of its name that stays, or with a name of its own.
     fn insertion_of(
         &self,
         base: usize,

@@ -13,7 +13,8 @@ ghost use Rattle.qpack_spec.specs.Window.{eviction_count, relative_entry, greate
 ghost use Rattle.qpack_table.specs.Positions.{positions_of};
 ghost use Rattle.qpack_table.specs.Tables.{IsEvictableAt, LooksUp, IsInserted, entries_of, Changes, ChangesWithMemory};
 ghost use Rattle.qpack_table.specs.declared.dynamic.Error.TheVariants.{BadRelativeIndex, BadIndex};
-ghost use Rattle.qpack_table.specs.declared.dynamic.Error.TheVariants.{MaxBlockedStreamsTooLarge, MaximumTableSizeTooLarge};
+ghost use Rattle.qpack_table.specs.declared.dynamic.Error.TheVariants.{MaxBlockedStreamsTooLarge};
+ghost use Rattle.qpack_table.specs.declared.dynamic.Error.TheVariants.{MaximumTableSizeTooLarge};
 
 use crate::dynamic::Error;
 use crate::dynamic::entry::{Entry, UnacknowledgedBlock, drop_oldest};

@@ -1,7 +1,8 @@
-//! What an encoder's table tracks: which blocks reference its entries until they are acknowledged, and which blocks may
-//! be blocked (RFC 9204, section 2.1).
+//! What an encoder's table tracks: which blocks reference its entries until they are acknowledged, and which blocks
+//! may be blocked (RFC 9204, section 2.1).
 
-ghost use Rattle.std.specs.Prelude.{◌≡◌, ℕ, ◌+◌, ◌<◌, ◌≤◌, List, [], ◌∷◌, ◌++◌, IsTrue, length, filter, nat_lt, nat_eq, not};
+ghost use Rattle.std.specs.Prelude.{◌≡◌, ℕ, ◌+◌, ◌<◌, ◌≤◌, List, [], ◌∷◌, ◌++◌, IsTrue, length, filter, nat_lt};
+ghost use Rattle.std.specs.Prelude.{nat_eq, not};
 ghost use Rattle.std.specs.Prelude.{Ok, Err, None, IfSome, OnOk, OnErr, IfNone, position};
 ghost use Rattle.qpack_spec.specs.Instruction.{Acknowledgment, Cancellation, Increment};
 ghost use Rattle.qpack_spec.specs.Table.{apply_decoder_instruction, without_oldest, without_references, with_reference};
@@ -16,8 +17,8 @@ use std::alloc::AllocError;
 use std::collections::VecDeque;
 
 impl DynamicTable {
-    /// An acknowledgment of a stream releases its oldest block that is not acknowledged yet. It is refused where there
-    /// is none, and takes no memory (RFC 9204, section 4.4.1).
+    /// An acknowledgment of a stream releases its oldest block that is not acknowledged yet. It is refused where
+    /// there is none, and takes no memory (RFC 9204, section 4.4.1).
     pub fn untrack_block(&mut self, stream_id: u64) -> Result<(), Error>
         ensures { Changes result (apply_decoder_instruction self.old (Acknowledgment stream_id)) self.old self.new }
     {

@@ -10,7 +10,8 @@ lower_uses-requires c = released_counted c.args.stream_id c.args.blocks.now.item
 
 pub loop-position-preserved : goal.loop-position-preserved
 loop-position-preserved c = elim c.if-block-stream_id.branch [
-  | then-block-stream_id w ↦ rw w.entries-is (released_more c.args.stream_id c.args.blocks.now.items c.loop-position.position
+  | then-block-stream_id w ↦ rw w.entries-is (released_more c.args.stream_id c.args.blocks.now.items
+      c.loop-position.position
       c.index-block.result.now _ _ _ _ _ _ c.loop-position.invariant (omega arith) c.index-block.ensures
       w.if-block-stream_id.true w.deref.ensures.value w.lower_uses.ensures.live
       w.lower_uses.ensures.flags w.lower_uses.ensures.counted w.lower_uses.ensures.lowered)

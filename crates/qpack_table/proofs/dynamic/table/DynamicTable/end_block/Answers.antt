@@ -6,7 +6,8 @@ use Rattle.qpack_table.proofs.dynamic.table.DynamicTable.end_block.Goals as goal
 
 pub invariant_of-self-2 : goal.invariant_of-self-2
 invariant_of-self-2 c = record {
-  sized = sized_as c.self.inside.vas c.self.inside.entries.items _ _ _ c.in_ok-open_block.ensures.live c.self.invariant.sized;
+  sized = sized_as c.self.inside.vas c.self.inside.entries.items _ _ _ c.in_ok-open_block.ensures.live
+      c.self.invariant.sized;
   tracked = tracked_opened c.self.inside.vas c.self.inside.entries.items _ c.self.inside.referenced.items _ _ _
       c.args.stream_id _ c.self.invariant.tracked c.total_dropped-dropped.ensures.exact c.in_ok-open_block.ensures.uses
       c.in_ok-open_block.ensures.cleared c.in_ok-open_block.ensures.none c.in_ok-open_block.ensures.opened;

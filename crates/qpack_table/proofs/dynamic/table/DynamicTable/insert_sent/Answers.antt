@@ -41,8 +41,10 @@ invariant_of-self-2 c =
     (drop c.args.evicted (fields_in (entries_of c.self.inside.entries.items)))
     ≡ total_size (fields_in (entries_of c.self.inside.entries.items)) =
     rw (← same) c.drop_oldest-freed.ensures.freed in
-    kept_sent c.self.inside.vas c.add-absolute.new.self c.self.inside.entries.items c.push_back_reserved.new.self.items _
-    _ c.self.inside.max_mem_size _ _ _ _ _ c.args.field c.args.evicted c.add-absolute.result c.self.invariant fits evicted
+    kept_sent c.self.inside.vas c.add-absolute.new.self c.self.inside.entries.items
+    c.push_back_reserved.new.self.items _
+    _ c.self.inside.max_mem_size _ _ _ _ _ c.args.field c.args.evicted c.add-absolute.result c.self.invariant fits
+    evicted
     (c.push_back_reserved.ensures.items ∙ ap (λ (l : List Entry). l ++ new ∷ []) (c.drop_oldest-freed.ensures.left
     ∙ ap (λ (l : List Entry). drop c.args.evicted l) same))
     (left_is _ _ _ _ _ _ c.self.invariant.sized.sum freed size)
@@ -61,7 +63,8 @@ invariant_of-self-2 c =
       c.add-absolute.ensures.index,
       ap (λ (p : Positions). p.total) c.add-absolute.ensures.added,
     ))
-    (c.push_reserved.ensures.items ∙ ap (λ (l : List ℕ). l ++ c.add-absolute.result ∷ []) c.in_ok-reserve-2.ensures.items)
+    (c.push_reserved.ensures.items ∙ ap (λ (l : List ℕ). l ++ c.add-absolute.result ∷ [])
+    c.in_ok-reserve-2.ensures.items)
 
 pub returns-clause-ok : goal.returns-clause-ok
 returns-clause-ok c =
@@ -72,7 +75,8 @@ returns-clause-ok c =
     c.requires.evicted ∙ ap (λ (t : Table). eviction_count_for t (field_of c.args.field)) (sym c.self.view_is) in
     let same = c.in_ok-reserve.ensures.items in
     let new : Entry = sent_now c.args.field in
-    let dropped : c.add-absolute.new.self.dropped ≡ c.self.inside.vas.dropped + eviction_count c.self.inside.max_mem_size
+    let dropped : c.add-absolute.new.self.dropped ≡ c.self.inside.vas.dropped + eviction_count
+    c.self.inside.max_mem_size
     (fields_in (entries_of c.self.inside.entries.items) ++ field_of c.args.field ∷ []) =
     omega (
       arith,

@@ -15,7 +15,8 @@ overflow_sub-result c =
     ap (λ (n : ℕ). n + c.args.evicted) (c.total_dropped.ensures.exact ∙ ap (λ (t : Table). t.dropped) c.self.view_is) in
     let equal = stays c.args.self.now (is_field f) c.args.evicted c.in-Some.newest _ _ _ at c.newest_field.ensures
     c.above.ensures c.in-Some.is in
-    stays_inserted c.args.self.now (is_field f) c.args.evicted _ _ equal c.requires.evicted c.total_inserted-total.ensures
+    stays_inserted c.args.self.now (is_field f) c.args.evicted _ _ equal c.requires.evicted
+    c.total_inserted-total.ensures
 
 pub returns-in-Some : goal.returns-in-Some
 returns-in-Some c =

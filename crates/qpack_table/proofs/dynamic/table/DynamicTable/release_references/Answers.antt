@@ -4,15 +4,18 @@ use Rattle.qpack_table.proofs.InProgress.{counted_in_progress, tracked_given_up,
 use Rattle.qpack_table.proofs.dynamic.table.DynamicTable.release_references.Goals as goal
 
 pub lower_uses-requires : goal.lower_uses-requires
-lower_uses-requires c = counted_in_progress c.self.inside.vas c.self.inside.entries.items _ c.self.inside.referenced.items
+lower_uses-requires c = counted_in_progress c.self.inside.vas c.self.inside.entries.items _
+    c.self.inside.referenced.items
     _ _ _ c.self.invariant.tracked c.clear_references.ensures.uses c.deref-2.ensures.value
     c.total_dropped-dropped.ensures.exact
 
 pub invariant_of-self : goal.invariant_of-self
 invariant_of-self c = record {
-  sized = sized_as c.self.inside.vas c.self.inside.entries.items _ _ _ (c.lower_uses.ensures.live ∙ c.clear_references.ensures.live)
+  sized = sized_as c.self.inside.vas c.self.inside.entries.items _ _ _ (c.lower_uses.ensures.live ∙
+      c.clear_references.ensures.live)
       c.self.invariant.sized;
-  tracked = rw c.clear.ensures.items (tracked_given_up c.self.inside.vas c.self.inside.entries.items _ _ c.self.inside.referenced.items _ _ _ _
+  tracked = rw c.clear.ensures.items (tracked_given_up c.self.inside.vas c.self.inside.entries.items _ _
+      c.self.inside.referenced.items _ _ _ _
       c.self.invariant.tracked c.total_dropped-dropped.ensures.exact c.deref.ensures.value c.deref-2.ensures.value
       c.clear_references.ensures.uses c.clear_references.ensures.cleared c.lower_uses.ensures.flags
       c.lower_uses.ensures.lowered);
@@ -20,4 +23,5 @@ invariant_of-self c = record {
 }
 
 pub returns : goal.returns
-returns c = rw (← c.self.view_is) (given_up _ _ _ (c.lower_uses.ensures.live ∙ c.clear_references.ensures.live) c.clear.ensures.items)
+returns c = rw (← c.self.view_is) (given_up _ _ _ (c.lower_uses.ensures.live ∙ c.clear_references.ensures.live)
+    c.clear.ensures.items)
