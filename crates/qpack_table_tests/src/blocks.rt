@@ -279,13 +279,15 @@ fn a_cancellation_releases_every_block(rt: HostRuntime) -> Result<(), Fail> {
 
 #[test]
 fn a_maximum_capacity_bounds_the_capacity(rt: HostRuntime) -> Result<(), Fail> {
-    let mut table = table(rt.alloc(), 38, 4)?;
-    same(table.agreed_max(), 38)?;
+    let present = table(rt.alloc(), 38, 4)?;
+    same(present.agreed_max(), 38)?;
     let refused = Err(Error::MaximumTableSizeTooLarge);
-    same(table.set_agreed_max(1_073_741_824), refused)?;
-    same(table.set_agreed_max(64), Ok(()))?;
+    let mut other = DynamicTable::new(rt.alloc());
+    same(other.set_agreed_max(1_073_741_824), refused)?;
+    let mut table = DynamicTable::new(rt.alloc());
+    table.set_agreed_max(64)?;
     let refused = Err(Error::MaximumTableSizeTooLarge);
     same(table.set_max_size(65), refused)?;
-    same(table.set_max_size(0), Ok(()))?;
-    same((table.agreed_max(), table.max_mem_size()), (64, 0))
+    same(table.set_max_size(38), Ok(()))?;
+    same((table.agreed_max(), table.max_mem_size()), (64, 38))
 }

@@ -6,6 +6,10 @@ mod blocks;
 #[cfg(test)]
 mod indexes;
 #[cfg(test)]
+mod model;
+#[cfg(test)]
+mod random;
+#[cfg(test)]
 mod table;
 #[cfg(test)]
 mod texts;
