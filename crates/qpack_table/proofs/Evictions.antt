@@ -29,7 +29,7 @@ further n k fs h =
     (shorter (k - n) (drop n fs)))
 
 -- while the rest doesn't fit, more have to go
-still : (room : ℕ) (fs : List Field) (k : ℕ) → room < total_size (drop k fs) → k < eviction_count room fs
+pub still : (room : ℕ) (fs : List Field) (k : ℕ) → room < total_size (drop k fs) → k < eviction_count room fs
 still room fs k h =
     elim (cases_lt k (eviction_count room fs)) [
       | inl lt ↦ lt

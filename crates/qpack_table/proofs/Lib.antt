@@ -7,6 +7,7 @@ pub mod Kept
 pub mod Tracking
 pub mod InProgress
 pub mod Newest
+pub mod Walks
 pub mod Lookups
 pub mod Changes
 pub mod Released

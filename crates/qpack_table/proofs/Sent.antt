@@ -1,7 +1,7 @@
 -- An entry that is sent, and referenced by the block in progress.
 use Rattle.std.proofs.Common.{◌≡◌, ℕ, ◌+◌, ◌^◌, ◌<◌, ◌≤◌, Bool, true, false, List, [], ◌∷◌, ◌++◌}
-use Rattle.std.proofs.Common.{length, drop, refl, sym, ap, ◌∙◌, arith}
-use Rattle.std.specs.Prelude.{slice_set, nat_le}
+use Rattle.std.proofs.Common.{length, drop, Option, Some, None, refl, sym, ap, ◌∙◌, arith}
+use Rattle.std.specs.Prelude.{slice_set, nat_le, IfSome, IfNone}
 use Rattle.std.proofs.lemmas.Bool.{lt-ltb, le-ltb, lt-leb, le-leb}
 use Rattle.std.proofs.lemmas.List.{length-drop}
 use Rattle.qpack_base.specs.HeaderFields.{field_of}
@@ -116,6 +116,28 @@ unfolding has_room
 room_by_entries t f evicted b fits few is e =
     rw (le-leb (field_size f) t.capacity fits, lt-ltb (insert_count t) (2 ^ 62) few)
     (ap (λ (n : ℕ). can_evict t n) (sym is) ∙ e)
+
+pub least_by_walk : (t : Table) (f : Field) (size : ℕ) (r : Option ℕ) → field_size f ≡ size
+    → IfSome r (λ evicted. (g : Field) → field_size g ≡ size → evicted ≡ eviction_count_for t g)
+    → IfSome r (λ evicted. evicted ≡ eviction_count_for t f)
+least_by_walk t f size None same h = tt
+least_by_walk t f size (Some evicted) same h = h f same
+
+pub room_by_walk : (t : Table) (f : Field) (size : ℕ) (r : Option ℕ) → field_size f ≡ size
+    → field_size f ≤ t.capacity → insert_count t < 2 ^ 62
+    → IfSome r (λ evicted. (g : Field) → field_size g ≡ size → evicted ≡ eviction_count_for t g)
+    → IfSome r (λ evicted. can_evict t evicted ≡ true) → IfSome r (λ evicted. has_room t f ≡ true)
+room_by_walk t f size None same fits few least evictable = tt
+room_by_walk t f size (Some evicted) same fits few least evictable =
+    room_by_entries t f evicted true fits few (least f same) evictable
+
+pub no_room_by_walk : (t : Table) (f : Field) (size : ℕ) (r : Option ℕ) → field_size f ≡ size
+    → field_size f ≤ t.capacity → insert_count t < 2 ^ 62
+    → IfNone r ((g : Field) → field_size g ≡ size → can_evict t (eviction_count_for t g) ≡ false)
+    → IfNone r (has_room t f ≡ false)
+no_room_by_walk t f size None same fits few held =
+    room_by_entries t f (eviction_count_for t f) false fits few refl (held f same)
+no_room_by_walk t f size (Some evicted) same fits few held = tt
 
 pub same_count : (t : Table) → insert_count (without_references t) ≡ insert_count t
 unfolding without_references

@@ -1,5 +1,5 @@
-//! Worked cases of an encoder's handle: what it finds and inserts, what is evictable, and which blocks are released (RFC
-//! 9204, section 2.1).
+//! Worked cases of an encoder's handle: what it finds and inserts, what is evictable, and which blocks are released
+//! (RFC 9204, section 2.1).
 
 use qpack_base::field::HeaderField;
 use qpack_table::dynamic::{

@@ -94,12 +94,7 @@ impl DynamicTable {
         if self.total_inserted() >= MOST_INSERTIONS {
             return None;
         }
-        let evicted = self.evicted_for(size);
-        if self.can_evict(evicted) {
-            Some(evicted)
-        } else {
-            None
-        }
+        self.evictable_for(size)
     }
 
     /// How many of the oldest entries go before a field is inserted, if one more block may be blocked and there is

@@ -1,6 +1,7 @@
 //! The table: what it holds, its lookups, what is put into it and its capacity (RFC 9204, section 3.2).
 
-ghost use Rattle.std.specs.Prelude.{◌≡◌, ◌+◌, ◌-◌, ◌^◌, ◌<◌, ◌≤◌, Some, None, IfOk, IfErr, OnOk, OnErr, length, drop};
+ghost use Rattle.std.specs.Prelude.{◌≡◌, ◌+◌, ◌-◌, ◌^◌, ◌<◌, ◌≤◌, Some, None, IfOk, IfErr, IfSome, IfNone, true};
+ghost use Rattle.std.specs.Prelude.{false, OnOk, OnErr, length, drop};
 ghost use Rattle.std.specs.Prelude.{slice_get};
 ghost use Rattle.std.specs.VecDeque.{deque_capacity};
 ghost use Rattle.qpack_base.specs.HeaderFields.{field_of};
@@ -179,28 +180,6 @@ impl DynamicTable {
         }
     }
 
-    /// The least number of oldest entries whose removal lets the rest fit so many bytes.
-    pub(super) fn eviction_count(&self, room: usize) -> usize
-        ensures { result ≡ eviction_count room (fields_in self.now.live) }
-    {
-        let mut rest = self.mem_size;
-        let mut evicted = 0;
-        while evicted < self.entries.len() && rest > room {
-            rest -= self.entries[evicted].field.mem_size();
-            evicted += 1;
-        }
-        evicted
-    }
-
-    /// How many of the oldest entries go before a field of so many bytes stands (RFC 9204, section 3.2.2).
-    pub(super) fn evicted_for(&self, size: usize) -> usize
-        requires fits { size ≤ self.now.capacity }
-        ensures exact { (field : Field) → field_size field ≡ size → result ≡ eviction_count_for self.now field }
-        ensures within { result ≤ length self.now.live }
-    {
-        self.eviction_count(self.max_mem_size() - size)
-    }
-
     /// Whether the live entry at a position is evictable: no block references it, and it was not sent or is known
     /// to be received (RFC 9204, section 2.1.1).
     fn is_evictable(&self, position: usize) -> bool
@@ -215,17 +194,36 @@ impl DynamicTable {
         !entry.sent || dropped + position < self.known_received_count
     }
 
-    /// Whether so many of the oldest entries may go.
-    pub(super) fn can_evict(&self, evicted: usize) -> bool
-        requires { evicted ≤ length self.now.live }
-        ensures { result ≡ can_evict self.now evicted }
+    /// The least number of oldest entries whose removal lets the rest fit so many bytes, if each of them is evictable:
+    /// the walk ends at the first that is not (RFC 9204, sections 2.1.1 and 3.2.2).
+    fn evictable_count(&self, room: usize) -> Option<usize>
+        ensures least { IfSome result (λ evicted. evicted ≡ eviction_count room (fields_in self.now.live)) }
+        ensures evictable { IfSome result (λ evicted. can_evict self.now evicted ≡ true) }
+        ensures held { IfNone result
+            (can_evict self.now (eviction_count room (fields_in self.now.live)) ≡ false) }
     {
-        for position in 0..evicted {
-            if !self.is_evictable(position) {
-                return false;
+        let mut rest = self.mem_size;
+        let mut evicted = 0;
+        while evicted < self.entries.len() && rest > room {
+            if !self.is_evictable(evicted) {
+                return None;
             }
+            rest -= self.entries[evicted].field.mem_size();
+            evicted += 1;
         }
-        true
+        Some(evicted)
+    }
+
+    /// How many of the oldest entries go before a field of so many bytes stands, if each of them is evictable.
+    pub(super) fn evictable_for(&self, size: usize) -> Option<usize>
+        requires fits { size ≤ self.now.capacity }
+        ensures least { IfSome result
+            (λ evicted. (field : Field) → field_size field ≡ size → evicted ≡ eviction_count_for self.now field) }
+        ensures evictable { IfSome result (λ evicted. can_evict self.now evicted ≡ true) }
+        ensures held { IfNone result ((field : Field) → field_size field ≡ size
+            → can_evict self.now (eviction_count_for self.now field) ≡ false) }
+    {
+        self.evictable_count(self.max_mem_size() - size)
     }
 
     /// Inserts a field behind the newest one, once so many of the oldest are evicted. Refused, which is for
@@ -300,10 +298,9 @@ impl DynamicTable {
         if self.total_inserted() >= MOST_INSERTIONS {
             return Ok(());
         }
-        let evicted = self.evicted_for(size);
-        if !self.can_evict(evicted) {
+        let Some(evicted) = self.evictable_for(size) else {
             return Ok(());
-        }
+        };
         Ok(self.insert(field, false, evicted)?)
     }
 
@@ -350,10 +347,9 @@ impl DynamicTable {
         if size > self.greatest_capacity() {
             return Err(Error::MaximumTableSizeTooLarge);
         }
-        let evicted = self.eviction_count(size);
-        if !self.can_evict(evicted) {
+        let Some(evicted) = self.evictable_count(size) else {
             return Err(Error::MaxTableSizeReached);
-        }
+        };
         let freed = drop_oldest(&mut self.entries, &mut self.vas, evicted);
         self.mem_size -= freed;
         self.max_mem_size = size;

@@ -1,6 +1,6 @@
-use Rattle.std.proofs.Common.{sym, ◌∙◌, arith}
+use Rattle.std.proofs.Common.{arith}
 use Rattle.qpack_base.specs.HeaderFields.{field_of}
-use Rattle.qpack_table.proofs.Sent.{room_too_large, room_too_late, room_by_entries}
+use Rattle.qpack_table.proofs.Sent.{room_too_large, room_too_late, room_by_walk, no_room_by_walk, least_by_walk}
 use Rattle.qpack_table.proofs.dynamic.table.DynamicTable.room_for.Goals as goal
 
 pub returns-then-size-max_mem_size-clause-none : goal.returns-then-size-max_mem_size-clause-none
@@ -10,12 +10,17 @@ pub returns-then-total_inserted-ge-MOST_INSERTIONS-clause-none
     : goal.returns-then-total_inserted-ge-MOST_INSERTIONS-clause-none
 returns-then-total_inserted-ge-MOST_INSERTIONS-clause-none c = room_too_late _ _ (omega arith) (omega arith)
 
-pub returns-then-can_evict-clause-room : goal.returns-then-can_evict-clause-room
-returns-then-can_evict-clause-room c = room_by_entries _ _ c.evicted_for-evicted.result _ (omega arith) (omega arith)
-    (c.evicted_for-evicted.ensures.exact (field_of c.args.field.now) (omega arith))
-    (sym c.can_evict.ensures ∙ c.if-can_evict.true)
+pub returns-clause-room : goal.returns-clause-room
+returns-clause-room c = room_by_walk c.args.self.now (field_of c.args.field.now) c.mem_size-size.result _ (omega
+    arith) (omega arith) (omega arith)
+    c.evictable_for.ensures.least c.evictable_for.ensures.evictable
 
-pub returns-else-can_evict-clause-none : goal.returns-else-can_evict-clause-none
-returns-else-can_evict-clause-none c = room_by_entries _ _ c.evicted_for-evicted.result _ (omega arith) (omega arith)
-    (c.evicted_for-evicted.ensures.exact (field_of c.args.field.now) (omega arith))
-    (sym c.can_evict.ensures ∙ c.if-can_evict.false)
+pub returns-clause-evicted : goal.returns-clause-evicted
+returns-clause-evicted c = least_by_walk c.args.self.now (field_of c.args.field.now) c.mem_size-size.result _ (omega
+    arith)
+    c.evictable_for.ensures.least
+
+pub returns-clause-none : goal.returns-clause-none
+returns-clause-none c = no_room_by_walk c.args.self.now (field_of c.args.field.now) c.mem_size-size.result _ (omega
+    arith) (omega arith)
+    (omega arith) c.evictable_for.ensures.held

@@ -15,19 +15,10 @@ pub returns-then-size-greatest_capacity : goal.returns-then-size-greatest_capaci
 returns-then-size-greatest_capacity c =
     (resized_above c.args.self.now c.args.size (omega (arith, c.greatest_capacity.ensures.agreed_max)), refl)
 
-pub can_evict-requires : goal.can_evict-requires
-can_evict-requires c = omega (
-  arith,
-  c.eviction_count-evicted.ensures,
-  eviction_count_bound c.args.size (fields_in c.args.self.now.live),
-  length-map c.args.self.now.live (λ (e : table.Entry). e.field),
-)
-
-pub returns-then-not-can_evict : goal.returns-then-not-can_evict
-returns-then-not-can_evict c = (
+pub returns-in_default : goal.returns-in_default
+returns-in_default c = (
   resized_against_held c.args.self.now c.args.size (omega (arith, c.greatest_capacity.ensures.agreed_max))
-      (ap (λ (n : ℕ). can_evict c.args.self.now n) (sym c.eviction_count-evicted.ensures) ∙ sym c.can_evict.ensures
-      ∙ c.if-not-can_evict.true),
+      c.in_default.ensures.held,
   refl,
 )
 
@@ -35,7 +26,7 @@ pub drop_oldest-freed-requires-clause-there : goal.drop_oldest-freed-requires-cl
 drop_oldest-freed-requires-clause-there c =
     omega (
       arith,
-      c.eviction_count-evicted.ensures,
+      c.in-Some.ensures.least,
       eviction_count_bound c.args.size (fields_in c.args.self.now.live),
       length-map c.args.self.now.live (λ (e : table.Entry). e.field),
       ap (λ (t : Table). length t.live) c.self.view_is,
@@ -44,12 +35,12 @@ drop_oldest-freed-requires-clause-there c =
 
 pub invariant_of-self : goal.invariant_of-self
 invariant_of-self c =
-    let evicted : c.eviction_count-evicted.result
+    let evicted : c.in-Some.evicted
     ≡ eviction_count c.args.size (fields_in (entries_of c.self.inside.entries.items)) =
-    c.eviction_count-evicted.ensures
+    c.in-Some.ensures.least
     ∙ ap (λ (t : Table). eviction_count c.args.size (fields_in t.live)) (sym c.self.view_is) in
     kept_resized c.self.inside.vas c.drop_oldest-freed.new.vas c.self.inside.entries.items
-    c.drop_oldest-freed.new.entries.items _ _ _ c.args.size _ _ _ _ c.eviction_count-evicted.result
+    c.drop_oldest-freed.new.entries.items _ _ _ c.args.size _ _ _ _ c.in-Some.evicted
     c.drop_oldest-freed.result
     c.self.invariant
     evicted (omega (arith, c.greatest_capacity.ensures.most)) c.drop_oldest-freed.ensures.left
@@ -59,9 +50,9 @@ invariant_of-self c =
 
 pub returns : goal.returns
 returns c =
-    let evicted : c.eviction_count-evicted.result
+    let evicted : c.in-Some.evicted
     ≡ eviction_count c.args.size (fields_in (entries_of c.self.inside.entries.items)) =
-    c.eviction_count-evicted.ensures
+    c.in-Some.ensures.least
     ∙ ap (λ (t : Table). eviction_count c.args.size (fields_in t.live)) (sym c.self.view_is) in
     rw (← c.self.view_is) (resized_to _ c.args.size c.drop_oldest-freed.new.vas.dropped
     (entries_of c.drop_oldest-freed.new.entries.items)
@@ -72,8 +63,7 @@ returns c =
           (λ (t : Table). greatest_capacity t.agreed_max) c.self.view_is,
     ))
     (ap (λ (t : Table). can_evict t (eviction_count c.args.size (fields_in t.live))) c.self.view_is
-    ∙ ap (λ (n : ℕ). can_evict c.args.self.now n) (sym c.eviction_count-evicted.ensures) ∙ sym c.can_evict.ensures
-    ∙ c.if-not-can_evict.false)
+    ∙ ap (λ (n : ℕ). can_evict c.args.self.now n) (sym c.in-Some.ensures.least) ∙ c.in-Some.ensures.evictable)
     (omega (arith, evicted, ap (λ (p : Positions). p.dropped) c.drop_oldest-freed.ensures.dropped))
-    (live_less c.self.inside.entries.items c.drop_oldest-freed.new.entries.items c.eviction_count-evicted.result
+    (live_less c.self.inside.entries.items c.drop_oldest-freed.new.entries.items c.in-Some.evicted
     c.drop_oldest-freed.ensures.left ∙ ap (λ (n : ℕ). drop n (entries_of c.self.inside.entries.items)) evicted))
