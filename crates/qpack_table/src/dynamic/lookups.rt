@@ -197,9 +197,8 @@ impl DynamicTable {
 fn stored(field: &HeaderField) -> Result<HeaderField, NoMemory>
     ensures { IfOk result (λ copy. field_of copy ≡ field_of field.now) }
 {
-    let known = StaticTable::find_name(field.name.as_slice()).and_then(|index| StaticTable::get(
-        index,
-    ).ok());
+    let index = StaticTable::find_name(field.name.as_slice());
+    let known = index.and_then(|index| StaticTable::get(index).ok());
     match known {
         Some(known) => Ok(HeaderField {
             name: known.name,
