@@ -1,12 +1,11 @@
 //! The block in progress: what it references, and its end (RFC 9204, section 2.1).
 
-ghost use Rattle.std.specs.Prelude.{◌≡◌, ℕ, ◌+◌, ◌<◌, ◌≤◌, List, [], ◌∷◌, ◌++◌, true, length, if◌then◌else◌};
+ghost use Rattle.std.specs.Prelude.{◌≡◌, ◌+◌, ◌<◌, ◌≤◌, [], ◌∷◌, ◌++◌, true, if◌then◌else◌};
 ghost use Rattle.std.specs.Prelude.{OnOk, OnErr, vec_len, vec_capacity, min};
 ghost use Rattle.qpack_spec.specs.Table.{without_references, with_reference, with_unacknowledged, insert_count};
 ghost use Rattle.qpack_table.specs.Tables.{AreFlagged, entries_of, uses_of, blocks_of};
 ghost use Rattle.qpack_spec.specs.Table.{commit};
 ghost use Rattle.qpack_table.specs.Handles.{Commits, OpensOrBlocks};
-ghost use Rattle.qpack_table.specs.Tables.{IsLeast};
 
 use crate::dynamic::Error;
 use crate::dynamic::entry::{Entry, UnacknowledgedBlock, clear_references, lower_uses};

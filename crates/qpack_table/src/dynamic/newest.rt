@@ -1,6 +1,6 @@
 //! The newest entry of a field, and of a name.
 
-ghost use Rattle.std.specs.Prelude.{◌≡◌, ◌<◌, length};
+ghost use Rattle.std.specs.Prelude.{◌≡◌, ◌<◌};
 ghost use Rattle.qpack_base.specs.HeaderFields.{field_of};
 ghost use Rattle.qpack_spec.specs.Field.{has_name, is_field};
 ghost use Rattle.qpack_spec.specs.Table.{newest_index, last_position, fields_in};

@@ -1,11 +1,10 @@
 //! The table: what it holds, its lookups, what is put into it and its capacity (RFC 9204, section 3.2).
 
 ghost use Rattle.std.specs.Prelude.{◌≡◌, ◌+◌, ◌-◌, ◌^◌, ◌<◌, ◌≤◌, Some, None, IfOk, IfErr, IfSome, IfNone, true};
-ghost use Rattle.std.specs.Prelude.{false, OnOk, OnErr, length, drop};
+ghost use Rattle.std.specs.Prelude.{false, OnOk, OnErr, length};
 ghost use Rattle.std.specs.Prelude.{slice_get};
-ghost use Rattle.std.specs.VecDeque.{deque_capacity};
 ghost use Rattle.qpack_base.specs.HeaderFields.{field_of};
-ghost use Rattle.qpack_spec.specs.Field.{Field, field_size, total_size};
+ghost use Rattle.qpack_spec.specs.Field.{Field, field_size};
 ghost use Rattle.qpack_spec.specs.Table.{empty_table, insert_count, window, fields_in, can_evict, eviction_count_for};
 ghost use Rattle.qpack_spec.specs.Table.{with_entry, with_reference, sent_entry};
 ghost use Rattle.qpack_spec.specs.Table.{put, with_capacity};

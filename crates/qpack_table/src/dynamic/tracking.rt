@@ -1,19 +1,17 @@
 //! What an encoder's table tracks: which blocks reference its entries until they are acknowledged, and which blocks
 //! may be blocked (RFC 9204, section 2.1).
 
-ghost use Rattle.std.specs.Prelude.{◌≡◌, ℕ, ◌+◌, ◌<◌, ◌≤◌, List, [], ◌∷◌, ◌++◌, IsTrue, length, filter, nat_lt};
+ghost use Rattle.std.specs.Prelude.{◌≡◌, ℕ, ◌+◌, ◌<◌, ◌≤◌, List, [], ◌∷◌, ◌++◌, filter, nat_lt};
 ghost use Rattle.std.specs.Prelude.{nat_eq, not};
-ghost use Rattle.std.specs.Prelude.{Ok, Err, None, IfSome, OnOk, OnErr, IfNone, position};
+ghost use Rattle.std.specs.Prelude.{Ok, Err, None, IfSome, IfNone, position};
 ghost use Rattle.qpack_spec.specs.Instruction.{Acknowledgment, Cancellation, Increment};
-ghost use Rattle.qpack_spec.specs.Table.{apply_decoder_instruction, without_oldest, without_references, with_reference};
-ghost use Rattle.qpack_spec.specs.Table.{with_unacknowledged, commit, insert_count};
-ghost use Rattle.qpack_table.specs.Tables.{Changes, IsLeast, IsTaken, AreCounted, AreUsed, AreFlagged, references_in};
-ghost use Rattle.qpack_table.specs.Tables.{entries_of, flags_of, uses_of, block_of, blocks_of, of_stream};
+ghost use Rattle.qpack_spec.specs.Table.{apply_decoder_instruction, without_oldest};
+ghost use Rattle.qpack_table.specs.Tables.{Changes, IsLeast, IsTaken, AreCounted, AreUsed, references_in};
+ghost use Rattle.qpack_table.specs.Tables.{entries_of, flags_of, block_of, blocks_of, of_stream};
 
 use crate::dynamic::Error;
 use crate::dynamic::entry::{Entry, UnacknowledgedBlock, clear_references, lower_uses};
 use crate::dynamic::table::DynamicTable;
-use std::alloc::AllocError;
 use std::collections::VecDeque;
 
 impl DynamicTable {
