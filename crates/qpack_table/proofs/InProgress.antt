@@ -226,10 +226,10 @@ unfolding without_references
 given_up t live referenced same none = rw (same, none) refl
 
 pub least_pushed : (least required : ℕ) (is_blocked : Bool) (xs now : List ℕ) (new : ℕ) → IsLeast least xs
-    → now ≡ (if is_blocked then xs ++ required ∷ [] else xs) → new ≡ min least required → IsLeast new now
+    → now ≡ (if is_blocked then xs ++ required ∷ [] else xs)
+    → new ≡ (if is_blocked then min least required else least) → IsLeast new now
 least_pushed least required true xs now new h is e = rw (is, e) (least_with least required xs h)
-least_pushed least required false xs now new h is e =
-    rw (is, e) (every_weaker (λ x. least ≤ x) (λ x. min least required ≤ x) (λ x k. omega (arith, k)) xs h)
+least_pushed least required false xs now new h is e = rw (is, e) h
 
 pub committed : (t : table.Table) (s required : ℕ) (live : List table.Entry) (referenced : List ℕ)
     (opened : List table.UnacknowledgedBlock) (blocked : List ℕ) (is_blocked : Bool) → live ≡ t.live → referenced ≡ []

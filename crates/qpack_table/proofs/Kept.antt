@@ -11,41 +11,48 @@ use Rattle.qpack_spec.specs.Window.{eviction_count}
 use Rattle.qpack_table.specs.Positions.{Positions}
 use Rattle.qpack_table.specs.Tables.{entry_of, entries_of, flags_of, references_in, times, AreUsed, AreCounted}
 use Rattle.qpack_table.specs.Tables.{NoneTwice}
-use Rattle.qpack_table.specs.Tables.{IsKept, IsSized, IsTracked}
+use Rattle.qpack_table.specs.Tables.{IsKept, IsSized, IsTracked, live_fields}
+use Rattle.qpack_table.specs.Indexes.{IsIndexOf}
 use Rattle.qpack_table.specs.declared.dynamic.entry.Entry.{Entry}
+use Rattle.qpack_table.specs.declared.dynamic.index.Index.{Index}
 use Rattle.qpack_table.proofs.Evictions.{sized_inserted, sized_resized, evicted_within}
 use Rattle.qpack_table.proofs.References.{times_append, tracked_less, tracked_put, tracked_released}
 use Rattle.qpack_table.proofs.Marks.{used_counted}
 
 -- with fewer entries and another capacity
-pub kept_resized : (v w : Positions) (es now : List Entry) (size left capacity most : ℕ) (referenced : List ℕ)
+pub kept_resized : {index shed : Index} (v w : Positions) (es now : List Entry) (size left capacity most : ℕ)
+    (referenced : List ℕ)
     (unacknowledged : List table.UnacknowledgedBlock) (least : ℕ) (blocked : List ℕ) (k freed : ℕ)
-    → IsKept v es size capacity referenced unacknowledged least blocked
+    → IsKept v es size capacity referenced unacknowledged least blocked index
     → k ≡ eviction_count most (fields_in (entries_of es)) → most < 2 ^ 30 → now ≡ drop k es
     → freed + total_size (drop k (fields_in (entries_of es))) ≡ total_size (fields_in (entries_of es))
     → left ≡ size - freed → w.dropped ≡ v.dropped + k → w.total ≡ v.total
-    → IsKept w now left most referenced unacknowledged least blocked
+    → IsIndexOf w.dropped (live_fields now) (length now) shed
+    → IsKept w now left most referenced unacknowledged least blocked shed
 kept_resized v w es now size left capacity most referenced unacknowledged least blocked k freed kept evicted small items
-    rest is dropped total = record {
-      sized = sized_resized v w es now size left capacity most k freed kept.sized evicted small items rest is
-          dropped total;
+    rest is dropped total indexed = record {
+      sized = sized_resized v w es now size left capacity most k freed kept.sized evicted small items rest is dropped
+          total;
       tracked = tracked_less v w es now referenced unacknowledged k kept.tracked items dropped total;
       least = kept.least;
+      indexed = indexed;
     }
 
 -- with some entries less and one more, which nothing references
-pub kept_put : (v w : Positions) (es now : List Entry) (size left capacity : ℕ) (referenced : List ℕ)
+pub kept_put : {index more : Index} (v w : Positions) (es now : List Entry) (size left capacity : ℕ)
+    (referenced : List ℕ)
     (unacknowledged : List table.UnacknowledgedBlock) (least : ℕ) (blocked : List ℕ) (e : Entry) (k : ℕ)
-    → IsKept v es size capacity referenced unacknowledged least blocked
+    → IsKept v es size capacity referenced unacknowledged least blocked index
     → field_size (field_of e.field) ≤ capacity
     → k ≡ eviction_count capacity (fields_in (entries_of es) ++ field_of e.field ∷ [])
     → now ≡ drop k es ++ e ∷ []
     → left ≡ total_size (drop k (fields_in (entries_of es))) + field_size (field_of e.field)
     → e.referenced ≡ false → e.uses ≡ 0
     → w.dropped ≡ v.dropped + k → w.total ≡ v.total + 1
-    → IsKept w now left capacity referenced unacknowledged least blocked
+    → IsIndexOf w.dropped (live_fields now) (length now) more
+    → IsKept w now left capacity referenced unacknowledged least blocked more
 kept_put v w es now size left capacity referenced unacknowledged least blocked e k kept room evicted items sum unflagged
-    unused dropped total =
+    unused dropped total indexed =
     let m : Positions = record { total = v.total; dropped = v.dropped + k } in
     let few : k ≤ length es = evicted_within es (field_of e.field) capacity k room evicted in
     let counted : v.total ≡ v.dropped + k + length (drop k es) =
@@ -56,6 +63,7 @@ kept_put v w es now size left capacity referenced unacknowledged least blocked e
           (tracked_less v m es (drop k es) referenced unacknowledged k kept.tracked refl refl refl) counted items
           unflagged unused dropped total;
       least = kept.least;
+      indexed = indexed;
     }
 
 -- the sizes are those of other entries with the same fields
@@ -74,22 +82,32 @@ sized_as v es now size capacity same kept = record {
   small = kept.small;
 }
 
+-- the index is that of other entries with the same fields
+pub indexed_as : {index : Index} (dropped : ℕ) (es now : List Entry) → entries_of now ≡ entries_of es
+    → IsIndexOf dropped (live_fields es) (length es) index → IsIndexOf dropped (live_fields now) (length now) index
+indexed_as {index} dropped es now same is =
+    let long : length es ≡ length now =
+    sym (length-map es entry_of) ∙ ap (λ (l : List table.Entry). length l) (sym same) ∙ length-map now entry_of in
+    subst (λ (n : ℕ). IsIndexOf dropped (live_fields now) n index) long
+    (subst (λ (l : List table.Entry). IsIndexOf dropped (fields_in l) (length es) index) (sym same) is)
+
 -- with some blocks released
-pub kept_released : (v : Positions) (es now : List Entry) (size capacity : ℕ) (referenced : List ℕ)
+pub kept_released : {index : Index} (v : Positions) (es now : List Entry) (size capacity : ℕ) (referenced : List ℕ)
     (unacknowledged left : List table.UnacknowledgedBlock) (least : ℕ) (blocked gone : List ℕ) (dropped : ℕ)
-    → IsKept v es size capacity referenced unacknowledged least blocked → dropped ≡ v.dropped
+    → IsKept v es size capacity referenced unacknowledged least blocked index → dropped ≡ v.dropped
     → entries_of now ≡ entries_of es → flags_of now ≡ flags_of es
     → ((rest : List ℕ) → AreUsed dropped es (gone ++ rest) → AreUsed dropped now rest)
     → ((a : ℕ) → times a (references_in unacknowledged) ≡ times a gone + times a (references_in left))
     → AllByRecursion (λ b. NoneTwice b.entries) left
-    → IsKept v now size capacity referenced left least blocked
+    → IsKept v now size capacity referenced left least blocked index
 kept_released v es now size capacity referenced unacknowledged left least blocked gone dropped kept is live flags
     lowered parted once = record {
       sized = sized_as v es now size capacity live kept.sized;
       tracked = tracked_released v es now referenced unacknowledged left gone kept.tracked flags
-          (subst (λ (d : ℕ). (rest : List ℕ) → AreUsed d es (gone ++ rest) → AreUsed d now rest) is lowered) parted
-          once;
+          (subst (λ (d : ℕ). (rest : List ℕ) → AreUsed d es (gone ++ rest)
+          → AreUsed d now rest) is lowered) parted once;
       least = kept.least;
+      indexed = indexed_as v.dropped es now live kept.indexed;
     }
 
 -- what some blocks reference is counted

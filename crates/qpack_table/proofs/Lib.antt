@@ -10,6 +10,17 @@ pub mod Newest
 pub mod Walks
 pub mod Lookups
 pub mod Changes
+pub mod Halvings
+pub mod RowOrder
+pub mod RowSearches
+pub mod RowPlaces
+pub mod NewestEntries
+pub mod RowChanges
+pub mod HashedRows
+pub mod RowsChanges
+pub mod NameChains
+pub mod WholeIndexes
 pub mod Released
+pub mod Products
 pub mod Sent
 pub mod Insertions

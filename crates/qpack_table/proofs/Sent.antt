@@ -14,12 +14,14 @@ use Rattle.qpack_spec.specs.Table.{without_references}
 use Rattle.qpack_spec.specs.Window.{eviction_count}
 use Rattle.qpack_spec.proofs.Lists.{get_append_end}
 use Rattle.qpack_table.specs.Positions.{Positions}
-use Rattle.qpack_table.specs.Tables.{entries_of, references_in, IsKept, IsTracked}
+use Rattle.qpack_table.specs.Tables.{entries_of, references_in, IsKept, IsTracked, live_fields}
+use Rattle.qpack_table.specs.Indexes.{IsIndexOf}
+use Rattle.qpack_table.specs.declared.dynamic.index.Index.{Index}
 use Rattle.qpack_table.specs.declared.dynamic.entry.Entry.{Entry}
 use Rattle.qpack_table.proofs.Changes.{entered}
 use Rattle.qpack_table.proofs.Evictions.{evicted_within, joined_entries}
 use Rattle.qpack_table.proofs.References.{times_append, not_among}
-use Rattle.qpack_table.proofs.Kept.{kept_put, sized_as}
+use Rattle.qpack_table.proofs.Kept.{kept_put, sized_as, indexed_as}
 use Rattle.qpack_table.proofs.InProgress.{tracked_referenced, with_new}
 
 set_last : {X : Type 0} (xs : List X) (x y : X) → slice_set (xs ++ x ∷ []) (length xs) y ≡ xs ++ y ∷ []
@@ -33,26 +35,28 @@ sent_now f = record { field = f; sent = true; referenced = true; uses = 1 }
 abbrev sent_before : HeaderField → Entry
 sent_before f = record { field = f; sent = true; referenced = false; uses = 0 }
 
-pub kept_sent : (v w : Positions) (es now : List Entry) (size left capacity : ℕ) (referenced more : List ℕ)
-    (unacknowledged : List table.UnacknowledgedBlock) (least : ℕ) (blocked : List ℕ) (f : HeaderField) (k n : ℕ)
-    → IsKept v es size capacity referenced unacknowledged least blocked
+pub kept_sent : {index shown : Index} (v w : Positions) (es now : List Entry) (size left capacity : ℕ)
+    (referenced more : List ℕ) (unacknowledged : List table.UnacknowledgedBlock) (least : ℕ) (blocked : List ℕ)
+    (f : HeaderField) (k n : ℕ)
+    → IsKept v es size capacity referenced unacknowledged least blocked index
     → field_size (field_of f) ≤ capacity
     → k ≡ eviction_count capacity (fields_in (entries_of es) ++ field_of f ∷ [])
     → now ≡ drop k es ++ sent_now f ∷ []
     → left ≡ total_size (drop k (fields_in (entries_of es))) + field_size (field_of f)
     → w.dropped ≡ v.dropped + k → w.total ≡ v.total + 1 → n ≡ w.total → more ≡ referenced ++ n ∷ []
-    → IsKept w now left capacity more unacknowledged least blocked
-kept_sent v w es now size left capacity referenced more unacknowledged least blocked f k n kept room evicted items sum
-    dropped total new last =
+    → IsIndexOf w.dropped (live_fields now) (length now) shown
+    → IsKept w now left capacity more unacknowledged least blocked shown
+kept_sent {index} {shown} v w es now size left capacity referenced more unacknowledged least blocked f k n kept room
+    evicted items sum dropped total new last indexed =
     let mid : List Entry = drop k es ++ sent_before f ∷ [] in
     let few : k ≤ length es = evicted_within es (field_of f) capacity k room evicted in
-    let put = kept_put v w es mid size left capacity referenced unacknowledged least blocked (sent_before f) k kept room
-    evicted refl sum refl refl dropped total in
-    let set : now ≡ slice_set mid (length (drop k es)) (sent_now f) =
-    items ∙ sym (set_last (drop k es) (sent_before f) (sent_now f)) in
     let same : entries_of now ≡ entries_of mid =
     ap (λ (l : List Entry). entries_of l) items ∙ joined_entries (drop k es) (sent_now f)
     ∙ sym (joined_entries (drop k es) (sent_before f)) in
+    let put = kept_put v w es mid size left capacity referenced unacknowledged least blocked (sent_before f) k kept room
+    evicted refl sum refl refl dropped total (indexed_as w.dropped now mid (sym same) indexed) in
+    let set : now ≡ slice_set mid (length (drop k es)) (sent_now f) =
+    items ∙ sym (set_last (drop k es) (sent_before f) (sent_now f)) in
     record {
       sized = sized_as w mid now left capacity same put.sized;
       tracked = tracked_referenced w mid now referenced more unacknowledged n (length (drop k es)) (sent_before f)
@@ -60,6 +64,7 @@ kept_sent v w es now size left capacity referenced more unacknowledged least blo
           (omega (arith, new, total, dropped, kept.sized.counted, few, length-drop k es)) (omega (arith, new))
           (get_append_end (drop k es) (sent_before f)) refl refl set last;
       least = put.least;
+      indexed = indexed;
     }
 
 -- a number that is to come is not referenced yet

@@ -17,7 +17,9 @@ use Rattle.qpack_table.specs.declared.dynamic.Error.{Error}
 use Rattle.qpack_table.specs.declared.dynamic.Error.TheVariants.{BadRelativeIndex, BadPostbaseIndex, BadIndex}
 use Rattle.qpack_table.specs.declared.dynamic.Error.TheVariants.{MaxTableSizeReached, MaximumTableSizeTooLarge, Memory}
 use Rattle.qpack_table.specs.declared.dynamic.Error.TheVariants.{UnknownStreamId}
+use Rattle.qpack_table.specs.Indexes.{IsIndexOf}
 use Rattle.qpack_table.specs.declared.dynamic.entry.Entry.{Entry}
+use Rattle.qpack_table.specs.declared.dynamic.index.Index.{Index}
 use Rattle.qpack_table.specs.declared.dynamic.entry.UnacknowledgedBlock.{UnacknowledgedBlock}
 
 -- a live entry
@@ -26,6 +28,10 @@ entry_of e = record { field = field_of e.field; sent = e.sent }
 
 abbrev pub entries_of : List Entry → List table.Entry
 entries_of es = map (λ e. entry_of e) es
+
+-- the fields of live entries, the oldest first
+abbrev pub live_fields : List Entry → List Field
+live_fields es = fields_in (entries_of es)
 
 -- an unacknowledged block
 abbrev pub block_of : UnacknowledgedBlock → table.UnacknowledgedBlock
@@ -93,13 +99,15 @@ pub record IsSized (positions : Positions) (live : List Entry) (size capacity : 
 abbrev pub IsLeast : ℕ → List ℕ → Type 0
 IsLeast least xs = AllByRecursion (λ x. least ≤ x) xs
 
--- what the table keeps: its sizes, its references, and a number that is at most each required insert count of blocked
--- blocks
+-- what the table keeps: its sizes, its references, a number that is at most each required insert count of blocked
+-- blocks, and the index of its entries
 pub record IsKept (positions : Positions) (live : List Entry) (size capacity : ℕ) (referenced : List ℕ)
-    (unacknowledged : List table.UnacknowledgedBlock) (least_blocked : ℕ) (blocked : List ℕ) : Type 0 where
-  pub sized : IsSized positions live size capacity
-  pub tracked : IsTracked positions live referenced unacknowledged
-  pub least : IsLeast least_blocked blocked
+    (unacknowledged : List table.UnacknowledgedBlock) (least_blocked : ℕ) (blocked : List ℕ) (index : Index) : Type 0
+  where
+    pub sized : IsSized positions live size capacity
+    pub tracked : IsTracked positions live referenced unacknowledged
+    pub least : IsLeast least_blocked blocked
+    pub indexed : IsIndexOf positions.dropped (live_fields live) (length live) index
 
 -- a stream's oldest block is taken out: what the blocks reference is what it references and what the others do
 pub record IsTaken (stream : ℕ) (block : table.UnacknowledgedBlock) (old new : List table.UnacknowledgedBlock) : Type 0

@@ -13,14 +13,17 @@ use thiserror::Error as ThisError;
 mod block;
 mod encoder;
 mod entry;
+mod index;
 mod lookups;
 mod newest;
+mod steps;
 mod table;
 mod tracking;
 
 pub use crate::dynamic::encoder::{
     DynamicInsertionResult, DynamicLookupResult, DynamicTableEncoder,
 };
+pub use crate::dynamic::steps::Steps;
 pub use crate::dynamic::table::{DynamicTable, DynamicTableDecoder};
 
 /// Why the dynamic table did not do what it was asked for.

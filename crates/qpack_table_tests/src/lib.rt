@@ -8,6 +8,8 @@ mod indexes;
 #[cfg(test)]
 mod model;
 #[cfg(test)]
+mod newest;
+#[cfg(test)]
 mod random;
 #[cfg(test)]
 mod table;

@@ -74,7 +74,7 @@ impl DynamicTable {
             stream_id,
         )?;
         push_if(&mut self.blocked, is_blocked, required);
-        self.least_blocked = self.least_blocked.min(required);
+        self.least_blocked = min_if(self.least_blocked, is_blocked, required);
         Ok(())
     }
 }
@@ -131,4 +131,11 @@ fn push_if(numbers: &mut Vec<usize>, is_needed: bool, number: usize)
     if is_needed {
         numbers.push_reserved(number);
     }
+}
+
+/// The least of a number and of another one, if that is needed.
+fn min_if(least: usize, is_needed: bool, number: usize) -> usize
+    ensures { result ≡ (if is_needed then min least number else least) }
+{
+    if is_needed { least.min(number) } else { least }
 }

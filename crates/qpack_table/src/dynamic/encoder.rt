@@ -1,6 +1,6 @@
 //! An encoder's handle on the table: a block in progress, which references entries (RFC 9204, section 2.1).
 
-ghost use Rattle.std.specs.Prelude.{◌≡◌};
+ghost use Rattle.std.specs.Prelude.{◌≡◌, ◌<◌, ◌^◌};
 ghost use Rattle.qpack_base.specs.HeaderFields.{field_of};
 ghost use Rattle.qpack_spec.specs.Handle.{find_field, insert_field};
 ghost use Rattle.qpack_spec.specs.Table.{insert_count, without_references};
@@ -84,7 +84,8 @@ pub struct DynamicTableEncoder<'a> {
 impl DynamicTableEncoder<'_> {
     /// The capacity of the table in bytes.
     pub fn max_size(&self) -> usize
-        ensures { result ≡ self.now.table.now.capacity }
+        ensures exact { result ≡ self.now.table.now.capacity }
+        ensures most { result < 2 ^ 30 }
     {
         self.table.max_mem_size()
     }

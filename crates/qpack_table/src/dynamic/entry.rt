@@ -5,7 +5,11 @@ ghost use Rattle.std.specs.VecDeque.{deque_capacity};
 ghost use Rattle.qpack_spec.specs.Field.{total_size};
 ghost use Rattle.qpack_spec.specs.Table.{fields_in};
 ghost use Rattle.qpack_table.specs.Tables.{entries_of, uses_of, flags_of, AreFlagged, AreUsed, AreCounted};
+ghost use Rattle.qpack_table.specs.Indexes.{IsIndexOf, HasRoomForEntry};
+ghost use Rattle.qpack_table.specs.Tables.{live_fields};
+ghost use Rattle.qpack_table.specs.declared.dynamic.index.hash.Hashes.{Hashes};
 
+use crate::dynamic::index::Index;
 use crate::vas::VirtualAddressSpace;
 use qpack_base::field::HeaderField;
 use std::collections::VecDeque;
@@ -79,20 +83,26 @@ pub(super) fn lower_uses(entries: &mut VecDeque<Entry>, dropped: usize, referenc
 /// The oldest entries go; the sum of their sizes is answered.
 pub(super) fn drop_oldest(
     entries: &mut VecDeque<Entry>,
+    index: &mut Index,
     vas: &mut VirtualAddressSpace,
     evicted: usize,
 ) -> usize
     requires there { evicted ≤ length entries.old.items }
     requires counted { vas.old.total ≡ vas.old.dropped + length entries.old.items }
+    requires index { IsIndexOf vas.old.dropped (live_fields entries.old.items) (length entries.old.items) index.old }
     requires small { total_size (fields_in (entries_of entries.old.items)) < 2 ^ 63 }
     ensures left { entries.new.items ≡ drop evicted entries.old.items }
     ensures capacity { deque_capacity entries.new ≡ deque_capacity entries.old }
+    ensures index { IsIndexOf vas.new.dropped (live_fields entries.new.items) (length entries.new.items) index.new }
+    ensures room { (hashes : Hashes) → HasRoomForEntry hashes index.old → HasRoomForEntry hashes index.new }
     ensures dropped { vas.new ≡ record vas.old { dropped = vas.old.dropped + evicted } }
     ensures freed { result + total_size (drop evicted (fields_in (entries_of entries.old.items))) ≡
         total_size (fields_in (entries_of entries.old.items)) }
 {
     let mut freed = 0;
     for _ in 0..evicted {
+        let dropped = vas.total_inserted() - entries.len();
+        index.leave(entries, dropped);
         let Some(entry) = entries.pop_front() else {
             break;
         };

@@ -18,6 +18,7 @@ ghost use Rattle.qpack_table.specs.declared.dynamic.Error.TheVariants.{MaximumTa
 
 use crate::dynamic::Error;
 use crate::dynamic::entry::{Entry, UnacknowledgedBlock, drop_oldest};
+use crate::dynamic::index::{Hashes, Index};
 use crate::vas::VirtualAddressSpace;
 use qpack_base::field::HeaderField;
 use std::alloc::{AllocError, Global};
@@ -54,6 +55,8 @@ pub struct DynamicTable {
     pub(super) blocked: Vec<usize>,
     /// At most each of them.
     pub(super) least_blocked: usize,
+    /// Of the live entries.
+    pub(super) index: Index,
 }
 
 impl Model for DynamicTable {
@@ -75,7 +78,7 @@ impl Model for DynamicTable {
     } };
 
     ghost invariant = { λ a. IsKept a.vas a.entries.items a.mem_size a.max_mem_size a.referenced.items
-        (blocks_of a.unacknowledged.items) a.least_blocked a.blocked.items };
+        (blocks_of a.unacknowledged.items) a.least_blocked a.blocked.items a.index };
 }
 
 impl DynamicTable {
@@ -95,6 +98,7 @@ impl DynamicTable {
             unacknowledged: VecDeque::new(alloc),
             blocked: Vec::new(alloc),
             least_blocked: usize::MAX,
+            index: Index::new(alloc),
         }
     }
 
@@ -111,6 +115,11 @@ impl DynamicTable {
         ensures most { result < 2 ^ 30 }
     {
         self.max_mem_size
+    }
+
+    /// What the table takes its memory of.
+    pub fn allocator(&self) -> Global {
+        *self.entries.allocator()
     }
 
     /// The table under the base of a block.
@@ -234,16 +243,21 @@ impl DynamicTable {
         ensures ok { OnOk result (self.new ≡ with_entry self.old (record { field = field_of field; sent = sent })) }
         ensures err { OnErr result (self.new ≡ self.old) }
     {
+        let hashes = Hashes::of(&field);
+        let dropped = self.vas.total_dropped();
         self.entries.reserve(1)?;
-        let freed = drop_oldest(&mut self.entries, &mut self.vas, evicted);
+        self.index.reserve(&self.entries, dropped, hashes)?;
+        let freed = drop_oldest(&mut self.entries, &mut self.index, &mut self.vas, evicted);
         self.mem_size = self.mem_size - freed + field.mem_size();
-        self.vas.add();
+        let absolute = self.vas.add();
         self.entries.push_back_reserved(Entry {
             field,
             sent,
             referenced: false,
             uses: 0,
         });
+        let dropped = self.vas.total_dropped();
+        self.index.enter(&self.entries, dropped, absolute, hashes);
         Ok(())
     }
 
@@ -261,9 +275,12 @@ impl DynamicTable {
             ≡ with_reference (with_entry self.old (sent_entry (field_of field))) (insert_count self.old + 1)) }
         ensures err { OnErr result (self.new ≡ self.old) }
     {
+        let hashes = Hashes::of(&field);
+        let dropped = self.vas.total_dropped();
         self.entries.reserve(1)?;
         self.referenced.reserve(1)?;
-        let freed = drop_oldest(&mut self.entries, &mut self.vas, evicted);
+        self.index.reserve(&self.entries, dropped, hashes)?;
+        let freed = drop_oldest(&mut self.entries, &mut self.index, &mut self.vas, evicted);
         let size = field.mem_size();
         self.mem_size = self.mem_size - freed + size;
         let absolute = self.vas.add();
@@ -273,6 +290,8 @@ impl DynamicTable {
             referenced: true,
             uses: 1,
         });
+        let dropped = self.vas.total_dropped();
+        self.index.enter(&self.entries, dropped, absolute, hashes);
         self.referenced.push_reserved(absolute);
         Ok(())
     }
@@ -349,7 +368,7 @@ impl DynamicTable {
         let Some(evicted) = self.evictable_count(size) else {
             return Err(Error::MaxTableSizeReached);
         };
-        let freed = drop_oldest(&mut self.entries, &mut self.vas, evicted);
+        let freed = drop_oldest(&mut self.entries, &mut self.index, &mut self.vas, evicted);
         self.mem_size -= freed;
         self.max_mem_size = size;
         Ok(())

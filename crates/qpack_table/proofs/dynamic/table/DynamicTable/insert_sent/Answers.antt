@@ -1,5 +1,5 @@
 use Rattle.std.proofs.Common.{◌≡◌, ◌∷◌, ◌++◌, [], ◌+◌, ◌≤◌, ℕ, List, drop, length, ap, sym, ◌∙◌, arith}
-use Rattle.std.proofs.lemmas.List.{drop-map, length-map}
+use Rattle.std.proofs.lemmas.List.{drop-map, length-map, length-append}
 use Rattle.qpack_base.specs.HeaderFields.{field_of}
 use Rattle.qpack_spec.specs.Field.{field_size, total_size}
 use Rattle.qpack_spec.specs.Table as table
@@ -9,6 +9,7 @@ use Rattle.qpack_table.specs.Positions.{Positions}
 use Rattle.qpack_table.specs.Tables.{entry_of, entries_of}
 use Rattle.qpack_table.specs.declared.dynamic.entry.Entry.{Entry}
 use Rattle.qpack_table.proofs.Sent.{sent_now, kept_sent, not_referenced, entered_and_referenced}
+use Rattle.qpack_table.proofs.WholeIndexes.{newest_there, index_before, index_behind, hashes_joined}
 use Rattle.qpack_table.proofs.Evictions.{joined_entries, left_is, evicted_within}
 use Rattle.qpack_table.proofs.dynamic.table.DynamicTable.insert_sent.Goals as goal
 
@@ -33,6 +34,15 @@ invariant_of-self-2 c =
     let evicted : c.args.evicted ≡ eviction_count c.self.inside.max_mem_size
     (fields_in (entries_of c.self.inside.entries.items) ++ field_of c.args.field ∷ []) =
     c.requires.evicted ∙ ap (λ (t : Table). eviction_count_for t (field_of c.args.field)) (sym c.self.view_is) in
+    let few = evicted_within c.self.inside.entries.items (field_of c.args.field) c.self.inside.max_mem_size
+    c.args.evicted fits evicted in
+    let left : c.drop_oldest-freed.new.entries.items ≡ drop c.args.evicted c.self.inside.entries.items =
+    c.drop_oldest-freed.ensures.left
+    ∙ ap (λ (l : List Entry). drop c.args.evicted l) c.in_ok-reserve.ensures.items in
+    let at = newest_there c.self.inside.vas c.drop_oldest-freed.new.vas c.add-absolute.new.self
+    c.self.inside.entries.items c.drop_oldest-freed.new.entries.items c.args.evicted c.add-absolute.result
+    c.total_dropped-dropped-2.result c.self.invariant.sized.counted left few c.drop_oldest-freed.ensures.dropped
+    c.add-absolute.ensures.index c.add-absolute.ensures.added c.total_dropped-dropped-2.ensures.exact in
     let same = c.in_ok-reserve.ensures.items in
     let new : Entry = sent_now c.args.field in
     let size : c.mem_size-size.result ≡ field_size (field_of c.args.field) =
@@ -65,6 +75,8 @@ invariant_of-self-2 c =
     ))
     (c.push_reserved.ensures.items ∙ ap (λ (l : List ℕ). l ++ c.add-absolute.result ∷ [])
     c.in_ok-reserve-2.ensures.items)
+    (index_behind _ _ _ _ _ new _ c.enter.ensures.index c.push_back_reserved.ensures.items
+    c.total_dropped-dropped-2.ensures.exact at)
 
 pub returns-clause-ok : goal.returns-clause-ok
 returns-clause-ok c =
@@ -107,3 +119,67 @@ returns-clause-ok c =
     )))
     (c.push_reserved.ensures.items ∙ ap (λ (l : List ℕ). l ++ c.add-absolute.result ∷ [])
     c.in_ok-reserve-2.ensures.items))
+
+pub enter-requires-clause-live : goal.enter-requires-clause-live
+enter-requires-clause-live c =
+    let fits : field_size (field_of c.args.field) ≤ c.self.inside.max_mem_size =
+    omega (arith, c.requires.fits, ap (λ (t : Table). t.capacity) c.self.view_is) in
+    let evicted : c.args.evicted ≡ eviction_count c.self.inside.max_mem_size
+    (fields_in (entries_of c.self.inside.entries.items) ++ field_of c.args.field ∷ []) =
+    c.requires.evicted ∙ ap (λ (t : Table). eviction_count_for t (field_of c.args.field)) (sym c.self.view_is) in
+    let few = evicted_within c.self.inside.entries.items (field_of c.args.field) c.self.inside.max_mem_size
+    c.args.evicted fits evicted in
+    let left : c.drop_oldest-freed.new.entries.items ≡ drop c.args.evicted c.self.inside.entries.items =
+    c.drop_oldest-freed.ensures.left
+    ∙ ap (λ (l : List Entry). drop c.args.evicted l) c.in_ok-reserve.ensures.items in
+    let at = newest_there c.self.inside.vas c.drop_oldest-freed.new.vas c.add-absolute.new.self
+    c.self.inside.entries.items c.drop_oldest-freed.new.entries.items c.args.evicted c.add-absolute.result
+    c.total_dropped-dropped-2.result c.self.invariant.sized.counted left few c.drop_oldest-freed.ensures.dropped
+    c.add-absolute.ensures.index c.add-absolute.ensures.added c.total_dropped-dropped-2.ensures.exact in
+    let long = ap (λ (l : List Entry). length l) c.push_back_reserved.ensures.items in
+    let one = length-append c.drop_oldest-freed.new.entries.items (sent_now c.args.field ∷ []) in
+    (at.above, omega (arith, at.is, long, one))
+
+pub enter-requires-clause-index : goal.enter-requires-clause-index
+enter-requires-clause-index c =
+    let fits : field_size (field_of c.args.field) ≤ c.self.inside.max_mem_size =
+    omega (arith, c.requires.fits, ap (λ (t : Table). t.capacity) c.self.view_is) in
+    let evicted : c.args.evicted ≡ eviction_count c.self.inside.max_mem_size
+    (fields_in (entries_of c.self.inside.entries.items) ++ field_of c.args.field ∷ []) =
+    c.requires.evicted ∙ ap (λ (t : Table). eviction_count_for t (field_of c.args.field)) (sym c.self.view_is) in
+    let few = evicted_within c.self.inside.entries.items (field_of c.args.field) c.self.inside.max_mem_size
+    c.args.evicted fits evicted in
+    let left : c.drop_oldest-freed.new.entries.items ≡ drop c.args.evicted c.self.inside.entries.items =
+    c.drop_oldest-freed.ensures.left
+    ∙ ap (λ (l : List Entry). drop c.args.evicted l) c.in_ok-reserve.ensures.items in
+    let at = newest_there c.self.inside.vas c.drop_oldest-freed.new.vas c.add-absolute.new.self
+    c.self.inside.entries.items c.drop_oldest-freed.new.entries.items c.args.evicted c.add-absolute.result
+    c.total_dropped-dropped-2.result c.self.invariant.sized.counted left few c.drop_oldest-freed.ensures.dropped
+    c.add-absolute.ensures.index c.add-absolute.ensures.added c.total_dropped-dropped-2.ensures.exact in
+    let new : Entry = sent_now c.args.field in
+    let same : c.total_dropped-dropped-2.result ≡ c.drop_oldest-freed.new.vas.dropped =
+    c.total_dropped-dropped-2.ensures.exact ∙ ap (λ (p : Positions). p.dropped) c.add-absolute.ensures.added in
+    index_before _ _ _ _ _ new _ c.drop_oldest-freed.ensures.index c.push_back_reserved.ensures.items same at
+
+pub enter-requires-clause-room : goal.enter-requires-clause-room
+enter-requires-clause-room c = c.drop_oldest-freed.ensures.room c.of-hashes.result c.in_ok-reserve-3.ensures.room
+
+pub enter-requires-clause-hashes : goal.enter-requires-clause-hashes
+enter-requires-clause-hashes c =
+    let fits : field_size (field_of c.args.field) ≤ c.self.inside.max_mem_size =
+    omega (arith, c.requires.fits, ap (λ (t : Table). t.capacity) c.self.view_is) in
+    let evicted : c.args.evicted ≡ eviction_count c.self.inside.max_mem_size
+    (fields_in (entries_of c.self.inside.entries.items) ++ field_of c.args.field ∷ []) =
+    c.requires.evicted ∙ ap (λ (t : Table). eviction_count_for t (field_of c.args.field)) (sym c.self.view_is) in
+    let few = evicted_within c.self.inside.entries.items (field_of c.args.field) c.self.inside.max_mem_size
+    c.args.evicted fits evicted in
+    let left : c.drop_oldest-freed.new.entries.items ≡ drop c.args.evicted c.self.inside.entries.items =
+    c.drop_oldest-freed.ensures.left
+    ∙ ap (λ (l : List Entry). drop c.args.evicted l) c.in_ok-reserve.ensures.items in
+    let at = newest_there c.self.inside.vas c.drop_oldest-freed.new.vas c.add-absolute.new.self
+    c.self.inside.entries.items c.drop_oldest-freed.new.entries.items c.args.evicted c.add-absolute.result
+    c.total_dropped-dropped-2.result c.self.invariant.sized.counted left few c.drop_oldest-freed.ensures.dropped
+    c.add-absolute.ensures.index c.add-absolute.ensures.added c.total_dropped-dropped-2.ensures.exact in
+    let new : Entry = sent_now c.args.field in
+    hashes_joined _ _ _ new _ _ (c.of-hashes.ensures.name, c.of-hashes.ensures.field)
+    c.push_back_reserved.ensures.items at.is

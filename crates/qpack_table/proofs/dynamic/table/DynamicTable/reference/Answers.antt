@@ -4,7 +4,7 @@ use Rattle.qpack_spec.specs.Table.{Table, insert_count}
 use Rattle.qpack_table.specs.Tables.{entry_of, block_of}
 use Rattle.qpack_table.specs.declared.dynamic.entry.Entry.{Entry}
 use Rattle.qpack_table.proofs.EvictableEntries.{item_there, read_twice}
-use Rattle.qpack_table.proofs.Kept.{sized_as}
+use Rattle.qpack_table.proofs.Kept.{sized_as, indexed_as}
 use Rattle.qpack_table.proofs.InProgress.{referenced_before, referenced_now, uses_fit, tracked_referenced, flag_tells}
 use Rattle.qpack_table.proofs.InProgress.{same_live}
 use Rattle.qpack_table.proofs.dynamic.table.DynamicTable.reference.Goals as goal
@@ -84,6 +84,9 @@ invariant_of-self-2 c =
           (omega (arith, place, within, c.self.invariant.sized.counted))
           (item_there _ _ _ within c.index_mut-entry.ensures.value) unflagged refl refl c.in_ok-push.ensures.items;
       least = c.self.invariant.least;
+      indexed = indexed_as c.self.inside.vas.dropped c.self.inside.entries.items _
+          (same_live _ _ c.index_mut-entry.result.now _ within c.index_mut-entry.ensures.value refl)
+          c.self.invariant.indexed;
     }
 
 pub returns-clause-ok : goal.returns-clause-ok

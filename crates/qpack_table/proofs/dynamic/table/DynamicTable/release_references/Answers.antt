@@ -1,5 +1,5 @@
 use Rattle.std.proofs.Common.{◌∙◌}
-use Rattle.qpack_table.proofs.Kept.{sized_as}
+use Rattle.qpack_table.proofs.Kept.{sized_as, indexed_as}
 use Rattle.qpack_table.proofs.InProgress.{counted_in_progress, tracked_given_up, given_up}
 use Rattle.qpack_table.proofs.dynamic.table.DynamicTable.release_references.Goals as goal
 
@@ -20,6 +20,8 @@ invariant_of-self c = record {
       c.clear_references.ensures.uses c.clear_references.ensures.cleared c.lower_uses.ensures.flags
       c.lower_uses.ensures.lowered);
   least = c.self.invariant.least;
+  indexed = indexed_as c.self.inside.vas.dropped c.self.inside.entries.items _
+      (c.lower_uses.ensures.live ∙ c.clear_references.ensures.live) c.self.invariant.indexed;
 }
 
 pub returns : goal.returns

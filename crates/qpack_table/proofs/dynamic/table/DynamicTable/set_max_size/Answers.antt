@@ -46,7 +46,7 @@ invariant_of-self c =
     evicted (omega (arith, c.greatest_capacity.ensures.most)) c.drop_oldest-freed.ensures.left
     c.drop_oldest-freed.ensures.freed refl
     (ap (λ (p : Positions). p.dropped) c.drop_oldest-freed.ensures.dropped)
-    (ap (λ (p : Positions). p.total) c.drop_oldest-freed.ensures.dropped)
+    (ap (λ (p : Positions). p.total) c.drop_oldest-freed.ensures.dropped) c.drop_oldest-freed.ensures.index
 
 pub returns : goal.returns
 returns c =

@@ -1,0 +1,59 @@
+-- A search that halves makes at most as many steps as its row's length has digits.
+use Rattle.std.proofs.Common.{◌≡◌, ℕ, suc, ◌+◌, ◌-◌, ◌*◌, ◌^◌, ◌<◌, ◌≤◌, inl, inr, ap, arith}
+use Rattle.std.specs.Prelude.{min}
+use Rattle.std.proofs.lemmas.Bool.{cases_lt}
+use Rattle.std.proofs.Math.Nat.{pow-suc, pow-le-pow_right, mul-le-mul_right}
+use Rattle.qpack_table.specs.Rows.{Counts}
+
+-- so many steps were made, and so many places are left
+pub record Halved (n left steps : ℕ) : Type 0 where
+  pub product : left * 2 ^ steps ≤ n
+  pub few : (digits : ℕ) → n < 2 ^ digits → steps ≤ digits
+
+halved_none : (n : ℕ) → Halved n n 0
+halved_none n = record { product = omega arith; few = λ digits h. omega arith }
+
+below_power : (digits steps : ℕ) → 2 ^ steps < 2 ^ digits → steps < digits
+below_power digits steps h =
+    elim (cases_lt steps digits) [
+      | inl lt ↦ lt
+      | inr le ↦ absurd (omega (arith, h, pow-le-pow_right {n = 2} (omega arith) le))
+    ]
+
+halved_more : (n left less steps : ℕ) → Halved n left steps → 0 < left → less * 2 ≤ left → Halved n less (suc steps)
+halved_more n left less steps h some half =
+    let power = 2 ^ steps in
+    let next : 2 ^ suc steps ≡ power * 2 = pow-suc 2 steps in
+    let one : 1 * power ≤ left * power = mul-le-mul_right power some in
+    let twice : (less * 2) * power ≤ left * power = mul-le-mul_right power half in
+    record {
+      product = omega (arith, twice, h.product, ap (λ (x : ℕ). less * x) next);
+      few = λ digits g. below_power digits steps (omega (arith, one, h.product, g));
+    }
+
+-- the count rose by at most so many steps; it is held at the greatest number
+pub record CountsHalved (n left old new : ℕ) : Type 0 where
+  pub steps : ℕ
+  pub halved : Halved n left steps
+  pub least : old ≤ new
+  pub most : new ≤ old + steps
+
+pub counts_none : (n old : ℕ) → CountsHalved n n old old
+counts_none n old = record { steps = 0; halved = halved_none n; least = omega arith; most = omega arith }
+
+pub counts_more : (n left less old now new : ℕ) → CountsHalved n left old now → 0 < left → less * 2 ≤ left
+    → new ≡ min (now + 1) (2 ^ 64 - 1) → now ≤ new → CountsHalved n less old new
+counts_more n left less old now new h some half raised grows =
+    record {
+      steps = suc h.steps;
+      halved = halved_more n left less h.steps h.halved some half;
+      least = omega (arith, h.least, grows);
+      most = omega (arith, h.most, raised);
+    }
+
+-- at the end of a search
+pub counts_all : (n left old new : ℕ) → CountsHalved n left old new → Counts n old new
+counts_all n left old new h = (h.least, λ digits g. omega (arith, h.most, h.halved.few digits g))
+
+pub counts_fewer : (m n old new : ℕ) → m ≤ n → Counts m old new → Counts n old new
+counts_fewer m n old new h c = (c.0, λ digits g. c.1 digits (omega (arith, h, g)))

@@ -1,0 +1,9 @@
+use Rattle.std.proofs.Common.{◌≡◌, [], length}
+use Rattle.std.specs.List.{All}
+use Rattle.qpack_table.proofs.dynamic.index.rows.Rows.with_count.Given as goal
+
+abbrev pub invariant-loop : goal.invariant-loop
+invariant-loop l = record {
+  count : length l.rows.items ≡ l.counter;
+  empty : All (λ r. r.indexes.items ≡ []) l.rows.items;
+}

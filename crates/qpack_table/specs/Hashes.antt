@@ -1,0 +1,51 @@
+-- The hashes by which the dynamic table's index cuts its rows. Nothing is promised of how well they spread.
+use Rattle.std.specs.Prelude.{ℕ, zero, suc, ◌+◌, ◌-◌, ◌*◌, ◌/◌, ◌%◌, ◌^◌, List, fold, take, drop, length, nat_le}
+use Rattle.std.specs.Prelude.{if◌then◌else◌}
+use Rattle.std.specs.Int.{from_le_bytes, w64, w128}
+use Rattle.std.specs.Int.RustNames.{bit_and, bit_xor}
+use Rattle.qpack_spec.specs.Field.{Field}
+
+-- the two halves of a product, in one
+abbrev pub folded : ℕ → ℕ → ℕ
+folded a b = bit_xor (bit_and (a * b) (2 ^ 64 - 1)) (a * b / 2 ^ 64)
+
+-- one step over two words
+unfoldable pub words_hash : ℕ → ℕ → ℕ → ℕ
+words_hash hash low high = folded (bit_xor hash low) (bit_xor 16646288086500911323 high)
+
+-- a number of a few bytes, the greatest first
+unfoldable pub few_bytes : List ℕ → ℕ
+few_bytes bytes = fold (λ word byte. (word * 256 % 2 ^ 64 + byte) % 2 ^ 64) 0 bytes
+
+-- one step over 16 bytes
+unfoldable pub piece_hash : ℕ → List ℕ → ℕ
+piece_hash hash piece = words_hash hash (bit_and (from_le_bytes w128 piece) (2 ^ 64 - 1))
+    (from_le_bytes w128 piece / 2 ^ 64)
+
+-- the last step, over fewer: the first and the last eight, which may overlap, or all
+unfoldable pub rest_hash : ℕ → List ℕ → ℕ
+rest_hash hash rest =
+    if nat_le 8 (length rest)
+    then words_hash hash (from_le_bytes w64 (take 8 rest)) (from_le_bytes w64 (drop (length rest - 8) rest))
+    else words_hash hash (few_bytes rest) 0
+
+-- so many steps, and the last one
+unfoldable pub pieces_hash : ℕ → ℕ → List ℕ → ℕ
+pieces_hash zero hash bytes = rest_hash hash bytes
+pieces_hash (suc more) hash bytes = pieces_hash more (piece_hash hash (take 16 bytes)) (drop 16 bytes)
+
+-- the hash goes on over bytes, whose number is hashed too
+unfoldable pub bytes_hash : ℕ → List ℕ → ℕ
+bytes_hash seed bytes = pieces_hash (length bytes / 16) (bit_xor seed (length bytes)) bytes
+
+-- the place of a hash of 32 bits among so many
+unfoldable pub place_among : ℕ → ℕ → ℕ
+place_among count hash = hash * count / 2 ^ 32
+
+-- 32 bits of the hash of a name
+unfoldable pub name_hash : List ℕ → ℕ
+name_hash name = bytes_hash 11562461410679940143 name / 2 ^ 32
+
+-- 32 bits of the hash of a field, which goes on from that of its name over its value
+unfoldable pub field_hash : Field → ℕ
+field_hash f = bytes_hash (bytes_hash 11562461410679940143 f.name) f.value / 2 ^ 32

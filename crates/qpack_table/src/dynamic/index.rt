@@ -1,0 +1,184 @@
+//! The index of the live entries, by which the newest entry with a field, or with a name, is found. It keeps absolute
+//! indexes alone: each call is lent the entries, and is told how many were dropped.
+
+ghost use Rattle.std.specs.Prelude.{◌≡◌, ◌+◌, ◌-◌, ◌^◌, ◌<◌, ◌≤◌, ℕ, List, [], IfOk, OnOk, OnErr, length, drop};
+ghost use Rattle.qpack_base.specs.HeaderFields.{field_of};
+ghost use Rattle.qpack_spec.specs.Field.{Field, is_field, has_name};
+ghost use Rattle.qpack_table.specs.Tables.{entries_of};
+ghost use Rattle.qpack_table.specs.Rows.{field_at, Counts};
+ghost use Rattle.qpack_table.specs.Tables.{live_fields};
+ghost use Rattle.qpack_table.specs.declared.dynamic.index.hash.Hashes.{Hashes};
+ghost use Rattle.qpack_table.specs.Indexes.{AreHashesOf, IsIndexOf, HasRoomForEntry, IsNewestIn};
+
+mod hash;
+mod names;
+mod row;
+mod rows;
+
+use crate::dynamic::entry::Entry;
+pub(super) use crate::dynamic::index::hash::Hashes;
+use crate::dynamic::index::names::Names;
+use crate::dynamic::index::rows::Rows;
+use crate::dynamic::steps::Steps;
+use qpack_base::field::HeaderField;
+use std::alloc::{AllocError, Global};
+use std::collections::VecDeque;
+
+/// The least number of rows, once there are any.
+const LEAST_ROWS: usize = 8;
+
+/// The live entries by their fields and by their names. There are at least as many rows, and as many buckets of
+/// names, as entries.
+#[derive(Debug, Drop)]
+pub(super) struct Index {
+    rows: Rows,
+    names: Names,
+    alloc: Global,
+}
+
+impl Index {
+    /// The index of no entry, which takes no memory.
+    pub(super) fn new(alloc: Global) -> Index
+        ensures { (dropped : ℕ) → IsIndexOf dropped [] 0 result }
+    {
+        Index {
+            rows: Rows::new(alloc),
+            names: Names::new(alloc),
+            alloc,
+        }
+    }
+
+    /// The index of no entry, with so many rows and buckets.
+    fn with_count(alloc: Global, count: usize) -> Result<Index, AllocError>
+        ensures empty { IfOk result (λ index. (dropped : ℕ) (live : List Field) → IsIndexOf dropped live 0 index) }
+        ensures rows { IfOk result (λ index. length index.rows.rows.items ≡ count) }
+    {
+        Ok(Index {
+            rows: Rows::with_count(alloc, count)?,
+            names: Names::with_count(alloc, count)?,
+            alloc,
+        })
+    }
+
+    /// The newest entry with the field.
+    pub(super) fn newest_equal(
+        &self,
+        entries: &VecDeque<Entry>,
+        dropped: usize,
+        field: &HeaderField,
+        steps: &mut Steps,
+    ) -> Option<usize>
+        requires index { IsIndexOf dropped (live_fields entries.now.items) (length entries.now.items) self.now }
+        requires few { dropped + length entries.now.items < 2 ^ 64 }
+        ensures found { IsNewestIn dropped (entries_of entries.now.items) (is_field (field_of field.now)) result }
+        ensures steps { Counts (length entries.now.items) steps.old.count steps.new.count }
+    {
+        let hashes = Hashes::of(field);
+        self.rows
+            .newest_equal(entries, dropped, field, hashes.field, steps)
+    }
+
+    /// The newest entry with the name.
+    pub(super) fn newest_of_name(
+        &self,
+        entries: &VecDeque<Entry>,
+        dropped: usize,
+        name: &[u8],
+    ) -> Option<usize>
+        requires { IsIndexOf dropped (live_fields entries.now.items) (length entries.now.items) self.now }
+        ensures { IsNewestIn dropped (entries_of entries.now.items) (has_name name.now) result }
+    {
+        self.names.newest(entries, dropped, name)
+    }
+
+    /// Makes room for one entry more, with such hashes. Refused, the index is as before.
+    pub(super) fn reserve(
+        &mut self,
+        entries: &VecDeque<Entry>,
+        dropped: usize,
+        hashes: Hashes,
+    ) -> Result<(), AllocError>
+        requires index { IsIndexOf dropped (live_fields entries.now.items) (length entries.now.items) self.old }
+        requires few { dropped + length entries.now.items ≤ 2 ^ 62 }
+        ensures index { IsIndexOf dropped (live_fields entries.now.items) (length entries.now.items) self.new }
+        ensures room { OnOk result (HasRoomForEntry hashes self.new) }
+    {
+        let count = self.rows.count();
+        if entries.len() < count {
+            return self.make_room(hashes);
+        }
+        let mut doubled = self.with_rows(entries, dropped, (2 * count).max(LEAST_ROWS))?;
+        doubled.make_room(hashes)?;
+        *self = doubled;
+        Ok(())
+    }
+
+    /// Makes room for one entry more in its row and among the links.
+    fn make_room(&mut self, hashes: Hashes) -> Result<(), AllocError>
+        requires rows { 0 < length self.old.rows.rows.items }
+        requires heads { 0 < length self.old.names.heads.items }
+        ensures index { (dropped entered : ℕ) (live : List Field) → IsIndexOf dropped live entered self.old
+            → IsIndexOf dropped live entered self.new }
+        ensures rows { length self.new.rows.rows.items ≡ length self.old.rows.rows.items }
+        ensures room { OnOk result (HasRoomForEntry hashes self.new) }
+    {
+        self.names.reserve()?;
+        self.rows.reserve(hashes.field)
+    }
+
+    /// The same entries in an index of so many rows and buckets. Nothing is hashed again.
+    fn with_rows(
+        &self,
+        entries: &VecDeque<Entry>,
+        dropped: usize,
+        count: usize,
+    ) -> Result<Index, AllocError>
+        requires index { IsIndexOf dropped (live_fields entries.now.items) (length entries.now.items) self.now }
+        requires few { dropped + length entries.now.items ≤ 2 ^ 62 }
+        requires some { 0 < count }
+        ensures index { IfOk result (λ index.
+            IsIndexOf dropped (live_fields entries.now.items) (length entries.now.items) index) }
+        ensures rows { IfOk result (λ index. length index.rows.rows.items ≡ count) }
+    {
+        let mut index = Index::with_count(self.alloc, count)?;
+        for position in 0..entries.len() {
+            let hashes = self.names.hashes_at(position);
+            index.make_room(hashes)?;
+            index.enter(entries, dropped, dropped + position + 1, hashes);
+        }
+        Ok(index)
+    }
+
+    /// An entry comes in behind all that are in, of which it is the next newer one. There is room.
+    pub(super) fn enter(
+        &mut self,
+        entries: &VecDeque<Entry>,
+        dropped: usize,
+        index: usize,
+        hashes: Hashes,
+    )
+        requires live { (dropped < index) × (index ≤ dropped + length entries.now.items) }
+        requires index { IsIndexOf dropped (live_fields entries.now.items) (index - dropped - 1) self.old }
+        requires hashes { AreHashesOf hashes (field_at dropped (live_fields entries.now.items) index) }
+        requires room { HasRoomForEntry hashes self.old }
+        ensures index { IsIndexOf dropped (live_fields entries.now.items) (index - dropped) self.new }
+        ensures rows { length self.new.rows.rows.items ≡ length self.old.rows.rows.items }
+    {
+        self.rows.enter(entries, dropped, index, hashes.field);
+        self.names.enter(index, hashes);
+    }
+
+    /// The oldest entry, which is about to be popped, goes out. It takes no memory, and the room that was made stays.
+    pub(super) fn leave(&mut self, entries: &VecDeque<Entry>, dropped: usize)
+        requires some { 0 < length entries.now.items }
+        requires few { dropped + length entries.now.items < 2 ^ 64 }
+        requires index { IsIndexOf dropped (live_fields entries.now.items) (length entries.now.items) self.old }
+        ensures index { IsIndexOf (dropped + 1) (drop 1 (live_fields entries.now.items))
+            (length entries.now.items - 1) self.new }
+        ensures room { (hashes : Hashes) → HasRoomForEntry hashes self.old → HasRoomForEntry hashes self.new }
+    {
+        let hashes = self.names.hashes_at(0);
+        self.rows.leave(entries, dropped, hashes.field);
+        self.names.leave();
+    }
+}

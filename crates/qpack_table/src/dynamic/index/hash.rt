@@ -1,0 +1,116 @@
+//! The hashes of fields and of names. That they spread them is not promised: a bad one costs time.
+
+ghost use Rattle.std.specs.Prelude.{◌≡◌, ◌<◌};
+ghost use Rattle.qpack_base.specs.HeaderFields.{field_of};
+ghost use Rattle.qpack_table.specs.Hashes.{bytes_hash, name_hash, field_hash, place_among};
+ghost use Rattle.qpack_table.specs.Hashes.{words_hash, piece_hash, rest_hash, few_bytes, folded};
+
+use qpack_base::field::HeaderField;
+
+/// Any number will do: this is a part of that of `wyhash`, as the next.
+const SEED: u64 = 0xA076_1D64_78BD_642F;
+
+const SECRET: u64 = 0xE703_7ED1_A0B4_28DB;
+
+/// The low half of 128 bits.
+const LOW_HALF: u128 = (1 << 64) - 1;
+
+/// The hashes of a field.
+#[derive(Debug, Clone, Copy)]
+pub(in crate::dynamic) struct Hashes {
+    /// Of its name.
+    pub(super) name: u32,
+    /// Of its name and its value.
+    pub(super) field: u32,
+}
+
+impl Hashes {
+    /// Those of a field: what goes on from the name over the value is not hashed twice.
+    pub(in crate::dynamic) fn of(field: &HeaderField) -> Hashes
+        ensures name { result.name ≡ name_hash (field_of field.now).name }
+        ensures field { result.field ≡ field_hash (field_of field.now) }
+    {
+        let name = hash_bytes(SEED, field.name.as_slice());
+        let field = hash_bytes(name, field.value.as_slice());
+        Hashes {
+            name: (name >> 32) as u32,
+            field: (field >> 32) as u32,
+        }
+    }
+}
+
+/// The place of a hash among so many: which part of all hashes it stands in.
+pub(super) fn place_of(hash: u32, count: usize) -> usize
+    requires { 0 < count }
+    ensures place { result ≡ place_among count hash }
+    ensures within { result < count }
+{
+    ((u128::from(hash) * count as u128) >> 32) as usize
+}
+
+/// A name's hash.
+pub(super) fn hash_name(name: &[u8]) -> u32
+    ensures { result ≡ name_hash name.now }
+{
+    (hash_bytes(SEED, name) >> 32) as u32
+}
+
+/// The hash goes on over bytes, 16 at a step.
+fn hash_bytes(seed: u64, bytes: &[u8]) -> u64
+    ensures { result ≡ bytes_hash seed bytes.now }
+{
+    let mut hash = seed ^ bytes.len() as u64;
+    let mut rest = bytes;
+    while let Some((piece, more)) = rest.split_first_chunk::<16>() {
+        hash = hash_piece(hash, *piece);
+        rest = more;
+    }
+    hash_rest(hash, rest)
+}
+
+/// One step over 16 bytes.
+fn hash_piece(hash: u64, piece: [u8; 16]) -> u64
+    ensures { result ≡ piece_hash hash piece }
+{
+    let word = u128::from_le_bytes(piece);
+    hash_words(hash, (word & LOW_HALF) as u64, (word >> 64) as u64)
+}
+
+/// The last step, over fewer bytes: the first and the last eight, which may overlap, or all.
+fn hash_rest(hash: u64, rest: &[u8]) -> u64
+    ensures { result ≡ rest_hash hash rest.now }
+{
+    let Some((first, _)) = rest.split_first_chunk::<8>() else {
+        return hash_words(hash, few_bytes(rest), 0);
+    };
+    let Some((_, last)) = rest.split_last_chunk::<8>() else {
+        unreachable!()
+    };
+    hash_words(hash, u64::from_le_bytes(*first), u64::from_le_bytes(*last))
+}
+
+/// A number of a few bytes, the greatest first.
+fn few_bytes(bytes: &[u8]) -> u64
+    ensures { result ≡ few_bytes bytes.now }
+{
+    let mut word = 0_u64;
+    for byte in bytes {
+        word = word.wrapping_mul(256).wrapping_add(u64::from(*byte));
+    }
+    word
+}
+
+/// One step over two words.
+fn hash_words(hash: u64, low: u64, high: u64) -> u64
+    ensures { result ≡ words_hash hash low high }
+{
+    fold_product(hash ^ low, SECRET ^ high)
+}
+
+/// Both halves of a product, in one.
+fn fold_product(a: u64, b: u64) -> u64
+    ensures { result ≡ folded a b }
+{
+    let product = u128::from(a) * u128::from(b);
+    (product & LOW_HALF) as u64 ^ (product >> 64) as u64
+}

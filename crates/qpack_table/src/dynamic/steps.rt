@@ -1,0 +1,33 @@
+//! How many comparisons with entries were made.
+
+ghost use Rattle.std.specs.Prelude.{◌≡◌, ◌+◌, ◌-◌, ◌^◌, ◌≤◌, min};
+
+/// A count of the comparisons of a sought field with entries, held at the greatest number.
+#[derive(Debug, Drop)]
+pub struct Steps {
+    count: u64,
+}
+
+impl Steps {
+    /// No comparison yet.
+    pub fn new() -> Steps
+        ensures { result.count ≡ 0 }
+    {
+        Steps { count: 0 }
+    }
+
+    /// How many comparisons were made.
+    pub fn count(&self) -> u64
+        ensures { result ≡ self.now.count }
+    {
+        self.count
+    }
+
+    /// One comparison more.
+    pub(super) fn raise(&mut self)
+        ensures raised { self.new.count ≡ min (self.old.count + 1) (2 ^ 64 - 1) }
+        ensures grows { self.old.count ≤ self.new.count }
+    {
+        self.count = self.count.saturating_add(1);
+    }
+}

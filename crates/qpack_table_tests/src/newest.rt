@@ -1,0 +1,142 @@
+//! The newest equal live entry, and how many entries are looked at for it.
+
+ghost use Rattle.std.specs.Prelude.{◌<◌};
+
+use qpack_base::field::HeaderField;
+use qpack_table::dynamic::{DynamicTable, Error, Steps};
+use qpack_testing::{field, same};
+use std::alloc::Global;
+use std::test::Fail;
+
+/// Puts a field, and again after a refusal for memory. A field that is larger than the capacity is left out.
+fn put(alloc: Global, table: &mut DynamicTable, name: &[u8], value: &[u8]) -> Result<(), Fail> {
+    let mut answer = table.put(field(alloc, name, value)?);
+    if let Err(Error::Memory) = answer {
+        answer = table.put(field(alloc, name, value)?);
+    }
+    match answer {
+        Ok(()) | Err(Error::MaxTableSizeReached) => Ok(()),
+        Err(e) => Err(e.into()),
+    }
+}
+
+/// The newest live entry with a field, by a scan from the newest on.
+fn scanned(table: &DynamicTable, sought: &HeaderField) -> Option<usize> {
+    let total = table.total_inserted();
+    for relative in 0..total {
+        match table.get_relative(relative) {
+            Ok(found) if found == sought => return Some(total - relative),
+            Ok(_) => {}
+            Err(_) => return None,
+        }
+    }
+    None
+}
+
+/// How many entries are live.
+fn live_count(table: &DynamicTable) -> usize {
+    for relative in 0..table.total_inserted() {
+        if table.get_relative(relative).is_err() {
+            return relative;
+        }
+    }
+    table.total_inserted()
+}
+
+/// The newest entry with a field is that of a scan, and no more entries were looked at than their number has digits.
+fn finds(alloc: Global, table: &DynamicTable, name: &[u8], value: &[u8]) -> Result<(), Fail> {
+    let sought = field(alloc, name, value)?;
+    let mut steps = Steps::new();
+    let found = table.newest_equal(&sought, &mut steps);
+    same(found, scanned(table, &sought))?;
+    let digits = usize::BITS - live_count(table).leading_zeros();
+    same(steps.count() <= u64::from(digits), true)
+}
+
+/// Numbers that look random, from a fixed seed.
+#[derive(Drop)]
+struct Random {
+    state: u64,
+}
+
+impl Random {
+    /// A number below a bound of at most 256.
+    fn below(&mut self, bound: u8) -> u8
+        requires { 0 < bound }
+    {
+        self.state ^= self.state << 13;
+        self.state ^= self.state >> 7;
+        self.state ^= self.state << 17;
+        (self.state % u64::from(bound)) as u8
+    }
+}
+
+#[test]
+fn one_of_a_hundred_is_found_in_eight_steps(rt: HostRuntime) -> Result<(), Fail> {
+    let alloc = rt.alloc();
+    let mut table = DynamicTable::new(alloc);
+    table.set_max_size(4096)?;
+    for value in 1..=100_u8 {
+        put(alloc, &mut table, b"n", &[value])?;
+    }
+    let mut steps = Steps::new();
+    let found = table.newest_equal(&field(alloc, b"n", &[57])?, &mut steps);
+    same((found, live_count(&table)), (Some(57), 100))?;
+    same((steps.count() > 0, steps.count() <= 8), (true, true))
+}
+
+#[test]
+fn the_newest_of_equal_entries_is_found(rt: HostRuntime) -> Result<(), Fail> {
+    let alloc = rt.alloc();
+    let mut table = DynamicTable::new(alloc);
+    table.set_max_size(4096)?;
+    for _ in 0..3 {
+        put(alloc, &mut table, b"foo", b"bar")?;
+    }
+    let mut steps = Steps::new();
+    let found = table.newest_equal(&field(alloc, b"foo", b"bar")?, &mut steps);
+    same(found, Some(3))?;
+    finds(alloc, &table, b"foo", b"ba")
+}
+
+#[test]
+fn an_empty_table_has_no_equal_entry(rt: HostRuntime) -> Result<(), Fail> {
+    let alloc = rt.alloc();
+    let table = DynamicTable::new(alloc);
+    let mut steps = Steps::new();
+    let found = table.newest_equal(&field(alloc, b"foo", b"bar")?, &mut steps);
+    same((found, steps.count() <= 1), (None, true))
+}
+
+#[test]
+fn small_tables_find_what_a_scan_finds(rt: HostRuntime) -> Result<(), Fail> {
+    let alloc = rt.alloc();
+    let mut table = DynamicTable::new(alloc);
+    let mut random = Random {
+        state: 0x1234_5678_9ABC_DEF1,
+    };
+    for _ in 0..3000 {
+        if random.below(8) == 0 {
+            table.set_max_size(usize::from(random.below(201)))?;
+        } else {
+            put(alloc, &mut table, &[random.below(2)], &[random.below(3)])?;
+        }
+        finds(alloc, &table, &[random.below(2)], &[random.below(3)])?;
+    }
+    Ok(())
+}
+
+#[test]
+fn a_large_table_finds_what_a_scan_finds(rt: HostRuntime) -> Result<(), Fail> {
+    let alloc = rt.alloc();
+    let mut table = DynamicTable::new(alloc);
+    table.set_max_size(4096)?;
+    let mut random = Random {
+        state: 0x0FED_CBA9_8765_4321,
+    };
+    for _ in 0..1000 {
+        put(alloc, &mut table, &[random.below(8)], &[random.below(16)])?;
+        finds(alloc, &table, &[random.below(8)], &[random.below(16)])?;
+    }
+    same(live_count(&table) > 100, true)
+}
