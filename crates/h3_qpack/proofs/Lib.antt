@@ -2,3 +2,8 @@ pub mod WrittenBlocks
 pub mod ReadLines
 pub mod Meanings
 pub mod Asking
+pub mod ReadSections
+pub mod SectionAnswers
+pub mod Instructions
+pub mod Increments
+pub mod Counts

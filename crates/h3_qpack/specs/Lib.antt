@@ -7,3 +7,5 @@ pub use Rattle.qpack_base.specs.HeaderFields
 pub mod Errors
 pub mod Stateless
 pub mod Memory
+pub mod Sections
+pub mod Receiving

@@ -26,6 +26,12 @@ use qpack_wire::block::{
 use std::alloc::{AllocError, AllocFailed, Global};
 use thiserror::Error;
 
+mod connection;
+mod instructions;
+mod sections;
+
+pub use crate::decoder::connection::{Decoder, ack_header, stream_canceled};
+
 /// The fields of a block.
 #[derive(Debug, PartialEq, Drop)]
 pub struct Decoded {

@@ -1,0 +1,147 @@
+-- What a decoder does with the bytes of the encoder stream (RFC 9204, sections 4.3 and 4.4.3).
+use Rattle.std.specs.Prelude.{◌≡◌, ℕ, ◌+◌, ◌-◌, ◌<◌, ◌⊎◌, ⊤, Bool, true, false, if◌then◌else◌, List, ◌++◌, Option, None}
+use Rattle.std.specs.Prelude.{Some}
+use Rattle.std.specs.Prelude.{IsSome, slice_get, Result, Ok, Err}
+use Rattle.std.specs.Option.{option_map}
+use Rattle.std.specs.List.{AllByRecursion}
+use Rattle.qpack_spec.specs.Bytes.{Begins}
+use Rattle.qpack_spec.specs.Field.{Field}
+use Rattle.qpack_spec.specs.Form.{FormFault, Truncates}
+use Rattle.qpack_spec.specs.Instruction.{EncoderInstruction, InsertStaticName, InsertDynamicName, InsertLiteralName}
+use Rattle.qpack_spec.specs.Instruction.{Duplicate, SetCapacity, encoder_instruction_form, SpellsEncoderInstruction}
+use Rattle.qpack_spec.specs.Instruction.{RefusesEncoderInstruction, written_decoder_instructions}
+use Rattle.qpack_spec.specs.StaticTable.{static_table}
+use Rattle.qpack_spec.specs.Stream.{Joined}
+use Rattle.qpack_spec.specs.Session.{apply_encoder_instructions, is_consumed, increments, sum_of, IsPiece}
+use Rattle.qpack_spec.specs.Table.{Table, window, insert_count, apply_encoder_instruction}
+use Rattle.qpack_spec.specs.Window.{TableRefusal, NoEntry, NoStaticField, DoesNotFit, AboveMaximum, UnknownStream}
+use Rattle.qpack_spec.specs.Window.{relative_entry, with_value}
+use Rattle.qpack_base.specs.Refusals.{IsRefusedFor}
+use Rattle.qpack_table.specs.declared.dynamic.Error.TheVariants.{BadRelativeIndex, MaxTableSizeReached}
+use Rattle.qpack_table.specs.declared.dynamic.Error.TheVariants.{MaximumTableSizeTooLarge, UnknownStreamId}
+use Rattle.qpack_wire.specs.Memory.{AsksForMemory}
+use Rattle.h3_qpack.specs.Sections.{form_fault_of}
+use Rattle.h3_qpack.specs.declared.decoder.DecoderError.{DecoderError}
+use Rattle.h3_qpack.specs.declared.decoder.DecoderError.TheVariants.{DynamicTable, InvalidStaticIndex, Memory}
+
+-- a decoder: its table, and how many insertions it has not reported yet
+pub record DecoderView : Type 0 where
+  pub table : Table
+  pub unreported : ℕ
+
+-- the refusal of the table that an error tells
+abbrev pub refusal_of : DecoderError → Option TableRefusal
+refusal_of (DynamicTable (BadRelativeIndex relative)) = Some (NoEntry relative)
+refusal_of (DynamicTable MaxTableSizeReached) = Some DoesNotFit
+refusal_of (DynamicTable MaximumTableSizeTooLarge) = Some AboveMaximum
+refusal_of (DynamicTable (UnknownStreamId stream)) = Some (UnknownStream stream)
+refusal_of (InvalidStaticIndex index) = Some (NoStaticField index)
+refusal_of e = None
+
+-- ---- one instruction
+
+-- the table is what the instruction makes of it, or as before where it is refused, or memory is
+abbrev pub Applies : Result ⊤ DecoderError → Result Table TableRefusal → Table → Table → Type 0
+Applies (Ok done) read old new = read ≡ Ok new
+Applies (Err Memory) read old new = new ≡ old
+Applies (Err e) read old new = IsRefusedFor read (refusal_of e) × (new ≡ old)
+
+-- the field that an instruction is to insert, where what it names is there (sections 4.3.2 to 4.3.4)
+abbrev pub field_to_insert : Table → EncoderInstruction → Option Field
+field_to_insert t (InsertStaticName index value) = option_map (λ f. with_value value f) (slice_get static_table index)
+field_to_insert t (InsertDynamicName relative value) = option_map (λ f. with_value value f)
+    (relative_entry (window t) relative)
+field_to_insert t (InsertLiteralName name value) = Some (record { name = name; value = value })
+field_to_insert t (Duplicate relative) = relative_entry (window t) relative
+field_to_insert t (SetCapacity capacity) = None
+
+-- memory may be asked for: a string of the next instruction stands whole, or a field is to be inserted
+abbrev pub AsksToTake : Table → List ℕ → Type 0
+AsksToTake t rest =
+    AsksForMemory encoder_instruction_form rest
+    ⊎ Begins (λ encoding. (i : EncoderInstruction) × SpellsEncoderInstruction encoding i × IsSome (field_to_insert t i))
+    rest
+
+-- why an instruction is not taken: memory is refused; the bytes are; or the table refuses it, which consumes it if
+-- what it asks for is known. `left` is what is left of the bytes
+pub data Stops (t : Table) (rest left : List ℕ) (e : DecoderError) : Type 0 where
+  no_memory : AsksToTake t rest → e ≡ Memory → left ≡ rest → Stops t rest left e
+  bad_bytes : (fault : FormFault) → Begins (λ encoding. RefusesEncoderInstruction encoding fault) rest
+      → form_fault_of e ≡ Some fault
+      → left ≡ rest → Stops t rest left e
+  bad_instruction : (encoding more : List ℕ) (i : EncoderInstruction) (refusal : TableRefusal) → rest ≡ encoding ++ more
+      → SpellsEncoderInstruction encoding i
+      → apply_encoder_instruction t i ≡ Err refusal → refusal_of e ≡ Some refusal
+      → left ≡ (if is_consumed refusal then more else rest)
+      → Stops t rest left e
+
+-- an instruction was taken from the front of the bytes
+pub record TakesOne (old new : Table) (rest left : List ℕ) : Type 0 where
+  pub encoding : List ℕ
+  pub instruction : EncoderInstruction
+  pub cut : rest ≡ encoding ++ left
+  pub spells : SpellsEncoderInstruction encoding instruction
+  pub applies : apply_encoder_instruction old instruction ≡ Ok new
+
+-- an instruction is taken, or none stands whole, or it is not taken; then the table is as before
+abbrev pub TakesNext : Table → Table → List ℕ → List ℕ → Result Bool DecoderError → Type 0
+TakesNext old new rest left (Ok true) = TakesOne old new rest left
+TakesNext old new rest left (Ok false) = Truncates encoder_instruction_form rest × (left ≡ rest) × (new ≡ old)
+TakesNext old new rest left (Err e) = Stops old rest left e × (new ≡ old)
+
+-- an instruction that was answered so is passed: it was applied, or the table refuses what it asks for
+abbrev pub is_passed_for : Option TableRefusal → Bool
+is_passed_for None = false
+is_passed_for (Some refusal) = is_consumed refusal
+
+abbrev pub is_passed : Result ⊤ DecoderError → Bool
+is_passed (Ok done) = true
+is_passed (Err e) = is_passed_for (refusal_of e)
+
+-- ---- all instructions that stand whole
+
+-- behind those that were taken none stands whole, or one is not taken
+abbrev pub EndsTaking : Table → List ℕ → List ℕ → Result ⊤ DecoderError → Type 0
+EndsTaking t rest left (Ok done) = Truncates encoder_instruction_form rest × (left ≡ rest)
+EndsTaking t rest left (Err e) = Stops t rest left e
+
+-- the instructions at the front of the bytes are taken, each with what it makes of the table
+pub record TakesInstructions (old new : Table) (bytes left : List ℕ) (r : Result ⊤ DecoderError) : Type 0 where
+  pub lines : List EncoderInstruction
+  pub front : List ℕ
+  pub rest : List ℕ
+  pub cut : bytes ≡ front ++ rest
+  pub joined : Joined SpellsEncoderInstruction front lines
+  pub applies : apply_encoder_instructions old lines ≡ Ok new
+  pub ends : EndsTaking new rest left r
+
+-- ---- a call
+
+-- the insertions that are to be reported, those of the call among them
+abbrev pub to_report : DecoderView → Table → ℕ
+to_report d t = d.unreported + (insert_count t - insert_count d.table)
+
+-- so many insertions are reported: increments, each from 1 to 64, are written behind what was written
+pub record Reports (many : ℕ) (old new : List ℕ) : Type 0 where
+  pub pieces : List ℕ
+  pub are_pieces : AllByRecursion IsPiece pieces
+  pub sum : sum_of pieces ≡ many
+  pub written : new ≡ old ++ written_decoder_instructions (increments pieces)
+
+-- how a call ends behind the instructions that it took: all its insertions are reported, and those of calls before that
+-- were not, and the total is answered; or it is refused, writes nothing, and keeps them all to be reported
+abbrev pub EndsReceiving : DecoderView → DecoderView → Result ⊤ DecoderError → List ℕ → List ℕ → Result ℕ DecoderError
+    → Type 0
+EndsReceiving old new (Ok done) told_old told_new (Ok total) =
+    (total ≡ insert_count new.table) × (new.unreported ≡ 0) × Reports (to_report old new.table) told_old told_new
+EndsReceiving old new (Ok done) told_old told_new (Err e) =
+    (e ≡ Memory) × (0 < to_report old new.table) × (new.unreported ≡ to_report old new.table) × (told_new ≡ told_old)
+EndsReceiving old new (Err e) told_old told_new r =
+    (r ≡ Err e) × (new.unreported ≡ to_report old new.table) × (told_new ≡ told_old)
+
+-- bytes of the encoder stream are received, behind which these are left, and these are written for the decoder stream
+pub record Receives (old new : DecoderView) (bytes left told_old told_new : List ℕ) (r : Result ℕ DecoderError)
+    : Type 0 where
+  pub taken : Result ⊤ DecoderError
+  pub takes : TakesInstructions old.table new.table bytes left taken
+  pub ends : EndsReceiving old new taken told_old told_new r

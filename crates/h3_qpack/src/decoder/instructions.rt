@@ -1,0 +1,144 @@
+//! Encoder instructions, as a decoder takes them (RFC 9204, section 4.3).
+
+ghost use Rattle.std.specs.Prelude.{◌≡◌, ◌<◌, Err, IsSome, IsTrue, OnOk, OnErr};
+ghost use Rattle.qpack_spec.specs.Instruction.{written_decoder_instructions};
+ghost use Rattle.qpack_spec.specs.Table.{apply_encoder_instruction, put, with_capacity};
+ghost use Rattle.qpack_base.specs.HeaderFields.{field_of};
+ghost use Rattle.qpack_wire.specs.StreamLines.{encoder_instruction_of};
+ghost use Rattle.h3_qpack.specs.Receiving.{Applies, field_to_insert, TakesNext, TakesInstructions, Reports};
+ghost use Rattle.h3_qpack.specs.Receiving.{is_passed};
+ghost use Rattle.h3_qpack.specs.declared.decoder.DecoderError.TheVariants.{Memory};
+ghost use Rattle.h3_qpack.specs.declared.decoder.DecoderError.TheVariants.{DynamicTable as DynamicTableError};
+
+use crate::decoder::DecoderError;
+use qpack_base::coding::{Cursor, NoMemory};
+use qpack_base::field::HeaderField;
+use qpack_base::static_::StaticTable;
+use qpack_table::dynamic::{self, DynamicTable};
+use qpack_wire::stream::{
+    Duplicate, DynamicTableSizeUpdate, EncoderLine, InsertCountIncrement, InsertWithNameRef,
+    InsertWithoutNameRef, next_line,
+};
+use std::alloc::Allocator;
+
+/// The greatest increment that is written; a longer one stands in pieces.
+const GREATEST_PIECE: usize = 64;
+
+/// Takes all instructions that stand whole at the cursor, and moves past them. At the first one that is refused it
+/// ends; the cursor moves past that one exactly if the table refuses it for what it asks.
+pub(super) fn take_instructions(
+    table: &mut DynamicTable,
+    buf: &mut Cursor,
+) -> Result<(), DecoderError>
+    ensures takes { TakesInstructions table.old table.new buf.old.rest buf.new.rest result }
+    ensures total { buf.new.total ≡ buf.old.total }
+{
+    while take_instruction(table, buf)? {}
+    Ok(())
+}
+
+/// Takes the instruction at the cursor and moves past it; answers whether one stood whole.
+fn take_instruction(table: &mut DynamicTable, buf: &mut Cursor) -> Result<bool, DecoderError>
+    ensures takes { TakesNext table.old table.new buf.old.rest buf.new.rest result }
+    ensures total { buf.new.total ≡ buf.old.total }
+{
+    let mut ahead = buf.fork();
+    let Some(line) = next_line::<EncoderLine>(table.allocator(), &mut ahead)? else {
+        return Ok(false);
+    };
+    let answer = apply(table, line);
+    if is_passed(&answer) {
+        *buf = ahead;
+    }
+    answer?;
+    Ok(true)
+}
+
+/// Whether an instruction is passed that was answered so: it was applied, or the table refuses what it asks for.
+fn is_passed(answer: &Result<(), DecoderError>) -> bool
+    ensures { result ≡ is_passed answer.now }
+{
+    match answer {
+        Ok(()) => true,
+        Err(DecoderError::DynamicTable(e)) => is_refused_by_table(e),
+        Err(_) => false,
+    }
+}
+
+/// Whether an error of the table refuses what an instruction asks for, and no index.
+fn is_refused_by_table(e: &dynamic::Error) -> bool
+    ensures { result ≡ is_passed (Err (DynamicTableError e.now)) }
+{
+    matches!(
+        e,
+        dynamic::Error::MaxTableSizeReached
+            | dynamic::Error::MaximumTableSizeTooLarge
+            | dynamic::Error::UnknownStreamId(_)
+    )
+}
+
+/// Applies an instruction to the table. Refused, nothing changes.
+#[tactic(auto, unfolding(qpack_spec::specs::Table::apply_encoder_instruction))]
+fn apply(table: &mut DynamicTable, line: EncoderLine) -> Result<(), DecoderError>
+    ensures applies { Applies result (apply_encoder_instruction table.old (encoder_instruction_of line))
+        table.old table.new }
+    ensures memory { result ≡ Err Memory → IsSome (field_to_insert table.old (encoder_instruction_of line)) }
+{
+    match line {
+        EncoderLine::InsertWithNameRef(InsertWithNameRef::Static { index, value }) => {
+            let field = StaticTable::get(index)?.with_value(value)?;
+            insert(table, field)
+        }
+        EncoderLine::InsertWithNameRef(InsertWithNameRef::Dynamic { index, value }) => {
+            let field = table.get_relative(index)?.with_value(value)?;
+            insert(table, field)
+        }
+        EncoderLine::InsertWithoutNameRef(InsertWithoutNameRef { name, value }) => {
+            insert(table, HeaderField::new(name, value))
+        }
+        EncoderLine::Duplicate(Duplicate(index)) => {
+            let field = table.get_relative(index)?.clone()?;
+            insert(table, field)
+        }
+        EncoderLine::DynamicTableSizeUpdate(DynamicTableSizeUpdate(size)) => {
+            set_capacity(table, size)
+        }
+    }
+}
+
+/// Puts a field. Refused, nothing changes.
+fn insert(table: &mut DynamicTable, field: HeaderField) -> Result<(), DecoderError>
+    ensures { Applies result (put table.old (field_of field)) table.old table.new }
+{
+    Ok(table.put(field)?)
+}
+
+/// Sets the capacity. Refused, nothing changes; it takes no memory.
+fn set_capacity(table: &mut DynamicTable, size: usize) -> Result<(), DecoderError>
+    ensures applies { Applies result (with_capacity table.old size) table.old table.new }
+    ensures no_memory { result ≡ Err Memory → ⊥ }
+{
+    Ok(table.set_max_size(size)?)
+}
+
+/// Appends increments for so many insertions, all or none (RFC 9204, section 4.4.3).
+pub(super) fn write_increments<A: Allocator>(
+    insertions: usize,
+    buf: &mut Vec<u8, A>,
+) -> Result<(), NoMemory>
+    ensures ok { OnOk result (Reports insertions buf.old.items buf.new.items) }
+    ensures err { OnErr result (buf.new.items ≡ buf.old.items) }
+    ensures memory { OnErr result (0 < insertions) }
+{
+    let len = buf.len();
+    let mut rest = insertions;
+    while rest > 0 {
+        let piece = rest.min(GREATEST_PIECE);
+        if InsertCountIncrement(piece).encode(buf).is_err() {
+            buf.truncate(len);
+            return Err(NoMemory);
+        }
+        rest -= piece;
+    }
+    Ok(())
+}

@@ -1,0 +1,106 @@
+//! Field sections under a dynamic table (RFC 9204, sections 2.2 and 4.5).
+
+ghost use Rattle.std.specs.Prelude.{◌≡◌, Err, OnOk};
+ghost use Rattle.qpack_spec.specs.Bytes.{Begins};
+ghost use Rattle.qpack_spec.specs.BlockReading.{fields_in_bytes, reading_of_bytes};
+ghost use Rattle.qpack_spec.specs.Reading.{line_field};
+ghost use Rattle.qpack_spec.specs.Table.{window};
+ghost use Rattle.qpack_wire.specs.BlockLines.{line_of};
+ghost use Rattle.h3_qpack.specs.Memory.{AsksLine, AsksSectionForMemory};
+ghost use Rattle.h3_qpack.specs.Sections.{DecodesSection, GivesLineField, ReadsField, ReadsFields, field_at};
+ghost use Rattle.h3_qpack.specs.Stateless.{IsFinished};
+ghost use Rattle.h3_qpack.specs.declared.decoder.DecoderError.TheVariants.{Memory};
+
+use crate::decoder::{Decoded, DecoderError};
+use qpack_base::coding::Cursor;
+use qpack_base::field::HeaderField;
+use qpack_base::static_::StaticTable;
+use qpack_table::dynamic::{DynamicTable, DynamicTableDecoder};
+use qpack_wire::block::{
+    BlockLine, HeaderPrefix, Indexed, Literal, LiteralWithNameRef, LiteralWithPostBaseNameRef,
+};
+use std::alloc::Global;
+
+/// The fields of lines, in order, and the sum of their sizes in bytes, held at the greatest number.
+#[derive(Drop)]
+struct Fields {
+    fields: Vec<HeaderField>,
+    mem_size: u64,
+}
+
+/// Decodes the section that the cursor has left.
+#[tactic(auto, unfolding(qpack_spec::specs::BlockReading::reading_of_bytes))]
+pub(super) fn read_section(table: &DynamicTable, buf: &mut Cursor) -> Result<Decoded, DecoderError>
+    ensures exact { DecodesSection result (reading_of_bytes (window table.now) buf.old.rest) }
+    ensures finished { OnOk result (IsFinished buf.old buf.new) }
+    ensures memory { result ≡ Err Memory → AsksSectionForMemory buf.old.rest }
+{
+    let prefix = HeaderPrefix::decode(buf)?;
+    let inserted = table.total_inserted();
+    let (required, base) = prefix.get(inserted, table.agreed_max())?;
+    if required > inserted {
+        return Err(DecoderError::MissingRefs(required));
+    }
+    let read = read_fields(table.allocator(), &table.decoder(base), buf)?;
+    Ok(Decoded {
+        fields: read.fields,
+        dyn_ref: required > 0,
+        mem_size: read.mem_size,
+    })
+}
+
+/// Reads lines to the end of the cursor.
+fn read_fields(
+    alloc: Global,
+    table: &DynamicTableDecoder,
+    buf: &mut Cursor,
+) -> Result<Fields, DecoderError>
+    ensures exact { ReadsFields result (fields_in_bytes (window table.now.table.now) table.now.base buf.old.rest) }
+    ensures finished { OnOk result (IsFinished buf.old buf.new) }
+    ensures memory { result ≡ Err Memory → Begins AsksLine buf.old.rest }
+{
+    let mut fields = Vec::new(alloc);
+    let mut mem_size = 0u64;
+    while buf.remaining() > 0 {
+        let field = read_field(alloc, table, buf)?;
+        mem_size = mem_size.saturating_add(field.mem_size() as u64);
+        fields.push(field)?;
+    }
+    Ok(Fields { fields, mem_size })
+}
+
+/// Reads the line at the cursor, and gives its field.
+fn read_field(
+    alloc: Global,
+    table: &DynamicTableDecoder,
+    buf: &mut Cursor,
+) -> Result<HeaderField, DecoderError>
+    ensures exact { ReadsField buf.old buf.new result
+        (field_at (window table.now.table.now) table.now.base buf.old.rest) }
+    ensures memory { result ≡ Err Memory → Begins AsksLine buf.old.rest }
+{
+    let line = BlockLine::decode(alloc, buf)?;
+    field_of_line(table, line)
+}
+
+/// The field that a line means (RFC 9204, sections 4.5.2 to 4.5.6).
+#[tactic(auto, unfolding(qpack_spec::specs::Reading::line_field, qpack_spec::specs::Reading::static_field))]
+fn field_of_line(table: &DynamicTableDecoder, line: BlockLine) -> Result<HeaderField, DecoderError>
+    ensures { GivesLineField result (line_field (window table.now.table.now) table.now.base (line_of line)) }
+{
+    match line {
+        BlockLine::Indexed(Indexed::Static(index)) => Ok(StaticTable::get(index)?),
+        BlockLine::Indexed(Indexed::Dynamic(index)) => Ok(table.get_relative(index)?.clone()?),
+        BlockLine::IndexedWithPostBase(line) => Ok(table.get_postbase(line.0)?.clone()?),
+        BlockLine::LiteralWithNameRef(LiteralWithNameRef::Static { index, value }) => {
+            Ok(StaticTable::get(index)?.with_value(value)?)
+        }
+        BlockLine::LiteralWithNameRef(LiteralWithNameRef::Dynamic { index, value }) => {
+            Ok(table.get_relative(index)?.with_value(value)?)
+        }
+        BlockLine::LiteralWithPostBaseNameRef(LiteralWithPostBaseNameRef { index, value }) => {
+            Ok(table.get_postbase(index)?.with_value(value)?)
+        }
+        BlockLine::Literal(Literal { name, value }) => Ok(HeaderField::new(name, value)),
+    }
+}
