@@ -7,3 +7,6 @@ pub mod SectionAnswers
 pub mod Instructions
 pub mod Increments
 pub mod Counts
+pub mod Hearing
+pub mod Additions
+pub mod Rooms

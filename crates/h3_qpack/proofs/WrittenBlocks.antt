@@ -1,8 +1,7 @@
 -- The block of fields, line by line as it is written.
-use Rattle.std.proofs.Common.{◌≡◌, List, ℕ, false, [], ◌∷◌, ◌++◌, map, length, take, Option, Some, None, refl, sym, ap}
-use Rattle.std.proofs.Common.{subst, ◌∙◌, append_assoc, append-nil}
+use Rattle.std.proofs.Common.{◌≡◌, List, ℕ, false, [], ◌∷◌, ◌++◌, map, length, take, refl, sym, ap}
+use Rattle.std.proofs.Common.{◌∙◌, append_assoc, append-nil}
 use Rattle.std.proofs.Math.Seq.{take-append_seam}
-use Rattle.std.specs.Prelude.{MatchOption}
 use Rattle.std.specs.Borrow.{Bor}
 use Rattle.qpack_spec.specs.Field.{Field}
 use Rattle.qpack_spec.specs.Line.{Line, written_line, written_lines}

@@ -9,3 +9,5 @@ pub mod Stateless
 pub mod Memory
 pub mod Sections
 pub mod Receiving
+pub mod Hearing
+pub mod Encoding

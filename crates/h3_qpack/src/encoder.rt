@@ -22,6 +22,15 @@ use qpack_wire::block::{HeaderPrefix, Indexed, Literal, LiteralWithNameRef};
 use std::alloc::{AllocError, Allocator};
 use thiserror::Error;
 
+mod capacity;
+mod connection;
+mod fields;
+mod instructions;
+mod room;
+
+pub use crate::encoder::capacity::set_dynamic_table_size;
+pub use crate::encoder::connection::Encoder;
+
 /// Why fields were not encoded, or an instruction of the decoder was not taken.
 #[derive(Debug, PartialEq, Drop, Error)]
 pub enum EncoderError {

@@ -6,4 +6,6 @@ mod blocks;
 #[cfg(test)]
 mod decoding;
 #[cfg(test)]
+mod encoder;
+#[cfg(test)]
 mod texts;

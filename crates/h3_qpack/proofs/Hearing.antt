@@ -1,0 +1,271 @@
+-- Decoder instructions that the encoder takes, one by one.
+use Rattle.std.proofs.Common.{◌≡◌, ℕ, ◌+◌, ◌<◌, List, [], ◌∷◌, ◌++◌, length, Bool, true, false, Option, Some, None}
+use Rattle.std.proofs.Common.{Result, Ok, Err}
+use Rattle.std.proofs.Common.{refl, sym, ap, subst, ◌∙◌, arith, append_assoc, append-nil, length-append}
+use Rattle.std.proofs.lemmas.Bool.{cond_both}
+use Rattle.std.specs.Prelude.{⊤, nat_lt}
+use Rattle.qpack_spec.specs.Bytes.{Begins, ◌>>=◌}
+use Rattle.qpack_spec.specs.Text.{StringFault, LengthOverflows, BadHuffman}
+use Rattle.qpack_spec.specs.Form.{Form, Index, IndexAndValue, NameAndValue, BadInteger, BadString, Truncates}
+use Rattle.qpack_spec.specs.Form.{RefusesForm}
+use Rattle.qpack_spec.specs.Instruction.{DecoderInstruction, decoder_instruction_form, SpellsDecoderInstruction}
+use Rattle.qpack_spec.specs.Instruction.{RefusesDecoderInstruction}
+use Rattle.qpack_spec.specs.Session.{apply_decoder_instructions}
+use Rattle.qpack_spec.specs.Stream.{Joined}
+use Rattle.qpack_spec.specs.Table as table
+use Rattle.qpack_spec.specs.Table.{apply_decoder_instruction}
+use Rattle.qpack_spec.specs.Window.{TableRefusal}
+use Rattle.qpack_spec.proofs.Cuttings.{joined_append}
+use Rattle.qpack_spec.proofs.Results.{bind_ok, ok_is}
+use Rattle.qpack_base.specs.Cursor.{CursorView}
+use Rattle.qpack_base.specs.Integers.{integer_fault_of}
+use Rattle.qpack_base.specs.Payloads.{huffman_fault_of}
+use Rattle.qpack_base.specs.Refusals.{IsRefusedFor}
+use Rattle.qpack_base.specs.declared.prefix_int.Error.TheVariants as integer
+use Rattle.qpack_base.specs.declared.prefix_string.Error.TheVariants as string
+use Rattle.qpack_base.specs.declared.parse_error.ParseError.{ParseError}
+use Rattle.qpack_base.specs.declared.parse_error.ParseError.TheVariants.{Integer, String, InvalidPrefix, InvalidBase}
+use Rattle.qpack_base.specs.declared.parse_error.ParseError.TheVariants.{Memory as ParseMemory}
+use Rattle.qpack_table.specs.Tables as tables
+use Rattle.qpack_table.specs.declared.dynamic.Error.{Error}
+use Rattle.qpack_table.specs.declared.dynamic.Error.TheVariants.{Memory as NoRoom}
+use Rattle.qpack_wire.specs.Alone.{KindFault, Unreadable, Foreign, is_cut_kind}
+use Rattle.qpack_wire.specs.Answers.{IsTruncated, fault_of}
+use Rattle.qpack_wire.specs.StreamAnswers.{FailsWhole, DecodesInstruction, ReadsStream, StaysUnlessRead}
+use Rattle.qpack_wire.specs.StreamLines.{RefusesDecoderLine, decoder_instruction_of, decoder_instruction_at}
+use Rattle.qpack_wire.specs.declared.stream.decoder_stream.DecoderLine.{DecoderLine}
+use Rattle.h3_qpack.specs.Errors.{encoder_error_of_parse, encoder_error_of_table}
+use Rattle.h3_qpack.specs.Hearing.{Applies, refusal_of, StopsHearing, bad_bytes, bad_instruction, HearsOne, HearsNext}
+use Rattle.h3_qpack.specs.Hearing.{Hears}
+use Rattle.h3_qpack.specs.declared.encoder.EncoderError.{EncoderError}
+use Rattle.h3_qpack.specs.declared.encoder.EncoderError.TheVariants.{Memory}
+
+-- what the table refuses is refused, as its error says
+pub change_fails : (e : Error) (read : Result table.Table TableRefusal) (old new : table.Table)
+    → IsRefusedFor read (tables.refusal_of e) × (new ≡ old)
+    → IsRefusedFor read (refusal_of (encoder_error_of_table e)) × (new ≡ old)
+change_fails NoRoom read old new h = absurd h.0
+change_fails e read old new h = h
+
+-- and is not told as want of memory
+pub change_asks_not : (e : Error) (read : Result table.Table TableRefusal) → IsRefusedFor read (tables.refusal_of e)
+    → encoder_error_of_table e ≡ Memory → ⊥
+change_asks_not NoRoom read h same = h
+change_asks_not e read h same = absurd cc
+
+-- ---- the bytes of a decoder instruction hold no string
+
+abbrev IsNumber : Option (Form DecoderInstruction) → Type 0
+IsNumber None = Unit {0}
+IsNumber (Some (Index n make)) = Unit {0}
+IsNumber (Some (IndexAndValue n make)) = ⊥
+IsNumber (Some (NameAndValue n make)) = ⊥
+
+all_numbers : (first : ℕ) → IsNumber (decoder_instruction_form first)
+unfolding decoder_instruction_form
+all_numbers first =
+    cond_both (nat_lt first 64) _ _ IsNumber (λ t. tt)
+    (λ f. cond_both (nat_lt first 128) _ _ IsNumber (λ t. tt)
+    (λ g. cond_both (nat_lt first 256) _ _ IsNumber (λ t. tt) (λ h. tt)))
+
+number_refuses : (form : Form DecoderInstruction) (encoding : List ℕ) (fault : StringFault) → IsNumber (Some form)
+    → RefusesForm form encoding (BadString fault) → ⊥
+number_refuses (Index n make) encoding fault is refuses = refuses
+number_refuses (IndexAndValue n make) encoding fault is refuses = is
+number_refuses (NameAndValue n make) encoding fault is refuses = is
+
+no_string : (rest : List ℕ) (fault : StringFault)
+    → Begins (λ encoding. RefusesDecoderInstruction encoding (BadString fault)) rest → ⊥
+no_string rest fault begins =
+    let at = begins.holds in
+    number_refuses at.form begins.encoding fault
+    (subst (λ (o : Option (Form DecoderInstruction)). IsNumber o) at.names (all_numbers at.first)) at.refuses
+
+-- ---- the instruction at the front of the bytes
+
+-- bytes that are no instruction
+pub stops_at_bytes : (t : table.Table) (rest : List ℕ) (e : ParseError)
+    (read : Result (DecoderInstruction × List ℕ) KindFault)
+    → FailsWhole e read → (e ≡ ParseMemory → ⊥)
+    → ((fault : KindFault) → is_cut_kind fault ≡ false → fault_of e ≡ Some fault
+    → Begins (λ encoding. RefusesDecoderLine encoding fault) rest)
+    → StopsHearing t rest rest (encoder_error_of_parse e)
+stops_at_bytes t rest (Integer integer.UnexpectedEnd) read fails asks told = absurd fails
+stops_at_bytes t rest (Integer integer.Overflow) read fails asks told =
+    bad_bytes (BadInteger (integer_fault_of integer.Overflow))
+    (told (Unreadable (BadInteger (integer_fault_of integer.Overflow))) refl refl) refl refl
+stops_at_bytes t rest (String string.UnexpectedEnd) read fails asks told = absurd fails
+stops_at_bytes t rest (String (string.Integer integer.Overflow)) read fails asks told =
+    absurd (no_string rest LengthOverflows (told (Unreadable (BadString LengthOverflows)) refl refl))
+stops_at_bytes t rest (String (string.Integer integer.UnexpectedEnd)) read fails asks told = absurd fails
+stops_at_bytes t rest (String (string.HuffmanDecoding h)) read fails asks told =
+    absurd (no_string rest (BadHuffman (huffman_fault_of h))
+    (told (Unreadable (BadString (BadHuffman (huffman_fault_of h)))) refl refl))
+stops_at_bytes t rest (String e) read fails asks told = absurd fails
+stops_at_bytes t rest (InvalidPrefix bits) read fails asks told = absurd (told (Foreign bits) refl refl).holds
+stops_at_bytes t rest (InvalidBase base) read fails asks told = absurd fails
+stops_at_bytes t rest ParseMemory read fails asks told = absurd (asks refl)
+
+-- the answer that no line was read
+abbrev refused_line : ParseError → Result (Option DecoderLine) ParseError
+refused_line e = Err e
+
+pub line_refused : (t : table.Table) (old new : CursorView) (e : ParseError) → new ≡ old
+    → DecodesInstruction decoder_instruction_of SpellsDecoderInstruction RefusesDecoderLine old new (Err e)
+    → (refused_line e ≡ refused_line ParseMemory → ⊥)
+    → ReadsStream decoder_instruction_of old new (Err e) (decoder_instruction_at old.rest)
+    → StopsHearing t old.rest new.rest (encoder_error_of_parse e)
+line_refused t old new e stays decodes asks exact =
+    subst (λ (x : CursorView). StopsHearing t old.rest x.rest (encoder_error_of_parse e)) (sym stays)
+    (stops_at_bytes t old.rest e (decoder_instruction_at old.rest) exact
+    (λ m. asks (ap refused_line m)) (λ fault whole told. (decodes.refused fault).0 whole told))
+
+-- a line that is truncated as such is truncated as a form
+truncated_form : (bytes : List ℕ) → IsTruncated SpellsDecoderInstruction RefusesDecoderLine bytes
+    → Truncates decoder_instruction_form bytes
+truncated_form bytes h encoding rest cut =
+    let parts = h encoding rest cut in (parts.0, λ fault refused. parts.1 (Unreadable fault) refused)
+
+pub no_line : (old new : CursorView) (o : Option DecoderLine) → o ≡ None
+    → DecodesInstruction decoder_instruction_of SpellsDecoderInstruction RefusesDecoderLine old new (Ok o)
+    → Truncates decoder_instruction_form old.rest
+no_line old new o none decodes =
+    truncated_form old.rest (decodes.truncated.0 (ap (λ (x : Option DecoderLine). Ok x) none))
+
+pub unread : (old new : CursorView) (o : Option DecoderLine) → o ≡ None → StaysUnlessRead old new (Ok o)
+    → new.rest ≡ old.rest
+unread old new None is stays = ap (λ (x : CursorView). x.rest) stays
+unread old new (Some l) is stays = absurd cc
+
+-- an instruction stands at the front
+pub record StandsAt (bytes rest : List ℕ) (r : DecoderInstruction) : Type 0 where
+  pub encoding : List ℕ
+  pub cut : bytes ≡ encoding ++ rest
+  pub spells : SpellsDecoderInstruction encoding r
+
+pub found_line : (old new : CursorView) (o : Option DecoderLine) (line : DecoderLine) → o ≡ Some line
+    → DecodesInstruction decoder_instruction_of SpellsDecoderInstruction RefusesDecoderLine old new (Ok o)
+    → StandsAt old.rest new.rest (decoder_instruction_of line)
+found_line old new None line is decodes = absurd cc
+found_line old new (Some l) line is decodes =
+    let found = decodes.found in
+    let one : l ≡ line = some_is l line is in
+    record {
+      encoding = found.0;
+      cut = found.2.0;
+      spells = subst (λ (x : DecoderLine). SpellsDecoderInstruction found.0 (decoder_instruction_of x)) one found.1;
+    }
+  where
+    some_is : (l m : DecoderLine) → Some l ≡ Some m → l ≡ m
+    some_is l m e = cc
+
+-- an instruction that the table does not take
+pub stops_at_table : (old new : table.Table) (rest left : List ℕ) (r : DecoderInstruction) (e : EncoderError)
+    → StandsAt rest left r → Applies (Err e) (apply_decoder_instruction old r) old new
+    → StopsHearing old rest left e × (new ≡ old)
+stops_at_table old new rest left r e at applies = (by_refusal (refusal_of e) refl, applies.1)
+  where
+    by_refusal : (o : Option TableRefusal) → refusal_of e ≡ o → StopsHearing old rest left e
+    by_refusal None none = absurd (subst (λ (o : Option TableRefusal). IsRefusedFor (apply_decoder_instruction old r) o)
+        none applies.0)
+    by_refusal (Some refusal) some =
+        bad_instruction at.encoding r refusal at.cut at.spells
+        (subst (λ (o : Option TableRefusal). IsRefusedFor (apply_decoder_instruction old r) o) some applies.0) some
+
+-- and one that it takes
+pub heard_one : (old new : table.Table) (rest left : List ℕ) (r : DecoderInstruction) → StandsAt rest left r
+    → apply_decoder_instruction old r ≡ Ok new → HearsOne old new rest left
+heard_one old new rest left r at applies =
+    record { encoding = at.encoding; instruction = r; cut = at.cut; spells = at.spells; applies = applies }
+
+-- ---- instructions in turn
+
+-- these were taken so far
+pub record HasHeard (old now : table.Table) (bytes rest : List ℕ) : Type 0 where
+  pub lines : List DecoderInstruction
+  pub front : List ℕ
+  pub cut : bytes ≡ front ++ rest
+  pub joined : Joined SpellsDecoderInstruction front lines
+  pub applies : apply_decoder_instructions old lines ≡ Ok now
+
+pub heard_none : (t : table.Table) (bytes : List ℕ) → HasHeard t t bytes bytes
+heard_none t bytes = record { lines = []; front = []; cut = refl; joined = refl; applies = refl }
+
+-- the table behind one instruction more
+applied_last : (lines : List DecoderInstruction) (r : DecoderInstruction) (old now new : table.Table)
+    → apply_decoder_instructions old lines ≡ Ok now
+    → apply_decoder_instruction now r ≡ Ok new → apply_decoder_instructions old (lines ++ r ∷ []) ≡ Ok new
+applied_last [] r old now new applied last =
+    let same : old ≡ now = ok_is old now applied in
+    ap (λ (t : table.Table). apply_decoder_instruction t r >>= λ u. Ok u) same
+    ∙ ap (λ (x : Result table.Table TableRefusal). x >>= λ u. Ok u) last
+applied_last (l ∷ lines) r old now new applied last =
+    let first = bind_ok (apply_decoder_instruction old l) (λ u. apply_decoder_instructions u lines) now applied in
+    ap (λ (x : Result table.Table TableRefusal). x >>= λ u. apply_decoder_instructions u (lines ++ r ∷ [])) first.1
+    ∙ applied_last lines r first.0 now new first.2 last
+
+pub heard_more : (old now new : table.Table) (bytes rest left : List ℕ) → HasHeard old now bytes rest
+    → HearsOne now new rest left
+    → HasHeard old new bytes left
+heard_more old now new bytes rest left h one =
+    record {
+      lines = h.lines ++ one.instruction ∷ [];
+      front = h.front ++ one.encoding;
+      cut = h.cut ∙ ap (λ (x : List ℕ). h.front ++ x) one.cut ∙ sym (append_assoc h.front one.encoding left);
+      joined = joined_append SpellsDecoderInstruction h.front one.encoding h.lines (one.instruction ∷ []) h.joined
+          (one.encoding, [], sym (append-nil one.encoding), one.spells, refl);
+      applies = applied_last h.lines one.instruction old now new h.applies one.applies;
+    }
+
+-- an instruction takes a byte at least
+pub one_shortens : (now new : table.Table) (rest left : List ℕ) → HearsOne now new rest left → length left < length rest
+one_shortens now new rest left one =
+    let parts : length rest ≡ length one.encoding + length left = ap length one.cut ∙ length-append one.encoding left in
+    omega (arith, parts, ap length one.spells.begins)
+
+pub one_was : (old new : table.Table) (rest left : List ℕ) (b : Bool) → HearsNext old new rest left (Ok b) → b ≡ true
+    → HearsOne old new rest left
+one_was old new rest left true takes is = takes
+one_was old new rest left false takes is = absurd cc
+
+-- none stands whole any more
+pub heard_all : (old now new : table.Table) (bytes rest left : List ℕ) (b : Bool) → HasHeard old now bytes rest
+    → HearsNext now new rest left (Ok b) → b ≡ false
+    → Hears old new bytes left (Ok tt)
+heard_all old now new bytes rest left true h takes is = absurd cc
+heard_all old now new bytes rest left false h takes is =
+    record {
+      lines = h.lines;
+      front = h.front;
+      rest = rest;
+      cut = h.cut;
+      joined = h.joined;
+      applies = h.applies ∙ ap (λ (t : table.Table). Ok t) (sym takes.2);
+      ends = (takes.0, takes.1);
+    }
+
+-- the next one is not taken
+pub heard_until : (old now new : table.Table) (bytes rest left : List ℕ) (e : EncoderError)
+    → HasHeard old now bytes rest → HearsNext now new rest left (Err e)
+    → Hears old new bytes left (Err e)
+heard_until old now new bytes rest left e h takes =
+    record {
+      lines = h.lines;
+      front = h.front;
+      rest = rest;
+      cut = h.cut;
+      joined = h.joined;
+      applies = h.applies ∙ ap (λ (t : table.Table). Ok t) (sym takes.1);
+      ends = subst (λ (t : table.Table). StopsHearing t rest left e) (sym takes.1) takes.0;
+    }
+
+-- none of this is told as want of memory
+memory_stops_not : (t : table.Table) (rest left : List ℕ) → StopsHearing t rest left Memory → ⊥
+memory_stops_not t rest left (bad_bytes fault begins told stays) = absurd (let e = told in cc)
+memory_stops_not t rest left (bad_instruction encoding r refusal cut spells refused told) = absurd (let e = told in cc)
+
+pub memory_is_not_told : (old new : table.Table) (bytes left : List ℕ) (r : Result ⊤ EncoderError)
+    → Hears old new bytes left r → r ≡ Err Memory → ⊥
+memory_is_not_told old new bytes left r h same =
+    let is = subst (λ (x : Result ⊤ EncoderError). Hears old new bytes left x) same h in
+    memory_stops_not new is.rest left is.ends

@@ -1,0 +1,15 @@
+use Rattle.std.proofs.Common.{arith}
+use Rattle.h3_qpack.proofs.Rooms.{capacity_most, no_err}
+use Rattle.h3_qpack.proofs.encoder.capacity.set_dynamic_table_size.Goals as goal
+
+pub returns-in_err-encode-clause-sets : goal.returns-in_err-encode-clause-sets
+returns-in_err-encode-clause-sets g c =
+    let most = capacity_most c.args.size in
+    absurd (no_err c.encode.result c.in_err-encode.field-0.0 (c.encode.ensures.writes.succeeds
+    (omega (arith, c.in_ok-make_room.ensures.ok, most))) c.in_err-encode.was)
+
+pub returns-in_err-encode-clause-memory : goal.returns-in_err-encode-clause-memory
+returns-in_err-encode-clause-memory g c =
+    let most = capacity_most c.args.size in
+    absurd (no_err c.encode.result c.in_err-encode.field-0.0 (c.encode.ensures.writes.succeeds
+    (omega (arith, c.in_ok-make_room.ensures.ok, most))) c.in_err-encode.was)

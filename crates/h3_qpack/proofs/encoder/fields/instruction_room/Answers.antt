@@ -1,0 +1,20 @@
+use Rattle.std.proofs.Common.{◌≡◌, ◌+◌, ◌*◌, ◌-◌, ◌^◌, ◌<◌, ◌≤◌, arith}
+use Rattle.std.specs.Prelude.{min}
+use Rattle.qpack_spec.specs.Field.{field_size}
+use Rattle.qpack_spec.specs.Handle.{insert_field}
+use Rattle.qpack_base.specs.HeaderFields.{field_of}
+use Rattle.h3_qpack.proofs.Rooms.{insertion_most, large_writes_none}
+use Rattle.h3_qpack.proofs.encoder.fields.instruction_room.Goals as goal
+
+pub returns-then-size-max_size : goal.returns-then-size-max_size
+returns-then-size-max_size c =
+    large_writes_none c.args.block.now.table.now c.args.block.now.base (field_of c.args.field.now)
+    (omega (arith, c.mem_size-size.ensures, c.max_size.ensures.exact, c.if-size-max_size.true))
+
+pub returns : goal.returns
+returns c =
+    let most = insertion_most (field_of c.args.field.now)
+    (insert_field c.args.block.now.table.now c.args.block.now.base (field_of c.args.field.now)).insertion in
+    let size : c.mem_size-size.result ≡ field_size (field_of c.args.field.now) =
+    omega (arith, c.mem_size-size.ensures, c.max_size.ensures.most, c.if-size-max_size.false) in
+    omega (arith, most, size)

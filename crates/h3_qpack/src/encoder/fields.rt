@@ -1,0 +1,159 @@
+//! The fields of a block, one by one: a line for each, and an instruction for each that is inserted (RFC 9204, section
+//! 2.1).
+
+ghost use Rattle.std.specs.Prelude.{◌≡◌, ◌≤◌, length, IfErr, OnOk, OnErr};
+ghost use Rattle.qpack_spec.specs.Handle.{insert_field, with_insertion, with_found, find_field};
+ghost use Rattle.qpack_spec.specs.Handle.{line_of as line_of_insertion, literal_at};
+ghost use Rattle.qpack_spec.specs.Line.{written_line};
+ghost use Rattle.qpack_base.specs.HeaderFields.{field_of};
+ghost use Rattle.qpack_base.specs.declared.prefix_string.Error.TheVariants.{Memory as NoRoom};
+ghost use Rattle.qpack_table.specs.Handles.{insertion_of, lookup_of};
+ghost use Rattle.qpack_wire.specs.Writes.{Writes};
+ghost use Rattle.h3_qpack.specs.Encoding.{written_insertion, draft_at, draft_of_field, Adds, StopsAdding};
+ghost use Rattle.h3_qpack.specs.declared.encoder.EncoderError.TheVariants.{Memory};
+
+use crate::encoder::EncoderError;
+use crate::encoder::room::make_room;
+use qpack_base::field::HeaderField;
+use qpack_base::prefix_string;
+use qpack_base::static_::StaticTable;
+use qpack_table::dynamic::{DynamicInsertionResult, DynamicLookupResult, DynamicTableEncoder};
+use qpack_wire::block::{
+    Indexed, IndexedWithPostBase, Literal, LiteralWithNameRef, LiteralWithPostBaseNameRef,
+};
+use qpack_wire::stream::{Duplicate, InsertWithNameRef, InsertWithoutNameRef};
+use std::alloc::Allocator;
+
+/// Adds a field to a block in progress: the first that applies of an equal static field, the newest equal entry, an
+/// insertion and a literal. Refused, which is for memory alone, either the entry was not inserted and no instruction
+/// is written, or it was and its instruction is.
+pub(super) fn append_field<A: Allocator, B: Allocator>(
+    block: &mut DynamicTableEncoder<'_>,
+    field: &HeaderField,
+    lines: &mut Vec<u8, A>,
+    encoder_buf: &mut Vec<u8, B>,
+) -> Result<(), EncoderError>
+    ensures same_table { block.new.table.ghost_name ≡ block.old.table.ghost_name }
+    ensures stream { block.new.stream_id ≡ block.old.stream_id }
+    ensures base { block.new.base ≡ block.old.base }
+    ensures ok { OnOk result (Adds (draft_of_field block.old.table.now block.old.base (field_of field.now))
+        block.new.table.now lines.old.items lines.new.items encoder_buf.old.items encoder_buf.new.items) }
+    ensures err { OnErr result (StopsAdding (draft_of_field block.old.table.now block.old.base (field_of field.now))
+        block.old.table.now block.new.table.now encoder_buf.old.items encoder_buf.new.items) }
+    ensures memory { IfErr result (λ e. e ≡ Memory) }
+{
+    if let Some(index) = StaticTable::find(field) {
+        return Ok(Indexed::Static(index).encode(lines)?);
+    }
+    if let DynamicLookupResult::Relative { index, .. } = block.find(field)? {
+        return Ok(Indexed::Dynamic(index).encode(lines)?);
+    }
+    append_insertion(block, field, lines, encoder_buf)
+}
+
+/// Inserts a field, or writes it as a literal. Room for the instruction is made before the insertion.
+fn append_insertion<A: Allocator, B: Allocator>(
+    block: &mut DynamicTableEncoder<'_>,
+    field: &HeaderField,
+    lines: &mut Vec<u8, A>,
+    encoder_buf: &mut Vec<u8, B>,
+) -> Result<(), EncoderError>
+    ensures same_table { block.new.table.ghost_name ≡ block.old.table.ghost_name }
+    ensures stream { block.new.stream_id ≡ block.old.stream_id }
+    ensures base { block.new.base ≡ block.old.base }
+    ensures ok { OnOk result (Adds (with_insertion (draft_at block.old.table.now) (field_of field.now)
+        (insert_field block.old.table.now block.old.base (field_of field.now)))
+        block.new.table.now lines.old.items lines.new.items encoder_buf.old.items encoder_buf.new.items) }
+    ensures err { OnErr result (StopsAdding (with_insertion (draft_at block.old.table.now) (field_of field.now)
+        (insert_field block.old.table.now block.old.base (field_of field.now)))
+        block.old.table.now block.new.table.now encoder_buf.old.items encoder_buf.new.items) }
+    ensures memory { IfErr result (λ e. e ≡ Memory) }
+{
+    make_room(encoder_buf, instruction_room(block, field))?;
+    let insertion = block.insert(field)?;
+    write_instruction(field, &insertion, encoder_buf)?;
+    Ok(append_inserted(field, insertion, lines)?)
+}
+
+/// As many bytes as the instruction of this field takes, if it is inserted: four for each byte of the entry's size hold
+/// its numbers and its coded strings.
+fn instruction_room(block: &DynamicTableEncoder<'_>, field: &HeaderField) -> usize
+    ensures { length (written_insertion (field_of field.now)
+        (insert_field block.now.table.now block.now.base (field_of field.now)).insertion) ≤ result }
+{
+    let size = field.mem_size();
+    if size > block.max_size() {
+        return 0;
+    }
+    4 * size
+}
+
+/// Appends the instruction of an insertion. Refused, which is for memory alone, the vector is as before.
+fn write_instruction<A: Allocator>(
+    field: &HeaderField,
+    insertion: &DynamicInsertionResult,
+    buf: &mut Vec<u8, A>,
+) -> Result<(), prefix_string::Error>
+    ensures writes { Writes (written_insertion (field_of field.now) (insertion_of insertion.now)) buf.old buf.new
+        result }
+    ensures memory { IfErr result (λ e. e ≡ NoRoom) }
+{
+    let value = field.value.as_slice();
+    match *insertion {
+        DynamicInsertionResult::Duplicated { relative, .. } => Ok(Duplicate(relative).encode(buf)?),
+        DynamicInsertionResult::InsertedWithStaticNameRef { index, .. } => {
+            InsertWithNameRef::write_static(index, value, buf)
+        }
+        DynamicInsertionResult::InsertedWithNameRef { relative, .. } => {
+            InsertWithNameRef::write_dynamic(relative, value, buf)
+        }
+        DynamicInsertionResult::Inserted { .. } => {
+            InsertWithoutNameRef::write(field.name.as_slice(), value, buf)
+        }
+        DynamicInsertionResult::NotInserted(_) => Ok(()),
+    }
+}
+
+/// Appends the line of a field that was inserted, or was not. Refused, which is for memory alone, the vector is as
+/// before.
+fn append_inserted<A: Allocator>(
+    field: &HeaderField,
+    insertion: DynamicInsertionResult,
+    buf: &mut Vec<u8, A>,
+) -> Result<(), prefix_string::Error>
+    ensures writes { Writes (written_line (line_of_insertion (field_of field.now) (insertion_of insertion))) buf.old
+        buf.new result }
+    ensures memory { IfErr result (λ e. e ≡ NoRoom) }
+{
+    match insertion {
+        DynamicInsertionResult::Duplicated { postbase, .. }
+        | DynamicInsertionResult::InsertedWithStaticNameRef { postbase, .. }
+        | DynamicInsertionResult::InsertedWithNameRef { postbase, .. }
+        | DynamicInsertionResult::Inserted { postbase, .. } => {
+            Ok(IndexedWithPostBase(postbase).encode(buf)?)
+        }
+        DynamicInsertionResult::NotInserted(lookup) => append_literal(field, lookup, buf),
+    }
+}
+
+/// Appends a literal, by where its name was found. Refused, which is for memory alone, the vector is as before.
+fn append_literal<A: Allocator>(
+    field: &HeaderField,
+    lookup: DynamicLookupResult,
+    buf: &mut Vec<u8, A>,
+) -> Result<(), prefix_string::Error>
+    ensures writes { Writes (written_line (literal_at (field_of field.now) (lookup_of lookup))) buf.old buf.new result }
+    ensures memory { IfErr result (λ e. e ≡ NoRoom) }
+{
+    let value = field.value.as_slice();
+    match lookup {
+        DynamicLookupResult::Static(index) => LiteralWithNameRef::write_static(index, value, buf),
+        DynamicLookupResult::Relative { index, .. } => {
+            LiteralWithNameRef::write_dynamic(index, value, buf)
+        }
+        DynamicLookupResult::PostBase { index, .. } => {
+            LiteralWithPostBaseNameRef::write(index, value, buf)
+        }
+        DynamicLookupResult::NotFound => Literal::write(field.name.as_slice(), value, buf),
+    }
+}
