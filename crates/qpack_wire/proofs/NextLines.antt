@@ -8,7 +8,8 @@ use Rattle.qpack_wire.specs.Alone.{KindFault}
 use Rattle.qpack_wire.specs.NextLines.{ReadsNoLine, NextLinesAreTheReading}
 use Rattle.qpack_wire.specs.StreamAnswers.{StaysUnlessRead, GivesInstruction}
 
-no_line_given : {V L : Type 0} (view : V → L) (r : Result (Option V) ParseError) (l : L) (moved : Type 0) → ReadsNoLine r
+no_line_given : {V L : Type 0} (view : V → L) (r : Result (Option V) ParseError) (l : L) (moved : Type 0)
+    → ReadsNoLine r
     → GivesInstruction view r l moved ⊎ (r ≡ Err Memory) → ⊥
 no_line_given view (Ok None) l moved none (inl given) = given
 no_line_given view (Ok None) l moved none (inr refused) = absurd cc
@@ -17,7 +18,8 @@ no_line_given view (Err e) l moved none (inl given) = given
 no_line_given {V} view (Err e) l moved none (inr refused) =
     subst (λ (r : Result (Option V) ParseError). ReadsNoLine r) refused none
 
-stays : {V : Type 0} (old new : CursorView) (r : Result (Option V) ParseError) → ReadsNoLine r → StaysUnlessRead old new r
+stays : {V : Type 0} (old new : CursorView) (r : Result (Option V) ParseError) → ReadsNoLine r
+    → StaysUnlessRead old new r
     → new ≡ old
 stays old new (Ok None) none still = still
 stays old new (Ok (Some v)) none still = absurd none
