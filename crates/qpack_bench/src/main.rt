@@ -4,11 +4,12 @@
 
 mod comparing;
 mod corpus;
+mod table;
 mod timing;
 
 use h3_qpack::coding::NoMemory;
 use h3_qpack::prefix_string::{self, HuffmanEncodingError};
-use h3_qpack::{DecoderError, EncoderError};
+use h3_qpack::{DecoderError, EncoderError, dynamic};
 use std::alloc::{AllocError, AllocFailed, Global};
 use std::{env, fs, io};
 use thiserror::Error;
@@ -34,6 +35,9 @@ pub enum Problem {
     /// A block was not decoded.
     #[error("{0}")]
     Decoder(DecoderError),
+    /// The dynamic table refused what it was asked for.
+    #[error("{0}")]
+    Table(dynamic::Error),
 }
 
 impl From<io::Error> for Problem {
@@ -84,12 +88,31 @@ impl From<DecoderError> for Problem {
     }
 }
 
-/// The rounds that the words ask for, 0 without words.
-fn rounds_of(rt: &HostRuntime) -> Result<u64, Problem> {
-    for word in env::args(rt)?.skip(1) {
-        return Ok(word.as_str().parse().unwrap_or(0));
+impl From<dynamic::Error> for Problem {
+    fn from(e: dynamic::Error) -> Problem {
+        Problem::Table(e)
     }
-    Ok(0)
+}
+
+/// What the words ask for.
+#[derive(Clone, Copy)]
+struct Words {
+    /// So many rounds over the corpus.
+    rounds: u64,
+    /// Then a dynamic table of so many entries, and as many blocks.
+    entries: usize,
+}
+
+/// The words: two numbers, each 0 where there is none.
+fn words_of(rt: &HostRuntime) -> Result<Words, Problem> {
+    let mut words = env::args(rt)?.skip(1);
+    let rounds = words
+        .next()
+        .map_or(0, |word| word.as_str().parse().unwrap_or(0));
+    let entries = words
+        .next()
+        .map_or(0, |word| word.as_str().parse().unwrap_or(0));
+    Ok(Words { rounds, entries })
 }
 
 /// Reads the corpus, tells what it counted, and times the rounds.
@@ -111,9 +134,13 @@ fn run(rt: &HostRuntime, alloc: Global) -> Result<(), Problem> {
     println!(rt; "{read} blocks of h3 read as their fields, with their sizes")?;
     let read = comparing::read_alike(alloc, &lists, &of_nghttp3)?;
     println!(rt; "{read} blocks of nghttp3 read as their fields")?;
-    let rounds = rounds_of(rt)?;
-    if rounds > 0 {
-        timing::time(rt, alloc, &lists, rounds)?;
+    let words = words_of(rt)?;
+    if words.rounds > 0 {
+        timing::time(rt, alloc, &lists, words.rounds)?;
+    }
+    if words.entries > 0 {
+        let found = table::drive(alloc, words.entries)?;
+        println!(rt; "{found} entries of the table found")?;
     }
     Ok(())
 }

@@ -1,0 +1,73 @@
+//! The dynamic table as an encoder drives it, whose calls are counted by callgrind: each stands here in a function of
+//! its own, which is not inlined.
+
+use crate::Problem;
+use h3_qpack::HeaderField;
+use h3_qpack::dynamic::{self, DynamicLookupResult, DynamicTable, DynamicTableEncoder};
+use std::alloc::Global;
+
+/// The size of an entry in bytes: a name of four, a value of eight, and 32.
+const ENTRY: usize = 44;
+
+/// Fills a table with so many entries of one size, and encodes as many blocks: an entry that stands in the middle of
+/// the table is found, and a field is inserted for which the oldest entry goes. Each block is acknowledged, and its
+/// insertion reported. Answers how many entries were found.
+pub(crate) fn drive(alloc: Global, live: usize) -> Result<usize, Problem> {
+    let mut table = DynamicTable::new(alloc);
+    table.set_max_size(live.saturating_mul(ENTRY))?;
+    table.set_max_blocked(1)?;
+    for n in 0..live {
+        table.put(field_of(alloc, n)?)?;
+    }
+    table.update_largest_received(live);
+    let mut found = 0usize;
+    for n in live..live.saturating_mul(2) {
+        let known = field_of(alloc, n.saturating_sub(live / 2))?;
+        if encode(&mut table, &known, &field_of(alloc, n)?)? {
+            found = found.saturating_add(1);
+        }
+        table.update_largest_received(1);
+        acknowledge(&mut table)?;
+    }
+    Ok(found)
+}
+
+/// The field of a number.
+fn field_of(alloc: Global, n: usize) -> Result<HeaderField, Problem> {
+    let value = format!(in alloc; "{n:08}")?;
+    Ok(HeaderField::from_pair(alloc, b"name", value.as_bytes())?)
+}
+
+/// Encodes a block of two fields; answers whether the first was found.
+fn encode(
+    table: &mut DynamicTable,
+    known: &HeaderField,
+    new: &HeaderField,
+) -> Result<bool, dynamic::Error> {
+    let mut block = table.encoder(4);
+    let found = find(&mut block, known);
+    let inserted = insert(&mut block, new);
+    let total = block.total_inserted();
+    block.commit(total)?;
+    inserted?;
+    found
+}
+
+/// Finds a field.
+#[inline(never)]
+fn find(block: &mut DynamicTableEncoder<'_>, field: &HeaderField) -> Result<bool, dynamic::Error> {
+    Ok(matches!(block.find(field)?, DynamicLookupResult::Relative { .. }))
+}
+
+/// Inserts a field.
+#[inline(never)]
+fn insert(block: &mut DynamicTableEncoder<'_>, field: &HeaderField) -> Result<(), dynamic::Error> {
+    block.insert(field)?;
+    Ok(())
+}
+
+/// Acknowledges the block.
+#[inline(never)]
+fn acknowledge(table: &mut DynamicTable) -> Result<(), dynamic::Error> {
+    table.untrack_block(4)
+}
