@@ -1,6 +1,8 @@
 //! Header fields.
 
-use qpack_base::field::{HeaderField, equal_fields_hash_alike, equality_is_of_bytes, order_is_of_bytes};
+use qpack_base::field::{
+    HeaderField, equal_fields_hash_alike, equality_is_of_bytes, order_is_of_bytes,
+};
 use qpack_testing::{again, field, prints, same};
 use std::borrow::CowSlice;
 use std::cmp::Ordering;
