@@ -102,7 +102,7 @@ fn numbers_are_read_to_their_greatest(rt: HostRuntime) -> Result<(), Fail> {
 #[test]
 fn a_capacity_is_written(rt: HostRuntime) -> Result<(), Fail> {
     let mut table = DynamicTable::new(rt.alloc());
-    let mut written = again(|| Vec::with_capacity(rt.alloc(), 13))?;
+    let mut written = again(|| Vec::with_capacity(rt.alloc(), 32))?;
     same(
         set_dynamic_table_size(&mut table, &mut written, 4096),
         Ok(()),
