@@ -1,7 +1,7 @@
 //! Blocks held against those of other implementations.
 
-use crate::Problem;
 use crate::corpus::ForeignBlock;
+use anyhow::Result;
 use h3_qpack::coding::Cursor;
 use h3_qpack::{HeaderField, decode_stateless, encode_stateless};
 use std::alloc::Global;
@@ -11,7 +11,7 @@ pub(crate) fn written_alike(
     alloc: Global,
     lists: &[Vec<HeaderField>],
     blocks: &[ForeignBlock],
-) -> Result<u64, Problem> {
+) -> Result<u64> {
     let mut alike = 0u64;
     for (list, block) in lists.iter().zip(blocks) {
         let mut bytes = Vec::new(alloc);
@@ -28,7 +28,7 @@ pub(crate) fn read_alike(
     alloc: Global,
     lists: &[Vec<HeaderField>],
     blocks: &[ForeignBlock],
-) -> Result<u64, Problem> {
+) -> Result<u64> {
     let mut alike = 0u64;
     for (list, block) in lists.iter().zip(blocks) {
         let decoded = decode_stateless(alloc, &mut Cursor::new(&block.bytes), u64::MAX)?;

@@ -1,6 +1,6 @@
 //! Header lists, and their blocks as other implementations write them, read from files.
 
-use crate::Problem;
+use anyhow::{Context, Result};
 use h3_qpack::HeaderField;
 use std::alloc::Global;
 use std::mem;
@@ -13,7 +13,7 @@ pub struct ForeignBlock {
 }
 
 /// The header lists of a text: a field a line, `name TAB value`; an empty line ends a list.
-pub(crate) fn read_lists(alloc: Global, text: &str) -> Result<Vec<Vec<HeaderField>>, Problem> {
+pub(crate) fn read_lists(alloc: Global, text: &str) -> Result<Vec<Vec<HeaderField>>> {
     let mut lists = Vec::new(alloc);
     let mut list = Vec::new(alloc);
     for line in text.lines() {
@@ -29,16 +29,16 @@ pub(crate) fn read_lists(alloc: Global, text: &str) -> Result<Vec<Vec<HeaderFiel
 
 /// The blocks of a text: a block a line, in hexadecimal behind the last TAB, with the sum of sizes
 /// before it in a text that tells sizes.
-pub(crate) fn read_blocks(
-    alloc: Global,
-    text: &str,
-    has_sizes: bool,
-) -> Result<Vec<ForeignBlock>, Problem> {
+pub(crate) fn read_blocks(alloc: Global, text: &str, has_sizes: bool) -> Result<Vec<ForeignBlock>> {
     let mut blocks = Vec::new(alloc);
     for line in text.lines() {
-        let (_, rest) = line.split_once('\t').ok_or(Problem::File)?;
-        let (middle, digits) = rest.split_once('\t').ok_or(Problem::File)?;
-        let bytes = hex::decode(alloc, digits).map_err(|_| Problem::File)?;
+        let (_, rest) = line
+            .split_once('\t')
+            .context("a file of the corpus can't be read")?;
+        let (middle, digits) = rest
+            .split_once('\t')
+            .context("a file of the corpus can't be read")?;
+        let bytes = hex::decode(alloc, digits)?;
         let size = if has_sizes { middle.parse().ok() } else { None };
         blocks.push(ForeignBlock { bytes, size })?;
     }
@@ -64,4 +64,13 @@ pub(crate) fn fields_len(lists: &[Vec<HeaderField>]) -> u64 {
         len = len.saturating_add(list.len() as u64);
     }
     len
+}
+
+/// The sum of the fields' sizes, as blocks tell it (RFC 9204, section 3.2.1).
+pub(crate) fn fields_size(list: &[HeaderField]) -> u64 {
+    let mut size = 0u64;
+    for field in list {
+        size = size.saturating_add(field.mem_size() as u64);
+    }
+    size
 }

@@ -4,95 +4,23 @@
 
 mod comparing;
 mod corpus;
+mod replay;
 mod table;
 mod timing;
 
-use h3_qpack::coding::NoMemory;
-use h3_qpack::prefix_string::{self, HuffmanEncodingError};
-use h3_qpack::{DecoderError, EncoderError, dynamic};
-use std::alloc::{AllocError, AllocFailed, Global};
-use std::{env, fs, io};
-use thiserror::Error;
+use anyhow::Result;
+use h3_qpack::HeaderField;
+use std::alloc::Global;
+use std::{env, fs};
 
-/// Why the bench ended early.
-#[derive(Debug, Drop, Error)]
-pub enum Problem {
-    /// A file does not hold what it should.
-    #[error("a file of the corpus can't be read")]
-    File,
-    /// A file could not be read, or a line not written.
-    #[error("{0}")]
-    Io(io::Error),
-    /// No memory was left.
-    #[error("out of memory")]
-    Memory,
-    /// A string was not written or read.
-    #[error("{0}")]
-    String(prefix_string::Error),
-    /// Fields were not encoded.
-    #[error("{0}")]
-    Encoder(EncoderError),
-    /// A block was not decoded.
-    #[error("{0}")]
-    Decoder(DecoderError),
-    /// The dynamic table refused what it was asked for.
-    #[error("{0}")]
-    Table(dynamic::Error),
-}
-
-impl From<io::Error> for Problem {
-    fn from(e: io::Error) -> Problem {
-        Problem::Io(e)
-    }
-}
-
-impl From<AllocError> for Problem {
-    fn from(_e: AllocError) -> Problem {
-        Problem::Memory
-    }
-}
-
-impl<T: Drop> From<AllocFailed<T>> for Problem {
-    fn from(_e: AllocFailed<T>) -> Problem {
-        Problem::Memory
-    }
-}
-
-impl From<NoMemory> for Problem {
-    fn from(_e: NoMemory) -> Problem {
-        Problem::Memory
-    }
-}
-
-impl From<HuffmanEncodingError> for Problem {
-    fn from(_e: HuffmanEncodingError) -> Problem {
-        Problem::Memory
-    }
-}
-
-impl From<prefix_string::Error> for Problem {
-    fn from(e: prefix_string::Error) -> Problem {
-        Problem::String(e)
-    }
-}
-
-impl From<EncoderError> for Problem {
-    fn from(e: EncoderError) -> Problem {
-        Problem::Encoder(e)
-    }
-}
-
-impl From<DecoderError> for Problem {
-    fn from(e: DecoderError) -> Problem {
-        Problem::Decoder(e)
-    }
-}
-
-impl From<dynamic::Error> for Problem {
-    fn from(e: dynamic::Error) -> Problem {
-        Problem::Table(e)
-    }
-}
+/// Connections that nghttp3 wrote: a file, and the maximum capacity of its decoder in bytes.
+const RECORDINGS: [(&str, usize); 5] = [
+    ("nghttp3_0_0_ack.txt", 0),
+    ("nghttp3_256_8_ack.txt", 256),
+    ("nghttp3_4096_16_noack.txt", 4096),
+    ("nghttp3_4096_100_ack.txt", 4096),
+    ("nghttp3_65536_16_ack.txt", 65536),
+];
 
 /// What the words ask for.
 #[derive(Clone, Copy)]
@@ -104,7 +32,7 @@ struct Words {
 }
 
 /// The words: two numbers, each 0 where there is none.
-fn words_of(rt: &HostRuntime) -> Result<Words, Problem> {
+fn words_of(rt: &HostRuntime) -> Result<Words> {
     let mut words = env::args(rt)?.skip(1);
     let rounds = words
         .next()
@@ -116,7 +44,7 @@ fn words_of(rt: &HostRuntime) -> Result<Words, Problem> {
 }
 
 /// Reads the corpus, tells what it counted, and times the rounds.
-fn run(rt: &HostRuntime, alloc: Global) -> Result<(), Problem> {
+fn run(rt: &HostRuntime, alloc: Global) -> Result<()> {
     let lists = corpus::read_lists(alloc, fs::read_to_string(rt, "corpus.qif")?.as_str())?;
     let of_h3 = fs::read_to_string(rt, "stateless_h3.tsv")?;
     let of_h3 = corpus::read_blocks(alloc, of_h3.as_str(), true)?;
@@ -134,6 +62,9 @@ fn run(rt: &HostRuntime, alloc: Global) -> Result<(), Problem> {
     println!(rt; "{read} blocks of h3 read as their fields, with their sizes")?;
     let read = comparing::read_alike(alloc, &lists, &of_nghttp3)?;
     println!(rt; "{read} blocks of nghttp3 read as their fields")?;
+    for (file, max_capacity) in RECORDINGS {
+        tell_replayed(rt, alloc, &lists, file, max_capacity)?;
+    }
     let words = words_of(rt)?;
     if words.rounds > 0 {
         timing::time(rt, alloc, &lists, words.rounds)?;
@@ -145,11 +76,22 @@ fn run(rt: &HostRuntime, alloc: Global) -> Result<(), Problem> {
     Ok(())
 }
 
-fn main(rt: HostRuntime) -> io::Result<()> {
-    let alloc = rt.alloc();
-    match run(&rt, alloc) {
-        Ok(()) => Ok(()),
-        Err(Problem::Io(e)) => Err(e),
-        Err(e) => println!(rt; "{e}"),
+/// Tells how many blocks of a recorded connection are read as their fields, the encoder stream delivered in pieces.
+fn tell_replayed(
+    rt: &HostRuntime,
+    alloc: Global,
+    lists: &[Vec<HeaderField>],
+    file: &str,
+    max_capacity: usize,
+) -> Result<()> {
+    let text = fs::read_to_string(rt, file)?;
+    for piece in [1, 7, 65536] {
+        let read = replay::replay(alloc, lists, text.as_str(), max_capacity, piece)?;
+        println!(rt; "{file}: {read} blocks read as their fields, in pieces of {piece} bytes")?;
     }
+    Ok(())
+}
+
+fn main(rt: HostRuntime) -> Result<()> {
+    run(&rt, rt.alloc())
 }

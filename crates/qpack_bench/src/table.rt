@@ -1,9 +1,9 @@
 //! The dynamic table as an encoder drives it, whose calls are counted by callgrind: each stands here in a function of
 //! its own, which is not inlined.
 
-use crate::Problem;
+use anyhow::Result;
 use h3_qpack::HeaderField;
-use h3_qpack::dynamic::{self, DynamicLookupResult, DynamicTable, DynamicTableEncoder};
+use h3_qpack::dynamic::{DynamicLookupResult, DynamicTable, DynamicTableEncoder, Error};
 use std::alloc::Global;
 
 /// The size of an entry in bytes: a name of four, a value of eight, and 32.
@@ -12,7 +12,7 @@ const ENTRY: usize = 44;
 /// Fills a table with so many entries of one size, and encodes as many blocks: an entry that stands in the middle of
 /// the table is found, and a field is inserted for which the oldest entry goes. Each block is acknowledged, and its
 /// insertion reported. Answers how many entries were found.
-pub(crate) fn drive(alloc: Global, live: usize) -> Result<usize, Problem> {
+pub(crate) fn drive(alloc: Global, live: usize) -> Result<usize> {
     let mut table = DynamicTable::new(alloc);
     table.set_max_size(live.saturating_mul(ENTRY))?;
     table.set_max_blocked(1)?;
@@ -33,17 +33,13 @@ pub(crate) fn drive(alloc: Global, live: usize) -> Result<usize, Problem> {
 }
 
 /// The field of a number.
-fn field_of(alloc: Global, n: usize) -> Result<HeaderField, Problem> {
+fn field_of(alloc: Global, n: usize) -> Result<HeaderField> {
     let value = format!(in alloc; "{n:08}")?;
     Ok(HeaderField::from_pair(alloc, b"name", value.as_bytes())?)
 }
 
 /// Encodes a block of two fields; answers whether the first was found.
-fn encode(
-    table: &mut DynamicTable,
-    known: &HeaderField,
-    new: &HeaderField,
-) -> Result<bool, dynamic::Error> {
+fn encode(table: &mut DynamicTable, known: &HeaderField, new: &HeaderField) -> Result<bool, Error> {
     let mut block = table.encoder(4);
     let found = find(&mut block, known);
     let inserted = insert(&mut block, new);
@@ -55,19 +51,19 @@ fn encode(
 
 /// Finds a field.
 #[inline(never)]
-fn find(block: &mut DynamicTableEncoder<'_>, field: &HeaderField) -> Result<bool, dynamic::Error> {
+fn find(block: &mut DynamicTableEncoder<'_>, field: &HeaderField) -> Result<bool, Error> {
     Ok(matches!(block.find(field)?, DynamicLookupResult::Relative { .. }))
 }
 
 /// Inserts a field.
 #[inline(never)]
-fn insert(block: &mut DynamicTableEncoder<'_>, field: &HeaderField) -> Result<(), dynamic::Error> {
+fn insert(block: &mut DynamicTableEncoder<'_>, field: &HeaderField) -> Result<(), Error> {
     block.insert(field)?;
     Ok(())
 }
 
 /// Acknowledges the block.
 #[inline(never)]
-fn acknowledge(table: &mut DynamicTable) -> Result<(), dynamic::Error> {
+fn acknowledge(table: &mut DynamicTable) -> Result<(), Error> {
     table.untrack_block(4)
 }

@@ -1,7 +1,7 @@
 //! Times of many rounds over the lists.
 
-use crate::Problem;
 use crate::corpus::{fields_len, text_len};
+use anyhow::Result;
 use h3_qpack::coding::Cursor;
 use h3_qpack::prefix_string::{self, HpackStringDecode, HpackStringEncode};
 use h3_qpack::{HeaderField, decode_stateless, encode_stateless};
@@ -21,7 +21,7 @@ pub(crate) fn time(
     alloc: Global,
     lists: &[Vec<HeaderField>],
     rounds: u64,
-) -> Result<(), Problem> {
+) -> Result<()> {
     let fields = Work {
         items: fields_len(lists).saturating_mul(rounds),
         bytes: text_len(lists).saturating_mul(rounds),
@@ -42,7 +42,7 @@ fn time_huffman(
     alloc: Global,
     lists: &[Vec<HeaderField>],
     rounds: u64,
-) -> Result<(), Problem> {
+) -> Result<()> {
     let texts = texts_of(alloc, lists)?;
     let work = Work {
         items: (texts.len() as u64).saturating_mul(rounds),
@@ -80,7 +80,7 @@ fn time_strings(
     texts: &[Vec<u8>],
     work: Work,
     rounds: u64,
-) -> Result<(), Problem> {
+) -> Result<()> {
     let mut literals = Vec::new(alloc);
     for text in texts {
         literals.push(literal_of(alloc, text.as_slice())?)?;
@@ -97,14 +97,14 @@ fn time_strings(
 }
 
 /// The string literal of a text, with a prefix of eight bits.
-fn literal_of(alloc: Global, text: &[u8]) -> Result<Vec<u8>, Problem> {
+fn literal_of(alloc: Global, text: &[u8]) -> Result<Vec<u8>> {
     let mut literal = Vec::new(alloc);
     prefix_string::encode(8, 0, text, &mut literal)?;
     Ok(literal)
 }
 
 /// Encodes the lists into one vector, again and again; how many bytes were written.
-fn encode_rounds(alloc: Global, lists: &[Vec<HeaderField>], rounds: u64) -> Result<u64, Problem> {
+fn encode_rounds(alloc: Global, lists: &[Vec<HeaderField>], rounds: u64) -> Result<u64> {
     let mut block = Vec::new(alloc);
     let mut written = 0u64;
     for _ in 0..rounds {
@@ -118,7 +118,7 @@ fn encode_rounds(alloc: Global, lists: &[Vec<HeaderField>], rounds: u64) -> Resu
 }
 
 /// Decodes the blocks again and again; the sum of the sizes that were read.
-fn decode_rounds(alloc: Global, blocks: &[Vec<u8>], rounds: u64) -> Result<u64, Problem> {
+fn decode_rounds(alloc: Global, blocks: &[Vec<u8>], rounds: u64) -> Result<u64> {
     let mut read = 0u64;
     for _ in 0..rounds {
         for block in blocks {
@@ -129,13 +129,13 @@ fn decode_rounds(alloc: Global, blocks: &[Vec<u8>], rounds: u64) -> Result<u64, 
 }
 
 /// Decodes a block; the sum of its fields' sizes.
-fn decoded_size(alloc: Global, block: &[u8]) -> Result<u64, Problem> {
+fn decoded_size(alloc: Global, block: &[u8]) -> Result<u64> {
     let decoded = decode_stateless(alloc, &mut Cursor::new(block), u64::MAX)?;
     Ok(decoded.mem_size)
 }
 
 /// The blocks of the lists.
-fn blocks_of(alloc: Global, lists: &[Vec<HeaderField>]) -> Result<Vec<Vec<u8>>, Problem> {
+fn blocks_of(alloc: Global, lists: &[Vec<HeaderField>]) -> Result<Vec<Vec<u8>>> {
     let mut blocks = Vec::new(alloc);
     for list in lists {
         let mut block = Vec::new(alloc);
@@ -146,7 +146,7 @@ fn blocks_of(alloc: Global, lists: &[Vec<HeaderField>]) -> Result<Vec<Vec<u8>>, 
 }
 
 /// The names and values of the lists.
-fn texts_of(alloc: Global, lists: &[Vec<HeaderField>]) -> Result<Vec<Vec<u8>>, Problem> {
+fn texts_of(alloc: Global, lists: &[Vec<HeaderField>]) -> Result<Vec<Vec<u8>>> {
     let mut texts = Vec::new(alloc);
     for list in lists {
         for field in list {
@@ -159,7 +159,7 @@ fn texts_of(alloc: Global, lists: &[Vec<HeaderField>]) -> Result<Vec<Vec<u8>>, P
 
 /// Tells the time since the start for each item, in nanoseconds, and the megabytes a second; and a sum
 /// over what was done, so that none of it can be left out.
-fn tell(rt: &HostRuntime, what: &str, work: Work, start: Instant, sum: u64) -> Result<(), Problem> {
+fn tell(rt: &HostRuntime, what: &str, work: Work, start: Instant, sum: u64) -> Result<()> {
     let nanos = start.elapsed(rt)?.as_nanos().max(1);
     let tenths = nanos.saturating_mul(10) / u128::from(work.items.max(1));
     let rate = u128::from(work.bytes).saturating_mul(1000) / nanos;
