@@ -120,49 +120,66 @@ const FIRST: DynamicLookupResult = DynamicLookupResult::Relative {
     absolute: 1,
 };
 
-/// One block that finds, duplicates, and inserts by names.
-fn five_answers(alloc: Global, block: &mut DynamicTableEncoder<'_>) -> Result<(), Fail> {
-    same((block.max_size(), block.base()), (4096, 2))?;
-    same(block.agreed_max(), 4096)?;
-    let first = field(alloc, b"Name-A", b"Value-A")?;
-    same(
-        find(block, &first)?,
-        DynamicLookupResult::Relative {
-            index: 1,
-            absolute: 1,
-        },
-    )?;
-    same(
-        insert(block, &first)?,
-        DynamicInsertionResult::Duplicated {
+/// A field, and what an insertion of it answers.
+struct Insertion {
+    name: &'static [u8],
+    value: &'static [u8],
+    answer: DynamicInsertionResult,
+}
+
+/// Insertions in one block, behind `Name-A: Value-A` and `Name-B: Value-B`.
+static INSERTIONS: [Insertion; 4] = [
+    Insertion {
+        name: b"Name-A",
+        value: b"Value-A",
+        answer: DynamicInsertionResult::Duplicated {
             relative: 1,
             postbase: 0,
             absolute: 3,
         },
-    )?;
-    same(
-        insert(block, &field(alloc, b"Name-B", b"New Value-B")?)?,
-        DynamicInsertionResult::InsertedWithNameRef {
+    },
+    Insertion {
+        name: b"Name-B",
+        value: b"New Value-B",
+        answer: DynamicInsertionResult::InsertedWithNameRef {
             postbase: 1,
             relative: 1,
             absolute: 4,
         },
-    )?;
-    same(
-        insert(block, &field(alloc, b"Name-B", b"Newer Value-B")?)?,
-        DynamicInsertionResult::InsertedWithNameRef {
+    },
+    Insertion {
+        name: b"Name-B",
+        value: b"Newer Value-B",
+        answer: DynamicInsertionResult::InsertedWithNameRef {
             postbase: 2,
             relative: 0,
             absolute: 5,
         },
-    )?;
-    same(
-        insert(block, &field(alloc, b"Name-C", b"Value-C")?)?,
-        DynamicInsertionResult::Inserted {
+    },
+    Insertion {
+        name: b"Name-C",
+        value: b"Value-C",
+        answer: DynamicInsertionResult::Inserted {
             postbase: 3,
             absolute: 6,
         },
-    )
+    },
+];
+
+/// One block that finds, duplicates, and inserts by names.
+fn five_answers(alloc: Global, block: &mut DynamicTableEncoder<'_>) -> Result<(), Fail> {
+    same((block.max_size(), block.base()), (4096, 2))?;
+    same(block.agreed_max(), 4096)?;
+    let found = DynamicLookupResult::Relative {
+        index: 1,
+        absolute: 1,
+    };
+    same(find(block, &field(alloc, b"Name-A", b"Value-A")?)?, found)?;
+    for insertion in &INSERTIONS {
+        let field = field(alloc, insertion.name, insertion.value)?;
+        same(insert(block, &field)?, insertion.answer)?;
+    }
+    Ok(())
 }
 
 #[test]
@@ -176,6 +193,19 @@ fn a_block_finds_and_inserts(rt: HostRuntime) -> Result<(), Fail> {
     block.release();
     answers?;
     same(total, 6)
+}
+
+#[test]
+fn a_name_is_that_of_its_newest_entry(rt: HostRuntime) -> Result<(), Fail> {
+    let mut table = table(rt.alloc(), 4096, 1)?;
+    put(rt.alloc(), &mut table, b"foo", b"zzz")?;
+    put(rt.alloc(), &mut table, b"foo", b"aaa")?;
+    let inserted = DynamicInsertionResult::InsertedWithNameRef {
+        postbase: 0,
+        relative: 0,
+        absolute: 3,
+    };
+    inserts(&mut table, &field(rt.alloc(), b"foo", b"mmm")?, inserted)
 }
 
 #[test]

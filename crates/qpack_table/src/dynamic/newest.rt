@@ -18,9 +18,8 @@ impl DynamicTable {
         ensures found { result ≡ newest_index self.now (is_field (field_of field.now)) }
         ensures steps { Counts (length self.now.live) steps.old.count steps.new.count }
     {
-        let dropped = self.vas.total_inserted() - self.entries.len();
         self.index
-            .newest_equal(&self.entries, dropped, field, steps)
+            .newest_equal(&self.entries, self.vas.total_dropped(), field, steps)
     }
 
     /// The absolute index of the newest live entry with the field, uncounted.
