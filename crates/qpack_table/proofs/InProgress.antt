@@ -4,7 +4,7 @@ use Rattle.std.proofs.Common.{Some, refl, sym, ap, subst, ◌∙◌, arith, inl,
 use Rattle.std.specs.Prelude.{slice_get, slice_set, nat_lt, if◌then◌else◌}
 use Rattle.std.specs.List.{AllByRecursion}
 use Rattle.std.proofs.lemmas.Bool.{cases_lt, lt-ltb}
-use Rattle.qpack_spec.proofs.Lists.{every_append, every_weaker}
+use Rattle.qpack_spec.proofs.Lists.{every_append}
 use Rattle.qpack_spec.specs.Table as table
 use Rattle.qpack_spec.specs.Table.{has_number, with_number, with_unacknowledged, without_references, with_reference}
 use Rattle.qpack_spec.specs.Table.{commit}

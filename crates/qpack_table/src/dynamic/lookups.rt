@@ -6,7 +6,7 @@ ghost use Rattle.std.specs.Prelude.{◌&&◌, drop, length};
 ghost use Rattle.qpack_base.specs.HeaderFields.{field_of};
 ghost use Rattle.qpack_spec.specs.Handle.{found_entry, find_field, found_name, insert_field, answer_of};
 ghost use Rattle.qpack_spec.specs.Rule.{instruction_for, entries_left};
-ghost use Rattle.qpack_spec.specs.StaticTable.{static_name_index};
+ghost use Rattle.qpack_spec.specs.StaticTable.{static_name_index, IsLeastStatic};
 ghost use Rattle.qpack_spec.specs.Table.{insert_count, has_room, eviction_count_for, below_limit, may_reference};
 ghost use Rattle.qpack_spec.specs.Table.{with_reference, with_entry, sent_entry, fields_in};
 ghost use Rattle.qpack_table.specs.declared.dynamic.Error.TheVariants.{Memory as NoRoom};
@@ -145,8 +145,9 @@ impl DynamicTable {
             (insert_count self.old + 1)) }
         ensures err { IfErr result (λ e. (e ≡ NoRoom) × (self.new ≡ self.old)) }
     {
-        let insertion = self.insertion_of(base, field, evicted);
-        let copy = stored(field)?;
+        let static_name = StaticTable::find_name(field.name.as_slice());
+        let insertion = self.insertion_of(base, field, static_name, evicted);
+        let copy = stored(field, static_name)?;
         self.insert_sent(copy, evicted)?;
         Ok(insertion)
     }
@@ -157,8 +158,10 @@ impl DynamicTable {
         &self,
         base: usize,
         field: &HeaderField,
+        static_name: Option<usize>,
         evicted: usize,
     ) -> DynamicInsertionResult
+        requires static_name { static_name ≡ static_name_index (field_of field.now).name }
         requires few { insert_count self.now < 2 ^ 62 }
         requires evicted { evicted ≤ length self.now.live }
         ensures { insertion_of result ≡ answer_of
@@ -175,7 +178,7 @@ impl DynamicTable {
                 absolute,
             };
         }
-        if let Some(index) = StaticTable::find_name(field.name.as_slice()) {
+        if let Some(index) = static_name {
             return DynamicInsertionResult::InsertedWithStaticNameRef {
                 postbase,
                 index,
@@ -193,13 +196,12 @@ impl DynamicTable {
     }
 }
 
-/// The field as it is stored: with the name of the static field lent, if that has it.
-fn stored(field: &HeaderField) -> Result<HeaderField, NoMemory>
+/// The field as it is stored: with the name of the static field lent, if one has it.
+fn stored(field: &HeaderField, static_name: Option<usize>) -> Result<HeaderField, NoMemory>
+    requires { IfSome static_name (IsLeastStatic (λ f. f.name ≡ (field_of field.now).name)) }
     ensures { IfOk result (λ copy. field_of copy ≡ field_of field.now) }
 {
-    let index = StaticTable::find_name(field.name.as_slice());
-    let known = index.and_then(|index| StaticTable::get(index).ok());
-    match known {
+    match static_name.and_then(|index| StaticTable::get(index).ok()) {
         Some(known) => Ok(HeaderField {
             name: known.name,
             value: field.value.clone()?,

@@ -28,15 +28,15 @@ returns-in-Some c =
     as_duplicate c.args.self.now f c.args.evicted _ _ c.args.base _ _ equal c.requires.evicted
     c.total_inserted-total.ensures c.saturating_sub-postbase.ensures refl
 
-pub returns-in-Some-find_name : goal.returns-in-Some-find_name
-returns-in-Some-find_name c =
+pub returns-in-Some-static_name : goal.returns-in-Some-static_name
+returns-in-Some-static_name c =
     let f : Field = field_of c.args.field.now in
     let at : c.total_dropped.result + c.args.evicted ≡ c.args.self.now.dropped + c.args.evicted =
     ap (λ (n : ℕ). n + c.args.evicted) (c.total_dropped.ensures.exact ∙ ap (λ (t : Table). t.dropped) c.self.view_is) in
     let none = none_stays c.args.self.now (is_field f) c.args.evicted _ _ _ at c.newest_field.ensures c.above.ensures
     c.in_default.is in
-    let known : static_name_index f.name ≡ Some c.in-Some-find_name.index =
-    ap static_name_index (sym c.as_slice.ensures.value) ∙ sym c.find_name.ensures.exact ∙ c.in-Some-find_name.is in
+    let known : static_name_index f.name ≡ Some c.in-Some-static_name.index =
+    sym c.requires.static_name ∙ c.in-Some-static_name.is in
     with_static_name c.args.self.now f c.args.evicted _ _ c.args.base _ _ none known
     c.total_inserted-total.ensures c.saturating_sub-postbase.ensures refl
 
@@ -47,7 +47,7 @@ overflow_sub-result-in-Some-above c =
     ap (λ (n : ℕ). n + c.args.evicted) (c.total_dropped.ensures.exact ∙ ap (λ (t : Table). t.dropped) c.self.view_is) in
     let newest : c.newest_of_name.result ≡ newest_index c.args.self.now (has_name f.name) =
     c.newest_of_name.ensures
-    ∙ ap (λ (n : List ℕ). newest_index c.args.self.now (has_name n)) c.as_slice-2.ensures.value in
+    ∙ ap (λ (n : List ℕ). newest_index c.args.self.now (has_name n)) c.as_slice.ensures.value in
     let named = stays c.args.self.now (has_name f.name) c.args.evicted c.in-Some-above.newest _ _ _ at newest
     c.above-2.ensures c.in-Some-above.is in
     stays_inserted c.args.self.now (has_name f.name) c.args.evicted _ _ named c.requires.evicted
@@ -61,10 +61,10 @@ returns-in-Some-above c =
     let none = none_stays c.args.self.now (is_field f) c.args.evicted _ _ _ at c.newest_field.ensures c.above.ensures
     c.in_default.is in
     let unknown : static_name_index f.name ≡ None =
-    ap static_name_index (sym c.as_slice.ensures.value) ∙ sym c.find_name.ensures.exact ∙ c.in_default-find_name.is in
+    sym c.requires.static_name ∙ c.in_default-static_name.is in
     let newest : c.newest_of_name.result ≡ newest_index c.args.self.now (has_name f.name) =
     c.newest_of_name.ensures
-    ∙ ap (λ (n : List ℕ). newest_index c.args.self.now (has_name n)) c.as_slice-2.ensures.value in
+    ∙ ap (λ (n : List ℕ). newest_index c.args.self.now (has_name n)) c.as_slice.ensures.value in
     let named = stays c.args.self.now (has_name f.name) c.args.evicted c.in-Some-above.newest _ _ _ at newest
     c.above-2.ensures c.in-Some-above.is in
     with_entry_name c.args.self.now f c.args.evicted _ _ c.args.base _ _ none unknown named c.requires.evicted
@@ -78,10 +78,10 @@ returns-in-None c =
     let none = none_stays c.args.self.now (is_field f) c.args.evicted _ _ _ at c.newest_field.ensures c.above.ensures
     c.in_default.is in
     let unknown : static_name_index f.name ≡ None =
-    ap static_name_index (sym c.as_slice.ensures.value) ∙ sym c.find_name.ensures.exact ∙ c.in_default-find_name.is in
+    sym c.requires.static_name ∙ c.in_default-static_name.is in
     let newest : c.newest_of_name.result ≡ newest_index c.args.self.now (has_name f.name) =
     c.newest_of_name.ensures
-    ∙ ap (λ (n : List ℕ). newest_index c.args.self.now (has_name n)) c.as_slice-2.ensures.value in
+    ∙ ap (λ (n : List ℕ). newest_index c.args.self.now (has_name n)) c.as_slice.ensures.value in
     let other = none_stays c.args.self.now (has_name f.name) c.args.evicted _ _ _ at newest c.above-2.ensures
     c.in-None.is in
     with_own_name c.args.self.now f c.args.evicted _ c.args.base _ _ none unknown other
