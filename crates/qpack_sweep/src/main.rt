@@ -1,0 +1,81 @@
+//! Every list of at most two bytes, given to each call that reads bytes of a peer, at five capacities: each answer is held
+//! against a plain reading of RFC 9204.
+#![tactic(auto)]
+
+mod answer;
+mod calls;
+mod plain;
+
+use answer::Outcome;
+use anyhow::{Result, ensure};
+use std::alloc::Global;
+
+/// The capacities of the tables in bytes.
+const CAPACITIES: [usize; 5] = [0, 1, 31, 32, 4096];
+
+/// Fails where a call's outcome is not the plain one.
+fn same(call: &str, bytes: &[u8], outcome: Outcome, expected: Outcome) -> Result<()> {
+    ensure!(
+        outcome == expected,
+        "{call} of {bytes:?}: {outcome:?} is not {expected:?}"
+    );
+    Ok(())
+}
+
+/// Gives a list to each call; how many of them took it.
+fn try_list(alloc: Global, capacity: usize, bytes: &[u8]) -> Result<usize> {
+    let received = calls::on_encoder_recv(alloc, capacity, bytes)?;
+    same(
+        "on_encoder_recv",
+        bytes,
+        received,
+        plain::on_encoder_recv(capacity, bytes),
+    )?;
+    let heard = calls::on_decoder_recv(alloc, capacity, bytes)?;
+    same(
+        "on_decoder_recv",
+        bytes,
+        heard,
+        plain::on_decoder_recv(capacity, bytes),
+    )?;
+    let decoded = calls::decode_header(alloc, capacity, bytes)?;
+    same(
+        "decode_header",
+        bytes,
+        decoded,
+        plain::decode_header(capacity, bytes),
+    )?;
+    let alone = calls::decode_stateless(alloc, bytes);
+    same(
+        "decode_stateless",
+        bytes,
+        alone,
+        plain::decode_stateless(bytes),
+    )?;
+    let outcomes = [received, heard, decoded, alone];
+    Ok(outcomes.iter().filter(|outcome| outcome.is_taken()).count())
+}
+
+/// Gives every list of at most two bytes to each call; how many there are, and how many calls took one.
+fn try_all(alloc: Global, capacity: usize) -> Result<(usize, usize)> {
+    let mut taken = try_list(alloc, capacity, b"")?;
+    let mut lists = 1usize;
+    for first in 0..=255u8 {
+        taken = taken.saturating_add(try_list(alloc, capacity, &[first])?);
+        for second in 0..=255u8 {
+            taken = taken.saturating_add(try_list(alloc, capacity, &[first, second])?);
+        }
+        lists = lists.saturating_add(257);
+    }
+    Ok((lists, taken))
+}
+
+fn main(rt: HostRuntime) -> Result<()> {
+    for capacity in CAPACITIES {
+        let (lists, taken) = try_all(rt.alloc(), capacity)?;
+        println!(rt;
+            "capacity {capacity}: {lists} lists, each answered by four calls as the plain reading has it; {taken} answers are no refusal"
+        )?;
+    }
+    Ok(())
+}
