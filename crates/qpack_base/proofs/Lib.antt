@@ -17,6 +17,7 @@ pub mod WrittenCodes
 pub mod AddedBits
 pub mod PutCodes
 pub mod WholeCodes
+pub mod CodeRoom
 pub mod PutStrings
 pub mod FieldLists
 pub mod FieldOrder

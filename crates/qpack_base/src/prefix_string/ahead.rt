@@ -1,7 +1,7 @@
 //! Reading the codes of a whole payload, one after the other (RFC 7541, section 5.2 and Appendix B). What is loaded
 //! is passed by value, so that it stays in registers.
 
-ghost use Rattle.std.specs.Prelude.{◌≡◌, ◌*◌, ◌-◌, ◌/◌, ◌^◌, ◌<◌, ◌≤◌, ◌++◌, IfSome, length};
+ghost use Rattle.std.specs.Prelude.{◌≡◌, ◌+◌, ◌*◌, ◌-◌, ◌/◌, ◌^◌, ◌<◌, ◌≤◌, ◌++◌, IfSome, length, vec_len, vec_capacity};
 ghost use Rattle.qpack_spec.specs.Huffman.{bits_of, bits_of_bytes};
 ghost use Rattle.qpack_base.specs.Payloads.{bits_ahead, IsAhead, BeginsCode, PassesCodes};
 
@@ -125,13 +125,14 @@ impl<'a> Ahead<'a> {
     }
 }
 
-/// Appends the bytes whose codes stand at the front of the payload, up to what is no code, and as far as there is free
-/// room for them. Answers what is left of the payload, too.
+/// Appends the bytes whose codes stand at the front of the payload, up to what is no code. No code has fewer than five
+/// bits, so that there is room for all of them. Answers what is left of the payload, too.
 pub(super) fn push_codes(mut text: Vec<u8>, payload: &[u8]) -> (Vec<u8>, DecodeIter<'_>)
+    requires room { 8 * length payload.now ≤ 5 * (vec_capacity text - vec_len text) + 4 }
     ensures { PassesCodes (bits_of_bytes payload.now) result.1 text.items result.0.items }
 {
     let mut ahead = Ahead::new(payload);
-    while text.len() < text.capacity() {
+    loop {
         ahead = ahead.load();
         let (byte, bits) = short_codes()[(ahead.loaded >> 56) as usize];
         let bits = u32::from(bits);

@@ -1,4 +1,4 @@
-use Rattle.std.proofs.Common.{◌-◌, vec_len, vec_capacity}
+use Rattle.std.proofs.Common.{◌+◌, ◌-◌, ◌*◌, ◌≤◌, length, vec_len, vec_capacity}
 use Rattle.qpack_spec.specs.Huffman.{bits_of_bytes}
 use Rattle.qpack_base.specs.Payloads.{bits_ahead, IsAhead, PassesCodes}
 use Rattle.qpack_base.proofs.prefix_string.ahead.push_codes.Given as goal
@@ -6,6 +6,7 @@ use Rattle.qpack_base.proofs.prefix_string.ahead.push_codes.Given as goal
 abbrev pub invariant-loop-ahead : goal.invariant-loop-ahead
 invariant-loop-ahead l = record {
   ahead : IsAhead l.ahead;
+  room : length (bits_ahead l.ahead) ≤ 5 * (vec_capacity l.text - vec_len l.text) + 4;
   passes : PassesCodes (bits_of_bytes l.payload) (bits_ahead l.ahead) l.fn.text.items l.text.items;
 }
 
