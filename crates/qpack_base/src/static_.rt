@@ -84,7 +84,7 @@ impl StaticTable {
     }
 }
 
-/// All positions with this name, rising.
+/// All indexes with this name, rising.
 fn indexes_of(name: &[u8]) -> &'static [usize]
     ensures { result.now ≡ indexes_with_name name.now }
 {
@@ -101,7 +101,7 @@ fn entry_of(names: &'static [Name], name: &[u8]) -> Option<&'static Name>
     names.iter().find(|entry| same(name, entry.0))
 }
 
-/// The first of the positions whose field has this value.
+/// The first of the indexes whose field has this value.
 fn index_of_value(indexes: &[usize], value: &[u8]) -> Option<usize>
     ensures { result ≡ find (λ index. has_value_at value.now index) indexes.now }
 {
