@@ -19,7 +19,7 @@ use Rattle.qpack_base.specs.HeaderFields.{field_of}
 use Rattle.qpack_wire.specs.Answers.{ReadAs}
 use Rattle.h3_qpack.specs.declared.decoder.DecoderError.{DecoderError}
 use Rattle.h3_qpack.specs.declared.decoder.DecoderError.TheVariants.{MissingRefs, Memory}
-use Rattle.h3_qpack.specs.Memory.{HoldsLine}
+use Rattle.qpack_wire.specs.Memory.{HoldsLine}
 use Rattle.h3_qpack.specs.Stateless.{fault_of, FailsStateless, fields_in, stateless_field_at}
 
 -- a fault of a part is the whole's

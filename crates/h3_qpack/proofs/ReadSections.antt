@@ -17,8 +17,8 @@ use Rattle.qpack_spec.proofs.Results.{bind_ok, ok_is, ok_pair}
 use Rattle.qpack_spec.proofs.FormLaws.{TakesSpelling, form_takes}
 use Rattle.h3_qpack.specs.declared.decoder.DecoderError.{DecoderError}
 use Rattle.h3_qpack.specs.declared.decoder.DecoderError.TheVariants.{Memory}
-use Rattle.h3_qpack.specs.Memory.{HoldsLine}
-use Rattle.h3_qpack.proofs.Asking.{HasBegun}
+use Rattle.qpack_wire.specs.Memory.{HoldsLine}
+use Rattle.qpack_wire.proofs.Asking.{HasBegun}
 use Rattle.h3_qpack.specs.Sections.{FailsWith, GivesLineField, ReadsField, field_at}
 
 -- a fault of a part is the whole's

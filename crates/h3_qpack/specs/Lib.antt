@@ -6,7 +6,6 @@ pub use Rattle.qpack_base.specs.Cursor
 pub use Rattle.qpack_base.specs.HeaderFields
 pub mod Errors
 pub mod Stateless
-pub mod Memory
 pub mod Sections
 pub mod Receiving
 pub mod Hearing

@@ -8,7 +8,7 @@ ghost use Rattle.qpack_spec.specs.StatelessMeaning.{MeansStateless, StopsStatele
 ghost use Rattle.qpack_wire.specs.BlockLines.{line_of};
 ghost use Rattle.h3_qpack.specs.Errors.{decoder_error_of_parse, decoder_error_of_static, decoder_error_of_table};
 ghost use Rattle.h3_qpack.specs.Errors.{decoder_error_of_integer, decoder_error_of_string};
-ghost use Rattle.h3_qpack.specs.Memory.{AsksLine, AsksSectionForMemory};
+ghost use Rattle.qpack_wire.specs.Memory.{AsksLine, AsksSectionForMemory};
 ghost use Rattle.h3_qpack.specs.Stateless.{IsFinished, DecodesStateless, GivesFields, GivesFault, FindsFields};
 ghost use Rattle.h3_qpack.specs.Stateless.{FindsFault};
 ghost use Rattle.h3_qpack.specs.Stateless.{ReadsStatelessField, GivesStatelessField, stateless_field_at};

@@ -1,20 +1,24 @@
 -- Where reading asks for memory, from left to right and by the fronts of forms.
 use Rattle.std.proofs.Common.{◌≡◌, ℕ, List, [], ◌∷◌, ◌++◌, drop, Option, None, Some, Result, Ok, Err, refl, sym, ap}
-use Rattle.std.proofs.Common.{subst, ◌∙◌, append_assoc, inl, inr}
+use Rattle.std.proofs.Common.{subst, ◌∙◌, append_assoc, inl, inr, ◌⊎◌}
 use Rattle.std.specs.Prelude.{IsOkAnd}
 use Rattle.qpack_spec.specs.Bytes.{Begins}
 use Rattle.qpack_spec.specs.Integer.{IntegerFault, integer_at}
 use Rattle.qpack_spec.specs.Text.{StringFault, HoldsPayload, string_at}
+use Rattle.qpack_spec.specs.Line.{Line, line_form, SpellsLine}
+use Rattle.qpack_spec.specs.Prefix.{Prefix, SpellsPrefix}
 use Rattle.qpack_spec.specs.Form.{Form, Index, IndexAndValue, NameAndValue, HoldsIndex, HoldsText, InTurn}
 use Rattle.qpack_spec.proofs.Integers.{integer_takes}
 use Rattle.qpack_spec.proofs.Texts.{string_takes}
+use Rattle.qpack_base.specs.Cursor.{CursorView, MovesPast}
 use Rattle.qpack_base.specs.declared.prefix_int.Error.TheVariants as integer
 use Rattle.qpack_base.specs.declared.prefix_string.Error.TheVariants as string
 use Rattle.qpack_base.specs.declared.parse_error.ParseError.{ParseError}
 use Rattle.qpack_base.specs.declared.parse_error.ParseError.TheVariants.{Integer, String, Memory}
 use Rattle.qpack_wire.specs.Alone.{Kind, ByFlags, ByFirstByte, form_for}
 use Rattle.qpack_wire.specs.StreamAnswers.{without_end}
-use Rattle.qpack_wire.specs.Memory.{AsksForm, AsksForMemory, AsksFormAt, AsksAt}
+use Rattle.qpack_wire.specs.Memory.{AsksForm, AsksForMemory, AsksFormAt, AsksAt, HoldsPrefix, HoldsLine, AsksLine}
+use Rattle.qpack_wire.specs.Memory.{AsksSectionForMemory}
 use Rattle.qpack_wire.proofs.Alones.{flags_above}
 use Rattle.qpack_wire.proofs.Readers.{failed}
 
@@ -141,3 +145,33 @@ memory_kept (Ok v) h = absurd cc
 memory_kept (Err (Integer integer.UnexpectedEnd)) h = absurd cc
 memory_kept (Err (String string.UnexpectedEnd)) h = absurd cc
 memory_kept {V} (Err e) h = let same : e ≡ Memory = cc in ap (λ (x : ParseError). failed {V = V} x) same
+
+-- ---- the lines of a section: at the first line, or behind it
+
+-- nothing was read yet, or the first line whole
+abbrev pub HasBegun : List ℕ → List ℕ → Type 0
+HasBegun all rest = (rest ≡ all) ⊎ Begins HoldsLine all
+
+pub asks_held : (bytes : List ℕ) → Begins HoldsLine bytes → Begins AsksLine bytes
+asks_held bytes b = record { encoding = b.encoding; rest = b.rest; parts = b.parts; holds = inl b.holds }
+
+-- a line that was found
+pub asks_found : (old new : CursorView) (l : Line) → (encoding : List ℕ) × SpellsLine encoding l
+    × MovesPast encoding old new
+    → Begins AsksLine old.rest
+asks_found old new l f = record { encoding = f.0; rest = new.rest; parts = f.2.0; holds = inl (l, f.1) }
+
+-- the lines behind a prefix that was found
+pub asks_section : (old mid : CursorView) (p : Prefix) → (encoding : List ℕ) × SpellsPrefix encoding p
+    × MovesPast encoding old mid
+    → Begins AsksLine mid.rest → AsksSectionForMemory old.rest
+asks_section old mid p f b = in_turn {P = HoldsPrefix} old.rest f.0 mid.rest f.2.0 (p, f.1) b
+
+-- what is asked for behind the beginning may be asked for of all
+pub asks_begun : (all rest : List ℕ) → HasBegun all rest → Begins AsksLine rest → Begins AsksLine all
+asks_begun all rest (inl e) b = subst (Begins AsksLine) e b
+asks_begun all rest (inr h) b = asks_held all h
+
+-- where a line asks for memory, one stands there that may
+pub asks_line : (bytes : List ℕ) → AsksForMemory line_form bytes → Begins AsksLine bytes
+asks_line bytes b = record { encoding = b.encoding; rest = b.rest; parts = b.parts; holds = inr b.holds }

@@ -4,6 +4,8 @@ pub mod Asking
 pub mod LineForms
 pub mod Prefixes
 pub mod BlockLines
+pub mod Blocks
+pub mod ReadBlocks
 pub mod FiveForms
 pub mod StreamReaders
 pub mod InstructionForms

@@ -13,4 +13,5 @@ pub mod Cuttings
 pub mod KindLaws
 pub mod Writes
 pub mod Memory
+pub mod Blocks
 pub mod NextLines

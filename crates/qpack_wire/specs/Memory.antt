@@ -5,6 +5,8 @@ use Rattle.qpack_spec.specs.Bytes.{Begins}
 use Rattle.qpack_spec.specs.Integer.{integer_at}
 use Rattle.qpack_spec.specs.Text.{HoldsPayload, string_at}
 use Rattle.qpack_spec.specs.Form.{Form, Index, IndexAndValue, NameAndValue, HoldsIndex, HoldsText, InTurn}
+use Rattle.qpack_spec.specs.Line.{Line, line_form, SpellsLine}
+use Rattle.qpack_spec.specs.Prefix.{Prefix, SpellsPrefix}
 use Rattle.qpack_wire.specs.Alone.{Kind, ByFlags, ByFirstByte}
 
 -- the bytes are the front of the form, to the end of such a string: the name, or the value behind a whole index or name
@@ -27,7 +29,25 @@ pub record Asks (L : Type 0) (form_of : ℕ → Option (Form L)) (encoding : Lis
 abbrev pub AsksForMemory : {L : Type 0} → (ℕ → Option (Form L)) → List ℕ → Type 0
 AsksForMemory {L} form_of bytes = Begins (Asks L form_of) bytes
 
--- ---- the same, as reading from left to right
+-- ---- a whole section (sections 4.5 and 4.1.2)
+
+-- the bytes are a prefix
+abbrev pub HoldsPrefix : List ℕ → Type 0
+HoldsPrefix encoding = (p : Prefix) × SpellsPrefix encoding p
+
+-- the bytes are a line
+abbrev pub HoldsLine : List ℕ → Type 0
+HoldsLine encoding = (l : Line) × SpellsLine encoding l
+
+-- the bytes are a line, or the front of one to the end of a string whose payload is not empty
+abbrev pub AsksLine : List ℕ → Type 0
+AsksLine encoding = HoldsLine encoding ⊎ Asks Line line_form encoding
+
+-- memory may be asked for: such bytes stand behind a prefix
+abbrev pub AsksSectionForMemory : List ℕ → Type 0
+AsksSectionForMemory bytes = Begins (InTurn HoldsPrefix AsksLine) bytes
+
+-- ---- the same of a form, as reading from left to right
 
 -- such a string stands in the form at the front of the bytes
 abbrev pub AsksFormAt : {L : Type 0} → Option (Form L) → List ℕ → Type 0

@@ -4,8 +4,10 @@ pub mod indexes;
 pub mod line;
 pub mod literals;
 pub mod prefix;
+pub mod section;
 
 pub use crate::block::indexes::{Indexed, IndexedWithPostBase};
 pub use crate::block::line::{BlockLine, HeaderBlockField};
 pub use crate::block::literals::{Literal, LiteralWithNameRef, LiteralWithPostBaseNameRef};
 pub use crate::block::prefix::HeaderPrefix;
+pub use crate::block::section::read_block;

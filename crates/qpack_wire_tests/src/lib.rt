@@ -11,6 +11,8 @@ mod prefixes;
 #[cfg(test)]
 mod recorded;
 #[cfg(test)]
+mod sections;
+#[cfg(test)]
 mod streams;
 #[cfg(test)]
 mod texts;

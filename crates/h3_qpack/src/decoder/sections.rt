@@ -6,7 +6,7 @@ ghost use Rattle.qpack_spec.specs.BlockReading.{fields_in_bytes, reading_of_byte
 ghost use Rattle.qpack_spec.specs.Reading.{line_field};
 ghost use Rattle.qpack_spec.specs.Table.{window};
 ghost use Rattle.qpack_wire.specs.BlockLines.{line_of};
-ghost use Rattle.h3_qpack.specs.Memory.{AsksLine, AsksSectionForMemory};
+ghost use Rattle.qpack_wire.specs.Memory.{AsksLine, AsksSectionForMemory};
 ghost use Rattle.h3_qpack.specs.Sections.{DecodesSection, GivesLineField, ReadsField, ReadsFields, field_at};
 ghost use Rattle.h3_qpack.specs.Stateless.{IsFinished};
 ghost use Rattle.h3_qpack.specs.declared.decoder.DecoderError.TheVariants.{Memory};

@@ -1,5 +1,5 @@
 use Rattle.qpack_wire.specs.Prefixes.{prefix_of}
-use Rattle.h3_qpack.proofs.Asking.{asks_section}
+use Rattle.qpack_wire.proofs.Asking.{asks_section}
 use Rattle.h3_qpack.proofs.decoder.read_block.Goals as goal
 
 pub returns-clause-memory : goal.returns-clause-memory

@@ -6,7 +6,8 @@ use Rattle.qpack_base.specs.HeaderFields.{field_of}
 use Rattle.h3_qpack.specs.Stateless.{fields_in}
 use Rattle.h3_qpack.proofs.ReadLines.{none_left, lines_end, turn_bad, turn_long, turn_good, told_is, total_more}
 use Rattle.h3_qpack.proofs.ReadLines.{fields_more}
-use Rattle.h3_qpack.proofs.Asking.{asks_held, asks_begun, held_begun}
+use Rattle.qpack_wire.proofs.Asking.{asks_held, asks_begun}
+use Rattle.h3_qpack.proofs.Asking.{held_begun}
 use Rattle.h3_qpack.proofs.decoder.read_lines.Goals as goal
 
 pub returns-in_err-field-clause-exact : goal.returns-in_err-field-clause-exact

@@ -1,6 +1,6 @@
 use Rattle.qpack_spec.specs.Table.{window}
 use Rattle.qpack_wire.specs.BlockLines.{line_of}
-use Rattle.h3_qpack.proofs.Asking.{asks_found}
+use Rattle.qpack_wire.proofs.Asking.{asks_found}
 use Rattle.h3_qpack.proofs.ReadSections.{line_then_field}
 use Rattle.h3_qpack.proofs.decoder.sections.read_field.Goals as goal
 

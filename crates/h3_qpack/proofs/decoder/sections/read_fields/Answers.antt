@@ -4,7 +4,7 @@ use Rattle.qpack_spec.specs.Field.{field_size, total_size}
 use Rattle.qpack_spec.specs.Table.{window}
 use Rattle.qpack_base.specs.HeaderFields.{field_of}
 use Rattle.h3_qpack.specs.Stateless.{fields_in}
-use Rattle.h3_qpack.proofs.Asking.{asks_held, asks_begun}
+use Rattle.qpack_wire.proofs.Asking.{asks_held, asks_begun}
 use Rattle.h3_qpack.proofs.ReadLines.{told_is, total_more, fields_more}
 use Rattle.h3_qpack.proofs.ReadSections.{fields_end, turn_bad, turn_good, line_begun}
 use Rattle.h3_qpack.proofs.ReadSections.{none_of}

@@ -4,7 +4,7 @@ use Rattle.qpack_spec.specs.BlockReading.{fields_at, fields_in_bytes}
 use Rattle.qpack_spec.specs.Stateless.{saturated_size}
 use Rattle.qpack_spec.specs.Table.{window}
 use Rattle.h3_qpack.specs.Stateless.{fields_in}
-use Rattle.h3_qpack.proofs.Asking.{HasBegun}
+use Rattle.qpack_wire.proofs.Asking.{HasBegun}
 use Rattle.h3_qpack.proofs.ReadSections.{with_front}
 use Rattle.h3_qpack.proofs.decoder.sections.read_fields.Given as goal
 

@@ -6,7 +6,7 @@ use Rattle.qpack_spec.specs.BlockReading.{fields_in_bytes}
 use Rattle.qpack_spec.specs.Table.{window}
 use Rattle.qpack_wire.specs.Prefixes.{prefix_of}
 use Rattle.h3_qpack.specs.Sections.{FailsWith}
-use Rattle.h3_qpack.proofs.Asking.{asks_section}
+use Rattle.qpack_wire.proofs.Asking.{asks_section}
 use Rattle.h3_qpack.proofs.SectionAnswers.{section_out, section_missing, section_read, section_fails}
 use Rattle.h3_qpack.proofs.decoder.sections.read_section.Goals as goal
 

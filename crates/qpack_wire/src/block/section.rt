@@ -1,0 +1,60 @@
+//! A whole encoded field section (RFC 9204, section 4.5).
+
+ghost use Rattle.std.specs.Prelude.{◌≡◌, Err, IfOk, IfErr};
+ghost use Rattle.qpack_spec.specs.Bytes.{Begins};
+ghost use Rattle.qpack_spec.specs.Reading.{Block};
+ghost use Rattle.qpack_base.specs.declared.parse_error.ParseError.TheVariants.{Memory};
+ghost use Rattle.qpack_wire.specs.Alone.{KindFault};
+ghost use Rattle.qpack_wire.specs.Blocks.{block_of, SpellsBlock, StopsBlock, GivesBlock, FindsBlockFault};
+ghost use Rattle.qpack_wire.specs.Blocks.{GivesBlockFault, lines_in, block_at, ReadsLines, ReadsBlock};
+ghost use Rattle.qpack_wire.specs.Memory.{AsksLine, AsksSectionForMemory};
+
+use crate::block::line::BlockLine;
+use crate::block::prefix::HeaderPrefix;
+use qpack_base::coding::Cursor;
+use qpack_base::parse_error::ParseError;
+use std::alloc::Global;
+
+/// Reads a whole block: the only prefix and lines whose spellings joined are the bytes.
+///
+/// Refused is the first of them that cannot be read, in reading order; where the bytes end within it, as `Integer` or
+/// `String` of `UnexpectedEnd`. No table is asked: what the prefix and the lines name need not be there.
+pub fn read_block(alloc: Global, block: &[u8]) -> Result<(HeaderPrefix, Vec<BlockLine>), ParseError>
+    // What is answered is spelled so.
+    ensures found { IfOk result (λ r. SpellsBlock block.now (block_of r)) }
+    // What is spelled so is answered, unless memory is refused.
+    ensures only { (b : Block) → SpellsBlock block.now b → GivesBlock result b }
+    // A refusal tells why the bytes are no block: the first fault in reading order.
+    ensures refused { IfErr result (FindsBlockFault block.now) }
+    // And why they are none is told, unless memory is refused.
+    ensures told { (fault : KindFault) → StopsBlock block.now fault → GivesBlockFault result fault }
+    // Memory is refused only behind a prefix, and there only behind a line or a string whose payload is not empty.
+    ensures memory { result ≡ Err Memory → AsksSectionForMemory block.now }
+    // The same, as reading from left to right.
+    ensures exact { ReadsBlock result (block_at block.now) }
+{
+    read_whole(alloc, &mut Cursor::new(block))
+}
+
+/// Reads the block that the cursor has left.
+fn read_whole(alloc: Global, buf: &mut Cursor) -> Result<(HeaderPrefix, Vec<BlockLine>), ParseError>
+    ensures exact { ReadsBlock result (block_at buf.old.rest) }
+    ensures memory { result ≡ Err Memory → AsksSectionForMemory buf.old.rest }
+{
+    let prefix = HeaderPrefix::decode(buf)?;
+    let lines = read_lines(alloc, buf)?;
+    Ok((prefix, lines))
+}
+
+/// Reads lines to the end of the cursor.
+fn read_lines(alloc: Global, buf: &mut Cursor) -> Result<Vec<BlockLine>, ParseError>
+    ensures exact { ReadsLines result (lines_in buf.old.rest) }
+    ensures memory { result ≡ Err Memory → Begins AsksLine buf.old.rest }
+{
+    let mut lines = Vec::new(alloc);
+    while buf.remaining() > 0 {
+        let line = BlockLine::decode(alloc, buf)?;
+        lines.push(line)?;
+    }
+    Ok(lines)
+}
