@@ -8,7 +8,7 @@ use Rattle.qpack_spec.specs.StaticTable.{static_index}
 use Rattle.qpack_spec.specs.Handle.{Lookup, AtStatic, AtRelative, AtPostBase, NotFound, Found, find_field, found_entry}
 use Rattle.qpack_spec.specs.Handle.{Insertion, Duplicated, InsertedWithStaticName, InsertedWithName, Inserted}
 use Rattle.qpack_spec.specs.Handle.{NotInserted, Insertable, insert_field, line_of, instructions_of, with_insertion}
-use Rattle.qpack_spec.specs.Handle.{with_found, by_handle, handle_field}
+use Rattle.qpack_spec.specs.Handle.{with_found, handle_field}
 use Rattle.qpack_spec.specs.Instruction.{EncoderInstruction, written_encoder_instruction, written_encoder_instructions}
 use Rattle.qpack_spec.specs.Line.{Line, IndexedStatic, IndexedDynamic, written_line, written_lines}
 use Rattle.qpack_spec.specs.Rule.{Draft}

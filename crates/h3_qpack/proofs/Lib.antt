@@ -10,3 +10,6 @@ pub mod Counts
 pub mod Hearing
 pub mod Additions
 pub mod Rooms
+pub mod AddedFields
+pub mod ReferencedRoom
+pub mod DraftedBlocks

@@ -1,6 +1,6 @@
 -- How much room instructions need.
 use Rattle.std.proofs.Common.{◌≡◌, ℕ, zero, suc, ◌+◌, ◌*◌, ◌/◌, ◌-◌, ◌<◌, ◌≤◌, List, [], ◌∷◌, length, inl, inr, arith}
-use Rattle.std.proofs.Common.{Result, Ok, Err, Bool, true, false, refl, ap, ◌∙◌, length-append}
+use Rattle.std.proofs.Common.{Result, Ok, Err, Bool, true, false, refl, ap, length-append}
 use Rattle.std.specs.Prelude.{IsOk, not, nat_le, nat_lt, ◌==◌, ◌&&◌}
 use Rattle.std.specs.List.{position_or_len, list_any, count_by}
 use Rattle.std.proofs.lemmas.Bool.{cases_lt, le-ltb, lt-ltb, cond_both}

@@ -1,13 +1,20 @@
 -- What an encoder writes for fields, one by one (RFC 9204, section 2.1).
-use Rattle.std.specs.Prelude.{◌≡◌, ℕ, ◌⊎◌, List, [], ◌++◌}
+use Rattle.std.specs.Prelude.{◌≡◌, ℕ, ◌⊎◌, List, [], ◌++◌, take, map, Option}
+use Rattle.std.specs.Iterator.{Drains}
 use Rattle.qpack_spec.specs.Field.{Field}
 use Rattle.qpack_spec.specs.Instruction.{InsertStaticName, InsertDynamicName, InsertLiteralName, Duplicate}
 use Rattle.qpack_spec.specs.Instruction.{written_encoder_instruction, written_encoder_instructions}
 use Rattle.qpack_spec.specs.Line.{written_lines}
+use Rattle.qpack_spec.specs.BlockReading.{written_block}
 use Rattle.qpack_spec.specs.Table.{Table, without_references}
-use Rattle.qpack_spec.specs.Rule.{Draft}
+use Rattle.qpack_spec.specs.Rule.{Draft, rule, required_insert_count, block_of, committed_table}
 use Rattle.qpack_spec.specs.Handle.{Insertion, Duplicated, InsertedWithStaticName, InsertedWithName, Inserted}
-use Rattle.qpack_spec.specs.Handle.{NotInserted, handle_field}
+use Rattle.qpack_spec.specs.Handle.{NotInserted, handle_field, handle_fields}
+
+-- the iterator gives so many items and ends, and P holds of the list of the fields that they lend
+abbrev pub DrainsFieldsOf : {S H : Type 0} → (H → Field) → (S → Option H → S → Type 0) → S → (List Field → Type 0)
+    → Type 0
+DrainsFieldsOf {H = H} field steps it P = (items : List H) × Drains steps it items × P (map field items)
 
 -- the written instruction of an insertion's answer, if it has one
 abbrev pub written_insertion : Field → Insertion → List ℕ
@@ -39,3 +46,49 @@ abbrev pub StopsAdding : Draft → Table → Table → List ℕ → List ℕ →
 StopsAdding d old new told_old told_new =
     ((without_references new ≡ without_references old) × (told_new ≡ told_old))
     ⊎ ((new ≡ d.table) × (told_new ≡ told_old ++ written_encoder_instructions d.instructions))
+
+-- what fields make of it, one after the other
+abbrev pub draft_of_fields : Table → ℕ → List Field → Draft
+draft_of_fields t base fs = handle_fields base (draft_at t) fs
+
+-- memory was refused behind some of the fields: but for what is referenced, the table is as behind them, and exactly
+-- their instructions were written
+pub record StopsAmong (fields : List Field) (old : Table) (base : ℕ) (new : Table) (told_old told_new : List ℕ) : Type 0
+  where
+    pub many : ℕ
+    pub table : without_references new ≡ without_references (draft_of_fields old base (take many fields)).table
+    pub told : told_new
+        ≡ told_old ++ written_encoder_instructions (draft_of_fields old base (take many fields)).instructions
+
+-- ---- a block
+
+-- the block of the fields was written, and is not ended: its bytes and its instructions are the rule's, the table is
+-- the rule's behind its lines, and what is answered is its required insert count
+pub record DraftsBlock (fields : List Field) (old new : Table) (block_old block_new told_old told_new : List ℕ)
+    (required : ℕ) : Type 0 where
+  pub required_is : required ≡ required_insert_count (rule old fields)
+  pub table : new ≡ (rule old fields).table
+  pub block : block_new ≡ block_old ++ written_block (block_of old (rule old fields))
+  pub told : told_new ≡ told_old ++ written_encoder_instructions (rule old fields).instructions
+
+-- the block of the fields was written: its bytes and its instructions are the rule's, the table is the rule's behind
+-- the block, and what is answered is its required insert count
+pub record EncodesBlock (stream : ℕ) (fields : List Field) (old new : Table) (block_old block_new told_old
+    told_new : List ℕ) (required : ℕ) : Type 0 where
+  pub required_is : required ≡ required_insert_count (rule old fields)
+  pub table : new ≡ committed_table (rule old fields) stream
+  pub block : block_new ≡ block_old ++ written_block (block_of old (rule old fields))
+  pub told : told_new ≡ told_old ++ written_encoder_instructions (rule old fields).instructions
+
+-- the block was given up behind some of the fields: their insertions stand and were written, and nothing is referenced
+pub record GivesUpBlock (fields : List Field) (old new : Table) (told_old told_new : List ℕ) : Type 0 where
+  pub many : ℕ
+  pub table : new ≡ without_references (rule old (take many fields)).table
+  pub told : told_new ≡ told_old ++ written_encoder_instructions (rule old (take many fields)).instructions
+
+-- memory was refused: before the fields were gathered, and then nothing was inserted; or behind some of the fields
+abbrev pub StopsEncoding : {S H : Type 0} → (H → Field) → (S → Option H → S → Type 0) → S → Table → Table → List ℕ
+    → List ℕ → Type 0
+StopsEncoding field steps it old new told_old told_new =
+    GivesUpBlock [] old new told_old told_new
+    ⊎ DrainsFieldsOf field steps it (λ fs. GivesUpBlock fs old new told_old told_new)

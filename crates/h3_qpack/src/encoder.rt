@@ -22,12 +22,15 @@ use qpack_wire::block::{HeaderPrefix, Indexed, Literal, LiteralWithNameRef};
 use std::alloc::{AllocError, Allocator};
 use thiserror::Error;
 
+mod as_field;
+mod block;
 mod capacity;
 mod connection;
 mod fields;
 mod instructions;
 mod room;
 
+pub use crate::encoder::as_field::AsField;
 pub use crate::encoder::capacity::set_dynamic_table_size;
 pub use crate::encoder::connection::Encoder;
 

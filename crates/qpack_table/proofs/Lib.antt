@@ -24,3 +24,4 @@ pub mod Released
 pub mod Products
 pub mod Sent
 pub mod Insertions
+pub mod Greatest

@@ -1,3 +1,4 @@
+pub mod Capacities
 pub mod Positions
 pub mod PlaceLaws
 pub mod Errors

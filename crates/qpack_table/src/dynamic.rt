@@ -11,6 +11,7 @@ use std::alloc::{AllocError, AllocFailed};
 use thiserror::Error as ThisError;
 
 mod block;
+mod capacities;
 mod encoder;
 mod entry;
 mod index;

@@ -1,7 +1,7 @@
 //! The fields of a block, one by one: a line for each, and an instruction for each that is inserted (RFC 9204, section
 //! 2.1).
 
-ghost use Rattle.std.specs.Prelude.{◌≡◌, ◌≤◌, length, IfErr, OnOk, OnErr};
+ghost use Rattle.std.specs.Prelude.{◌≡◌, ◌≤◌, length, take, IfErr, OnOk, OnErr, vec_len, vec_capacity};
 ghost use Rattle.qpack_spec.specs.Handle.{insert_field, with_insertion, with_found, find_field};
 ghost use Rattle.qpack_spec.specs.Handle.{line_of as line_of_insertion, literal_at};
 ghost use Rattle.qpack_spec.specs.Line.{written_line};
@@ -40,7 +40,9 @@ pub(super) fn append_field<A: Allocator, B: Allocator>(
         block.new.table.now lines.old.items lines.new.items encoder_buf.old.items encoder_buf.new.items) }
     ensures err { OnErr result (StopsAdding (draft_of_field block.old.table.now block.old.base (field_of field.now))
         block.old.table.now block.new.table.now encoder_buf.old.items encoder_buf.new.items) }
+    ensures as_before { OnErr result (take (vec_len lines.old) lines.new.items ≡ lines.old.items) }
     ensures memory { IfErr result (λ e. e ≡ Memory) }
+    ensures capacity { vec_capacity lines.old ≤ vec_capacity lines.new }
 {
     if let Some(index) = StaticTable::find(field) {
         return Ok(Indexed::Static(index).encode(lines)?);
@@ -67,7 +69,9 @@ fn append_insertion<A: Allocator, B: Allocator>(
     ensures err { OnErr result (StopsAdding (with_insertion (draft_at block.old.table.now) (field_of field.now)
         (insert_field block.old.table.now block.old.base (field_of field.now)))
         block.old.table.now block.new.table.now encoder_buf.old.items encoder_buf.new.items) }
+    ensures as_before { OnErr result (take (vec_len lines.old) lines.new.items ≡ lines.old.items) }
     ensures memory { IfErr result (λ e. e ≡ Memory) }
+    ensures capacity { vec_capacity lines.old ≤ vec_capacity lines.new }
 {
     make_room(encoder_buf, instruction_room(block, field))?;
     let insertion = block.insert(field)?;

@@ -2,6 +2,7 @@
 
 ghost use Rattle.std.specs.Prelude.{◌≡◌, ◌+◌, ◌<◌, ◌≤◌, [], ◌∷◌, ◌++◌, true, if◌then◌else◌};
 ghost use Rattle.std.specs.Prelude.{OnOk, OnErr, vec_len, vec_capacity, min};
+ghost use Rattle.qpack_spec.specs.Reading.{greatest_of};
 ghost use Rattle.qpack_spec.specs.Table.{without_references, with_reference, with_unacknowledged, insert_count};
 ghost use Rattle.qpack_table.specs.Tables.{AreFlagged, entries_of, uses_of, blocks_of};
 ghost use Rattle.qpack_spec.specs.Table.{commit};
@@ -31,6 +32,14 @@ impl DynamicTable {
         entry.referenced = true;
         entry.uses += 1;
         Ok(())
+    }
+
+    /// The greatest absolute index that the block in progress references, 0 if it references none.
+    pub(super) fn greatest_reference(&self) -> usize
+        ensures exact { result ≡ greatest_of self.now.referenced }
+        ensures inserted { result ≤ insert_count self.now }
+    {
+        greatest_in(&self.referenced)
     }
 
     /// The block in progress is given up: what it references is referenced no more. It takes no memory.
@@ -109,6 +118,17 @@ fn open_block(
         entries: references,
     });
     Ok(())
+}
+
+/// The greatest of these numbers, 0 if there are none.
+fn greatest_in(numbers: &[usize]) -> usize
+    ensures { result ≡ greatest_of numbers.now }
+{
+    let mut greatest = 0usize;
+    for number in numbers {
+        greatest = greatest.max(*number);
+    }
+    greatest
 }
 
 /// Makes room for one number more, if it is needed.

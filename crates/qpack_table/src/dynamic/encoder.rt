@@ -1,9 +1,11 @@
 //! An encoder's handle on the table: a block in progress, which references entries (RFC 9204, section 2.1).
 
-ghost use Rattle.std.specs.Prelude.{◌≡◌, ◌<◌, ◌^◌};
+ghost use Rattle.std.specs.Prelude.{◌≡◌, ◌<◌, ◌≤◌, ◌^◌};
 ghost use Rattle.qpack_base.specs.HeaderFields.{field_of};
+ghost use Rattle.qpack_spec.specs.Field.{total_size};
 ghost use Rattle.qpack_spec.specs.Handle.{find_field, insert_field};
-ghost use Rattle.qpack_spec.specs.Table.{insert_count, without_references};
+ghost use Rattle.qpack_spec.specs.Reading.{greatest_of};
+ghost use Rattle.qpack_spec.specs.Table.{fields_in, insert_count, without_references};
 ghost use Rattle.qpack_spec.specs.Window.{maximum_capacity};
 ghost use Rattle.qpack_table.specs.Handles.{Finds, Inserts, Commits};
 
@@ -82,10 +84,11 @@ pub struct DynamicTableEncoder<'a> {
 }
 
 impl DynamicTableEncoder<'_> {
-    /// The capacity of the table in bytes.
+    /// The capacity of the table in bytes. The live fields fit it.
     pub fn max_size(&self) -> usize
         ensures exact { result ≡ self.now.table.now.capacity }
         ensures most { result < 2 ^ 30 }
+        ensures fits { total_size (fields_in self.now.table.now.live) ≤ result }
     {
         self.table.max_mem_size()
     }
@@ -104,11 +107,22 @@ impl DynamicTableEncoder<'_> {
         self.table.total_inserted()
     }
 
-    /// The maximum capacity in bytes (RFC 9204, section 3.2.3).
+    /// The maximum capacity in bytes, which is at least the capacity (RFC 9204, section 3.2.3).
     pub fn agreed_max(&self) -> usize
-        ensures { result ≡ maximum_capacity self.now.table.now.agreed_max self.now.table.now.capacity }
+        ensures exact { result ≡ maximum_capacity self.now.table.now.agreed_max self.now.table.now.capacity }
+        ensures most { self.now.table.now.capacity ≤ result }
+        ensures fits { total_size (fields_in self.now.table.now.live) ≤ result }
     {
         self.table.agreed_max()
+    }
+
+    /// The required insert count so far: the greatest absolute index that the block references, 0 if it references no
+    /// entry (RFC 9204, section 2.1.2).
+    pub fn required_insert_count(&self) -> usize
+        ensures exact { result ≡ greatest_of self.now.table.now.referenced }
+        ensures inserted { result ≤ insert_count self.now.table.now }
+    {
+        self.table.greatest_reference()
     }
 
     /// Looks for the newest entry that is this field. If it may be referenced, it is, and it is answered. Refused,

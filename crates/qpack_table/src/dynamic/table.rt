@@ -4,7 +4,7 @@ ghost use Rattle.std.specs.Prelude.{◌≡◌, ◌+◌, ◌-◌, ◌^◌, ◌<�
 ghost use Rattle.std.specs.Prelude.{false, OnOk, OnErr, length};
 ghost use Rattle.std.specs.Prelude.{slice_get};
 ghost use Rattle.qpack_base.specs.HeaderFields.{field_of};
-ghost use Rattle.qpack_spec.specs.Field.{Field, field_size};
+ghost use Rattle.qpack_spec.specs.Field.{Field, field_size, total_size};
 ghost use Rattle.qpack_spec.specs.Table.{empty_table, insert_count, window, fields_in, can_evict, eviction_count_for};
 ghost use Rattle.qpack_spec.specs.Table.{with_entry, with_reference, sent_entry};
 ghost use Rattle.qpack_spec.specs.Table.{put, with_capacity};
@@ -17,6 +17,7 @@ ghost use Rattle.qpack_table.specs.declared.dynamic.Error.TheVariants.{MaxBlocke
 ghost use Rattle.qpack_table.specs.declared.dynamic.Error.TheVariants.{MaximumTableSizeTooLarge};
 
 use crate::dynamic::Error;
+use crate::dynamic::capacities::{Capacities, GREATEST_CAPACITY};
 use crate::dynamic::entry::{Entry, UnacknowledgedBlock, drop_oldest};
 use crate::dynamic::index::{Hashes, Index};
 use crate::vas::VirtualAddressSpace;
@@ -24,9 +25,6 @@ use qpack_base::field::HeaderField;
 use std::alloc::{AllocError, Global};
 use std::collections::VecDeque;
 use std::marker::Model;
-
-/// No greater capacity may be set, in bytes.
-const GREATEST_CAPACITY: usize = (1 << 30) - 1;
 
 /// The limits of blocked streams that may be set are below this.
 const TOO_MANY_BLOCKED: usize = 65_535;
@@ -42,8 +40,7 @@ pub struct DynamicTable {
     pub(super) vas: VirtualAddressSpace,
     /// The sum of the live fields' sizes, in bytes.
     pub(super) mem_size: usize,
-    pub(super) max_mem_size: usize,
-    pub(super) agreed_max: Option<usize>,
+    pub(super) capacities: Capacities,
     pub(super) max_blocked: usize,
     /// The known received count.
     pub(super) known_received_count: usize,
@@ -66,8 +63,8 @@ impl Model for DynamicTable {
     ghost Value = { Table };
 
     ghost view = { λ a. record {
-      capacity = a.max_mem_size;
-      agreed_max = a.agreed_max;
+      capacity = a.capacities.capacity;
+      agreed_max = a.capacities.agreed_max;
       limit = a.max_blocked;
       dropped = a.vas.dropped;
       live = entries_of a.entries.items;
@@ -77,7 +74,7 @@ impl Model for DynamicTable {
       blocked = a.blocked.items;
     } };
 
-    ghost invariant = { λ a. IsKept a.vas a.entries.items a.mem_size a.max_mem_size a.referenced.items
+    ghost invariant = { λ a. IsKept a.vas a.entries.items a.mem_size a.capacities.capacity a.referenced.items
         (blocks_of a.unacknowledged.items) a.least_blocked a.blocked.items a.index };
 }
 
@@ -90,8 +87,7 @@ impl DynamicTable {
             entries: VecDeque::new(alloc),
             vas: VirtualAddressSpace::default(),
             mem_size: 0,
-            max_mem_size: 0,
-            agreed_max: None,
+            capacities: Capacities::default(),
             max_blocked: 0,
             known_received_count: 0,
             referenced: Vec::new(alloc),
@@ -109,12 +105,13 @@ impl DynamicTable {
         self.vas.total_inserted()
     }
 
-    /// The capacity in bytes, which is below 2^30.
+    /// The capacity in bytes, which is below 2^30. The live fields fit it.
     pub fn max_mem_size(&self) -> usize
         ensures exact { result ≡ self.now.capacity }
         ensures most { result < 2 ^ 30 }
+        ensures fits { total_size (fields_in self.now.live) ≤ result }
     {
-        self.max_mem_size
+        self.capacities.capacity()
     }
 
     /// What the table takes its memory of.
@@ -327,18 +324,17 @@ impl DynamicTable {
         ensures agreed_max { result ≡ greatest_capacity self.now.agreed_max }
         ensures most { result < 2 ^ 30 }
     {
-        match self.agreed_max {
-            None => GREATEST_CAPACITY,
-            Some(most) => most.min(GREATEST_CAPACITY),
-        }
+        self.capacities.greatest()
     }
 
     /// The maximum capacity in bytes: what was agreed, and the present capacity until something is (RFC 9204, section
     /// 3.2.3).
     pub fn agreed_max(&self) -> usize
-        ensures { result ≡ maximum_capacity self.now.agreed_max self.now.capacity }
+        ensures exact { result ≡ maximum_capacity self.now.agreed_max self.now.capacity }
+        ensures most { self.now.capacity ≤ result }
+        ensures fits { total_size (fields_in self.now.live) ≤ result }
     {
-        self.agreed_max.unwrap_or(self.max_mem_size)
+        self.capacities.maximum()
     }
 
     /// Agrees on a maximum capacity in bytes, before anything is inserted; a capacity above it is not set any more
@@ -352,7 +348,7 @@ impl DynamicTable {
         if max > GREATEST_CAPACITY {
             return Err(Error::MaximumTableSizeTooLarge);
         }
-        self.agreed_max = Some(max);
+        self.capacities.agree(max);
         Ok(())
     }
 
@@ -370,7 +366,7 @@ impl DynamicTable {
         };
         let freed = drop_oldest(&mut self.entries, &mut self.index, &mut self.vas, evicted);
         self.mem_size -= freed;
-        self.max_mem_size = size;
+        self.capacities.set(size);
         Ok(())
     }
 }

@@ -16,13 +16,14 @@ returns-in_err-required-clause-exact c =
     rw (p.1, p.2)
     (section_out c.args.table.now c.args.buf.now.rest c.decode.new.buf.rest (prefix_of c.in_ok-prefix.prefix)
     c.total_inserted-inserted.result c.agreed_max.result c.in_err-required.field-0.0
-    c.in_ok-prefix.ensures.exact.0 c.total_inserted-inserted.ensures c.agreed_max.ensures c.in_err-required.ensures)
+    c.in_ok-prefix.ensures.exact.0 c.total_inserted-inserted.ensures c.agreed_max.ensures.exact
+    c.in_err-required.ensures)
 
 pub returns-then-required-inserted-clause-exact : goal.returns-then-required-inserted-clause-exact
 returns-then-required-inserted-clause-exact c =
     rw (section_missing c.args.table.now c.args.buf.now.rest c.decode.new.buf.rest (prefix_of c.in_ok-prefix.prefix)
     c.total_inserted-inserted.result c.agreed_max.result c.in_ok-required.required c.in_ok-required.base
-    c.in_ok-prefix.ensures.exact.0 c.total_inserted-inserted.ensures c.agreed_max.ensures c.in_ok-required.ensures
+    c.in_ok-prefix.ensures.exact.0 c.total_inserted-inserted.ensures c.agreed_max.ensures.exact c.in_ok-required.ensures
     c.if-required-inserted.true) refl
 
 pub returns-in_err-read-clause-exact : goal.returns-in_err-read-clause-exact
@@ -37,7 +38,7 @@ returns-in_err-read-clause-exact c =
     (nat_lt 0 c.in_ok-required.required)
     (section_read c.args.table.now c.args.buf.now.rest c.decode.new.buf.rest (prefix_of c.in_ok-prefix.prefix)
     c.total_inserted-inserted.result c.agreed_max.result c.in_ok-required.required c.in_ok-required.base
-    c.in_ok-prefix.ensures.exact.0 c.total_inserted-inserted.ensures c.agreed_max.ensures c.in_ok-required.ensures
+    c.in_ok-prefix.ensures.exact.0 c.total_inserted-inserted.ensures c.agreed_max.ensures.exact c.in_ok-required.ensures
     c.if-required-inserted.false)
     (subst (λ (q : Result (List Field) Fault). FailsWith c.in_err-read.field-0.0 q) same c.in_err-read.ensures.exact))
 
@@ -55,7 +56,8 @@ returns-clause-exact c =
     (λ i. fields_in_bytes (window (c.decoder.ensures.table i)) (c.decoder.ensures.base i) c.decode.new.buf.rest) in (
       section_read c.args.table.now c.args.buf.now.rest c.decode.new.buf.rest (prefix_of c.in_ok-prefix.prefix)
           c.total_inserted-inserted.result c.agreed_max.result c.in_ok-required.required c.in_ok-required.base
-          c.in_ok-prefix.ensures.exact.0 c.total_inserted-inserted.ensures c.agreed_max.ensures c.in_ok-required.ensures
+          c.in_ok-prefix.ensures.exact.0 c.total_inserted-inserted.ensures c.agreed_max.ensures.exact
+          c.in_ok-required.ensures
           c.if-required-inserted.false
           ∙ ap (λ q. reading_of_fields q (nat_lt 0 c.in_ok-required.required))
           (sym same ∙ c.in_ok-read.ensures.exact.0),

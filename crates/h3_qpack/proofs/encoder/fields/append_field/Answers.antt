@@ -1,4 +1,4 @@
-use Rattle.std.proofs.Common.{◌≡◌, ℕ, ap, sym, ◌∙◌}
+use Rattle.std.proofs.Common.{ap, sym, ◌∙◌}
 use Rattle.std.proofs.lemmas.Result.{err_from_is_err_and}
 use Rattle.qpack_spec.specs.Handle.{Found}
 use Rattle.qpack_base.specs.HeaderFields.{field_of}
@@ -51,5 +51,7 @@ returns g c =
           c.append_insertion.new.block.table.now c.args.block.now.base c.find-2.new.self.base f
           (lookup_of c.in_ok-index.field-0) c.args.encoder_buf.now.items c.append_insertion.new.encoder_buf.items
           c.find-2.ensures.base none c.in_ok-index.ensures.found no_line c.append_insertion.ensures.err;
+      as_before = c.append_insertion.ensures.as_before;
       memory = c.append_insertion.ensures.memory;
+      capacity = c.append_insertion.ensures.capacity;
     }

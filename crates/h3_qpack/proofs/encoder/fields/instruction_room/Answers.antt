@@ -1,5 +1,4 @@
-use Rattle.std.proofs.Common.{◌≡◌, ◌+◌, ◌*◌, ◌-◌, ◌^◌, ◌<◌, ◌≤◌, arith}
-use Rattle.std.specs.Prelude.{min}
+use Rattle.std.proofs.Common.{◌≡◌, arith}
 use Rattle.qpack_spec.specs.Field.{field_size}
 use Rattle.qpack_spec.specs.Handle.{insert_field}
 use Rattle.qpack_base.specs.HeaderFields.{field_of}

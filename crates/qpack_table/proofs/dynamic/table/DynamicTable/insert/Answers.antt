@@ -16,26 +16,26 @@ use Rattle.qpack_table.proofs.dynamic.table.DynamicTable.insert.Goals as goal
 
 pub drop_oldest-freed-requires-clause-there : goal.drop_oldest-freed-requires-clause-there
 drop_oldest-freed-requires-clause-there c =
-    let fits : field_size (field_of c.args.field) ≤ c.self.inside.max_mem_size =
+    let fits : field_size (field_of c.args.field) ≤ c.self.inside.capacities.capacity =
     omega (arith, c.requires.fits, ap (λ (t : Table). t.capacity) c.self.view_is) in
-    let evicted : c.args.evicted ≡ eviction_count c.self.inside.max_mem_size
+    let evicted : c.args.evicted ≡ eviction_count c.self.inside.capacities.capacity
     (fields_in (entries_of c.self.inside.entries.items) ++ field_of c.args.field ∷ []) =
     c.requires.evicted ∙ ap (λ (t : Table). eviction_count_for t (field_of c.args.field)) (sym c.self.view_is) in
     omega (
       arith,
       evicted_within c.self.inside.entries.items
-          (field_of c.args.field) c.self.inside.max_mem_size c.args.evicted fits evicted,
+          (field_of c.args.field) c.self.inside.capacities.capacity c.args.evicted fits evicted,
       ap (λ (l : List Entry). length l) c.in_ok-reserve.ensures.items,
     )
 
 pub invariant_of-self-2 : goal.invariant_of-self-2
 invariant_of-self-2 c =
-    let fits : field_size (field_of c.args.field) ≤ c.self.inside.max_mem_size =
+    let fits : field_size (field_of c.args.field) ≤ c.self.inside.capacities.capacity =
     omega (arith, c.requires.fits, ap (λ (t : Table). t.capacity) c.self.view_is) in
-    let evicted : c.args.evicted ≡ eviction_count c.self.inside.max_mem_size
+    let evicted : c.args.evicted ≡ eviction_count c.self.inside.capacities.capacity
     (fields_in (entries_of c.self.inside.entries.items) ++ field_of c.args.field ∷ []) =
     c.requires.evicted ∙ ap (λ (t : Table). eviction_count_for t (field_of c.args.field)) (sym c.self.view_is) in
-    let few = evicted_within c.self.inside.entries.items (field_of c.args.field) c.self.inside.max_mem_size
+    let few = evicted_within c.self.inside.entries.items (field_of c.args.field) c.self.inside.capacities.capacity
     c.args.evicted fits evicted in
     let left : c.drop_oldest-freed.new.entries.items ≡ drop c.args.evicted c.self.inside.entries.items =
     c.drop_oldest-freed.ensures.left
@@ -53,7 +53,7 @@ invariant_of-self-2 c =
     ≡ total_size (fields_in (entries_of c.self.inside.entries.items)) =
     rw (← same) c.drop_oldest-freed.ensures.freed in
     kept_put c.self.inside.vas c.add-absolute.new.self c.self.inside.entries.items c.push_back_reserved.new.self.items _
-    _ c.self.inside.max_mem_size _ _ _ _ new c.args.evicted c.self.invariant fits evicted
+    _ c.self.inside.capacities.capacity _ _ _ _ new c.args.evicted c.self.invariant fits evicted
     (c.push_back_reserved.ensures.items ∙ ap (λ (l : List Entry). l ++ new ∷ []) (c.drop_oldest-freed.ensures.left
     ∙ ap (λ (l : List Entry). drop c.args.evicted l) same))
     (left_is _ _ _ _ _ _ c.self.invariant.sized.sum freed size) refl refl
@@ -72,15 +72,15 @@ invariant_of-self-2 c =
 
 pub returns-clause-ok : goal.returns-clause-ok
 returns-clause-ok c =
-    let fits : field_size (field_of c.args.field) ≤ c.self.inside.max_mem_size =
+    let fits : field_size (field_of c.args.field) ≤ c.self.inside.capacities.capacity =
     omega (arith, c.requires.fits, ap (λ (t : Table). t.capacity) c.self.view_is) in
-    let evicted : c.args.evicted ≡ eviction_count c.self.inside.max_mem_size
+    let evicted : c.args.evicted ≡ eviction_count c.self.inside.capacities.capacity
     (fields_in (entries_of c.self.inside.entries.items) ++ field_of c.args.field ∷ []) =
     c.requires.evicted ∙ ap (λ (t : Table). eviction_count_for t (field_of c.args.field)) (sym c.self.view_is) in
     let same = c.in_ok-reserve.ensures.items in
     let new : Entry = record { field = c.args.field; sent = c.args.sent; referenced = false; uses = 0 } in
     let dropped : c.add-absolute.new.self.dropped ≡ c.self.inside.vas.dropped + eviction_count
-    c.self.inside.max_mem_size
+    c.self.inside.capacities.capacity
     (fields_in (entries_of c.self.inside.entries.items) ++ field_of c.args.field ∷ []) =
     omega (
       arith,
@@ -100,12 +100,12 @@ returns-clause-ok c =
 
 pub enter-requires-clause-live : goal.enter-requires-clause-live
 enter-requires-clause-live c =
-    let fits : field_size (field_of c.args.field) ≤ c.self.inside.max_mem_size =
+    let fits : field_size (field_of c.args.field) ≤ c.self.inside.capacities.capacity =
     omega (arith, c.requires.fits, ap (λ (t : Table). t.capacity) c.self.view_is) in
-    let evicted : c.args.evicted ≡ eviction_count c.self.inside.max_mem_size
+    let evicted : c.args.evicted ≡ eviction_count c.self.inside.capacities.capacity
     (fields_in (entries_of c.self.inside.entries.items) ++ field_of c.args.field ∷ []) =
     c.requires.evicted ∙ ap (λ (t : Table). eviction_count_for t (field_of c.args.field)) (sym c.self.view_is) in
-    let few = evicted_within c.self.inside.entries.items (field_of c.args.field) c.self.inside.max_mem_size
+    let few = evicted_within c.self.inside.entries.items (field_of c.args.field) c.self.inside.capacities.capacity
     c.args.evicted fits evicted in
     let left : c.drop_oldest-freed.new.entries.items ≡ drop c.args.evicted c.self.inside.entries.items =
     c.drop_oldest-freed.ensures.left
@@ -121,12 +121,12 @@ enter-requires-clause-live c =
 
 pub enter-requires-clause-index : goal.enter-requires-clause-index
 enter-requires-clause-index c =
-    let fits : field_size (field_of c.args.field) ≤ c.self.inside.max_mem_size =
+    let fits : field_size (field_of c.args.field) ≤ c.self.inside.capacities.capacity =
     omega (arith, c.requires.fits, ap (λ (t : Table). t.capacity) c.self.view_is) in
-    let evicted : c.args.evicted ≡ eviction_count c.self.inside.max_mem_size
+    let evicted : c.args.evicted ≡ eviction_count c.self.inside.capacities.capacity
     (fields_in (entries_of c.self.inside.entries.items) ++ field_of c.args.field ∷ []) =
     c.requires.evicted ∙ ap (λ (t : Table). eviction_count_for t (field_of c.args.field)) (sym c.self.view_is) in
-    let few = evicted_within c.self.inside.entries.items (field_of c.args.field) c.self.inside.max_mem_size
+    let few = evicted_within c.self.inside.entries.items (field_of c.args.field) c.self.inside.capacities.capacity
     c.args.evicted fits evicted in
     let left : c.drop_oldest-freed.new.entries.items ≡ drop c.args.evicted c.self.inside.entries.items =
     c.drop_oldest-freed.ensures.left
@@ -145,12 +145,12 @@ enter-requires-clause-room c = c.drop_oldest-freed.ensures.room c.of-hashes.resu
 
 pub enter-requires-clause-hashes : goal.enter-requires-clause-hashes
 enter-requires-clause-hashes c =
-    let fits : field_size (field_of c.args.field) ≤ c.self.inside.max_mem_size =
+    let fits : field_size (field_of c.args.field) ≤ c.self.inside.capacities.capacity =
     omega (arith, c.requires.fits, ap (λ (t : Table). t.capacity) c.self.view_is) in
-    let evicted : c.args.evicted ≡ eviction_count c.self.inside.max_mem_size
+    let evicted : c.args.evicted ≡ eviction_count c.self.inside.capacities.capacity
     (fields_in (entries_of c.self.inside.entries.items) ++ field_of c.args.field ∷ []) =
     c.requires.evicted ∙ ap (λ (t : Table). eviction_count_for t (field_of c.args.field)) (sym c.self.view_is) in
-    let few = evicted_within c.self.inside.entries.items (field_of c.args.field) c.self.inside.max_mem_size
+    let few = evicted_within c.self.inside.entries.items (field_of c.args.field) c.self.inside.capacities.capacity
     c.args.evicted fits evicted in
     let left : c.drop_oldest-freed.new.entries.items ≡ drop c.args.evicted c.self.inside.entries.items =
     c.drop_oldest-freed.ensures.left

@@ -4,6 +4,7 @@ use Rattle.qpack_spec.specs.Table as table
 use Rattle.qpack_spec.specs.Table.{Table, fields_in, can_evict}
 use Rattle.qpack_spec.specs.Window.{eviction_count, greatest_capacity}
 use Rattle.qpack_spec.proofs.Windows.{eviction_count_bound}
+use Rattle.qpack_table.specs.Capacities.{Agreement}
 use Rattle.qpack_table.specs.Positions.{Positions}
 use Rattle.qpack_table.specs.Tables.{entry_of, entries_of}
 use Rattle.qpack_table.proofs.Changes.{resized_above, resized_against_held, resized_to}
@@ -39,14 +40,15 @@ invariant_of-self c =
     ≡ eviction_count c.args.size (fields_in (entries_of c.self.inside.entries.items)) =
     c.in-Some.ensures.least
     ∙ ap (λ (t : Table). eviction_count c.args.size (fields_in t.live)) (sym c.self.view_is) in
-    kept_resized c.self.inside.vas c.drop_oldest-freed.new.vas c.self.inside.entries.items
+    rw (ap (λ (a : Agreement). a.capacity) c.set.ensures)
+    (kept_resized c.self.inside.vas c.drop_oldest-freed.new.vas c.self.inside.entries.items
     c.drop_oldest-freed.new.entries.items _ _ _ c.args.size _ _ _ _ c.in-Some.evicted
     c.drop_oldest-freed.result
     c.self.invariant
     evicted (omega (arith, c.greatest_capacity.ensures.most)) c.drop_oldest-freed.ensures.left
     c.drop_oldest-freed.ensures.freed refl
     (ap (λ (p : Positions). p.dropped) c.drop_oldest-freed.ensures.dropped)
-    (ap (λ (p : Positions). p.total) c.drop_oldest-freed.ensures.dropped) c.drop_oldest-freed.ensures.index
+    (ap (λ (p : Positions). p.total) c.drop_oldest-freed.ensures.dropped) c.drop_oldest-freed.ensures.index)
 
 pub returns : goal.returns
 returns c =
@@ -54,7 +56,7 @@ returns c =
     ≡ eviction_count c.args.size (fields_in (entries_of c.self.inside.entries.items)) =
     c.in-Some.ensures.least
     ∙ ap (λ (t : Table). eviction_count c.args.size (fields_in t.live)) (sym c.self.view_is) in
-    rw (← c.self.view_is) (resized_to _ c.args.size c.drop_oldest-freed.new.vas.dropped
+    rw (← c.self.view_is, c.set.ensures) (resized_to _ c.args.size c.drop_oldest-freed.new.vas.dropped
     (entries_of c.drop_oldest-freed.new.entries.items)
     (omega (
       arith,

@@ -1,0 +1,231 @@
+-- A block that is put together of its prefix and its lines, or given up.
+use Rattle.std.proofs.Common.{◌≡◌, ℕ, List, [], ◌++◌, take, drop, length, map, Option, refl, sym, ap, subst}
+use Rattle.std.proofs.Common.{◌∙◌, append-nil, append_assoc, inl, inr, Result, Ok, Err}
+use Rattle.std.specs.Prelude.{IfOk, OnErr, false, is_err}
+use Rattle.std.proofs.Math.Seq.{take-length}
+use Rattle.std.proofs.lemmas.List.{take_at, drop_at}
+use Rattle.std.specs.Iterator.{Drains}
+use Rattle.qpack_spec.specs.BlockReading.{written_block}
+use Rattle.qpack_spec.specs.Field.{Field}
+use Rattle.qpack_spec.specs.Handle.{handle_fields}
+use Rattle.qpack_spec.specs.Instruction.{written_encoder_instructions}
+use Rattle.qpack_spec.specs.Line.{written_lines}
+use Rattle.qpack_spec.specs.Prefix.{Prefix, prefix_for, written_prefix}
+use Rattle.qpack_spec.specs.Reading.{greatest_of}
+use Rattle.qpack_spec.specs.Rule.{Draft, rule, block_of, required_insert_count}
+use Rattle.qpack_spec.specs.Table.{Table, insert_count, without_references, commit}
+use Rattle.qpack_spec.specs.Window.{maximum_capacity}
+use Rattle.qpack_spec.proofs.Handles.{handle_is_rule}
+use Rattle.h3_qpack.specs.Encoding.{DrainsFieldsOf, draft_at, draft_of_fields, Adds, StopsAmong, DraftsBlock}
+use Rattle.h3_qpack.specs.Encoding.{GivesUpBlock, StopsEncoding, EncodesBlock}
+use Rattle.h3_qpack.specs.declared.encoder.EncoderError.{EncoderError}
+
+-- ---- the rule, where a block begins
+
+begins_so : (t : Table) → t.referenced ≡ [] → without_references t ≡ t
+unfolding without_references
+begins_so t begins = ap (λ (r : List ℕ). let x : Table = record t { referenced = r } in x) (sym begins)
+
+rule_is : (t : Table) (base : ℕ) (fs : List Field) → t.referenced ≡ [] → base ≡ insert_count t
+    → draft_of_fields t base fs ≡ rule t fs
+rule_is t base fs begins same =
+    ap (λ (b : ℕ). draft_of_fields t b fs) same
+    ∙ ap (λ (x : Table). handle_fields (insert_count t) (draft_at x) fs) (sym (begins_so t begins))
+    ∙ handle_is_rule t fs
+
+-- ---- the block's bytes
+
+put_together : (before lines prefix written : List ℕ) (len : ℕ) → len ≡ length before → lines ≡ before ++ written
+    → take len lines ++ prefix ++ drop len lines ≡ before ++ (prefix ++ written)
+put_together before lines prefix written len is e =
+    rw (e, take_at before written len (sym is), drop_at before written len (sym is))
+    (append_assoc before prefix written)
+
+pub drafts_block : (t : Table) (base : ℕ) (fs : List Field) (new : Table)
+    (before lines block told_old told_new : List ℕ) (len required most other : ℕ) (prefix : Prefix)
+    → t.referenced ≡ [] → base ≡ insert_count t
+    → Adds (draft_of_fields t base fs) new before lines told_old told_new
+    → len ≡ length before → required ≡ greatest_of new.referenced → most ≡ maximum_capacity t.agreed_max t.capacity
+    → other ≡ base → prefix ≡ prefix_for most required other
+    → block ≡ take len lines ++ written_prefix prefix ++ drop len lines
+    → DraftsBlock fs t new before block told_old told_new required
+unfolding written_block
+drafts_block t base fs new before lines block told_old told_new len required most other prefix begins same adds is count
+    maximum at made put =
+    let d = rule_is t base fs begins same in
+    let table : new ≡ (rule t fs).table = adds.table ∙ ap (λ (x : Draft). x.table) d in
+    let required_is : required ≡ required_insert_count (rule t fs) =
+    count ∙ ap (λ (x : Table). greatest_of x.referenced) table in
+    let whole : prefix ≡ (block_of t (rule t fs)).prefix =
+    made
+    ∙ ap (λ (n : ℕ). prefix_for n required other) maximum
+    ∙ ap (λ (n : ℕ). prefix_for (maximum_capacity t.agreed_max t.capacity) n other) required_is
+    ∙ ap (λ (n : ℕ). prefix_for (maximum_capacity t.agreed_max t.capacity) (required_insert_count (rule t fs)) n)
+    (at ∙ same) in
+    record {
+      required_is = required_is;
+      table = table;
+      block = put
+          ∙ put_together before lines (written_prefix prefix) (written_lines (draft_of_fields t base fs).lines) len is
+          adds.lines
+          ∙ ap (λ (p : Prefix). before ++ (written_prefix p ++ written_lines (draft_of_fields t base fs).lines)) whole
+          ∙ ap (λ (x : Draft). before
+          ++ (written_prefix (block_of t (rule t fs)).prefix ++ written_lines x.lines)) d;
+      told = adds.told ∙ ap (λ (x : Draft). told_old ++ written_encoder_instructions x.instructions) d;
+    }
+
+-- ---- a block that is given up
+
+pub gives_up_none : (t : Table) (told : List ℕ) → GivesUpBlock [] t (without_references t) told told
+unfolding rule without_references written_encoder_instructions
+gives_up_none t told = record { many = 0; table = refl; told = sym (append-nil told) }
+
+pub gives_up : (t : Table) (base : ℕ) (fs : List Field) (new : Table) (told_old told_new : List ℕ)
+    → t.referenced ≡ [] → base ≡ insert_count t → StopsAmong fs t base new told_old told_new
+    → GivesUpBlock fs t (without_references new) told_old told_new
+gives_up t base fs new told_old told_new begins same stops =
+    let d = rule_is t base (take stops.many fs) begins same in
+    record {
+      many = stops.many;
+      table = stops.table ∙ ap (λ (x : Draft). without_references x.table) d;
+      told = stops.told ∙ ap (λ (x : Draft). told_old ++ written_encoder_instructions x.instructions) d;
+    }
+
+pub gives_up_all : (t : Table) (base : ℕ) (fs : List Field) (new : Table)
+    (before lines told_old told_new : List ℕ)
+    → t.referenced ≡ [] → base ≡ insert_count t → Adds (draft_of_fields t base fs) new before lines told_old told_new
+    → GivesUpBlock fs t (without_references new) told_old told_new
+gives_up_all t base fs new before lines told_old told_new begins same adds =
+    gives_up t base fs new told_old told_new begins same
+    (record {
+      many = length fs;
+      table = rw (take-length fs) (ap (λ (x : Table). without_references x) adds.table);
+      told = rw (take-length fs) adds.told;
+    })
+
+-- ---- over the items that were gathered
+
+pub of_gathered : {S H : Type 0} (field : H → Field) (steps : S → Option H → S → Type 0) (it : S)
+    (gathered xs : List H) (P : List Field → Type 0) → Drains steps it gathered → xs ≡ gathered
+    → P (map field xs) → DrainsFieldsOf field steps it P
+of_gathered field steps it gathered xs P drains same p = (gathered, drains, subst (λ l. P (map field l)) same p)
+
+-- ---- the end of a block
+
+rule_again : (t : Table) (fs : List Field) → rule (without_references t) fs ≡ rule t fs
+unfolding rule without_references
+rule_again t fs = refl
+
+gives_up_again : (old new : Table) (fs : List Field) (told_old told_new : List ℕ)
+    → GivesUpBlock fs (without_references old) new told_old told_new → GivesUpBlock fs old new told_old told_new
+gives_up_again old new fs told_old told_new k =
+    let d = rule_again old (take k.many fs) in
+    record {
+      many = k.many;
+      table = k.table ∙ ap (λ (x : Draft). without_references x.table) d;
+      told = k.told ∙ ap (λ (x : Draft). told_old ++ written_encoder_instructions x.instructions) d;
+    }
+
+stops_again : {S H : Type 0} (field : H → Field) (steps : S → Option H → S → Type 0) (it : S)
+    (old begun new : Table) (told_old told_new : List ℕ) → begun ≡ without_references old
+    → StopsEncoding field steps it begun new told_old told_new
+    → StopsEncoding field steps it old new told_old told_new
+stops_again field steps it old begun new told_old told_new begins stops =
+    elim (subst (λ (t : Table). StopsEncoding field steps it t new told_old told_new) begins stops) [
+      | inl k ↦ inl (gives_up_again old new [] told_old told_new k)
+      | inr k ↦ inr (k.0, k.1, gives_up_again old new (map field k.0) told_old told_new k.2)
+    ]
+
+-- a whole block is given up
+drafts_stop : {S H : Type 0} (field : H → Field) (steps : S → Option H → S → Type 0) (it : S)
+    (old mid : Table) (before block told_old told_new : List ℕ) (required : ℕ)
+    → DrainsFieldsOf field steps it (λ fs. DraftsBlock fs old mid before block told_old told_new required)
+    → StopsEncoding field steps it old (without_references mid) told_old told_new
+drafts_stop field steps it old mid before block told_old told_new required drafted =
+    let k = drafted.2 in
+    let fs = map field drafted.0 in
+    inr (
+      drafted.0,
+      drafted.1,
+      record {
+        many = length fs;
+        table = rw (take-length fs) (ap (λ (x : Table). without_references x) k.table);
+        told = rw (take-length fs) k.told;
+      },
+    )
+
+-- refused, behind lines that were written or before
+pub stops_encoding : {S H : Type 0} (field : H → Field) (steps : S → Option H → S → Type 0) (it : S)
+    (r : Result ℕ EncoderError) (answer : Result ℕ EncoderError) (old begun mid new : Table)
+    (before block told_old told_new : List ℕ)
+    → begun ≡ without_references old
+    → IfOk r (λ required. DrainsFieldsOf field steps it
+    (λ fs. DraftsBlock fs begun mid before block told_old told_new required))
+    → OnErr r (StopsEncoding field steps it begun (without_references mid) told_old told_new)
+    → OnErr answer (new ≡ without_references mid)
+    → OnErr answer (StopsEncoding field steps it old new told_old told_new)
+stops_encoding field steps it r (Ok required) old begun mid new before block told_old told_new begins ok err ends = tt
+stops_encoding field steps it (Ok required) (Err e) old begun mid new before block told_old told_new begins ok err
+    ends =
+    rw ends (stops_again field steps it old begun (without_references mid) told_old told_new begins
+    (drafts_stop field steps it begun mid before block told_old told_new required ok))
+stops_encoding field steps it (Err f) (Err e) old begun mid new before block told_old told_new begins ok err ends =
+    rw ends (stops_again field steps it old begun (without_references mid) told_old told_new begins err)
+
+encodes_block : (fs : List Field) (old begun mid new : Table) (stream given : ℕ)
+    (before block told_old told_new : List ℕ) (required : ℕ)
+    → begun ≡ without_references old → given ≡ stream
+    → DraftsBlock fs begun mid before block told_old told_new required → new ≡ commit mid given required
+    → EncodesBlock stream fs old new before block told_old told_new required
+unfolding without_references
+encodes_block fs old begun mid new stream given before block told_old told_new required begins same k ends =
+    let d : rule begun fs ≡ rule old fs = ap (λ (t : Table). rule t fs) begins ∙ rule_again old fs in
+    let required_is : required ≡ required_insert_count (rule old fs) =
+    k.required_is ∙ ap (λ (x : Draft). required_insert_count x) d in
+    record {
+      required_is = required_is;
+      table = ends
+          ∙ ap (λ (n : ℕ). commit mid n required) same
+          ∙ ap (λ (t : Table). commit t stream required) (k.table ∙ ap (λ (x : Draft). x.table) d)
+          ∙ ap (λ (n : ℕ). commit (rule old fs).table stream n) required_is;
+      block = k.block
+          ∙ ap (λ (x : Draft). before ++ written_block (block_of begun x)) d
+          ∙ ap (λ (t : Table). before ++ written_block (block_of t (rule old fs))) begins;
+      told = k.told ∙ ap (λ (x : Draft). told_old ++ written_encoder_instructions x.instructions) d;
+    }
+
+-- the answer is the required insert count, and the block's vector is kept then
+pub encodes : {S H : Type 0} (field : H → Field) (steps : S → Option H → S → Type 0) (it : S)
+    (r : Result ℕ EncoderError) (answer : Result ℕ EncoderError) (old begun mid new : Table) (stream given : ℕ)
+    (before block now told_old told_new : List ℕ)
+    → begun ≡ without_references old → given ≡ stream
+    → IfOk r (λ required. DrainsFieldsOf field steps it
+    (λ fs. DraftsBlock fs begun mid before block told_old told_new required))
+    → IfOk answer (λ required. (r ≡ Ok required) × (new ≡ commit mid given required))
+    → (is_err answer ≡ false → now ≡ block)
+    → IfOk answer (λ required. DrainsFieldsOf field steps it
+    (λ fs. EncodesBlock stream fs old new before now told_old told_new required))
+encodes field steps it r (Err e) old begun mid new stream given before block now told_old told_new begins same ok ends
+    kept = tt
+encodes field steps it r (Ok required) old begun mid new stream given before block now told_old told_new begins same ok
+    ends kept =
+    let drafted : DrainsFieldsOf field steps it
+    (λ fs. DraftsBlock fs begun mid before block told_old told_new required) =
+    subst (λ (x : Result ℕ EncoderError). IfOk x (λ n. DrainsFieldsOf field steps it
+    (λ fs. DraftsBlock fs begun mid before block told_old told_new n))) ends.0 ok in (
+      drafted.0,
+      drafted.1,
+      rw (kept refl)
+          (encodes_block (map field drafted.0) old begun mid new stream given before block told_old told_new required
+          begins same drafted.2 ends.1),
+    )
+
+-- ---- a block as it begins
+
+pub count_begins : (old begun : Table) → begun ≡ without_references old → insert_count old ≡ insert_count begun
+unfolding without_references
+count_begins old begun is = sym (ap (λ (t : Table). insert_count t) is)
+
+pub none_begins : (old begun : Table) → begun ≡ without_references old → begun.referenced ≡ []
+unfolding without_references
+none_begins old begun is = ap (λ (t : Table). t.referenced) is
