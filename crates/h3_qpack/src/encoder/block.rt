@@ -41,7 +41,8 @@ pub(super) fn append_block<
     ensures same_table { handle.new.table.ghost_name ≡ handle.old.table.ghost_name }
     ensures stream { handle.new.stream_id ≡ handle.old.stream_id }
     ensures ok { IfOk result (λ required. DrainsFieldsOf H.field T.next_gives fields (λ fs. DraftsBlock fs
-        handle.old.table.now handle.new.table.now block.old.items block.new.items encoder_buf.old.items encoder_buf.new.items required)) }
+        handle.old.table.now handle.new.table.now block.old.items block.new.items encoder_buf.old.items
+        encoder_buf.new.items required)) }
     ensures err { OnErr result (StopsEncoding H.field T.next_gives fields handle.old.table.now
         (without_references handle.new.table.now) encoder_buf.old.items encoder_buf.new.items) }
     ensures as_before { OnErr result (take (vec_len block.old) block.new.items ≡ block.old.items) }
