@@ -193,7 +193,7 @@ pub record HasTaken (old now : table.Table) (bytes rest : List ℕ) : Type 0 whe
 pub taken_none : (t : table.Table) (bytes : List ℕ) → HasTaken t t bytes bytes
 taken_none t bytes = record { lines = []; front = []; cut = refl; joined = refl; applies = refl }
 
-joined_last : (lines : List EncoderInstruction) (front encoding : List ℕ) (i : EncoderInstruction)
+pub joined_last : (lines : List EncoderInstruction) (front encoding : List ℕ) (i : EncoderInstruction)
     → Joined SpellsEncoderInstruction front lines
     → SpellsEncoderInstruction encoding i → Joined SpellsEncoderInstruction (front ++ encoding) (lines ++ i ∷ [])
 joined_last lines front encoding i joined spells =
@@ -201,7 +201,7 @@ joined_last lines front encoding i joined spells =
     (encoding, [], sym (append-nil encoding), spells, refl)
 
 -- the table behind one instruction more
-applied_last : (lines : List EncoderInstruction) (i : EncoderInstruction) (old now new : table.Table)
+pub applied_last : (lines : List EncoderInstruction) (i : EncoderInstruction) (old now new : table.Table)
     → apply_encoder_instructions old lines ≡ Ok now
     → apply_encoder_instruction now i ≡ Ok new → apply_encoder_instructions old (lines ++ i ∷ []) ≡ Ok new
 applied_last [] i old now new applied last =

@@ -1,5 +1,11 @@
 pub mod FieldLines
 pub mod Texts
+pub mod OneInstruction
+pub mod Events
+pub mod EmptyTables
+pub mod HeardLines
+pub mod InspectedEvents
+pub mod PrintedBlocks
 pub mod Words
 pub mod Writes
 pub mod Tellings

@@ -4,7 +4,7 @@ use Rattle.std.specs.Prelude.{String, codes, IfSome}
 use Rattle.qpk.specs.Refusals.{IsFault, IsLineOf, AppendsFront, TellsInPlace}
 use Rattle.qpk.specs.Serving.{HasFault, EndsFor}
 use Rattle.qpk.specs.declared.serve.Command.{Command}
-use Rattle.qpk.specs.declared.serve.Command.TheVariants.{Encode, Decode}
+use Rattle.qpk.specs.declared.serve.Command.TheVariants.{Encode, Decode, Inspect}
 use Rattle.qpk.specs.declared.text.Fault.TheVariants.{Memory}
 use Rattle.qpk.specs.declared.refusal.Refusal.{Refusal}
 use Rattle.qpk.specs.declared.refusal.Refusal.TheVariants as refusal
@@ -21,6 +21,7 @@ told_of_memory r old new written e fault wrote = (refusal.Fault Memory, inr (fau
 memory_has : (command : Command) (bytes : List ℕ) → HasFault command bytes Memory
 memory_has Encode bytes = tt
 memory_has (Decode limit) bytes = tt
+memory_has (Inspect capacity) bytes = tt
 
 memory_may_be : (command : Command) (input : Option (List ℕ)) → IfSome input (λ bytes. HasFault command bytes Memory)
 memory_may_be command None = tt
@@ -30,8 +31,14 @@ memory_may_be command (Some bytes) = memory_has command bytes
 memory_ends : {Z : Type 0} (words : List (String Z)) (input old new : Option (List ℕ)) (r : Refusal) → IsFault r
     → EndsFor words input old new r → EndsFor words input old new (refusal.Fault Memory)
 memory_ends words input old new r (fault, e) ends =
-    let known : EndsFor words input old new (refusal.Fault fault) = subst (EndsFor words input old new) e ends in
-    (known.0, known.1, memory_may_be known.0 input, known.3)
+    let known : EndsFor words input old new (refusal.Fault fault) = subst (EndsFor words input old new) e ends in (
+      known.0,
+      known.1,
+      elim known.2 [
+        | inl h ↦ inl (memory_may_be known.0 input, h.1)
+        | inr h ↦ inr (h.0, inr refl, h.2)
+      ],
+    )
 
 -- what was told is why the run ended
 pub ends_told : {Z : Type 0} (words : List (String Z)) (input old new fold fnew : Option (List ℕ)) (r : Refusal)

@@ -1,8 +1,8 @@
 -- The program's words as texts.
 use Rattle.std.proofs.Common.{◌≡◌, ℕ, ◌<◌, ◌≤◌, List, [], ◌∷◌, length, map, get_or, sym, ap, subst, ◌∙◌, arith}
-use Rattle.std.specs.Prelude.{String, string_bytes, Option, None, MatchOption}
-use Rattle.qpk.specs.Serving.{AsksForNothing, SaysNumber}
-use Rattle.qpk.specs.declared.serve.Command.TheVariants.{Encode, Decode}
+use Rattle.std.specs.Prelude.{String, string_bytes, Option, None, MatchOption, codes}
+use Rattle.qpk.specs.Serving.{AsksForNothing, AsksWith, SaysNumber}
+use Rattle.qpk.specs.declared.serve.Command.TheVariants.{Encode, Decode, Inspect}
 
 pub one_word : {Z : Type 0} (ws : List (String Z)) (w : String Z) → 1 ≤ length ws → length ws < 2 → w ≡ get_or ws 0 w
     → map string_bytes ws ≡ string_bytes w ∷ []
@@ -22,11 +22,18 @@ two_words (x ∷ y ∷ z ∷ ws) v w least most e f = absurd (omega arith)
 -- two words, the second of which says no number, ask for nothing
 pub no_number : {Z : Type 0} (ws : List (String Z)) (first second : List ℕ) → map string_bytes ws ≡ first ∷ second ∷ []
     → ((n : ℕ) → SaysNumber second n → ⊥) → AsksForNothing ws
-no_number ws first second two none Encode asked = let e = sym two ∙ asked in cc
-no_number ws first second two none (Decode limit) asked =
-    let e = sym two ∙ asked.1 in
-    let s : second ≡ asked.0 = cc in
-    none limit (subst (λ (t : List ℕ). SaysNumber t limit) (sym s) asked.2)
+no_number {Z} ws first second two none = none_asked
+  where
+    no_such : (name : List ℕ) (n : ℕ) → AsksWith ws name n → ⊥
+    no_such name n asked =
+        let e = sym two ∙ asked.1 in
+        let s : second ≡ asked.0 = cc in
+        none n (subst (λ (t : List ℕ). SaysNumber t n) (sym s) asked.2)
+
+    none_asked : AsksForNothing ws
+    none_asked Encode asked = let e = sym two ∙ asked in absurd cc
+    none_asked (Decode limit) asked = no_such (codes "decode") limit asked
+    none_asked (Inspect capacity) asked = no_such (codes "inspect") capacity asked
 
 pub none_is : {A : Type 0} (r : Option A) (P : Type 0) (Q : A → Type 0) → r ≡ None → P → MatchOption r P Q
 none_is r P Q e p = rw e p

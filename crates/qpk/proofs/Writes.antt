@@ -26,7 +26,7 @@ written_none None bytes = (0, refl, tt)
 written_none (Some old) bytes = (0, refl, sym (append-nil old))
 
 -- the rest of a slice, as it is taken
-rest_is : (xs : List ℕ) (m : ℕ) → take (length xs - m) (drop m xs) ≡ drop m xs
+pub rest_is : (xs : List ℕ) (m : ℕ) → take (length xs - m) (drop m xs) ≡ drop m xs
 rest_is xs m = take_all (length xs - m) (drop m xs)
     (subst (λ (k : ℕ). k ≤ length xs - m) (sym (length-drop m xs)) (omega arith))
 

@@ -30,9 +30,8 @@ encode_answer bytes = fields_text (fields_from 1 (lines_of bytes))
 -- a fault is the one that stands in the text, or want of memory
 abbrev pub FailsText : {A : Type 0} → Fault → Result A ℕ → Type 0
 FailsText (NoTab n) read = read ≡ Err n
-FailsText NotHexadecimal read = ⊥
-FailsText (Refused e) read = ⊥
 FailsText Memory read = Unit {0}
+FailsText fault read = ⊥
 
 abbrev pub EncodesText : {Z : Type 0} → Result (String Z) Fault → Result (List ℕ) ℕ → Type 0
 EncodesText (Ok text) read = read ≡ Ok (string_bytes text)
@@ -41,10 +40,7 @@ EncodesText (Err e) read = FailsText e read
 -- the fields of a text's lines
 abbrev pub ReadsFields : Result (Vec HeaderField) Fault → Result (List Field) ℕ → Type 0
 ReadsFields (Ok fields) read = read ≡ Ok (fields_in fields.items)
-ReadsFields (Err (NoTab n)) read = read ≡ Err n
-ReadsFields (Err NotHexadecimal) read = ⊥
-ReadsFields (Err (Refused e)) read = ⊥
-ReadsFields (Err Memory) read = Unit {0}
+ReadsFields (Err fault) read = FailsText fault read
 
 -- a text without the line feed that may end it
 abbrev pub without_feed : List ℕ → List ℕ
@@ -52,12 +48,12 @@ without_feed bytes = if bytes_eq (drop (length bytes - 1) bytes) (10 ∷ []) the
 
 -- a fault of the bytes that a text stands for, or of the text itself, or want of memory
 abbrev pub FailsHexadecimal : Fault → ℕ → Result (List ℕ) FromHexError → Type 0
-FailsHexadecimal (NoTab n) limit read = ⊥
 FailsHexadecimal NotHexadecimal limit (Ok bytes) = ⊥
 FailsHexadecimal NotHexadecimal limit (Err e) = Unit {0}
 FailsHexadecimal (Refused e) limit (Ok bytes) = FailsStateless e (stateless_reading limit bytes) × (e ≢ decoder.Memory)
 FailsHexadecimal (Refused e) limit (Err h) = ⊥
 FailsHexadecimal Memory limit read = Unit {0}
+FailsHexadecimal fault limit read = ⊥
 
 -- what the bytes that a text stands for decode to
 abbrev pub DecodesText : Result Decoded Fault → ℕ → Result (List ℕ) FromHexError → Type 0

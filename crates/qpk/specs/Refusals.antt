@@ -1,29 +1,34 @@
 -- Why the program answers nothing, and how that is told.
-use Rattle.std.specs.Prelude.{◌≡◌, ℕ, List, [], ◌∷◌, ◌++◌, codes, take, Option, Some, None, IfSome, ◌⊎◌}
+use Rattle.std.specs.Prelude.{◌≡◌, ℕ, List, [], ◌∷◌, ◌++◌, codes, take, Option, Some, None, ◌⊎◌}
 use Rattle.std.specs.Fmt.{decimal}
 use Rattle.std.specs.Io.KnownBytes.{Appends}
 use Rattle.qpk.specs.declared.text.Fault.{Fault}
-use Rattle.qpk.specs.declared.text.Fault.TheVariants.{NoTab, NotHexadecimal, Refused, Memory}
+use Rattle.qpk.specs.declared.text.Fault.TheVariants.{NoTab, BadEvent, NotHexadecimal, Refused, Capacity, Memory}
 use Rattle.qpk.specs.declared.refusal.Refusal.{Refusal}
 use Rattle.qpk.specs.declared.refusal.Refusal.TheVariants as refusal
 
 -- the text of a fault, where it is not the decoder's
 abbrev pub fault_text : Fault → Option (List ℕ)
 fault_text (NoTab n) = Some (codes "line " ++ decimal n ++ codes ": no tab")
+fault_text (BadEvent n) = Some (codes "line " ++ decimal n ++ codes ": bad event")
 fault_text NotHexadecimal = Some (codes "not hexadecimal")
 fault_text (Refused e) = None
+fault_text Capacity = Some (codes "refused: capacity")
 fault_text Memory = Some (codes "refused: memory")
 
 -- the line that tells a fault, with its line feed: of a refused block its words are the decoder's
 abbrev pub IsFaultLine : Fault → List ℕ → Type 0
 IsFaultLine (NoTab n) line = line ≡ codes "qpk: line " ++ decimal n ++ (codes ": no tab" ++ 10 ∷ [])
+IsFaultLine (BadEvent n) line = line ≡ codes "qpk: line " ++ decimal n ++ (codes ": bad event" ++ 10 ∷ [])
 IsFaultLine NotHexadecimal line = line ≡ codes "qpk: not hexadecimal" ++ 10 ∷ []
 IsFaultLine (Refused e) line = (words : List ℕ) × (line ≡ codes "qpk: refused: " ++ words ++ 10 ∷ [])
+IsFaultLine Capacity line = line ≡ codes "qpk: refused: capacity" ++ 10 ∷ []
 IsFaultLine Memory line = line ≡ codes "qpk: refused: memory" ++ 10 ∷ []
 
 -- the line that tells a refusal, with its line feed
 abbrev pub IsLineOf : Refusal → List ℕ → Type 0
-IsLineOf refusal.Usage line = line ≡ codes "usage: qpk encode | qpk decode LIMIT | qpk run CAPACITY LIMIT" ++ 10 ∷ []
+IsLineOf refusal.Usage line =
+    line ≡ codes "usage: qpk encode | qpk decode LIMIT | qpk run CAPACITY LIMIT | qpk inspect CAPACITY" ++ 10 ∷ []
 IsLineOf refusal.Input line = line ≡ codes "qpk: refused: input" ++ 10 ∷ []
 IsLineOf refusal.Output line = line ≡ codes "qpk: refused: output" ++ 10 ∷ []
 IsLineOf (refusal.Fault fault) line = IsFaultLine fault line

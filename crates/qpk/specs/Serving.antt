@@ -1,5 +1,6 @@
 -- What the program does with its words and its input.
-use Rattle.std.specs.Prelude.{◌≡◌, ℕ, ◌^◌, ◌<◌, List, [], ◌∷◌, ◌++◌, Ok, Result, Err, Option, map, codes, IfSome}
+use Rattle.std.specs.Prelude.{◌≡◌, ℕ, ◌^◌, ◌<◌, ◌⊎◌, List, [], ◌∷◌, ◌++◌, Ok, Result, Err, Option, None, Some, map}
+use Rattle.std.specs.Prelude.{codes, IfSome}
 use Rattle.std.specs.Prelude.{string_bytes, String}
 use Rattle.std.specs.List.{flat_map}
 use Rattle.std.specs.Str.Parse.{IsNumeral, digits_value, without_leading_plus}
@@ -10,11 +11,17 @@ use Rattle.qpack_base.specs.HeaderFields.{text_of}
 use Rattle.qpack_spec.specs.Stateless.{saturated_size, stateless_reading}
 use Rattle.qpk.specs.Answers.{encode_answer, without_feed, FailsText, FailsHexadecimal}
 use Rattle.qpk.specs.declared.serve.Command.{Command}
-use Rattle.qpk.specs.declared.serve.Command.TheVariants.{Encode, Decode}
+use Rattle.qpk.specs.declared.serve.Command.TheVariants.{Encode, Decode, Inspect}
 use Rattle.qpk.specs.Refusals.{AppendsFront}
 use Rattle.qpk.specs.declared.refusal.Refusal.{Refusal}
 use Rattle.qpk.specs.declared.refusal.Refusal.TheVariants as refusal
 use Rattle.qpk.specs.declared.text.Fault.{Fault}
+use Rattle.qpk.specs.declared.text.Fault.TheVariants.{Refused, Memory}
+use Rattle.std.specs.Io.KnownBytes.{Appends}
+use Rattle.h3_qpack.specs.declared.decoder.DecoderError.{DecoderError}
+use Rattle.qpk.specs.Inspecting.{PrintsInspection}
+use Rattle.qpk.specs.Inspections.{FailsInspection}
+use Rattle.qpk.specs.declared.inspect.Inspection.{Inspection}
 
 -- a decimal number of 64 bits, as std parses it: digits, after a plus or not
 pub record SaysNumber (text : List ℕ) (n : ℕ) : Type 0 where
@@ -22,11 +29,15 @@ pub record SaysNumber (text : List ℕ) (n : ℕ) : Type 0 where
   pub value : n ≡ digits_value 10 (without_leading_plus text)
   pub small : n < 2 ^ 64
 
+-- the words are a name and a number
+abbrev pub AsksWith : {Z : Type 0} → List (String Z) → List ℕ → ℕ → Type 0
+AsksWith words name n = (text : List ℕ) × (map string_bytes words ≡ name ∷ text ∷ []) × SaysNumber text n
+
 -- the words ask for the command
 abbrev pub AsksFor : {Z : Type 0} → List (String Z) → Command → Type 0
 AsksFor words Encode = map string_bytes words ≡ codes "encode" ∷ []
-AsksFor words (Decode limit) = (text : List ℕ) × (map string_bytes words ≡ codes "decode" ∷ text ∷ [])
-    × SaysNumber text limit
+AsksFor words (Decode limit) = AsksWith words (codes "decode") limit
+AsksFor words (Inspect capacity) = AsksWith words (codes "inspect") capacity
 
 -- no command is asked for
 abbrev pub AsksForNothing : {Z : Type 0} → List (String Z) → Type 0
@@ -43,26 +54,48 @@ Answers Encode input out = (text : List ℕ) × (encode_answer input ≡ Ok text
 Answers (Decode limit) input out =
     (block : List ℕ) × (fs : List Field) × (decode_of (without_feed input) ≡ Ok block)
     × (stateless_reading limit block ≡ Ok fs) × (out ≡ printed_fields fs)
+Answers (Inspect capacity) input out = PrintsInspection capacity input out None
+
+-- the output of a command that ends at a refusal in its input
+abbrev pub Stops : Command → List ℕ → List ℕ → DecoderError → Type 0
+Stops Encode input out e = ⊥
+Stops (Decode limit) input out e = ⊥
+Stops (Inspect capacity) input out e = PrintsInspection capacity input out (Some e)
+
+-- the output, and whether it ends at a refusal
+abbrev pub Prints : Command → List ℕ → List ℕ → Option DecoderError → Type 0
+Prints command input out None = Answers command input out
+Prints command input out (Some e) = Stops command input out e
 
 -- the fault that stands in a command's input, or want of memory
 abbrev pub HasFault : Command → List ℕ → Fault → Type 0
 HasFault Encode input fault = FailsText fault (encode_answer input)
 HasFault (Decode limit) input fault = FailsHexadecimal fault limit (decode_of (without_feed input))
+HasFault (Inspect capacity) input fault = FailsInspection capacity input fault
 
--- the answer to a command's input, or the fault that stands there
-abbrev pub AnswersInput : {Z : Type 0} → Command → List ℕ → Result (String Z) Fault → Type 0
-AnswersInput command input (Ok text) = Answers command input (string_bytes text)
+-- the output that a command's input asks for, or the fault that stands there
+abbrev pub AnswersInput : Command → List ℕ → Result Inspection Fault → Type 0
+AnswersInput command input (Ok i) = Prints command input (string_bytes i.text) i.refused
 AnswersInput command input (Err fault) = HasFault command input fault
 
--- why a run ended: other words, or the input could not be read, or it has a fault, and then nothing was written; or its
--- answer could not be written, but for a front of it. The input is what the reader gives, where that is known, and the
--- output what the writer held before and after
+-- a fault is told as this refusal, or as want of memory where none is left to tell it
+abbrev pub TellsRefusal : Fault → DecoderError → Type 0
+TellsRefusal fault e = (fault ≡ Refused e) ⊎ (fault ≡ Memory)
+
+-- why a run ended: other words, or the input could not be read, or it has a fault, and then nothing was written; or it
+-- was refused further on, and then what stands before that was written; or what it asks for could not be written, but
+-- for a front of it. The input is what the reader gives, where that is known, and the output what the writer held
+-- before and after
 abbrev pub EndsFor : {Z : Type 0} → List (String Z) → Option (List ℕ) → Option (List ℕ) → Option (List ℕ) → Refusal
     → Type 0
 EndsFor words input old new refusal.Usage = AsksForNothing words × (new ≡ old)
 EndsFor words input old new refusal.Input = (command : Command) × AsksFor words command × (new ≡ old)
 EndsFor words input old new refusal.Output =
     (command : Command) × AsksFor words command
-    × IfSome input (λ bytes. (out : List ℕ) × Answers command bytes out × AppendsFront old new out)
+    × IfSome input (λ bytes. (out : List ℕ) × (refused : Option DecoderError) × Prints command bytes out refused
+    × AppendsFront old new out)
 EndsFor words input old new (refusal.Fault fault) =
-    (command : Command) × AsksFor words command × IfSome input (λ bytes. HasFault command bytes fault) × (new ≡ old)
+    (command : Command) × AsksFor words command
+    × ((IfSome input (λ bytes. HasFault command bytes fault) × (new ≡ old))
+    ⊎ ((e : DecoderError) × TellsRefusal fault e × IfSome input (λ bytes.
+    (out : List ℕ) × Stops command bytes out e × Appends old new out)))

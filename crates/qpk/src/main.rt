@@ -1,6 +1,7 @@
 //! QPACK on the command line: fields to blocks and back (RFC 9204).
 #![tactic(auto)]
 
+mod inspect;
 mod lines;
 mod refusal;
 mod serve;

@@ -31,14 +31,14 @@ impl From<Fault> for Refusal {
 }
 
 impl Refusal {
-    /// The line that tells it. Memory is asked for only to tell a line without a TAB or a refused block.
+    /// The line that tells it. Memory is asked for only to tell the number of a line, or a refusal of the decoder.
     pub fn line(&self, alloc: Global) -> Result<CowStr<'static, Global>, AllocError>
         ensures line { IfOk result (λ line. IsLineOf self.now (cow_str_bytes line)) }
         ensures memory { OnErr result (IsFault self.now) }
     {
         match self {
             Refusal::Usage => Ok(CowStr::Borrowed(
-                "usage: qpk encode | qpk decode LIMIT | qpk run CAPACITY LIMIT\n",
+                "usage: qpk encode | qpk decode LIMIT | qpk run CAPACITY LIMIT | qpk inspect CAPACITY\n",
             )),
             Refusal::Input => Ok(CowStr::Borrowed("qpk: refused: input\n")),
             Refusal::Output => Ok(CowStr::Borrowed("qpk: refused: output\n")),
@@ -55,11 +55,15 @@ fn fault_line(alloc: Global, fault: &Fault) -> Result<CowStr<'static, Global>, A
         Fault::NoTab(number) => Ok(CowStr::Owned(format!(in alloc;
             "qpk: line {number}: no tab\n"
         )?)),
+        Fault::BadEvent(number) => Ok(CowStr::Owned(format!(in alloc;
+            "qpk: line {number}: bad event\n"
+        )?)),
         Fault::NotHexadecimal => Ok(CowStr::Borrowed("qpk: not hexadecimal\n")),
         Fault::Refused(e) => {
             let words = e.to_string(alloc)?;
             Ok(CowStr::Owned(format!(in alloc; "qpk: refused: {words}\n")?))
         }
+        Fault::Capacity => Ok(CowStr::Borrowed("qpk: refused: capacity\n")),
         Fault::Memory => Ok(CowStr::Borrowed("qpk: refused: memory\n")),
     }
 }

@@ -1,6 +1,7 @@
 //! The program over any reader and writers.
 
-ghost use Rattle.std.specs.Prelude.{◌≡◌, ◌≢◌, ◌++◌, ◌∷◌, [], List, ℕ, IfOk, IfErr, IfSome, MatchOption, string_bytes};
+ghost use Rattle.std.specs.Prelude.{◌≡◌, ◌≢◌, ◌++◌, ◌∷◌, [], List, ℕ, None, IfOk, IfErr, IfSome, MatchOption};
+ghost use Rattle.std.specs.Prelude.{string_bytes};
 ghost use Rattle.std.specs.Io.KnownBytes.{Appends};
 ghost use Rattle.qpack_spec.specs.Field.{total_size};
 ghost use Rattle.qpack_spec.specs.Stateless.{saturated_size};
@@ -9,6 +10,7 @@ ghost use Rattle.qpk.specs.Refusals.{AppendsFront, IsLineOf, TellsInPlace};
 ghost use Rattle.qpk.specs.Serving.{AsksFor, AsksForNothing, Answers, AnswersInput, EndsFor, SaysNumber};
 ghost use Rattle.qpk.specs.Serving.{printed_fields};
 
+use crate::inspect::{Inspection, inspect};
 use crate::refusal::Refusal;
 use crate::text::{Fault, decode_text, encode_text};
 use crate::writing::write_bytes;
@@ -25,6 +27,8 @@ pub enum Command {
     Encode,
     /// Decode the block of the input, up to a sum of sizes in bytes.
     Decode(u64),
+    /// Inspect the events of the input, by a table of this capacity in bytes.
+    Inspect(usize),
 }
 
 /// Runs the program on its words, without its name, and its three streams, and gives the exit status:
@@ -41,8 +45,9 @@ pub fn serve<R: Read, W: Write, E: Write>(
         × IfSome (R.remaining input.old) (λ bytes.
         (out : List ℕ) × Answers command bytes out × Appends (W.contents output.old) (W.contents output.new) out) }
     ensures quiet { result ≡ 0 → E.contents faults.new ≡ E.contents faults.old }
-    // Else why: other words, an input that can't be read or has a fault, an output that can't be written, which then
-    // has a front of the answer. The line of it is written to the faults, as far as they take it.
+    // Else why: other words, an input that can't be read or has a fault, a refusal further on, before which all is
+    // written, or an output that can't be written, which then has a front of what is asked for. The line of it is
+    // written to the faults, as far as they take it.
     ensures refused { result ≢ 0 → (result ≡ 1) × (refusal : Refusal)
         × EndsFor words.now (R.remaining input.old) (W.contents output.old) (W.contents output.new) refusal
         × (line : List ℕ) × IsLineOf refusal line × AppendsFront (E.contents faults.old) (E.contents faults.new) line }
@@ -97,8 +102,12 @@ fn run<R: Read, W: Write>(
             _ => Refusal::Input,
         });
     }
-    let text = answer(alloc, command, &bytes)?;
-    write_bytes(output, text.as_bytes()).map_err(|_| Refusal::Output)
+    let answer = answer(alloc, command, &bytes)?;
+    write_bytes(output, answer.text.as_bytes()).map_err(|_| Refusal::Output)?;
+    match answer.refused {
+        None => Ok(()),
+        Some(e) => Err(Refusal::Fault(Fault::Refused(e))),
+    }
 }
 
 /// What the words ask for.
@@ -111,6 +120,10 @@ fn read_command(words: &[String]) -> Option<Command>
             let limit = read_number(limit.as_str())?;
             Some(Command::Decode(limit))
         }
+        [word, capacity] if word.as_str() == "inspect" => {
+            let capacity = read_number(capacity.as_str())?;
+            Some(Command::Inspect(capacity as usize))
+        }
         _ => None,
     }
 }
@@ -122,17 +135,32 @@ fn read_number(word: &str) -> Option<u64>
     word.parse().ok()
 }
 
-/// What is written for an input.
-fn answer(alloc: Global, command: Command, input: &[u8]) -> Result<String, Fault>
+/// What is written for an input, and the refusal that ends it.
+fn answer(alloc: Global, command: Command, input: &[u8]) -> Result<Inspection, Fault>
     ensures { AnswersInput command input.now result }
 {
     match command {
         Command::Encode => {
             let mut text = encode_text(alloc, input)?;
             text.push('\n')?;
-            Ok(text)
+            Ok(whole(text))
         }
-        Command::Decode(limit) => Ok(show(alloc, &decode_text(alloc, input, limit)?)?),
+        Command::Decode(limit) => {
+            let text = show(alloc, &decode_text(alloc, input, limit)?)?;
+            Ok(whole(text))
+        }
+        Command::Inspect(capacity) => inspect(alloc, capacity, input),
+    }
+}
+
+/// An answer that no refusal ends.
+fn whole(text: String) -> Inspection
+    ensures text { result.text ≡ text }
+    ensures refused { result.refused ≡ None }
+{
+    Inspection {
+        text,
+        refused: None,
     }
 }
 

@@ -11,7 +11,8 @@ const REFUSED_MEMORY: &str = "qpk: refused: memory\n";
 
 const REFUSED_OUTPUT: &str = "qpk: refused: output\n";
 
-const USAGE: &str = "usage: qpk encode | qpk decode LIMIT | qpk run CAPACITY LIMIT\n";
+const USAGE: &str =
+    "usage: qpk encode | qpk decode LIMIT | qpk run CAPACITY LIMIT | qpk inspect CAPACITY\n";
 
 /// The words of a line.
 fn words(alloc: Global, line: &str) -> Result<Vec<String>, AllocError> {

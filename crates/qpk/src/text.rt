@@ -16,15 +16,19 @@ use std::alloc::{AllocError, AllocFailed, Global};
 use std::error::Error;
 use std::fmt;
 
-/// Why a text was not encoded or decoded.
+/// Why a text was not encoded, decoded or inspected.
 #[derive(Debug, PartialEq, Drop)]
 pub enum Fault {
     /// The line of this number, counted from 1, has no TAB.
     NoTab(usize),
+    /// The line of this number, counted from 1, is no event.
+    BadEvent(usize),
     /// The text is no hexadecimal.
     NotHexadecimal,
-    /// The bytes that the text stands for were not decoded.
+    /// Bytes were not decoded: those that the text stands for, or those of an event.
     Refused(DecoderError),
+    /// A table may not have this capacity.
+    Capacity,
     /// No memory was left.
     Memory,
 }
@@ -35,8 +39,10 @@ impl fmt::Display for Fault {
     fn fmt<W: fmt::Write>(&self, f: &mut fmt::Formatter<W>) -> fmt::Result {
         match self {
             Fault::NoTab(number) => write!(f, "line {number}: no tab"),
+            Fault::BadEvent(number) => write!(f, "line {number}: bad event"),
             Fault::NotHexadecimal => f.write_str("not hexadecimal"),
             Fault::Refused(e) => write!(f, "refused: {e}"),
+            Fault::Capacity => f.write_str("refused: capacity"),
             Fault::Memory => f.write_str("refused: memory"),
         }
     }

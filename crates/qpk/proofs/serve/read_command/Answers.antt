@@ -32,3 +32,26 @@ returns-in_err-limit-in-len2 c =
     (no_number c.args.words.now (string_bytes c.word-item-then-words-lt3.result) c.as_str-in-len2.result.now
     (m ∙ ap (λ (b : List ℕ). string_bytes c.word-item-then-words-lt3.result ∷ b ∷ [])
     (sym limit)) c.in_err-limit-in-len2.ensures)
+
+pub returns-in_ok-capacity-in-len2-2 : goal.returns-in_ok-capacity-in-len2-2
+returns-in_ok-capacity-in-len2-2 c =
+    let m = two_words c.args.words.now c.word-item-then-words-lt3-2.result c.capacity-item.result
+    c.in-len2.len_at_least c.in-len2.len_below c.word-item-then-words-lt3-2.is c.capacity-item.is in
+    let s = (slice_eq-Decides Decides-eqb _ _ _ c.eq-then-words-lt3-2.ensures).0 c.if-eq-3.true in
+    let capacity = c.as_str-in-len2-2.ensures.value in (
+      c.as_str-in-len2-2.result.now,
+      m ∙ ap (λ (b : List ℕ). b ∷ string_bytes c.capacity-item.result ∷ [])
+          (sym c.as_str-then-words-lt3-2.ensures.value ∙ s)
+          ∙ ap (λ (b : List ℕ). codes "inspect" ∷ b ∷ []) (sym capacity),
+      c.in_ok-capacity-in-len2-2.ensures,
+    )
+
+pub returns-in_err-capacity-in-len2-2 : goal.returns-in_err-capacity-in-len2-2
+returns-in_err-capacity-in-len2-2 c =
+    let m = two_words c.args.words.now c.word-item-then-words-lt3-2.result c.capacity-item.result
+    c.in-len2.len_at_least c.in-len2.len_below c.word-item-then-words-lt3-2.is c.capacity-item.is in
+    let capacity = c.as_str-in-len2-2.ensures.value in
+    none_is c.from_residual-in_err-capacity-in-len2-2.result _ _ c.from_residual-in_err-capacity-in-len2-2.ensures
+    (no_number c.args.words.now (string_bytes c.word-item-then-words-lt3-2.result) c.as_str-in-len2-2.result.now
+    (m ∙ ap (λ (b : List ℕ). string_bytes c.word-item-then-words-lt3-2.result ∷ b ∷ [])
+    (sym capacity)) c.in_err-capacity-in-len2-2.ensures)

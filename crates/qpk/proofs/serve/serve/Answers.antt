@@ -1,4 +1,3 @@
-use Rattle.std.proofs.Common.{refl}
 use Rattle.qpk.proofs.Tellings.{ends_told}
 use Rattle.qpk.proofs.serve.serve.Goals as goal
 

@@ -1,0 +1,70 @@
+//! Bytes of the encoder stream, instruction by instruction (RFC 9204, section 4.3).
+
+ghost use Rattle.std.specs.Prelude.{◌≡◌, string_bytes};
+ghost use Rattle.qpack_spec.specs.Instruction.{EncoderInstruction, SpellsEncoderInstruction};
+ghost use Rattle.qpk.specs.Inspections.{Hears, HearsNext, ReadsNext, AppliesWhole};
+
+use crate::inspect::printing::{index_line, instruction_line};
+use crate::text::Fault;
+use h3_qpack::DecoderError;
+use h3_qpack::coding::Cursor;
+use h3_qpack::decoder::Decoder;
+use h3_qpack::stream::{EncoderLine, next_line};
+use std::alloc::Global;
+
+/// Takes the instructions that stand whole at the front of the bytes, and appends a line for each as it is applied;
+/// then how many insertions were ever received. Answers how many bytes were taken.
+pub fn hear(
+    alloc: Global,
+    decoder: &mut Decoder,
+    bytes: &[u8],
+    text: &mut String,
+) -> Result<usize, Fault>
+    ensures { Hears decoder.old.table decoder.new.table bytes.now (string_bytes text.old) (string_bytes text.new)
+        result }
+{
+    let mut buf = Cursor::new(bytes);
+    while hear_next(alloc, decoder, &mut buf, text)? {}
+    let total = decoder.table().total_inserted();
+    text.push_str(index_line(alloc, "received", total)?.as_str())?;
+    Ok(buf.position())
+}
+
+/// Takes the instruction at the cursor, and appends its line once it is applied. Answers whether one stood whole.
+fn hear_next(
+    alloc: Global,
+    decoder: &mut Decoder,
+    buf: &mut Cursor,
+    text: &mut String,
+) -> Result<bool, Fault>
+    ensures hears { HearsNext decoder.old.table decoder.new.table buf.old.rest buf.new.rest (string_bytes text.old)
+        (string_bytes text.new) result }
+    ensures total { buf.new.total ≡ buf.old.total }
+{
+    let bytes = buf.chunk();
+    let Some(line) = next_instruction(alloc, buf)? else {
+        return Ok(false);
+    };
+    let instruction = &bytes[..bytes.len() - buf.remaining()];
+    apply(alloc, decoder, instruction)?;
+    text.push_str(instruction_line(alloc, &line)?.as_str())?;
+    Ok(true)
+}
+
+/// The instruction at the cursor, which is moved past it, or none of a truncated one.
+fn next_instruction(alloc: Global, buf: &mut Cursor) -> Result<Option<EncoderLine>, DecoderError>
+    ensures reads { ReadsNext buf.old.rest buf.new.rest result }
+    ensures total { buf.new.total ≡ buf.old.total }
+{
+    Ok(next_line(alloc, buf)?)
+}
+
+/// Gives the decoder one instruction, whose increments are dropped.
+fn apply(alloc: Global, decoder: &mut Decoder, instruction: &[u8]) -> Result<(), Fault>
+    ensures { (i : EncoderInstruction) → SpellsEncoderInstruction instruction.now i
+        → AppliesWhole decoder.old.table decoder.new.table instruction.now i result }
+{
+    let mut told = Vec::new(alloc);
+    decoder.on_encoder_recv(&mut Cursor::new(instruction), &mut told)?;
+    Ok(())
+}
