@@ -27,17 +27,27 @@ pub(crate) fn read_lists(alloc: Global, text: &str) -> Result<Vec<Vec<HeaderFiel
     Ok(lists)
 }
 
+/// Why a line of a file means nothing.
+pub(crate) const UNREADABLE: &str = "a file of the corpus can't be read";
+
+/// The parts of a line of a recorded connection: whether it is a block, on which stream, and its bytes in hexadecimal;
+/// or bytes of the encoder stream, told as those of stream 0.
+pub(crate) fn parts_of(line: &str) -> Result<(bool, usize, &str)> {
+    let (kind, rest) = line.split_once('\t').context(UNREADABLE)?;
+    if kind == "e" {
+        return Ok((false, 0, rest));
+    }
+    let (stream_id, digits) = rest.split_once('\t').context(UNREADABLE)?;
+    Ok((true, stream_id.parse()?, digits))
+}
+
 /// The blocks of a text: a block a line, in hexadecimal behind the last TAB, with the sum of sizes
 /// before it in a text that tells sizes.
 pub(crate) fn read_blocks(alloc: Global, text: &str, has_sizes: bool) -> Result<Vec<ForeignBlock>> {
     let mut blocks = Vec::new(alloc);
     for line in text.lines() {
-        let (_, rest) = line
-            .split_once('\t')
-            .context("a file of the corpus can't be read")?;
-        let (middle, digits) = rest
-            .split_once('\t')
-            .context("a file of the corpus can't be read")?;
+        let (_, rest) = line.split_once('\t').context(UNREADABLE)?;
+        let (middle, digits) = rest.split_once('\t').context(UNREADABLE)?;
         let bytes = hex::decode(alloc, digits)?;
         let size = if has_sizes { middle.parse().ok() } else { None };
         blocks.push(ForeignBlock { bytes, size })?;

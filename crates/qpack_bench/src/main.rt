@@ -4,12 +4,14 @@
 
 mod comparing;
 mod corpus;
+mod mutated;
 mod replay;
 mod table;
 mod timing;
 
 use anyhow::Result;
 use h3_qpack::HeaderField;
+use mutated::{Answers, Numbers};
 use std::alloc::Global;
 use std::{env, fs};
 
@@ -89,6 +91,29 @@ fn tell_replayed(
         let read = replay::replay(alloc, lists, text.as_str(), max_capacity, piece)?;
         println!(rt; "{file}: {read} blocks read as their fields, in pieces of {piece} bytes")?;
     }
+    tell_mutated(rt, alloc, file, text.as_str(), max_capacity)
+}
+
+/// Tells how many lines of a recorded connection with mutations were answered, and how often by a refusal.
+fn tell_mutated(
+    rt: &HostRuntime,
+    alloc: Global,
+    file: &str,
+    text: &str,
+    max_capacity: usize,
+) -> Result<()> {
+    let mut numbers = Numbers::new(9204);
+    let mut answers = Answers {
+        given: 0,
+        refused: 0,
+    };
+    for _ in 0..200 {
+        mutated::try_once(alloc, &mut numbers, text, max_capacity, &mut answers)?;
+    }
+    println!(rt;
+        "{file}: mutated, {} lines answered, {} of them refused",
+        answers.given, answers.refused
+    )?;
     Ok(())
 }
 

@@ -1,20 +1,17 @@
 //! Connections as another encoder wrote them, received and decoded.
 
-use crate::corpus::fields_size;
+use crate::corpus::{UNREADABLE, fields_size, parts_of};
 use anyhow::{Context, Result, ensure};
-use h3_qpack::HeaderField;
 use h3_qpack::coding::Cursor;
 use h3_qpack::decoder::Decoder;
 use h3_qpack::dynamic::DynamicTable;
 use h3_qpack::stream::{DecoderLine, InsertCountIncrement, next_line};
+use h3_qpack::{Decoded, DecoderError, HeaderField};
 use std::alloc::Global;
-
-/// Why a line of a file means nothing.
-const UNREADABLE: &str = "a file of the corpus can't be read";
 
 /// The receiving end of a recorded connection.
 #[derive(Drop)]
-struct Receiver {
+pub(crate) struct Receiver {
     decoder: Decoder,
     /// What was delivered of the encoder stream, and how many of its bytes the decoder took.
     encoder_stream: Vec<u8>,
@@ -24,7 +21,7 @@ struct Receiver {
 
 impl Receiver {
     /// A decoder whose table is empty, of capacity 0 until the encoder sets it.
-    fn new(alloc: Global, max_capacity: usize) -> Result<Receiver> {
+    pub(crate) fn new(alloc: Global, max_capacity: usize) -> Result<Receiver> {
         let mut table = DynamicTable::new(alloc);
         table.set_agreed_max(max_capacity)?;
         Ok(Receiver {
@@ -35,23 +32,39 @@ impl Receiver {
         })
     }
 
-    /// Delivers bytes of the encoder stream, a piece at a time.
-    fn deliver(&mut self, bytes: &[u8], piece: usize) -> Result<()> {
+    /// Delivers bytes of the encoder stream, a piece at a time, up to a refusal, which is answered.
+    pub(crate) fn deliver(&mut self, bytes: &[u8], piece: usize) -> Result<Option<DecoderError>> {
         for part in bytes.chunks(piece.max(1)) {
             self.encoder_stream.extend_from_slice(part)?;
-            let rest = self.encoder_stream.get(self.taken..).context(UNREADABLE)?;
+            let rest = self.encoder_stream.get(self.taken..).unwrap_or(b"");
             let mut cursor = Cursor::new(rest);
-            self.decoder
-                .on_encoder_recv(&mut cursor, &mut self.decoder_stream)?;
+            let answer = self
+                .decoder
+                .on_encoder_recv(&mut cursor, &mut self.decoder_stream);
             self.taken = self.taken.saturating_add(cursor.position());
+            if let Err(refused) = answer {
+                return Ok(Some(refused));
+            }
         }
-        Ok(())
+        Ok(None)
     }
 
-    /// Whether a block is read as the fields of a list, with the sum of their sizes.
-    fn reads(&self, block: &[u8], list: &Vec<HeaderField>) -> Result<bool> {
-        let decoded = self.decoder.decode_header(&mut Cursor::new(block))?;
-        Ok(decoded.fields == *list && decoded.mem_size == fields_size(list))
+    /// Decodes a block.
+    pub(crate) fn decode(&self, block: &[u8]) -> Result<Decoded, DecoderError> {
+        self.decoder.decode_header(&mut Cursor::new(block))
+    }
+
+    /// The decoder's table.
+    pub(crate) fn table(&self) -> &DynamicTable {
+        self.decoder.table()
+    }
+
+    /// Another receiver that is delivered at once what this one took.
+    pub(crate) fn of_what_was_taken(&self, alloc: Global, max_capacity: usize) -> Result<Receiver> {
+        let mut other = Receiver::new(alloc, max_capacity)?;
+        let taken = self.encoder_stream.get(..self.taken).unwrap_or(b"");
+        other.deliver(taken, usize::MAX)?;
+        Ok(other)
     }
 
     /// The sum of all increments that were written.
@@ -71,8 +84,8 @@ impl Receiver {
 }
 
 /// Receives a recorded connection, its encoder stream in pieces of so many bytes, and decodes each block as it comes.
-/// Answers how many blocks were read as the fields of their lists. Fails where the increments do not add up to the
-/// insertions.
+/// Answers how many blocks were read as the fields of their lists, with the sum of their sizes. Fails at a refusal, and
+/// where the increments do not add up to the insertions.
 pub(crate) fn replay(
     alloc: Global,
     lists: &[Vec<HeaderField>],
@@ -83,22 +96,21 @@ pub(crate) fn replay(
     let mut receiver = Receiver::new(alloc, max_capacity)?;
     let mut alike = 0usize;
     for line in text.lines() {
-        let (kind, rest) = line.split_once('\t').context(UNREADABLE)?;
-        if kind == "e" {
-            receiver.deliver(&hex::decode(alloc, rest)?, piece)?;
+        let (is_section, stream_id, digits) = parts_of(line)?;
+        let bytes = hex::decode(alloc, digits)?;
+        if !is_section {
+            let refused = receiver.deliver(&bytes, piece)?;
+            ensure!(refused.is_none(), "an instruction was refused");
             continue;
         }
-        let (stream_id, digits) = rest.split_once('\t').context(UNREADABLE)?;
-        let list = lists
-            .get(stream_id.parse::<usize>()? / 4)
-            .context(UNREADABLE)?;
-        if receiver.reads(&hex::decode(alloc, digits)?, list)? {
+        let list = lists.get(stream_id / 4).context(UNREADABLE)?;
+        let decoded = receiver.decode(&bytes)?;
+        if decoded.fields == *list && decoded.mem_size == fields_size(list) {
             alike = alike.saturating_add(1);
         }
     }
-    let inserted = receiver.decoder.table().total_inserted();
     ensure!(
-        receiver.reported(alloc)? == inserted,
+        receiver.reported(alloc)? == receiver.table().total_inserted(),
         "the increments are not those of the insertions"
     );
     Ok(alike)
