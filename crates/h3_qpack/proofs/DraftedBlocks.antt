@@ -17,7 +17,7 @@ use Rattle.qpack_spec.specs.Table.{Table, insert_count, without_references, comm
 use Rattle.qpack_spec.specs.Window.{maximum_capacity}
 use Rattle.qpack_spec.proofs.Handles.{handle_is_rule}
 use Rattle.h3_qpack.specs.Encoding.{DrainsFieldsOf, draft_at, draft_of_fields, Adds, StopsAmong, DraftsBlock}
-use Rattle.h3_qpack.specs.Encoding.{GivesUpBlock, StopsEncoding, EncodesBlock}
+use Rattle.h3_qpack.specs.Encoding.{GivesUpBlock, StopsEncodingOf, EncodesBlock}
 use Rattle.h3_qpack.specs.declared.encoder.EncoderError.{EncoderError}
 
 -- ---- the rule, where a block begins
@@ -103,13 +103,6 @@ gives_up_all t base fs new before lines told_old told_new begins same adds =
       told = rw (take-length fs) adds.told;
     })
 
--- ---- over the items that were gathered
-
-pub of_gathered : {S H : Type 0} (field : H → Field) (steps : S → Option H → S → Type 0) (it : S)
-    (gathered xs : List H) (P : List Field → Type 0) → Drains steps it gathered → xs ≡ gathered
-    → P (map field xs) → DrainsFieldsOf field steps it P
-of_gathered field steps it gathered xs P drains same p = (gathered, drains, subst (λ l. P (map field l)) same p)
-
 -- ---- the end of a block
 
 rule_again : (t : Table) (fs : List Field) → rule (without_references t) fs ≡ rule t fs
@@ -126,51 +119,32 @@ gives_up_again old new fs told_old told_new k =
       told = k.told ∙ ap (λ (x : Draft). told_old ++ written_encoder_instructions x.instructions) d;
     }
 
-stops_again : {S H : Type 0} (field : H → Field) (steps : S → Option H → S → Type 0) (it : S)
-    (old begun new : Table) (told_old told_new : List ℕ) → begun ≡ without_references old
-    → StopsEncoding field steps it begun new told_old told_new
-    → StopsEncoding field steps it old new told_old told_new
-stops_again field steps it old begun new told_old told_new begins stops =
-    elim (subst (λ (t : Table). StopsEncoding field steps it t new told_old told_new) begins stops) [
-      | inl k ↦ inl (gives_up_again old new [] told_old told_new k)
-      | inr k ↦ inr (k.0, k.1, gives_up_again old new (map field k.0) told_old told_new k.2)
-    ]
-
--- a whole block is given up
-drafts_stop : {S H : Type 0} (field : H → Field) (steps : S → Option H → S → Type 0) (it : S)
-    (old mid : Table) (before block told_old told_new : List ℕ) (required : ℕ)
-    → DrainsFieldsOf field steps it (λ fs. DraftsBlock fs old mid before block told_old told_new required)
-    → StopsEncoding field steps it old (without_references mid) told_old told_new
-drafts_stop field steps it old mid before block told_old told_new required drafted =
-    let k = drafted.2 in
-    let fs = map field drafted.0 in
-    inr (
-      drafted.0,
-      drafted.1,
-      record {
-        many = length fs;
-        table = rw (take-length fs) (ap (λ (x : Table). without_references x) k.table);
-        told = rw (take-length fs) k.told;
-      },
-    )
+gives_up_begun : (fs : List Field) (old begun new : Table) (told_old told_new : List ℕ)
+    → begun ≡ without_references old → GivesUpBlock fs begun new told_old told_new
+    → GivesUpBlock fs old new told_old told_new
+gives_up_begun fs old begun new told_old told_new begins k =
+    gives_up_again old new fs told_old told_new
+    (subst (λ (t : Table). GivesUpBlock fs t new told_old told_new) begins k)
 
 -- refused, behind lines that were written or before
-pub stops_encoding : {S H : Type 0} (field : H → Field) (steps : S → Option H → S → Type 0) (it : S)
-    (r : Result ℕ EncoderError) (answer : Result ℕ EncoderError) (old begun mid new : Table)
+pub gives_up_section : (fs : List Field) (r answer : Result ℕ EncoderError) (old begun mid new : Table)
     (before block told_old told_new : List ℕ)
     → begun ≡ without_references old
-    → IfOk r (λ required. DrainsFieldsOf field steps it
-    (λ fs. DraftsBlock fs begun mid before block told_old told_new required))
-    → OnErr r (StopsEncoding field steps it begun (without_references mid) told_old told_new)
+    → IfOk r (λ required. DraftsBlock fs begun mid before block told_old told_new required)
+    → OnErr r (GivesUpBlock fs begun (without_references mid) told_old told_new)
     → OnErr answer (new ≡ without_references mid)
-    → OnErr answer (StopsEncoding field steps it old new told_old told_new)
-stops_encoding field steps it r (Ok required) old begun mid new before block told_old told_new begins ok err ends = tt
-stops_encoding field steps it (Ok required) (Err e) old begun mid new before block told_old told_new begins ok err
-    ends =
-    rw ends (stops_again field steps it old begun (without_references mid) told_old told_new begins
-    (drafts_stop field steps it begun mid before block told_old told_new required ok))
-stops_encoding field steps it (Err f) (Err e) old begun mid new before block told_old told_new begins ok err ends =
-    rw ends (stops_again field steps it old begun (without_references mid) told_old told_new begins err)
+    → OnErr answer (GivesUpBlock fs old new told_old told_new)
+gives_up_section fs r (Ok required) old begun mid new before block told_old told_new begins ok err ends = tt
+gives_up_section fs (Ok required) (Err e) old begun mid new before block told_old told_new begins ok err ends =
+    rw ends
+    (gives_up_begun fs old begun (without_references mid) told_old told_new begins
+    (record {
+      many = length fs;
+      table = rw (take-length fs) (ap (λ (x : Table). without_references x) ok.table);
+      told = rw (take-length fs) ok.told;
+    }))
+gives_up_section fs (Err f) (Err e) old begun mid new before block told_old told_new begins ok err ends =
+    rw ends (gives_up_begun fs old begun (without_references mid) told_old told_new begins err)
 
 encodes_block : (fs : List Field) (old begun mid new : Table) (stream given : ℕ)
     (before block told_old told_new : List ℕ) (required : ℕ)
@@ -195,30 +169,20 @@ encodes_block fs old begun mid new stream given before block told_old told_new r
     }
 
 -- the answer is the required insert count, and the block's vector is kept then
-pub encodes : {S H : Type 0} (field : H → Field) (steps : S → Option H → S → Type 0) (it : S)
-    (r : Result ℕ EncoderError) (answer : Result ℕ EncoderError) (old begun mid new : Table) (stream given : ℕ)
+pub encodes : (fs : List Field) (r answer : Result ℕ EncoderError) (old begun mid new : Table) (stream given : ℕ)
     (before block now told_old told_new : List ℕ)
     → begun ≡ without_references old → given ≡ stream
-    → IfOk r (λ required. DrainsFieldsOf field steps it
-    (λ fs. DraftsBlock fs begun mid before block told_old told_new required))
+    → IfOk r (λ required. DraftsBlock fs begun mid before block told_old told_new required)
     → IfOk answer (λ required. (r ≡ Ok required) × (new ≡ commit mid given required))
     → (is_err answer ≡ false → now ≡ block)
-    → IfOk answer (λ required. DrainsFieldsOf field steps it
-    (λ fs. EncodesBlock stream fs old new before now told_old told_new required))
-encodes field steps it r (Err e) old begun mid new stream given before block now told_old told_new begins same ok ends
-    kept = tt
-encodes field steps it r (Ok required) old begun mid new stream given before block now told_old told_new begins same ok
-    ends kept =
-    let drafted : DrainsFieldsOf field steps it
-    (λ fs. DraftsBlock fs begun mid before block told_old told_new required) =
-    subst (λ (x : Result ℕ EncoderError). IfOk x (λ n. DrainsFieldsOf field steps it
-    (λ fs. DraftsBlock fs begun mid before block told_old told_new n))) ends.0 ok in (
-      drafted.0,
-      drafted.1,
-      rw (kept refl)
-          (encodes_block (map field drafted.0) old begun mid new stream given before block told_old told_new required
-          begins same drafted.2 ends.1),
-    )
+    → IfOk answer (λ required. EncodesBlock stream fs old new before now told_old told_new required)
+encodes fs r (Err e) old begun mid new stream given before block now told_old told_new begins same ok ends kept = tt
+encodes fs r (Ok required) old begun mid new stream given before block now told_old told_new begins same ok ends kept =
+    let drafted : DraftsBlock fs begun mid before block told_old told_new required =
+    subst (λ (x : Result ℕ EncoderError). IfOk x (λ n. DraftsBlock fs begun mid before block told_old told_new n))
+    ends.0 ok in
+    rw (kept refl)
+    (encodes_block fs old begun mid new stream given before block told_old told_new required begins same drafted ends.1)
 
 -- ---- a block as it begins
 
@@ -229,3 +193,32 @@ count_begins old begun is = sym (ap (λ (t : Table). insert_count t) is)
 pub none_begins : (old begun : Table) → begun ≡ without_references old → begun.referenced ≡ []
 unfolding without_references
 none_begins old begun is = ap (λ (t : Table). t.referenced) is
+
+pub released_again : (old begun new : Table) → begun ≡ without_references old → new ≡ without_references begun
+    → new ≡ without_references old
+unfolding without_references
+released_again old begun new begins is = is ∙ ap (λ (t : Table). without_references t) begins
+
+-- ---- over the items that were gathered
+
+pub encodes_items : {S H : Type 0} (field : H → Field) (steps : S → Option H → S → Type 0) (it : S)
+    (gathered xs : List H) (answer : Result ℕ EncoderError) (P : ℕ → List Field → Type 0)
+    → Drains steps it gathered → xs ≡ gathered → IfOk answer (λ n. P n (map field xs))
+    → IfOk answer (λ n. DrainsFieldsOf field steps it (P n))
+encodes_items field steps it gathered xs (Err e) P drains same p = tt
+encodes_items field steps it gathered xs (Ok n) P drains same p =
+    (gathered, drains, subst (λ l. P n (map field l)) same p)
+
+pub stops_items : {S H : Type 0} (field : H → Field) (steps : S → Option H → S → Type 0) (it : S)
+    (gathered xs : List H) (answer : Result ℕ EncoderError) (old new : Table) (told_old told_new : List ℕ)
+    → Drains steps it gathered → xs ≡ gathered → OnErr answer (GivesUpBlock (map field xs) old new told_old told_new)
+    → OnErr answer (StopsEncodingOf field steps it old new told_old told_new)
+stops_items field steps it gathered xs (Ok n) old new told_old told_new drains same p = tt
+stops_items field steps it gathered xs (Err e) old new told_old told_new drains same p =
+    inr (gathered, drains, subst (λ l. GivesUpBlock (map field l) old new told_old told_new) same p)
+
+-- before anything was gathered
+pub stops_ungathered : {S H : Type 0} (field : H → Field) (steps : S → Option H → S → Type 0) (it : S)
+    (old new : Table) (told : List ℕ) → new ≡ without_references old
+    → StopsEncodingOf field steps it old new told told
+stops_ungathered field steps it old new told is = rw is (inl (gives_up_none old told))

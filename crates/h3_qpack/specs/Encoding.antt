@@ -1,5 +1,6 @@
 -- What an encoder writes for fields, one by one (RFC 9204, section 2.1).
 use Rattle.std.specs.Prelude.{◌≡◌, ℕ, ◌⊎◌, List, [], ◌++◌, take, map, Option}
+use Rattle.std.specs.Borrow.{Bor}
 use Rattle.std.specs.Iterator.{Drains}
 use Rattle.qpack_spec.specs.Field.{Field}
 use Rattle.qpack_spec.specs.Instruction.{InsertStaticName, InsertDynamicName, InsertLiteralName, Duplicate}
@@ -10,6 +11,8 @@ use Rattle.qpack_spec.specs.Table.{Table, without_references}
 use Rattle.qpack_spec.specs.Rule.{Draft, rule, required_insert_count, block_of, committed_table}
 use Rattle.qpack_spec.specs.Handle.{Insertion, Duplicated, InsertedWithStaticName, InsertedWithName, Inserted}
 use Rattle.qpack_spec.specs.Handle.{NotInserted, handle_field, handle_fields}
+use Rattle.qpack_base.specs.HeaderFields.{DrainsFields}
+use Rattle.qpack_base.specs.declared.field.HeaderField.{HeaderField}
 
 -- the iterator gives so many items and ends, and P holds of the list of the fields that they lend
 abbrev pub DrainsFieldsOf : {S H : Type 0} → (H → Field) → (S → Option H → S → Type 0) → S → (List Field → Type 0)
@@ -87,8 +90,15 @@ pub record GivesUpBlock (fields : List Field) (old new : Table) (told_old told_n
   pub told : told_new ≡ told_old ++ written_encoder_instructions (rule old (take many fields)).instructions
 
 -- memory was refused: before the fields were gathered, and then nothing was inserted; or behind some of the fields
-abbrev pub StopsEncoding : {S H : Type 0} → (H → Field) → (S → Option H → S → Type 0) → S → Table → Table → List ℕ
+abbrev pub StopsEncodingOf : {S H : Type 0} → (H → Field) → (S → Option H → S → Type 0) → S → Table → Table → List ℕ
     → List ℕ → Type 0
-StopsEncoding field steps it old new told_old told_new =
+StopsEncodingOf field steps it old new told_old told_new =
     GivesUpBlock [] old new told_old told_new
     ⊎ DrainsFieldsOf field steps it (λ fs. GivesUpBlock fs old new told_old told_new)
+
+-- the same of references to fields
+abbrev pub StopsEncoding : {S : Type 0} → (S → Option (Bor HeaderField) → S → Type 0) → S → Table → Table → List ℕ
+    → List ℕ → Type 0
+StopsEncoding steps it old new told_old told_new =
+    GivesUpBlock [] old new told_old told_new
+    ⊎ DrainsFields steps it (λ fs. GivesUpBlock fs old new told_old told_new)

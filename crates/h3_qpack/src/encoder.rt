@@ -29,10 +29,12 @@ mod connection;
 mod fields;
 mod instructions;
 mod room;
+mod sections;
 
 pub use crate::encoder::as_field::AsField;
 pub use crate::encoder::capacity::set_dynamic_table_size;
 pub use crate::encoder::connection::Encoder;
+pub use crate::encoder::sections::{EncoderTable, WritesSections};
 
 /// Why fields were not encoded, or an instruction of the decoder was not taken.
 #[derive(Debug, PartialEq, Drop, Error)]

@@ -8,4 +8,6 @@ mod decoding;
 #[cfg(test)]
 mod encoder;
 #[cfg(test)]
+mod encoding;
+#[cfg(test)]
 mod texts;

@@ -3,12 +3,11 @@
 
 ghost use Rattle.std.specs.Prelude.{◌≡◌, ◌≤◌, [], ◌++◌, map, take, drop, IfOk, IfErr, OnOk, OnErr, vec_len};
 ghost use Rattle.std.specs.Prelude.{vec_capacity};
-ghost use Rattle.std.specs.Iterator.{IsFinite, Drains};
 ghost use Rattle.qpack_spec.specs.Prefix.{written_prefix};
 ghost use Rattle.qpack_spec.specs.Table.{insert_count, without_references};
 ghost use Rattle.qpack_wire.specs.Prefixes.{prefix_of};
-ghost use Rattle.h3_qpack.specs.Encoding.{DrainsFieldsOf, Adds, StopsAmong, draft_of_fields, DraftsBlock};
-ghost use Rattle.h3_qpack.specs.Encoding.{StopsEncoding};
+ghost use Rattle.h3_qpack.specs.Encoding.{Adds, StopsAmong, draft_of_fields, DraftsBlock};
+ghost use Rattle.h3_qpack.specs.Encoding.{GivesUpBlock};
 ghost use Rattle.h3_qpack.specs.declared.encoder.EncoderError.TheVariants.{Memory};
 
 use crate::encoder::EncoderError;
@@ -17,58 +16,35 @@ use crate::encoder::fields::append_field;
 use qpack_base::coding::NoMemory;
 use qpack_table::dynamic::DynamicTableEncoder;
 use qpack_wire::block::HeaderPrefix;
-use std::alloc::{AllocError, Allocator, Global};
+use std::alloc::Allocator;
 
 /// Appends the block of the fields and the instructions of what is inserted, and answers the block's required insert
-/// count. The references to the fields are gathered first; then the lines are written, and the prefix is put in front
-/// of them. Refused, which is for memory alone, what stood in the block's vector is still at its front.
-pub(super) fn append_block<
-    A: Allocator,
-    B: Allocator,
-    H: AsField + Drop,
-    T: Iterator<Item = H> + Drop,
->(
-    alloc: Global,
+/// count. The lines are written first, and then the prefix is put in front of them. Refused, which is for memory alone, what stood in the block's vector is still at its front.
+pub(super) fn append_block<A: Allocator, B: Allocator, H: AsField>(
     handle: &mut DynamicTableEncoder<'_>,
     block: &mut Vec<u8, A>,
     encoder_buf: &mut Vec<u8, B>,
-    fields: T,
+    fields: &[H],
 ) -> Result<usize, EncoderError>
-    requires can { T.can_next fields }
-    requires ends { IsFinite (T.remaining fields) }
     requires base { handle.old.base ≡ insert_count handle.old.table.now }
     requires begins { handle.old.table.now.referenced ≡ [] }
     ensures same_table { handle.new.table.ghost_name ≡ handle.old.table.ghost_name }
     ensures stream { handle.new.stream_id ≡ handle.old.stream_id }
-    ensures ok { IfOk result (λ required. DrainsFieldsOf H.field T.next_gives fields (λ fs. DraftsBlock fs
-        handle.old.table.now handle.new.table.now block.old.items block.new.items encoder_buf.old.items
-        encoder_buf.new.items required)) }
-    ensures err { OnErr result (StopsEncoding H.field T.next_gives fields handle.old.table.now
+    ensures ok { IfOk result (λ required. DraftsBlock (map H.field fields.now) handle.old.table.now
+        handle.new.table.now block.old.items block.new.items encoder_buf.old.items encoder_buf.new.items required) }
+    ensures err { OnErr result (GivesUpBlock (map H.field fields.now) handle.old.table.now
         (without_references handle.new.table.now) encoder_buf.old.items encoder_buf.new.items) }
     ensures as_before { OnErr result (take (vec_len block.old) block.new.items ≡ block.old.items) }
     ensures memory { IfErr result (λ e. e ≡ Memory) }
     ensures capacity { vec_capacity block.old ≤ vec_capacity block.new }
 {
-    let fields = gather(alloc, fields)?;
     let max = handle.agreed_max();
     let len = block.len();
-    append_fields(handle, &fields, block, encoder_buf)?;
+    append_fields(handle, fields, block, encoder_buf)?;
     let required = handle.required_insert_count();
     let prefix = HeaderPrefix::new(required, handle.base(), handle.total_inserted(), max);
     put_in_front(&prefix, block, len)?;
     Ok(required)
-}
-
-/// The references that an iterator gives, in order.
-fn gather<H: AsField + Drop, T: Iterator<Item = H> + Drop>(
-    alloc: Global,
-    fields: T,
-) -> Result<Vec<H>, AllocError>
-    requires can { T.can_next fields }
-    requires ends { IsFinite (T.remaining fields) }
-    ensures { IfOk result (λ gathered. Drains T.next_gives fields gathered.items) }
-{
-    fields.collect(alloc)
 }
 
 /// Adds the fields to a block in progress, one after the other. Refused, which is for memory alone, some of them were

@@ -1,34 +1,35 @@
 //! The encoder of a connection: its table, and the decoder instructions that it hears (RFC 9204, section 2.1).
 
-ghost use Rattle.std.specs.Prelude.{◌≡◌, ◌+◌, ◌≤◌, Ok, Err, None, IfOk, IfErr, OnErr, vec_len, vec_capacity};
+ghost use Rattle.std.specs.Prelude.{◌≡◌, ◌+◌, ◌≤◌, Err, None, IfOk, IfErr, OnErr, vec_len, vec_capacity};
 ghost use Rattle.std.specs.Iterator.{IsFinite};
-ghost use Rattle.qpack_spec.specs.Table.{empty_table, commit, without_references};
-ghost use Rattle.h3_qpack.specs.Encoding.{DrainsFieldsOf, EncodesBlock, StopsEncoding};
+ghost use Rattle.qpack_spec.specs.Table.{empty_table};
+ghost use Rattle.qpack_base.specs.HeaderFields.{DrainsFields};
+ghost use Rattle.h3_qpack.specs.Encoding.{EncodesBlock, StopsEncoding};
 ghost use Rattle.h3_qpack.specs.Hearing.{Hears, SetsCapacity};
 ghost use Rattle.h3_qpack.specs.declared.encoder.EncoderError.TheVariants.{Memory};
 
 use crate::encoder::EncoderError;
-use crate::encoder::as_field::AsField;
-use crate::encoder::block::append_block;
 use crate::encoder::capacity::set_dynamic_table_size;
 use crate::encoder::instructions::take_instructions;
+use crate::encoder::sections::{EncoderTable, WritesSections, encode_items};
 use qpack_base::coding::Cursor;
-use qpack_table::dynamic::{DynamicTable, DynamicTableEncoder};
+use qpack_base::field::HeaderField;
+use qpack_table::dynamic::DynamicTable;
 use std::alloc::{Allocator, Global};
 use std::marker::Model;
 
 /// The encoder of a connection.
 #[derive(Debug, Drop)]
-pub struct Encoder {
-    table: DynamicTable,
+pub struct Encoder<D: WritesSections = EncoderTable> {
+    table: D,
 }
 
-impl Model for Encoder {
+impl<D: WritesSections> Model for Encoder<D> {
     ghost use Rattle.qpack_spec.specs.Table.{Table};
 
     ghost Value = { Table };
 
-    ghost view = { λ e. e.table };
+    ghost view = { λ e. D.table e.table };
 }
 
 impl From<DynamicTable> for Encoder {
@@ -36,7 +37,9 @@ impl From<DynamicTable> for Encoder {
 
     /// An encoder over a table.
     fn from(table: DynamicTable) -> Encoder {
-        Encoder { table }
+        Encoder {
+            table: EncoderTable { table },
+        }
     }
 }
 
@@ -52,44 +55,7 @@ impl Encoder {
     pub fn table(&self) -> &DynamicTable
         ensures { result.now ≡ self.now }
     {
-        &self.table
-    }
-
-    /// Encodes a field section for a stream (RFC 9204, section 2.1). Appended are the block, to the one vector, and the
-    /// instructions of what is inserted, to the other; answered is the block's required insert count, 0 if it
-    /// references no entry. For each field the first is taken that applies: an equal static field, the newest equal
-    /// entry that stood at the block's start, an insertion, and a literal. An item of the iterator is a field or a
-    /// reference to one.
-    ///
-    /// Refused, which is for memory alone, the block is as before. The insertions that were made stand, their
-    /// instructions are written, and nothing more is referenced: the call can be made again.
-    pub fn encode<A: Allocator, B: Allocator, H: AsField + Drop, T: Iterator<Item = H> + Drop>(
-        &mut self,
-        stream_id: u64,
-        block: &mut Vec<u8, A>,
-        encoder_buf: &mut Vec<u8, B>,
-        fields: T,
-    ) -> Result<usize, EncoderError>
-        requires can { T.can_next fields }
-        requires ends { IsFinite (T.remaining fields) }
-        ensures ok { IfOk result (λ required. DrainsFieldsOf H.field T.next_gives fields (λ fs. EncodesBlock stream_id
-            fs self.old self.new block.old.items block.new.items encoder_buf.old.items encoder_buf.new.items
-            required)) }
-        ensures err { OnErr result (StopsEncoding H.field T.next_gives fields self.old self.new encoder_buf.old.items
-            encoder_buf.new.items) }
-        ensures as_before { OnErr result (block.new.items ≡ block.old.items) }
-        ensures memory { IfErr result (λ e. e ≡ Memory) }
-        ensures capacity { vec_capacity block.old ≤ vec_capacity block.new }
-    {
-        let len = block.len();
-        let alloc = self.table.allocator();
-        let mut handle = self.table.encoder(stream_id);
-        let appended = append_block(alloc, &mut handle, block, encoder_buf, fields);
-        let answer = end_block(handle, appended);
-        if answer.is_err() {
-            block.truncate(len);
-        }
-        answer
+        &self.table.table
     }
 
     /// Takes the bytes of the decoder stream that the cursor has left (RFC 9204, section 4.4). Each instruction that
@@ -105,7 +71,7 @@ impl Encoder {
         ensures total { buf.new.total ≡ buf.old.total }
         ensures no_memory { result ≡ Err Memory → ⊥ }
     {
-        take_instructions(&mut self.table, buf)
+        take_instructions(&mut self.table.table, buf)
     }
 
     /// Sets the capacity of the table in bytes, and writes the instruction that tells the decoder (RFC 9204,
@@ -118,30 +84,36 @@ impl Encoder {
         ensures sets { SetsCapacity size self.old self.new encoder_buf.old.items encoder_buf.new.items result }
         ensures memory { vec_len encoder_buf.old + 11 ≤ vec_capacity encoder_buf.old → result ≡ Err Memory → ⊥ }
     {
-        set_dynamic_table_size(&mut self.table, encoder_buf, size)
+        set_dynamic_table_size(&mut self.table.table, encoder_buf, size)
     }
 }
 
-/// Ends a block in progress, whose required insert count this is and is answered; or gives it up, where that is an
-/// error.
-fn end_block(
-    handle: DynamicTableEncoder<'_>,
-    appended: Result<usize, EncoderError>,
-) -> Result<usize, EncoderError>
-    requires { IfErr appended (λ e. e ≡ Memory) }
-    ensures ok { IfOk result (λ required. (appended ≡ Ok required)
-        × (handle.exit.0.now ≡ commit handle.entry.table.now handle.entry.stream_id required)) }
-    ensures err { OnErr result (handle.exit.0.now ≡ without_references handle.entry.table.now) }
-    ensures memory { IfErr result (λ e. e ≡ Memory) }
-{
-    match appended {
-        Ok(required) => {
-            handle.commit(required)?;
-            Ok(required)
-        }
-        Err(error) => {
-            handle.release();
-            Err(error)
-        }
+impl<D: WritesSections> Encoder<D> {
+    /// Encodes a field section for a stream (RFC 9204, section 2.1). Appended are the block, to the one vector, and the
+    /// instructions of what is inserted, to the other; answered is the block's required insert count, 0 if it
+    /// references no entry. For each field the first is taken that applies: an equal static field, the newest equal
+    /// entry that stood at the block's start, an insertion, and a literal.
+    ///
+    /// Refused, which is for memory alone, the block is as before. The insertions that were made stand, their
+    /// instructions are written, and nothing more is referenced: the call can be made again.
+    pub fn encode<'a, A: Allocator, B: Allocator, T: Iterator<Item = &'a HeaderField> + Drop>(
+        &mut self,
+        stream_id: u64,
+        block: &mut Vec<u8, A>,
+        encoder_buf: &mut Vec<u8, B>,
+        fields: T,
+    ) -> Result<usize, EncoderError>
+        requires can { T.can_next fields }
+        requires ends { IsFinite (T.remaining fields) }
+        ensures ok { IfOk result (λ required. DrainsFields T.next_gives fields (λ fs. EncodesBlock stream_id
+            fs self.old self.new block.old.items block.new.items encoder_buf.old.items encoder_buf.new.items
+            required)) }
+        ensures err { OnErr result (StopsEncoding T.next_gives fields self.old self.new encoder_buf.old.items
+            encoder_buf.new.items) }
+        ensures as_before { OnErr result (block.new.items ≡ block.old.items) }
+        ensures memory { IfErr result (λ e. e ≡ Memory) }
+        ensures capacity { vec_capacity block.old ≤ vec_capacity block.new }
+    {
+        encode_items(&mut self.table, stream_id, block, encoder_buf, fields)
     }
 }

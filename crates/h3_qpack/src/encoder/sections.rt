@@ -1,0 +1,147 @@
+//! Field sections as an encoder writes them, and what it asks of its table for that (RFC 9204, section 2.1).
+
+ghost use Rattle.std.specs.Prelude.{◌≡◌, ◌≤◌, map, Ok, IfOk, IfErr, OnErr, vec_capacity};
+ghost use Rattle.std.specs.Iterator.{IsFinite, Drains};
+ghost use Rattle.qpack_spec.specs.Table.{Table, commit, without_references};
+ghost use Rattle.h3_qpack.specs.Encoding.{DrainsFieldsOf, EncodesBlock, GivesUpBlock, StopsEncodingOf};
+ghost use Rattle.h3_qpack.specs.declared.encoder.EncoderError.TheVariants.{Memory};
+
+use crate::encoder::EncoderError;
+use crate::encoder::as_field::AsField;
+use crate::encoder::block::append_block;
+use qpack_table::dynamic::{DynamicTable, DynamicTableEncoder};
+use std::alloc::{AllocError, Allocator, Global};
+
+/// A table by which field sections are written: the dynamic table.
+pub trait WritesSections {
+    // The table.
+    ghost table: { Self → Table };
+
+    /// What the table takes its memory of.
+    fn memory(&self) -> Global;
+
+    /// Writes a field section.
+    fn write_section<A: Allocator, B: Allocator, H: AsField>(
+        &mut self,
+        stream_id: u64,
+        block: &mut Vec<u8, A>,
+        encoder_buf: &mut Vec<u8, B>,
+        fields: &[H],
+    ) -> Result<usize, EncoderError>
+        ensures ok { IfOk result (λ required. EncodesBlock stream_id (map H.field fields.now) (table self.old)
+            (table self.new) block.old.items block.new.items encoder_buf.old.items encoder_buf.new.items required) }
+        ensures err { OnErr result (GivesUpBlock (map H.field fields.now) (table self.old) (table self.new)
+            encoder_buf.old.items encoder_buf.new.items) }
+        ensures as_before { OnErr result (block.new.items ≡ block.old.items) }
+        ensures memory { IfErr result (λ e. e ≡ Memory) }
+        ensures capacity { vec_capacity block.old ≤ vec_capacity block.new };
+
+    /// Gives up what is referenced.
+    fn give_up(&mut self)
+        ensures { table self.new ≡ without_references (table self.old) };
+}
+
+/// The dynamic table of an encoder.
+#[derive(Debug, Drop)]
+pub struct EncoderTable {
+    pub(super) table: DynamicTable,
+}
+
+impl WritesSections for EncoderTable {
+    ghost table = { λ e. e.table };
+
+    fn memory(&self) -> Global {
+        self.table.allocator()
+    }
+
+    fn write_section<A: Allocator, B: Allocator, H: AsField>(
+        &mut self,
+        stream_id: u64,
+        block: &mut Vec<u8, A>,
+        encoder_buf: &mut Vec<u8, B>,
+        fields: &[H],
+    ) -> Result<usize, EncoderError> {
+        let len = block.len();
+        let mut handle = self.table.encoder(stream_id);
+        let appended = append_block(&mut handle, block, encoder_buf, fields);
+        let answer = end_block(handle, appended);
+        if answer.is_err() {
+            block.truncate(len);
+        }
+        answer
+    }
+
+    fn give_up(&mut self) {
+        self.table.encoder(0).release();
+    }
+}
+
+/// Ends a block in progress, whose required insert count this is and is answered; or gives it up, where that is an
+/// error.
+fn end_block(
+    handle: DynamicTableEncoder<'_>,
+    appended: Result<usize, EncoderError>,
+) -> Result<usize, EncoderError>
+    requires { IfErr appended (λ e. e ≡ Memory) }
+    ensures ok { IfOk result (λ required. (appended ≡ Ok required)
+        × (handle.exit.0.now ≡ commit handle.entry.table.now handle.entry.stream_id required)) }
+    ensures err { OnErr result (handle.exit.0.now ≡ without_references handle.entry.table.now) }
+    ensures memory { IfErr result (λ e. e ≡ Memory) }
+{
+    match appended {
+        Ok(required) => {
+            handle.commit(required)?;
+            Ok(required)
+        }
+        Err(error) => {
+            handle.release();
+            Err(error)
+        }
+    }
+}
+
+/// Encodes a field section of what an iterator gives.
+pub(super) fn encode_items<
+    D: WritesSections,
+    A: Allocator,
+    B: Allocator,
+    H: AsField + Drop,
+    T: Iterator<Item = H> + Drop,
+>(
+    table: &mut D,
+    stream_id: u64,
+    block: &mut Vec<u8, A>,
+    encoder_buf: &mut Vec<u8, B>,
+    fields: T,
+) -> Result<usize, EncoderError>
+    requires can { T.can_next fields }
+    requires ends { IsFinite (T.remaining fields) }
+    ensures ok { IfOk result (λ required. DrainsFieldsOf H.field T.next_gives fields (λ fs. EncodesBlock stream_id fs
+        (D.table table.old) (D.table table.new) block.old.items block.new.items encoder_buf.old.items
+        encoder_buf.new.items required)) }
+    ensures err { OnErr result (StopsEncodingOf H.field T.next_gives fields (D.table table.old) (D.table table.new)
+        encoder_buf.old.items encoder_buf.new.items) }
+    ensures as_before { OnErr result (block.new.items ≡ block.old.items) }
+    ensures memory { IfErr result (λ e. e ≡ Memory) }
+    ensures capacity { vec_capacity block.old ≤ vec_capacity block.new }
+{
+    match gather(table.memory(), fields) {
+        Ok(gathered) => table.write_section(stream_id, block, encoder_buf, &gathered),
+        Err(_) => {
+            table.give_up();
+            Err(EncoderError::Memory)
+        }
+    }
+}
+
+/// What an iterator gives, in order.
+fn gather<H: Drop, T: Iterator<Item = H> + Drop>(
+    alloc: Global,
+    fields: T,
+) -> Result<Vec<H>, AllocError>
+    requires can { T.can_next fields }
+    requires ends { IsFinite (T.remaining fields) }
+    ensures { IfOk result (λ gathered. Drains T.next_gives fields gathered.items) }
+{
+    fields.collect(alloc)
+}
