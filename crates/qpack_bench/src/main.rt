@@ -3,6 +3,7 @@
 #![tactic(auto)]
 
 mod comparing;
+mod connection;
 mod corpus;
 mod mutated;
 mod replay;
@@ -68,6 +69,9 @@ fn run(rt: &HostRuntime, alloc: Global) -> Result<()> {
         tell_replayed(rt, alloc, &lists, file, max_capacity)?;
     }
     let words = words_of(rt)?;
+    for capacity in [4096, 65536] {
+        connection::tell(rt, alloc, &lists, capacity, words.rounds)?;
+    }
     if words.rounds > 0 {
         timing::time(rt, alloc, &lists, words.rounds)?;
     }

@@ -1,0 +1,191 @@
+//! Connections with a dynamic table: field sections encoded, their instructions received, the blocks decoded and
+//! acknowledged, and the decoder's instructions taken.
+
+use anyhow::Result;
+use h3_qpack::HeaderField;
+use h3_qpack::coding::Cursor;
+use h3_qpack::decoder::{Decoder, ack_header};
+use h3_qpack::dynamic::DynamicTable;
+use h3_qpack::encoder::Encoder;
+use std::alloc::Global;
+use std::time::Instant;
+
+/// What is done with each list, in this order.
+const PHASES: [&str; 5] = ["encode", "receive", "decode", "acknowledge", "hear"];
+
+/// How many blocks may be blocked.
+const BLOCKED: usize = 100;
+
+/// How long each phase took in all, in nanoseconds.
+#[derive(Drop)]
+struct Clock {
+    last: Instant,
+    nanos: [u128; 5],
+}
+
+impl Clock {
+    /// Adds the time since the last call to a phase.
+    fn lap(&mut self, rt: &HostRuntime, phase: usize) -> Result<()> {
+        let now = Instant::now(rt)?;
+        let passed = now.duration_since(self.last).as_nanos();
+        if let Some(nanos) = self.nanos.get_mut(phase) {
+            *nanos = nanos.saturating_add(passed);
+        }
+        self.last = now;
+        Ok(())
+    }
+}
+
+/// How many bytes were written, and how many blocks decoded as the fields that were encoded.
+#[derive(Debug, Clone, Copy, PartialEq)]
+struct Counts {
+    blocks: usize,
+    encoder_stream: usize,
+    decoder_stream: usize,
+    decoded: usize,
+}
+
+/// Both ends, and what the last list made them write.
+#[derive(Drop)]
+struct Connection {
+    encoder: Encoder,
+    decoder: Decoder,
+    block: Vec<u8>,
+    encoder_stream: Vec<u8>,
+    decoder_stream: Vec<u8>,
+}
+
+/// An empty table of this capacity.
+fn table(alloc: Global, capacity: usize) -> Result<DynamicTable> {
+    let mut table = DynamicTable::new(alloc);
+    table.set_max_size(capacity)?;
+    table.set_max_blocked(BLOCKED)?;
+    Ok(table)
+}
+
+impl Connection {
+    fn new(alloc: Global, capacity: usize) -> Result<Connection> {
+        Ok(Connection {
+            encoder: Encoder::from(table(alloc, capacity)?),
+            decoder: Decoder::from(table(alloc, capacity)?),
+            block: Vec::new(alloc),
+            encoder_stream: Vec::new(alloc),
+            decoder_stream: Vec::new(alloc),
+        })
+    }
+
+    /// All phases of one list; whether it was decoded as it was encoded.
+    fn exchange(
+        &mut self,
+        rt: &HostRuntime,
+        stream_id: u64,
+        list: &Vec<HeaderField>,
+        clock: &mut Clock,
+    ) -> Result<bool> {
+        self.block.clear();
+        self.encoder_stream.clear();
+        self.decoder_stream.clear();
+        clock.last = Instant::now(rt)?;
+        self.encoder.encode(
+            stream_id,
+            &mut self.block,
+            &mut self.encoder_stream,
+            list.iter(),
+        )?;
+        clock.lap(rt, 0)?;
+        self.decoder.on_encoder_recv(
+            &mut Cursor::new(&self.encoder_stream),
+            &mut self.decoder_stream,
+        )?;
+        clock.lap(rt, 1)?;
+        let decoded = self.decoder.decode_header(&mut Cursor::new(&self.block))?;
+        clock.lap(rt, 2)?;
+        if decoded.dyn_ref {
+            ack_header(stream_id, &mut self.decoder_stream)?;
+        }
+        clock.lap(rt, 3)?;
+        self.encoder
+            .on_decoder_recv(&mut Cursor::new(&self.decoder_stream))?;
+        clock.lap(rt, 4)?;
+        Ok(decoded.fields == *list)
+    }
+}
+
+/// One connection over all lists, each on a stream of its own.
+fn connect(
+    rt: &HostRuntime,
+    alloc: Global,
+    lists: &[Vec<HeaderField>],
+    capacity: usize,
+    clock: &mut Clock,
+) -> Result<Counts> {
+    let mut connection = Connection::new(alloc, capacity)?;
+    let mut counts = Counts {
+        blocks: 0,
+        encoder_stream: 0,
+        decoder_stream: 0,
+        decoded: 0,
+    };
+    let mut stream_id = 0u64;
+    for list in lists {
+        if connection.exchange(rt, stream_id, list, clock)? {
+            counts.decoded = counts.decoded.saturating_add(1);
+        }
+        counts.add(&connection);
+        stream_id = stream_id.wrapping_add(4);
+    }
+    Ok(counts)
+}
+
+impl Counts {
+    /// Adds what the last list made both ends write.
+    fn add(&mut self, connection: &Connection) {
+        self.blocks = self.blocks.saturating_add(connection.block.len());
+        self.encoder_stream = self
+            .encoder_stream
+            .saturating_add(connection.encoder_stream.len());
+        self.decoder_stream = self
+            .decoder_stream
+            .saturating_add(connection.decoder_stream.len());
+    }
+}
+
+/// Tells what a connection over the lists writes, and, with rounds, how long each phase takes for a field.
+pub(crate) fn tell(
+    rt: &HostRuntime,
+    alloc: Global,
+    lists: &[Vec<HeaderField>],
+    capacity: usize,
+    rounds: u64,
+) -> Result<()> {
+    let mut clock = Clock {
+        last: Instant::now(rt)?,
+        nanos: [0; 5],
+    };
+    let counts = connect(rt, alloc, lists, capacity, &mut clock)?;
+    println!(rt;
+        "capacity {capacity}: {} blocks decoded as they were encoded, in {} bytes, {} of the encoder stream and {} of the decoder stream",
+        counts.decoded, counts.blocks, counts.encoder_stream, counts.decoder_stream
+    )?;
+    clock.nanos = [0; 5];
+    for _ in 0..rounds {
+        connect(rt, alloc, lists, capacity, &mut clock)?;
+    }
+    tell_phases(
+        rt,
+        &clock,
+        crate::corpus::fields_len(lists).saturating_mul(rounds),
+    )
+}
+
+/// Tells the time of each phase for a field, in nanoseconds.
+fn tell_phases(rt: &HostRuntime, clock: &Clock, fields: u64) -> Result<()> {
+    if fields == 0 {
+        return Ok(());
+    }
+    for (phase, nanos) in PHASES.iter().zip(&clock.nanos) {
+        let tenths = nanos.saturating_mul(10) / u128::from(fields.max(1));
+        println!(rt; "    {phase}: {}.{} ns a field", tenths / 10, tenths % 10)?;
+    }
+    Ok(())
+}
