@@ -13,3 +13,5 @@ pub mod Rooms
 pub mod AddedFields
 pub mod ReferencedRoom
 pub mod DraftedBlocks
+pub mod Streams
+pub mod Blocks

@@ -10,3 +10,4 @@ pub mod Sections
 pub mod Receiving
 pub mod Hearing
 pub mod Encoding
+pub mod Sessions

@@ -4,6 +4,7 @@
 
 pub mod decoder;
 pub mod encoder;
+pub mod session;
 
 pub use decoder::{Decoded, DecoderError, decode_stateless};
 pub use encoder::{EncoderError, encode_stateless};

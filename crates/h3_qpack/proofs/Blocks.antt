@@ -1,0 +1,117 @@
+-- Blocks that a stream keeps.
+use Rattle.std.proofs.Common.{◌≡◌, ◌<◌, ◌≤◌, ◌^◌, ◌⊎◌, ℕ, List, [], ◌∷◌, ◌++◌, length, take, filter, length-append, zero, suc, subst, refl, sym, ap}
+use Rattle.std.proofs.Common.{◌∙◌, arith, inl, inr, IsSome, Option, Some, Result, Ok, Err, IfOk, OnErr, nat_eq, if◌then◌else◌}
+use Rattle.std.proofs.iter.Yields.{fronts}
+use Rattle.std.proofs.lemmas.List.{take-append-le}
+use Rattle.std.proofs.lemmas.Bool.Decides.{nat_tests}
+use Rattle.std.specs.BTreeMap.{BTreeMap, is_at, WritesThrough}
+use Rattle.std.specs.Map.{lookup}
+use Rattle.std.specs.Ordering.{nat_cmp}
+use Rattle.std.specs.Slice.Iter.{iter_rest}
+use Rattle.std.specs.declared.slice.Iter.{Iter}
+use Rattle.qpack_spec.specs.Field.{Field}
+use Rattle.qpack_spec.specs.Instruction.{written_encoder_instructions}
+use Rattle.qpack_spec.specs.Rule.{rule}
+use Rattle.qpack_spec.specs.Session.{stream_at}
+use Rattle.qpack_spec.specs.Table.{Table, without_references}
+use Rattle.qpack_base.proofs.FieldLists.{fields_from_slice}
+use Rattle.qpack_base.specs.HeaderFields.{DrainsFields}
+use Rattle.qpack_base.specs.declared.field.HeaderField.{HeaderField}
+use Rattle.h3_qpack.specs.Encoding.{EncodesBlock, GivesUpBlock, StopsEncoding}
+use Rattle.h3_qpack.proofs.Streams.{stream_found, stream_put}
+use Rattle.h3_qpack.specs.Sessions.{StoredBlock, StoredStream, CountsDecoded, stored_requires_entry, KeepsStreams}
+use Rattle.h3_qpack.specs.Sessions.{ChangesStream, WritesBlock, WritesStream}
+use Rattle.h3_qpack.specs.declared.encoder.EncoderError.{EncoderError}
+use Rattle.h3_qpack.specs.Stateless.{fields_in}
+
+-- a block more is no decoded one
+pub counted_more : (blocks before more : List StoredBlock) (decoded dynamic : ℕ) (b : StoredBlock)
+    → more ≡ before ++ b ∷ [] → before ≡ blocks → CountsDecoded blocks decoded dynamic
+    → CountsDecoded more decoded dynamic
+counted_more blocks before more decoded dynamic b e same k =
+    let whole : more ≡ blocks ++ b ∷ [] = e ∙ ap (λ (bs : List StoredBlock). bs ++ b ∷ []) same in
+    record {
+      within = rw whole (omega (arith, k.within, length-append blocks (b ∷ [])));
+      dynamic_are = k.dynamic_are
+          ∙ sym (ap (λ (bs : List StoredBlock). length (filter stored_requires_entry bs))
+          (ap (take decoded) whole ∙ take-append-le decoded blocks (b ∷ []) k.within));
+    }
+
+-- it is kept behind the others
+pub kept_more : (view now : StoredStream) (b : StoredBlock) (before items : List StoredBlock) → view ≡ now
+    → items ≡ before ++ b ∷ [] → before ≡ view.blocks
+    → record view { blocks = items } ≡ record now { blocks = now.blocks ++ b ∷ [] }
+kept_more view now b before items e f same =
+    ap (λ (bs : List StoredBlock). let k : StoredStream = record view { blocks = bs } in k)
+    (f ∙ ap (λ (bs : List StoredBlock). bs ++ b ∷ []) same)
+    ∙ ap (λ (k : StoredStream). let x : StoredStream = record k { blocks = k.blocks ++ b ∷ [] } in x) e
+
+-- the fields that were drained are the slice's
+pub encodes_slice : (number : ℕ) (s : Iter HeaderField) (xs : List HeaderField) (old new : Table)
+    (block block' told told' : List ℕ) (required : ℕ) → iter_rest s ≡ xs → block ≡ []
+    → DrainsFields fronts s (λ fs. EncodesBlock number fs old new block block' told told' required)
+    → EncodesBlock number (fields_in xs) old new [] block' told told' required
+encodes_slice number s xs old new block block' told told' required e empty d =
+    subst (λ (b : List ℕ). EncodesBlock number (fields_in xs) old new b block' told told' required) empty
+    (subst (λ (fs : List Field). EncodesBlock number fs old new block block' told told' required)
+    (fields_from_slice s xs d.0 e d.1) d.2)
+
+-- no field is taken of none
+take_none : {X : Type 0} (n : ℕ) → take {A = X} n [] ≡ []
+take_none zero = refl
+take_none (suc n) = refl
+
+-- a block that was given up before its fields were gathered was given up behind none of them
+given_up_at_once : (fs : List Field) (old new : Table) (told told' : List ℕ) → GivesUpBlock [] old new told told'
+    → GivesUpBlock fs old new told told'
+given_up_at_once fs old new told told' g =
+    record {
+      many = 0;
+      table = subst (λ (l : List Field). new ≡ without_references (rule old l).table) (take_none g.many) g.table;
+      told = subst (λ (l : List Field). told' ≡ told ++ written_encoder_instructions (rule old l).instructions)
+          (take_none g.many) g.told;
+    }
+
+pub stops_slice : (s : Iter HeaderField) (xs : List HeaderField) (old new : Table) (told told' : List ℕ)
+    → iter_rest s ≡ xs → StopsEncoding fronts s old new told told' → GivesUpBlock (fields_in xs) old new told told'
+stops_slice s xs old new told told' e (inl g) = given_up_at_once (fields_in xs) old new told told' g
+stops_slice s xs old new told told' e (inr d) =
+    subst (λ (fs : List Field). GivesUpBlock fs old new told told') (fields_from_slice s xs d.0 e d.1) d.2
+
+-- ---- among the streams
+
+module _ (before opened : List (ℕ × StoredStream)) (m n : BTreeMap ℕ StoredStream) (number : ℕ)
+    (seen k : StoredStream) where
+  abbrev IsWritten : Type 0
+  IsWritten =
+      KeepsStreams before opened × (m.entries ≡ opened) × (Some seen ≡ lookup (is_at (nat_cmp number)) m.entries)
+      × WritesThrough nat_cmp (nat_cmp number) m k n
+
+  same_seen : IsWritten → seen ≡ stream_at before number
+  same_seen h =
+      sym (stream_found m.entries number seen h.2)
+      ∙ ap (λ (l : List (ℕ × StoredStream)). stream_at l number) h.1 ∙ h.0 number
+
+  changes : IsWritten → ChangesStream number k before n.entries
+  changes h q =
+      stream_put m n number k (h.3.3 (subst (λ o. IsSome o) h.2 refl)) q
+      ∙ ap (λ (x : StoredStream). if nat_eq number q then k else x)
+      (ap (λ (l : List (ℕ × StoredStream)). stream_at l q) h.1 ∙ h.0 q)
+
+  -- the block was written at the stream that was looked up
+  pub written_among : (fields : List Field) (old new : Table) (told told' : List ℕ) (r : Result ℕ EncoderError)
+      → IsWritten → IfOk r (WritesBlock number fields old new told told' seen k)
+      → IfOk r (WritesStream number fields old new told told' before n.entries)
+  written_among fields old new told told' (Ok required) h w =
+      record {
+        stream = k;
+        writes = subst (λ (x : StoredStream). WritesBlock number fields old new told told' x k required) (same_seen h) w;
+        changes = changes h;
+      }
+  written_among fields old new told told' (Err e) h w = tt
+
+  -- or the streams stay, as the one that was looked up does
+  pub kept_among : (r : Result ℕ EncoderError) → IsWritten → OnErr r (k ≡ seen) → OnErr r (KeepsStreams before n.entries)
+  kept_among (Ok required) h w = tt
+  kept_among (Err e) h w = λ q.
+      grind (arith, nat_tests, changes h q, same_seen h, w)
