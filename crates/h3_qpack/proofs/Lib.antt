@@ -15,3 +15,7 @@ pub mod ReferencedRoom
 pub mod DraftedBlocks
 pub mod Streams
 pub mod Blocks
+pub mod Sessions
+pub mod SessionEvents
+pub mod SessionBlocks
+pub mod SessionDeliveries

@@ -11,6 +11,9 @@ use qpack_base::coding::NoMemory;
 use qpack_base::field::HeaderField;
 use std::marker::Model;
 
+mod bytes;
+mod events;
+mod offered;
 mod stream;
 mod streams;
 

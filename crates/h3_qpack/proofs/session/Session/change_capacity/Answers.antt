@@ -1,0 +1,20 @@
+use Rattle.std.proofs.Common.{arith}
+use Rattle.h3_qpack.proofs.Sessions.{follows_from, reached_behind}
+use Rattle.h3_qpack.proofs.SessionEvents.{sets_capacity}
+use Rattle.h3_qpack.proofs.session.Session.change_capacity.Goals as goal
+
+pub invariant_of-self : goal.invariant_of-self
+invariant_of-self c =
+    let told = c.set_capacity.new.encoder_buf in
+    reached_behind _ _ _ _ c.self.invariant
+    (sets_capacity _ c.set_capacity.new.self told.items c.args.capacity c.set_capacity.result c.self.invariant
+    (omega (arith, told.ok.0, told.ok.1, told.small)) c.set_capacity.ensures.sets)
+
+pub returns : goal.returns
+returns c =
+    let told = c.set_capacity.new.encoder_buf in
+    record {
+      goes = follows_from _ c.args.self.now _ _ _ c.self.view_is
+          (sets_capacity _ c.set_capacity.new.self told.items c.args.capacity c.set_capacity.result c.self.invariant
+          (omega (arith, told.ok.0, told.ok.1, told.small)) c.set_capacity.ensures.sets);
+    }

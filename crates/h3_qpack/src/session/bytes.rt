@@ -1,0 +1,33 @@
+//! Names and values are bytes. Their types say so of each once it is read, and what is proved of a session rests on it.
+
+ghost use Rattle.std.specs.List.{AllByRecursion};
+ghost use Rattle.qpack_spec.specs.Huffman.{AreBytes};
+ghost use Rattle.qpack_spec.specs.WrittenLaws.{IsByteField};
+ghost use Rattle.qpack_base.specs.HeaderFields.{field_of};
+ghost use Rattle.h3_qpack.specs.Stateless.{fields_in};
+
+use qpack_base::field::HeaderField;
+
+/// The fields are bytes.
+pub(super) fn read_fields(fields: &[HeaderField])
+    ensures { AllByRecursion IsByteField (fields_in fields.now) }
+{
+    for field in fields {
+        read_field(field);
+    }
+}
+
+/// The field's name and its value are bytes.
+fn read_field(field: &HeaderField)
+    ensures { IsByteField (field_of field.now) }
+{
+    read_bytes(field.name.as_slice());
+    read_bytes(field.value.as_slice());
+}
+
+/// The numbers of the slice are bytes.
+fn read_bytes(bytes: &[u8])
+    ensures { AreBytes bytes.now }
+{
+    let _len = bytes.len();
+}

@@ -1,0 +1,118 @@
+//! The events of a session, one by one.
+
+ghost use Rattle.qpack_spec.specs.Session.{Encode, Decode, ToDecoder, ToEncoder, Acknowledge, Cancel, ChangeCapacity};
+ghost use Rattle.h3_qpack.specs.Sessions.{Follows};
+ghost use Rattle.h3_qpack.specs.Stateless.{fields_in};
+
+use crate::decoder::ack_header;
+use crate::session::bytes::read_fields;
+use crate::session::offered::{delivered_after, offered};
+use crate::session::{Outcome, Session};
+use qpack_base::coding::Cursor;
+use qpack_base::field::HeaderField;
+
+impl Session {
+    /// A block of the fields is encoded for a stream.
+    pub(super) fn encode(&mut self, number: u64, fields: &[HeaderField]) -> Outcome
+        ensures goes { Follows self.old self.new (Encode number (fields_in fields.now)) result }
+    {
+        read_fields(fields);
+        if let Some(reason) = self.streams.encode_skip(number) {
+            return Outcome::Skipped(reason);
+        }
+        let alloc = self.encoder.table().allocator();
+        Outcome::Encoded(
+            self.streams.encode(
+                alloc,
+                number,
+                &mut self.encoder,
+                &mut self.encoder_stream,
+                fields,
+            ),
+        )
+    }
+
+    /// The oldest undecoded block of a stream is decoded.
+    pub(super) fn decode(&mut self, number: u64) -> Outcome
+        ensures goes { Follows self.old self.new (Decode number) result }
+    {
+        let bytes = match self.streams.next_block(number) {
+            Ok(bytes) => bytes,
+            Err(reason) => return Outcome::Skipped(reason),
+        };
+        match self.decoder.decode_header(&mut Cursor::new(bytes)) {
+            Ok(decoded) => {
+                self.streams.mark_decoded(number);
+                Outcome::Decoded(Ok(decoded))
+            }
+            Err(e) => Outcome::Decoded(Err(e)),
+        }
+    }
+
+    /// So many more bytes of the encoder stream come to the decoder, behind those that it left.
+    pub(super) fn deliver_to_decoder(&mut self, count: usize) -> Outcome
+        ensures goes { Follows self.old self.new (ToDecoder count) result }
+    {
+        let len = self.encoder_stream.len();
+        let delivered = delivered_after(self.encoder_stream_delivered, count, len);
+        let offered = offered(&self.encoder_stream, self.encoder_stream_taken, delivered);
+        let mut offered = Cursor::new(offered);
+        let answer = self
+            .decoder
+            .on_encoder_recv(&mut offered, &mut self.decoder_stream);
+        self.encoder_stream_delivered = delivered;
+        self.encoder_stream_taken += offered.position();
+        Outcome::Delivered(answer)
+    }
+
+    /// So many more bytes of the decoder stream come to the encoder, behind those that it left.
+    pub(super) fn deliver_to_encoder(&mut self, count: usize) -> Outcome
+        ensures goes { Follows self.old self.new (ToEncoder count) result }
+    {
+        let len = self.decoder_stream.len();
+        let delivered = delivered_after(self.decoder_stream_delivered, count, len);
+        let offered = offered(&self.decoder_stream, self.decoder_stream_taken, delivered);
+        let mut offered = Cursor::new(offered);
+        let answer = self.encoder.on_decoder_recv(&mut offered);
+        self.decoder_stream_delivered = delivered;
+        self.decoder_stream_taken += offered.position();
+        Outcome::Heard(answer)
+    }
+
+    /// The oldest decoded block of a stream that requires an entry is acknowledged.
+    pub(super) fn acknowledge(&mut self, number: u64) -> Outcome
+        ensures goes { Follows self.old self.new (Acknowledge number) result }
+    {
+        if let Some(reason) = self.streams.acknowledgment_skip(number) {
+            return Outcome::Skipped(reason);
+        }
+        match ack_header(number, &mut self.decoder_stream) {
+            Ok(()) => {
+                self.streams.mark_acknowledged(number);
+                Outcome::Acknowledged(Ok(()))
+            }
+            Err(e) => Outcome::Acknowledged(Err(e)),
+        }
+    }
+
+    /// A stream is cancelled.
+    pub(super) fn cancel(&mut self, number: u64) -> Outcome
+        ensures goes { Follows self.old self.new (Cancel number) result }
+    {
+        if let Some(reason) = self.streams.cancellation_skip(number) {
+            return Outcome::Skipped(reason);
+        }
+        let alloc = self.encoder.table().allocator();
+        Outcome::Cancelled(self.streams.cancel(alloc, number, &mut self.decoder_stream))
+    }
+
+    /// The encoder sets the capacity in bytes, and writes it.
+    pub(super) fn change_capacity(&mut self, capacity: usize) -> Outcome
+        ensures goes { Follows self.old self.new (ChangeCapacity capacity) result }
+    {
+        Outcome::CapacitySet(
+            self.encoder
+                .set_capacity(capacity, &mut self.encoder_stream),
+        )
+    }
+}
