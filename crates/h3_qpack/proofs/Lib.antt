@@ -19,3 +19,5 @@ pub mod Sessions
 pub mod SessionEvents
 pub mod SessionBlocks
 pub mod SessionDeliveries
+pub mod SessionStarts
+pub mod SessionRuns

@@ -9,10 +9,10 @@ use Rattle.qpack_spec.specs.Session as spec
 use Rattle.qpack_spec.specs.Session.{KeptBlock, KeptStream, Session, RequestStream, stream_at, with_stream, skip_reason}
 use Rattle.qpack_spec.specs.Session.{awaits_acknowledgment, requires_entry, initial_session, Run, Passes, FitsMemory}
 use Rattle.qpack_spec.specs.Session.{IsByteEvent, LawfulStep, Skips}
-use Rattle.qpack_safety.specs.SessionSafety.{IsOrdered}
+use Rattle.qpack_safety.specs.SessionSafety.{IsOrdered, IsSafe}
 use Rattle.qpack_safety.proofs.FourParts.{sessions_safe}
 use Rattle.h3_qpack.specs.Sessions.{StoredBlock, StoredStream, stored_block, stored_stream, stored_requires_entry}
-use Rattle.h3_qpack.specs.Sessions.{SessionView, Shows, IsReached, Reaches, Follows, Goes, Answers, ChangesStream}
+use Rattle.h3_qpack.specs.Sessions.{SessionView, Shows, IsReached, Reaches, Follows, Goes, Answers, ChangesStream, Keeps}
 use Rattle.h3_qpack.specs.Sessions.{KeepsStreams, stored_skip, encode_skip, decode_skip, acknowledgment_skip}
 use Rattle.h3_qpack.specs.Sessions.{cancellation_skip}
 use Rattle.h3_qpack.specs.declared.session.Outcome.{Outcome}
@@ -223,4 +223,23 @@ lawful new e r v o v' answers shows bytes is step fits =
       answers = answers;
       shows = shows;
       passes = record { has_bytes = bytes; goes = inr (is, step); fits = shown_fits new v' shows fits };
+    }
+
+-- ---- the headline
+
+-- behind an event that goes, what the session theorem says holds
+pub keeps : (P : ℕ → ℕ → List (spec.Event × spec.Outcome) → Session → Type 0)
+    → ((capacity limit : ℕ) (events : List (spec.Event × spec.Outcome)) (v : Session)
+    → IsSafe capacity limit events v → P capacity limit events v)
+    → (old new : SessionView) (e : spec.Event) (r : Outcome) → Follows old new e r → Keeps old new e r P
+keeps P part old new e r follows capacity limit events v reaches =
+    let goes = follows v reaches.shows in
+    let run = run_more (initial_session capacity limit) v goes.next events e goes.answer reaches.run goes.passes in
+    record {
+      answer = goes.answer;
+      next = goes.next;
+      answers = goes.answers;
+      reaches = record { shows = goes.shows; run = run };
+      holds = part capacity limit (events ++ (e, goes.answer) ∷ []) goes.next
+          (sessions_safe capacity limit (events ++ (e, goes.answer) ∷ []) goes.next run);
     }

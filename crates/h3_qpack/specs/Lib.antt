@@ -11,3 +11,5 @@ pub mod Receiving
 pub mod Hearing
 pub mod Encoding
 pub mod Sessions
+pub mod SessionStarts
+pub mod SessionRuns

@@ -1,14 +1,23 @@
 //! Two ends of a connection, with both streams between them and the blocks of each request stream (RFC 9204, section
 //! 2). Events are given one by one, and each answers what the end that it goes to answers.
 
-ghost use Rattle.std.specs.Prelude.{◌≡◌};
-ghost use Rattle.h3_qpack.specs.Sessions.{Follows};
+ghost use Rattle.std.specs.Prelude.{◌≡◌, ◌<◌, ◌≤◌, ◌^◌, [], length, slice_get, Some, IfOk, IfErr};
+ghost use Rattle.qpack_spec.specs.Session.{begin_session, initial_session, stream_at};
+ghost use Rattle.qpack_spec.specs.Table.{empty_table};
+ghost use Rattle.qpack_safety.specs.SessionSafety.{RunsByTheRule, RefusesNothing, DecodesWhatWasHanded};
+ghost use Rattle.qpack_safety.specs.SessionSafety.{WaitsOnlyForInsertions};
+ghost use Rattle.qpack_table.specs.declared.dynamic.Error.TheVariants.{MaximumTableSizeTooLarge};
+ghost use Rattle.h3_qpack.specs.Sessions.{Follows, Keeps, Reaches, event_of};
+ghost use Rattle.h3_qpack.specs.SessionStarts.{Begins, IsBlock};
+ghost use Rattle.h3_qpack.specs.SessionRuns.{Runs, RefusesRun};
 
 use crate::decoder::{Decoded, Decoder, DecoderError};
 use crate::encoder::{Encoder, EncoderError};
 use crate::session::streams::Streams;
 use qpack_base::coding::NoMemory;
 use qpack_base::field::HeaderField;
+use qpack_table::dynamic::{self, DynamicTable};
+use std::alloc::Global;
 use std::marker::Model;
 
 mod bytes;
@@ -103,6 +112,89 @@ impl Model for Session {
 }
 
 impl Session {
+    /// A session of two empty tables of this capacity in bytes, which is the maximum capacity too, where so many blocks
+    /// may be blocked (RFC 9204, sections 3.2.3 and 2.1.2). A capacity of 2^30 or more is refused
+    /// (`MaximumTableSizeTooLarge`), then a limit of 65,535 or more (`MaxBlockedStreamsTooLarge`). It takes no memory.
+    pub fn new(alloc: Global, capacity: usize, limit: usize) -> Result<Session, dynamic::Error>
+        // It begins as the definition begins, or is refused as that is.
+        ensures begins { Begins result (begin_session capacity limit) }
+        // And no events lead to it.
+        ensures reaches { IfOk result (λ s. Reaches s capacity limit [] (initial_session capacity limit)) }
+    {
+        let mut table = empty_table(alloc, capacity)?;
+        table.set_max_blocked(limit)?;
+        Ok(Session {
+            encoder: Encoder::from(table),
+            decoder: Decoder::from(empty_table(alloc, capacity)?),
+            encoder_stream: Vec::new(alloc),
+            encoder_stream_delivered: 0,
+            encoder_stream_taken: 0,
+            decoder_stream: Vec::new(alloc),
+            decoder_stream_delivered: 0,
+            decoder_stream_taken: 0,
+            streams: Streams::new(alloc),
+        })
+    }
+
+    /// Does what an event says, and tells what came of it. An event outside a lawful session is skipped and changes
+    /// nothing; one that is refused memory can be given again.
+    pub fn step(&mut self, event: &Event) -> Outcome
+        // It is a step of the definition, from whichever session is shown before it to one that is shown behind it.
+        ensures goes { Follows self.old self.new (event_of event.now) result }
+        // Whatever events led to the session before it, they and this one with its answer lead to one of which the
+        // four parts of the session theorem hold. (a) The outcomes and the state are a run of the session. Each block
+        // and the encoder stream are the rule's. Both tables are those that the instructions make of an empty one, and
+        // within their capacity. The blocked blocks are within the limit.
+        ensures follows { Keeps self.old self.new (event_of event.now) result
+            (λ capacity limit events v. RunsByTheRule capacity limit events v) }
+        // (b) No instruction is refused but for memory.
+        ensures refuses { Keeps self.old self.new (event_of event.now) result
+            (λ capacity limit events v. RefusesNothing v) }
+        // (c) A decode that answers fields answers exactly those that were handed to the encode of its block.
+        ensures decodes { Keeps self.old self.new (event_of event.now) result
+            (λ capacity limit events v. DecodesWhatWasHanded capacity events v) }
+        // (d) Any other answer of a decode is want of memory, or that its block's required insert count is missing,
+        // which exceeds the insertions received; never once the bytes written by the block's end were delivered.
+        ensures waits { Keeps self.old self.new (event_of event.now) result
+            (λ capacity limit events v. WaitsOnlyForInsertions events v) }
+    {
+        self.perform(event)
+    }
+
+    /// How many blocks were encoded for a stream.
+    pub fn blocks(&self, stream: u64) -> usize
+        ensures { result ≡ length (stream_at self.now.streams stream).blocks }
+    {
+        match self.streams.get(stream) {
+            Some(stream) => stream.len(),
+            None => 0,
+        }
+    }
+
+    /// The bytes of a block of a stream, the first being 0, if there are so many.
+    pub fn block(&self, stream: u64, k: usize) -> Option<&[u8]>
+        ensures { IsBlock result (slice_get (stream_at self.now.streams stream).blocks k) }
+    {
+        match self.streams.get(stream) {
+            Some(stream) => stream.block(k),
+            None => None,
+        }
+    }
+
+    /// All bytes of the encoder stream.
+    pub fn encoder_bytes(&self) -> &[u8]
+        ensures { result.now ≡ self.now.encoder_stream }
+    {
+        &self.encoder_stream
+    }
+
+    /// All bytes of the decoder stream.
+    pub fn decoder_bytes(&self) -> &[u8]
+        ensures { result.now ≡ self.now.decoder_stream }
+    {
+        &self.decoder_stream
+    }
+
     /// The encoder.
     pub fn encoder(&self) -> &Encoder
         ensures { result.now ≡ self.now.encoder }
@@ -116,4 +208,46 @@ impl Session {
     {
         &self.decoder
     }
+}
+
+/// An empty table of this capacity, which is the maximum capacity too.
+fn empty_table(alloc: Global, capacity: usize) -> Result<DynamicTable, dynamic::Error>
+    ensures ok { IfOk result (λ t. (capacity < 2 ^ 30) × (t ≡ empty_table capacity (Some capacity) 0)) }
+    ensures err { IfErr result (λ e. (e ≡ MaximumTableSizeTooLarge) × (2 ^ 30 ≤ capacity)) }
+{
+    let mut table = DynamicTable::new(alloc);
+    table.set_agreed_max(capacity)?;
+    table.set_max_size(capacity)?;
+    Ok(table)
+}
+
+/// Begins a session and gives it the events in turn; answers the session behind them and what each answered. Refused
+/// are a capacity and a limit that are too great, as `Session::new` refuses them, and want of memory for the answers.
+pub fn run(
+    alloc: Global,
+    capacity: usize,
+    limit: usize,
+    events: &[Event],
+) -> Result<(Session, Vec<Outcome>), dynamic::Error>
+    // Refused, the session does not begin, or memory is wanted.
+    ensures err { IfErr result (λ e. RefusesRun e (begin_session capacity limit)) }
+    // The events, each with its answer, lead to the session that is answered, and the four parts of the session theorem
+    // hold of it. (a) The outcomes and the state are a run of the session, each block and the encoder stream are the
+    // rule's, the tables within their capacity and the blocked blocks within the limit.
+    ensures follows { IfOk result (λ p. Runs capacity limit events.now p.1.items p.0
+        (λ steps v. RunsByTheRule capacity limit steps v)) }
+    // (b) No instruction is refused but for memory.
+    ensures refuses { IfOk result (λ p. Runs capacity limit events.now p.1.items p.0 (λ steps v. RefusesNothing v)) }
+    // (c) A decode that answers fields answers exactly those that were handed to the encode of its block.
+    ensures decodes { IfOk result (λ p. Runs capacity limit events.now p.1.items p.0
+        (λ steps v. DecodesWhatWasHanded capacity steps v)) }
+    // (d) Any other answer of a decode is want of memory, or that its block's required insert count is missing, which
+    // exceeds the insertions received; never once the bytes written by the block's end were delivered.
+    ensures waits { IfOk result (λ p. Runs capacity limit events.now p.1.items p.0
+        (λ steps v. WaitsOnlyForInsertions steps v)) }
+{
+    let mut session = Session::new(alloc, capacity, limit)?;
+    let mut outcomes = Vec::with_capacity(alloc, events.len())?;
+    session.perform_all(events, &mut outcomes);
+    Ok((session, outcomes))
 }

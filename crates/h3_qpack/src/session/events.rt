@@ -1,17 +1,44 @@
 //! The events of a session, one by one.
 
+ghost use Rattle.std.specs.Prelude.{◌+◌, ◌≤◌, length, vec_len, vec_capacity};
 ghost use Rattle.qpack_spec.specs.Session.{Encode, Decode, ToDecoder, ToEncoder, Acknowledge, Cancel, ChangeCapacity};
-ghost use Rattle.h3_qpack.specs.Sessions.{Follows};
+ghost use Rattle.h3_qpack.specs.Sessions.{Follows, event_of};
+ghost use Rattle.h3_qpack.specs.SessionRuns.{PerformsAll};
 ghost use Rattle.h3_qpack.specs.Stateless.{fields_in};
 
 use crate::decoder::ack_header;
 use crate::session::bytes::read_fields;
 use crate::session::offered::{delivered_after, offered};
-use crate::session::{Outcome, Session};
+use crate::session::{Event, Outcome, Session};
 use qpack_base::coding::Cursor;
 use qpack_base::field::HeaderField;
 
 impl Session {
+    /// Does what the events say, one by one, and appends what each answers. There is room for that.
+    pub(super) fn perform_all(&mut self, events: &[Event], outcomes: &mut Vec<Outcome>)
+        requires room { vec_len outcomes.old + length events.now ≤ vec_capacity outcomes.old }
+        ensures { PerformsAll self.old self.new events.now outcomes.old.items outcomes.new.items }
+    {
+        for event in events {
+            outcomes.push_reserved(self.perform(event));
+        }
+    }
+
+    /// Does what an event says.
+    pub(super) fn perform(&mut self, event: &Event) -> Outcome
+        ensures goes { Follows self.old self.new (event_of event.now) result }
+    {
+        match event {
+            Event::Encode(stream, fields) => self.encode(*stream, fields),
+            Event::Decode(stream) => self.decode(*stream),
+            Event::ToDecoder(count) => self.deliver_to_decoder(*count),
+            Event::ToEncoder(count) => self.deliver_to_encoder(*count),
+            Event::Ack(stream) => self.acknowledge(*stream),
+            Event::Cancel(stream) => self.cancel(*stream),
+            Event::SetCapacity(capacity) => self.change_capacity(*capacity),
+        }
+    }
+
     /// A block of the fields is encoded for a stream.
     pub(super) fn encode(&mut self, number: u64, fields: &[HeaderField]) -> Outcome
         ensures goes { Follows self.old self.new (Encode number (fields_in fields.now)) result }

@@ -1,4 +1,4 @@
-use Rattle.std.proofs.Common.{sym, ◌∙◌}
+use Rattle.std.proofs.Common.{◌∙◌}
 use Rattle.qpack_spec.specs.Session.{Decode}
 use Rattle.h3_qpack.proofs.Sessions.{follows_from, stays_from, reached_behind, skipped, decode_skips}
 use Rattle.h3_qpack.proofs.SessionEvents.{decodes, decodes_nothing}

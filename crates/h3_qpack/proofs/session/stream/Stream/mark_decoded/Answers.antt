@@ -1,4 +1,4 @@
-use Rattle.std.proofs.Common.{length, take, arith}
+use Rattle.std.proofs.Common.{take, arith}
 use Rattle.std.proofs.lemmas.List.{length-take}
 use Rattle.qpack_safety.proofs.Fronts.{length_filter}
 use Rattle.h3_qpack.specs.Sessions.{stored_requires_entry}

@@ -1,0 +1,82 @@
+-- Runs of the session's code, event by event.
+use Rattle.std.proofs.Common.{◌≡◌, ◌≤◌, ℕ, List, [], ◌∷◌, ◌++◌, length, take, refl, sym, ap, subst, ◌∙◌, append_assoc, append-nil, min, arith}
+use Rattle.std.proofs.Math.Seq.{take-length}
+use Rattle.std.proofs.lemmas.List.{take_min}
+use Rattle.qpack_spec.specs.Session as spec
+use Rattle.qpack_spec.specs.Session.{Session, Run, initial_session}
+use Rattle.qpack_safety.specs.SessionSafety.{IsSafe}
+use Rattle.qpack_safety.proofs.FourParts.{sessions_safe}
+use Rattle.h3_qpack.proofs.Sessions.{run_more}
+use Rattle.h3_qpack.specs.SessionRuns.{AreAnswered, Continues, PerformsAll, Runs}
+use Rattle.h3_qpack.specs.Sessions.{SessionView, Shows, Reaches, Answers, Follows, event_of}
+use Rattle.h3_qpack.specs.declared.session.Event.{Event}
+use Rattle.h3_qpack.specs.declared.session.Outcome.{Outcome}
+
+answered_more : (es : List Event) (os : List Outcome) (steps : List (spec.Event × spec.Outcome)) (e : Event) (o : Outcome)
+    (answer : spec.Outcome) → AreAnswered es os steps → Answers o answer
+    → AreAnswered (es ++ e ∷ []) (os ++ o ∷ []) (steps ++ (event_of e, answer) ∷ [])
+answered_more [] [] [] e o answer h answers = (refl, answers, tt)
+answered_more [] [] (step ∷ steps) e o answer h answers = absurd h
+answered_more [] (r ∷ os) [] e o answer h answers = absurd h
+answered_more [] (r ∷ os) (step ∷ steps) e o answer h answers = absurd h
+answered_more (d ∷ es) [] [] e o answer h answers = absurd h
+answered_more (d ∷ es) [] (step ∷ steps) e o answer h answers = absurd h
+answered_more (d ∷ es) (r ∷ os) [] e o answer h answers = absurd h
+answered_more (d ∷ es) (r ∷ os) (step ∷ steps) e o answer h answers =
+    (h.0, h.1, answered_more es os steps e o answer h.2 answers)
+
+-- no events lead nowhere
+pub performs_none : (s : SessionView) (outcomes : List Outcome) → PerformsAll s s [] outcomes outcomes
+performs_none s outcomes = (
+  [],
+  sym (append-nil outcomes),
+  λ v shows.
+      record { steps = []; session = v; answered = tt; shows = shows; run = refl },
+)
+
+-- one event more
+pub performs_more : (old mid new : SessionView) (events more : List Event) (e : Event) (r : Outcome)
+    (before told behind : List Outcome) → PerformsAll old mid events before told → Follows mid new (event_of e) r
+    → more ≡ events ++ e ∷ [] → behind ≡ told ++ r ∷ [] → PerformsAll old new more before behind
+performs_more old mid new events more e r before told behind p follows whole wrote = (
+  p.0 ++ r ∷ [],
+  wrote ∙ ap (λ (l : List Outcome). l ++ r ∷ []) p.1 ∙ append_assoc before p.0 (r ∷ []),
+  λ v shows.
+      let k = p.2 v shows in
+      let goes = follows k.session k.shows in
+      subst (λ (es : List Event). Continues es (p.0 ++ r ∷ []) new v) (sym whole)
+      (record {
+        steps = k.steps ++ (event_of e, goes.answer) ∷ [];
+        session = goes.next;
+        answered = answered_more events p.0 k.steps e r goes.answer k.answered goes.answers;
+        shows = goes.shows;
+        run = run_more v k.session goes.next k.steps (event_of e) goes.answer k.run goes.passes;
+      }),
+)
+
+-- from the beginning, what the session theorem says holds
+pub runs : (P : List (spec.Event × spec.Outcome) → Session → Type 0) (capacity limit : ℕ)
+    → ((steps : List (spec.Event × spec.Outcome)) (v : Session) → IsSafe capacity limit steps v → P steps v)
+    → (first s : SessionView) (events : List Event) (none outcomes : List Outcome)
+    → Reaches first capacity limit [] (initial_session capacity limit) → none ≡ []
+    → PerformsAll first s events none outcomes → Runs capacity limit events outcomes s P
+runs P capacity limit part first s events none outcomes reaches empty p =
+    let k = p.2 (initial_session capacity limit) reaches.shows in
+    let same : outcomes ≡ p.0 = p.1 ∙ ap (λ (l : List Outcome). l ++ p.0) empty in
+    record {
+      steps = k.steps;
+      session = k.session;
+      answered = subst (λ (os : List Outcome). AreAnswered events os k.steps) (sym same) k.answered;
+      reaches = record { shows = k.shows; run = k.run };
+      holds = part k.steps k.session (sessions_safe capacity limit k.steps k.session k.run);
+    }
+
+-- behind the last event all are done
+pub performs_within : (old new : SessionView) (events : List Event) (many : ℕ) (before behind : List Outcome)
+    → length events ≤ many → PerformsAll old new (take many events) before behind
+    → PerformsAll old new events before behind
+performs_within old new events many before behind all p =
+    let most : min many (length events) ≡ length events = omega (arith, all) in
+    let whole : take many events ≡ events =
+    sym (take_min many events) ∙ ap (λ (n : ℕ). take n events) most ∙ take-length events in
+    subst (λ (es : List Event). PerformsAll old new es before behind) whole p
