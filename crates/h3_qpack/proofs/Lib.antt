@@ -21,3 +21,4 @@ pub mod SessionBlocks
 pub mod SessionDeliveries
 pub mod SessionStarts
 pub mod SessionRuns
+pub mod SessionAnswers

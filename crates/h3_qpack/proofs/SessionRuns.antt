@@ -71,6 +71,13 @@ runs P capacity limit part first s events none outcomes reaches empty p =
       holds = part k.steps k.session (sessions_safe capacity limit k.steps k.session k.run);
     }
 
+-- the run alone
+pub runs_so : (capacity limit : ℕ) (first s : SessionView) (events : List Event) (none outcomes : List Outcome)
+    → Reaches first capacity limit [] (initial_session capacity limit) → none ≡ []
+    → PerformsAll first s events none outcomes → Runs capacity limit events outcomes s (λ steps v. Unit {0})
+runs_so capacity limit first s events none outcomes reaches empty p =
+    runs (λ steps v. Unit {0}) capacity limit (λ steps v safe. tt) first s events none outcomes reaches empty p
+
 -- behind the last event all are done
 pub performs_within : (old new : SessionView) (events : List Event) (many : ℕ) (before behind : List Outcome)
     → length events ≤ many → PerformsAll old new (take many events) before behind

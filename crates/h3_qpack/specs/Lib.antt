@@ -13,3 +13,4 @@ pub mod Encoding
 pub mod Sessions
 pub mod SessionStarts
 pub mod SessionRuns
+pub mod SessionAnswers

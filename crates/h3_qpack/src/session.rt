@@ -2,14 +2,16 @@
 //! 2). Events are given one by one, and each answers what the end that it goes to answers.
 
 ghost use Rattle.std.specs.Prelude.{◌≡◌, ◌<◌, ◌≤◌, ◌^◌, [], length, slice_get, Some, IfOk, IfErr};
+ghost use Rattle.std.specs.List.{AllByRecursion};
 ghost use Rattle.qpack_spec.specs.Session.{begin_session, initial_session, stream_at};
 ghost use Rattle.qpack_spec.specs.Table.{empty_table};
 ghost use Rattle.qpack_safety.specs.SessionSafety.{RunsByTheRule, RefusesNothing, DecodesWhatWasHanded};
 ghost use Rattle.qpack_safety.specs.SessionSafety.{WaitsOnlyForInsertions};
 ghost use Rattle.qpack_table.specs.declared.dynamic.Error.TheVariants.{MaximumTableSizeTooLarge};
-ghost use Rattle.h3_qpack.specs.Sessions.{Follows, Keeps, Reaches, event_of};
+ghost use Rattle.h3_qpack.specs.Sessions.{Follows, Keeps, Reaches, IsReached, event_of};
 ghost use Rattle.h3_qpack.specs.SessionStarts.{Begins, IsBlock};
 ghost use Rattle.h3_qpack.specs.SessionRuns.{Runs, RefusesRun};
+ghost use Rattle.h3_qpack.specs.SessionAnswers.{IsUnrefused, IsExactBehind, AreExact};
 
 use crate::decoder::{Decoded, Decoder, DecoderError};
 use crate::encoder::{Encoder, EncoderError};
@@ -141,6 +143,11 @@ impl Session {
     pub fn step(&mut self, event: &Event) -> Outcome
         // It is a step of the definition, from whichever session is shown before it to one that is shown behind it.
         ensures goes { Follows self.old self.new (event_of event.now) result }
+        // It refuses no instruction but for memory.
+        ensures unrefused { IsUnrefused result }
+        // A decode answers exactly the fields that were handed to the encode of its block, or it wants memory, or tells
+        // the block's required insert count, which exceeds the insertions received.
+        ensures exact { IsExactBehind self.old (event_of event.now) result }
         // Whatever events led to the session before it, they and this one with its answer lead to one of which the
         // four parts of the session theorem hold. (a) The outcomes and the state are a run of the session. Each block
         // and the encoder stream are the rule's. Both tables are those that the instructions make of an empty one, and
@@ -158,7 +165,15 @@ impl Session {
         ensures waits { Keeps self.old self.new (event_of event.now) result
             (λ capacity limit events v. WaitsOnlyForInsertions events v) }
     {
+        self.is_reached();
         self.perform(event)
+    }
+
+    /// Events led to the session: this is known of each.
+    fn is_reached(&self)
+        ensures { IsReached self.now }
+    {
+        let _ = &self.encoder;
     }
 
     /// How many blocks were encoded for a stream.
@@ -231,6 +246,12 @@ pub fn run(
 ) -> Result<(Session, Vec<Outcome>), dynamic::Error>
     // Refused, the session does not begin, or memory is wanted.
     ensures err { IfErr result (λ e. RefusesRun e (begin_session capacity limit)) }
+    // No instruction is refused but for memory.
+    ensures unrefused { IfOk result (λ p. AllByRecursion IsUnrefused p.1.items) }
+    // Each decode answers exactly the fields that were handed to the encode of its block, or it wants memory, or tells
+    // the block's required insert count, which exceeds the insertions received by then.
+    ensures exact { IfOk result (λ p. Runs capacity limit events.now p.1.items p.0
+        (λ steps v. AreExact capacity limit [] steps p.1.items)) }
     // The events, each with its answer, lead to the session that is answered, and the four parts of the session theorem
     // hold of it. (a) The outcomes and the state are a run of the session, each block and the encoder stream are the
     // rule's, the tables within their capacity and the blocked blocks within the limit.

@@ -1,3 +1,4 @@
+use Rattle.h3_qpack.proofs.SessionAnswers.{unrefused_step, exact_step}
 use Rattle.h3_qpack.proofs.Sessions.{keeps}
 use Rattle.h3_qpack.proofs.session.Session.step.Goals as goal
 
@@ -12,3 +13,9 @@ returns-clause-decodes c = keeps _ (λ capacity limit events v safe. safe.decode
 
 pub returns-clause-waits : goal.returns-clause-waits
 returns-clause-waits c = keeps _ (λ capacity limit events v safe. safe.waits) _ _ _ _ c.perform.ensures.goes
+
+pub returns-clause-unrefused : goal.returns-clause-unrefused
+returns-clause-unrefused c = unrefused_step _ _ _ _ c.is_reached.ensures c.perform.ensures.goes
+
+pub returns-clause-exact : goal.returns-clause-exact
+returns-clause-exact c = exact_step _ _ _ _ c.perform.ensures.goes

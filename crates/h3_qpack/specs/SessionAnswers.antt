@@ -1,0 +1,50 @@
+-- What the session theorem says of the answers of the code.
+use Rattle.std.specs.Prelude.{◌≡◌, ◌<◌, ℕ, List, [], ◌∷◌, ◌++◌, Some, Ok, Err}
+use Rattle.qpack_spec.specs.Session as spec
+use Rattle.qpack_spec.specs.Session.{Session, Run, initial_session}
+use Rattle.qpack_spec.specs.Table.{insert_count}
+use Rattle.qpack_safety.specs.SessionSafety.{AnsweredEncode, AnswersFields, next_encode}
+use Rattle.h3_qpack.specs.Sessions.{SessionView, Reaches}
+use Rattle.h3_qpack.specs.Stateless.{fields_in}
+use Rattle.h3_qpack.specs.declared.decoder.DecoderError.{DecoderError}
+use Rattle.h3_qpack.specs.declared.decoder.DecoderError.TheVariants as decoder
+use Rattle.h3_qpack.specs.declared.session.Outcome.{Outcome}
+use Rattle.h3_qpack.specs.declared.session.Outcome.TheVariants as outcome
+
+-- no instruction is refused: a delivery to the decoder may want memory, and one to the encoder is heard
+abbrev pub IsUnrefused : Outcome → Type 0
+IsUnrefused (outcome.Delivered (Err e)) = e ≡ decoder.Memory
+IsUnrefused (outcome.Heard (Err e)) = ⊥
+IsUnrefused o = Unit {0}
+
+-- the error tells the required insert count that was answered by the encode of the stream's next block, which exceeds
+-- the insertions received
+pub record WaitsFor (events : List (spec.Event × spec.Outcome)) (stream received : ℕ) (e : DecoderError) : Type 0 where
+  pub encode : AnsweredEncode
+  pub is_next : next_encode stream events ≡ Some encode
+  pub exceeds : received < encode.required
+  pub tells : e ≡ decoder.MissingRefs encode.required
+
+-- a decode behind these events, which lead to v, answers exactly the fields that were handed to the encode of its block,
+-- with their size and whether any entry is required; or it wants memory, or waits
+abbrev pub IsExact : List (spec.Event × spec.Outcome) → Session → spec.Event → Outcome → Type 0
+IsExact events v (spec.Decode s) (outcome.Decoded (Ok d)) =
+    AnswersFields events s (fields_in d.fields.items) d.mem_size d.dyn_ref
+IsExact events v (spec.Decode s) (outcome.Decoded (Err decoder.Memory)) = Unit {0}
+IsExact events v (spec.Decode s) (outcome.Decoded (Err e)) = WaitsFor events s (insert_count v.decoder) e
+IsExact events v e o = Unit {0}
+
+-- whatever events led to the session before it
+abbrev pub IsExactBehind : SessionView → spec.Event → Outcome → Type 0
+IsExactBehind old e o =
+    (capacity limit : ℕ) (events : List (spec.Event × spec.Outcome)) (v : Session)
+    → Reaches old capacity limit events v → IsExact events v e o
+
+-- each answer of a run is so in the session that those before it led to
+abbrev pub AreExact : ℕ → ℕ → List (spec.Event × spec.Outcome) → List (spec.Event × spec.Outcome) → List Outcome
+    → Type 0
+AreExact capacity limit done [] [] = Unit {0}
+AreExact capacity limit done (step ∷ steps) (o ∷ os) =
+    ((v : Session) × Run (initial_session capacity limit) done v × IsExact done v step.0 o)
+    × AreExact capacity limit (done ++ step ∷ []) steps os
+AreExact capacity limit done steps os = ⊥
