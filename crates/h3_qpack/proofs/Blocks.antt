@@ -1,6 +1,8 @@
 -- Blocks that a stream keeps.
-use Rattle.std.proofs.Common.{◌≡◌, ◌<◌, ◌≤◌, ◌^◌, ◌⊎◌, ℕ, List, [], ◌∷◌, ◌++◌, length, take, filter, length-append, zero, suc, subst, refl, sym, ap}
-use Rattle.std.proofs.Common.{◌∙◌, arith, inl, inr, IsSome, Option, Some, Result, Ok, Err, IfOk, OnErr, nat_eq, if◌then◌else◌}
+use Rattle.std.proofs.Common.{◌≡◌, ◌<◌, ◌≤◌, ◌^◌, ◌⊎◌, ℕ, List, [], ◌∷◌, ◌++◌, length, take, filter, length-append}
+use Rattle.std.proofs.Common.{zero, suc, subst, refl, sym, ap}
+use Rattle.std.proofs.Common.{◌∙◌, arith, inl, inr, IsSome, Option, Some, Result, Ok, Err, IfOk, OnErr, nat_eq}
+use Rattle.std.proofs.Common.{if◌then◌else◌}
 use Rattle.std.proofs.iter.Yields.{fronts}
 use Rattle.std.proofs.lemmas.List.{take-append-le}
 use Rattle.std.proofs.lemmas.Bool.Decides.{nat_tests}
@@ -105,13 +107,15 @@ module _ (before opened : List (ℕ × StoredStream)) (m n : BTreeMap ℕ Stored
   written_among fields old new told told' (Ok required) h w =
       record {
         stream = k;
-        writes = subst (λ (x : StoredStream). WritesBlock number fields old new told told' x k required) (same_seen h) w;
+        writes = subst (λ (x : StoredStream). WritesBlock number fields old new told told' x k required)
+            (same_seen h) w;
         changes = changes h;
       }
   written_among fields old new told told' (Err e) h w = tt
 
   -- or the streams stay, as the one that was looked up does
-  pub kept_among : (r : Result ℕ EncoderError) → IsWritten → OnErr r (k ≡ seen) → OnErr r (KeepsStreams before n.entries)
+  pub kept_among : (r : Result ℕ EncoderError) → IsWritten → OnErr r (k ≡ seen)
+      → OnErr r (KeepsStreams before n.entries)
   kept_among (Ok required) h w = tt
   kept_among (Err e) h w = λ q.
       grind (arith, nat_tests, changes h q, same_seen h, w)

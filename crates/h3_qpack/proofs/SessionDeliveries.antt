@@ -1,5 +1,6 @@
 -- The bytes that a session delivers.
-use Rattle.std.proofs.Common.{◌≡◌, ◌<◌, ◌≤◌, ◌^◌, ◌+◌, ◌-◌, ℕ, List, [], ◌∷◌, ◌++◌, length, take, drop, min, length-append}
+use Rattle.std.proofs.Common.{◌≡◌, ◌<◌, ◌≤◌, ◌^◌, ◌+◌, ◌-◌, ℕ, List, [], ◌∷◌, ◌++◌, length, take, drop, min}
+use Rattle.std.proofs.Common.{length-append}
 use Rattle.std.proofs.Common.{Bool, true, false, Option, Some, None, Result, Ok, Err, if◌then◌else◌}
 use Rattle.std.proofs.Common.{refl, sym, ap, subst, ◌∙◌, arith, inl, inr}
 use Rattle.std.proofs.lemmas.List.{take_min}
@@ -9,7 +10,8 @@ use Rattle.qpack_spec.specs.Instruction.{written_decoder_instructions}
 use Rattle.qpack_spec.specs.Session as spec
 use Rattle.qpack_spec.specs.Session.{Session, LawfulStep, skip_reason, EndsAtDecoder, EndsAtEncoder, takes_all}
 use Rattle.qpack_spec.specs.Session.{no_memory, bad_bytes, bad_instruction, takes_all_at_encoder}
-use Rattle.qpack_spec.specs.Session.{bad_bytes_at_encoder, bad_decoder_instruction, DeliversToDecoder, DeliversToEncoder}
+use Rattle.qpack_spec.specs.Session.{bad_bytes_at_encoder, bad_decoder_instruction, DeliversToDecoder}
+use Rattle.qpack_spec.specs.Session.{DeliversToEncoder}
 use Rattle.qpack_spec.specs.Session.{with_decoder_moved, with_encoder_moved, unreported_after, increments, is_consumed}
 use Rattle.qpack_spec.specs.Session.{apply_encoder_instructions, apply_decoder_instructions}
 use Rattle.qpack_spec.specs.Table.{Table, insert_count}
@@ -68,14 +70,16 @@ decoder_moved s decoder delivered taken told =
     }
 
 -- what moved, as far as both know it
-pub record Moves (s : SessionView) (decoder : DecoderView) (count delivered taken position : ℕ) (told : List ℕ) (v : Session)
+pub record Moves (s : SessionView) (decoder : DecoderView) (count delivered taken position : ℕ) (told : List ℕ)
+    (v : Session)
     : Type 0 where
   pub shows : Shows s v
   pub reached : IsReached s
   pub delivered_is : delivered ≡ min (s.encoder_stream_delivered + count) (length s.encoder_stream)
   pub taken_is : taken ≡ s.encoder_stream_taken + position
 
-moved_shown : (s : SessionView) (decoder : DecoderView) (count delivered taken position : ℕ) (told : List ℕ) (v : Session)
+moved_shown : (s : SessionView) (decoder : DecoderView) (count delivered taken position : ℕ) (told : List ℕ)
+    (v : Session)
     (unreported consumed : ℕ) (told' : List ℕ) → Moves s decoder count delivered taken position told v
     → unreported ≡ decoder.unreported → position ≡ consumed → told' ≡ told
     → Shows (decoder_moved s decoder delivered taken told)
@@ -164,7 +168,8 @@ module _ (s : SessionView) (new : DecoderView) (count delivered taken position :
             (front_consumed bytes front rest left position cut same counts) (told_is wrote);
         ends = bad_bytes fault begins refl refl;
       }
-  stop_ends front rest e cut (receiving.bad_instruction encoding more i refusal split spells refuses is same) kept wrote =
+  stop_ends front rest e cut (receiving.bad_instruction encoding more i refusal split spells refuses is same) kept
+      wrote =
       record {
         answer = spec.Refused (spec.BadInstruction refusal);
         next = with_decoder_moved v count new.table
@@ -251,7 +256,8 @@ pub delivers_offered : (s : SessionView) (new : DecoderView) (count delivered po
     (outcome.Delivered r)
 delivers_offered s new count delivered position told bytes left r at o receives v shows =
     delivers s new count delivered (s.encoder_stream_taken + position) position told v bytes left
-    (record { shows = shows; reached = at; delivered_is = o.delivered_is; taken_is = refl }) o.counts r o.offered receives
+    (record { shows = shows; reached = at; delivered_is = o.delivered_is; taken_is = refl }) o.counts r o.offered
+    receives
 
 -- ---- to the encoder
 

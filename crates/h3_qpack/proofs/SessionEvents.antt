@@ -1,6 +1,7 @@
 -- The events of a session, each as its definition has it.
 use Rattle.std.proofs.Common.{◌≡◌, ◌<◌, ◌≤◌, ◌^◌, ◌+◌, ℕ, List, [], ◌∷◌, ◌++◌, length, map, take, drop}
-use Rattle.std.proofs.Common.{Bool, true, false, Option, Some, None, Result, Ok, Err, OnOk, OnErr, IfOk, IfErr, slice_get}
+use Rattle.std.proofs.Common.{Bool, true, false, Option, Some, None, Result, Ok, Err, OnOk, OnErr, IfOk, IfErr}
+use Rattle.std.proofs.Common.{slice_get}
 use Rattle.std.proofs.Common.{refl, sym, ap, subst, ◌∙◌, arith, inl, inr, if◌then◌else◌}
 use Rattle.std.proofs.lemmas.Option.{slice_get-map}
 use Rattle.std.specs.Prelude.{⊤}
@@ -83,7 +84,11 @@ cancels s streams told number (Ok done) at is changes wrote _ _ v shows =
           shows.streams;
     })
     tt (cancellation_skips s v number shows ∙ is) (inl (refl, refl))
-    (record { sent = fits.sent; blocks = fits_changed s.streams streams number _ (fits.blocks number) changes fits.blocks })
+    (record {
+      sent = fits.sent;
+      blocks = fits_changed s.streams streams number _
+          (fits.blocks number) changes fits.blocks;
+    })
 cancels s streams told number (Err e) at is _ _ keeps same v shows =
     let fits = fits_reached s at in
     lawful (with_streams s streams told) (spec.Cancel number) (outcome.Cancelled (Err e)) v spec.NoMemory v refl
@@ -123,7 +128,11 @@ acknowledges s streams told number at is changes wrote v shows =
           (record kept { acknowledged = kept.acknowledged + 1 }) acknowledged changes shows.streams;
     })
     tt (acknowledgment_skips s v number shows ∙ is) (inl (refl, refl))
-    (record { sent = fits.sent; blocks = fits_changed s.streams streams number _ (fits.blocks number) changes fits.blocks })
+    (record {
+      sent = fits.sent;
+      blocks = fits_changed s.streams streams number _
+          (fits.blocks number) changes fits.blocks;
+    })
 
 -- refused, nothing is written
 pub acknowledges_nothing : (s : SessionView) (told : List ℕ) (number : ℕ) (e : NoMemory) → IsReached s
@@ -300,7 +309,11 @@ decodes s streams number bytes d at is found read changes v shows =
           ∙ sym (ap decode_outcome reads);
       moves = sym (ap (λ (x : Reading). if is_read (Some x) then with_decoded v number else v) reads);
     }))
-    (record { sent = fits.sent; blocks = fits_changed s.streams streams number _ (fits.blocks number) changes fits.blocks })
+    (record {
+      sent = fits.sent;
+      blocks = fits_changed s.streams streams number _
+          (fits.blocks number) changes fits.blocks;
+    })
 
 -- no fields are answered, and nothing changes
 undecoded : (s : SessionView) (number : ℕ) (bytes : List ℕ) (e : DecoderError) (v : Session) (read : Reading)
@@ -340,7 +353,8 @@ by_reading : (s : SessionView) (number : ℕ) (bytes : List ℕ) (e : DecoderErr
     → Goes s (spec.Decode number) (outcome.Decoded (Err e)) v
 by_reading s number bytes e v (Fields fs is_dynamic) at is found same tells answers shows = absurd tells
 by_reading s number bytes e v (Missing required) at is found same tells answers shows =
-    undecoded s number bytes e v (Missing required) at is found same refl (answers (spec.MissingReferences required) tells)
+    undecoded s number bytes e v (Missing required) at is found same refl (answers
+    (spec.MissingReferences required) tells)
     shows
 by_reading s number bytes e v (Faulty fault) at is found same tells answers shows =
     undecoded s number bytes e v (Faulty fault) at is found same refl (answers (spec.BadBlock fault) tells) shows
@@ -352,4 +366,5 @@ pub decodes_nothing : (s : SessionView) (number : ℕ) (bytes : List ℕ) (e : D
     → Follows s s (spec.Decode number) (outcome.Decoded (Err e))
 decodes_nothing s number bytes decoder.Memory at is found read v shows = decode_wants_memory s number v at is shows
 decodes_nothing s number bytes e at is found read v shows =
-    by_reading s number bytes e v (reading_of_bytes (window s.decoder.table) bytes) at is found refl read (λ o h. h) shows
+    by_reading s number bytes e v (reading_of_bytes (window s.decoder.table) bytes) at is found refl read
+    (λ o h. h) shows

@@ -1,5 +1,6 @@
 -- Runs of the session's code, event by event.
-use Rattle.std.proofs.Common.{◌≡◌, ◌≤◌, ℕ, List, [], ◌∷◌, ◌++◌, length, take, refl, sym, ap, subst, ◌∙◌, append_assoc, append-nil, min, arith}
+use Rattle.std.proofs.Common.{◌≡◌, ◌≤◌, ℕ, List, [], ◌∷◌, ◌++◌, length, take, refl, sym, ap, subst, ◌∙◌, append_assoc}
+use Rattle.std.proofs.Common.{append-nil, min, arith}
 use Rattle.std.proofs.Math.Seq.{take-length}
 use Rattle.std.proofs.lemmas.List.{take_min}
 use Rattle.qpack_spec.specs.Session as spec
@@ -12,7 +13,8 @@ use Rattle.h3_qpack.specs.Sessions.{SessionView, Shows, Reaches, Answers, Follow
 use Rattle.h3_qpack.specs.declared.session.Event.{Event}
 use Rattle.h3_qpack.specs.declared.session.Outcome.{Outcome}
 
-answered_more : (es : List Event) (os : List Outcome) (steps : List (spec.Event × spec.Outcome)) (e : Event) (o : Outcome)
+answered_more : (es : List Event) (os : List Outcome) (steps : List (spec.Event
+    × spec.Outcome)) (e : Event) (o : Outcome)
     (answer : spec.Outcome) → AreAnswered es os steps → Answers o answer
     → AreAnswered (es ++ e ∷ []) (os ++ o ∷ []) (steps ++ (event_of e, answer) ∷ [])
 answered_more [] [] [] e o answer h answers = (refl, answers, tt)

@@ -1,5 +1,6 @@
 -- How a session begins.
-use Rattle.std.proofs.Common.{◌≡◌, ◌<◌, ◌≤◌, ◌^◌, ◌-◌, ℕ, List, [], Option, Some, None, Result, Ok, Err, min, nat_le, true, false}
+use Rattle.std.proofs.Common.{◌≡◌, ◌<◌, ◌≤◌, ◌^◌, ◌-◌, ℕ, List, [], Option, Some, None, Result, Ok, Err, min, nat_le}
+use Rattle.std.proofs.Common.{true, false}
 use Rattle.std.proofs.Common.{refl, sym, ap, subst, ◌∙◌, arith, if◌then◌else◌}
 use Rattle.std.proofs.lemmas.Bool.Decides.{nat_tests}
 use Rattle.qpack_spec.specs.Session.{Session, StartRefusal, CapacityTooLarge, LimitTooLarge, begin_session}
@@ -114,7 +115,8 @@ table_not_refused t u capacity (Some refusal) first small agreed refused =
 table_not_refused t u capacity None first small agreed refused = refused
 
 pub first_view_is : (capacity limit : ℕ) (encoder table limited made : Table) (decoder : DecoderView)
-    (told heard : List ℕ) (streams : List (ℕ × StoredStream)) → encoder ≡ limited → limited ≡ record table { limit = limit }
+    (told heard : List ℕ) (streams : List (ℕ × StoredStream)) → encoder ≡ limited
+    → limited ≡ record table { limit = limit }
     → table ≡ empty_table capacity (Some capacity) 0 → decoder ≡ record { table = made; unreported = 0 }
     → made ≡ empty_table capacity (Some capacity) 0 → told ≡ [] → heard ≡ [] → streams ≡ []
     → (let s : SessionView =

@@ -12,7 +12,8 @@ use Rattle.qpack_spec.specs.Session.{IsByteEvent, LawfulStep, Skips}
 use Rattle.qpack_safety.specs.SessionSafety.{IsOrdered, IsSafe}
 use Rattle.qpack_safety.proofs.FourParts.{sessions_safe}
 use Rattle.h3_qpack.specs.Sessions.{StoredBlock, StoredStream, stored_block, stored_stream, stored_requires_entry}
-use Rattle.h3_qpack.specs.Sessions.{SessionView, Shows, IsReached, Reaches, Follows, Goes, Answers, ChangesStream, Keeps}
+use Rattle.h3_qpack.specs.Sessions.{SessionView, Shows, IsReached, Reaches, Follows, Goes, Answers, ChangesStream}
+use Rattle.h3_qpack.specs.Sessions.{Keeps}
 use Rattle.h3_qpack.specs.Sessions.{KeepsStreams, stored_skip, encode_skip, decode_skip, acknowledgment_skip}
 use Rattle.h3_qpack.specs.Sessions.{cancellation_skip}
 use Rattle.h3_qpack.specs.declared.session.Outcome.{Outcome}

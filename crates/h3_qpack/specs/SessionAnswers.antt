@@ -25,7 +25,8 @@ pub record WaitsFor (events : List (spec.Event × spec.Outcome)) (stream receive
   pub exceeds : received < encode.required
   pub tells : e ≡ decoder.MissingRefs encode.required
 
--- a decode behind these events, which lead to v, answers exactly the fields that were handed to the encode of its block,
+-- a decode behind these events, which lead to v, answers exactly the fields that were handed to the encode of its
+-- block,
 -- with their size and whether any entry is required; or it wants memory, or waits
 abbrev pub IsExact : List (spec.Event × spec.Outcome) → Session → spec.Event → Outcome → Type 0
 IsExact events v (spec.Decode s) (outcome.Decoded (Ok d)) =

@@ -1,4 +1,4 @@
-//! What no clause of `h3_qpack` says, through public calls: printed texts, and blocks where memory is refused.
+//! What no clause of `h3_qpack` says, through public calls: printed texts, worked cases, and calls where memory is refused.
 #![tactic(auto)]
 
 #[cfg(test)]
@@ -9,5 +9,7 @@ mod decoding;
 mod encoder;
 #[cfg(test)]
 mod encoding;
+#[cfg(test)]
+mod sessions;
 #[cfg(test)]
 mod texts;

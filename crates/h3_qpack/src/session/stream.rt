@@ -1,6 +1,7 @@
 //! A request stream of a session: its blocks, and what became of them.
 
-ghost use Rattle.std.specs.Prelude.{◌≡◌, ◌+◌, ◌<◌, ◌∷◌, [], ◌++◌, true, false, length, IfSome, IfNone, IfOk, IfErr, OnErr, None, Some};
+ghost use Rattle.std.specs.Prelude.{◌≡◌, ◌+◌, ◌<◌, ◌∷◌, [], ◌++◌, true, false, length, IfSome, IfNone, IfOk, IfErr};
+ghost use Rattle.std.specs.Prelude.{OnErr, None, Some};
 ghost use Rattle.std.specs.Prelude.{slice_get};
 ghost use Rattle.qpack_spec.specs.Session.{awaits_acknowledgment, oldest_undecoded};
 ghost use Rattle.h3_qpack.specs.Sessions.{stored_requires_entry, HasBytes, WritesBlock, GivesUp};
@@ -142,7 +143,8 @@ impl Stream {
         self.cancelled = true;
     }
 
-    /// Encodes a block of the fields, and keeps it (RFC 9204, section 2.1). Room for it is made first. Refused, which is
+    /// Encodes a block of the fields, and keeps it (RFC 9204, section 2.1). Room for it is made first. Refused, which
+    /// is
     /// for memory alone, no block is kept.
     pub(super) fn encode(
         &mut self,

@@ -1,9 +1,11 @@
 //! The request streams of a session, found by their numbers.
 
-ghost use Rattle.std.specs.Prelude.{◌≡◌, ◌+◌, ◌<◌, ◌++◌, ℕ, [], None, Some, true, length, nat_eq, false, IfSome, IfNone, IfOk, IfErr, OnOk, OnErr, if◌then◌else◌, IsSome};
+ghost use Rattle.std.specs.Prelude.{◌≡◌, ◌+◌, ◌<◌, ◌++◌, ℕ, [], None, Some, true, length, nat_eq, false, IfSome};
+ghost use Rattle.std.specs.Prelude.{IfNone, IfOk, IfErr, OnOk, OnErr, if◌then◌else◌, IsSome};
 ghost use Rattle.qpack_spec.specs.Session.{stream_at, awaits_acknowledgment, oldest_undecoded};
 ghost use Rattle.h3_qpack.specs.Sessions.{stored_requires_entry, ChangesStream, KeepsStreams, IsOpen};
-ghost use Rattle.h3_qpack.specs.Sessions.{WritesStream, GivesUp, HasBytes, encode_skip, decode_skip, acknowledgment_skip};
+ghost use Rattle.h3_qpack.specs.Sessions.{WritesStream, GivesUp, HasBytes, encode_skip, decode_skip};
+ghost use Rattle.h3_qpack.specs.Sessions.{acknowledgment_skip};
 ghost use Rattle.h3_qpack.specs.Sessions.{cancellation_skip};
 ghost use Rattle.qpack_spec.specs.Instruction.{Cancellation, written_decoder_instruction};
 ghost use Rattle.h3_qpack.specs.Stateless.{fields_in};

@@ -6,25 +6,29 @@ use Rattle.h3_qpack.proofs.session.run.Goals as goal
 
 pub returns-clause-follows : goal.returns-clause-follows
 returns-clause-follows c =
-    runs (λ steps v. RunsByTheRule c.args.capacity c.args.limit steps v) c.args.capacity c.args.limit (λ steps v safe. safe.follows) c.in_ok-session.session
+    runs (λ steps v. RunsByTheRule c.args.capacity c.args.limit steps v) c.args.capacity c.args.limit
+    (λ steps v safe. safe.follows) c.in_ok-session.session
     c.perform_all.new.self c.args.events.now c.in_ok-outcomes.outcomes.items c.perform_all.new.outcomes.items
     c.in_ok-session.ensures.reaches c.in_ok-outcomes.ensures.items c.perform_all.ensures
 
 pub returns-clause-refuses : goal.returns-clause-refuses
 returns-clause-refuses c =
-    runs (λ steps v. RefusesNothing v) c.args.capacity c.args.limit (λ steps v safe. safe.refuses) c.in_ok-session.session
+    runs (λ steps v. RefusesNothing v) c.args.capacity c.args.limit
+    (λ steps v safe. safe.refuses) c.in_ok-session.session
     c.perform_all.new.self c.args.events.now c.in_ok-outcomes.outcomes.items c.perform_all.new.outcomes.items
     c.in_ok-session.ensures.reaches c.in_ok-outcomes.ensures.items c.perform_all.ensures
 
 pub returns-clause-decodes : goal.returns-clause-decodes
 returns-clause-decodes c =
-    runs (λ steps v. DecodesWhatWasHanded c.args.capacity steps v) c.args.capacity c.args.limit (λ steps v safe. safe.decodes) c.in_ok-session.session
+    runs (λ steps v. DecodesWhatWasHanded c.args.capacity steps v) c.args.capacity c.args.limit
+    (λ steps v safe. safe.decodes) c.in_ok-session.session
     c.perform_all.new.self c.args.events.now c.in_ok-outcomes.outcomes.items c.perform_all.new.outcomes.items
     c.in_ok-session.ensures.reaches c.in_ok-outcomes.ensures.items c.perform_all.ensures
 
 pub returns-clause-waits : goal.returns-clause-waits
 returns-clause-waits c =
-    runs (λ steps v. WaitsOnlyForInsertions steps v) c.args.capacity c.args.limit (λ steps v safe. safe.waits) c.in_ok-session.session
+    runs (λ steps v. WaitsOnlyForInsertions steps v) c.args.capacity c.args.limit
+    (λ steps v safe. safe.waits) c.in_ok-session.session
     c.perform_all.new.self c.args.events.now c.in_ok-outcomes.outcomes.items c.perform_all.new.outcomes.items
     c.in_ok-session.ensures.reaches c.in_ok-outcomes.ensures.items c.perform_all.ensures
 

@@ -18,12 +18,15 @@ offered-offered-requires-clause-order c =
 pub invariant_of-self : goal.invariant_of-self
 invariant_of-self c =
     reached_behind _ _ _ _ c.self.invariant
-    (delivers_offered _ c.on_encoder_recv-answer.new.self c.args.count c.delivered_after-delivered.result c.position.result c.on_encoder_recv-answer.new.write.items
+    (delivers_offered _ c.on_encoder_recv-answer.new.self c.args.count c.delivered_after-delivered.result
+    c.position.result c.on_encoder_recv-answer.new.write.items
     c.new-offered.result.rest c.on_encoder_recv-answer.new.buf.rest c.on_encoder_recv-answer.result c.self.invariant
     (offers c.self.inside.encoder_stream.items c.deref.result.now c.offered-offered.result.now c.new-offered.result.rest
-    c.on_encoder_recv-answer.new.buf.rest c.self.inside.encoder_stream_taken c.self.inside.encoder_stream_delivered c.args.count
+    c.on_encoder_recv-answer.new.buf.rest c.self.inside.encoder_stream_taken c.self.inside.encoder_stream_delivered
+    c.args.count
     c.delivered_after-delivered.result c.len-len.result c.position.result c.new-offered.result.total
-    c.on_encoder_recv-answer.new.buf.total c.delivered_after-delivered.ensures (c.len-len.ensures ∙ c.self.inside.encoder_stream.ok.0)
+    c.on_encoder_recv-answer.new.buf.total c.delivered_after-delivered.ensures (c.len-len.ensures
+    ∙ c.self.inside.encoder_stream.ok.0)
     c.deref.ensures.value c.offered-offered.ensures c.new-offered.ensures.rest c.new-offered.ensures.total
     c.on_encoder_recv-answer.ensures.total c.position.ensures)
     c.on_encoder_recv-answer.ensures.receives)
@@ -31,12 +34,16 @@ invariant_of-self c =
 pub returns : goal.returns
 returns c = record {
   goes = follows_from _ c.args.self.now _ _ _ c.self.view_is
-      (delivers_offered _ c.on_encoder_recv-answer.new.self c.args.count c.delivered_after-delivered.result c.position.result c.on_encoder_recv-answer.new.write.items
+      (delivers_offered _ c.on_encoder_recv-answer.new.self c.args.count c.delivered_after-delivered.result
+      c.position.result c.on_encoder_recv-answer.new.write.items
       c.new-offered.result.rest c.on_encoder_recv-answer.new.buf.rest c.on_encoder_recv-answer.result c.self.invariant
-      (offers c.self.inside.encoder_stream.items c.deref.result.now c.offered-offered.result.now c.new-offered.result.rest
-      c.on_encoder_recv-answer.new.buf.rest c.self.inside.encoder_stream_taken c.self.inside.encoder_stream_delivered c.args.count
+      (offers c.self.inside.encoder_stream.items c.deref.result.now c.offered-offered.result.now
+      c.new-offered.result.rest
+      c.on_encoder_recv-answer.new.buf.rest c.self.inside.encoder_stream_taken c.self.inside.encoder_stream_delivered
+      c.args.count
       c.delivered_after-delivered.result c.len-len.result c.position.result c.new-offered.result.total
-      c.on_encoder_recv-answer.new.buf.total c.delivered_after-delivered.ensures (c.len-len.ensures ∙ c.self.inside.encoder_stream.ok.0)
+      c.on_encoder_recv-answer.new.buf.total c.delivered_after-delivered.ensures (c.len-len.ensures
+      ∙ c.self.inside.encoder_stream.ok.0)
       c.deref.ensures.value c.offered-offered.ensures c.new-offered.ensures.rest c.new-offered.ensures.total
       c.on_encoder_recv-answer.ensures.total c.position.ensures)
       c.on_encoder_recv-answer.ensures.receives);

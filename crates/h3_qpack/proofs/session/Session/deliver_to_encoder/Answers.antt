@@ -21,9 +21,11 @@ invariant_of-self c =
     (hears_offered _ c.on_decoder_recv-answer.new.self c.args.count c.delivered_after-delivered.result c.position.result
     c.new-offered.result.rest c.on_decoder_recv-answer.new.buf.rest c.on_decoder_recv-answer.result c.self.invariant
     (offers c.self.inside.decoder_stream.items c.deref.result.now c.offered-offered.result.now c.new-offered.result.rest
-    c.on_decoder_recv-answer.new.buf.rest c.self.inside.decoder_stream_taken c.self.inside.decoder_stream_delivered c.args.count
+    c.on_decoder_recv-answer.new.buf.rest c.self.inside.decoder_stream_taken c.self.inside.decoder_stream_delivered
+    c.args.count
     c.delivered_after-delivered.result c.len-len.result c.position.result c.new-offered.result.total
-    c.on_decoder_recv-answer.new.buf.total c.delivered_after-delivered.ensures (c.len-len.ensures ∙ c.self.inside.decoder_stream.ok.0)
+    c.on_decoder_recv-answer.new.buf.total c.delivered_after-delivered.ensures (c.len-len.ensures
+    ∙ c.self.inside.decoder_stream.ok.0)
     c.deref.ensures.value c.offered-offered.ensures c.new-offered.ensures.rest c.new-offered.ensures.total
     c.on_decoder_recv-answer.ensures.total c.position.ensures)
     c.on_decoder_recv-answer.ensures.hears)
@@ -31,12 +33,16 @@ invariant_of-self c =
 pub returns : goal.returns
 returns c = record {
   goes = follows_from _ c.args.self.now _ _ _ c.self.view_is
-      (hears_offered _ c.on_decoder_recv-answer.new.self c.args.count c.delivered_after-delivered.result c.position.result
+      (hears_offered _ c.on_decoder_recv-answer.new.self c.args.count c.delivered_after-delivered.result
+      c.position.result
       c.new-offered.result.rest c.on_decoder_recv-answer.new.buf.rest c.on_decoder_recv-answer.result c.self.invariant
-      (offers c.self.inside.decoder_stream.items c.deref.result.now c.offered-offered.result.now c.new-offered.result.rest
-      c.on_decoder_recv-answer.new.buf.rest c.self.inside.decoder_stream_taken c.self.inside.decoder_stream_delivered c.args.count
+      (offers c.self.inside.decoder_stream.items c.deref.result.now c.offered-offered.result.now
+      c.new-offered.result.rest
+      c.on_decoder_recv-answer.new.buf.rest c.self.inside.decoder_stream_taken c.self.inside.decoder_stream_delivered
+      c.args.count
       c.delivered_after-delivered.result c.len-len.result c.position.result c.new-offered.result.total
-      c.on_decoder_recv-answer.new.buf.total c.delivered_after-delivered.ensures (c.len-len.ensures ∙ c.self.inside.decoder_stream.ok.0)
+      c.on_decoder_recv-answer.new.buf.total c.delivered_after-delivered.ensures (c.len-len.ensures
+      ∙ c.self.inside.decoder_stream.ok.0)
       c.deref.ensures.value c.offered-offered.ensures c.new-offered.ensures.rest c.new-offered.ensures.total
       c.on_decoder_recv-answer.ensures.total c.position.ensures)
       c.on_decoder_recv-answer.ensures.hears);

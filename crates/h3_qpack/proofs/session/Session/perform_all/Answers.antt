@@ -9,7 +9,8 @@ loop-event-preserved c =
     let before = c.loop-event.invariant in (
       omega (arith, before.0, c.push_reserved.ensures.len),
       c.push_reserved.ensures.capacity ∙ before.1,
-      performs_more c.args.self.now c.loop-event.self c.perform.new.self (take i c.args.events.now) _ c.event-item.result
+      performs_more c.args.self.now c.loop-event.self c.perform.new.self
+          (take i c.args.events.now) _ c.event-item.result
           c.perform.result c.args.outcomes.now.items c.loop-event.outcomes.items c.push_reserved.new.self.items before.2
           c.perform.ensures.goes
           (take_more c.args.events.now i c.event-item.result c.loop-event-test.true

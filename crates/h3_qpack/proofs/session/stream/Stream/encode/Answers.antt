@@ -8,8 +8,14 @@ returns-in_err-required-clause-err c =
     let p = err_from_is_err_and c.from_residual-in_err-required.result c.from_residual-in_err-required.ensures.1 in
     rw p.1 (record {
       gives_up = inr (stops_slice c.iter.result c.args.fields.now c.args.encoder.now c.encode.new.self
-          c.args.encoder_stream.now.items c.encode.new.encoder_buf.items c.iter.ensures.rest c.in_err-required.ensures.err);
-      told_fits = omega (arith, c.encode.new.encoder_buf.ok.0, c.encode.new.encoder_buf.ok.1, c.encode.new.encoder_buf.small);
+          c.args.encoder_stream.now.items c.encode.new.encoder_buf.items c.iter.ensures.rest
+          c.in_err-required.ensures.err);
+      told_fits = omega (
+        arith,
+        c.encode.new.encoder_buf.ok.0,
+        c.encode.new.encoder_buf.ok.1,
+        c.encode.new.encoder_buf.small,
+      );
     })
 
 pub invariant_of-self-2 : goal.invariant_of-self-2
@@ -28,5 +34,10 @@ returns-clause-ok c =
       keeps = kept_more _ c.args.self.now _ c.reserve.new.self.items c.push_reserved.new.self.items c.self.view_is
           c.push_reserved.ensures.items c.reserve.ensures.items;
       block_fits = omega (arith, c.encode.new.block.ok.0, c.encode.new.block.ok.1, c.encode.new.block.small);
-      told_fits = omega (arith, c.encode.new.encoder_buf.ok.0, c.encode.new.encoder_buf.ok.1, c.encode.new.encoder_buf.small);
+      told_fits = omega (
+        arith,
+        c.encode.new.encoder_buf.ok.0,
+        c.encode.new.encoder_buf.ok.1,
+        c.encode.new.encoder_buf.small,
+      );
     }

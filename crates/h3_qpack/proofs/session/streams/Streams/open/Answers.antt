@@ -8,4 +8,5 @@ returns-clause-same c =
     refl c.new.ensures (none_is _ (sym c.contains_key.ensures ∙ c.if-contains_key.false)) c.in_ok-insert.ensures.updates
 
 pub returns-clause-open : goal.returns-clause-open
-returns-clause-open c = opened_is c.self.inside.by_number c.insert.new.self c.args.number c.new.result c.in_ok-insert.ensures.updates
+returns-clause-open c = opened_is c.self.inside.by_number c.insert.new.self c.args.number c.new.result
+    c.in_ok-insert.ensures.updates
