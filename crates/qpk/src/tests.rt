@@ -1,6 +1,11 @@
 //! The program run through `serve`: what it prints, and what it does where a stream or memory fails.
 //! Each test also holds where one allocation is refused, so that each can be in turn.
 
+mod inspections;
+mod large_tables;
+mod nghttp3;
+mod small_tables;
+
 use crate::serve::serve;
 use std::alloc::{AllocError, Global};
 use std::io::{self, Cursor, ErrorKind, Read, Write};
@@ -248,6 +253,8 @@ fn other_words_are_refused(rt: HostRuntime) -> Result<(), Fail> {
     )?;
     runs(&rt, alloc, "decode -1", b"0000", "", USAGE)?;
     runs(&rt, alloc, "run 4096 1", b"", "", USAGE)?;
+    runs(&rt, alloc, "inspect", b"", "", USAGE)?;
+    runs(&rt, alloc, "inspect -1", b"", "", USAGE)?;
     Ok(())
 }
 
