@@ -2,7 +2,8 @@
 use Rattle.std.proofs.Common.{◌≡◌, ℕ, List, [], ◌∷◌, ◌++◌, Option, Some, None, refl, sym, subst, inl, inr}
 use Rattle.std.specs.Prelude.{String, codes, IfSome}
 use Rattle.qpk.specs.Refusals.{IsFault, IsLineOf, AppendsFront, TellsInPlace}
-use Rattle.qpk.specs.Serving.{HasFault, EndsFor}
+use Rattle.h3_qpack.specs.declared.decoder.DecoderError.{DecoderError}
+use Rattle.qpk.specs.Serving.{HasFault, EndsFor, Stops, IsInspection}
 use Rattle.qpk.specs.declared.serve.Command.{Command}
 use Rattle.qpk.specs.declared.serve.Command.TheVariants.{Encode, Decode, Inspect}
 use Rattle.qpk.specs.declared.text.Fault.TheVariants.{Memory}
@@ -36,7 +37,7 @@ memory_ends words input old new r (fault, e) ends =
       known.1,
       elim known.2 [
         | inl h ↦ inl (memory_may_be known.0 input, h.1)
-        | inr h ↦ inr (h.0, inr refl, h.2)
+        | inr h ↦ inr (h.0, h.1, inr refl, h.3, h.4, h.5)
       ],
     )
 
@@ -54,3 +55,9 @@ ends_told words input old new fold fnew r ends (told, inr (fault, e), line, said
   said,
   wrote,
 )
+
+pub stops_inspecting : (command : Command) (bytes out : List ℕ) (e : DecoderError) → Stops command bytes out e
+    → IsInspection command
+stops_inspecting Encode bytes out e stops = stops
+stops_inspecting (Decode limit) bytes out e stops = stops
+stops_inspecting (Inspect capacity) bytes out e stops = tt

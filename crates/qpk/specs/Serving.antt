@@ -62,6 +62,12 @@ Stops Encode input out e = ⊥
 Stops (Decode limit) input out e = ⊥
 Stops (Inspect capacity) input out e = PrintsInspection capacity input out (Some e)
 
+-- which only an inspection does
+abbrev pub IsInspection : Command → Type 0
+IsInspection Encode = ⊥
+IsInspection (Decode limit) = ⊥
+IsInspection (Inspect capacity) = Unit {0}
+
 -- the output, and whether it ends at a refusal
 abbrev pub Prints : Command → List ℕ → List ℕ → Option DecoderError → Type 0
 Prints command input out None = Answers command input out
@@ -97,5 +103,5 @@ EndsFor words input old new refusal.Output =
 EndsFor words input old new (refusal.Fault fault) =
     (command : Command) × AsksFor words command
     × ((IfSome input (λ bytes. HasFault command bytes fault) × (new ≡ old))
-    ⊎ ((e : DecoderError) × TellsRefusal fault e × IfSome input (λ bytes.
-    (out : List ℕ) × Stops command bytes out e × Appends old new out)))
+    ⊎ (IsInspection command × (e : DecoderError) × TellsRefusal fault e × (out : List ℕ) × Appends old new out
+    × IfSome input (λ bytes. Stops command bytes out e)))

@@ -80,6 +80,7 @@ fn tell<E: Write>(alloc: Global, refusal: &Refusal, faults: &mut E)
 }
 
 /// Answers the words and the input at the output.
+#[tactic(auto, using(crate::proofs::Tellings::stops_inspecting))]
 fn run<R: Read, W: Write>(
     alloc: Global,
     words: &[String],
