@@ -1,4 +1,5 @@
 pub mod FieldLines
+pub mod Parts
 pub mod Texts
 pub mod OneInstruction
 pub mod Events

@@ -3,4 +3,5 @@ pub mod Answers
 pub mod Refusals
 pub mod Inspecting
 pub mod Inspections
+pub mod Scripts
 pub mod Serving

@@ -4,6 +4,7 @@
 mod inspect;
 mod lines;
 mod refusal;
+mod script;
 mod serve;
 #[cfg(test)]
 mod tests;

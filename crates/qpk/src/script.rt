@@ -1,0 +1,76 @@
+//! A script of a session: an event a line, its parts parted by TABs.
+
+ghost use Rattle.qpk.specs.Scripts.{script_events, event_of_line, event_of_number, ReadsScript, ReadsEvent, IsEvent};
+
+use crate::lines::split_line;
+use crate::text::Fault;
+use h3_qpack::session::Event;
+use std::alloc::Global;
+
+mod parts;
+
+use parts::{read_fields, read_number, split_part};
+
+/// The events of a script, a line each; or the first line that is none.
+pub fn read_script(alloc: Global, text: &[u8]) -> Result<Vec<Event>, Fault>
+    ensures { ReadsScript result (script_events text.now) }
+{
+    let mut events = Vec::new(alloc);
+    let mut rest = text;
+    let mut number = 0usize;
+    while !rest.is_empty() {
+        number += 1;
+        let (line, after) = split_line(rest);
+        let Some(event) = read_event(alloc, line)? else {
+            return Err(Fault::BadEvent(number));
+        };
+        events.push(event)?;
+        rest = after;
+    }
+    Ok(events)
+}
+
+/// The event of a line, if it has one.
+#[tactic(auto, using(crate::proofs::Parts::part_behind))]
+fn read_event(alloc: Global, line: &[u8]) -> Result<Option<Event>, Fault>
+    ensures { ReadsEvent result (event_of_line line.now) }
+{
+    let (name, Some(rest)) = split_part(line) else {
+        return Ok(None);
+    };
+    let (number, rest) = split_part(rest);
+    let Some(number) = read_number(number) else {
+        return Ok(None);
+    };
+    if name == b"encode".as_slice() {
+        let Some(fields) = read_fields(alloc, rest)? else {
+            return Ok(None);
+        };
+        return Ok(Some(Event::Encode(number, fields)));
+    }
+    match rest {
+        None => Ok(number_event(name, number)),
+        Some(_) => Ok(None),
+    }
+}
+
+/// The event of this name that has a number alone.
+fn number_event(name: &[u8], number: u64) -> Option<Event>
+    ensures { IsEvent result (event_of_number name.now number) }
+{
+    if name == b"decode".as_slice() {
+        Some(Event::Decode(number))
+    } else if name == b"todecoder".as_slice() {
+        Some(Event::ToDecoder(number as usize))
+    } else if name == b"toencoder".as_slice() {
+        Some(Event::ToEncoder(number as usize))
+    } else if name == b"ack".as_slice() {
+        Some(Event::Ack(number))
+    } else if name == b"cancel".as_slice() {
+        Some(Event::Cancel(number))
+    } else if name == b"setcapacity".as_slice() {
+        Some(Event::SetCapacity(number as usize))
+    } else {
+        None
+    }
+}
