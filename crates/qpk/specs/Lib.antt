@@ -3,5 +3,6 @@ pub mod Answers
 pub mod Refusals
 pub mod Inspecting
 pub mod Inspections
+pub mod Outcomes
 pub mod Scripts
 pub mod Serving

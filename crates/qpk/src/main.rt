@@ -3,6 +3,7 @@
 
 mod inspect;
 mod lines;
+mod outcomes;
 mod refusal;
 mod script;
 mod serve;
