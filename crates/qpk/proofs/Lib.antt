@@ -1,5 +1,6 @@
 pub mod FieldLines
 pub mod Parts
+pub mod ScriptRuns
 pub mod Texts
 pub mod OneInstruction
 pub mod Events

@@ -5,4 +5,5 @@ pub mod Inspecting
 pub mod Inspections
 pub mod Outcomes
 pub mod Scripts
+pub mod Runs
 pub mod Serving

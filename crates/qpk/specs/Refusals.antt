@@ -3,7 +3,8 @@ use Rattle.std.specs.Prelude.{◌≡◌, ℕ, List, [], ◌∷◌, ◌++◌, cod
 use Rattle.std.specs.Fmt.{decimal}
 use Rattle.std.specs.Io.KnownBytes.{Appends}
 use Rattle.qpk.specs.declared.text.Fault.{Fault}
-use Rattle.qpk.specs.declared.text.Fault.TheVariants.{NoTab, BadEvent, NotHexadecimal, Refused, Capacity, Memory}
+use Rattle.qpk.specs.declared.text.Fault.TheVariants.{NoTab, BadEvent, NotHexadecimal, Refused, Capacity, Limit}
+use Rattle.qpk.specs.declared.text.Fault.TheVariants.{Memory}
 use Rattle.qpk.specs.declared.refusal.Refusal.{Refusal}
 use Rattle.qpk.specs.declared.refusal.Refusal.TheVariants as refusal
 
@@ -14,6 +15,7 @@ fault_text (BadEvent n) = Some (codes "line " ++ decimal n ++ codes ": bad event
 fault_text NotHexadecimal = Some (codes "not hexadecimal")
 fault_text (Refused e) = None
 fault_text Capacity = Some (codes "refused: capacity")
+fault_text Limit = Some (codes "refused: limit")
 fault_text Memory = Some (codes "refused: memory")
 
 -- the line that tells a fault, with its line feed: of a refused block its words are the decoder's
@@ -23,6 +25,7 @@ IsFaultLine (BadEvent n) line = line ≡ codes "qpk: line " ++ decimal n ++ (cod
 IsFaultLine NotHexadecimal line = line ≡ codes "qpk: not hexadecimal" ++ 10 ∷ []
 IsFaultLine (Refused e) line = (words : List ℕ) × (line ≡ codes "qpk: refused: " ++ words ++ 10 ∷ [])
 IsFaultLine Capacity line = line ≡ codes "qpk: refused: capacity" ++ 10 ∷ []
+IsFaultLine Limit line = line ≡ codes "qpk: refused: limit" ++ 10 ∷ []
 IsFaultLine Memory line = line ≡ codes "qpk: refused: memory" ++ 10 ∷ []
 
 -- the line that tells a refusal, with its line feed

@@ -5,6 +5,7 @@ mod inspect;
 mod lines;
 mod outcomes;
 mod refusal;
+mod run;
 mod script;
 mod serve;
 #[cfg(test)]

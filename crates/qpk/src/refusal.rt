@@ -64,6 +64,7 @@ fn fault_line(alloc: Global, fault: &Fault) -> Result<CowStr<'static, Global>, A
             Ok(CowStr::Owned(format!(in alloc; "qpk: refused: {words}\n")?))
         }
         Fault::Capacity => Ok(CowStr::Borrowed("qpk: refused: capacity\n")),
+        Fault::Limit => Ok(CowStr::Borrowed("qpk: refused: limit\n")),
         Fault::Memory => Ok(CowStr::Borrowed("qpk: refused: memory\n")),
     }
 }

@@ -29,6 +29,8 @@ pub enum Fault {
     Refused(DecoderError),
     /// A table may not have this capacity.
     Capacity,
+    /// So many blocks may not be blocked.
+    Limit,
     /// No memory was left.
     Memory,
 }
@@ -43,6 +45,7 @@ impl fmt::Display for Fault {
             Fault::NotHexadecimal => f.write_str("not hexadecimal"),
             Fault::Refused(e) => write!(f, "refused: {e}"),
             Fault::Capacity => f.write_str("refused: capacity"),
+            Fault::Limit => f.write_str("refused: limit"),
             Fault::Memory => f.write_str("refused: memory"),
         }
     }

@@ -1,0 +1,89 @@
+//! A script run on a session, and what is printed of it.
+
+ghost use Rattle.std.specs.Prelude.{◌≡◌, ◌-◌, List, ℕ, IfOk, length, drop, slice_get, string_bytes};
+ghost use Rattle.qpack_spec.specs.Session.{stream_at};
+ghost use Rattle.h3_qpack.specs.Sessions.{event_of};
+ghost use Rattle.qpk.specs.Scripts.{events_in};
+ghost use Rattle.qpk.specs.Runs.{RunsScript, BeginsRun, PrintsAll, PrintsOne, stored_stream_bytes, stored_block_bytes};
+
+use crate::outcomes::outcome_lines;
+use crate::script::read_script;
+use crate::text::Fault;
+use h3_qpack::coding::NoMemory;
+use h3_qpack::dynamic;
+use h3_qpack::session::{Event, Session};
+use std::alloc::Global;
+
+/// Runs the events of a script, a line each, on a session with this capacity in bytes and this limit of blocked blocks;
+/// answers what they print. The script is read whole before the session begins.
+pub fn run_script(
+    alloc: Global,
+    capacity: usize,
+    limit: usize,
+    text: &[u8],
+) -> Result<String, Fault>
+    ensures { RunsScript capacity limit text.now result }
+{
+    let events = read_script(alloc, text)?;
+    let mut session = begin(alloc, capacity, limit)?;
+    Ok(run_events(alloc, &mut session, &events)?)
+}
+
+/// A session with this capacity in bytes and this limit of blocked blocks.
+fn begin(alloc: Global, capacity: usize, limit: usize) -> Result<Session, Fault>
+    ensures { BeginsRun result capacity limit }
+{
+    match Session::new(alloc, capacity, limit) {
+        Ok(session) => Ok(session),
+        Err(dynamic::Error::MaximumTableSizeTooLarge) => Err(Fault::Capacity),
+        Err(dynamic::Error::MaxBlockedStreamsTooLarge) => Err(Fault::Limit),
+        Err(_) => Err(Fault::Memory),
+    }
+}
+
+/// Gives a session the events in turn; answers what they print.
+fn run_events(alloc: Global, session: &mut Session, events: &[Event]) -> Result<String, NoMemory>
+    ensures { IfOk result (λ text.
+        PrintsAll session.old session.new (events_in events.now) (string_bytes text)) }
+{
+    let mut text = String::new(alloc);
+    for event in events {
+        text.push_str(run_event(alloc, session, event)?.as_str())?;
+    }
+    Ok(text)
+}
+
+/// Gives a session an event; answers what it prints.
+fn run_event(alloc: Global, session: &mut Session, event: &Event) -> Result<String, NoMemory>
+    ensures { IfOk result (λ text. PrintsOne session.old session.new (event_of event.now) (string_bytes text)) }
+{
+    let before = written_stream(session, event).len();
+    let outcome = session.step(event);
+    let added = written_stream(session, event)
+        .get(before..)
+        .unwrap_or(&[]);
+    outcome_lines(alloc, &outcome, made_block(session, event), added)
+}
+
+/// The stream that an event adds bytes to, if it adds any.
+fn written_stream<'a>(session: &'a Session, event: &Event) -> &'a [u8]
+    ensures { result.now ≡ stored_stream_bytes (event_of event.now) session.now }
+{
+    match event {
+        Event::Encode(..) | Event::SetCapacity(_) => session.encoder_bytes(),
+        _ => session.decoder_bytes(),
+    }
+}
+
+/// The newest block of the stream that is encoded for, empty if there is none.
+fn made_block<'a>(session: &'a Session, event: &Event) -> &'a [u8]
+    ensures { result.now ≡ stored_block_bytes (event_of event.now) session.now }
+{
+    match event {
+        Event::Encode(stream, _) => {
+            let newest = session.blocks(*stream).saturating_sub(1);
+            session.block(*stream, newest).unwrap_or(&[])
+        }
+        _ => &[],
+    }
+}
