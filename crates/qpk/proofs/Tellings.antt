@@ -5,7 +5,7 @@ use Rattle.qpk.specs.Refusals.{IsFault, IsLineOf, AppendsFront, TellsInPlace}
 use Rattle.h3_qpack.specs.declared.decoder.DecoderError.{DecoderError}
 use Rattle.qpk.specs.Serving.{HasFault, EndsFor, Stops, IsInspection}
 use Rattle.qpk.specs.declared.serve.Command.{Command}
-use Rattle.qpk.specs.declared.serve.Command.TheVariants.{Encode, Decode, Inspect}
+use Rattle.qpk.specs.declared.serve.Command.TheVariants.{Encode, Decode, Inspect, Run}
 use Rattle.qpk.specs.declared.text.Fault.TheVariants.{Memory}
 use Rattle.qpk.specs.declared.refusal.Refusal.{Refusal}
 use Rattle.qpk.specs.declared.refusal.Refusal.TheVariants as refusal
@@ -23,6 +23,7 @@ memory_has : (command : Command) (bytes : List ℕ) → HasFault command bytes M
 memory_has Encode bytes = tt
 memory_has (Decode limit) bytes = tt
 memory_has (Inspect capacity) bytes = tt
+memory_has (Run capacity limit) bytes = tt
 
 memory_may_be : (command : Command) (input : Option (List ℕ)) → IfSome input (λ bytes. HasFault command bytes Memory)
 memory_may_be command None = tt

@@ -1,8 +1,8 @@
 -- The program's words as texts.
-use Rattle.std.proofs.Common.{◌≡◌, ℕ, ◌<◌, ◌≤◌, List, [], ◌∷◌, length, map, get_or, sym, ap, subst, ◌∙◌, arith}
+use Rattle.std.proofs.Common.{◌≡◌, ℕ, ◌<◌, ◌≤◌, List, [], ◌∷◌, length, map, get_or, refl, sym, ap, subst, ◌∙◌, arith}
 use Rattle.std.specs.Prelude.{String, string_bytes, Option, None, MatchOption, codes}
 use Rattle.qpk.specs.Serving.{AsksForNothing, AsksWith, SaysNumber}
-use Rattle.qpk.specs.declared.serve.Command.TheVariants.{Encode, Decode, Inspect}
+use Rattle.qpk.specs.declared.serve.Command.TheVariants.{Encode, Decode, Inspect, Run}
 
 pub one_word : {Z : Type 0} (ws : List (String Z)) (w : String Z) → 1 ≤ length ws → length ws < 2 → w ≡ get_or ws 0 w
     → map string_bytes ws ≡ string_bytes w ∷ []
@@ -34,6 +34,36 @@ no_number {Z} ws first second two none = none_asked
     none_asked Encode asked = let e = sym two ∙ asked in absurd cc
     none_asked (Decode limit) asked = no_such (codes "decode") limit asked
     none_asked (Inspect capacity) asked = no_such (codes "inspect") capacity asked
+    none_asked (Run capacity limit) asked = let e = sym two ∙ asked.2 in absurd cc
+
+pub three_words : {Z : Type 0} (ws : List (String Z)) (u v w : String Z) → 3 ≤ length ws → length ws < 4 → u
+    ≡ get_or ws 0 u → v ≡ get_or ws 1 v → w ≡ get_or ws 2 w
+    → map string_bytes ws ≡ string_bytes u ∷ string_bytes v ∷ string_bytes w ∷ []
+three_words [] u v w least most e f g = absurd (omega arith)
+three_words (x ∷ []) u v w least most e f g = absurd (omega arith)
+three_words (x ∷ y ∷ []) u v w least most e f g = absurd (omega arith)
+three_words (x ∷ y ∷ z ∷ []) u v w least most e f g = rw (e, f, g) refl
+three_words (x ∷ y ∷ z ∷ a ∷ ws) u v w least most e f g = absurd (omega arith)
+
+-- the same with each word as it is read
+pub words_are : {Z : Type 0} (ws : List (String Z)) (x y z name first second : List ℕ)
+    → map string_bytes ws ≡ x ∷ y ∷ z ∷ [] → x ≡ name → y ≡ first → z ≡ second
+    → map string_bytes ws ≡ name ∷ first ∷ second ∷ []
+words_are ws x y z name first second three e f g = rw (three, e, f, g) refl
+
+-- three words, of which the second or the third says no number, ask for nothing
+pub no_two_numbers : {Z : Type 0} (ws : List (String Z)) (name first second : List ℕ)
+    → map string_bytes ws ≡ name ∷ first ∷ second ∷ []
+    → ((m n : ℕ) → SaysNumber first m → SaysNumber second n → ⊥) → AsksForNothing ws
+no_two_numbers ws name first second three none Encode asked = let e = sym three ∙ asked in absurd cc
+no_two_numbers ws name first second three none (Decode limit) asked = let e = sym three ∙ asked.1 in absurd cc
+no_two_numbers ws name first second three none (Inspect capacity) asked = let e = sym three ∙ asked.1 in absurd cc
+no_two_numbers ws name first second three none (Run capacity limit) asked =
+    let e = sym three ∙ asked.2 in
+    let f : first ≡ asked.0 = cc in
+    let s : second ≡ asked.1 = cc in
+    none capacity limit (subst (λ (t : List ℕ). SaysNumber t capacity) (sym f) asked.3)
+        (subst (λ (t : List ℕ). SaysNumber t limit) (sym s) asked.4)
 
 pub none_is : {A : Type 0} (r : Option A) (P : Type 0) (Q : A → Type 0) → r ≡ None → P → MatchOption r P Q
 none_is r P Q e p = rw e p

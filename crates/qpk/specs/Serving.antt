@@ -11,7 +11,7 @@ use Rattle.qpack_base.specs.HeaderFields.{text_of}
 use Rattle.qpack_spec.specs.Stateless.{saturated_size, stateless_reading}
 use Rattle.qpk.specs.Answers.{encode_answer, without_feed, FailsText, FailsHexadecimal}
 use Rattle.qpk.specs.declared.serve.Command.{Command}
-use Rattle.qpk.specs.declared.serve.Command.TheVariants.{Encode, Decode, Inspect}
+use Rattle.qpk.specs.declared.serve.Command.TheVariants.{Encode, Decode, Inspect, Run}
 use Rattle.qpk.specs.Refusals.{AppendsFront}
 use Rattle.qpk.specs.declared.refusal.Refusal.{Refusal}
 use Rattle.qpk.specs.declared.refusal.Refusal.TheVariants as refusal
@@ -20,6 +20,7 @@ use Rattle.qpk.specs.declared.text.Fault.TheVariants.{Refused, Memory}
 use Rattle.std.specs.Io.KnownBytes.{Appends}
 use Rattle.h3_qpack.specs.declared.decoder.DecoderError.{DecoderError}
 use Rattle.qpk.specs.Inspecting.{PrintsInspection}
+use Rattle.qpk.specs.Runs.{PrintsRun, HasRunFault}
 use Rattle.qpk.specs.Inspections.{FailsInspection}
 use Rattle.qpk.specs.declared.inspect.Inspection.{Inspection}
 
@@ -33,11 +34,18 @@ pub record SaysNumber (text : List ℕ) (n : ℕ) : Type 0 where
 abbrev pub AsksWith : {Z : Type 0} → List (String Z) → List ℕ → ℕ → Type 0
 AsksWith words name n = (text : List ℕ) × (map string_bytes words ≡ name ∷ text ∷ []) × SaysNumber text n
 
+-- the words are a name and two numbers
+abbrev pub AsksWithTwo : {Z : Type 0} → List (String Z) → List ℕ → ℕ → ℕ → Type 0
+AsksWithTwo words name m n =
+    (first : List ℕ) × (second : List ℕ) × (map string_bytes words ≡ name ∷ first ∷ second ∷ []) × SaysNumber first m
+    × SaysNumber second n
+
 -- the words ask for the command
 abbrev pub AsksFor : {Z : Type 0} → List (String Z) → Command → Type 0
 AsksFor words Encode = map string_bytes words ≡ codes "encode" ∷ []
 AsksFor words (Decode limit) = AsksWith words (codes "decode") limit
 AsksFor words (Inspect capacity) = AsksWith words (codes "inspect") capacity
+AsksFor words (Run capacity limit) = AsksWithTwo words (codes "run") capacity limit
 
 -- no command is asked for
 abbrev pub AsksForNothing : {Z : Type 0} → List (String Z) → Type 0
@@ -55,12 +63,14 @@ Answers (Decode limit) input out =
     (block : List ℕ) × (fs : List Field) × (decode_of (without_feed input) ≡ Ok block)
     × (stateless_reading limit block ≡ Ok fs) × (out ≡ printed_fields fs)
 Answers (Inspect capacity) input out = PrintsInspection capacity input out None
+Answers (Run capacity limit) input out = PrintsRun capacity limit input out
 
 -- the output of a command that ends at a refusal in its input
 abbrev pub Stops : Command → List ℕ → List ℕ → DecoderError → Type 0
 Stops Encode input out e = ⊥
 Stops (Decode limit) input out e = ⊥
 Stops (Inspect capacity) input out e = PrintsInspection capacity input out (Some e)
+Stops (Run capacity limit) input out e = ⊥
 
 -- which only an inspection does
 abbrev pub IsInspection : Command → Type 0
@@ -78,6 +88,7 @@ abbrev pub HasFault : Command → List ℕ → Fault → Type 0
 HasFault Encode input fault = FailsText fault (encode_answer input)
 HasFault (Decode limit) input fault = FailsHexadecimal fault limit (decode_of (without_feed input))
 HasFault (Inspect capacity) input fault = FailsInspection capacity input fault
+HasFault (Run capacity limit) input fault = HasRunFault capacity limit input fault
 
 -- the output that a command's input asks for, or the fault that stands there
 abbrev pub AnswersInput : Command → List ℕ → Result Inspection Fault → Type 0

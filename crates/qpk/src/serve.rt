@@ -12,6 +12,7 @@ ghost use Rattle.qpk.specs.Serving.{printed_fields};
 
 use crate::inspect::{Inspection, inspect};
 use crate::refusal::Refusal;
+use crate::run::run_script;
 use crate::text::{Fault, decode_text, encode_text};
 use crate::writing::write_bytes;
 use h3_qpack::Decoded;
@@ -29,6 +30,8 @@ pub enum Command {
     Decode(u64),
     /// Inspect the events of the input, by a table of this capacity in bytes.
     Inspect(usize),
+    /// Run the events of the input on a session of this capacity in bytes, where so many blocks may be blocked.
+    Run(usize, usize),
 }
 
 /// Runs the program on its words, without its name, and its three streams, and gives the exit status:
@@ -125,6 +128,11 @@ fn read_command(words: &[String]) -> Option<Command>
             let capacity = read_number(capacity.as_str())?;
             Some(Command::Inspect(capacity as usize))
         }
+        [word, capacity, limit] if word.as_str() == "run" => {
+            let capacity = read_number(capacity.as_str())?;
+            let limit = read_number(limit.as_str())?;
+            Some(Command::Run(capacity as usize, limit as usize))
+        }
         _ => None,
     }
 }
@@ -151,6 +159,7 @@ fn answer(alloc: Global, command: Command, input: &[u8]) -> Result<Inspection, F
             Ok(whole(text))
         }
         Command::Inspect(capacity) => inspect(alloc, capacity, input),
+        Command::Run(capacity, limit) => Ok(whole(run_script(alloc, capacity, limit, input)?)),
     }
 }
 

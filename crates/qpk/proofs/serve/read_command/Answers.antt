@@ -1,8 +1,9 @@
-use Rattle.std.proofs.Common.{ℕ, List, [], ◌∷◌, sym, ap, ◌∙◌}
+use Rattle.std.proofs.Common.{ℕ, List, [], ◌∷◌, refl, sym, ap, ◌∙◌}
 use Rattle.std.specs.Prelude.{string_bytes, codes}
 use Rattle.std.proofs.lemmas.Slice.Eq.{slice_eq-Decides}
 use Rattle.std.proofs.lemmas.Bool.Decides.{Decides-eqb}
-use Rattle.qpk.proofs.Words.{one_word, two_words, no_number, none_is}
+use Rattle.qpk.proofs.Words.{one_word, two_words, three_words, words_are, no_number, no_two_numbers}
+use Rattle.qpk.proofs.Words.{none_is}
 use Rattle.qpk.proofs.serve.read_command.Goals as goal
 
 pub returns-in-len1 : goal.returns-in-len1
@@ -55,3 +56,40 @@ returns-in_err-capacity-in-len2-2 c =
     (no_number c.args.words.now (string_bytes c.word-item-then-words-lt3-2.result) c.as_str-in-len2-2.result.now
     (m ∙ ap (λ (b : List ℕ). string_bytes c.word-item-then-words-lt3-2.result ∷ b ∷ [])
     (sym capacity)) c.in_err-capacity-in-len2-2.ensures)
+
+pub returns-in_ok-limit-in-len3 : goal.returns-in_ok-limit-in-len3
+returns-in_ok-limit-in-len3 c =
+    let m = three_words c.args.words.now c.word-item-then-words-lt4.result c.capacity-item-then-words-lt4.result
+    c.limit-item-then-words-lt4.result c.in-len3.len_at_least c.in-len3.len_below c.word-item-then-words-lt4.is
+    c.capacity-item-then-words-lt4.is c.limit-item-then-words-lt4.is in
+    let s = (slice_eq-Decides Decides-eqb _ _ _ c.eq-then-words-lt4.ensures).0 c.if-eq-4.true in (
+      c.as_str-in-len3.result.now,
+      c.as_str-in-len3-2.result.now,
+      words_are c.args.words.now _ _ _ (codes "run") c.as_str-in-len3.result.now c.as_str-in-len3-2.result.now m
+          (sym c.as_str-then-words-lt4.ensures.value ∙ s) (sym c.as_str-in-len3.ensures.value)
+          (sym c.as_str-in-len3-2.ensures.value),
+      c.in_ok-capacity-in-len3.ensures,
+      c.in_ok-limit-in-len3.ensures,
+    )
+
+pub returns-in_err-capacity-in-len3 : goal.returns-in_err-capacity-in-len3
+returns-in_err-capacity-in-len3 c =
+    let m = three_words c.args.words.now c.word-item-then-words-lt4.result c.capacity-item-then-words-lt4.result
+    c.limit-item-then-words-lt4.result c.in-len3.len_at_least c.in-len3.len_below c.word-item-then-words-lt4.is
+    c.capacity-item-then-words-lt4.is c.limit-item-then-words-lt4.is in
+    let limit = string_bytes c.limit-item-then-words-lt4.result in
+    none_is c.from_residual-in_err-capacity-in-len3.result _ _ c.from_residual-in_err-capacity-in-len3.ensures
+    (no_two_numbers c.args.words.now _ c.as_str-in-len3.result.now limit
+    (words_are c.args.words.now _ _ _ _ c.as_str-in-len3.result.now limit m refl (sym c.as_str-in-len3.ensures.value)
+    refl) (λ capacity n says also. c.in_err-capacity-in-len3.ensures capacity says))
+
+pub returns-in_err-limit-in-len3 : goal.returns-in_err-limit-in-len3
+returns-in_err-limit-in-len3 c =
+    let m = three_words c.args.words.now c.word-item-then-words-lt4.result c.capacity-item-then-words-lt4.result
+    c.limit-item-then-words-lt4.result c.in-len3.len_at_least c.in-len3.len_below c.word-item-then-words-lt4.is
+    c.capacity-item-then-words-lt4.is c.limit-item-then-words-lt4.is in
+    none_is c.from_residual-in_err-limit-in-len3.result _ _ c.from_residual-in_err-limit-in-len3.ensures
+    (no_two_numbers c.args.words.now _ c.as_str-in-len3.result.now c.as_str-in-len3-2.result.now
+    (words_are c.args.words.now _ _ _ _ c.as_str-in-len3.result.now c.as_str-in-len3-2.result.now m refl
+    (sym c.as_str-in-len3.ensures.value) (sym c.as_str-in-len3-2.ensures.value))
+    (λ capacity limit also says. c.in_err-limit-in-len3.ensures limit says))
