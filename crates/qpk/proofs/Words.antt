@@ -63,7 +63,7 @@ no_two_numbers ws name first second three none (Run capacity limit) asked =
     let f : first ≡ asked.0 = cc in
     let s : second ≡ asked.1 = cc in
     none capacity limit (subst (λ (t : List ℕ). SaysNumber t capacity) (sym f) asked.3)
-        (subst (λ (t : List ℕ). SaysNumber t limit) (sym s) asked.4)
+    (subst (λ (t : List ℕ). SaysNumber t limit) (sym s) asked.4)
 
 pub none_is : {A : Type 0} (r : Option A) (P : Type 0) (Q : A → Type 0) → r ≡ None → P → MatchOption r P Q
 none_is r P Q e p = rw e p

@@ -59,9 +59,7 @@ fn run_event(alloc: Global, session: &mut Session, event: &Event) -> Result<Stri
 {
     let before = written_stream(session, event).len();
     let outcome = session.step(event);
-    let added = written_stream(session, event)
-        .get(before..)
-        .unwrap_or(&[]);
+    let added = written_stream(session, event).get(before..).unwrap_or(&[]);
     outcome_lines(alloc, &outcome, made_block(session, event), added)
 }
 

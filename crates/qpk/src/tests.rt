@@ -12,6 +12,8 @@ use std::io::{self, Cursor, ErrorKind, Read, Write};
 use std::process::Abort;
 use std::test::Fail;
 
+mod scripts;
+
 const REFUSED_MEMORY: &str = "qpk: refused: memory\n";
 
 const REFUSED_OUTPUT: &str = "qpk: refused: output\n";
@@ -252,7 +254,8 @@ fn other_words_are_refused(rt: HostRuntime) -> Result<(), Fail> {
         USAGE,
     )?;
     runs(&rt, alloc, "decode -1", b"0000", "", USAGE)?;
-    runs(&rt, alloc, "run 4096 1", b"", "", USAGE)?;
+    runs(&rt, alloc, "run", b"", "", USAGE)?;
+    runs(&rt, alloc, "run 4096 -1", b"", "", USAGE)?;
     runs(&rt, alloc, "inspect", b"", "", USAGE)?;
     runs(&rt, alloc, "inspect -1", b"", "", USAGE)?;
     Ok(())
