@@ -70,6 +70,7 @@ event_named name None parts = None
 event_named name (Some n) parts =
     if bytes_eq name (codes "encode") then encode_of n (fields_of_parts parts) else event_alone name n parts
 
+-- the event of a line's parts: a name, a number, and what stands behind them
 abbrev pub event_of_parts : List (List ℕ) → Option Event
 event_of_parts [] = None
 event_of_parts (name ∷ []) = None

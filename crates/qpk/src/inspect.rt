@@ -15,7 +15,7 @@ use std::alloc::Global;
 mod blocks;
 mod events;
 mod instructions;
-mod printing;
+pub mod printing;
 
 use blocks::inspect_block;
 use events::{Event, read_events};

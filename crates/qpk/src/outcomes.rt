@@ -2,9 +2,9 @@
 
 ghost use Rattle.std.specs.Prelude.{◌≡◌, ◌++◌, List, ℕ, IfOk, codes, string_bytes};
 ghost use Rattle.h3_qpack.specs.Stateless.{fields_in};
-ghost use Rattle.qpk.specs.Inspecting.{hexadecimal, index_text};
 ghost use Rattle.qpk.specs.Outcomes.{added_text, encoded_text, decoded_text, received_text, PrintsOutcome};
 
+use crate::inspect::printing::{hexadecimal, index_line};
 use h3_qpack::coding::NoMemory;
 use h3_qpack::session::Outcome;
 use h3_qpack::{Decoded, DecoderError};
@@ -27,7 +27,7 @@ pub fn outcome_lines(
         Outcome::Encoded(Err(e)) => refused_line(alloc, e),
         Outcome::Decoded(Ok(decoded)) => decoded_lines(alloc, decoded),
         Outcome::Decoded(Err(DecoderError::MissingRefs(required))) => {
-            number_line(alloc, "missing", *required)
+            Ok(index_line(alloc, "missing", *required)?)
         }
         Outcome::Decoded(Err(e)) => refused_line(alloc, e),
         Outcome::Delivered(Ok(total)) => received_line(alloc, *total, added),
@@ -40,7 +40,7 @@ pub fn outcome_lines(
         Outcome::Cancelled(Err(e)) => refused_line(alloc, e),
         Outcome::CapacitySet(Ok(())) => added_line(alloc, "capacity", added),
         Outcome::CapacitySet(Err(e)) => refused_line(alloc, e),
-        Outcome::Skipped(reason) => number_line(alloc, "skipped", usize::from(*reason)),
+        Outcome::Skipped(reason) => Ok(index_line(alloc, "skipped", usize::from(*reason))?),
     }
 }
 
@@ -83,13 +83,6 @@ fn received_line(alloc: Global, total: usize, added: &[u8]) -> Result<String, No
     Ok(format!(in alloc; "received {total} {added}\n")?)
 }
 
-/// A word and a number.
-fn number_line(alloc: Global, word: &str, number: usize) -> Result<String, NoMemory>
-    ensures { IfOk result (λ text. string_bytes text ≡ index_text word.now number) }
-{
-    Ok(format!(in alloc; "{word} {number}\n")?)
-}
-
 /// A word and the bytes that were added to a stream.
 fn added_line(alloc: Global, word: &str, added: &[u8]) -> Result<String, NoMemory>
     ensures { IfOk result (λ text. string_bytes text ≡ added_text word.now added.now) }
@@ -104,14 +97,4 @@ fn refused_line<E: Display>(alloc: Global, e: &E) -> Result<String, NoMemory>
 {
     let words = e.to_string(alloc)?;
     Ok(format!(in alloc; "refused {words}\n")?)
-}
-
-/// Bytes in lower-case hexadecimal, a minus for none.
-fn hexadecimal(alloc: Global, bytes: &[u8]) -> Result<String, NoMemory>
-    ensures { IfOk result (λ text. string_bytes text ≡ hexadecimal bytes.now) }
-{
-    if bytes.is_empty() {
-        return Ok(String::from_str(alloc, "-")?);
-    }
-    Ok(hex::encode(alloc, bytes)?)
 }

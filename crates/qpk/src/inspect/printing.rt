@@ -16,7 +16,7 @@ use h3_qpack::stream::{
 use std::alloc::{AllocError, Global};
 
 /// Bytes in lower-case hexadecimal, a minus for none.
-fn hexadecimal(alloc: Global, bytes: &[u8]) -> Result<String, AllocError>
+pub fn hexadecimal(alloc: Global, bytes: &[u8]) -> Result<String, AllocError>
     ensures { IfOk result (λ text. string_bytes text ≡ hexadecimal bytes.now) }
 {
     if bytes.is_empty() {
