@@ -182,7 +182,8 @@ events_next (y ∷ events) (suc i) x lt is =
 
 pub run_more : (old mid new : SessionView) (events : List ReadEvent) (i : ℕ) (x : ReadEvent) (out here after : List ℕ)
     → i < length events → x ≡ get_or events i x → PrintsAll old mid (events_in (take i events)) out
-    → PrintsOne mid new (event_of x) here → after ≡ out ++ here → PrintsAll old new (events_in (take (i + 1) events)) after
+    → PrintsOne mid new (event_of x) here → after ≡ out ++ here
+    → PrintsAll old new (events_in (take (i + 1) events)) after
 run_more old mid new events i x out here after lt is all one e =
     let l : events_in (take (i + 1) events) ≡ events_in (take i events) ++ event_of x ∷ [] =
     ap (λ (n : ℕ). events_in (take n events)) (add-one i) ∙ events_next events i x lt is in

@@ -1,6 +1,6 @@
 -- What a run of a script prints: a session of the definitions, event by event (RFC 9204, section 2).
-use Rattle.std.specs.Prelude.{◌≡◌, ℕ, ◌-◌, List, [], ◌∷◌, ◌++◌, length, drop, codes, Option, None, Some, Result, Ok, Err}
-use Rattle.std.specs.Prelude.{slice_get, String, string_bytes}
+use Rattle.std.specs.Prelude.{◌≡◌, ℕ, ◌-◌, List, [], ◌∷◌, ◌++◌, length, drop, codes, Option, None, Some}
+use Rattle.std.specs.Prelude.{Result, Ok, Err, slice_get, String, string_bytes}
 use Rattle.qpack_spec.specs.Session as spec
 use Rattle.qpack_spec.specs.Session.{Session, KeptBlock, stream_at, Passes, begin_session, CapacityTooLarge}
 use Rattle.qpack_spec.specs.Session.{LimitTooLarge}
@@ -68,8 +68,8 @@ pub record PrintsEvent (v : Session) (e : spec.Event) (next : Session) (out : Li
 abbrev pub PrintsEvents : Session → List spec.Event → Session → List ℕ → Type 0
 PrintsEvents v [] last out = (last ≡ v) × (out ≡ [])
 PrintsEvents v (e ∷ events) last out =
-    (next : Session) × (here : List ℕ) × (more : List ℕ) × PrintsEvent v e next here × PrintsEvents next events last more
-    × (out ≡ here ++ more)
+    (next : Session) × (here : List ℕ) × (more : List ℕ) × PrintsEvent v e next here
+    × PrintsEvents next events last more × (out ≡ here ++ more)
 
 -- this is printed of a script: its session begins with this capacity and this limit of blocked blocks, and its events
 -- lead on from there
@@ -85,7 +85,8 @@ pub record PrintsRun (capacity limit : ℕ) (text out : List ℕ) : Type 0 where
 abbrev pub HasRunFault : ℕ → ℕ → List ℕ → Fault → Type 0
 HasRunFault capacity limit text (BadEvent n) = script_events text ≡ Err n
 HasRunFault capacity limit text Capacity =
-    (events : List spec.Event) × (script_events text ≡ Ok events) × (begin_session capacity limit ≡ Err CapacityTooLarge)
+    (events : List spec.Event) × (script_events text ≡ Ok events)
+    × (begin_session capacity limit ≡ Err CapacityTooLarge)
 HasRunFault capacity limit text Limit =
     (events : List spec.Event) × (script_events text ≡ Ok events) × (begin_session capacity limit ≡ Err LimitTooLarge)
 HasRunFault capacity limit text Memory = Unit {0}

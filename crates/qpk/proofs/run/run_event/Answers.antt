@@ -14,5 +14,6 @@ returns c =
     ∙ ap (λ (xs : List ℕ). drop (length (stored_stream_bytes e c.args.session.now)) xs) c.written_stream.ensures in
     if_ok c.outcome_lines.result _ _
     (λ text prints. event_prints c.args.session.now c.step-outcome.new.self e c.step-outcome.result
-    c.made_block.result.now c.unwrap_or-added.result.now _ c.step-outcome.ensures.goes c.made_block.ensures added prints)
+    c.made_block.result.now c.unwrap_or-added.result.now _ c.step-outcome.ensures.goes c.made_block.ensures added
+    prints)
     c.outcome_lines.ensures
