@@ -1,7 +1,7 @@
 -- A block that is put together of its prefix and its lines, or given up.
 use Rattle.std.proofs.Common.{◌≡◌, ℕ, List, [], ◌++◌, take, drop, length, map, Option, refl, sym, ap, subst}
 use Rattle.std.proofs.Common.{◌∙◌, append-nil, append_assoc, inl, inr, Result, Ok, Err}
-use Rattle.std.specs.Prelude.{IfOk, OnErr, false, is_err}
+use Rattle.std.specs.Prelude.{IfOk, OnErr}
 use Rattle.std.proofs.Math.Seq.{take-length}
 use Rattle.std.proofs.lemmas.List.{take_at, drop_at}
 use Rattle.std.specs.Iterator.{Drains}
@@ -168,21 +168,19 @@ encodes_block fs old begun mid new stream given before block told_old told_new r
       told = k.told ∙ ap (λ (x : Draft). told_old ++ written_encoder_instructions x.instructions) d;
     }
 
--- the answer is the required insert count, and the block's vector is kept then
+-- the answer is the required insert count
 pub encodes : (fs : List Field) (r answer : Result ℕ EncoderError) (old begun mid new : Table) (stream given : ℕ)
-    (before block now told_old told_new : List ℕ)
+    (before block told_old told_new : List ℕ)
     → begun ≡ without_references old → given ≡ stream
     → IfOk r (λ required. DraftsBlock fs begun mid before block told_old told_new required)
     → IfOk answer (λ required. (r ≡ Ok required) × (new ≡ commit mid given required))
-    → (is_err answer ≡ false → now ≡ block)
-    → IfOk answer (λ required. EncodesBlock stream fs old new before now told_old told_new required)
-encodes fs r (Err e) old begun mid new stream given before block now told_old told_new begins same ok ends kept = tt
-encodes fs r (Ok required) old begun mid new stream given before block now told_old told_new begins same ok ends kept =
+    → IfOk answer (λ required. EncodesBlock stream fs old new before block told_old told_new required)
+encodes fs r (Err e) old begun mid new stream given before block told_old told_new begins same ok ends = tt
+encodes fs r (Ok required) old begun mid new stream given before block told_old told_new begins same ok ends =
     let drafted : DraftsBlock fs begun mid before block told_old told_new required =
     subst (λ (x : Result ℕ EncoderError). IfOk x (λ n. DraftsBlock fs begun mid before block told_old told_new n))
     ends.0 ok in
-    rw (kept refl)
-    (encodes_block fs old begun mid new stream given before block told_old told_new required begins same drafted ends.1)
+    encodes_block fs old begun mid new stream given before block told_old told_new required begins same drafted ends.1
 
 -- ---- a block as it begins
 

@@ -19,7 +19,8 @@ use qpack_wire::block::HeaderPrefix;
 use std::alloc::Allocator;
 
 /// Appends the block of the fields and the instructions of what is inserted, and answers the block's required insert
-/// count. The lines are written first, and then the prefix is put in front of them. Refused, which is for memory alone, what stood in the block's vector is still at its front.
+/// count. The lines are written first, and then the prefix is put in front of them. Refused, which is for memory alone,
+/// what stood in the block's vector is still at its front.
 pub(super) fn append_block<A: Allocator, B: Allocator, H: AsField>(
     handle: &mut DynamicTableEncoder<'_>,
     block: &mut Vec<u8, A>,

@@ -12,7 +12,8 @@ use crate::encoder::block::append_block;
 use qpack_table::dynamic::{DynamicTable, DynamicTableEncoder};
 use std::alloc::{AllocError, Allocator, Global};
 
-/// A table by which field sections are written: the dynamic table.
+/// A table by which field sections are written. It is a parameter of an encoder, since the check of borrows does not cover
+/// a call by a bound on a lifetime in a function whose signature holds fields, which may be lent for good.
 pub trait WritesSections {
     // The table.
     ghost table: { Self → Table };

@@ -1,4 +1,4 @@
-use Rattle.std.proofs.Common.{◌∙◌, map, refl}
+use Rattle.std.proofs.Common.{◌∙◌, map}
 use Rattle.h3_qpack.proofs.DraftedBlocks.{encodes, gives_up_section, count_begins, none_begins}
 use Rattle.h3_qpack.proofs.encoder.sections.EncoderTableWritesSections.write_section.Goals as goal
 
@@ -23,6 +23,6 @@ returns-else-is_err-clause-ok g c =
     encodes (map g.H.AsField.field c.args.fields.now) c.append_block-appended.result c.end_block-answer.result
     c.args.self.now.table c.encoder-handle.result.table.now c.append_block-appended.new.handle.table.now _ c.args.stream_id
     c.append_block-appended.new.handle.stream_id c.args.block.now.items c.append_block-appended.new.block.items
-    c.append_block-appended.new.block.items c.args.encoder_buf.now.items c.append_block-appended.new.encoder_buf.items
-    c.encoder-handle.ensures.table (c.append_block-appended.ensures.stream ∙ c.encoder-handle.ensures.stream)
-    c.append_block-appended.ensures.ok c.end_block-answer.ensures.ok (λ _. refl)
+    c.args.encoder_buf.now.items c.append_block-appended.new.encoder_buf.items c.encoder-handle.ensures.table
+    (c.append_block-appended.ensures.stream ∙ c.encoder-handle.ensures.stream)
+    c.append_block-appended.ensures.ok c.end_block-answer.ensures.ok
