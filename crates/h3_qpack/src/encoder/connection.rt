@@ -18,7 +18,7 @@ use qpack_table::dynamic::DynamicTable;
 use std::alloc::{Allocator, Global};
 use std::marker::Model;
 
-/// The encoder of a connection.
+/// The encoder of a connection. Its table is that of `EncoderTable`, the parameter's default.
 #[derive(Debug, Drop)]
 pub struct Encoder<D: WritesSections = EncoderTable> {
     table: D,

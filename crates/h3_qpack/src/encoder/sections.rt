@@ -12,8 +12,8 @@ use crate::encoder::block::append_block;
 use qpack_table::dynamic::{DynamicTable, DynamicTableEncoder};
 use std::alloc::{AllocError, Allocator, Global};
 
-/// A table by which field sections are written. It is a parameter of an encoder, since the check of borrows does not cover
-/// a call by a bound on a lifetime in a function whose signature holds fields, which may be lent for good.
+/// A table by which field sections are written. It is a type parameter of an encoder, so that the signature of
+/// `Encoder::encode` names no `'static`: the check of borrows does not cover that beside an iterator over references.
 pub trait WritesSections {
     // The table.
     ghost table: { Self → Table };
@@ -21,7 +21,8 @@ pub trait WritesSections {
     /// What the table takes its memory of.
     fn memory(&self) -> Global;
 
-    /// Writes a field section.
+    /// Encodes a field section for a stream, as `Encoder::encode` does. Refused, which is for memory alone, the block
+    /// is as before, the insertions that were made stand, and nothing more is referenced.
     fn write_section<A: Allocator, B: Allocator, H: AsField>(
         &mut self,
         stream_id: u64,
@@ -37,12 +38,12 @@ pub trait WritesSections {
         ensures memory { IfErr result (λ e. e ≡ Memory) }
         ensures capacity { vec_capacity block.old ≤ vec_capacity block.new };
 
-    /// Gives up what is referenced.
+    /// Gives the block in progress up: what it references is referenced no more.
     fn give_up(&mut self)
         ensures { table self.new ≡ without_references (table self.old) };
 }
 
-/// The dynamic table of an encoder.
+/// The dynamic table of an encoder, by which its field sections are written.
 #[derive(Debug, Drop)]
 pub struct EncoderTable {
     pub(super) table: DynamicTable,
@@ -101,7 +102,7 @@ fn end_block(
     }
 }
 
-/// Encodes a field section of what an iterator gives.
+/// Encodes a field section of what an iterator gives, which is gathered first.
 pub(super) fn encode_items<
     D: WritesSections,
     A: Allocator,

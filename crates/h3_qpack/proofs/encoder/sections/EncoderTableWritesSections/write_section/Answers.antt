@@ -21,8 +21,8 @@ returns-then-is_err-clause-err g c =
 pub returns-else-is_err-clause-ok : goal.returns-else-is_err-clause-ok
 returns-else-is_err-clause-ok g c =
     encodes (map g.H.AsField.field c.args.fields.now) c.append_block-appended.result c.end_block-answer.result
-    c.args.self.now.table c.encoder-handle.result.table.now c.append_block-appended.new.handle.table.now _ c.args.stream_id
-    c.append_block-appended.new.handle.stream_id c.args.block.now.items c.append_block-appended.new.block.items
-    c.args.encoder_buf.now.items c.append_block-appended.new.encoder_buf.items c.encoder-handle.ensures.table
-    (c.append_block-appended.ensures.stream ∙ c.encoder-handle.ensures.stream)
+    c.args.self.now.table c.encoder-handle.result.table.now c.append_block-appended.new.handle.table.now _
+    c.args.stream_id c.append_block-appended.new.handle.stream_id c.args.block.now.items
+    c.append_block-appended.new.block.items c.args.encoder_buf.now.items c.append_block-appended.new.encoder_buf.items
+    c.encoder-handle.ensures.table (c.append_block-appended.ensures.stream ∙ c.encoder-handle.ensures.stream)
     c.append_block-appended.ensures.ok c.end_block-answer.ensures.ok
