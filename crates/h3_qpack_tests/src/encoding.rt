@@ -5,6 +5,7 @@ use h3_qpack::HeaderField;
 use h3_qpack::coding::Cursor;
 use h3_qpack::dynamic::DynamicTable;
 use h3_qpack::encoder::{Encoder, EncoderError};
+use linked_list_allocator::LocalHeap;
 use qpack_testing::{again, field, same};
 use std::alloc::Global;
 use std::test::Fail;
@@ -212,11 +213,19 @@ fn shown_of_iterators(alloc: Global) -> Result<String, EncoderError> {
         block.as_slice(),
         told.as_slice(),
     )?;
-    let field = &one[0];
+    let again = field(alloc, b"foo", b"bar")?;
     let mut repeated = encoder(alloc, 4096, 1)?;
     block.clear();
     told.clear();
-    let required = repeated.encode(4, &mut block, &mut told, Repeated { field, left: 2 })?;
+    let required = repeated.encode(
+        4,
+        &mut block,
+        &mut told,
+        Repeated {
+            field: &again,
+            left: 2,
+        },
+    )?;
     push_written(
         alloc,
         &mut text,
@@ -234,4 +243,101 @@ fn any_iterator_that_ends_gives_the_fields(rt: HostRuntime) -> Result<(), Fail> 
         text.as_str(),
         "2 03811011 6294e7838c767f00 2 03811011 6294e7838c767f00 ",
     )
+}
+
+/// What a section is written as by two calls, of which the first finds so little memory for its instructions.
+fn shown_of_two_calls(alloc: Global, memory: usize, room: usize) -> Result<String, EncoderError> {
+    let fields = fields(alloc, &[FOO_BAR, BAZ_BAR, FOO_QUXX])?;
+    let mut encoder = encoder(alloc, 76, 4)?;
+    let mut block = Vec::new(alloc);
+    let mut told = Vec::new(alloc);
+    let heap = LocalHeap::new(alloc, memory)?;
+    let mut small = Vec::with_capacity(&heap, room)?;
+    let mut text = String::new(alloc);
+    match encoder.encode(4, &mut block, &mut small, fields.iter()) {
+        Ok(_) => text.push_str("written ")?,
+        Err(_) => text.push_str("refused ")?,
+    }
+    told.extend_from_slice(small.as_slice())?;
+    let required = encoder.encode(4, &mut block, &mut told, fields.iter())?;
+    push_written(
+        alloc,
+        &mut text,
+        required,
+        block.as_slice(),
+        told.as_slice(),
+    )?;
+    Ok(text)
+}
+
+/// A section whose first call finds so little memory is written so by both.
+fn writes_in_two_calls(
+    alloc: Global,
+    (memory, room): (usize, usize),
+    text: &str,
+) -> Result<(), Fail> {
+    let written = match shown_of_two_calls(alloc, memory, room) {
+        Ok(written) => written,
+        Err(_) => shown_of_two_calls(alloc, memory, room)?,
+    };
+    same(written.as_str(), text)
+}
+
+#[test]
+fn a_refused_section_is_written_by_the_next_call(rt: HostRuntime) -> Result<(), Fail> {
+    let none = "refused 2 038110110084ed6f9f3f 6294e7838c767f638c7eff838c767f ";
+    writes_in_two_calls(rt.alloc(), (64, 0), none)?;
+    let one = "refused 2 038080104084ed6f9f3f 6294e7838c767f638c7eff838c767f ";
+    writes_in_two_calls(rt.alloc(), (192, 152), one)?;
+    let two = "refused 2 030081804184ed6f9f3f 6294e7838c767f638c7eff838c767f ";
+    writes_in_two_calls(rt.alloc(), (192, 159), two)
+}
+
+/// An encoder of four entries that were put.
+fn encoder_of_four(alloc: Global) -> Result<Encoder, EncoderError> {
+    let mut table = DynamicTable::new(alloc);
+    table.set_max_size(4096)?;
+    table.set_max_blocked(100)?;
+    let pairs: Pairs = &[
+        (b"foo1", b"bar1"),
+        (b"foo2", b"bar2"),
+        (b"foo3", b"bar3"),
+        (b"foo4", b"bar4"),
+    ];
+    for (name, value) in pairs {
+        table.put(field(alloc, name, value)?)?;
+    }
+    Ok(Encoder::from(table))
+}
+
+/// A section with a line of each kind but a literal; of its instructions the first, which names an entry.
+fn shown_of_each_line(alloc: Global) -> Result<String, EncoderError> {
+    let mut encoder = encoder_of_four(alloc)?;
+    let pairs: Pairs = &[
+        (b":method", b"GET"),
+        (b"foo1", b"bar1"),
+        (b"foo3", b"new bar3"),
+        (b":method", b"staticnameref"),
+        (b"newfoo", b"newbar"),
+    ];
+    let fields = fields(alloc, pairs)?;
+    let mut block = Vec::new(alloc);
+    let mut told = Vec::new(alloc);
+    let required = encoder.encode(1, &mut block, &mut told, fields.iter())?;
+    told.truncate(8);
+    let mut text = String::new(alloc);
+    push_written(
+        alloc,
+        &mut text,
+        required,
+        block.as_slice(),
+        told.as_slice(),
+    )?;
+    Ok(text)
+}
+
+#[test]
+fn entries_that_were_put_are_referenced(rt: HostRuntime) -> Result<(), Fail> {
+    let text = again(|| shown_of_each_line(rt.alloc()))?;
+    same(text.as_str(), "7 0882d183101112 8186a8be148c7633 ")
 }
