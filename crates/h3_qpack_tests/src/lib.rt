@@ -1,4 +1,5 @@
-//! What no clause of `h3_qpack` says, through public calls: printed texts, worked cases, and calls where memory is refused.
+//! What no clause of `h3_qpack` says, through public calls: printed texts, worked cases, and calls where memory is
+//! refused.
 #![tactic(auto)]
 
 #[cfg(test)]

@@ -164,7 +164,7 @@ pub(crate) fn tell(
     };
     let counts = connect(rt, alloc, lists, capacity, &mut clock)?;
     println!(rt;
-        "capacity {capacity}: {} blocks decoded as they were encoded, in {} bytes, {} of the encoder stream and {} of the decoder stream",
+        "capacity {capacity}: {} blocks decoded as encoded; bytes: {} of blocks, {} and {} of both streams",
         counts.decoded, counts.blocks, counts.encoder_stream, counts.decoder_stream
     )?;
     clock.nanos = [0; 5];

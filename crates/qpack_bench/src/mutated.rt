@@ -95,8 +95,8 @@ fn are_alike(one: &DynamicTable, other: &DynamicTable) -> bool {
     true
 }
 
-/// Gives a recorded connection to a decoder once, one line in eight mutated. The connection ends at the first refusal of its
-/// encoder stream, as a peer's would.
+/// Gives a recorded connection to a decoder once, one line in eight mutated. The connection ends at the first refusal
+/// of its encoder stream, as a peer's would.
 pub(crate) fn try_once(
     alloc: Global,
     numbers: &mut Numbers,

@@ -1,5 +1,5 @@
-//! Every list of at most two bytes, given to each call that reads bytes of a peer, at five capacities: each answer is held
-//! against a plain reading of RFC 9204.
+//! Every list of at most two bytes, given to each call that reads bytes of a peer, at five capacities: each answer is
+//! held against a plain reading of RFC 9204.
 #![tactic(auto)]
 
 mod answer;
@@ -74,7 +74,7 @@ fn main(rt: HostRuntime) -> Result<()> {
     for capacity in CAPACITIES {
         let (lists, taken) = try_all(rt.alloc(), capacity)?;
         println!(rt;
-            "capacity {capacity}: {lists} lists, each answered by four calls as the plain reading has it; {taken} answers are no refusal"
+            "capacity {capacity}: {lists} lists, four calls each as the plain reading has them; {taken} not refused"
         )?;
     }
     Ok(())

@@ -141,8 +141,8 @@ pub(crate) fn on_decoder_recv(capacity: usize, bytes: &[u8]) -> Outcome {
     outcome
 }
 
-/// The encoded required insert count, whether the sign bit stands, and the delta base, which end a list of two bytes; or
-/// nothing where they are cut (RFC 9204, section 4.5.1).
+/// The encoded required insert count, whether the sign bit stands, and the delta base, which end a list of two bytes;
+/// or nothing where they are cut (RFC 9204, section 4.5.1).
 fn prefix(bytes: &[u8]) -> Option<(usize, bool, usize)> {
     let (count, len) = integer(bytes, 0xff)?;
     let rest = bytes.get(len..)?;

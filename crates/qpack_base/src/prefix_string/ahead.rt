@@ -1,7 +1,8 @@
 //! Reading the codes of a whole payload, one after the other (RFC 7541, section 5.2 and Appendix B). What is loaded
 //! is passed by value, so that it stays in registers.
 
-ghost use Rattle.std.specs.Prelude.{◌≡◌, ◌+◌, ◌*◌, ◌-◌, ◌/◌, ◌^◌, ◌<◌, ◌≤◌, ◌++◌, IfSome, length, vec_len, vec_capacity};
+ghost use Rattle.std.specs.Prelude.{◌≡◌, ◌+◌, ◌*◌, ◌-◌, ◌/◌, ◌^◌, ◌<◌, ◌≤◌, ◌++◌, IfSome};
+ghost use Rattle.std.specs.Prelude.{length, vec_len, vec_capacity};
 ghost use Rattle.qpack_spec.specs.Huffman.{bits_of, bits_of_bytes};
 ghost use Rattle.qpack_base.specs.Payloads.{bits_ahead, IsAhead, BeginsCode, PassesCodes};
 
