@@ -62,3 +62,4 @@ pub stops_inspecting : (command : Command) (bytes out : List ℕ) (e : DecoderEr
 stops_inspecting Encode bytes out e stops = stops
 stops_inspecting (Decode limit) bytes out e stops = stops
 stops_inspecting (Inspect capacity) bytes out e stops = tt
+stops_inspecting (Run capacity limit) bytes out e stops = stops

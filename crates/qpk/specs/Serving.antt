@@ -77,6 +77,7 @@ abbrev pub IsInspection : Command → Type 0
 IsInspection Encode = ⊥
 IsInspection (Decode limit) = ⊥
 IsInspection (Inspect capacity) = Unit {0}
+IsInspection (Run capacity limit) = ⊥
 
 -- the output, and whether it ends at a refusal
 abbrev pub Prints : Command → List ℕ → List ℕ → Option DecoderError → Type 0

@@ -11,8 +11,8 @@ use Rattle.qpk.proofs.inspect.blocks.section_lines.Goals as goal
 pub returns : goal.returns
 returns c =
     let inserted = c.total_inserted.ensures ∙ ap (λ (t : Table). insert_count t) c.table-table.ensures in
-    let most = c.agreed_max.ensures ∙ ap (λ (t : Table). maximum_capacity t.agreed_max t.capacity) c.table-table.ensures
-    in
+    let most = c.agreed_max.ensures.exact
+    ∙ ap (λ (t : Table). maximum_capacity t.agreed_max t.capacity) c.table-table.ensures in
     let read = c.in-Ok-get.ensures in
     let reads = rw (inserted, most) at read in
     record {
