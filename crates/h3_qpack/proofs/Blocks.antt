@@ -1,7 +1,7 @@
 -- Blocks that a stream keeps.
-use Rattle.std.proofs.Common.{◌≡◌, ◌<◌, ◌≤◌, ◌^◌, ◌⊎◌, ℕ, List, [], ◌∷◌, ◌++◌, length, take, filter, length-append}
+use Rattle.std.proofs.Common.{◌≡◌, ℕ, List, [], ◌∷◌, ◌++◌, length, take, filter, length-append}
 use Rattle.std.proofs.Common.{zero, suc, subst, refl, sym, ap}
-use Rattle.std.proofs.Common.{◌∙◌, arith, inl, inr, IsSome, Option, Some, Result, Ok, Err, IfOk, OnErr, nat_eq}
+use Rattle.std.proofs.Common.{◌∙◌, arith, inl, inr, IsSome, Some, Result, Ok, Err, IfOk, OnErr, nat_eq}
 use Rattle.std.proofs.Common.{if◌then◌else◌}
 use Rattle.std.proofs.iter.Yields.{fronts}
 use Rattle.std.proofs.lemmas.List.{take-append-le}

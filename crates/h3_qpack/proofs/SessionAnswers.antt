@@ -1,5 +1,5 @@
 -- What the session theorem says of the answers of the code.
-use Rattle.std.proofs.Common.{◌≡◌, ℕ, List, [], ◌∷◌, ◌++◌, Ok, Err, Result, refl, sym, subst}
+use Rattle.std.proofs.Common.{◌≡◌, ℕ, List, [], ◌∷◌, ◌++◌, Ok, Err, refl, subst}
 use Rattle.std.specs.List.{AllByRecursion}
 use Rattle.qpack_spec.specs.Session as spec
 use Rattle.qpack_spec.specs.Session.{Session, Run, Step, initial_session}
@@ -9,7 +9,7 @@ use Rattle.qpack_safety.specs.SessionSafety.{IsSafe, DecodeAnswer, is_skipped, w
 use Rattle.h3_qpack.proofs.Sessions.{run_more}
 use Rattle.h3_qpack.specs.SessionAnswers.{IsUnrefused, IsExact, IsExactBehind, AreExact, WaitsFor}
 use Rattle.h3_qpack.specs.SessionRuns.{AreAnswered}
-use Rattle.h3_qpack.specs.Sessions.{SessionView, IsReached, Reaches, Answers, Follows, TellsUndecoded, event_of}
+use Rattle.h3_qpack.specs.Sessions.{SessionView, IsReached, Answers, Follows, TellsUndecoded}
 use Rattle.h3_qpack.specs.Stateless.{fields_in}
 use Rattle.h3_qpack.specs.declared.decoder.DecoderError.{DecoderError}
 use Rattle.h3_qpack.specs.declared.decoder.DecoderError.TheVariants as decoder

@@ -1,14 +1,14 @@
 -- A block that a session encodes.
 use Rattle.std.proofs.Common.{◌≡◌, ◌<◌, ◌^◌, ℕ, List, [], ◌∷◌, ◌++◌, length, map, take}
-use Rattle.std.proofs.Common.{Option, Some, None, Result, Ok, Err, OnErr, IfOk, IfErr}
-use Rattle.std.proofs.Common.{refl, sym, ap, subst, ◌∙◌, arith, inl, inr}
+use Rattle.std.proofs.Common.{None, Result, Ok, Err, OnErr, IfOk, IfErr}
+use Rattle.std.proofs.Common.{refl, sym, ap, subst, ◌∙◌, inl, inr}
 use Rattle.std.proofs.lemmas.List.{map-append}
 use Rattle.std.specs.Prelude.{◌⊎◌}
 use Rattle.std.specs.List.{AllByRecursion}
 use Rattle.qpack_spec.specs.BlockReading.{written_block}
 use Rattle.qpack_spec.specs.Field.{Field}
 use Rattle.qpack_spec.specs.Instruction.{written_encoder_instructions}
-use Rattle.qpack_spec.specs.Rule.{rule, required_insert_count, block_of, committed_table}
+use Rattle.qpack_spec.specs.Rule.{rule, required_insert_count, block_of}
 use Rattle.qpack_spec.specs.Session as spec
 use Rattle.qpack_spec.specs.Session.{Session, KeptBlock, KeptStream, stream_at, with_block, after_refused_encode}
 use Rattle.qpack_spec.specs.Session.{LawfulStep, skip_reason}
@@ -17,8 +17,8 @@ use Rattle.qpack_spec.specs.WrittenLaws.{IsByteField}
 use Rattle.h3_qpack.proofs.Sessions.{fits_reached, fits_changed, fits_kept, shows_changed, lawful}
 use Rattle.h3_qpack.specs.Encoding.{EncodesBlock, GivesUpBlock}
 use Rattle.h3_qpack.specs.Sessions.{StoredBlock, StoredStream, stored_block, stored_stream, SessionView, Shows}
-use Rattle.h3_qpack.specs.Sessions.{IsReached, Follows, Goes, Answers, ChangesStream, KeepsStreams, encode_skip}
-use Rattle.h3_qpack.specs.Sessions.{WritesBlock, WritesStream, GivesUp}
+use Rattle.h3_qpack.specs.Sessions.{IsReached, Follows, Goes, KeepsStreams, encode_skip}
+use Rattle.h3_qpack.specs.Sessions.{WritesStream, GivesUp}
 use Rattle.h3_qpack.specs.declared.encoder.EncoderError.{EncoderError}
 use Rattle.h3_qpack.specs.declared.encoder.EncoderError.TheVariants.{Memory}
 use Rattle.h3_qpack.specs.declared.session.Outcome.TheVariants as outcome

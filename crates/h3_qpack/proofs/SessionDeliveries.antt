@@ -1,11 +1,10 @@
 -- The bytes that a session delivers.
-use Rattle.std.proofs.Common.{◌≡◌, ◌<◌, ◌≤◌, ◌^◌, ◌+◌, ◌-◌, ℕ, List, [], ◌∷◌, ◌++◌, length, take, drop, min}
+use Rattle.std.proofs.Common.{◌≡◌, ◌+◌, ◌-◌, ℕ, List, ◌++◌, length, take, drop, min}
 use Rattle.std.proofs.Common.{length-append}
-use Rattle.std.proofs.Common.{Bool, true, false, Option, Some, None, Result, Ok, Err, if◌then◌else◌}
-use Rattle.std.proofs.Common.{refl, sym, ap, subst, ◌∙◌, arith, inl, inr}
+use Rattle.std.proofs.Common.{Bool, true, false, Result, Ok, Err, if◌then◌else◌}
+use Rattle.std.proofs.Common.{refl, sym, ap, subst, ◌∙◌, arith}
 use Rattle.std.proofs.lemmas.List.{take_min}
 use Rattle.std.specs.Prelude.{⊤}
-use Rattle.qpack_spec.specs.Form.{FormFault}
 use Rattle.qpack_spec.specs.Instruction.{written_decoder_instructions}
 use Rattle.qpack_spec.specs.Session as spec
 use Rattle.qpack_spec.specs.Session.{Session, LawfulStep, skip_reason, EndsAtDecoder, EndsAtEncoder, takes_all}
@@ -15,7 +14,6 @@ use Rattle.qpack_spec.specs.Session.{DeliversToEncoder}
 use Rattle.qpack_spec.specs.Session.{with_decoder_moved, with_encoder_moved, unreported_after, increments, is_consumed}
 use Rattle.qpack_spec.specs.Session.{apply_encoder_instructions, apply_decoder_instructions}
 use Rattle.qpack_spec.specs.Table.{Table, insert_count}
-use Rattle.qpack_spec.specs.Window.{TableRefusal}
 use Rattle.h3_qpack.proofs.Sessions.{fits_reached, lawful}
 use Rattle.h3_qpack.specs.Hearing as hearing
 use Rattle.h3_qpack.specs.Receiving as receiving
@@ -26,7 +24,6 @@ use Rattle.h3_qpack.specs.Sessions.{SessionView, Shows, IsReached, Follows, Goes
 use Rattle.h3_qpack.specs.declared.decoder.DecoderError.{DecoderError}
 use Rattle.h3_qpack.specs.declared.decoder.DecoderError.TheVariants as decoder
 use Rattle.h3_qpack.specs.declared.encoder.EncoderError.{EncoderError}
-use Rattle.h3_qpack.specs.declared.encoder.EncoderError.TheVariants as encoder
 use Rattle.h3_qpack.specs.declared.session.Outcome.TheVariants as outcome
 
 -- so many bytes were consumed of a front and a rest of which the rest is left

@@ -9,7 +9,7 @@ use Rattle.qpack_safety.specs.SessionSafety.{IsSafe}
 use Rattle.qpack_safety.proofs.FourParts.{sessions_safe}
 use Rattle.h3_qpack.proofs.Sessions.{run_more}
 use Rattle.h3_qpack.specs.SessionRuns.{AreAnswered, Continues, PerformsAll, Runs}
-use Rattle.h3_qpack.specs.Sessions.{SessionView, Shows, Reaches, Answers, Follows, event_of}
+use Rattle.h3_qpack.specs.Sessions.{SessionView, Reaches, Answers, Follows, event_of}
 use Rattle.h3_qpack.specs.declared.session.Event.{Event}
 use Rattle.h3_qpack.specs.declared.session.Outcome.{Outcome}
 

@@ -1,11 +1,11 @@
 -- How a session begins.
-use Rattle.std.proofs.Common.{◌≡◌, ◌<◌, ◌≤◌, ◌^◌, ◌-◌, ℕ, List, [], Option, Some, None, Result, Ok, Err, min, nat_le}
+use Rattle.std.proofs.Common.{◌≡◌, ◌<◌, ◌≤◌, ◌^◌, ◌-◌, ℕ, List, [], Option, Some, None, Ok, Err, min, nat_le}
 use Rattle.std.proofs.Common.{true, false}
-use Rattle.std.proofs.Common.{refl, sym, ap, subst, ◌∙◌, arith, if◌then◌else◌}
+use Rattle.std.proofs.Common.{refl, sym, ap, subst, ◌∙◌, arith}
 use Rattle.std.proofs.lemmas.Bool.Decides.{nat_tests}
-use Rattle.qpack_spec.specs.Session.{Session, StartRefusal, CapacityTooLarge, LimitTooLarge, begin_session}
+use Rattle.qpack_spec.specs.Session.{CapacityTooLarge, LimitTooLarge, begin_session}
 use Rattle.qpack_spec.specs.Session.{initial_session}
-use Rattle.qpack_spec.specs.History.{window_of, initial_history}
+use Rattle.qpack_spec.specs.History.{window_of}
 use Rattle.qpack_spec.specs.Table.{Table, empty_table, table_of, with_capacity, all_evictable}
 use Rattle.qpack_spec.specs.Window.{eviction_count, TableRefusal}
 use Rattle.qpack_spec.proofs.Results.{ok_is}

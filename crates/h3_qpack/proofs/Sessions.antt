@@ -1,6 +1,6 @@
 -- Sessions that events lead to, and what is known of each.
-use Rattle.std.proofs.Common.{◌≡◌, ◌<◌, ◌≤◌, ◌^◌, ◌+◌, ℕ, List, [], ◌∷◌, ◌++◌, length, map, take, filter, zero, suc}
-use Rattle.std.proofs.Common.{Bool, true, false, nat_lt, nat_eq, if◌then◌else◌, Option, Some, None, slice_get}
+use Rattle.std.proofs.Common.{◌≡◌, ◌<◌, ◌≤◌, ◌^◌, ℕ, List, [], ◌∷◌, ◌++◌, length, map, take, filter, zero, suc}
+use Rattle.std.proofs.Common.{Bool, true, false, nat_lt, nat_eq, if◌then◌else◌, Some, None}
 use Rattle.std.proofs.Common.{refl, sym, ap, subst, ◌∙◌, arith, inl, inr}
 use Rattle.std.proofs.lemmas.Bool.{cond_both}
 use Rattle.std.proofs.lemmas.List.{length-map}
@@ -9,12 +9,12 @@ use Rattle.qpack_spec.specs.Session as spec
 use Rattle.qpack_spec.specs.Session.{KeptBlock, KeptStream, Session, RequestStream, stream_at, with_stream, skip_reason}
 use Rattle.qpack_spec.specs.Session.{awaits_acknowledgment, requires_entry, initial_session, Run, Passes, FitsMemory}
 use Rattle.qpack_spec.specs.Session.{IsByteEvent, LawfulStep, Skips}
-use Rattle.qpack_safety.specs.SessionSafety.{IsOrdered, IsSafe}
+use Rattle.qpack_safety.specs.SessionSafety.{IsSafe}
 use Rattle.qpack_safety.proofs.FourParts.{sessions_safe}
 use Rattle.h3_qpack.specs.Sessions.{StoredBlock, StoredStream, stored_block, stored_stream, stored_requires_entry}
-use Rattle.h3_qpack.specs.Sessions.{SessionView, Shows, IsReached, Reaches, Follows, Goes, Answers, ChangesStream}
+use Rattle.h3_qpack.specs.Sessions.{SessionView, Shows, IsReached, Follows, Goes, Answers, ChangesStream}
 use Rattle.h3_qpack.specs.Sessions.{Keeps}
-use Rattle.h3_qpack.specs.Sessions.{KeepsStreams, stored_skip, encode_skip, decode_skip, acknowledgment_skip}
+use Rattle.h3_qpack.specs.Sessions.{KeepsStreams, stored_skip, decode_skip, acknowledgment_skip}
 use Rattle.h3_qpack.specs.Sessions.{cancellation_skip}
 use Rattle.h3_qpack.specs.declared.session.Outcome.{Outcome}
 use Rattle.h3_qpack.specs.declared.session.Outcome.TheVariants as outcome

@@ -1,13 +1,10 @@
 -- Request streams, found by their numbers.
-use Rattle.std.proofs.Common.{◌≡◌, ◌≢◌, ℕ, List, [], ◌∷◌, Bool, true, false, Option, None, Some, nat_eq, nat_lt, cond}
-use Rattle.std.proofs.Common.{if◌then◌else◌, IsSome, is_some, IfSome, IfNone, refl, sym, ap, ◌∙◌, arith, subst}
-use Rattle.std.proofs.lemmas.Bool.{cond_both}
+use Rattle.std.proofs.Common.{◌≡◌, ℕ, List, [], ◌∷◌, true, false, Option, None, Some, nat_eq}
+use Rattle.std.proofs.Common.{IsSome, is_some, IfSome, IfNone, refl, sym, ap, ◌∙◌, arith, subst}
 use Rattle.std.proofs.lemmas.Bool.Decides.{nat_tests}
 use Rattle.std.proofs.lemmas.Grind.{common_steps}
 use Rattle.std.specs.Ordering.{nat_cmp, is_eq}
-use Rattle.std.specs.declared.cmp.Ordering.{Ordering}
-use Rattle.std.specs.declared.cmp.Ordering.TheVariants.{Less, Equal, Greater}
-use Rattle.std.specs.BTreeMap.{BTreeMap, is_at, get, Updates, WritesThrough}
+use Rattle.std.specs.BTreeMap.{BTreeMap, is_at, Updates, WritesThrough}
 use Rattle.std.specs.Map.{lookup}
 use Rattle.std.specs.Option.{unwrap_or, option_copied}
 use Rattle.std.specs.Borrow.{Bor}

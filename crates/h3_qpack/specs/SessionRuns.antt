@@ -5,7 +5,7 @@ use Rattle.qpack_spec.specs.Session as spec
 use Rattle.qpack_spec.specs.Session.{Session, StartRefusal}
 use Rattle.qpack_table.specs.declared.dynamic.Error.{Error}
 use Rattle.qpack_table.specs.declared.dynamic.Error.TheVariants.{Memory}
-use Rattle.h3_qpack.specs.Sessions.{SessionView, Shows, Reaches, Answers, Goes, event_of}
+use Rattle.h3_qpack.specs.Sessions.{SessionView, Shows, Reaches, Answers, event_of}
 use Rattle.h3_qpack.specs.SessionStarts.{start_refusal_of}
 use Rattle.h3_qpack.specs.declared.session.Event.{Event}
 use Rattle.h3_qpack.specs.declared.session.Outcome.{Outcome}

@@ -1,7 +1,7 @@
 -- A session as the code holds it, and how it stands to the session of the definitions (RFC 9204, section 2).
 use Rattle.std.specs.Prelude.{◌≡◌, ◌<◌, ◌≤◌, ◌^◌, ◌⊎◌, ◌++◌, [], ◌∷◌, ℕ, Bool, true, not, nat_eq, nat_le, nat_lt}
 use Rattle.std.specs.Prelude.{if◌then◌else◌, IsSome}
-use Rattle.std.specs.Prelude.{List, map, filter, take, length, Option, None, Some, Result, Ok, Err}
+use Rattle.std.specs.Prelude.{List, map, filter, take, length, Option, None, Some, Ok, Err}
 use Rattle.std.specs.BTreeMap.{is_at}
 use Rattle.std.specs.Map.{lookup}
 use Rattle.std.specs.Ordering.{nat_cmp}

@@ -1,4 +1,4 @@
-use Rattle.std.proofs.Common.{◌≡◌, ◌<◌, length, refl, sym, ap, ◌∙◌, inl, inr, arith}
+use Rattle.std.proofs.Common.{inr, arith}
 use Rattle.std.proofs.lemmas.Result.{err_from_is_err_and}
 use Rattle.h3_qpack.proofs.Blocks.{counted_more, kept_more, encodes_slice, stops_slice}
 use Rattle.h3_qpack.proofs.session.stream.Stream.encode.Goals as goal
