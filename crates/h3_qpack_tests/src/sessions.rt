@@ -392,11 +392,16 @@ fn goes_round(alloc: Global, session: &mut Session, n: u32) -> Result<String, Fa
     Ok(answers)
 }
 
-/// What the events of a field answer.
-fn expected(alloc: Global, n: u32) -> Result<String, NoMemory> {
+/// What the block of a field is decoded to.
+fn numbered_field(alloc: Global, n: u32) -> Result<String, NoMemory> {
     let digits = format!(in alloc; "{n}")?.len();
     let size = digits.saturating_add(33);
-    let decoded = format!(in alloc; "\"n\": \"{n}\", {size} true")?;
+    Ok(format!(in alloc; "\"n\": \"{n}\", {size} true")?)
+}
+
+/// What the events of a field answer.
+fn expected(alloc: Global, n: u32) -> Result<String, NoMemory> {
+    let decoded = numbered_field(alloc, n)?;
     let heard = "Acknowledged(Ok(())); Heard(Ok(())); ";
     Ok(format!(in alloc; "Encoded(Ok({n})); Delivered(Ok({n})); {decoded}; {heard}")?)
 }
@@ -409,6 +414,16 @@ const BLOCKS: [&[u8]; 4] = [
     b"\x04\x80\x10",
 ];
 
+/// The last block is that of this field, and the decoder itself decodes it to that.
+fn is_block(alloc: Global, session: &Session, n: u32) -> Result<(), Fail> {
+    let last = session.blocks(0).saturating_sub(1);
+    let block = session.block(0, last).unwrap_or(b"");
+    same(Some(block), BLOCKS.get((n % 4) as usize).copied())?;
+    let text = again(|| decoded(alloc, session.decoder(), block))?;
+    let field = again(|| numbered_field(alloc, n))?;
+    same(text.as_str(), field.as_str())
+}
+
 /// So many fields go round, in blocks that come again and again; or memory was refused, and then this answers false.
 fn go_round(alloc: Global, count: u32) -> Result<bool, Fail> {
     let mut session = Session::new(alloc, 64, 1)?;
@@ -419,11 +434,7 @@ fn go_round(alloc: Global, count: u32) -> Result<bool, Fail> {
         }
         let expected = again(|| expected(alloc, n))?;
         same(answers.as_str(), expected.as_str())?;
-        let last = session.blocks(0).saturating_sub(1);
-        same(
-            session.block(0, last),
-            BLOCKS.get((n % 4) as usize).copied(),
-        )?;
+        is_block(alloc, &session, n)?;
     }
     Ok(true)
 }
