@@ -11,6 +11,8 @@ mod encoder;
 #[cfg(test)]
 mod encoding;
 #[cfg(test)]
+mod scripts;
+#[cfg(test)]
 mod sessions;
 #[cfg(test)]
 mod texts;
