@@ -1,5 +1,8 @@
 //! Scripts run through `serve`: what each event prints.
 
+mod first;
+mod second;
+
 use super::{runs, wants_memory, words_again};
 use crate::serve::serve;
 use std::alloc::Global;
@@ -40,6 +43,21 @@ fn prints(
         (out, _) = run_once(alloc, &words, script);
     }
     assert_eq!(rt; out.as_slice(), lines.as_bytes());
+    Ok(())
+}
+
+/// A script, the words that it is run with, and what is printed.
+struct Case {
+    words: &'static str,
+    script: &'static str,
+    lines: &'static str,
+}
+
+/// Runs scripts.
+fn foretold(rt: &impl Abort, alloc: Global, cases: &[Case]) -> Result<(), Fail> {
+    for case in cases {
+        prints(rt, alloc, case.words, case.script, case.lines)?;
+    }
     Ok(())
 }
 
