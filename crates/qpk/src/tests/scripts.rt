@@ -1,7 +1,9 @@
 //! Scripts run through `serve`: what each event prints.
 
 mod first;
+mod fourth;
 mod second;
+mod third;
 
 use super::{runs, wants_memory, words_again};
 use crate::serve::serve;
