@@ -87,7 +87,7 @@ fn encodes(
 ) -> Result<(), Fail> {
     let places = again(|| places(alloc, random))?;
     let event = Event::Encode(handed.stream, again(|| fields(alloc, places.as_slice()))?);
-    handed.blocks.reserve(1)?;
+    again(|| handed.blocks.reserve(1))?;
     match session.step(&event) {
         Outcome::Encoded(Ok(_)) => {
             handed.blocks.push(places)?;
