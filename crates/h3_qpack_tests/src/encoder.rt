@@ -2,7 +2,7 @@
 //! sections 3.2.3, 4.3.1 and 4.4).
 
 use h3_qpack::coding::Cursor;
-use h3_qpack::dynamic::{self, DynamicTable};
+use h3_qpack::dynamic::{self, DynamicLookupResult, DynamicTable, DynamicTableEncoder};
 use h3_qpack::encoder::{Encoder, EncoderError, set_dynamic_table_size};
 use h3_qpack::{HeaderField, prefix_int};
 use linked_list_allocator::LocalHeap;
@@ -10,11 +10,22 @@ use qpack_testing::{again, field, same};
 use std::alloc::Global;
 use std::test::Fail;
 
-/// A block on stream 4 that inserts a field and waits for its acknowledgment.
+/// References an entry of a field, which is inserted if there is none.
+fn reference(
+    block: &mut DynamicTableEncoder<'_>,
+    field: &HeaderField,
+) -> Result<(), dynamic::Error> {
+    if block.find(field)? == DynamicLookupResult::NotFound {
+        block.insert(field)?;
+    }
+    Ok(())
+}
+
+/// A block on stream 4 that references a field and waits for its acknowledgment.
 fn open_block(table: &mut DynamicTable, field: &HeaderField) -> Result<(), dynamic::Error> {
     let mut block = table.encoder(4);
-    match block.insert(field) {
-        Ok(_) => block.commit(1),
+    match reference(&mut block, field) {
+        Ok(()) => block.commit(1),
         Err(error) => {
             block.release();
             Err(error)
