@@ -1,34 +1,18 @@
 -- Worked rows of field sections read under a window, computed by the definitions.
 use Rattle.std.proofs.Common.{ℕ, zero, suc, ◌+◌, ◌/◌, ◌%◌, ◌≡◌, true, false, List, [], ◌∷◌, ◌++◌, refl}
 use Rattle.std.specs.Prelude.{codes, negsuc, if◌then◌else◌, nat_lt}
-use Rattle.qpack_spec.specs.Integer.{written_groups, groups_at, integer_at, written_integer, UnexpectedEnd}
-use Rattle.qpack_spec.specs.Huffman.{bits_of, ones, bytes_by_length, bytes_of_length, first_code, code_length, code_of}
-use Rattle.qpack_spec.specs.Huffman.{number_from, bytes_of_bits, payload_of, code_at, is_padding, item_at, text_at}
-use Rattle.qpack_spec.specs.Huffman.{text_of_bits}
-use Rattle.qpack_spec.specs.Text.{string_at, written_string, EndsEarly}
+use Rattle.qpack_spec.specs.Integer.{UnexpectedEnd}
+use Rattle.qpack_spec.specs.Text.{EndsEarly}
 use Rattle.qpack_spec.specs.Field.{Field}
-use Rattle.qpack_spec.specs.StaticTable.{field, static_table, static_index, static_name_index}
-use Rattle.qpack_spec.specs.Form.{BadInteger, BadString, made_at, form_at}
-use Rattle.qpack_spec.specs.Line.{line_form, written_line, written_lines}
-use Rattle.qpack_spec.specs.Instruction.{encoder_instruction_form, decoder_instruction_form}
-use Rattle.qpack_spec.specs.Instruction.{written_encoder_instruction, written_encoder_instructions}
-use Rattle.qpack_spec.specs.Instruction.{written_decoder_instruction, written_decoder_instructions}
-use Rattle.qpack_spec.specs.Prefix.{OutOfRange, BelowZero, prefix_for, required_at, read_required, read_base}
-use Rattle.qpack_spec.specs.Prefix.{read_prefix, written_prefix, prefix_at}
-use Rattle.qpack_spec.specs.Window.{Window, eviction_count, absolute_entry, relative_entry, Inserts, Resizes, insertion}
-use Rattle.qpack_spec.specs.Window.{effect, window_after}
-use Rattle.qpack_spec.specs.History.{window_of, whole_window, history_after, initial_history}
-use Rattle.qpack_spec.specs.Reading.{BadForm, BadPrefix, BelowWindow, AboveWindow, BehindBase, NotStatic, static_field}
-use Rattle.qpack_spec.specs.Reading.{relative_field, post_base_field, line_field, fields_of, references_of_line}
-use Rattle.qpack_spec.specs.Reading.{references_of}
-use Rattle.qpack_spec.specs.Reading.{greatest_of, Fields, Missing, Faulty, reading}
-use Rattle.qpack_spec.specs.BlockReading.{fields_at, reading_of_bytes, written_block}
-use Rattle.qpack_spec.specs.Table.{window, with_number, with_reference, is_evictable, all_evictable, has_room}
-use Rattle.qpack_spec.specs.Table.{may_reference, with_entry}
-use Rattle.qpack_spec.specs.Table.{last_position, newest_index, put, with_capacity, apply_encoder_instruction, commit}
-use Rattle.qpack_spec.specs.Table.{without_references, without_oldest}
-use Rattle.qpack_spec.specs.Table.{without_stream, with_increment, apply_decoder_instruction}
-use Rattle.qpack_spec.specs.Rule.{instruction_for, rule_field, rule}
+use Rattle.qpack_spec.specs.StaticTable.{field}
+use Rattle.qpack_spec.specs.Form.{BadInteger, BadString}
+use Rattle.qpack_spec.specs.Prefix.{OutOfRange, BelowZero}
+use Rattle.qpack_spec.specs.Window.{Window, Inserts, Resizes, window_after}
+use Rattle.qpack_spec.specs.History.{window_of, initial_history}
+use Rattle.qpack_spec.specs.Reading.{BadForm, BadPrefix, BelowWindow, AboveWindow, BehindBase, NotStatic, Fields}
+use Rattle.qpack_spec.specs.Reading.{Missing, Faulty}
+use Rattle.qpack_spec.specs.BlockReading.{reading_of_bytes}
+use Rattle.qpack_spec.proofs.Computing.{computed}
 
 -- a window in which these fields were put
 putting : Window → List Field → Window
@@ -55,21 +39,7 @@ counted (suc n) = counted n ++ field (codes "foo" ++ decimal (suc n)) (codes "ba
 
 -- all that has to unfold
 rows : ℕ
-unfolding eviction_count written_groups groups_at integer_at written_integer bits_of ones bytes_by_length
-    bytes_of_length
-    first_code code_length code_of number_from bytes_of_bits payload_of code_at is_padding item_at text_at text_of_bits
-    string_at written_string static_table static_index static_name_index line_form written_line written_lines
-    encoder_instruction_form decoder_instruction_form written_encoder_instruction written_encoder_instructions
-    written_decoder_instruction written_decoder_instructions made_at form_at
-    prefix_for required_at read_required read_base read_prefix written_prefix prefix_at absolute_entry
-    relative_entry insertion effect
-    window_after window_of whole_window history_after static_field relative_field post_base_field line_field
-    fields_of references_of_line references_of
-    greatest_of reading fields_at reading_of_bytes written_block window with_number with_reference is_evictable
-    all_evictable has_room may_reference
-    with_entry last_position newest_index put with_capacity apply_encoder_instruction commit without_references
-    without_oldest without_stream with_increment apply_decoder_instruction
-    instruction_for rule_field rule putting window_with numbered decimal counted
+unfolding computed putting window_with numbered decimal counted
 rows = 0
 
 -- a relative and two post-base lines

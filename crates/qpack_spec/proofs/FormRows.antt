@@ -1,37 +1,19 @@
 -- Worked rows of lines, instructions, decoder instructions and prefixes in bytes, computed by the definitions.
 use Rattle.std.proofs.Common.{ℕ, ◌-◌, ◌^◌, ◌≡◌, true, false, List, [], ◌∷◌, None, Some, Result, Ok, Err, refl}
 use Rattle.std.specs.Prelude.{codes, negsuc}
-use Rattle.qpack_spec.specs.Integer.{written_groups, groups_at, integer_at, written_integer, Overflow, UnexpectedEnd}
-use Rattle.qpack_spec.specs.Huffman.{bits_of, ones, bytes_by_length, bytes_of_length, first_code, code_length, code_of}
-use Rattle.qpack_spec.specs.Huffman.{number_from, bytes_of_bits, payload_of, code_at, is_padding, item_at, text_at}
-use Rattle.qpack_spec.specs.Huffman.{text_of_bits, MissingBits, Unhandled}
-use Rattle.qpack_spec.specs.Text.{string_at, written_string, EndsEarly, LengthOverflows, BadHuffman}
-use Rattle.qpack_spec.specs.StaticTable.{static_table, static_index, static_name_index}
-use Rattle.qpack_spec.specs.Form.{Index, IndexAndValue, NameAndValue, FormFault, BadInteger, BadString, made_at}
-use Rattle.qpack_spec.specs.Form.{form_at}
+use Rattle.qpack_spec.specs.Integer.{Overflow, UnexpectedEnd}
+use Rattle.qpack_spec.specs.Huffman.{MissingBits, Unhandled}
+use Rattle.qpack_spec.specs.Text.{EndsEarly, LengthOverflows, BadHuffman}
+use Rattle.qpack_spec.specs.Form.{Index, IndexAndValue, NameAndValue, FormFault, BadInteger, BadString, form_at}
 use Rattle.qpack_spec.specs.Line.{Line, IndexedStatic, IndexedDynamic, IndexedPostBase, NamedStatic, NamedDynamic}
-use Rattle.qpack_spec.specs.Line.{NamedPostBase, Literal, line_form, written_line, written_lines}
+use Rattle.qpack_spec.specs.Line.{NamedPostBase, Literal, line_form, written_line}
 use Rattle.qpack_spec.specs.Instruction.{EncoderInstruction, InsertStaticName, InsertDynamicName, InsertLiteralName}
-use Rattle.qpack_spec.specs.Instruction.{Duplicate}
-use Rattle.qpack_spec.specs.Instruction.{SetCapacity, DecoderInstruction, Acknowledgment, Cancellation, Increment}
-use Rattle.qpack_spec.specs.Instruction.{encoder_instruction_form}
-use Rattle.qpack_spec.specs.Instruction.{decoder_instruction_form, written_encoder_instruction}
-use Rattle.qpack_spec.specs.Instruction.{written_encoder_instructions, written_decoder_instruction}
-use Rattle.qpack_spec.specs.Instruction.{written_decoder_instructions}
-use Rattle.qpack_spec.specs.Prefix.{Prefix, OutOfRange, BelowZero, prefix_for, required_at, read_required, read_base}
-use Rattle.qpack_spec.specs.Prefix.{read_prefix, written_prefix, prefix_at}
-use Rattle.qpack_spec.specs.Window.{eviction_count, absolute_entry, relative_entry, insertion, effect, window_after}
-use Rattle.qpack_spec.specs.History.{window_of, whole_window, history_after}
-use Rattle.qpack_spec.specs.Reading.{static_field, relative_field, post_base_field, line_field, fields_of}
-use Rattle.qpack_spec.specs.Reading.{references_of_line}
-use Rattle.qpack_spec.specs.Reading.{references_of, greatest_of, reading}
-use Rattle.qpack_spec.specs.BlockReading.{fields_at, reading_of_bytes, written_block}
-use Rattle.qpack_spec.specs.Table.{window, with_number, with_reference, is_evictable, all_evictable, has_room}
-use Rattle.qpack_spec.specs.Table.{may_reference, with_entry}
-use Rattle.qpack_spec.specs.Table.{last_position, newest_index, put, with_capacity, apply_encoder_instruction, commit}
-use Rattle.qpack_spec.specs.Table.{without_references, without_oldest}
-use Rattle.qpack_spec.specs.Table.{without_stream, with_increment, apply_decoder_instruction, insert_count}
-use Rattle.qpack_spec.specs.Rule.{instruction_for, rule_field, rule}
+use Rattle.qpack_spec.specs.Instruction.{Duplicate, SetCapacity, DecoderInstruction, Acknowledgment, Cancellation}
+use Rattle.qpack_spec.specs.Instruction.{Increment, encoder_instruction_form, decoder_instruction_form}
+use Rattle.qpack_spec.specs.Instruction.{written_encoder_instruction, written_decoder_instruction}
+use Rattle.qpack_spec.specs.Prefix.{Prefix, OutOfRange, BelowZero, prefix_for, read_prefix, written_prefix, prefix_at}
+use Rattle.qpack_spec.specs.Table.{insert_count}
+use Rattle.qpack_spec.proofs.Computing.{computed}
 
 -- what was read, and how many bytes were left
 line_at : List ℕ → Result (Line × List ℕ) FormFault
@@ -48,21 +30,7 @@ prefix_of insert_count delta = record { count = insert_count; sign = false; delt
 
 -- all that has to unfold
 rows : ℕ
-unfolding eviction_count written_groups groups_at integer_at written_integer bits_of ones bytes_by_length
-    bytes_of_length
-    first_code code_length code_of number_from bytes_of_bits payload_of code_at is_padding item_at text_at text_of_bits
-    string_at written_string static_table static_index static_name_index line_form written_line written_lines
-    encoder_instruction_form decoder_instruction_form written_encoder_instruction written_encoder_instructions
-    written_decoder_instruction written_decoder_instructions made_at form_at
-    prefix_for required_at read_required read_base read_prefix written_prefix prefix_at absolute_entry
-    relative_entry insertion effect
-    window_after window_of whole_window history_after static_field relative_field post_base_field line_field
-    fields_of references_of_line references_of
-    greatest_of reading fields_at reading_of_bytes written_block window with_number with_reference is_evictable
-    all_evictable has_room may_reference
-    with_entry last_position newest_index put with_capacity apply_encoder_instruction commit without_references
-    without_oldest without_stream with_increment apply_decoder_instruction
-    instruction_for rule_field rule line_at instruction_at decoder_instruction_at prefix_of
+unfolding computed line_at instruction_at decoder_instruction_at prefix_of
 rows = 0
 
 -- an insertion without a name reference

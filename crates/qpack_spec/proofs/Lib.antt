@@ -24,6 +24,7 @@ pub mod StreamReadings
 pub mod WrittenForms
 pub mod BlockReadings
 pub mod BlockLaws
+pub mod Computing
 pub mod FormRows
 pub mod BlockRows
 pub mod TableRows

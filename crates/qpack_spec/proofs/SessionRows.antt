@@ -1,50 +1,29 @@
 -- Worked rows of sessions in bytes, computed by the definitions.
-use Rattle.std.proofs.Common.{ℕ, ◌+◌, ◌-◌, ◌^◌, ◌<◌, ◌≡◌, true, false, List, [], ◌∷◌, length, map, Option}
-use Rattle.std.proofs.Common.{None, Some, Ok, Err, inl, inr, refl, ap, arith, lit≤}
+use Rattle.std.proofs.Common.{ℕ, ◌+◌, ◌-◌, ◌^◌, ◌<◌, ◌≡◌, true, false, List, [], ◌∷◌, length, map, Option, None, Some}
+use Rattle.std.proofs.Common.{Ok, Err, inl, inr, refl, ap, arith, lit≤}
 use Rattle.std.specs.Prelude.{codes, nat_eq}
 use Rattle.std.specs.List.{AllByRecursion}
 use Rattle.std.proofs.lemmas.Bool.{cond_both}
-use Rattle.qpack_spec.specs.Integer.{written_groups, groups_at, integer_at, written_integer, UnexpectedEnd}
-use Rattle.qpack_spec.specs.Huffman.{bits_of, ones, bytes_by_length, bytes_of_length, first_code, code_length, code_of}
-use Rattle.qpack_spec.specs.Huffman.{number_from, bytes_of_bits, payload_of, code_at, is_padding, item_at, text_at}
-use Rattle.qpack_spec.specs.Huffman.{text_of_bits}
-use Rattle.qpack_spec.specs.Text.{string_at, written_string, EndsEarly}
+use Rattle.qpack_spec.specs.Integer.{UnexpectedEnd}
+use Rattle.qpack_spec.specs.Text.{EndsEarly}
 use Rattle.qpack_spec.specs.Field.{Field}
-use Rattle.qpack_spec.specs.StaticTable.{field, static_table, static_index, static_name_index}
-use Rattle.qpack_spec.specs.Form.{BadInteger, BadString, Truncates, Form, Spells, made_at, form_at}
-use Rattle.qpack_spec.specs.Line.{line_form, written_line, written_lines}
-use Rattle.qpack_spec.specs.Instruction.{InsertLiteralName, Acknowledgment, Increment}
-use Rattle.qpack_spec.specs.Instruction.{encoder_instruction_form, decoder_instruction_form}
-use Rattle.qpack_spec.specs.Instruction.{written_encoder_instruction, written_encoder_instructions}
-use Rattle.qpack_spec.specs.Instruction.{written_decoder_instruction, written_decoder_instructions}
-use Rattle.qpack_spec.specs.Prefix.{prefix_for, required_at, read_required, read_base, read_prefix, written_prefix}
-use Rattle.qpack_spec.specs.Prefix.{prefix_at}
-use Rattle.qpack_spec.specs.Window.{Window, eviction_count, absolute_entry, relative_entry, insertion, effect}
-use Rattle.qpack_spec.specs.Window.{window_after}
-use Rattle.qpack_spec.specs.Window.{AboveMaximum}
-use Rattle.qpack_spec.specs.History.{window_of, whole_window, history_after}
-use Rattle.qpack_spec.specs.Reading.{static_field, relative_field, post_base_field, line_field, fields_of}
-use Rattle.qpack_spec.specs.Reading.{references_of_line}
-use Rattle.qpack_spec.specs.Reading.{references_of, greatest_of, reading}
-use Rattle.qpack_spec.specs.BlockReading.{fields_at, reading_of_bytes, written_block}
-use Rattle.qpack_spec.specs.Table.{Table, empty_table, table_of, insert_count, window, with_number, with_reference}
-use Rattle.qpack_spec.specs.Table.{is_evictable, all_evictable}
-use Rattle.qpack_spec.specs.Table.{has_room, may_reference, with_entry, last_position, newest_index, put, with_capacity}
-use Rattle.qpack_spec.specs.Table.{apply_encoder_instruction, commit}
-use Rattle.qpack_spec.specs.Table.{without_references, without_oldest, without_stream, with_increment}
-use Rattle.qpack_spec.specs.Table.{apply_decoder_instruction}
-use Rattle.qpack_spec.specs.Rule.{instruction_for, rule_field, rule}
+use Rattle.qpack_spec.specs.StaticTable.{field}
+use Rattle.qpack_spec.specs.Form.{BadInteger, BadString, Truncates, Form, Spells, form_at}
+use Rattle.qpack_spec.specs.Instruction.{InsertLiteralName, Acknowledgment, Increment, encoder_instruction_form}
+use Rattle.qpack_spec.specs.Instruction.{decoder_instruction_form}
+use Rattle.qpack_spec.specs.Window.{Window, AboveMaximum}
+use Rattle.qpack_spec.specs.Table.{Table, empty_table, table_of, insert_count, with_capacity, with_increment}
 use Rattle.qpack_spec.specs.Stream.{Joined}
-use Rattle.qpack_spec.specs.Session.{KeptBlock, KeptStream, stream_at, Session, Encode, Decode, ToDecoder}
-use Rattle.qpack_spec.specs.Session.{ToEncoder, Acknowledge, Cancel, Encoded, Decoded, MissingReferences}
-use Rattle.qpack_spec.specs.Session.{Delivered, Heard, Acknowledged, Skipped, NoMemory, initial_session}
-use Rattle.qpack_spec.specs.Session.{begin_session, CapacityTooLarge, LimitTooLarge, with_block, with_decoded}
-use Rattle.qpack_spec.specs.Session.{with_kept_stream, blocked_among, skip_reason, increment_sum, IsPiece}
-use Rattle.qpack_spec.specs.Session.{with_decoder_moved, with_encoder_moved, EndsAtDecoder, takes_all}
-use Rattle.qpack_spec.specs.Session.{no_memory, bad_bytes, bad_instruction, takes_all_at_encoder}
-use Rattle.qpack_spec.specs.Session.{LawfulStep, Step, FitsMemory, Run}
+use Rattle.qpack_spec.specs.Session.{KeptBlock, KeptStream, stream_at, Session, Encode, Decode, ToDecoder, ToEncoder}
+use Rattle.qpack_spec.specs.Session.{Acknowledge, Cancel, Encoded, Decoded, MissingReferences, Delivered, Heard}
+use Rattle.qpack_spec.specs.Session.{Acknowledged, Skipped, NoMemory, initial_session, begin_session, CapacityTooLarge}
+use Rattle.qpack_spec.specs.Session.{LimitTooLarge, with_block, with_decoded, with_kept_stream, blocked_among}
+use Rattle.qpack_spec.specs.Session.{skip_reason, increment_sum, IsPiece, with_decoder_moved, with_encoder_moved}
+use Rattle.qpack_spec.specs.Session.{EndsAtDecoder, takes_all, no_memory, bad_bytes, bad_instruction}
+use Rattle.qpack_spec.specs.Session.{takes_all_at_encoder, LawfulStep, Step, FitsMemory, Run}
 use Rattle.qpack_spec.specs.WrittenLaws.{IsByteField}
 use Rattle.qpack_spec.proofs.FormLaws.{form_takes, reads_form_truncation}
+use Rattle.qpack_spec.proofs.Computing.{computed}
 
 -- ---- the sessions of the rows: the start; a block on stream 4; six bytes of its instruction delivered; the seventh;
 -- the
@@ -91,22 +70,8 @@ heard_all = with_encoder_moved acknowledged 2 released 2
 
 -- all that has to unfold
 rows : ℕ
-unfolding eviction_count written_groups groups_at integer_at written_integer bits_of ones bytes_by_length
-    bytes_of_length
-    first_code code_length code_of number_from bytes_of_bits payload_of code_at is_padding item_at text_at text_of_bits
-    string_at written_string static_table static_index static_name_index line_form written_line written_lines
-    encoder_instruction_form decoder_instruction_form written_encoder_instruction written_encoder_instructions
-    written_decoder_instruction written_decoder_instructions made_at form_at
-    prefix_for required_at read_required read_base read_prefix written_prefix prefix_at absolute_entry
-    relative_entry insertion effect
-    window_after window_of whole_window history_after static_field relative_field post_base_field line_field
-    fields_of references_of_line references_of
-    greatest_of reading fields_at reading_of_bytes written_block window with_number with_reference is_evictable
-    all_evictable has_room may_reference
-    with_entry last_position newest_index put with_capacity apply_encoder_instruction commit without_references
-    without_oldest without_stream with_increment apply_decoder_instruction
-    instruction_for rule_field rule table_of increment_sum foo_bar filled released begun written delivered_part
-    delivered decoded acknowledged heard_all skip_reason
+unfolding computed table_of increment_sum foo_bar filled released begun written delivered_part delivered decoded
+    acknowledged heard_all skip_reason
 rows = 0
 
 -- ---- where a session begins

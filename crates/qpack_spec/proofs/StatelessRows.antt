@@ -1,39 +1,19 @@
 -- Worked rows of field sections that reference no entry, and of what a session skips, computed by the definitions.
 use Rattle.std.proofs.Common.{ℕ, ◌^◌, ◌≡◌, true, false, List, [], ◌∷◌, None, Some, Ok, Err, refl}
 use Rattle.std.specs.Prelude.{codes}
-use Rattle.qpack_spec.specs.Integer.{written_groups, groups_at, integer_at, written_integer, UnexpectedEnd}
-use Rattle.qpack_spec.specs.Huffman.{bits_of, ones, bytes_by_length, bytes_of_length, first_code, code_length, code_of}
-use Rattle.qpack_spec.specs.Huffman.{number_from, bytes_of_bits, payload_of, code_at, is_padding, item_at, text_at}
-use Rattle.qpack_spec.specs.Huffman.{text_of_bits}
-use Rattle.qpack_spec.specs.Text.{string_at, written_string, EndsEarly, LengthOverflows}
+use Rattle.qpack_spec.specs.Integer.{UnexpectedEnd}
+use Rattle.qpack_spec.specs.Text.{EndsEarly, LengthOverflows}
 use Rattle.qpack_spec.specs.Field.{Field}
-use Rattle.qpack_spec.specs.StaticTable.{field, static_table, static_index, static_name_index}
-use Rattle.qpack_spec.specs.Form.{BadInteger, BadString, made_at, form_at}
-use Rattle.qpack_spec.specs.Line.{line_form, written_line, written_lines}
-use Rattle.qpack_spec.specs.Instruction.{encoder_instruction_form, decoder_instruction_form}
-use Rattle.qpack_spec.specs.Instruction.{written_encoder_instruction, written_encoder_instructions}
-use Rattle.qpack_spec.specs.Instruction.{written_decoder_instruction, written_decoder_instructions}
-use Rattle.qpack_spec.specs.Prefix.{prefix_for, required_at, read_required, read_base, read_prefix, written_prefix}
-use Rattle.qpack_spec.specs.Prefix.{prefix_at}
-use Rattle.qpack_spec.specs.Window.{eviction_count, absolute_entry, relative_entry, insertion, effect, window_after}
-use Rattle.qpack_spec.specs.Window.{NoEntry, NoStaticField, DoesNotFit}
-use Rattle.qpack_spec.specs.Window.{AboveMaximum, UnknownStream}
-use Rattle.qpack_spec.specs.History.{window_of, whole_window, history_after}
-use Rattle.qpack_spec.specs.Reading.{BadForm, NotStatic, static_field, relative_field, post_base_field, line_field}
-use Rattle.qpack_spec.specs.Reading.{fields_of, references_of_line, references_of, greatest_of, reading}
-use Rattle.qpack_spec.specs.BlockReading.{fields_at, reading_of_bytes, written_block}
-use Rattle.qpack_spec.specs.Table.{window, with_number, with_reference, is_evictable, all_evictable, has_room}
-use Rattle.qpack_spec.specs.Table.{may_reference, with_entry}
-use Rattle.qpack_spec.specs.Table.{last_position, newest_index, put, with_capacity, apply_encoder_instruction, commit}
-use Rattle.qpack_spec.specs.Table.{without_references, without_oldest}
-use Rattle.qpack_spec.specs.Table.{without_stream, with_increment, apply_decoder_instruction}
-use Rattle.qpack_spec.specs.Rule.{instruction_for, rule_field, rule}
-use Rattle.qpack_spec.specs.Session.{Encode, Decode, Acknowledge, Cancel}
+use Rattle.qpack_spec.specs.StaticTable.{field}
+use Rattle.qpack_spec.specs.Form.{BadInteger, BadString}
+use Rattle.qpack_spec.specs.Window.{NoEntry, NoStaticField, DoesNotFit, AboveMaximum, UnknownStream}
+use Rattle.qpack_spec.specs.Reading.{BadForm, NotStatic}
+use Rattle.qpack_spec.specs.BlockReading.{written_block}
+use Rattle.qpack_spec.specs.Session.{Encode, Decode, Acknowledge, Cancel, Session, initial_session, with_block}
+use Rattle.qpack_spec.specs.Session.{with_decoded, with_kept_stream, stream_at, skip_reason, is_consumed}
 use Rattle.qpack_spec.specs.Stateless.{stateless_block, BadSection, NamesEntry, TooLong, stateless_at}
 use Rattle.qpack_spec.specs.Stateless.{stateless_reading}
-use Rattle.qpack_spec.specs.Session.{Session, initial_session, with_block, with_decoded, with_kept_stream, stream_at}
-use Rattle.qpack_spec.specs.Session.{skip_reason}
-use Rattle.qpack_spec.specs.Session.{is_consumed}
+use Rattle.qpack_spec.proofs.Computing.{computed}
 
 alone : List Field → List ℕ
 alone fs = written_block (stateless_block fs)
@@ -53,22 +33,8 @@ cancelled_stream = with_kept_stream one_block 4 (record (stream_at one_block.str
 
 -- all that has to unfold
 rows : ℕ
-unfolding eviction_count written_groups groups_at integer_at written_integer bits_of ones bytes_by_length
-    bytes_of_length
-    first_code code_length code_of number_from bytes_of_bits payload_of code_at is_padding item_at text_at text_of_bits
-    string_at written_string static_table static_index static_name_index line_form written_line written_lines
-    encoder_instruction_form decoder_instruction_form written_encoder_instruction written_encoder_instructions
-    written_decoder_instruction written_decoder_instructions made_at form_at
-    prefix_for required_at read_required read_base read_prefix written_prefix prefix_at absolute_entry
-    relative_entry insertion effect
-    window_after window_of whole_window history_after static_field relative_field post_base_field line_field
-    fields_of references_of_line references_of
-    greatest_of reading fields_at reading_of_bytes written_block window with_number with_reference is_evictable
-    all_evictable has_room may_reference
-    with_entry last_position newest_index put with_capacity apply_encoder_instruction commit without_references
-    without_oldest without_stream with_increment apply_decoder_instruction
-    instruction_for rule_field rule alone one_block decoded_block acknowledged_block cancelled_stream stateless_at
-    stateless_reading skip_reason
+unfolding computed alone one_block decoded_block acknowledged_block cancelled_stream stateless_at stateless_reading
+    skip_reason
 rows = 0
 
 -- no fields
