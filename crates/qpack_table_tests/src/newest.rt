@@ -1,10 +1,8 @@
 //! The newest equal live entry, and how many entries are looked at for it.
 
-ghost use Rattle.std.specs.Prelude.{◌<◌};
-
 use qpack_base::field::HeaderField;
 use qpack_table::dynamic::{DynamicTable, Error, Steps};
-use qpack_testing::{field, same};
+use qpack_testing::{Numbers, field, same};
 use std::alloc::Global;
 use std::test::Fail;
 
@@ -53,22 +51,9 @@ fn finds(alloc: Global, table: &DynamicTable, name: &[u8], value: &[u8]) -> Resu
     same(steps.count() <= u64::from(digits), true)
 }
 
-/// Numbers that look random, from a fixed seed.
-#[derive(Drop)]
-struct Random {
-    state: u64,
-}
-
-impl Random {
-    /// A number below a bound of at most 256.
-    fn below(&mut self, bound: u8) -> u8
-        requires { 0 < bound }
-    {
-        self.state ^= self.state << 13;
-        self.state ^= self.state >> 7;
-        self.state ^= self.state << 17;
-        (self.state % u64::from(bound)) as u8
-    }
+/// A byte below a bound.
+fn below(numbers: &mut Numbers, bound: u8) -> u8 {
+    u8::try_from(numbers.below(usize::from(bound))).unwrap_or(0)
 }
 
 #[test]
@@ -112,16 +97,14 @@ fn an_empty_table_has_no_equal_entry(rt: HostRuntime) -> Result<(), Fail> {
 fn small_tables_find_what_a_scan_finds(rt: HostRuntime) -> Result<(), Fail> {
     let alloc = rt.alloc();
     let mut table = DynamicTable::new(alloc);
-    let mut random = Random {
-        state: 0x1234_5678_9ABC_DEF1,
-    };
+    let mut numbers = Numbers::new(0x1234_5678_9ABC_DEF1);
     for _ in 0..3000 {
-        if random.below(8) == 0 {
-            table.set_max_size(usize::from(random.below(201)))?;
+        if numbers.below(8) == 0 {
+            table.set_max_size(numbers.below(201))?;
         } else {
-            put(alloc, &mut table, &[random.below(2)], &[random.below(3)])?;
+            put(alloc, &mut table, &[below(&mut numbers, 2)], &[below(&mut numbers, 3)])?;
         }
-        finds(alloc, &table, &[random.below(2)], &[random.below(3)])?;
+        finds(alloc, &table, &[below(&mut numbers, 2)], &[below(&mut numbers, 3)])?;
     }
     Ok(())
 }
@@ -131,12 +114,10 @@ fn a_large_table_finds_what_a_scan_finds(rt: HostRuntime) -> Result<(), Fail> {
     let alloc = rt.alloc();
     let mut table = DynamicTable::new(alloc);
     table.set_max_size(4096)?;
-    let mut random = Random {
-        state: 0x0FED_CBA9_8765_4321,
-    };
+    let mut numbers = Numbers::new(0x0FED_CBA9_8765_4321);
     for _ in 0..1000 {
-        put(alloc, &mut table, &[random.below(8)], &[random.below(16)])?;
-        finds(alloc, &table, &[random.below(8)], &[random.below(16)])?;
+        put(alloc, &mut table, &[below(&mut numbers, 8)], &[below(&mut numbers, 16)])?;
+        finds(alloc, &table, &[below(&mut numbers, 8)], &[below(&mut numbers, 16)])?;
     }
     same(live_count(&table) > 100, true)
 }

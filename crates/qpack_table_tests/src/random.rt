@@ -3,33 +3,15 @@
 use crate::model::{Model, NAMES, Pair, VALUES};
 use qpack_base::field::HeaderField;
 use qpack_table::dynamic::{DynamicTable, DynamicTableEncoder, Error};
-use qpack_testing::{field, same};
+use qpack_testing::{Numbers, field, same};
 use std::alloc::Global;
 use std::test::Fail;
 
-/// Numbers that look random, the same each time.
-#[derive(Drop)]
-struct Numbers {
-    state: u64,
-}
-
-impl Numbers {
-    /// A number below another one.
-    fn below(&mut self, limit: usize) -> usize {
-        self.state = self
-            .state
-            .wrapping_mul(6_364_136_223_846_793_005)
-            .wrapping_add(1_442_695_040_888_963_407);
-        let number = (self.state >> 33) as usize;
-        number.checked_rem(limit).unwrap_or(0)
-    }
-
-    /// A field.
-    fn pair(&mut self) -> Pair {
-        Pair {
-            name: self.below(NAMES.len()),
-            value: self.below(VALUES.len()),
-        }
+/// A pair.
+fn any_pair(numbers: &mut Numbers) -> Pair {
+    Pair {
+        name: numbers.below(NAMES.len()),
+        value: numbers.below(VALUES.len()),
     }
 }
 
@@ -47,7 +29,7 @@ fn ask(
     model: &mut Model,
     numbers: &mut Numbers,
 ) -> Result<(), Fail> {
-    let pair = numbers.pair();
+    let pair = any_pair(numbers);
     let field = field_of(alloc, pair)?;
     if numbers.below(3) == 0 {
         let answer = match block.find(&field) {
@@ -115,7 +97,7 @@ fn other_call(
             same(table.set_max_size(capacity).is_ok(), model.resize(capacity))?;
         }
         1 => {
-            let pair = numbers.pair();
+            let pair = any_pair(numbers);
             let answer = match table.put(field_of(alloc, pair)?) {
                 Err(Error::Memory) => table.put(field_of(alloc, pair)?),
                 answer => answer,
@@ -148,7 +130,7 @@ fn run(alloc: Global, capacity: usize, limit: usize, seed: u64) -> Result<(), Fa
     table.set_max_size(capacity)?;
     table.set_max_blocked(limit)?;
     let mut model = Model::new(alloc, capacity, limit)?;
-    let mut numbers = Numbers { state: seed };
+    let mut numbers = Numbers::new(seed);
     for _ in 0..400 {
         one_block(alloc, &mut table, &mut model, &mut numbers)?;
         other_call(alloc, &mut table, &mut model, &mut numbers)?;

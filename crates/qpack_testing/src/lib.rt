@@ -6,6 +6,10 @@ ghost use Rattle.std.specs.Prelude.{◌≡◌, ◌↔◌, IsOk, IfOk, IsTrue, Ok
 ghost use Rattle.hex.specs.Hex.{decode_of};
 ghost use Rattle.qpack_base.specs.HeaderFields.{field_of};
 
+mod numbers;
+
+pub use numbers::Numbers;
+
 use hex::FromHexError;
 use qpack_base::coding::NoMemory;
 use qpack_base::field::HeaderField;
@@ -47,6 +51,18 @@ pub fn field(alloc: Global, name: &[u8], value: &[u8]) -> Result<HeaderField, No
         Ok(field) => Ok(field),
         Err(_) => HeaderField::from_pair(alloc, name, value),
     }
+}
+
+/// Names and values.
+pub type Pairs = &'static [(&'static [u8], &'static [u8])];
+
+/// The fields of names and values.
+pub fn fields(alloc: Global, pairs: Pairs) -> Result<Vec<HeaderField>, NoMemory> {
+    let mut fields = again(|| Vec::with_capacity(alloc, pairs.len()))?;
+    for (name, value) in pairs {
+        fields.push(field(alloc, name, value)?)?;
+    }
+    Ok(fields)
 }
 
 /// The bytes of a text in hexadecimal.
