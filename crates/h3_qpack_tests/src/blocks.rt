@@ -3,17 +3,16 @@
 use h3_qpack::coding::{Cursor, NoMemory};
 use h3_qpack::{Decoded, DecoderError, HeaderField, decode_stateless, encode_stateless};
 use linked_list_allocator::LocalHeap;
-use qpack_testing::{again, field, same};
+use qpack_testing::{again, field, fields, same};
 use std::alloc::Global;
 use std::test::Fail;
 
 /// Three fields, one in each form.
 fn three_fields(alloc: Global) -> Result<Vec<HeaderField>, NoMemory> {
-    let mut fields = again(|| Vec::with_capacity(alloc, 3))?;
-    fields.push(field(alloc, b":method", b"GET")?)?;
-    fields.push(field(alloc, b"age", b"1")?)?;
-    fields.push(field(alloc, b"foo", b"bar")?)?;
-    Ok(fields)
+    fields(
+        alloc,
+        &[(b":method", b"GET"), (b"age", b"1"), (b"foo", b"bar")],
+    )
 }
 
 #[test]

@@ -6,12 +6,9 @@ use h3_qpack::coding::Cursor;
 use h3_qpack::dynamic::DynamicTable;
 use h3_qpack::encoder::{Encoder, EncoderError};
 use linked_list_allocator::LocalHeap;
-use qpack_testing::{again, field, same};
+use qpack_testing::{Pairs, again, field, fields, same};
 use std::alloc::Global;
 use std::test::Fail;
-
-/// Names and values.
-type Pairs = &'static [(&'static [u8], &'static [u8])];
 
 /// What an encoder hears, and then the stream and the fields of a section.
 type Section = (&'static [u8], u64, Pairs);
@@ -28,18 +25,6 @@ fn encoder(alloc: Global, capacity: usize, limit: usize) -> Result<Encoder, Enco
     table.set_max_size(capacity)?;
     table.set_max_blocked(limit)?;
     Ok(Encoder::from(table))
-}
-
-/// Fields of names and values.
-fn fields(alloc: Global, pairs: Pairs) -> Result<Vec<HeaderField>, EncoderError> {
-    let mut fields = Vec::with_capacity(alloc, pairs.len())?;
-    for (name, value) in pairs {
-        match fields.push(field(alloc, name, value)?) {
-            Ok(()) => {}
-            Err(_) => return Err(EncoderError::Memory),
-        }
-    }
-    Ok(fields)
 }
 
 /// Appends bytes in hexadecimal, and a space; a dash for none.

@@ -5,7 +5,7 @@ use h3_qpack::decoder::DecoderError;
 use h3_qpack::encoder::EncoderError;
 use h3_qpack::session::{Event, Outcome, Session};
 use h3_qpack::{Decoded, HeaderField};
-use qpack_testing::{again, field, same};
+use qpack_testing::{Numbers, again, field, same};
 use std::alloc::Global;
 use std::test::Fail;
 
@@ -20,23 +20,7 @@ const PAIRS: [(&[u8], &[u8]); 6] = [
 ];
 
 /// How many streams a script uses.
-const STREAMS: u64 = 3;
-
-/// Numbers that look random, and are the same on every run.
-#[derive(Drop)]
-struct Random {
-    state: u64,
-}
-
-impl Random {
-    /// The next number below this one.
-    fn below(&mut self, bound: u64) -> u64 {
-        self.state ^= self.state << 13;
-        self.state ^= self.state >> 7;
-        self.state ^= self.state << 17;
-        self.state.checked_rem(bound).unwrap_or(0)
-    }
-}
+const STREAMS: usize = 3;
 
 /// What a stream was handed, block by block, as places in the list of pairs, and how many of its blocks were decoded.
 #[derive(Drop)]
@@ -49,16 +33,16 @@ struct Handed {
 }
 
 /// Some places in the list of pairs.
-fn places(alloc: Global, random: &mut Random) -> Result<Vec<usize>, NoMemory> {
+fn places(alloc: Global, numbers: &mut Numbers) -> Result<Vec<usize>, NoMemory> {
     let mut places = Vec::new(alloc);
-    for _ in 0..random.below(4) {
-        places.push(random.below(6) as usize)?;
+    for _ in 0..numbers.below(4) {
+        places.push(numbers.below(6))?;
     }
     Ok(places)
 }
 
 /// The fields at these places.
-fn fields(alloc: Global, places: &[usize]) -> Result<Vec<HeaderField>, NoMemory> {
+fn fields_at(alloc: Global, places: &[usize]) -> Result<Vec<HeaderField>, NoMemory> {
     let mut fields = Vec::new(alloc);
     for place in places {
         if let Some((name, value)) = PAIRS.get(*place) {
@@ -81,12 +65,12 @@ fn are_at(decoded: &Decoded, places: &[usize]) -> Result<(), Fail> {
 /// A block of a stream is encoded, and what was handed is noted.
 fn encodes(
     alloc: Global,
-    random: &mut Random,
+    numbers: &mut Numbers,
     session: &mut Session,
     handed: &mut Handed,
 ) -> Result<(), Fail> {
-    let places = again(|| places(alloc, random))?;
-    let event = Event::Encode(handed.stream, again(|| fields(alloc, places.as_slice()))?);
+    let places = again(|| places(alloc, numbers))?;
+    let event = Event::Encode(handed.stream, again(|| fields_at(alloc, places.as_slice()))?);
     again(|| handed.blocks.reserve(1))?;
     match session.step(&event) {
         Outcome::Encoded(Ok(_)) => {
@@ -118,12 +102,12 @@ fn decodes(session: &mut Session, handed: &mut Handed) -> Result<(), Fail> {
 }
 
 /// Any other event: no stream is refused.
-fn goes(random: &mut Random, session: &mut Session, stream: u64) -> Result<(), Fail> {
-    let event = match random.below(6) {
-        0 | 1 => Event::ToDecoder(random.below(20) as usize),
-        2 | 3 => Event::ToEncoder(random.below(4) as usize),
-        4 => Event::SetCapacity(random.below(200) as usize),
-        _ => match random.below(8) {
+fn goes(numbers: &mut Numbers, session: &mut Session, stream: u64) -> Result<(), Fail> {
+    let event = match numbers.below(6) {
+        0 | 1 => Event::ToDecoder(numbers.below(20)),
+        2 | 3 => Event::ToEncoder(numbers.below(4)),
+        4 => Event::SetCapacity(numbers.below(200)),
+        _ => match numbers.below(8) {
             0 => Event::Cancel(stream),
             _ => Event::Ack(stream),
         },
@@ -138,14 +122,14 @@ fn goes(random: &mut Random, session: &mut Session, stream: u64) -> Result<(), F
 /// Some event on a stream.
 fn acts(
     alloc: Global,
-    random: &mut Random,
+    numbers: &mut Numbers,
     session: &mut Session,
     handed: &mut Handed,
 ) -> Result<(), Fail> {
-    match random.below(4) {
-        0 => encodes(alloc, random, session, handed),
+    match numbers.below(4) {
+        0 => encodes(alloc, numbers, session, handed),
         1 => decodes(session, handed),
-        _ => goes(random, session, handed.stream),
+        _ => goes(numbers, session, handed.stream),
     }
 }
 
@@ -154,7 +138,7 @@ fn streams(alloc: Global) -> Result<Vec<Handed>, NoMemory> {
     let mut streams = Vec::new(alloc);
     for stream in 0..STREAMS {
         streams.push(Handed {
-            stream,
+            stream: stream as u64,
             blocks: Vec::new(alloc),
             decoded: 0,
             dynamic: 0,
@@ -173,15 +157,15 @@ fn dynamic_in(streams: &[Handed]) -> usize {
 }
 
 /// One script; answers how many decoded blocks referenced the table.
-fn script(alloc: Global, random: &mut Random) -> Result<usize, Fail> {
-    let capacity = random.below(200) as usize;
-    let limit = random.below(4) as usize;
+fn script(alloc: Global, numbers: &mut Numbers) -> Result<usize, Fail> {
+    let capacity = numbers.below(200);
+    let limit = numbers.below(4);
     let mut session = Session::new(alloc, capacity, limit)?;
     let mut streams = again(|| streams(alloc))?;
     for _ in 0..60u32 {
-        let at = random.below(STREAMS) as usize;
+        let at = numbers.below(STREAMS);
         if let Some(handed) = streams.get_mut(at) {
-            acts(alloc, random, &mut session, handed)?;
+            acts(alloc, numbers, &mut session, handed)?;
         }
     }
     Ok(dynamic_in(streams.as_slice()))
@@ -189,12 +173,10 @@ fn script(alloc: Global, random: &mut Random) -> Result<usize, Fail> {
 
 #[test]
 fn each_decode_of_random_scripts_is_exact(rt: HostRuntime) -> Result<(), Fail> {
-    let mut random = Random {
-        state: 0x9e37_79b9_7f4a_7c15,
-    };
+    let mut numbers = Numbers::new(0x9e37_79b9_7f4a_7c15);
     let mut dynamic = 0usize;
     for _ in 0..10_000u32 {
-        dynamic = dynamic.saturating_add(script(rt.alloc(), &mut random)?);
+        dynamic = dynamic.saturating_add(script(rt.alloc(), &mut numbers)?);
     }
     same(dynamic > 10_000, true)
 }

@@ -4,12 +4,9 @@ use h3_qpack::coding::{Cursor, NoMemory};
 use h3_qpack::decoder::{Decoded, Decoder, DecoderError};
 use h3_qpack::dynamic;
 use h3_qpack::session::{Event, Outcome, Session, run};
-use qpack_testing::{again, bytes, field, same};
+use qpack_testing::{Pairs, again, bytes, field, fields, same};
 use std::alloc::Global;
 use std::test::Fail;
-
-/// Names and values.
-type Pairs = &'static [(&'static [u8], &'static [u8])];
 
 /// An event. A decode tells besides which block of its stream is the oldest undecoded one, from 0.
 #[derive(Clone, Copy)]
@@ -29,15 +26,6 @@ type Case = (Given, &'static str, &'static [u8], &'static [u8]);
 const FOO_BAR: Pairs = &[(b"foo", b"bar")];
 
 const BAZ_BAR: Pairs = &[(b"baz", b"bar")];
-
-/// The fields of these pairs.
-fn fields(alloc: Global, pairs: Pairs) -> Result<Vec<h3_qpack::HeaderField>, NoMemory> {
-    let mut fields = Vec::with_capacity(alloc, pairs.len())?;
-    for (name, value) in pairs {
-        fields.push(field(alloc, name, value)?)?;
-    }
-    Ok(fields)
-}
 
 /// The event.
 fn event(alloc: Global, given: &Given) -> Result<Event, NoMemory> {
