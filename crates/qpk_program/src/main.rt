@@ -1,23 +1,12 @@
-//! QPACK on the command line: fields to blocks and back (RFC 9204).
+//! The program `qpk`: QPACK on the command line (RFC 9204).
 #![tactic(auto)]
 
-mod inspect;
-mod lines;
-mod outcomes;
-mod refusal;
-mod run;
-mod script;
-mod serve;
-#[cfg(test)]
-mod tests;
-mod text;
-mod writing;
-
-use refusal::Refusal;
+use qpk::refusal::Refusal;
+use qpk::serve;
+use qpk::text::Fault;
 use std::env;
 use std::io::ErrorKind;
 use std::process::ExitCode;
-use text::Fault;
 
 fn main(rt: HostRuntime) -> ExitCode {
     let status = match read_words(&rt) {

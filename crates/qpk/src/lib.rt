@@ -1,0 +1,14 @@
+//! QPACK as text (RFC 9204): fields to blocks and back, recorded connections inspected, scripts of sessions run; and
+//! the program `qpk` over any words, reader and writers.
+#![tactic(auto)]
+
+mod inspect;
+mod lines;
+mod outcomes;
+mod printing;
+pub mod refusal;
+mod run;
+mod script;
+pub mod serve;
+pub mod text;
+mod writing;
