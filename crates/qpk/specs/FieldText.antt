@@ -1,6 +1,8 @@
 -- Text of header fields: a field a line, its name and its value parted by the first TAB.
-use Rattle.std.specs.Prelude.{ℕ, ◌+◌, List, [], ◌∷◌, Option, Some, None, Result, Ok, Err, nat_eq, if◌then◌else◌}
+use Rattle.std.specs.Prelude.{ℕ, ◌+◌, List, [], ◌∷◌, ◌++◌, Option, Some, None, Result, Ok, Err, nat_eq, if◌then◌else◌}
+use Rattle.std.specs.List.{flat_map}
 use Rattle.qpack_spec.specs.Field.{Field}
+use Rattle.qpack_base.specs.HeaderFields.{text_of}
 
 -- a byte more at the front of the first line
 abbrev pub with_byte : ℕ → List (List ℕ) → List (List ℕ)
@@ -33,3 +35,7 @@ with_field n (Some f) (Ok fs) = Ok (f ∷ fs)
 abbrev pub fields_from : ℕ → List (List ℕ) → Result (List Field) ℕ
 fields_from n [] = Ok []
 fields_from n (line ∷ lines) = with_field n (field_of_line line) (fields_from (n + 1) lines)
+
+-- fields as they are printed, a line each
+abbrev pub text_of_fields : List Field → List ℕ
+text_of_fields fs = flat_map (λ f. text_of f ++ 10 ∷ []) fs

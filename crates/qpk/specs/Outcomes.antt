@@ -1,15 +1,14 @@
 -- What an event of a script prints.
-use Rattle.std.specs.Prelude.{◌≡◌, ℕ, List, ◌++◌, [], ◌∷◌, length, codes, Option, None, Some, Ok, Err}
+use Rattle.std.specs.Prelude.{◌≡◌, ℕ, List, ◌++◌, length, codes, Option, None, Some, Ok, Err}
 use Rattle.std.specs.Fmt.{decimal}
-use Rattle.std.specs.List.{flat_map}
 use Rattle.qpack_spec.specs.Field.{Field}
-use Rattle.qpack_base.specs.HeaderFields.{text_of}
 use Rattle.h3_qpack.specs.Stateless.{fields_in}
 use Rattle.h3_qpack.specs.declared.decoder.DecoderError.{DecoderError}
 use Rattle.h3_qpack.specs.declared.decoder.DecoderError.TheVariants.{MissingRefs}
 use Rattle.h3_qpack.specs.declared.session.Outcome.{Outcome}
 use Rattle.h3_qpack.specs.declared.session.Outcome.TheVariants.{Encoded, Decoded, Delivered, Heard, Acknowledged}
 use Rattle.h3_qpack.specs.declared.session.Outcome.TheVariants.{Cancelled, CapacitySet, Skipped}
+use Rattle.qpk.specs.FieldText.{text_of_fields}
 use Rattle.qpk.specs.Inspecting.{hexadecimal, index_text}
 
 -- a word and the bytes that were added to a stream
@@ -25,8 +24,7 @@ encoded_text required block added =
 -- the sum of the fields' sizes (section 3.2.1), their number, and the fields, a line each
 abbrev pub decoded_text : ℕ → List Field → List ℕ
 decoded_text size fs =
-    codes "decoded " ++ decimal size ++ codes " " ++ decimal (length fs) ++ codes "\n"
-    ++ flat_map (λ f. text_of f ++ 10 ∷ []) fs
+    codes "decoded " ++ decimal size ++ codes " " ++ decimal (length fs) ++ codes "\n" ++ text_of_fields fs
 
 -- how many insertions were ever received, and the bytes that were added to the decoder stream
 abbrev pub received_text : ℕ → List ℕ → List ℕ

@@ -2,13 +2,12 @@
 use Rattle.std.specs.Prelude.{◌≡◌, ℕ, ◌^◌, ◌<◌, ◌⊎◌, List, [], ◌∷◌, ◌++◌, Ok, Result, Err, Option, None, Some, map}
 use Rattle.std.specs.Prelude.{codes, IfSome}
 use Rattle.std.specs.Prelude.{string_bytes, String}
-use Rattle.std.specs.List.{flat_map}
 use Rattle.std.specs.Str.Parse.{IsNumeral, digits_value, without_leading_plus}
 use Rattle.std.specs.Fmt.{decimal}
 use Rattle.hex.specs.Hex.{decode_of}
 use Rattle.qpack_spec.specs.Field.{Field, total_size}
-use Rattle.qpack_base.specs.HeaderFields.{text_of}
 use Rattle.qpack_spec.specs.Stateless.{saturated_size, stateless_reading}
+use Rattle.qpk.specs.FieldText.{text_of_fields}
 use Rattle.qpk.specs.Answers.{encode_answer, without_feed, FailsText, FailsHexadecimal}
 use Rattle.qpk.specs.declared.serve.Command.{Command}
 use Rattle.qpk.specs.declared.serve.Command.TheVariants.{Encode, Decode, Inspect, Run}
@@ -53,8 +52,7 @@ AsksForNothing words = (command : Command) → AsksFor words command → ⊥
 
 -- fields as they are printed: a line each, and the line of their size
 abbrev pub printed_fields : List Field → List ℕ
-printed_fields fs = flat_map (λ f. text_of f ++ 10 ∷ []) fs ++ codes "size "
-    ++ decimal (saturated_size (total_size fs)) ++ 10 ∷ []
+printed_fields fs = text_of_fields fs ++ codes "size " ++ decimal (saturated_size (total_size fs)) ++ 10 ∷ []
 
 -- the output that answers a command's input
 abbrev pub Answers : Command → List ℕ → List ℕ → Type 0

@@ -15,7 +15,6 @@ use std::alloc::Global;
 mod blocks;
 mod events;
 mod instructions;
-pub mod printing;
 
 use blocks::inspect_block;
 use events::{Event, read_events};

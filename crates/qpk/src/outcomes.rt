@@ -1,15 +1,14 @@
 //! The lines that an event of a script prints.
 
-ghost use Rattle.std.specs.Prelude.{◌≡◌, ◌++◌, List, ℕ, IfOk, codes, string_bytes};
+ghost use Rattle.std.specs.Prelude.{◌≡◌, IfOk, string_bytes};
 ghost use Rattle.h3_qpack.specs.Stateless.{fields_in};
 ghost use Rattle.qpk.specs.Outcomes.{added_text, encoded_text, decoded_text, received_text, PrintsOutcome};
 
-use crate::inspect::printing::{hexadecimal, index_line};
+use crate::printing::{hexadecimal, index_line, refused_line, text_of_fields};
 use h3_qpack::coding::NoMemory;
 use h3_qpack::session::Outcome;
 use h3_qpack::{Decoded, DecoderError};
 use std::alloc::Global;
-use std::fmt::Display;
 
 /// What an event prints: its outcome, with the bytes of the block that it made, if it made one, and those that it
 /// added to a stream, in lower-case hexadecimal, a minus for none. Where it is refused, this is told in the words of
@@ -67,10 +66,7 @@ fn decoded_lines(alloc: Global, decoded: &Decoded) -> Result<String, NoMemory>
     let size = decoded.mem_size;
     let count = decoded.fields.len();
     let mut text = format!(in alloc; "decoded {size} {count}\n")?;
-    for field in &decoded.fields {
-        text.push_str(field.to_text(alloc)?.as_str())?;
-        text.push('\n')?;
-    }
+    text.push_str(text_of_fields(alloc, &decoded.fields)?.as_str())?;
     Ok(text)
 }
 
@@ -89,12 +85,4 @@ fn added_line(alloc: Global, word: &str, added: &[u8]) -> Result<String, NoMemor
 {
     let added = hexadecimal(alloc, added)?;
     Ok(format!(in alloc; "{word} {added}\n")?)
-}
-
-/// The line of an event that is refused.
-fn refused_line<E: Display>(alloc: Global, e: &E) -> Result<String, NoMemory>
-    ensures { IfOk result (λ text. (words : List ℕ) × (string_bytes text ≡ codes "refused " ++ words ++ codes "\n")) }
-{
-    let words = e.to_string(alloc)?;
-    Ok(format!(in alloc; "refused {words}\n")?)
 }

@@ -1,16 +1,15 @@
 //! A block of a recorded connection (RFC 9204, section 4.5).
 
-ghost use Rattle.std.specs.Prelude.{◌≡◌, ◌++◌, List, ℕ, IfOk, IfErr, codes, map, string_bytes};
+ghost use Rattle.std.specs.Prelude.{◌≡◌, IfOk, map, string_bytes};
 ghost use Rattle.std.specs.List.{flat_map};
 ghost use Rattle.qpack_wire.specs.BlockLines.{line_of};
 ghost use Rattle.qpk.specs.Inspecting.{line_text};
 ghost use Rattle.qpack_spec.specs.Field.{total_size};
 ghost use Rattle.qpack_spec.specs.Stateless.{saturated_size};
 ghost use Rattle.h3_qpack.specs.Stateless.{fields_in};
-ghost use Rattle.qpk.specs.declared.text.Fault.TheVariants.{Memory};
 ghost use Rattle.qpk.specs.Inspections.{InspectsBlock, PrintsSection};
 
-use crate::inspect::printing::{block_line, index_line, numbers_line};
+use crate::printing::{block_line, index_line, numbers_line, refused_line};
 use crate::text::Fault;
 use h3_qpack::block::{BlockLine, read_block};
 use h3_qpack::coding::Cursor;
@@ -35,16 +34,6 @@ pub fn inspect_block(
         Err(e) => refused_line(alloc, &e)?,
     };
     Ok(text.push_str(line.as_str())?)
-}
-
-/// The line of a block that is refused.
-fn refused_line(alloc: Global, e: &DecoderError) -> Result<String, Fault>
-    ensures text { IfOk result (λ text. (words : List ℕ)
-        × (string_bytes text ≡ codes "refused " ++ words ++ codes "\n")) }
-    ensures memory { IfErr result (λ fault. fault ≡ Memory) }
-{
-    let words = e.to_string(alloc)?;
-    Ok(format!(in alloc; "refused {words}\n")?)
 }
 
 /// The lines of a block that was decoded.

@@ -4,7 +4,7 @@ ghost use Rattle.std.specs.Prelude.{◌≡◌, string_bytes};
 ghost use Rattle.qpack_spec.specs.Instruction.{EncoderInstruction, SpellsEncoderInstruction};
 ghost use Rattle.qpk.specs.Inspections.{Hears, HearsNext, ReadsNext, AppliesWhole};
 
-use crate::inspect::printing::{index_line, instruction_line};
+use crate::printing::{index_line, instruction_line};
 use crate::text::Fault;
 use h3_qpack::DecoderError;
 use h3_qpack::coding::Cursor;

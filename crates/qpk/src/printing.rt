@@ -1,19 +1,24 @@
-//! The printed lines of instructions and of field lines.
+//! The lines that are printed, by whichever command.
 
-ghost use Rattle.std.specs.Prelude.{◌≡◌, IfOk, IsErr, string_bytes};
+ghost use Rattle.std.specs.Prelude.{◌≡◌, ◌++◌, List, ℕ, IfOk, codes, string_bytes};
 ghost use Rattle.qpack_wire.specs.BlockLines.{line_of};
 ghost use Rattle.qpack_wire.specs.StreamLines.{encoder_instruction_of};
+ghost use Rattle.h3_qpack.specs.Stateless.{fields_in};
+ghost use Rattle.qpk.specs.FieldText.{text_of_fields};
 ghost use Rattle.qpk.specs.Inspecting.{hexadecimal, index_text, index_value_text, name_value_text};
 ghost use Rattle.qpk.specs.Inspecting.{numbers_text, instruction_text, line_text};
 
+use h3_qpack::HeaderField;
 use h3_qpack::block::{
     BlockLine, Indexed, IndexedWithPostBase, Literal, LiteralWithNameRef,
     LiteralWithPostBaseNameRef,
 };
+use h3_qpack::coding::NoMemory;
 use h3_qpack::stream::{
     Duplicate, DynamicTableSizeUpdate, EncoderLine, InsertWithNameRef, InsertWithoutNameRef,
 };
 use std::alloc::{AllocError, Global};
+use std::fmt::Display;
 
 /// Bytes in lower-case hexadecimal, a minus for none.
 pub fn hexadecimal(alloc: Global, bytes: &[u8]) -> Result<String, AllocError>
@@ -23,6 +28,26 @@ pub fn hexadecimal(alloc: Global, bytes: &[u8]) -> Result<String, AllocError>
         return String::from_str(alloc, "-");
     }
     hex::encode(alloc, bytes)
+}
+
+/// Fields, a line each.
+pub fn text_of_fields(alloc: Global, fields: &[HeaderField]) -> Result<String, NoMemory>
+    ensures { IfOk result (λ text. string_bytes text ≡ text_of_fields (fields_in fields.now)) }
+{
+    let mut text = String::new(alloc);
+    for field in fields {
+        text.push_str(field.to_text(alloc)?.as_str())?;
+        text.push('\n')?;
+    }
+    Ok(text)
+}
+
+/// The line of what was refused, in the words of its error.
+pub fn refused_line<E: Display>(alloc: Global, e: &E) -> Result<String, NoMemory>
+    ensures { IfOk result (λ text. (words : List ℕ) × (string_bytes text ≡ codes "refused " ++ words ++ codes "\n")) }
+{
+    let words = e.to_string(alloc)?;
+    Ok(format!(in alloc; "refused {words}\n")?)
 }
 
 /// Words and an index.
