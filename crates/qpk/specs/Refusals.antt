@@ -18,15 +18,14 @@ fault_text Capacity = Some (codes "refused: capacity")
 fault_text Limit = Some (codes "refused: limit")
 fault_text Memory = Some (codes "refused: memory")
 
--- the line that tells a fault, with its line feed: of a refused block its words are the decoder's
+-- the line that tells a text, with its line feed; of a refused block its words are the decoder's
+abbrev pub IsTextLine : Option (List ℕ) → List ℕ → Type 0
+IsTextLine (Some text) line = line ≡ codes "qpk: " ++ text ++ 10 ∷ []
+IsTextLine None line = (words : List ℕ) × (line ≡ codes "qpk: refused: " ++ words ++ 10 ∷ [])
+
+-- the line that tells a fault
 abbrev pub IsFaultLine : Fault → List ℕ → Type 0
-IsFaultLine (NoTab n) line = line ≡ codes "qpk: line " ++ decimal n ++ (codes ": no tab" ++ 10 ∷ [])
-IsFaultLine (BadEvent n) line = line ≡ codes "qpk: line " ++ decimal n ++ (codes ": bad event" ++ 10 ∷ [])
-IsFaultLine NotHexadecimal line = line ≡ codes "qpk: not hexadecimal" ++ 10 ∷ []
-IsFaultLine (Refused e) line = (words : List ℕ) × (line ≡ codes "qpk: refused: " ++ words ++ 10 ∷ [])
-IsFaultLine Capacity line = line ≡ codes "qpk: refused: capacity" ++ 10 ∷ []
-IsFaultLine Limit line = line ≡ codes "qpk: refused: limit" ++ 10 ∷ []
-IsFaultLine Memory line = line ≡ codes "qpk: refused: memory" ++ 10 ∷ []
+IsFaultLine fault line = IsTextLine (fault_text fault) line
 
 -- the line that tells a refusal, with its line feed
 abbrev pub IsLineOf : Refusal → List ℕ → Type 0

@@ -52,12 +52,9 @@ fn fault_line(alloc: Global, fault: &Fault) -> Result<CowStr<'static, Global>, A
     ensures { IfOk result (λ line. IsFaultLine fault.now (cow_str_bytes line)) }
 {
     match fault {
-        Fault::NoTab(number) => Ok(CowStr::Owned(format!(in alloc;
-            "qpk: line {number}: no tab\n"
-        )?)),
-        Fault::BadEvent(number) => Ok(CowStr::Owned(format!(in alloc;
-            "qpk: line {number}: bad event\n"
-        )?)),
+        Fault::NoTab(_) | Fault::BadEvent(_) => {
+            Ok(CowStr::Owned(format!(in alloc; "qpk: {fault}\n")?))
+        }
         Fault::NotHexadecimal => Ok(CowStr::Borrowed("qpk: not hexadecimal\n")),
         Fault::Refused(e) => {
             let words = e.to_string(alloc)?;
