@@ -1,11 +1,17 @@
 -- Lines and their fields, parted at the first line feed and the first TAB.
 use Rattle.std.proofs.Common.{◌≡◌, ℕ, suc, ◌+◌, ◌<◌, ◌≤◌, Bool, true, false, not, cond, eqb, List, [], ◌∷◌, length}
-use Rattle.std.proofs.Common.{take, drop, Option, Some, None, refl, sym, ap, ◌∙◌, inl, inr, arith}
+use Rattle.std.proofs.Common.{◌++◌, take, drop, Option, Some, None, Result, Ok, Err, refl, sym, ap, ◌∙◌, inl, inr}
+use Rattle.std.proofs.Common.{arith}
 use Rattle.std.specs.Prelude.{position, MatchOption, unwrap_or}
 use Rattle.std.specs.Borrow.{Bor}
 use Rattle.std.specs.List.{position_or_len}
 use Rattle.std.proofs.lemmas.Bool.{cases_lt, lt-ltb, le-ltb}
 use Rattle.qpk.specs.FieldText.{with_byte, lines_of, with_name_byte, field_of_line}
+
+-- what stands in the lines so far, before what stands in the rest
+abbrev pub with_front : {A : Type 0} → List A → Result (List A) ℕ → Result (List A) ℕ
+with_front front (Ok items) = Ok (front ++ items)
+with_front front (Err n) = Err n
 
 abbrev at : ℕ → List ℕ → ℕ
 at byte bytes = position_or_len (λ b. eqb b byte) bytes

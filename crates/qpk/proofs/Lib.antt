@@ -3,7 +3,6 @@ pub mod Parts
 pub mod ScriptRuns
 pub mod Texts
 pub mod OneInstruction
-pub mod Events
 pub mod EmptyTables
 pub mod HeardLines
 pub mod InspectedEvents

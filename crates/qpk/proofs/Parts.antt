@@ -10,7 +10,6 @@ use Rattle.std.specs.Str.Parse.{AllDigits, IsNumeral, digits_value, without_lead
 use Rattle.std.proofs.lemmas.Str.{IsUtf8-from_ascii}
 use Rattle.std.proofs.lemmas.Str.Parse.{IsNumeralModel, numerals_by_value, tells_all_ascii_digits, digit_from_value}
 use Rattle.qpack_spec.specs.Field.{Field}
-use Rattle.qpack_spec.specs.Session.{Event}
 use Rattle.qpk.specs.FieldText.{with_byte, with_name_byte, field_of_line}
 use Rattle.qpk.specs.Scripts.{parts_of, number_of_digits, number_of, event_alone}
 
@@ -127,9 +126,3 @@ no_text_no_number part n = not_decimal (without_leading_plus part) (λ a.
 abbrev pub with_fields : List Field → Option (List Field) → Option (List Field)
 with_fields front None = None
 with_fields front (Some fs) = Some (front ++ fs)
-
--- ---- events
-
-abbrev pub with_events : List Event → Result (List Event) ℕ → Result (List Event) ℕ
-with_events front (Ok events) = Ok (front ++ events)
-with_events front (Err n) = Err n

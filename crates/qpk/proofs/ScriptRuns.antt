@@ -2,7 +2,7 @@
 use Rattle.std.proofs.Common.{◌≡◌, ◌<◌, ◌≤◌, ◌⊎◌, inl, inr, ℕ, zero, suc, ◌+◌, ◌-◌, List, [], ◌∷◌, ◌++◌, length, take}
 use Rattle.std.proofs.Common.{drop, map, get_or, slice_get, slice_range, Option, Some, None, MatchOption, Result, Ok}
 use Rattle.std.proofs.Common.{Err, IfOk, refl, sym, ap, subst, ◌∙◌, append_assoc, append-nil, add-one, arith, take_all}
-use Rattle.std.proofs.Common.{length-drop, drop_of_length-le}
+use Rattle.std.proofs.Common.{drop_of_length-le}
 use Rattle.std.specs.Borrow.{Bor}
 use Rattle.std.specs.Prelude.{unwrap_or}
 use Rattle.qpack_spec.specs.Session as spec
@@ -23,6 +23,7 @@ use Rattle.qpk.specs.Runs.{printed_answer, written_stream, bytes_of_block, newes
 use Rattle.qpk.specs.Runs.{PrintsEvents, PrintsOne, PrintsAll, stored_stream_bytes, bytes_of_stored, newest_stored}
 use Rattle.qpk.specs.Runs.{stored_block_bytes, PrintsRun}
 use Rattle.qpk.specs.Scripts.{events_in, script_events}
+use Rattle.qpk.proofs.Writes.{rest_is}
 
 -- ---- the bytes of a session that is shown
 
@@ -210,10 +211,6 @@ script_runs capacity limit text out read events first last are (v, begins, shows
     }
 
 -- ---- what was added to a stream
-
-rest_is : (xs : List ℕ) (n : ℕ) → take (length xs - n) (drop n xs) ≡ drop n xs
-rest_is xs n = take_all (length xs - n) (drop n xs)
-    (subst (λ (k : ℕ). k ≤ length xs - n) (sym (length-drop n xs)) (omega arith))
 
 pub added_is : (P : Bor (List ℕ) → Type 0) (xs : List ℕ) (n : ℕ) (o : Option (Bor (List ℕ))) (none r : Bor (List ℕ))
     → MatchOption o ((length xs < n) ⊎ (length xs < length xs))

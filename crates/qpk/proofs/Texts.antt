@@ -1,10 +1,10 @@
--- The fields of the lines, one by one.
-use Rattle.std.proofs.Common.{◌≡◌, ℕ, List, [], ◌++◌, Result, Ok, Err, refl}
+-- The block of the fields of a text, in hexadecimal.
+use Rattle.std.proofs.Common.{◌≡◌, ℕ, List, [], ◌++◌, Ok, refl}
 use Rattle.std.proofs.iter.Yields.{fronts}
 use Rattle.std.specs.Slice.Iter.{iter_rest}
 use Rattle.std.specs.declared.slice.Iter.{Iter}
 use Rattle.hex.specs.Hex.{encode_lower}
-use Rattle.qpack_spec.specs.Field.{Field, total_size}
+use Rattle.qpack_spec.specs.Field.{total_size}
 use Rattle.qpack_spec.specs.BlockReading.{written_block}
 use Rattle.qpack_spec.specs.Stateless.{stateless_block, saturated_size}
 use Rattle.qpack_base.specs.declared.field.HeaderField.{HeaderField}
@@ -13,12 +13,6 @@ use Rattle.qpack_base.proofs.FieldLists.{fields_from_slice}
 use Rattle.h3_qpack.specs.Stateless.{fields_in}
 use Rattle.qpk.specs.Answers.{encode_answer}
 use Rattle.qpk.specs.FieldText.{lines_of, fields_from}
-
-abbrev pub with_front : List Field → Result (List Field) ℕ → Result (List Field) ℕ
-with_front front (Ok fs) = Ok (front ++ fs)
-with_front front (Err n) = Err n
-
--- ---- the block of a text's fields, in hexadecimal
 
 pub encoded : (bytes : List ℕ) (s : Iter HeaderField) (xs : List HeaderField) (before block text : List ℕ) (size : ℕ)
     → before ≡ [] → iter_rest s ≡ xs → fields_from 1 (lines_of bytes) ≡ Ok (fields_in xs)

@@ -16,7 +16,7 @@ use Rattle.h3_qpack.specs.declared.decoder.DecoderError.{DecoderError}
 use Rattle.h3_qpack.specs.declared.decoder.DecoderError.TheVariants as decoder
 use Rattle.qpk.specs.FieldText.{lines_of, fields_from}
 use Rattle.qpk.specs.declared.text.Fault.{Fault}
-use Rattle.qpk.specs.declared.text.Fault.TheVariants.{NoTab, NotHexadecimal, Refused, Memory}
+use Rattle.qpk.specs.declared.text.Fault.TheVariants.{NoTab, BadEvent, NotHexadecimal, Refused, Memory}
 
 -- the block of fields, in lower-case hexadecimal
 abbrev pub fields_text : Result (List Field) ℕ → Result (List ℕ) ℕ
@@ -32,6 +32,12 @@ abbrev pub FailsText : {A : Type 0} → Fault → Result A ℕ → Type 0
 FailsText (NoTab n) read = read ≡ Err n
 FailsText Memory read = Unit {0}
 FailsText fault read = ⊥
+
+-- a fault is the number of the first line that is no event, or want of memory
+abbrev pub FailsEvents : {A : Type 0} → Fault → Result A ℕ → Type 0
+FailsEvents (BadEvent n) read = read ≡ Err n
+FailsEvents Memory read = Unit {0}
+FailsEvents fault read = ⊥
 
 abbrev pub EncodesText : {Z : Type 0} → Result (String Z) Fault → Result (List ℕ) ℕ → Type 0
 EncodesText (Ok text) read = read ≡ Ok (string_bytes text)

@@ -25,16 +25,16 @@ field_of_line [] = None
 field_of_line (b ∷ bytes) = if nat_eq b 9 then Some (record { name = []; value = bytes }) else with_name_byte b
     (field_of_line bytes)
 
--- a field more at the front
-abbrev pub with_field : ℕ → Option Field → Result (List Field) ℕ → Result (List Field) ℕ
-with_field n None more = Err n
-with_field n (Some f) (Err m) = Err m
-with_field n (Some f) (Ok fs) = Ok (f ∷ fs)
+-- what a line stands for, if it does, more at the front
+abbrev pub with_item : {A : Type 0} → ℕ → Option A → Result (List A) ℕ → Result (List A) ℕ
+with_item n None more = Err n
+with_item n (Some item) (Err m) = Err m
+with_item n (Some item) (Ok items) = Ok (item ∷ items)
 
 -- the field of each line, or the number of the first line without a TAB, the lines being numbered from n
 abbrev pub fields_from : ℕ → List (List ℕ) → Result (List Field) ℕ
 fields_from n [] = Ok []
-fields_from n (line ∷ lines) = with_field n (field_of_line line) (fields_from (n + 1) lines)
+fields_from n (line ∷ lines) = with_item n (field_of_line line) (fields_from (n + 1) lines)
 
 -- fields as they are printed, a line each
 abbrev pub text_of_fields : List Field → List ℕ

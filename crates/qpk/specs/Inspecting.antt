@@ -21,7 +21,7 @@ use Rattle.qpack_wire.specs.Blocks.{SpellsBlock}
 use Rattle.h3_qpack.specs.Receiving.{TakesInstructions}
 use Rattle.h3_qpack.specs.declared.decoder.DecoderError.{DecoderError}
 use Rattle.h3_qpack.specs.declared.decoder.DecoderError.TheVariants.{Memory}
-use Rattle.qpk.specs.FieldText.{lines_of, field_of_line}
+use Rattle.qpk.specs.FieldText.{lines_of, field_of_line, with_item}
 
 -- ---- the input: a line an event
 
@@ -50,16 +50,10 @@ event_of_field (Some f) = event_of_bytes f.name (decode_of f.value)
 abbrev pub event_of_line : List ℕ → Option Event
 event_of_line line = event_of_field (field_of_line line)
 
--- an event more at the front
-abbrev pub with_event : ℕ → Option Event → Result (List Event) ℕ → Result (List Event) ℕ
-with_event n None more = Err n
-with_event n (Some event) (Err m) = Err m
-with_event n (Some event) (Ok events) = Ok (event ∷ events)
-
 -- the event of each line, or the number of the first line that is none, the lines being numbered from n
 abbrev pub events_from : ℕ → List (List ℕ) → Result (List Event) ℕ
 events_from n [] = Ok []
-events_from n (line ∷ lines) = with_event n (event_of_line line) (events_from (n + 1) lines)
+events_from n (line ∷ lines) = with_item n (event_of_line line) (events_from (n + 1) lines)
 
 -- the events of an input
 abbrev pub events_of : List ℕ → Result (List Event) ℕ

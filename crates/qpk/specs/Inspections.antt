@@ -11,6 +11,7 @@ use Rattle.qpack_wire.specs.declared.stream.encoder_stream.EncoderLine.{EncoderL
 use Rattle.h3_qpack.specs.Receiving.{Stops, TakesOne}
 use Rattle.h3_qpack.specs.declared.decoder.DecoderError.{DecoderError}
 use Rattle.h3_qpack.specs.declared.decoder.DecoderError.TheVariants as decoder
+use Rattle.qpk.specs.Answers.{FailsEvents}
 use Rattle.qpk.specs.Inspecting.{Event, Piece, Section, events_of, instruction_text, HearsAll, HearsUntil, PrintsBlock}
 use Rattle.qpk.specs.Inspecting.{PrintsLines}
 use Rattle.qpk.specs.Inspecting.{Inspects, PrintsInspection}
@@ -39,12 +40,6 @@ NamesEvent (Some event) read = read ≡ Some (event_of event)
 abbrev pub ReadsEvent : Result (Option ReadEvent) Fault → Option Event → Type 0
 ReadsEvent (Ok event) read = NamesEvent event read
 ReadsEvent (Err fault) read = fault ≡ Memory
-
--- a fault is the number of the first line that is no event, or want of memory
-abbrev pub FailsEvents : Fault → Result (List Event) ℕ → Type 0
-FailsEvents (BadEvent n) read = read ≡ Err n
-FailsEvents Memory read = Unit {0}
-FailsEvents fault read = ⊥
 
 -- the events of the input's lines
 abbrev pub ReadsEvents : Result (Vec ReadEvent) Fault → Result (List Event) ℕ → Type 0

@@ -11,9 +11,10 @@ use Rattle.qpack_base.specs.declared.field.HeaderField.{HeaderField}
 use Rattle.h3_qpack.specs.Sessions.{event_of}
 use Rattle.h3_qpack.specs.Stateless.{fields_in}
 use Rattle.h3_qpack.specs.declared.session.Event.{Event as ReadEvent}
-use Rattle.qpk.specs.FieldText.{with_byte, lines_of}
+use Rattle.qpk.specs.Answers.{FailsEvents}
+use Rattle.qpk.specs.FieldText.{with_byte, lines_of, with_item}
 use Rattle.qpk.specs.declared.text.Fault.{Fault}
-use Rattle.qpk.specs.declared.text.Fault.TheVariants.{BadEvent, Memory}
+use Rattle.qpk.specs.declared.text.Fault.TheVariants.{Memory}
 
 -- the parts of a line, parted by TABs: one more than it has TABs
 abbrev pub parts_of : List ℕ → List (List ℕ)
@@ -80,16 +81,10 @@ event_of_parts (name ∷ number ∷ parts) = event_named name (number_of number)
 abbrev pub event_of_line : List ℕ → Option Event
 event_of_line line = event_of_parts (parts_of line)
 
--- an event more at the front
-abbrev pub with_event : ℕ → Option Event → Result (List Event) ℕ → Result (List Event) ℕ
-with_event n None more = Err n
-with_event n (Some event) (Err m) = Err m
-with_event n (Some event) (Ok events) = Ok (event ∷ events)
-
 -- the event of each line, or the number of the first line that is none, the lines being numbered from n
 abbrev pub script_from : ℕ → List (List ℕ) → Result (List Event) ℕ
 script_from n [] = Ok []
-script_from n (line ∷ lines) = with_event n (event_of_line line) (script_from (n + 1) lines)
+script_from n (line ∷ lines) = with_item n (event_of_line line) (script_from (n + 1) lines)
 
 -- the events of a script
 abbrev pub script_events : List ℕ → Result (List Event) ℕ
@@ -126,13 +121,7 @@ ReadsEvent (Err fault) read = fault ≡ Memory
 abbrev pub events_in : List ReadEvent → List Event
 events_in events = map event_of events
 
--- a fault is the number of the first line that is no event, or want of memory
-abbrev pub FailsScript : Fault → Result (List Event) ℕ → Type 0
-FailsScript (BadEvent n) read = read ≡ Err n
-FailsScript Memory read = Unit {0}
-FailsScript fault read = ⊥
-
 -- the events of the script's lines
 abbrev pub ReadsScript : Result (Vec ReadEvent) Fault → Result (List Event) ℕ → Type 0
 ReadsScript (Ok events) read = read ≡ Ok (events_in events.items)
-ReadsScript (Err fault) read = FailsScript fault read
+ReadsScript (Err fault) read = FailsEvents fault read

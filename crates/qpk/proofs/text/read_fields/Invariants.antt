@@ -1,7 +1,7 @@
 use Rattle.std.proofs.Common.{◌≡◌, ◌+◌, ◌≤◌, length}
 use Rattle.h3_qpack.specs.Stateless.{fields_in}
 use Rattle.qpk.specs.FieldText.{lines_of, fields_from}
-use Rattle.qpk.proofs.Texts.{with_front}
+use Rattle.qpk.proofs.FieldLines.{with_front}
 use Rattle.qpk.proofs.text.read_fields.Given as goal
 
 abbrev pub invariant-loop-rest : goal.invariant-loop-rest

@@ -2,7 +2,7 @@ use Rattle.std.proofs.Common.{◌≡◌, ◌+◌, ◌≤◌, length}
 use Rattle.qpk.specs.FieldText.{lines_of}
 use Rattle.qpk.specs.Inspecting.{events_from, events_of}
 use Rattle.qpk.specs.Inspections.{events_in}
-use Rattle.qpk.proofs.Events.{with_front}
+use Rattle.qpk.proofs.FieldLines.{with_front}
 use Rattle.qpk.proofs.inspect.events.read_events.Given as goal
 
 abbrev pub invariant-loop-rest : goal.invariant-loop-rest
