@@ -1,0 +1,170 @@
+//! Fields encoded, and blocks decoded.
+
+use crate::running::{Case, USAGE, hold, refuse};
+use std::test::Fail;
+
+const ENCODED: [Case; 5] = [
+    Case {
+        words: "encode",
+        input: ":method\tGET\n",
+        output: "0000d1\n",
+        fault: "",
+    },
+    Case {
+        words: "encode",
+        input: ":method\tGET",
+        output: "0000d1\n",
+        fault: "",
+    },
+    Case {
+        words: "encode",
+        input: "",
+        output: "0000\n",
+        fault: "",
+    },
+    Case {
+        words: "encode",
+        input: ":path\t/\n:status\t100\n",
+        output: "0000c1ff00\n",
+        fault: "",
+    },
+    Case {
+        words: "encode",
+        input: "foo\tbar\nage\t1",
+        output: "00002a94e7838c767f52810f\n",
+        fault: "",
+    },
+];
+
+#[test]
+fn fields_are_encoded(rt: HostRuntime) -> Result<(), Fail> {
+    hold(&rt, rt.alloc(), &ENCODED)
+}
+
+#[test]
+fn lines_without_a_tab_are_refused(rt: HostRuntime) -> Result<(), Fail> {
+    let alloc = rt.alloc();
+    refuse(&rt, alloc, "qpk: line 1: no tab\n", &[("encode", "foo")])?;
+    refuse(
+        &rt,
+        alloc,
+        "qpk: line 2: no tab\n",
+        &[("encode", ":path\t/\n\n"), ("encode", "a\tb\nfoo\n")],
+    )
+}
+
+const DECODED: [Case; 5] = [
+    Case {
+        words: "decode 42",
+        input: "0000d1\n",
+        output: ":method\tGET\nsize 42\n",
+        fault: "",
+    },
+    Case {
+        words: "decode 42",
+        input: "0000D1",
+        output: ":method\tGET\nsize 42\n",
+        fault: "",
+    },
+    Case {
+        words: "decode 0",
+        input: "0500",
+        output: "size 0\n",
+        fault: "",
+    },
+    Case {
+        words: "decode 74",
+        input: "00002A94E7838C767F52810F",
+        output: "foo\tbar\nage\t1\nsize 74\n",
+        fault: "",
+    },
+    Case {
+        words: "decode 18446744073709551615",
+        input: "0000",
+        output: "size 0\n",
+        fault: "",
+    },
+];
+
+#[test]
+fn blocks_are_decoded(rt: HostRuntime) -> Result<(), Fail> {
+    hold(&rt, rt.alloc(), &DECODED)
+}
+
+const BAD: [Case; 5] = [
+    Case {
+        words: "decode 9",
+        input: "0000ff24",
+        output: "",
+        fault: "qpk: refused: unknown static index: 99\n",
+    },
+    Case {
+        words: "decode 9",
+        input: "0000ffffffffffffffffffffff",
+        output: "",
+        fault: "qpk: refused: invalid integer: value overflow\n",
+    },
+    Case {
+        words: "decode 9",
+        input: "000010",
+        output: "",
+        fault: "qpk: refused: missing 0 refs to decode bloc\n",
+    },
+    Case {
+        words: "decode 9",
+        input: "00002a94",
+        output: "",
+        fault: "qpk: refused: invalid string: UnexpectedEnd\n",
+    },
+    Case {
+        words: "decode 71",
+        input: "00002a94e7838c767f52810f\n",
+        output: "",
+        fault: "qpk: refused: header too long\n",
+    },
+];
+
+#[test]
+fn bad_blocks_are_refused(rt: HostRuntime) -> Result<(), Fail> {
+    let alloc = rt.alloc();
+    hold(&rt, alloc, &BAD)?;
+    refuse(
+        &rt,
+        alloc,
+        "qpk: refused: header too long\n",
+        &[("decode 41", "0000d1\n")],
+    )?;
+    refuse(
+        &rt,
+        alloc,
+        "qpk: refused: invalid integer: unexpected end\n",
+        &[("decode 9", ""), ("decode 9", "00"), ("decode 9", "0000ff")],
+    )?;
+    refuse(
+        &rt,
+        alloc,
+        "qpk: not hexadecimal\n",
+        &[
+            ("decode 9", "000"),
+            ("decode 9", "0000\n\n"),
+            ("decode 9", "00zz"),
+        ],
+    )
+}
+
+#[test]
+fn other_words_are_refused(rt: HostRuntime) -> Result<(), Fail> {
+    let words = [
+        ("", ""),
+        ("encode 1", ""),
+        ("decode", "0000"),
+        ("decode ten", "0000"),
+        ("decode 18446744073709551616", "0000"),
+        ("decode -1", "0000"),
+        ("run", ""),
+        ("run 4096 -1", ""),
+        ("inspect", ""),
+        ("inspect -1", ""),
+    ];
+    refuse(&rt, rt.alloc(), USAGE, &words)
+}

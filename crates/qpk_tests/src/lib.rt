@@ -1,0 +1,16 @@
+//! What no clause of `qpk` says, through public calls: printed texts, worked cases, and calls where a stream fails or
+//! memory is refused.
+#![tactic(auto)]
+
+#[cfg(test)]
+mod calls;
+#[cfg(test)]
+mod fields;
+#[cfg(test)]
+mod inspections;
+#[cfg(test)]
+mod running;
+#[cfg(test)]
+mod scripts;
+#[cfg(test)]
+mod streams;

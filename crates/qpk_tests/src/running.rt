@@ -1,0 +1,122 @@
+//! The program run through `serve`, and again where memory was refused.
+
+use qpack_testing::again;
+use qpk::serve::serve;
+use std::alloc::{AllocError, Global};
+use std::io::Cursor;
+use std::process::Abort;
+use std::str;
+use std::test::Fail;
+
+pub const REFUSED_MEMORY: &str = "qpk: refused: memory\n";
+
+pub const REFUSED_OUTPUT: &str = "qpk: refused: output\n";
+
+pub const USAGE: &str =
+    "usage: qpk encode | qpk decode LIMIT | qpk run CAPACITY LIMIT | qpk inspect CAPACITY\n";
+
+/// The words that the program is given, its input, and what it writes to its output and its faults.
+#[derive(Clone, Copy)]
+pub struct Case {
+    pub words: &'static str,
+    pub input: &'static str,
+    pub output: &'static str,
+    pub fault: &'static str,
+}
+
+/// What a run wrote to its output and its faults, and its status.
+#[derive(Drop)]
+pub struct Answer {
+    pub output: Vec<u8>,
+    faults: Vec<u8>,
+    status: u8,
+}
+
+/// The words of a line.
+fn words_of(alloc: Global, line: &str) -> Result<Vec<String>, AllocError> {
+    let mut words = Vec::new(alloc);
+    for word in line.split_whitespace() {
+        words.push(String::from_str(alloc, word)?)?;
+    }
+    Ok(words)
+}
+
+/// The same, again where one allocation is refused.
+pub fn words(alloc: Global, line: &str) -> Result<Vec<String>, AllocError> {
+    again(|| words_of(alloc, line))
+}
+
+/// Whether a run may have been refused for memory: it told so, or a vector had no room for the answer, or for the line.
+pub fn wants_memory(told: &[u8]) -> bool {
+    told.is_empty() || told == REFUSED_MEMORY.as_bytes() || told == REFUSED_OUTPUT.as_bytes()
+}
+
+/// Runs the program once.
+fn run_once(alloc: Global, words: &[String], input: &[u8]) -> Answer {
+    let mut output = Vec::new(alloc);
+    let mut faults = Vec::new(alloc);
+    let status = serve(
+        alloc,
+        words,
+        &mut Cursor::new(input),
+        &mut output,
+        &mut faults,
+    );
+    Answer {
+        output,
+        faults,
+        status,
+    }
+}
+
+/// Whether memory was refused to a run, which must leave the output as it was, or to one of its events.
+fn was_refused(rt: &impl Abort, answer: &Answer) -> bool {
+    if answer.status == 1 && wants_memory(&answer.faults) {
+        assert!(rt; answer.output.is_empty());
+        return true;
+    }
+    match str::from_utf8(&answer.output) {
+        Ok(text) => text.contains("refused out of memory"),
+        Err(_) => false,
+    }
+}
+
+/// Runs the program, and again where memory was refused.
+pub fn run(rt: &impl Abort, alloc: Global, line: &str, input: &[u8]) -> Result<Answer, Fail> {
+    let words = words(alloc, line)?;
+    let answer = run_once(alloc, &words, input);
+    if was_refused(rt, &answer) {
+        return Ok(run_once(alloc, &words, input));
+    }
+    Ok(answer)
+}
+
+/// Runs cases: status 0 goes with no fault, and 1 with one.
+pub fn hold(rt: &impl Abort, alloc: Global, cases: &[Case]) -> Result<(), Fail> {
+    for case in cases {
+        let answer = run(rt, alloc, case.words, case.input.as_bytes())?;
+        assert_eq!(rt; answer.output.as_slice(), case.output.as_bytes());
+        assert_eq!(rt; answer.faults.as_slice(), case.fault.as_bytes());
+        assert_eq!(rt; answer.status, u8::from(!case.fault.is_empty()));
+    }
+    Ok(())
+}
+
+/// Runs inputs that have this fault, each with its words.
+pub fn refuse(
+    rt: &impl Abort,
+    alloc: Global,
+    fault: &'static str,
+    cases: &[(&'static str, &'static str)],
+) -> Result<(), Fail> {
+    for (words, input) in cases {
+        let case = Case {
+            words,
+            input,
+            output: "",
+            fault,
+        };
+        hold(rt, alloc, &[case])?;
+    }
+    Ok(())
+}
