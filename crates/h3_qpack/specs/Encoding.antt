@@ -11,7 +11,7 @@ use Rattle.qpack_spec.specs.Table.{Table, without_references}
 use Rattle.qpack_spec.specs.Rule.{Draft, rule, required_insert_count, block_of, committed_table}
 use Rattle.qpack_spec.specs.Handle.{Insertion, Duplicated, InsertedWithStaticName, InsertedWithName, Inserted}
 use Rattle.qpack_spec.specs.Handle.{NotInserted, handle_field, handle_fields}
-use Rattle.qpack_base.specs.HeaderFields.{DrainsFields}
+use Rattle.qpack_base.specs.HeaderFields.{field_of}
 use Rattle.qpack_base.specs.declared.field.HeaderField.{HeaderField}
 
 -- the iterator gives so many items and ends, and P holds of the list of the fields that they lend
@@ -100,5 +100,4 @@ StopsEncodingOf field steps it old new told_old told_new =
 abbrev pub StopsEncoding : {S : Type 0} → (S → Option (Bor HeaderField) → S → Type 0) → S → Table → Table → List ℕ
     → List ℕ → Type 0
 StopsEncoding steps it old new told_old told_new =
-    GivesUpBlock [] old new told_old told_new
-    ⊎ DrainsFields steps it (λ fs. GivesUpBlock fs old new told_old told_new)
+    StopsEncodingOf (λ field. field_of field.now) steps it old new told_old told_new

@@ -26,8 +26,7 @@ pub record WaitsFor (events : List (spec.Event × spec.Outcome)) (stream receive
   pub tells : e ≡ decoder.MissingRefs encode.required
 
 -- a decode behind these events, which lead to v, answers exactly the fields that were handed to the encode of its
--- block,
--- with their size and whether any entry is required; or it wants memory, or waits
+-- block, with their size and whether any entry is required; or it wants memory, or waits
 abbrev pub IsExact : List (spec.Event × spec.Outcome) → Session → spec.Event → Outcome → Type 0
 IsExact events v (spec.Decode s) (outcome.Decoded (Ok d)) =
     AnswersFields events s (fields_in d.fields.items) d.mem_size d.dyn_ref
