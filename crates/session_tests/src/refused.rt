@@ -46,6 +46,7 @@ enum Given {
     ToEncoder(usize),
     Ack(u64),
     Cancel(u64),
+    SetCapacity(usize),
 }
 
 /// A block that was encoded: its stream, the place of the list that was handed, and whether it was decoded.
@@ -74,6 +75,7 @@ fn event_of(alloc: Global, given: Given) -> Result<Event, NoMemory> {
         Given::ToEncoder(count) => Event::ToEncoder(count),
         Given::Ack(stream) => Event::Ack(stream),
         Given::Cancel(stream) => Event::Cancel(stream),
+        Given::SetCapacity(capacity) => Event::SetCapacity(capacity),
     })
 }
 
@@ -86,6 +88,7 @@ fn wants_memory(outcome: &Outcome) -> bool {
             | Outcome::Delivered(Err(DecoderError::Memory))
             | Outcome::Acknowledged(Err(_))
             | Outcome::Cancelled(Err(_))
+            | Outcome::CapacitySet(Err(EncoderError::Memory))
     )
 }
 
@@ -162,7 +165,7 @@ fn is_lawful(
         (Given::Decode(_), Outcome::Decoded(Err(DecoderError::MissingRefs(required)))) => {
             same(*required > session.decoder().table().total_inserted(), true)
         }
-        (_, Outcome::Delivered(Ok(_)) | Outcome::Heard(Ok(())))
+        (_, Outcome::Delivered(Ok(_)) | Outcome::Heard(Ok(())) | Outcome::CapacitySet(Ok(())))
         | (_, Outcome::Acknowledged(Ok(())) | Outcome::Cancelled(Ok(())) | Outcome::Skipped(_)) => {
             Ok(())
         }
@@ -228,6 +231,25 @@ fn what_was_cancelled_is_skipped(rt: HostRuntime) -> Result<(), Fail> {
         Given::Decode(12),
     ];
     same(play(rt.alloc(), 64, 4, &script)?, 2)
+}
+
+#[test]
+fn blocks_around_new_capacities_are_decoded(rt: HostRuntime) -> Result<(), Fail> {
+    let script = [
+        Given::Encode(4, FOO_BAR),
+        Given::ToDecoder(ALL),
+        Given::Decode(4),
+        Given::Ack(4),
+        Given::ToEncoder(ALL),
+        Given::SetCapacity(0),
+        Given::Encode(8, FOO_BAR),
+        Given::SetCapacity(64),
+        Given::Encode(12, BAZ_BAR),
+        Given::ToDecoder(ALL),
+        Given::Decode(8),
+        Given::Decode(12),
+    ];
+    same(play(rt.alloc(), 4096, 1, &script)?, 3)
 }
 
 #[test]
