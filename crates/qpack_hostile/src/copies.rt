@@ -1,0 +1,159 @@
+//! Few bytes that make a decoder copy many: lines and instructions that name a large entry.
+
+use crate::entries::{decoded_size, empty_table, prefix_of};
+use crate::meter::{Case, Meter};
+use anyhow::{Result, bail};
+use h3_qpack::coding::Cursor;
+use h3_qpack::decoder::Decoder;
+use h3_qpack::stream::{
+    Duplicate, DynamicTableSizeUpdate, InsertWithNameRef, InsertWithoutNameRef,
+};
+use h3_qpack::{DecoderError, decode_stateless};
+use std::alloc::Global;
+
+/// The capacity of the tables in bytes.
+const CAPACITY: usize = 1 << 20;
+
+/// How many lines or instructions a case has.
+const COUNT: usize = 1000;
+
+/// The limit on the sum of sizes that `decode_stateless` is given.
+const LIMIT: u64 = 16_384;
+
+/// Tells the cases of an entry whose name and value have so many bytes together.
+pub(crate) fn tell(meter: &Meter, alloc: Global, size: usize) -> Result<()> {
+    tell_lines(meter, alloc, size)?;
+    tell_limit(meter, alloc, size)?;
+    tell_duplicates(meter, alloc, size, 129)?;
+    tell_duplicates(meter, alloc, size, COUNT)?;
+    tell_names(meter, alloc, size)?;
+    tell_capacities(meter, alloc, size)
+}
+
+/// A decoder with one entry, whose name has so many bytes and whose value is empty.
+fn with_large_entry(alloc: Global, size: usize) -> Result<Decoder> {
+    let mut decoder = Decoder::from(empty_table(alloc, CAPACITY, 0)?);
+    let name = Vec::from_elem(alloc, b'a', size)?;
+    let mut stream = Vec::new(alloc);
+    InsertWithoutNameRef::write(&name, b"", &mut stream)?;
+    decoder.on_encoder_recv(&mut Cursor::new(&stream), &mut Vec::new(alloc))?;
+    Ok(decoder)
+}
+
+/// Tells how long a block of lines of one byte takes, each of which is the large entry.
+fn tell_lines(meter: &Meter, alloc: Global, size: usize) -> Result<()> {
+    let decoder = with_large_entry(alloc, size)?;
+    let mut block = prefix_of(alloc, &decoder)?;
+    for _ in 0..COUNT {
+        block.push(0x80)?;
+    }
+    let start = meter.start()?;
+    let decoded = decoded_size(&decoder, &block)?;
+    let case = Case {
+        name: "decode_header, lines of a large entry",
+        size,
+        calls: COUNT,
+        bytes: block.len(),
+    };
+    let expected = size.saturating_add(32).saturating_mul(COUNT);
+    meter.tell(case, start, decoded, expected as u64)
+}
+
+/// Tells how long a block without a table takes that passes the limit: of so many lines of one byte, of a static field
+/// whose size is 42 bytes.
+fn tell_limit(meter: &Meter, alloc: Global, size: usize) -> Result<()> {
+    let mut block = Vec::from_slice(alloc, b"\0\0")?;
+    for _ in 0..size.saturating_add(COUNT) {
+        block.push(0xD1)?;
+    }
+    let start = meter.start()?;
+    let answer = decode_stateless(alloc, &mut Cursor::new(&block), LIMIT);
+    let Err(DecoderError::HeaderTooLong(sum)) = answer else {
+        bail!("the limit was not passed");
+    };
+    let case = Case {
+        name: "decode_stateless, past its limit",
+        size,
+        calls: 1,
+        bytes: block.len(),
+    };
+    meter.tell(case, start, sum, 16_422)
+}
+
+/// Tells how long instructions take that insert the large entry again, in one byte each.
+fn tell_duplicates(meter: &Meter, alloc: Global, size: usize, count: usize) -> Result<()> {
+    let mut stream = Vec::new(alloc);
+    for _ in 0..count {
+        Duplicate(0).encode(&mut stream)?;
+    }
+    tell_stream(
+        meter,
+        alloc,
+        "duplicates of a large entry",
+        size,
+        count,
+        &stream,
+    )
+}
+
+/// Tells how long instructions take that insert an empty value under the large name, in two bytes each.
+fn tell_names(meter: &Meter, alloc: Global, size: usize) -> Result<()> {
+    let mut stream = Vec::new(alloc);
+    for _ in 0..COUNT {
+        InsertWithNameRef::write_dynamic(0, b"", &mut stream)?;
+    }
+    tell_stream(
+        meter,
+        alloc,
+        "insertions under a large name",
+        size,
+        COUNT,
+        &stream,
+    )
+}
+
+/// Tells how long insertions take behind that of the large entry.
+fn tell_stream(
+    meter: &Meter,
+    alloc: Global,
+    name: &str,
+    size: usize,
+    count: usize,
+    stream: &[u8],
+) -> Result<()> {
+    let mut decoder = with_large_entry(alloc, size)?;
+    let start = meter.start()?;
+    let received = decoder.on_encoder_recv(&mut Cursor::new(stream), &mut Vec::new(alloc))?;
+    let case = Case {
+        name,
+        size,
+        calls: count,
+        bytes: stream.len(),
+    };
+    let expected = count.saturating_add(1);
+    meter.tell(case, start, received as u64, expected as u64)
+}
+
+/// Tells how long it takes to set the capacity to 0 and back so often, on a table that was full of small entries.
+fn tell_capacities(meter: &Meter, alloc: Global, size: usize) -> Result<()> {
+    let mut decoder = Decoder::from(empty_table(alloc, CAPACITY, 0)?);
+    let mut stream = Vec::new(alloc);
+    for _ in 0..size {
+        InsertWithoutNameRef::write(b"a", b"b", &mut stream)?;
+    }
+    decoder.on_encoder_recv(&mut Cursor::new(&stream), &mut Vec::new(alloc))?;
+    stream.clear();
+    for _ in 0..size {
+        DynamicTableSizeUpdate(0).encode(&mut stream)?;
+        DynamicTableSizeUpdate(CAPACITY).encode(&mut stream)?;
+    }
+    let start = meter.start()?;
+    let received = decoder.on_encoder_recv(&mut Cursor::new(&stream), &mut Vec::new(alloc))?;
+    let case = Case {
+        name: "capacity to 0 and back",
+        size,
+        calls: size.saturating_mul(2),
+        bytes: stream.len(),
+    };
+    meter.tell(case, start, received as u64, size as u64)
+}

@@ -1,0 +1,45 @@
+//! An instruction that comes byte by byte, and is offered again from its start each time.
+
+use crate::entries::empty_table;
+use crate::meter::{Case, Meter};
+use anyhow::Result;
+use h3_qpack::coding::Cursor;
+use h3_qpack::decoder::Decoder;
+use h3_qpack::stream::InsertWithoutNameRef;
+use std::alloc::Global;
+
+/// Tells the cases of instructions of some so many bytes: a long value behind a short name, and a long value behind a
+/// name that is as long.
+pub(crate) fn tell(meter: &Meter, alloc: Global, size: usize) -> Result<()> {
+    let short = Vec::from_elem(alloc, b'a', 1)?;
+    let long = Vec::from_elem(alloc, b'a', size)?;
+    tell_pieces(meter, alloc, "a long value, byte by byte", &short, &long)?;
+    tell_pieces(
+        meter,
+        alloc,
+        "a long value behind a long name, byte by byte",
+        &long,
+        &long,
+    )
+}
+
+/// Tells how long the bytes of an insertion take, each given with all before it.
+fn tell_pieces(meter: &Meter, alloc: Global, case: &str, name: &[u8], value: &[u8]) -> Result<()> {
+    let mut decoder = Decoder::from(empty_table(alloc, 1 << 20, 0)?);
+    let mut written = Vec::new(alloc);
+    let mut stream = Vec::new(alloc);
+    InsertWithoutNameRef::write(name, value, &mut stream)?;
+    let start = meter.start()?;
+    let mut received = 0usize;
+    for end in 1..=stream.len() {
+        let offered = stream.get(..end).unwrap_or(&stream);
+        received = decoder.on_encoder_recv(&mut Cursor::new(offered), &mut written)?;
+    }
+    let case = Case {
+        name: case,
+        size: value.len(),
+        calls: stream.len(),
+        bytes: stream.len(),
+    };
+    meter.tell(case, start, received as u64, 1)
+}

@@ -1,0 +1,66 @@
+//! Sessions of many streams.
+
+use crate::meter::{Case, Meter};
+use anyhow::Result;
+use h3_qpack::HeaderField;
+use h3_qpack::session::{Event, Outcome, Session};
+use std::alloc::Global;
+
+/// Tells how long a session takes in which so many streams have a block each, which are acknowledged from the newest
+/// on.
+pub(crate) fn tell(meter: &Meter, alloc: Global, size: usize) -> Result<()> {
+    let mut session = Session::new(alloc, 4096, 100)?;
+    let events = events_of(alloc, size)?;
+    let mut answered = 0u64;
+    let start = meter.start()?;
+    for event in &events {
+        if is_answered(&mut session, event) {
+            answered = answered.saturating_add(1);
+        }
+    }
+    let case = Case {
+        name: "a session of many streams",
+        size,
+        calls: events.len(),
+        bytes: 0,
+    };
+    meter.tell(case, start, answered, events.len() as u64)
+}
+
+/// The events: a block of stream 0 whose insertion is received, then all blocks encoded, decoded and acknowledged.
+fn events_of(alloc: Global, size: usize) -> Result<Vec<Event>> {
+    let mut events = Vec::new(alloc);
+    events.push(encode_event(alloc, 0)?)?;
+    events.push(Event::ToDecoder(usize::MAX))?;
+    events.push(Event::ToEncoder(usize::MAX))?;
+    for number in 1..size {
+        events.push(encode_event(alloc, number as u64)?)?;
+    }
+    for number in 0..size {
+        events.push(Event::Decode(number as u64))?;
+    }
+    for number in 0..size {
+        events.push(Event::Ack(size.saturating_sub(number).saturating_sub(1) as u64))?;
+    }
+    events.push(Event::ToEncoder(usize::MAX))?;
+    Ok(events)
+}
+
+/// The same field is encoded for a stream.
+fn encode_event(alloc: Global, number: u64) -> Result<Event> {
+    let mut fields = Vec::new(alloc);
+    fields.push(HeaderField::from_pair(alloc, b"foo", b"bar")?)?;
+    Ok(Event::Encode(number, fields))
+}
+
+/// Gives an event; whether it is neither refused nor skipped.
+fn is_answered(session: &mut Session, event: &Event) -> bool {
+    match session.step(event) {
+        Outcome::Encoded(answer) => answer.is_ok(),
+        Outcome::Decoded(answer) => answer.is_ok(),
+        Outcome::Delivered(answer) => answer.is_ok(),
+        Outcome::Heard(answer) | Outcome::CapacitySet(answer) => answer.is_ok(),
+        Outcome::Acknowledged(answer) | Outcome::Cancelled(answer) => answer.is_ok(),
+        Outcome::Skipped(_) => false,
+    }
+}

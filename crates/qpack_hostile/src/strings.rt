@@ -1,0 +1,94 @@
+//! Strings: the longest codes and the shortest, coded and plain, in payloads of equal length.
+
+use crate::entries::empty_table;
+use crate::meter::{Case, Meter};
+use anyhow::Result;
+use h3_qpack::block::Literal;
+use h3_qpack::coding::Cursor;
+use h3_qpack::decoder::Decoder;
+use h3_qpack::stream::InsertWithoutNameRef;
+use h3_qpack::{decode_stateless, prefix_int};
+use std::alloc::Global;
+
+/// A line feed, whose code has thirty bits; and a letter whose code has five (RFC 7541, appendix B).
+const CODES: [(&str, u8, usize); 2] = [
+    ("codes of 30 bits", b'\n', 30),
+    ("codes of 5 bits", b'a', 5),
+];
+
+/// How often each string is read.
+const ROUNDS: usize = 10;
+
+/// Tells the cases of strings whose payload has so many bytes.
+pub(crate) fn tell(meter: &Meter, alloc: Global, size: usize) -> Result<()> {
+    for (label, byte, bits) in CODES {
+        let len = size.saturating_mul(8) / (bits as usize).max(1);
+        let text = Vec::from_elem(alloc, byte, len)?;
+        let mut block = Vec::from_slice(alloc, b"\0\0")?;
+        Literal::write(b"n", &text, &mut block)?;
+        tell_block(meter, alloc, label, size, &block, len)?;
+        tell_stream(meter, alloc, label, size, &text)?;
+    }
+    let block = plain_block(alloc, size)?;
+    tell_block(meter, alloc, "a plain string", size, &block, size)
+}
+
+/// A block of one field, whose value is plain and has so many bytes (RFC 9204, section 4.5.6).
+fn plain_block(alloc: Global, size: usize) -> Result<Vec<u8>> {
+    let mut block = Vec::from_slice(alloc, b"\0\0\x21n")?;
+    prefix_int::encode(7, 0, size as u64, &mut block)?;
+    for _ in 0..size {
+        block.push(b'a')?;
+    }
+    Ok(block)
+}
+
+/// Tells how long a block of one field takes whose value has so many bytes.
+fn tell_block(
+    meter: &Meter,
+    alloc: Global,
+    label: &str,
+    size: usize,
+    block: &[u8],
+    len: usize,
+) -> Result<()> {
+    let mut read = 0u64;
+    let start = meter.start()?;
+    for _ in 0..ROUNDS {
+        read = read.saturating_add(decoded_size(alloc, block)?);
+    }
+    let name = format!(in alloc; "decode_stateless, {label}")?;
+    let case = Case {
+        name: name.as_str(),
+        size,
+        calls: ROUNDS,
+        bytes: block.len().saturating_mul(ROUNDS),
+    };
+    let expected = len.saturating_add(33).saturating_mul(ROUNDS);
+    meter.tell(case, start, read, expected as u64)
+}
+
+/// Decodes a block; the sum of its fields' sizes.
+fn decoded_size(alloc: Global, block: &[u8]) -> Result<u64> {
+    let decoded = decode_stateless(alloc, &mut Cursor::new(block), u64::MAX)?;
+    Ok(decoded.mem_size)
+}
+
+/// Tells how long insertions take whose value is the text.
+fn tell_stream(meter: &Meter, alloc: Global, label: &str, size: usize, text: &[u8]) -> Result<()> {
+    let mut stream = Vec::new(alloc);
+    for _ in 0..ROUNDS {
+        InsertWithoutNameRef::write(b"n", text, &mut stream)?;
+    }
+    let mut decoder = Decoder::from(empty_table(alloc, 1 << 20, 0)?);
+    let start = meter.start()?;
+    let received = decoder.on_encoder_recv(&mut Cursor::new(&stream), &mut Vec::new(alloc))?;
+    let name = format!(in alloc; "receive, {label}")?;
+    let case = Case {
+        name: name.as_str(),
+        size,
+        calls: ROUNDS,
+        bytes: stream.len(),
+    };
+    meter.tell(case, start, received as u64, ROUNDS as u64)
+}

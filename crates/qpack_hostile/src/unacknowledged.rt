@@ -1,0 +1,151 @@
+//! Blocks that a decoder never acknowledged, and what its instructions then cost the encoder.
+
+use crate::entries::empty_table;
+use crate::meter::{Case, Meter};
+use anyhow::Result;
+use h3_qpack::HeaderField;
+use h3_qpack::coding::Cursor;
+use h3_qpack::encoder::Encoder;
+use h3_qpack::stream::{HeaderAck, InsertCountIncrement, StreamCancel};
+use std::alloc::Global;
+
+/// How many blocks may be blocked at most.
+const GREATEST_LIMIT: usize = 65_534;
+
+/// The most instructions of a case.
+const MOST_CALLS: usize = 100;
+
+/// Tells the cases of so many unacknowledged blocks.
+pub(crate) fn tell(meter: &Meter, alloc: Global, size: usize) -> Result<()> {
+    tell_instructions(meter, alloc, size)?;
+    tell_one_stream(meter, alloc, size)?;
+    tell_encoded(meter, alloc, size)?;
+    tell_blocked(meter, alloc, size.min(GREATEST_LIMIT))
+}
+
+/// Tells how long decoder instructions take, the blocks being of a stream each.
+fn tell_instructions(meter: &Meter, alloc: Global, size: usize) -> Result<()> {
+    let calls = size.min(MOST_CALLS);
+    let mut oldest = Vec::new(alloc);
+    let mut newest = Vec::new(alloc);
+    let mut unknown = Vec::new(alloc);
+    let mut increments = Vec::new(alloc);
+    for number in 0..calls {
+        HeaderAck(number as u64).encode(&mut oldest)?;
+        HeaderAck(size.saturating_sub(number).saturating_sub(1) as u64).encode(&mut newest)?;
+        StreamCancel(size as u64).encode(&mut unknown)?;
+        InsertCountIncrement(0).encode(&mut increments)?;
+    }
+    let cases = [
+        ("acknowledge the oldest blocks", &oldest),
+        ("acknowledge the newest blocks", &newest),
+        ("cancel an unknown stream", &unknown),
+        ("an increment of 0", &increments),
+    ];
+    for (name, stream) in cases {
+        let mut encoder = with_unacknowledged(alloc, size, true)?;
+        tell_heard(meter, &mut encoder, name, size, calls, stream)?;
+    }
+    Ok(())
+}
+
+/// An encoder with so many unacknowledged blocks, of the streams from 0 on, or all of stream 0.
+fn with_unacknowledged(alloc: Global, count: usize, has_streams: bool) -> Result<Encoder> {
+    let mut table = empty_table(alloc, 4096, 0)?;
+    table.put(HeaderField::from_pair(alloc, b"foo", b"bar")?)?;
+    table.update_largest_received(1);
+    let mut encoder = Encoder::from(table);
+    for number in 0..count {
+        let stream_id = if has_streams { number as u64 } else { 0 };
+        encode_known(alloc, &mut encoder, stream_id)?;
+    }
+    Ok(encoder)
+}
+
+/// Encodes a block that references the only entry; its required insert count.
+fn encode_known(alloc: Global, encoder: &mut Encoder, stream_id: u64) -> Result<usize> {
+    let fields = [HeaderField::from_pair(alloc, b"foo", b"bar")?];
+    let mut block = Vec::new(alloc);
+    Ok(encoder.encode(stream_id, &mut block, &mut Vec::new(alloc), fields.iter())?)
+}
+
+/// Tells how long an encoder takes over bytes of a decoder stream, of which it takes all.
+fn tell_heard(
+    meter: &Meter,
+    encoder: &mut Encoder,
+    name: &str,
+    size: usize,
+    calls: usize,
+    stream: &[u8],
+) -> Result<()> {
+    let mut cursor = Cursor::new(stream);
+    let start = meter.start()?;
+    encoder.on_decoder_recv(&mut cursor)?;
+    let case = Case {
+        name,
+        size,
+        calls,
+        bytes: stream.len(),
+    };
+    meter.tell(case, start, cursor.position() as u64, stream.len() as u64)
+}
+
+/// Tells how long it takes to cancel a stream that has all the blocks.
+fn tell_one_stream(meter: &Meter, alloc: Global, size: usize) -> Result<()> {
+    let mut encoder = with_unacknowledged(alloc, size, false)?;
+    let mut stream = Vec::new(alloc);
+    StreamCancel(0).encode(&mut stream)?;
+    tell_heard(
+        meter,
+        &mut encoder,
+        "cancel the stream of all blocks",
+        size,
+        1,
+        &stream,
+    )
+}
+
+/// Tells how long a block takes to encode behind so many.
+fn tell_encoded(meter: &Meter, alloc: Global, size: usize) -> Result<()> {
+    let mut encoder = with_unacknowledged(alloc, size, true)?;
+    let mut required = 0u64;
+    let start = meter.start()?;
+    for _ in 0..MOST_CALLS {
+        let each = encode_known(alloc, &mut encoder, 0)?;
+        required = required.saturating_add(each as u64);
+    }
+    let case = Case {
+        name: "encode behind unacknowledged blocks",
+        size,
+        calls: MOST_CALLS,
+        bytes: 0,
+    };
+    meter.tell(case, start, required, MOST_CALLS as u64)
+}
+
+/// Tells how long increments of 1 take, each of which unblocks one block of so many.
+fn tell_blocked(meter: &Meter, alloc: Global, size: usize) -> Result<()> {
+    let table = empty_table(alloc, size.saturating_mul(64), size)?;
+    let mut encoder = Encoder::from(table);
+    let mut stream = Vec::new(alloc);
+    for number in 0..size {
+        let value = format!(in alloc; "{number:08}")?;
+        let fields = [HeaderField::from_pair(alloc, b"name", value.as_bytes())?];
+        let mut block = Vec::new(alloc);
+        encoder.encode(
+            number as u64,
+            &mut block,
+            &mut Vec::new(alloc),
+            fields.iter(),
+        )?;
+        InsertCountIncrement(1).encode(&mut stream)?;
+    }
+    tell_heard(
+        meter,
+        &mut encoder,
+        "increments, blocked blocks",
+        size,
+        size,
+        &stream,
+    )
+}
