@@ -134,15 +134,10 @@ fn tell_stream(
     meter.tell(case, start, received as u64, expected as u64)
 }
 
-/// Tells how long it takes to set the capacity to 0 and back so often, on a table that was full of small entries.
+/// Tells how long it takes to set the capacity to 0 and back so often, on a table of so many small entries.
 fn tell_capacities(meter: &Meter, alloc: Global, size: usize) -> Result<()> {
-    let mut decoder = Decoder::from(empty_table(alloc, CAPACITY, 0)?);
+    let mut decoder = with_small_entries(alloc, size)?;
     let mut stream = Vec::new(alloc);
-    for _ in 0..size {
-        InsertWithoutNameRef::write(b"a", b"b", &mut stream)?;
-    }
-    decoder.on_encoder_recv(&mut Cursor::new(&stream), &mut Vec::new(alloc))?;
-    stream.clear();
     for _ in 0..size {
         DynamicTableSizeUpdate(0).encode(&mut stream)?;
         DynamicTableSizeUpdate(CAPACITY).encode(&mut stream)?;
@@ -156,4 +151,15 @@ fn tell_capacities(meter: &Meter, alloc: Global, size: usize) -> Result<()> {
         bytes: stream.len(),
     };
     meter.tell(case, start, received as u64, size as u64)
+}
+
+/// A decoder that received so many small entries.
+fn with_small_entries(alloc: Global, size: usize) -> Result<Decoder> {
+    let mut decoder = Decoder::from(empty_table(alloc, CAPACITY, 0)?);
+    let mut stream = Vec::new(alloc);
+    for _ in 0..size {
+        InsertWithoutNameRef::write(b"a", b"b", &mut stream)?;
+    }
+    decoder.on_encoder_recv(&mut Cursor::new(&stream), &mut Vec::new(alloc))?;
+    Ok(decoder)
 }

@@ -112,20 +112,21 @@ fn is_referenced(
     Ok(true)
 }
 
+/// Writes the insertions of the fields, each with its name.
+fn write_insertions(fields: &[HeaderField], stream: &mut Vec<u8>) -> Result<()> {
+    for field in fields {
+        InsertWithoutNameRef::write(field.name.as_slice(), field.value.as_slice(), stream)?;
+    }
+    Ok(())
+}
+
 /// Tells how long a decoder takes to receive the fields twice, and to decode a block of all of them.
 fn tell_received(meter: &Meter, alloc: Global, kind: Kind, fields: &[HeaderField]) -> Result<()> {
     let capacity = fields.len().saturating_mul(FIELD_SIZE);
     let mut decoder = Decoder::from(empty_table(alloc, capacity, 0)?);
     let mut stream = Vec::new(alloc);
-    for _ in 0..2 {
-        for field in fields {
-            InsertWithoutNameRef::write(
-                field.name.as_slice(),
-                field.value.as_slice(),
-                &mut stream,
-            )?;
-        }
-    }
+    write_insertions(fields, &mut stream)?;
+    write_insertions(fields, &mut stream)?;
     let start = meter.start()?;
     let received = decoder.on_encoder_recv(&mut Cursor::new(&stream), &mut Vec::new(alloc))?;
     let name = format!(in alloc; "receive, {}", kind.label())?;

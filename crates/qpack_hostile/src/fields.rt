@@ -1,5 +1,5 @@
-//! Fields that fill a table: such as look random, and such as a peer would choose who knows how the table finds its
-//! entries. The hash has no secret, so he does.
+//! Fields that fill a table: such as look random, and such as a peer would choose. How a table finds its entries is no
+//! secret.
 
 use anyhow::{Result, ensure};
 use h3_qpack::HeaderField;
@@ -107,8 +107,8 @@ fn digits_of(number: u64) -> [u8; 16] {
     digits
 }
 
-/// Sixteen bytes behind which the table's hash is 0, whatever was before: its step multiplies by a constant that is
-/// held against the last eight, and they are that constant.
+/// Sixteen bytes behind which the table's hash is 0, whatever was before: a step multiplies by the difference of the
+/// last eight and a constant, and they are that constant.
 fn forgotten(number: u64) -> [u8; 16] {
     (u128::from(number) | u128::from(SECRET) << 64).to_le_bytes()
 }

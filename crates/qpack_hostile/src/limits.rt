@@ -29,7 +29,7 @@ const INSTRUCTIONS: [&[u8]; 3] = [
     b"\xC1\xFF\xFF\xFF\xFF\xFF\xFF\xFF\xFF\xFF\x7F",
 ];
 
-/// The greatest capacity that any table takes, in bytes, and the instruction that asks for it (RFC 9204, section 4.3.1).
+/// The greatest capacity that any table takes, in bytes.
 const GREATEST: usize = (1 << 30) - 1;
 
 /// The capacity that the table of a decoder is made with.
@@ -100,21 +100,33 @@ fn table_with(alloc: Global, agreed: Option<usize>) -> Result<DynamicTable> {
 /// Tells how many of the blocks are told to be cut, and of how many instructions the rest is waited for.
 fn tell_declared(meter: &Meter, alloc: Global) -> Result<()> {
     let start = meter.start()?;
+    let cut = cut_blocks(alloc)?;
+    meter.tell(case("blocks of a declared length"), start, cut, 3)?;
+    let start = meter.start()?;
+    let waited = waited_instructions(alloc)?;
+    meter.tell(case("instructions of a declared length"), start, waited, 3)
+}
+
+/// How many of the blocks are told to be cut.
+fn cut_blocks(alloc: Global) -> Result<u64> {
     let mut cut = 0u64;
     for block in BLOCKS {
         if is_cut(alloc, block)? {
             cut = cut.saturating_add(1);
         }
     }
-    meter.tell(case("blocks of a declared length"), start, cut, 3)?;
-    let start = meter.start()?;
+    Ok(cut)
+}
+
+/// Of how many of the instructions the rest is waited for.
+fn waited_instructions(alloc: Global) -> Result<u64> {
     let mut waited = 0u64;
     for instruction in INSTRUCTIONS {
         if is_waited_for(alloc, instruction)? {
             waited = waited.saturating_add(1);
         }
     }
-    meter.tell(case("instructions of a declared length"), start, waited, 3)
+    Ok(waited)
 }
 
 /// The case of a name: three byte lists.

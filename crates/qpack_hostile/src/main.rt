@@ -1,5 +1,5 @@
-//! The calls that take bytes or fields of a peer, each on the worst input that is known for it: what they answer, and, where
-//! the words name sizes, how long they take.
+//! The calls that take bytes or fields of a peer, each on the worst input that is known for it: what they answer, and,
+//! where the words name sizes, how long they take.
 #![tactic(auto)]
 
 mod copies;

@@ -36,14 +36,20 @@ fn events_of(alloc: Global, size: usize) -> Result<Vec<Event>> {
     for number in 1..size {
         events.push(encode_event(alloc, number as u64)?)?;
     }
+    push_decodes(&mut events, size)?;
+    events.push(Event::ToEncoder(usize::MAX))?;
+    Ok(events)
+}
+
+/// The blocks are decoded, and then acknowledged from the newest on.
+fn push_decodes(events: &mut Vec<Event>, size: usize) -> Result<()> {
     for number in 0..size {
         events.push(Event::Decode(number as u64))?;
     }
-    for number in 0..size {
-        events.push(Event::Ack(size.saturating_sub(number).saturating_sub(1) as u64))?;
+    for number in (0..size).rev() {
+        events.push(Event::Ack(number as u64))?;
     }
-    events.push(Event::ToEncoder(usize::MAX))?;
-    Ok(events)
+    Ok(())
 }
 
 /// The same field is encoded for a stream.

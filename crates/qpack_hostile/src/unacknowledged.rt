@@ -15,6 +15,43 @@ const GREATEST_LIMIT: usize = 65_534;
 /// The most instructions of a case.
 const MOST_CALLS: usize = 100;
 
+/// Instructions of a decoder that acknowledges late, or lies.
+#[derive(Clone, Copy)]
+enum Hostile {
+    /// The oldest blocks are acknowledged first.
+    Oldest,
+    /// The newest blocks are.
+    Newest,
+    /// A stream is cancelled that has no block.
+    Unknown,
+    /// Nothing more was received.
+    Nothing,
+}
+
+impl Hostile {
+    /// What is printed for the instructions.
+    fn label(self) -> &'static str {
+        match self {
+            Hostile::Oldest => "acknowledge the oldest blocks",
+            Hostile::Newest => "acknowledge the newest blocks",
+            Hostile::Unknown => "cancel an unknown stream",
+            Hostile::Nothing => "an increment of 0",
+        }
+    }
+
+    /// Writes the instruction of a number, where so many blocks wait.
+    fn write(self, size: usize, number: usize, stream: &mut Vec<u8>) -> Result<()> {
+        let newest = size.saturating_sub(number).saturating_sub(1);
+        match self {
+            Hostile::Oldest => HeaderAck(number as u64).encode(stream)?,
+            Hostile::Newest => HeaderAck(newest as u64).encode(stream)?,
+            Hostile::Unknown => StreamCancel(size as u64).encode(stream)?,
+            Hostile::Nothing => InsertCountIncrement(0).encode(stream)?,
+        }
+        Ok(())
+    }
+}
+
 /// Tells the cases of so many unacknowledged blocks.
 pub(crate) fn tell(meter: &Meter, alloc: Global, size: usize) -> Result<()> {
     tell_instructions(meter, alloc, size)?;
@@ -26,25 +63,25 @@ pub(crate) fn tell(meter: &Meter, alloc: Global, size: usize) -> Result<()> {
 /// Tells how long decoder instructions take, the blocks being of a stream each.
 fn tell_instructions(meter: &Meter, alloc: Global, size: usize) -> Result<()> {
     let calls = size.min(MOST_CALLS);
-    let mut oldest = Vec::new(alloc);
-    let mut newest = Vec::new(alloc);
-    let mut unknown = Vec::new(alloc);
-    let mut increments = Vec::new(alloc);
-    for number in 0..calls {
-        HeaderAck(number as u64).encode(&mut oldest)?;
-        HeaderAck(size.saturating_sub(number).saturating_sub(1) as u64).encode(&mut newest)?;
-        StreamCancel(size as u64).encode(&mut unknown)?;
-        InsertCountIncrement(0).encode(&mut increments)?;
-    }
-    let cases = [
-        ("acknowledge the oldest blocks", &oldest),
-        ("acknowledge the newest blocks", &newest),
-        ("cancel an unknown stream", &unknown),
-        ("an increment of 0", &increments),
-    ];
-    for (name, stream) in cases {
+    for instruction in [
+        Hostile::Oldest,
+        Hostile::Newest,
+        Hostile::Unknown,
+        Hostile::Nothing,
+    ] {
+        let mut stream = Vec::new(alloc);
+        for number in 0..calls {
+            instruction.write(size, number, &mut stream)?;
+        }
         let mut encoder = with_unacknowledged(alloc, size, true)?;
-        tell_heard(meter, &mut encoder, name, size, calls, stream)?;
+        tell_heard(
+            meter,
+            &mut encoder,
+            instruction.label(),
+            size,
+            calls,
+            &stream,
+        )?;
     }
     Ok(())
 }
