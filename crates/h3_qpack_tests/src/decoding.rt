@@ -192,6 +192,41 @@ fn a_truncated_instruction_waits(rt: HostRuntime) -> Result<(), Fail> {
     decodes(rt.alloc(), &decoder, b"030080", "\"foo\": \"bar\", 38 true")
 }
 
+/// Receives an insertion and a duplicate of it. Where memory is refused, which is answered by `false`, nothing is
+/// written, and the cursor stands behind as many instructions as were applied.
+fn receives_twice(
+    decoder: &mut Decoder,
+    buf: &mut Cursor,
+    written: &mut Vec<u8>,
+) -> Result<bool, Fail> {
+    let answer = decoder.on_encoder_recv(buf, written);
+    let stands = (decoder.table().total_inserted(), buf.position());
+    match answer {
+        Err(DecoderError::Memory) => {
+            let places = [(0, 0), (1, 7), (2, 8)];
+            same((places.contains(&stands), written.len()), (true, 0))?;
+            Ok(false)
+        }
+        answer => {
+            same((answer?, stands), (2, (2, 8)))?;
+            same(written.as_slice(), [2].as_slice())?;
+            Ok(true)
+        }
+    }
+}
+
+#[test]
+fn what_was_refused_memory_is_received_again(rt: HostRuntime) -> Result<(), Fail> {
+    let mut decoder = decoder(rt.alloc(), 4096)?;
+    let offered = bytes(rt.alloc(), b"6294e7838c767f00")?;
+    let mut buf = Cursor::new(offered.as_slice());
+    let mut written = Vec::new(rt.alloc());
+    if receives_twice(&mut decoder, &mut buf, &mut written)? {
+        return Ok(());
+    }
+    same(receives_twice(&mut decoder, &mut buf, &mut written)?, true)
+}
+
 #[test]
 fn refused_instructions_keep_what_was_inserted(rt: HostRuntime) -> Result<(), Fail> {
     let mut decoder = decoder(rt.alloc(), 4096)?;

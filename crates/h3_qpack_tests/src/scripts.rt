@@ -70,7 +70,10 @@ fn encodes(
     handed: &mut Handed,
 ) -> Result<(), Fail> {
     let places = again(|| places(alloc, numbers))?;
-    let event = Event::Encode(handed.stream, again(|| fields_at(alloc, places.as_slice()))?);
+    let event = Event::Encode(
+        handed.stream,
+        again(|| fields_at(alloc, places.as_slice()))?,
+    );
     again(|| handed.blocks.reserve(1))?;
     match session.step(&event) {
         Outcome::Encoded(Ok(_)) => {
