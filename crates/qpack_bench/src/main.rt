@@ -5,6 +5,7 @@
 mod comparing;
 mod connection;
 mod corpus;
+mod inspected;
 mod mutated;
 mod replay;
 mod table;
@@ -82,7 +83,8 @@ fn run(rt: &HostRuntime, alloc: Global) -> Result<()> {
     Ok(())
 }
 
-/// Tells how many blocks of a recorded connection are read as their fields, the encoder stream delivered in pieces.
+/// Tells how many blocks of a recorded connection are read as their fields, the encoder stream delivered in pieces, and
+/// how many are inspected as them.
 fn tell_replayed(
     rt: &HostRuntime,
     alloc: Global,
@@ -95,6 +97,10 @@ fn tell_replayed(
         let read = replay::replay(alloc, lists, text.as_str(), max_capacity, piece)?;
         println!(rt; "{file}: {read} blocks read as their fields, in pieces of {piece} bytes")?;
     }
+    let inspected = inspected::inspect_all(alloc, lists, file, text.as_str(), max_capacity)?;
+    println!(rt;
+        "{file}: {inspected} blocks inspected, each with the count and the size of its fields"
+    )?;
     tell_mutated(rt, alloc, file, text.as_str(), max_capacity)
 }
 
