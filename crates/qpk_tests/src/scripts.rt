@@ -43,9 +43,9 @@ fn a_capacity_is_refused_while_an_entry_is_referenced(rt: HostRuntime) -> Result
             todecoder\t9\ndecode\t12",
         output: "\
             encoded 1 028010 6294e7838c767f\nrefused dynamic table insertion: MaxTableSizeReached\n\
-            refused dynamic table insertion: MaximumTableSizeTooLarge\nreceived 1 01\ndecoded 38 1\nfoo\tbar\nacked 84\n\
-            heard\ncapacity 20\nencoded 0 00002a94e7838c767f -\ncapacity 3f21\nencoded 2 038010 6294e7838c767f\n\
-            received 1 -\nmissing 2\nreceived 2 01\ndecoded 38 1\nfoo\tbar\n",
+            refused dynamic table insertion: MaximumTableSizeTooLarge\nreceived 1 01\ndecoded 38 1\nfoo\tbar\n\
+            acked 84\nheard\ncapacity 20\nencoded 0 00002a94e7838c767f -\ncapacity 3f21\n\
+            encoded 2 038010 6294e7838c767f\nreceived 1 -\nmissing 2\nreceived 2 01\ndecoded 38 1\nfoo\tbar\n",
         fault: "",
     };
     hold(&rt, rt.alloc(), &[case])
