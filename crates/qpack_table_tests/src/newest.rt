@@ -102,9 +102,19 @@ fn small_tables_find_what_a_scan_finds(rt: HostRuntime) -> Result<(), Fail> {
         if numbers.below(8) == 0 {
             table.set_max_size(numbers.below(201))?;
         } else {
-            put(alloc, &mut table, &[below(&mut numbers, 2)], &[below(&mut numbers, 3)])?;
+            put(
+                alloc,
+                &mut table,
+                &[below(&mut numbers, 2)],
+                &[below(&mut numbers, 3)],
+            )?;
         }
-        finds(alloc, &table, &[below(&mut numbers, 2)], &[below(&mut numbers, 3)])?;
+        finds(
+            alloc,
+            &table,
+            &[below(&mut numbers, 2)],
+            &[below(&mut numbers, 3)],
+        )?;
     }
     Ok(())
 }
@@ -116,8 +126,18 @@ fn a_large_table_finds_what_a_scan_finds(rt: HostRuntime) -> Result<(), Fail> {
     table.set_max_size(4096)?;
     let mut numbers = Numbers::new(0x0FED_CBA9_8765_4321);
     for _ in 0..1000 {
-        put(alloc, &mut table, &[below(&mut numbers, 8)], &[below(&mut numbers, 16)])?;
-        finds(alloc, &table, &[below(&mut numbers, 8)], &[below(&mut numbers, 16)])?;
+        put(
+            alloc,
+            &mut table,
+            &[below(&mut numbers, 8)],
+            &[below(&mut numbers, 16)],
+        )?;
+        finds(
+            alloc,
+            &table,
+            &[below(&mut numbers, 8)],
+            &[below(&mut numbers, 16)],
+        )?;
     }
     same(live_count(&table) > 100, true)
 }

@@ -8,9 +8,8 @@ ghost use Rattle.qpack_base.specs.HeaderFields.{field_of};
 
 mod numbers;
 
-pub use numbers::Numbers;
-
 use hex::FromHexError;
+pub use numbers::Numbers;
 use qpack_base::coding::NoMemory;
 use qpack_base::field::HeaderField;
 use std::alloc::Global;
