@@ -1,13 +1,11 @@
 //! Few bytes that make a decoder copy many: lines and instructions that name a large entry.
 
-use crate::entries::{decoded_size, empty_table, prefix_of};
+use crate::ends::{decoded_size, new_decoder, prefix_of, receive, write_insertion};
 use crate::meter::{Case, Meter};
 use anyhow::{Result, bail};
 use h3_qpack::coding::Cursor;
 use h3_qpack::decoder::Decoder;
-use h3_qpack::stream::{
-    Duplicate, DynamicTableSizeUpdate, InsertWithNameRef, InsertWithoutNameRef,
-};
+use h3_qpack::stream::{Duplicate, DynamicTableSizeUpdate, InsertWithNameRef};
 use h3_qpack::{DecoderError, decode_stateless};
 use std::alloc::Global;
 
@@ -32,11 +30,11 @@ pub(crate) fn tell(meter: &Meter, alloc: Global, size: usize) -> Result<()> {
 
 /// A decoder with one entry, whose name has so many bytes and whose value is empty.
 fn with_large_entry(alloc: Global, size: usize) -> Result<Decoder> {
-    let mut decoder = Decoder::from(empty_table(alloc, CAPACITY, 0)?);
+    let mut decoder = new_decoder(alloc, CAPACITY)?;
     let name = Vec::from_elem(alloc, b'a', size)?;
     let mut stream = Vec::new(alloc);
-    InsertWithoutNameRef::write(&name, b"", &mut stream)?;
-    decoder.on_encoder_recv(&mut Cursor::new(&stream), &mut Vec::new(alloc))?;
+    write_insertion(&name, b"", &mut stream)?;
+    receive(alloc, &mut decoder, &stream)?;
     Ok(decoder)
 }
 
@@ -67,10 +65,7 @@ fn tell_limit(meter: &Meter, alloc: Global, size: usize) -> Result<()> {
         block.push(0xD1)?;
     }
     let start = meter.start()?;
-    let answer = decode_stateless(alloc, &mut Cursor::new(&block), LIMIT);
-    let Err(DecoderError::HeaderTooLong(sum)) = answer else {
-        bail!("the limit was not passed");
-    };
+    let sum = refused_size(alloc, &block)?;
     let case = Case {
         name: "decode_stateless, past its limit",
         size,
@@ -78,6 +73,14 @@ fn tell_limit(meter: &Meter, alloc: Global, size: usize) -> Result<()> {
         bytes: block.len(),
     };
     meter.tell(case, start, sum, 16_422)
+}
+
+/// Decodes a block that passes the limit; the sum at which it did.
+fn refused_size(alloc: Global, block: &[u8]) -> Result<u64> {
+    match decode_stateless(alloc, &mut Cursor::new(block), LIMIT) {
+        Err(DecoderError::HeaderTooLong(sum)) => Ok(sum),
+        _ => bail!("the limit was not passed"),
+    }
 }
 
 /// Tells how long instructions take that insert the large entry again, in one byte each.
@@ -123,7 +126,7 @@ fn tell_stream(
 ) -> Result<()> {
     let mut decoder = with_large_entry(alloc, size)?;
     let start = meter.start()?;
-    let received = decoder.on_encoder_recv(&mut Cursor::new(stream), &mut Vec::new(alloc))?;
+    let received = receive(alloc, &mut decoder, stream)?;
     let case = Case {
         name,
         size,
@@ -131,7 +134,7 @@ fn tell_stream(
         bytes: stream.len(),
     };
     let expected = count.saturating_add(1);
-    meter.tell(case, start, received as u64, expected as u64)
+    meter.tell(case, start, received, expected as u64)
 }
 
 /// Tells how long it takes to set the capacity to 0 and back so often, on a table of so many small entries.
@@ -143,23 +146,23 @@ fn tell_capacities(meter: &Meter, alloc: Global, size: usize) -> Result<()> {
         DynamicTableSizeUpdate(CAPACITY).encode(&mut stream)?;
     }
     let start = meter.start()?;
-    let received = decoder.on_encoder_recv(&mut Cursor::new(&stream), &mut Vec::new(alloc))?;
+    let received = receive(alloc, &mut decoder, &stream)?;
     let case = Case {
         name: "capacity to 0 and back",
         size,
         calls: size.saturating_mul(2),
         bytes: stream.len(),
     };
-    meter.tell(case, start, received as u64, size as u64)
+    meter.tell(case, start, received, size as u64)
 }
 
 /// A decoder that received so many small entries.
 fn with_small_entries(alloc: Global, size: usize) -> Result<Decoder> {
-    let mut decoder = Decoder::from(empty_table(alloc, CAPACITY, 0)?);
+    let mut decoder = new_decoder(alloc, CAPACITY)?;
     let mut stream = Vec::new(alloc);
     for _ in 0..size {
-        InsertWithoutNameRef::write(b"a", b"b", &mut stream)?;
+        write_insertion(b"a", b"b", &mut stream)?;
     }
-    decoder.on_encoder_recv(&mut Cursor::new(&stream), &mut Vec::new(alloc))?;
+    receive(alloc, &mut decoder, &stream)?;
     Ok(decoder)
 }

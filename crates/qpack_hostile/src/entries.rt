@@ -1,26 +1,18 @@
 //! Tables of many entries, as both ends find, insert and read them.
 
+use crate::ends::{
+    decoded_size, empty_table, encode_block, hear, new_decoder, prefix_of, receive, write_insertion,
+};
 use crate::fields::{FIELD_SIZE, Kind};
-use crate::meter::{Case, Meter};
+use crate::meter::{Case, Meter, case_name};
 use anyhow::Result;
-use h3_qpack::coding::Cursor;
 use h3_qpack::decoder::Decoder;
-use h3_qpack::dynamic::DynamicTable;
 use h3_qpack::encoder::Encoder;
-use h3_qpack::stream::InsertWithoutNameRef;
 use h3_qpack::{HeaderField, prefix_int};
 use std::alloc::Global;
 
 /// The most fields that are encoded one by one.
 const MOST_CALLS: usize = 100;
-
-/// An empty table of this capacity, where so many blocks may be blocked.
-pub(crate) fn empty_table(alloc: Global, capacity: usize, limit: usize) -> Result<DynamicTable> {
-    let mut table = DynamicTable::new(alloc);
-    table.set_max_size(capacity)?;
-    table.set_max_blocked(limit)?;
-    Ok(table)
-}
 
 /// Tells the cases of a kind of fields, in tables of so many entries.
 pub(crate) fn tell(meter: &Meter, alloc: Global, kind: Kind, size: usize) -> Result<()> {
@@ -80,7 +72,7 @@ fn tell_encoded(
             referenced = referenced.saturating_add(1);
         }
     }
-    let name = format!(in alloc; "{what}, {}", kind.label())?;
+    let name = case_name(alloc, what, kind.label())?;
     let case = Case {
         name: name.as_str(),
         size,
@@ -99,7 +91,7 @@ fn is_referenced(
 ) -> Result<bool> {
     block.clear();
     stream.clear();
-    let required = encoder.encode(0, block, stream, fields.iter())?;
+    let required = encode_block(encoder, 0, fields, block, stream)?;
     if required == 0 {
         return Ok(false);
     }
@@ -108,14 +100,14 @@ fn is_referenced(
     } else {
         b"\x01\x80"
     };
-    encoder.on_decoder_recv(&mut Cursor::new(heard))?;
+    hear(encoder, heard)?;
     Ok(true)
 }
 
 /// Writes the insertions of the fields, each with its name.
 fn write_insertions(fields: &[HeaderField], stream: &mut Vec<u8>) -> Result<()> {
     for field in fields {
-        InsertWithoutNameRef::write(field.name.as_slice(), field.value.as_slice(), stream)?;
+        write_insertion(field.name.as_slice(), field.value.as_slice(), stream)?;
     }
     Ok(())
 }
@@ -123,13 +115,13 @@ fn write_insertions(fields: &[HeaderField], stream: &mut Vec<u8>) -> Result<()> 
 /// Tells how long a decoder takes to receive the fields twice, and to decode a block of all of them.
 fn tell_received(meter: &Meter, alloc: Global, kind: Kind, fields: &[HeaderField]) -> Result<()> {
     let capacity = fields.len().saturating_mul(FIELD_SIZE);
-    let mut decoder = Decoder::from(empty_table(alloc, capacity, 0)?);
+    let mut decoder = new_decoder(alloc, capacity)?;
     let mut stream = Vec::new(alloc);
     write_insertions(fields, &mut stream)?;
     write_insertions(fields, &mut stream)?;
     let start = meter.start()?;
-    let received = decoder.on_encoder_recv(&mut Cursor::new(&stream), &mut Vec::new(alloc))?;
-    let name = format!(in alloc; "receive, {}", kind.label())?;
+    let received = receive(alloc, &mut decoder, &stream)?;
+    let name = case_name(alloc, "receive", kind.label())?;
     let insertions = fields.len().saturating_mul(2);
     let case = Case {
         name: name.as_str(),
@@ -137,7 +129,7 @@ fn tell_received(meter: &Meter, alloc: Global, kind: Kind, fields: &[HeaderField
         calls: insertions,
         bytes: stream.len(),
     };
-    meter.tell(case, start, received as u64, insertions as u64)?;
+    meter.tell(case, start, received, insertions as u64)?;
     tell_decoded(meter, alloc, kind, &decoder, fields.len())
 }
 
@@ -155,7 +147,7 @@ fn tell_decoded(
     }
     let start = meter.start()?;
     let decoded = decoded_size(decoder, &block)?;
-    let name = format!(in alloc; "decode, {}", kind.label())?;
+    let name = case_name(alloc, "decode", kind.label())?;
     let case = Case {
         name: name.as_str(),
         size: count,
@@ -164,22 +156,4 @@ fn tell_decoded(
     };
     let size = count.saturating_mul(FIELD_SIZE);
     meter.tell(case, start, decoded, size as u64)
-}
-
-/// Decodes a block; the sum of its fields' sizes.
-pub(crate) fn decoded_size(decoder: &Decoder, block: &[u8]) -> Result<u64> {
-    let decoded = decoder.decode_header(&mut Cursor::new(block))?;
-    Ok(decoded.mem_size)
-}
-
-/// The prefix of a block that requires all that a decoder inserted, which is its base too (RFC 9204, section 4.5.1).
-pub(crate) fn prefix_of(alloc: Global, decoder: &Decoder) -> Result<Vec<u8>> {
-    let table = decoder.table();
-    let entries = (table.agreed_max() / 32) as u64;
-    let required = table.total_inserted() as u64;
-    let rest = required.checked_rem(entries.saturating_mul(2)).unwrap_or(0);
-    let mut block = Vec::new(alloc);
-    prefix_int::encode(8, 0, rest.saturating_add(1), &mut block)?;
-    prefix_int::encode(7, 0, 0, &mut block)?;
-    Ok(block)
 }

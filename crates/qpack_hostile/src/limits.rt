@@ -3,7 +3,7 @@
 //! No machine has the memory that the lengths declare, so a call that asked for it would answer that memory is wanted;
 //! each answers that the bytes end, or waits for more.
 
-use crate::entries::empty_table;
+use crate::ends::{empty_table, new_decoder};
 use crate::meter::{Case, Meter};
 use anyhow::{Result, ensure};
 use h3_qpack::coding::Cursor;
@@ -142,7 +142,7 @@ fn case(name: &str) -> Case<'_> {
 /// Whether both calls that read a block tell that a string of it is cut.
 fn is_cut(alloc: Global, block: &[u8]) -> Result<bool> {
     let cut = Some(DecoderError::InvalidString(Error::UnexpectedEnd));
-    let decoder = Decoder::from(empty_table(alloc, CAPACITY, 0)?);
+    let decoder = new_decoder(alloc, CAPACITY)?;
     let with_table = decoder.decode_header(&mut Cursor::new(block)).err();
     let alone = decode_stateless(alloc, &mut Cursor::new(block), u64::MAX).err();
     Ok(with_table == cut && alone == cut)
@@ -150,7 +150,7 @@ fn is_cut(alloc: Global, block: &[u8]) -> Result<bool> {
 
 /// Whether the rest of an instruction is waited for.
 fn is_waited_for(alloc: Global, instruction: &[u8]) -> Result<bool> {
-    let mut decoder = Decoder::from(empty_table(alloc, CAPACITY, 0)?);
+    let mut decoder = new_decoder(alloc, CAPACITY)?;
     let mut written = Vec::new(alloc);
     let mut cursor = Cursor::new(instruction);
     let received = decoder.on_encoder_recv(&mut cursor, &mut written)?;

@@ -3,6 +3,7 @@
 #![tactic(auto)]
 
 mod copies;
+mod ends;
 mod entries;
 mod fields;
 mod limits;

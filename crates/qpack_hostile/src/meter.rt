@@ -1,6 +1,7 @@
 //! A line for each case: what its calls answered, and, if that is asked for, how long they took.
 
 use anyhow::{Result, ensure};
+use std::alloc::Global;
 use std::time::Instant;
 
 /// A case: what is called, with what.
@@ -13,6 +14,11 @@ pub(crate) struct Case<'a> {
     pub(crate) calls: usize,
     /// How many bytes of a peer are read, 0 where none are.
     pub(crate) bytes: usize,
+}
+
+/// The name of a case, by what is called and on what.
+pub(crate) fn case_name(alloc: Global, call: &str, input: &str) -> Result<String> {
+    Ok(format!(in alloc; "{call}, {input}")?)
 }
 
 /// Tells the cases.

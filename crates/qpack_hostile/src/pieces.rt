@@ -1,11 +1,8 @@
 //! An instruction that comes byte by byte, and is offered again from its start each time.
 
-use crate::entries::empty_table;
+use crate::ends::{new_decoder, receive, write_insertion};
 use crate::meter::{Case, Meter};
 use anyhow::Result;
-use h3_qpack::coding::Cursor;
-use h3_qpack::decoder::Decoder;
-use h3_qpack::stream::InsertWithoutNameRef;
 use std::alloc::Global;
 
 /// Tells the cases of instructions of some so many bytes: a long value behind a short name, and a long value behind a
@@ -25,15 +22,14 @@ pub(crate) fn tell(meter: &Meter, alloc: Global, size: usize) -> Result<()> {
 
 /// Tells how long the bytes of an insertion take, each given with all before it.
 fn tell_pieces(meter: &Meter, alloc: Global, case: &str, name: &[u8], value: &[u8]) -> Result<()> {
-    let mut decoder = Decoder::from(empty_table(alloc, 1 << 20, 0)?);
-    let mut written = Vec::new(alloc);
+    let mut decoder = new_decoder(alloc, 1 << 20)?;
     let mut stream = Vec::new(alloc);
-    InsertWithoutNameRef::write(name, value, &mut stream)?;
+    write_insertion(name, value, &mut stream)?;
     let start = meter.start()?;
-    let mut received = 0usize;
+    let mut received = 0u64;
     for end in 1..=stream.len() {
         let offered = stream.get(..end).unwrap_or(&stream);
-        received = decoder.on_encoder_recv(&mut Cursor::new(offered), &mut written)?;
+        received = receive(alloc, &mut decoder, offered)?;
     }
     let case = Case {
         name: case,
@@ -41,5 +37,5 @@ fn tell_pieces(meter: &Meter, alloc: Global, case: &str, name: &[u8], value: &[u
         calls: stream.len(),
         bytes: stream.len(),
     };
-    meter.tell(case, start, received as u64, 1)
+    meter.tell(case, start, received, 1)
 }

@@ -1,13 +1,10 @@
 //! Strings: the longest codes and the shortest, coded and plain, in payloads of equal length.
 
-use crate::entries::empty_table;
-use crate::meter::{Case, Meter};
+use crate::ends::{new_decoder, receive, stateless_size, write_insertion};
+use crate::meter::{Case, Meter, case_name};
 use anyhow::Result;
 use h3_qpack::block::Literal;
-use h3_qpack::coding::Cursor;
-use h3_qpack::decoder::Decoder;
-use h3_qpack::stream::InsertWithoutNameRef;
-use h3_qpack::{decode_stateless, prefix_int};
+use h3_qpack::prefix_int;
 use std::alloc::Global;
 
 /// A line feed, whose code has thirty bits; and a letter whose code has five (RFC 7541, appendix B).
@@ -55,9 +52,9 @@ fn tell_block(
     let mut read = 0u64;
     let start = meter.start()?;
     for _ in 0..ROUNDS {
-        read = read.saturating_add(decoded_size(alloc, block)?);
+        read = read.saturating_add(stateless_size(alloc, block)?);
     }
-    let name = format!(in alloc; "decode_stateless, {label}")?;
+    let name = case_name(alloc, "decode_stateless", label)?;
     let case = Case {
         name: name.as_str(),
         size,
@@ -68,27 +65,21 @@ fn tell_block(
     meter.tell(case, start, read, expected as u64)
 }
 
-/// Decodes a block; the sum of its fields' sizes.
-fn decoded_size(alloc: Global, block: &[u8]) -> Result<u64> {
-    let decoded = decode_stateless(alloc, &mut Cursor::new(block), u64::MAX)?;
-    Ok(decoded.mem_size)
-}
-
 /// Tells how long insertions take whose value is the text.
 fn tell_stream(meter: &Meter, alloc: Global, label: &str, size: usize, text: &[u8]) -> Result<()> {
     let mut stream = Vec::new(alloc);
     for _ in 0..ROUNDS {
-        InsertWithoutNameRef::write(b"n", text, &mut stream)?;
+        write_insertion(b"n", text, &mut stream)?;
     }
-    let mut decoder = Decoder::from(empty_table(alloc, 1 << 20, 0)?);
+    let mut decoder = new_decoder(alloc, 1 << 20)?;
     let start = meter.start()?;
-    let received = decoder.on_encoder_recv(&mut Cursor::new(&stream), &mut Vec::new(alloc))?;
-    let name = format!(in alloc; "receive, {label}")?;
+    let received = receive(alloc, &mut decoder, &stream)?;
+    let name = case_name(alloc, "receive", label)?;
     let case = Case {
         name: name.as_str(),
         size,
         calls: ROUNDS,
         bytes: stream.len(),
     };
-    meter.tell(case, start, received as u64, ROUNDS as u64)
+    meter.tell(case, start, received, ROUNDS as u64)
 }

@@ -1,10 +1,9 @@
 //! Blocks that a decoder never acknowledged, and what its instructions then cost the encoder.
 
-use crate::entries::empty_table;
+use crate::ends::{empty_table, encode_block, hear};
 use crate::meter::{Case, Meter};
 use anyhow::Result;
 use h3_qpack::HeaderField;
-use h3_qpack::coding::Cursor;
 use h3_qpack::encoder::Encoder;
 use h3_qpack::stream::{HeaderAck, InsertCountIncrement, StreamCancel};
 use std::alloc::Global;
@@ -94,16 +93,27 @@ fn with_unacknowledged(alloc: Global, count: usize, has_streams: bool) -> Result
     let mut encoder = Encoder::from(table);
     for number in 0..count {
         let stream_id = if has_streams { number as u64 } else { 0 };
-        encode_known(alloc, &mut encoder, stream_id)?;
+        encode_value(alloc, &mut encoder, stream_id, b"bar")?;
     }
     Ok(encoder)
 }
 
-/// Encodes a block that references the only entry; its required insert count.
-fn encode_known(alloc: Global, encoder: &mut Encoder, stream_id: u64) -> Result<usize> {
-    let fields = [HeaderField::from_pair(alloc, b"foo", b"bar")?];
+/// Encodes a block of one field, whose value this is; its required insert count.
+fn encode_value(
+    alloc: Global,
+    encoder: &mut Encoder,
+    stream_id: u64,
+    value: &[u8],
+) -> Result<usize> {
+    let fields = [HeaderField::from_pair(alloc, b"foo", value)?];
     let mut block = Vec::new(alloc);
-    Ok(encoder.encode(stream_id, &mut block, &mut Vec::new(alloc), fields.iter())?)
+    encode_block(
+        encoder,
+        stream_id,
+        &fields,
+        &mut block,
+        &mut Vec::new(alloc),
+    )
 }
 
 /// Tells how long an encoder takes over bytes of a decoder stream, of which it takes all.
@@ -115,16 +125,15 @@ fn tell_heard(
     calls: usize,
     stream: &[u8],
 ) -> Result<()> {
-    let mut cursor = Cursor::new(stream);
     let start = meter.start()?;
-    encoder.on_decoder_recv(&mut cursor)?;
+    let heard = hear(encoder, stream)?;
     let case = Case {
         name,
         size,
         calls,
         bytes: stream.len(),
     };
-    meter.tell(case, start, cursor.position() as u64, stream.len() as u64)
+    meter.tell(case, start, heard, stream.len() as u64)
 }
 
 /// Tells how long it takes to cancel a stream that has all the blocks.
@@ -148,7 +157,7 @@ fn tell_encoded(meter: &Meter, alloc: Global, size: usize) -> Result<()> {
     let mut required = 0u64;
     let start = meter.start()?;
     for _ in 0..MOST_CALLS {
-        let each = encode_known(alloc, &mut encoder, 0)?;
+        let each = encode_value(alloc, &mut encoder, 0, b"bar")?;
         required = required.saturating_add(each as u64);
     }
     let case = Case {
@@ -167,14 +176,7 @@ fn tell_blocked(meter: &Meter, alloc: Global, size: usize) -> Result<()> {
     let mut stream = Vec::new(alloc);
     for number in 0..size {
         let value = format!(in alloc; "{number:08}")?;
-        let fields = [HeaderField::from_pair(alloc, b"name", value.as_bytes())?];
-        let mut block = Vec::new(alloc);
-        encoder.encode(
-            number as u64,
-            &mut block,
-            &mut Vec::new(alloc),
-            fields.iter(),
-        )?;
+        encode_value(alloc, &mut encoder, number as u64, value.as_bytes())?;
         InsertCountIncrement(1).encode(&mut stream)?;
     }
     tell_heard(

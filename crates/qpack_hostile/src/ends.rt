@@ -1,0 +1,76 @@
+//! Both ends of a connection, each call in a function of its own that answers a number.
+
+use anyhow::Result;
+use h3_qpack::coding::Cursor;
+use h3_qpack::decoder::Decoder;
+use h3_qpack::dynamic::DynamicTable;
+use h3_qpack::encoder::Encoder;
+use h3_qpack::stream::InsertWithoutNameRef;
+use h3_qpack::{HeaderField, decode_stateless, prefix_int};
+use std::alloc::Global;
+
+/// An empty table of this capacity, where so many blocks may be blocked.
+pub(crate) fn empty_table(alloc: Global, capacity: usize, limit: usize) -> Result<DynamicTable> {
+    let mut table = DynamicTable::new(alloc);
+    table.set_max_size(capacity)?;
+    table.set_max_blocked(limit)?;
+    Ok(table)
+}
+
+/// A decoder whose table is empty and has this capacity.
+pub(crate) fn new_decoder(alloc: Global, capacity: usize) -> Result<Decoder> {
+    Ok(Decoder::from(empty_table(alloc, capacity, 0)?))
+}
+
+/// Writes the insertion of a field with its name (RFC 9204, section 4.3.3).
+pub(crate) fn write_insertion(name: &[u8], value: &[u8], stream: &mut Vec<u8>) -> Result<()> {
+    Ok(InsertWithoutNameRef::write(name, value, stream)?)
+}
+
+/// A decoder takes bytes of an encoder stream; how many insertions it ever made.
+pub(crate) fn receive(alloc: Global, decoder: &mut Decoder, stream: &[u8]) -> Result<u64> {
+    let received = decoder.on_encoder_recv(&mut Cursor::new(stream), &mut Vec::new(alloc))?;
+    Ok(received as u64)
+}
+
+/// Decodes a block under a decoder's table; the sum of its fields' sizes.
+pub(crate) fn decoded_size(decoder: &Decoder, block: &[u8]) -> Result<u64> {
+    let decoded = decoder.decode_header(&mut Cursor::new(block))?;
+    Ok(decoded.mem_size)
+}
+
+/// Decodes a block without a table; the sum of its fields' sizes.
+pub(crate) fn stateless_size(alloc: Global, block: &[u8]) -> Result<u64> {
+    let decoded = decode_stateless(alloc, &mut Cursor::new(block), u64::MAX)?;
+    Ok(decoded.mem_size)
+}
+
+/// The prefix of a block that requires all that a decoder inserted, which is its base too (RFC 9204, section 4.5.1).
+pub(crate) fn prefix_of(alloc: Global, decoder: &Decoder) -> Result<Vec<u8>> {
+    let table = decoder.table();
+    let entries = (table.agreed_max() / 32) as u64;
+    let required = table.total_inserted() as u64;
+    let rest = required.checked_rem(entries.saturating_mul(2)).unwrap_or(0);
+    let mut block = Vec::new(alloc);
+    prefix_int::encode(8, 0, rest.saturating_add(1), &mut block)?;
+    prefix_int::encode(7, 0, 0, &mut block)?;
+    Ok(block)
+}
+
+/// Encodes a block; its required insert count.
+pub(crate) fn encode_block(
+    encoder: &mut Encoder,
+    stream_id: u64,
+    fields: &[HeaderField],
+    block: &mut Vec<u8>,
+    stream: &mut Vec<u8>,
+) -> Result<usize> {
+    Ok(encoder.encode(stream_id, block, stream, fields.iter())?)
+}
+
+/// An encoder takes bytes of a decoder stream; how many of them.
+pub(crate) fn hear(encoder: &mut Encoder, stream: &[u8]) -> Result<u64> {
+    let mut cursor = Cursor::new(stream);
+    encoder.on_decoder_recv(&mut cursor)?;
+    Ok(cursor.position() as u64)
+}
