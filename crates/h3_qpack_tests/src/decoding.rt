@@ -1,5 +1,6 @@
 //! Field sections and encoder instructions under a dynamic table.
 
+use crate::shown::shown_answer;
 use h3_qpack::HeaderField;
 use h3_qpack::coding::{Cursor, NoMemory};
 use h3_qpack::decoder::{Decoder, DecoderError, ack_header, stream_canceled};
@@ -39,17 +40,11 @@ fn put(alloc: Global, table: &mut DynamicTable, entry: &HeaderField) -> Result<(
 
 /// What a section in hexadecimal is decoded to: its fields, their size and whether it requires an entry; or the error.
 fn shown(alloc: Global, decoder: &Decoder, section: &[u8]) -> Result<String, DecoderError> {
-    let decoded = match decoder.decode_header(&mut Cursor::new(section)) {
-        Ok(decoded) => decoded,
-        Err(DecoderError::Memory) => return Err(DecoderError::Memory),
-        Err(e) => return Ok(format!(in alloc; "{e:?}")?),
-    };
-    let mut text = String::new(alloc);
-    for field in &decoded.fields {
-        text.push_str(format!(in alloc; "{field}, ")?.as_str())?;
+    let answer = decoder.decode_header(&mut Cursor::new(section));
+    if matches!(answer, Err(DecoderError::Memory)) {
+        return Err(DecoderError::Memory);
     }
-    text.push_str(format!(in alloc; "{} {}", decoded.mem_size, decoded.dyn_ref)?.as_str())?;
-    Ok(text)
+    Ok(shown_answer(alloc, &answer)?)
 }
 
 /// A section in hexadecimal is decoded to this.

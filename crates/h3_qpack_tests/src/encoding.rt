@@ -255,17 +255,18 @@ fn shown_of_two_calls(alloc: Global, memory: usize, room: usize) -> Result<Strin
     Ok(text)
 }
 
-/// A section whose first call finds so little memory is written so by both.
+/// A section whose first call finds so little memory is written so by both; and so once more where a refusal beside
+/// that one ended the first call elsewhere.
 fn writes_in_two_calls(
     alloc: Global,
     (memory, room): (usize, usize),
     text: &str,
 ) -> Result<(), Fail> {
-    let written = match shown_of_two_calls(alloc, memory, room) {
-        Ok(written) => written,
-        Err(_) => shown_of_two_calls(alloc, memory, room)?,
-    };
-    same(written.as_str(), text)
+    let written = shown_of_two_calls(alloc, memory, room);
+    if matches!(&written, Ok(written) if written.as_str() == text) {
+        return Ok(());
+    }
+    same(shown_of_two_calls(alloc, memory, room)?.as_str(), text)
 }
 
 #[test]

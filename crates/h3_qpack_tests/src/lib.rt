@@ -15,4 +15,6 @@ mod scripts;
 #[cfg(test)]
 mod sessions;
 #[cfg(test)]
+mod shown;
+#[cfg(test)]
 mod texts;

@@ -1,7 +1,8 @@
 //! Worked sessions: what each event answers, and the bytes that it adds.
 
+use crate::shown::shown_answer;
 use h3_qpack::coding::{Cursor, NoMemory};
-use h3_qpack::decoder::{Decoded, Decoder, DecoderError};
+use h3_qpack::decoder::{Decoder, DecoderError};
 use h3_qpack::dynamic;
 use h3_qpack::session::{Event, Outcome, Session, run};
 use qpack_testing::{Pairs, again, bytes, field, fields, same};
@@ -40,24 +41,10 @@ fn event(alloc: Global, given: &Given) -> Result<Event, NoMemory> {
     })
 }
 
-/// What was decoded: the fields, their size and whether an entry is required; or the error.
-fn shown(alloc: Global, answer: &Result<Decoded, DecoderError>) -> Result<String, NoMemory> {
-    let decoded = match answer {
-        Ok(decoded) => decoded,
-        Err(e) => return Ok(format!(in alloc; "{e:?}")?),
-    };
-    let mut text = String::new(alloc);
-    for field in &decoded.fields {
-        text.push_str(format!(in alloc; "{field}, ")?.as_str())?;
-    }
-    text.push_str(format!(in alloc; "{} {}", decoded.mem_size, decoded.dyn_ref)?.as_str())?;
-    Ok(text)
-}
-
 /// What an event answers.
 fn told(alloc: Global, outcome: &Outcome) -> Result<String, NoMemory> {
     match outcome {
-        Outcome::Decoded(answer) => shown(alloc, answer),
+        Outcome::Decoded(answer) => shown_answer(alloc, answer),
         outcome => Ok(format!(in alloc; "{outcome:?}")?),
     }
 }
@@ -66,7 +53,7 @@ fn told(alloc: Global, outcome: &Outcome) -> Result<String, NoMemory> {
 fn decoded(alloc: Global, decoder: &Decoder, block: &[u8]) -> Result<String, NoMemory> {
     match decoder.decode_header(&mut Cursor::new(block)) {
         Err(DecoderError::Memory) => Err(NoMemory),
-        answer => shown(alloc, &answer),
+        answer => shown_answer(alloc, &answer),
     }
 }
 
