@@ -63,7 +63,7 @@ fn a_stream_cut_anywhere_prints_the_same_instructions(rt: HostRuntime) -> Result
     let whole = again(|| without_totals(alloc, PRINTED.as_bytes()))?;
     for bytes in 0..9usize {
         let input = again(|| cut_at(alloc, 2 * bytes))?;
-        let answer = run(&rt, alloc, "inspect 4096", &input)?;
+        let answer = run(&rt, alloc, "inspect 4096", &input, "")?;
         let kept = again(|| without_totals(alloc, &answer.output))?;
         assert_eq!(rt; kept.as_slice(), whole.as_slice());
     }

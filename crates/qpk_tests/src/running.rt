@@ -69,10 +69,12 @@ fn run_once(alloc: Global, words: &[String], input: &[u8]) -> Answer {
     }
 }
 
-/// Whether memory was refused to a run, which must leave the output as it was, or to one of its events.
-fn was_refused(rt: &impl Abort, answer: &Answer) -> bool {
+/// Whether memory was refused to a run or to one of its events. A run must leave the output as it was, or with what
+/// stands before the refusal that ends an inspection, if its line had no memory.
+fn was_refused(rt: &impl Abort, answer: &Answer, before: &str) -> bool {
     if answer.status == 1 && wants_memory(&answer.faults) {
-        assert!(rt; answer.output.is_empty());
+        let output = answer.output.as_slice();
+        assert!(rt; output.is_empty() || output == before.as_bytes());
         return true;
     }
     match str::from_utf8(&answer.output) {
@@ -81,11 +83,17 @@ fn was_refused(rt: &impl Abort, answer: &Answer) -> bool {
     }
 }
 
-/// Runs the program, and again where memory was refused.
-pub fn run(rt: &impl Abort, alloc: Global, line: &str, input: &[u8]) -> Result<Answer, Fail> {
+/// Runs the program, and again where memory was refused, which may leave what stands before a refusal.
+pub fn run(
+    rt: &impl Abort,
+    alloc: Global,
+    line: &str,
+    input: &[u8],
+    before: &str,
+) -> Result<Answer, Fail> {
     let words = words(alloc, line)?;
     let answer = run_once(alloc, &words, input);
-    if was_refused(rt, &answer) {
+    if was_refused(rt, &answer, before) {
         return Ok(run_once(alloc, &words, input));
     }
     Ok(answer)
@@ -94,7 +102,12 @@ pub fn run(rt: &impl Abort, alloc: Global, line: &str, input: &[u8]) -> Result<A
 /// Runs cases: status 0 goes with no fault, and 1 with one.
 pub fn hold(rt: &impl Abort, alloc: Global, cases: &[Case]) -> Result<(), Fail> {
     for case in cases {
-        let answer = run(rt, alloc, case.words, case.input.as_bytes())?;
+        let before = if case.fault.is_empty() {
+            ""
+        } else {
+            case.output
+        };
+        let answer = run(rt, alloc, case.words, case.input.as_bytes(), before)?;
         assert_eq!(rt; answer.output.as_slice(), case.output.as_bytes());
         assert_eq!(rt; answer.faults.as_slice(), case.fault.as_bytes());
         assert_eq!(rt; answer.status, u8::from(!case.fault.is_empty()));
