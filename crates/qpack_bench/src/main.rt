@@ -13,7 +13,8 @@ mod timing;
 
 use anyhow::Result;
 use h3_qpack::HeaderField;
-use mutated::{Answers, Numbers};
+use mutated::Answers;
+use qpack_testing::Numbers;
 use std::alloc::Global;
 use std::{env, fs};
 

@@ -6,29 +6,8 @@ use crate::replay::Receiver;
 use anyhow::{Result, bail, ensure};
 use h3_qpack::DecoderError;
 use h3_qpack::dynamic::DynamicTable;
+use qpack_testing::Numbers;
 use std::alloc::Global;
-
-/// Numbers that look random, the same each time.
-#[derive(Drop)]
-pub(crate) struct Numbers {
-    state: u64,
-}
-
-impl Numbers {
-    pub(crate) fn new(seed: u64) -> Numbers {
-        Numbers { state: seed }
-    }
-
-    /// A number below another one.
-    fn below(&mut self, limit: usize) -> usize {
-        self.state = self
-            .state
-            .wrapping_mul(6_364_136_223_846_793_005)
-            .wrapping_add(1_442_695_040_888_963_407);
-        let number = (self.state >> 33) as usize;
-        number.checked_rem(limit).unwrap_or(0)
-    }
-}
 
 /// How many lines were answered, and how many of the answers were refusals.
 #[derive(Debug, Clone, Copy, PartialEq)]

@@ -1,17 +1,13 @@
 //! Worked scripts whose events are given again where memory was refused to them: each later decode answers what was
 //! handed, and no stream is refused. Each test holds whichever one allocation is refused.
 
-use h3_qpack::HeaderField;
 use h3_qpack::coding::NoMemory;
 use h3_qpack::decoder::{Decoded, DecoderError};
 use h3_qpack::encoder::EncoderError;
 use h3_qpack::session::{Event, Outcome, Session};
-use qpack_testing::{again, field, same};
+use qpack_testing::{Pairs, again, fields, same};
 use std::alloc::Global;
 use std::test::Fail;
-
-/// Names and values.
-type Pairs = &'static [(&'static [u8], &'static [u8])];
 
 /// The lists that are encoded: two fields, one of them twice, and eight of one name.
 const LISTS: [Pairs; 11] = [
@@ -57,19 +53,15 @@ struct Handed {
     is_decoded: bool,
 }
 
-/// The fields of a list.
-fn fields(alloc: Global, list: usize) -> Result<Vec<HeaderField>, NoMemory> {
-    let mut fields = Vec::with_capacity(alloc, 2)?;
-    for (name, value) in LISTS.get(list).copied().unwrap_or(&[]) {
-        fields.push(field(alloc, name, value)?)?;
-    }
-    Ok(fields)
+/// The list at a place.
+fn list_at(list: usize) -> Pairs {
+    LISTS.get(list).copied().unwrap_or(&[])
 }
 
 /// The event.
 fn event_of(alloc: Global, given: Given) -> Result<Event, NoMemory> {
     Ok(match given {
-        Given::Encode(stream, list) => Event::Encode(stream, fields(alloc, list)?),
+        Given::Encode(stream, list) => Event::Encode(stream, fields(alloc, list_at(list))?),
         Given::Decode(stream) => Event::Decode(stream),
         Given::ToDecoder(count) => Event::ToDecoder(count),
         Given::ToEncoder(count) => Event::ToEncoder(count),
@@ -119,7 +111,7 @@ fn give(alloc: Global, session: &mut Session, given: Given) -> Result<Outcome, F
 
 /// The fields are those of a list.
 fn are(decoded: &Decoded, list: usize) -> Result<(), Fail> {
-    let pairs = LISTS.get(list).copied().unwrap_or(&[]);
+    let pairs = list_at(list);
     same(decoded.fields.len(), pairs.len())?;
     for (field, pair) in decoded.fields.iter().zip(pairs.iter()) {
         same((field.name.as_slice(), field.value.as_slice()), *pair)?;
