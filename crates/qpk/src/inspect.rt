@@ -21,7 +21,7 @@ use events::{Event, read_events};
 use instructions::hear;
 
 /// What is printed of an input, and the refusal that ends it.
-#[derive(Debug, PartialEq, Drop)]
+#[derive(Drop)]
 pub struct Inspection {
     /// The printed lines.
     pub text: String,

@@ -9,7 +9,7 @@ use hex::FromHexError;
 use std::alloc::Global;
 
 /// An event of a recorded connection.
-#[derive(Debug, PartialEq, Drop)]
+#[derive(Drop)]
 pub enum Event {
     /// Bytes of the encoder stream, behind those that came before.
     Piece(Vec<u8>),
