@@ -16,8 +16,8 @@ const SECRET: u64 = 0xE703_7ED1_A0B4_28DB;
 /// The low half of 128 bits.
 const LOW_HALF: u128 = (1 << 64) - 1;
 
-/// How many names are tried for one of letters.
-const MOST_TRIES: u64 = 1 << 24;
+/// How many names of letters are tried.
+const MOST_TRIES: u64 = 1 << 30;
 
 /// The most fields for which names of letters are looked for.
 const MOST_OF_LETTERS: usize = 10_000;
@@ -132,7 +132,7 @@ fn fields_of_letters(alloc: Global, count: usize) -> Result<Vec<HeaderField>> {
     let buckets = (count as u64).max(8).saturating_mul(2);
     let end = ((1u64 << 32) / buckets.max(1)) as u32;
     let mut fields = Vec::new(alloc);
-    for number in 0..MOST_TRIES.saturating_mul(64) {
+    for number in 0..MOST_TRIES {
         if fields.len() == count {
             break;
         }

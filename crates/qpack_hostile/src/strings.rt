@@ -19,7 +19,7 @@ const ROUNDS: usize = 10;
 /// Tells the cases of strings whose payload has so many bytes.
 pub(crate) fn tell(meter: &Meter, alloc: Global, size: usize) -> Result<()> {
     for (label, byte, bits) in CODES {
-        let len = size.saturating_mul(8) / (bits as usize).max(1);
+        let len = size.saturating_mul(8) / bits.max(1);
         let text = Vec::from_elem(alloc, byte, len)?;
         let mut block = Vec::from_slice(alloc, b"\0\0")?;
         Literal::write(b"n", &text, &mut block)?;
