@@ -125,7 +125,7 @@ fn a_prefix_means_nothing_without_a_table(rt: HostRuntime) -> Result<(), Fail> {
 }
 
 /// Blocks, and why they are refused.
-static REFUSED: [(&[u8], DecoderError); 12] = [
+static REFUSED: [(&[u8], DecoderError); 14] = [
     (b"", DecoderError::InvalidInteger(Error::UnexpectedEnd)),
     (b"\x00", DecoderError::InvalidInteger(Error::UnexpectedEnd)),
     (
@@ -149,6 +149,14 @@ static REFUSED: [(&[u8], DecoderError); 12] = [
     (
         b"\x00\x00\x2a\x94",
         DecoderError::InvalidString(StringError::UnexpectedEnd),
+    ),
+    (
+        b"\x00\x00\x27\xff\xff\xff\xff\xff\xff\xff\xff\x7f",
+        DecoderError::InvalidString(StringError::UnexpectedEnd),
+    ),
+    (
+        b"\x00\x00\x27\xff\xff\xff\xff\xff\xff\xff\xff\xff",
+        DecoderError::InvalidString(StringError::Integer(Error::Overflow)),
     ),
 ];
 
