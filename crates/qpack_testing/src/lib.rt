@@ -56,7 +56,7 @@ pub fn field(alloc: Global, name: &[u8], value: &[u8]) -> Result<HeaderField, No
 pub type Pairs = &'static [(&'static [u8], &'static [u8])];
 
 /// The fields of names and values.
-pub fn fields(alloc: Global, pairs: Pairs) -> Result<Vec<HeaderField>, NoMemory> {
+pub fn fields(alloc: Global, pairs: &[(&[u8], &[u8])]) -> Result<Vec<HeaderField>, NoMemory> {
     let mut fields = again(|| Vec::with_capacity(alloc, pairs.len()))?;
     for (name, value) in pairs {
         fields.push(field(alloc, name, value)?)?;

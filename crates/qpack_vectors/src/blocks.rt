@@ -6,7 +6,7 @@ use h3_qpack::prefix_string::Error as StringError;
 use h3_qpack::{
     Decoded, DecoderError, EncoderError, HeaderField, decode_stateless, encode_stateless,
 };
-use qpack_testing::{again, field, same};
+use qpack_testing::{again, field, fields, same};
 use std::alloc::Global;
 use std::test::Fail;
 
@@ -75,19 +75,10 @@ fn agree(alloc: Global, fields: &Vec<HeaderField>, block: &[u8], size: u64) -> R
     same((decoded.mem_size, decoded.dyn_ref), (size, false))
 }
 
-/// Fields with these names and values.
-fn fields_of(alloc: Global, pairs: &[(&[u8], &[u8])]) -> Result<Vec<HeaderField>, Fail> {
-    let mut fields = again(|| Vec::with_capacity(alloc, pairs.len()))?;
-    for (name, value) in pairs {
-        fields.push(field(alloc, name, value)?)?;
-    }
-    Ok(fields)
-}
-
 #[test]
 fn fields_and_blocks(rt: HostRuntime) -> Result<(), Fail> {
     for row in &ROWS {
-        let alone = fields_of(rt.alloc(), &[(row.name, row.value)])?;
+        let alone = fields(rt.alloc(), &[(row.name, row.value)])?;
         agree(rt.alloc(), &alone, row.block, row.size)?;
     }
     Ok(())
@@ -108,7 +99,7 @@ fn no_field_and_four(rt: HostRuntime) -> Result<(), Fail> {
 #[test]
 fn the_sum_of_sizes_is_limited(rt: HostRuntime) -> Result<(), Fail> {
     let pairs: [(&[u8], &[u8]); 2] = [(b"trailer", b"value"), (b"trailer2", b"value2")];
-    let fields = fields_of(rt.alloc(), &pairs)?;
+    let fields = fields(rt.alloc(), &pairs)?;
     let mut block = Vec::new(rt.alloc());
     same(put(&fields, &mut block)?, 90)?;
     for (limit, size) in [(2, 44), (89, 90)] {
