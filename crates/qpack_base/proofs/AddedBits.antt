@@ -1,10 +1,10 @@
 -- Bytes that were appended, and the bits that are still to be.
 use Rattle.std.proofs.Common.{◌≡◌, ℕ, ◌+◌, ◌-◌, ◌*◌, ◌/◌, ◌%◌, ◌^◌, ◌<◌, List, [], ◌∷◌, ◌++◌, refl, sym, ap, ◌∙◌}
-use Rattle.std.proofs.Common.{arith, append_assoc, append-nil, pow-add}
+use Rattle.std.proofs.Common.{arith, append_assoc, append-nil}
 use Rattle.std.specs.Prelude.{slice_index}
 use Rattle.std.proofs.lemmas.List.Concat.{flat_map-cons}
 use Rattle.std.proofs.lemmas.Grind.{flat_map-append}
-use Rattle.std.proofs.lemmas.Nat.{pow_pos, mul-add-lt}
+use Rattle.std.proofs.lemmas.Nat.{pow_pos}
 use Rattle.qpack_spec.specs.Huffman.{bits_of, bits_of_bytes, AreBytes}
 use Rattle.qpack_spec.proofs.Bits.{bits_append, bits_push, bits_cut, ones_number}
 use Rattle.qpack_base.specs.WrittenPayloads.{AddsBits, AddsLastBits, HasAdded}
@@ -20,18 +20,6 @@ nothing_added old = record { bytes = []; are = tt; items = sym (append-nil old);
 pub bytes_join : (a b : List ℕ) → AreBytes a → AreBytes b → AreBytes (a ++ b)
 bytes_join [] b p q = q
 bytes_join (x ∷ a) b p q = (p.0, bytes_join a b p.1 q)
-
--- the number grows by bits behind it
-pub added_code : (whole : List ℕ) (left number n code : ℕ) (old new : List ℕ) → HasAdded whole left number old new
-    → code < 2 ^ n → HasAdded (whole ++ bits_of n code) (left + n) (number * 2 ^ n + code) old new
-added_code whole left number n code old new a h = record {
-  bytes = a.bytes;
-  are = a.are;
-  items = a.items;
-  bits = ap (λ (l : List ℕ). bits_of_bytes a.bytes ++ l) (bits_push left n number code h)
-      ∙ sym (append_assoc (bits_of_bytes a.bytes) (bits_of left number) (bits_of n code))
-      ∙ ap (λ (l : List ℕ). l ++ bits_of n code) a.bits;
-}
 
 -- its highest bits are appended
 pub added_more : (whole : List ℕ) (k m number high : ℕ) (old new more : List ℕ)
@@ -130,8 +118,3 @@ adds_last count loaded k filled old new few e a =
           ∙ ap (bits_of (count + k)) e ∙ bits_push count k loaded (2 ^ k - 1) top
           ∙ ap (λ (l : List ℕ). bits_of count loaded ++ l) (ones_number k (2 ^ k - 1) (omega arith));
     }
-
--- a number of bits behind another fits
-pub pushed_fits : (p q hi lo : ℕ) → hi < 2 ^ p → lo < 2 ^ q → hi * 2 ^ q + lo < 2 ^ (p + q)
-pushed_fits p q hi lo h l = let e = pow-add 2 p q in let m = mul-add-lt hi (2 ^ q) lo (2 ^ p) h l in
-    rw e (omega (arith, m))

@@ -14,7 +14,7 @@ pub record IsHigh (loaded count number : ℕ) : Type 0 where
   pub fits : number < 2 ^ count
 
 -- the number that they are
-pub high_number : (loaded count number : ℕ) → IsHigh loaded count number → loaded / 2 ^ (64 - count) ≡ number
+high_number : (loaded count number : ℕ) → IsHigh loaded count number → loaded / 2 ^ (64 - count) ≡ number
 high_number loaded count number h = ap (λ (n : ℕ). n / 2 ^ (64 - count)) h.is ∙ shl-shr number (64 - count)
 
 pub high_zeros : (loaded count number : ℕ) → IsHigh loaded count number
@@ -51,7 +51,7 @@ distributed : (a b c : ℕ) → a * c + b * c ≡ (a + b) * c
 distributed a b c = omega arith
 
 -- k bits more behind them
-pub high_more : (loaded count number k code : ℕ) → IsHigh loaded count number → count + k ≤ 64 → code < 2 ^ k
+high_more : (loaded count number k code : ℕ) → IsHigh loaded count number → count + k ≤ 64 → code < 2 ^ k
     → IsHigh (loaded + code * 2 ^ (64 - k) / 2 ^ count) (count + k) (number * 2 ^ k + code)
 high_more loaded count number k code h room fits = record {
   few = room;
@@ -69,7 +69,7 @@ small_times : (number P Q : ℕ) → number < P → 0 < Q → number * Q < P * Q
 small_times number P Q h q = omega (arith, mul-add-lt number Q 0 P h q)
 
 -- they are a number of 64 bits
-pub high_small : (loaded count number : ℕ) → IsHigh loaded count number → loaded < 2 ^ 64
+high_small : (loaded count number : ℕ) → IsHigh loaded count number → loaded < 2 ^ 64
 high_small loaded count number h =
     let few = h.few in
     let e : count + (64 - count) ≡ 64 = omega arith in

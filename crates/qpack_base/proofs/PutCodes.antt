@@ -78,7 +78,7 @@ adds_code old byte n code w =
           ∙ ap (λ (l : List ℕ). bits_of old.count old.bits ++ l) (sym (one ∙ w.is));
     }
 
-pub adds_join : (s t : List ℕ) (a b c : Pending) → AddsCodes s a b → AddsCodes t b c → AddsCodes (s ++ t) a c
+adds_join : (s t : List ℕ) (a b c : Pending) → AddsCodes s a b → AddsCodes t b c → AddsCodes (s ++ t) a c
 adds_join s t a b c p q =
     let whole : bits_of_text (s ++ t) ≡ bits_of_text s ++ bits_of_text t = flat_map-append code_of s t in record {
       count = omega (

@@ -1,9 +1,9 @@
 -- Byte strings are equal exactly where their parts are.
-use Rattle.std.proofs.Common.{◌≡◌, ℕ, zero, suc, ◌+◌, ◌<◌, ◌≤◌, Bool, true, false, List, [], ◌∷◌, ◌++◌}
+use Rattle.std.proofs.Common.{◌≡◌, ℕ, zero, suc, ◌<◌, ◌≤◌, Bool, true, false, List, [], ◌∷◌, ◌++◌}
 use Rattle.std.proofs.Common.{◌∙◌, length, take, drop, get_or, refl, sym, ap, arith, w32, w64}
 use Rattle.std.specs.Int.{from_le_bytes, to_le_bytes}
 use Rattle.std.specs.Str.{bytes_eq}
-use Rattle.std.proofs.lemmas.List.{take_more, take_all}
+use Rattle.std.proofs.lemmas.List.{take_all}
 use Rattle.std.proofs.lemmas.Nat.{le_bytes_4, le_bytes_8}
 use Rattle.std.proofs.lemmas.Slice.Eq.{bytes_eq-Decides}
 use Rattle.qpack_spec.specs.Huffman.{AreBytes}
@@ -13,7 +13,7 @@ use Rattle.qpack_spec.proofs.Bits.{parts_same}
 pub equal_true : (a b : List ℕ) → a ≡ b → true ≡ bytes_eq a b
 equal_true a b e = sym ((bytes_eq-Decides a b).1 e)
 
-pub equal_false : (a b : List ℕ) → (a ≡ b → ⊥) → false ≡ bytes_eq a b
+equal_false : (a b : List ℕ) → (a ≡ b → ⊥) → false ≡ bytes_eq a b
 equal_false a b n = go (bytes_eq a b) refl
   where
     go : (r : Bool) → bytes_eq a b ≡ r → false ≡ r
@@ -21,7 +21,7 @@ equal_false a b n = go (bytes_eq a b) refl
     go false e = refl
 
 -- strings that are equal exactly where others are
-pub equal_as : (a b c d : List ℕ) → (a ≡ b → c ≡ d) → (c ≡ d → a ≡ b) → bytes_eq c d ≡ bytes_eq a b
+equal_as : (a b c d : List ℕ) → (a ≡ b → c ≡ d) → (c ≡ d → a ≡ b) → bytes_eq c d ≡ bytes_eq a b
 equal_as a b c d f g = go (bytes_eq c d) refl
   where
     go : (r : Bool) → bytes_eq c d ≡ r → r ≡ bytes_eq a b
@@ -59,15 +59,6 @@ pub front_same : (x y a b : List ℕ) → x ≡ y → bytes_eq a b ≡ bytes_eq 
 front_same x y a b e =
     equal_as (x ++ a) (y ++ b) a b (λ h. (parts_same x y a b (ap (λ (l : List ℕ). length l) e) h).1)
     (λ h. ap (λ (l : List ℕ). l ++ a) e ∙ ap (λ (l : List ℕ). y ++ l) h)
-
-pub front_differs : (x y a b : List ℕ) → length x ≡ length y → (x ≡ y → ⊥) → false ≡ bytes_eq (x ++ a) (y ++ b)
-front_differs x y a b h n = equal_false (x ++ a) (y ++ b) (λ e. n (parts_same x y a b h e).0)
-
--- byte by byte
-pub fronts_more : (a b : List ℕ) (i : ℕ) → i < length a → i < length b → take i a ≡ take i b
-    → get_or a i 0 ≡ get_or b i 0 → take (i + 1) a ≡ take (i + 1) b
-fronts_more a b i h k e f = take_more a i 0 h ∙ ap (λ (l : List ℕ). l ++ get_or a i 0 ∷ []) e
-    ∙ ap (λ (n : ℕ). take i b ++ n ∷ []) f ∙ sym (take_more b i 0 k)
 
 pub fronts_all : (a b : List ℕ) (i : ℕ) → length a ≤ i → length b ≤ i → take i a ≡ take i b → a ≡ b
 fronts_all a b i h k e = sym (take_all i a h) ∙ e ∙ take_all i b k

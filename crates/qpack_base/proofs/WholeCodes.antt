@@ -1,7 +1,7 @@
 -- The code that comes next, read whole.
 use Rattle.std.proofs.Common.{◌≡◌, ℕ, ◌+◌, ◌-◌, ◌*◌, ◌/◌, ◌%◌, ◌^◌, ◌<◌, ◌≤◌, List, []}
 use Rattle.std.proofs.Common.{◌∷◌, ◌++◌, length, Ok, refl, sym, ap}
-use Rattle.std.proofs.Common.{subst, ◌∙◌, arith, append-nil, append_assoc, inl, inr}
+use Rattle.std.proofs.Common.{◌∙◌, arith, append-nil, append_assoc, inl, inr}
 use Rattle.std.proofs.lemmas.List.{length-append}
 use Rattle.qpack_spec.specs.Huffman.{bits_of, bits_of_bytes, code_of, bytes_by_length, code_at, bits_of_text}
 use Rattle.qpack_spec.proofs.Bits.{bits_are, bits_length, bits_append, parts_same}
@@ -121,7 +121,3 @@ one_passed old now left items appended more b p h front e = record {
       ∙ sym (flat_map-append code_of p.text (b ∷ [])));
   append = e ∙ ap (λ (l : List ℕ). l ++ b ∷ []) p.append ∙ append_assoc items p.text (b ∷ []);
 }
-
-pub passed_on : (old now left items appended : List ℕ) → PassesCodes old now items appended → left ≡ now
-    → PassesCodes old left items appended
-passed_on old now left items appended p e = subst (λ (l : List ℕ). PassesCodes old l items appended) (sym e) p

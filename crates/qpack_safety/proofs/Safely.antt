@@ -13,7 +13,7 @@ use Rattle.qpack_spec.specs.Prefix.{Prefix, prefix_for}
 use Rattle.qpack_spec.specs.Reading.{fields_of, references_of, greatest_of, Fields}
 use Rattle.qpack_spec.specs.Table.{Table, fields_in, window, insert_count, apply_decoder_instruction}
 use Rattle.qpack_spec.specs.Session.{stream_at}
-use Rattle.qpack_safety.specs.AbstractSession.{AbstractBlock, is_dynamic, AbstractSession, abstract_start, after_steps}
+use Rattle.qpack_safety.specs.AbstractSession.{AbstractBlock, is_dynamic, AbstractSession}
 use Rattle.qpack_spec.proofs.Lists.{every_drop, every_both, every_get}
 use Rattle.qpack_spec.proofs.Windows.{Sound, Agreed, sound_few, leads_grows, leads_split, leads_unique, Grows, Kept}
 use Rattle.qpack_spec.proofs.Windows.{kept_received}
@@ -22,16 +22,15 @@ use Rattle.qpack_spec.proofs.Prefixes.{InReach, ReadsAs, reads_written, maximum_
 use Rattle.qpack_spec.proofs.Prefixes.{reading_plain}
 use Rattle.qpack_spec.proofs.Positions.{every_tracked, tracked_none}
 use Rattle.qpack_spec.proofs.Drafts.{IsLive, count_inserted}
-use Rattle.qpack_safety.specs.AbstractSafety.{DecodesExactly, Safe, AlwaysSafe}
+use Rattle.qpack_safety.specs.AbstractSafety.{DecodesExactly, Safe}
 use Rattle.qpack_safety.proofs.OpenBlocks.{open_of, every_open}
 use Rattle.qpack_safety.proofs.DecoderInstructions.{acks_in}
 use Rattle.qpack_safety.proofs.Fronts.{undecoded_in, every_map}
 use Rattle.qpack_spec.proofs.Lists.{front_of}
 use Rattle.qpack_safety.proofs.Invariant.{KeepsBlock, Invariant, sound_received, sound_made, agreed_received}
-use Rattle.qpack_safety.proofs.Invariant.{agreed_made, total_window, inv_started}
+use Rattle.qpack_safety.proofs.Invariant.{agreed_made, total_window}
 use Rattle.qpack_safety.proofs.Taking.{taking, Taking}
 use Rattle.qpack_safety.proofs.Hearing.{ack_finds}
-use Rattle.qpack_safety.proofs.Steps.{inv_run}
 
 -- the entries of the oldest undecoded block are live at the encoder
 undecoded_live : (capacity limit : ℕ) (w : AbstractSession) (k : Invariant capacity limit w) (s : ℕ)
@@ -228,9 +227,3 @@ inv_safe capacity limit w k =
       decoder_is = k.decoder;
       encoder_is = k.encoder.shares;
     }
-
--- THE SESSION THEOREM: whatever happens, a session is safe at every moment
-pub always_safe : AlwaysSafe
-always_safe capacity limit steps =
-    inv_safe capacity limit (after_steps steps (abstract_start capacity limit))
-    (inv_run capacity limit steps (abstract_start capacity limit) (inv_started capacity limit))

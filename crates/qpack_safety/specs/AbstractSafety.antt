@@ -8,8 +8,7 @@ use Rattle.qpack_spec.specs.History.{History, initial_history, window_of, Leads}
 use Rattle.qpack_spec.specs.Reading.{Fields, Missing, reading}
 use Rattle.qpack_spec.specs.Table.{fields_in, window, apply_decoder_instruction}
 use Rattle.qpack_spec.specs.Session.{stream_at}
-use Rattle.qpack_safety.specs.AbstractSession.{AbstractBlock, required_count, AbstractSession, SmallStep}
-use Rattle.qpack_safety.specs.AbstractSession.{abstract_start, after_steps}
+use Rattle.qpack_safety.specs.AbstractSession.{AbstractBlock, required_count, AbstractSession}
 
 -- what the decoder answers for a block
 pub record DecodesExactly (w : AbstractSession) (b : AbstractBlock) : Type 0 where
@@ -47,8 +46,3 @@ pub record Safe (capacity limit : ℕ) (w : AbstractSession) : Type 0 where
   pub in_flight_lead : Leads received_history w.in_flight made_history
   pub decoder_is : w.decoder ≡ window_of received_history
   pub encoder_is : window w.encoder ≡ window_of made_history
-
--- for every capacity, every limit and every list of steps
-abbrev pub AlwaysSafe : Type 0
-AlwaysSafe = (capacity limit : ℕ) (steps : List SmallStep)
-    → Safe capacity limit (after_steps steps (abstract_start capacity limit))

@@ -258,30 +258,6 @@ sized_resized v w es now size left capacity most k freed kept evicted small item
       small = small;
     }
 
--- no more go at another capacity than there are
-pub resized_within : (es : List Entry) (most k : ℕ) → k ≡ eviction_count most (fields_in (entries_of es))
-    → k ≤ length es
-resized_within es most k evicted = omega (
-  arith,
-  evicted,
-  eviction_count_bound most (fields_in (entries_of es)),
-  fields-length es,
-)
-
 fields_few : (fs : List Field) → length fs ≤ total_size fs
 fields_few [] = omega arith
 fields_few (f ∷ fs) = omega (arith, fields_few fs, total_first f fs, size_least f)
-
--- a table's entries are fewer than its bytes
-pub few_entries : (v : Positions) (es : List Entry) (size capacity : ℕ) → IsSized v es size capacity
-    → length (fields_in (entries_of es)) < 2 ^ 30
-few_entries v es size capacity kept = omega (
-  arith,
-  kept.sum,
-  kept.fits,
-  kept.small,
-  fields_few (fields_in (entries_of es)),
-)
-
-pub few_live : (v : Positions) (es : List Entry) (size capacity : ℕ) → IsSized v es size capacity → length es < 2 ^ 30
-few_live v es size capacity kept = omega (arith, few_entries v es size capacity kept, fields-length es)

@@ -10,9 +10,6 @@ pub record Halved (n left steps : ℕ) : Type 0 where
   pub product : left * 2 ^ steps ≤ n
   pub few : (digits : ℕ) → n < 2 ^ digits → steps ≤ digits
 
-halved_none : (n : ℕ) → Halved n n 0
-halved_none n = record { product = omega arith; few = λ digits h. omega arith }
-
 below_power : (digits steps : ℕ) → 2 ^ steps < 2 ^ digits → steps < digits
 below_power digits steps h =
     elim (cases_lt steps digits) [
@@ -37,9 +34,6 @@ pub record CountsHalved (n left old new : ℕ) : Type 0 where
   pub halved : Halved n left steps
   pub least : old ≤ new
   pub most : new ≤ old + steps
-
-pub counts_none : (n old : ℕ) → CountsHalved n n old old
-counts_none n old = record { steps = 0; halved = halved_none n; least = omega arith; most = omega arith }
 
 pub counts_more : (n left less old now new : ℕ) → CountsHalved n left old now → 0 < left → less * 2 ≤ left
     → new ≡ min (now + 1) (2 ^ 64 - 1) → now ≤ new → CountsHalved n less old new

@@ -17,7 +17,7 @@ use Rattle.qpack_table.specs.declared.dynamic.entry.Entry.{Entry}
 use Rattle.qpack_table.proofs.References.{times_append, is_among, same_map, flagged_as, used_as}
 use Rattle.qpack_table.proofs.Marks.{map_written, There, Elsewhere, written, once_more, other_times, used_counted}
 
-pub used_same : (dropped : ℕ) (es now : List Entry) (references : List ℕ) → uses_of now ≡ uses_of es
+used_same : (dropped : ℕ) (es now : List Entry) (references : List ℕ) → uses_of now ≡ uses_of es
     → AreUsed dropped es references → AreUsed dropped now references
 used_same dropped es now references same h = λ position e at.
     let old = same_map (λ (x : Entry). x.uses) now es position e same at in sym old.2 ∙ h position old.0 old.1
@@ -74,7 +74,7 @@ references_append a (b ∷ bs) cs = omega (
 )
 
 -- the references of a block that is opened are those of the block in progress
-pub times_opened : (a s : ℕ) (bs : List table.UnacknowledgedBlock) (xs : List ℕ)
+times_opened : (a s : ℕ) (bs : List table.UnacknowledgedBlock) (xs : List ℕ)
     → times a (references_in (with_unacknowledged bs s xs)) ≡ times a xs + times a (references_in bs)
 times_opened a s bs [] = omega arith
 times_opened a s bs (x ∷ more) =
@@ -119,7 +119,7 @@ tracked_opened v es now referenced left unacknowledged opened s dropped kept at 
 -- ---- one entry more is referenced
 
 -- an entry is referenced by each block once at most
-pub times_few : (a : ℕ) (bs : List table.UnacknowledgedBlock) → AllByRecursion (λ b. NoneTwice b.entries) bs
+times_few : (a : ℕ) (bs : List table.UnacknowledgedBlock) → AllByRecursion (λ b. NoneTwice b.entries) bs
     → times a (references_in bs) ≤ length bs
 times_few a [] h = omega arith
 times_few a (b ∷ bs) h = omega (arith, times_append a b.entries (references_in bs), h.0 a, times_few a bs h.1)
@@ -131,7 +131,7 @@ no_times a xs e = elim (cases_lt 0 (times a xs)) [
   | inr h ↦ omega (arith, h)
 ]
 
-pub with_known : (a : ℕ) (xs : List ℕ) → has_number a xs ≡ true → with_number xs a ≡ xs
+with_known : (a : ℕ) (xs : List ℕ) → has_number a xs ≡ true → with_number xs a ≡ xs
 unfolding with_number
 with_known a xs e = rw e refl
 

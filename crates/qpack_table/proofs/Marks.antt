@@ -74,7 +74,7 @@ pub record Cleared (dropped : ℕ) (before now : List Entry) (left all : List �
   pub flags : AreFlagged dropped before all → FlaggedWithin dropped now left
 
 -- the flag of the first one that is left is cleared
-pub cleared_at : (dropped : ℕ) (before now : List Entry) (x : ℕ) (left all : List ℕ) (position : ℕ) (old new : Entry)
+cleared_at : (dropped : ℕ) (before now : List Entry) (x : ℕ) (left all : List ℕ) (position : ℕ) (old new : Entry)
     → Cleared dropped before now (x ∷ left) all → x ≡ dropped + position + 1 → slice_get now position ≡ Some old
     → new ≡ record old { referenced = false } → Cleared dropped before (slice_set now position new) left all
 cleared_at dropped before now x left all position old new k is at same = record {
@@ -91,7 +91,7 @@ cleared_at dropped before now x left all position old new k is at same = record 
     not_both b e f = cc
 
 -- what is left of it is no live entry
-pub cleared_past : (dropped : ℕ) (before now : List Entry) (x : ℕ) (left all : List ℕ)
+cleared_past : (dropped : ℕ) (before now : List Entry) (x : ℕ) (left all : List ℕ)
     → Cleared dropped before now (x ∷ left) all
     → ((position : ℕ) → position < length now → x ≡ dropped + position + 1 → ⊥) → Cleared dropped before now left all
 cleared_past dropped before now x left all k past = record {
@@ -131,13 +131,6 @@ cleared_all dropped before now all i k end h = λ position e at.
     none true f = sym (f refl)
     none false f = refl
 
-pub cleared_none : (dropped : ℕ) (es : List Entry) (all : List ℕ) → Cleared dropped es es all all
-cleared_none dropped es all = record {
-  live = refl;
-  uses = refl;
-  flags = λ h position e at flag. sym (h position e at) ∙ flag;
-}
-
 -- ---- uses
 
 -- the entries with some uses less: those that are left still count
@@ -146,9 +139,6 @@ pub record Lowered (dropped : ℕ) (before now : List Entry) (left all : List �
   pub flags : flags_of now ≡ flags_of before
   pub counts : (rest : List ℕ) → AreCounted dropped before (all ++ rest) → AreCounted dropped now (left ++ rest)
   pub uses : (rest : List ℕ) → AreUsed dropped before (all ++ rest) → AreUsed dropped now (left ++ rest)
-
-pub lowered_none : (dropped : ℕ) (es : List Entry) (all : List ℕ) → Lowered dropped es es all all
-lowered_none dropped es all = record { live = refl; flags = refl; counts = λ rest h. h; uses = λ rest h. h }
 
 -- the first one that is left is counted no more
 lowered_at : (dropped : ℕ) (before now : List Entry) (x : ℕ) (left all : List ℕ) (position : ℕ) (old new : Entry)

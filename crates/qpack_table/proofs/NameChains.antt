@@ -1,6 +1,6 @@
 -- The chains of names: behind an insertion, behind an eviction, and along a walk.
 use Rattle.std.proofs.Common.{◌≡◌, ℕ, ◌+◌, ◌-◌, ◌<◌, ◌≤◌, [], ◌∷◌, ◌++◌, List, length, get_or, set, drop, None}
-use Rattle.std.proofs.Common.{Some, refl, sym, ap, subst, ◌∙◌, inl, inr, ◌⊎◌, arith}
+use Rattle.std.proofs.Common.{Some, sym, ap, subst, ◌∙◌, inl, inr, ◌⊎◌, arith}
 use Rattle.std.proofs.lemmas.Bool.{cases_lt}
 use Rattle.std.proofs.lemmas.Slice.Eq.{bytes_eq-Decides}
 use Rattle.std.proofs.lemmas.List.{length-set, length-drop, length-append, get_or-set_other, get_or-set_same}
@@ -172,21 +172,6 @@ module _ (dropped : ℕ) (live : List Field) (entered : ℕ) (heads : List ℕ) 
   }
 
 -- ---- nothing is in yet
-
-pub empty_names : (dropped : ℕ) (live : List Field) (heads : List ℕ)
-    → ((k d : ℕ) → k < length heads → get_or heads k d ≡ 0) → AreNamesOf dropped live 0 heads []
-empty_names dropped live heads zeros = record {
-  some = λ h. absurd (omega (arith, h));
-  newest = λ k d h.
-      subst (λ (i : ℕ). IsNewestOf dropped live (length heads) k (dropped + 0 + 1) i) (sym (zeros k d h))
-      (record {
-        below = omega arith;
-        there = λ g. absurd (omega (arith, g));
-        newest = λ other g more lt e. omega (arith, g, lt);
-      });
-  counted = refl;
-  linked = λ index d g h. absurd (omega (arith, g, h));
-}
 
 -- ---- a walk from the newest on
 

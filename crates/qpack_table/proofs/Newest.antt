@@ -18,7 +18,7 @@ position_left gone None = None
 position_left gone (Some i) = if nat_lt i gone then None else Some (i - gone)
 
 -- the last of those that stay is the last of all, if that stays
-pub last_left : {X : Type 0} (p : X → Bool) (gone : ℕ) (xs : List X) → last_position p (drop gone xs)
+last_left : {X : Type 0} (p : X → Bool) (gone : ℕ) (xs : List X) → last_position p (drop gone xs)
     ≡ position_left gone (last_position p xs)
 unfolding last_position
 last_left p zero xs = all (last_position p xs)
@@ -47,7 +47,7 @@ later_within None true n i h e = let zero : 0 ≡ i = cc in omega (arith, zero)
 later_within None false n i h e = absurd cc
 later_within (Some k) b n i h e = let next : suc k ≡ i = cc in omega (arith, next, h k refl)
 
-pub last_within : {X : Type 0} (p : X → Bool) (xs : List X) (i : ℕ) → last_position p xs ≡ Some i → i < length xs
+last_within : {X : Type 0} (p : X → Bool) (xs : List X) (i : ℕ) → last_position p xs ≡ Some i → i < length xs
 unfolding last_position
 last_within p [] i e = absurd cc
 last_within p (x ∷ xs) i e = later_within (last_position p xs) (p x) (length xs) i (last_within p xs) e

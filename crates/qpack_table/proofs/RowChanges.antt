@@ -46,7 +46,7 @@ gone_from dropped live row new index place is lt at made c =
     ]
 
 -- a row whose indexes keep their fields
-pub still_row : (dropped from : ℕ) (live now : List Field) (row : List ℕ) → IsRow dropped live row → ((k : ℕ)
+still_row : (dropped from : ℕ) (live now : List Field) (row : List ℕ) → IsRow dropped live row → ((k : ℕ)
     → k < length row → IsLiveIndex from now (slice_index row k))
     → ((k : ℕ) → k < length row → field_at from now (slice_index row k) ≡ field_at dropped live
     (slice_index row k)) → IsRow from now row
@@ -86,7 +86,7 @@ pub field_pushed : (dropped : ℕ) (live : List Field) (f : Field) (a : ℕ) →
 field_pushed dropped live f a at =
     get_or_append_left live (f ∷ []) (record { name = []; value = [] }) (a - dropped - 1) (omega (arith, at.0, at.1))
 
-pub live_pushed : (dropped : ℕ) (live : List Field) (f : Field) (a : ℕ) → IsLiveIndex dropped live a
+live_pushed : (dropped : ℕ) (live : List Field) (f : Field) (a : ℕ) → IsLiveIndex dropped live a
     → IsLiveIndex dropped (live ++ f ∷ []) a
 live_pushed dropped live f a at = (at.0, omega (arith, at.1, length-append live (f ∷ [])))
 

@@ -11,7 +11,7 @@ use Rattle.qpack_base.specs.HeaderFields.{field_cmp}
 use Rattle.qpack_base.proofs.FieldOrder.{equal_is_field}
 use Rattle.qpack_table.specs.Rows.{Key, key_cmp}
 
-pub field_cmp_total : IsTotalOrder field_cmp
+field_cmp_total : IsTotalOrder field_cmp
 unfolding field_cmp
 field_cmp_total = then_total (on_total (λ (f : Field). f.name) nat_list_cmp_total) (on_total (λ
     (f : Field). f.value) nat_list_cmp_total)
@@ -34,7 +34,7 @@ then_equal Less s h = absurd cc
 then_equal Equal s h = h
 then_equal Greater s h = absurd cc
 
-pub same_index : (k l : Key) → key_cmp k l ≡ Equal → k.index ≡ l.index
+same_index : (k l : Key) → key_cmp k l ≡ Equal → k.index ≡ l.index
 unfolding key_cmp
 same_index k l h = ranked k.index l.index Equal (sym (then_equal _ _ h))
 
@@ -94,6 +94,3 @@ behind_turned k l h = key_cmp_total.antisymm l k ∙ pick (key_cmp k l) h
 
 pub before_turned : (k l : Key) → key_cmp k l ≡ Less → is_gt (key_cmp l k) ≡ true
 before_turned k l h = ap is_gt (key_cmp_total.antisymm l k ∙ ap ordering_reverse h)
-
-pub itself_not_behind : (k : Key) → is_gt (key_cmp k k) ≡ false
-itself_not_behind k = ap is_gt (tied_itself key_cmp_total k)

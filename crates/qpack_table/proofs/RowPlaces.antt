@@ -101,7 +101,7 @@ module _ (dropped : ℕ) (live : List Field) (row : List ℕ) (is : IsRow droppe
       ]
 
 -- an index that the row contains stands right before the place for it
-pub stands_right_before : (dropped : ℕ) (live : List Field) (row : List ℕ) (index place : ℕ)
+stands_right_before : (dropped : ℕ) (live : List Field) (row : List ℕ) (index place : ℕ)
     → IsRow dropped live row → IsPlaceBehind dropped live row (field_at dropped live index) index place
     → Contains row index → (0 < place) × (slice_index row (place - 1) ≡ index)
 stands_right_before dropped live row index place is at c =
@@ -123,7 +123,7 @@ stands_right_before dropped live row index place is at c =
 
 -- ---- an insertion between what is before and what is behind
 
-pub all_pairs_insert : {X : Type 0} → (R : X → X → Type 0) (xs : List X) (n : ℕ) (y : X) → n ≤ length xs
+all_pairs_insert : {X : Type 0} → (R : X → X → Type 0) (xs : List X) (n : ℕ) (y : X) → n ≤ length xs
     → AllPairs R xs → ((k : ℕ) (d : X) → k < n → R (get_or xs k d) y) → ((k : ℕ) (d : X) → n ≤ k → k < length xs
     → R y (get_or xs k d)) → AllPairs R (insert xs n y)
 all_pairs_insert {X} R xs n y le all below above i j d lt within = pick (cases_lt i n) (cases_lt j n) (cases_lt n j)
@@ -213,7 +213,7 @@ entered_there (Ok x) old new place index e ok = e
 entered_there (Err x) old new place index e ok = absurd cc
 
 -- the place for an index that is live, as its entry was read
-pub place_of_entry : (dropped : ℕ) (es : List Entry) (row : List ℕ) (index place : ℕ) (e : Entry)
+place_of_entry : (dropped : ℕ) (es : List Entry) (row : List ℕ) (index place : ℕ) (e : Entry)
     → (dropped < index) × (index ≤ dropped + length es) → e ≡ get_or es (index - dropped - 1) e
     → IsPlaceBehind dropped (live_fields es) row (field_of e.field) index place
     → IsPlaceBehind dropped (live_fields es) row (field_at dropped (live_fields es) index) index place
@@ -235,7 +235,7 @@ entered_in dropped es row new index place e is live absent read at made =
     (live.0, omega (arith, live.1, long)) absent)
 
 -- an index of a row is live
-pub contained_live : (dropped : ℕ) (es : List Entry) (row : List ℕ) (index : ℕ)
+contained_live : (dropped : ℕ) (es : List Entry) (row : List ℕ) (index : ℕ)
     → IsRow dropped (live_fields es) row → Contains row index → (dropped < index) × (index ≤ dropped + length es)
 contained_live dropped es row index is c =
     let there = contained row index c in

@@ -12,7 +12,7 @@ use Rattle.qpack_base.specs.HeaderFields.{field_of}
 use Rattle.qpack_spec.specs.Field.{Field}
 use Rattle.qpack_base.specs.HeaderFields.{field_cmp}
 use Rattle.qpack_table.specs.Tables.{entry_of, entries_of}
-use Rattle.qpack_table.specs.Rows.{key_cmp, field_at, key_at, IsRow, is_behind, IsPlaceBehind}
+use Rattle.qpack_table.specs.Rows.{key_cmp, field_at, key_at, IsRow, is_behind}
 use Rattle.qpack_table.specs.Tables.{live_fields}
 use Rattle.qpack_table.specs.Rows.{IsEqualBefore}
 use Rattle.qpack_table.specs.declared.dynamic.entry.Entry.{Entry}
@@ -70,16 +70,6 @@ pub record Searching (dropped : ℕ) (live : List Field) (row : List ℕ) (f : F
   pub after : (k : ℕ) → high ≤ k → k < length row → is_behind dropped live f last (slice_index row k) ≡ true
   pub equal_before : IsEqualBefore dropped live row f low equal
 
-pub searching_all : (dropped : ℕ) (live : List Field) (row : List ℕ) (f : Field) (last : ℕ)
-    → Searching dropped live row f last 0 (length row) false
-searching_all dropped live row f last = record {
-  order = omega arith;
-  within = omega arith;
-  before = λ k h. absurd (omega (arith, h));
-  after = λ k h g. absurd (omega (arith, h, g));
-  equal_before = λ h. absurd (omega (arith, h));
-}
-
 pub searching_lower : (dropped : ℕ) (live : List Field) (row : List ℕ) (f : Field) (last low high middle : ℕ)
     (equal : Bool) → IsRow dropped live row → Searching dropped live row f last low high equal
     → low ≤ middle → middle < high → is_behind dropped live f last (slice_index row middle) ≡ true
@@ -127,14 +117,6 @@ searching_higher dropped live row f last low high middle equal now is h from to 
     pick false e = λ some same. not_both (is_eq (field_cmp (field_at dropped live (slice_index row middle)) f))
         (ap is_eq (equal_when_same (field_at dropped live (slice_index row middle)) f (sym (ap (λ
         (k : ℕ). field_at dropped live (slice_index row k)) here) ∙ same))) (sym e)
-
-pub searched : (dropped : ℕ) (live : List Field) (row : List ℕ) (f : Field) (last low high : ℕ) (equal : Bool)
-    → Searching dropped live row f last low high equal → high ≤ low → IsPlaceBehind dropped live row f last low
-searched dropped live row f last low high equal h done = record {
-  within = omega (arith, h.order, h.within);
-  before = h.before;
-  after = λ k g lt. h.after k (omega (arith, g, done)) lt;
-}
 
 -- what the code compares: the entry of the index in the middle
 pub record Tested (dropped : ℕ) (live : List Field) (row : List ℕ) (f : Field) (last middle : ℕ) (order : Ordering)

@@ -115,7 +115,7 @@ unfolding has_room
 room_too_late t f fits late =
     rw (le-leb (field_size f) t.capacity fits, le-ltb (insert_count t) (2 ^ 62) late) refl
 
-pub room_by_entries : (t : Table) (f : Field) (evicted : ℕ) (b : Bool) → field_size f ≤ t.capacity
+room_by_entries : (t : Table) (f : Field) (evicted : ℕ) (b : Bool) → field_size f ≤ t.capacity
     → insert_count t < 2 ^ 62 → evicted ≡ eviction_count_for t f → can_evict t evicted ≡ b → has_room t f ≡ b
 unfolding has_room
 room_by_entries t f evicted b fits few is e =

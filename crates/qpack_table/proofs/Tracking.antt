@@ -71,7 +71,7 @@ no_position s (b ∷ bs) h = first (is_of s b) refl (no_position s bs)
     first false e rest = let more = rw e at h in
         rw (e, rest (omega (arith, more))) refl
 
-pub none_taken : (s : ℕ) (bs : List UnacknowledgedBlock) → position (is_of s) bs ≡ None
+none_taken : (s : ℕ) (bs : List UnacknowledgedBlock) → position (is_of s) bs ≡ None
     → without_oldest s (blocks_of bs) ≡ None
 none_taken s bs e = no_position s bs (elim (cases_lt (position_or_len (is_of s) bs) (length bs)) [
   | inl h ↦ let some = rw (lt-ltb (position_or_len (is_of s) bs) (length bs) h) at e in absurd cc
@@ -111,7 +111,7 @@ every_left_of P s (b ∷ bs) new e h =
 
 -- ---- every block of a stream
 
-pub blocks_without : (s : ℕ) (bs : List UnacknowledgedBlock)
+blocks_without : (s : ℕ) (bs : List UnacknowledgedBlock)
     → blocks_of (filter (λ b. not (nat_eq b.stream_id s)) bs) ≡ without_stream s (blocks_of bs)
 unfolding without_stream
 blocks_without s [] = refl
@@ -125,7 +125,7 @@ blocks_without s (b ∷ bs) = first (is_of s b) refl (blocks_without s bs)
     first true e rest = rw e rest
     first false e rest = rw e (ap (λ (l : List table.UnacknowledgedBlock). block_of b ∷ l) rest)
 
-pub references_parted : (s a : ℕ) (bs : List table.UnacknowledgedBlock) → times a (references_in bs)
+references_parted : (s a : ℕ) (bs : List table.UnacknowledgedBlock) → times a (references_in bs)
     ≡ times a (references_in (of_stream s bs)) + times a (references_in (without_stream s bs))
 unfolding without_stream
 references_parted s a [] = refl
@@ -176,15 +176,15 @@ next_block : (bs : List UnacknowledgedBlock) (i : ℕ) (b : UnacknowledgedBlock)
 next_block bs i b within at = rw (add-one, drop-cons bs i b within)
     (ap (λ (x : UnacknowledgedBlock). x ∷ drop (suc i) bs) (sym at))
 
-pub left_here : (s : ℕ) (bs : List UnacknowledgedBlock) (i : ℕ) (b : UnacknowledgedBlock) → i < length bs
+left_here : (s : ℕ) (bs : List UnacknowledgedBlock) (i : ℕ) (b : UnacknowledgedBlock) → i < length bs
     → b ≡ get_or bs i b → is_of s b ≡ true → left_of s bs i ≡ b.entries.items ++ left_of s bs (i + 1)
 left_here s bs i b within at here = rw (next_block bs i b within at, here) refl
 
-pub left_there : (s : ℕ) (bs : List UnacknowledgedBlock) (i : ℕ) (b : UnacknowledgedBlock) → i < length bs
+left_there : (s : ℕ) (bs : List UnacknowledgedBlock) (i : ℕ) (b : UnacknowledgedBlock) → i < length bs
     → b ≡ get_or bs i b → is_of s b ≡ false → left_of s bs i ≡ left_of s bs (i + 1)
 left_there s bs i b within at there = rw (next_block bs i b within at, there) refl
 
-pub left_none : (s : ℕ) (bs : List UnacknowledgedBlock) (i : ℕ) → length bs ≤ i → left_of s bs i ≡ []
+left_none : (s : ℕ) (bs : List UnacknowledgedBlock) (i : ℕ) → length bs ≤ i → left_of s bs i ≡ []
 left_none s bs i end = rw (drop_all i bs end) refl
 
 -- one block further

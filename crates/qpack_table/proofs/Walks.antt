@@ -4,7 +4,7 @@ use Rattle.std.proofs.Common.{subst, ◌∙◌, arith, Option, None, Some}
 use Rattle.std.specs.Prelude.{IfSome, IfNone}
 use Rattle.std.proofs.lemmas.List.{length-map}
 use Rattle.qpack_base.specs.HeaderFields.{field_of}
-use Rattle.qpack_spec.specs.Field.{Field, field_size, total_size}
+use Rattle.qpack_spec.specs.Field.{Field, field_size}
 use Rattle.qpack_spec.specs.Table as table
 use Rattle.qpack_spec.specs.Table.{Table, fields_in, all_evictable, can_evict, eviction_count_for}
 use Rattle.qpack_spec.specs.Window.{eviction_count}
@@ -72,15 +72,6 @@ pub walk_free : (t : Table) (es : List Entry) (room rest evicted : ℕ) → Walk
 walk_free t es room rest evicted k is =
     ap (λ (n : ℕ). can_evict t n) is
     ∙ k.free ∙ all_free t (eviction_count room (fields_in t.live)) evicted (omega (arith, is))
-
-pub walk_start : (t : Table) (es : List Entry) (room rest : ℕ) → t.live ≡ entries_of es
-    → rest ≡ total_size (fields_in (entries_of es)) → Walked t es room rest 0
-walk_start t es room rest same sum = record {
-  same = same;
-  gone = record { within = omega arith; sum = sum; least = omega arith };
-  free = let none : suc t.dropped ≡ suc (t.dropped + 0) = omega arith in
-      ap (λ (n : ℕ). all_evictable t n (take (eviction_count room (fields_in t.live)) t.live)) none;
-}
 
 -- ---- before a field
 

@@ -35,7 +35,7 @@ hashes_there dropped live entered position index heads links hashes are is promi
     (names_counted (λ n. AreHashesOf hashes (field_at dropped live (dropped + position + 1))) dropped live entered heads
     links are promised)
 
-pub index_pushed : (dropped : ℕ) (live : List Field) (f : Field) (index : Index)
+index_pushed : (dropped : ℕ) (live : List Field) (f : Field) (index : Index)
     → IsIndexOf dropped live (length live) index → IsIndexOf dropped (live ++ f ∷ []) (length live) index
 index_pushed dropped live f index is = record {
   rows = rows_pushed dropped live f index.rows.rows.items is.rows;
@@ -68,7 +68,7 @@ joined_fields [] e = refl
 joined_fields (x ∷ es) e = ap (λ (l : List Field). field_of x.field ∷ l) (joined_fields es e)
 
 -- one is pushed that has not come in yet
-pub index_joined : (dropped : ℕ) (es now : List Entry) (e : Entry) (index : Index)
+index_joined : (dropped : ℕ) (es now : List Entry) (e : Entry) (index : Index)
     → IsIndexOf dropped (live_fields es) (length es) index → now ≡ es ++ e ∷ []
     → IsIndexOf dropped (live_fields now) (length es) index
 index_joined dropped es now e index is items =

@@ -24,7 +24,7 @@ use Rattle.qpack_wire.proofs.Readers.{failed}
 
 -- ---- the fronts of a form
 
-pub in_turn : {P Q : List ℕ → Type 0} (bytes encoding rest : List ℕ) → bytes ≡ encoding ++ rest → P encoding
+in_turn : {P Q : List ℕ → Type 0} (bytes encoding rest : List ℕ) → bytes ≡ encoding ++ rest → P encoding
     → Begins Q rest
     → Begins (InTurn P Q) bytes
 in_turn bytes encoding rest e p b = record {

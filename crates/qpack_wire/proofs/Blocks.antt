@@ -74,7 +74,7 @@ joined_turn k bytes encoding more l e s h =
     let short = behind_shorter bytes encoding more l e s in
     (ap (lines_at k) e ∙ turn k encoding more l s (omega (arith, h, short)), omega (arith, h, short))
 
-pub lines_again : (ls : List Line) (k : ℕ) (bytes : List ℕ) → length bytes ≤ k → Joined SpellsLine bytes ls
+lines_again : (ls : List Line) (k : ℕ) (bytes : List ℕ) → length bytes ≤ k → Joined SpellsLine bytes ls
     → lines_at k bytes ≡ Ok ls
 unfolding lines_at
 lines_again [] k bytes h j = ap (lines_at k) j
@@ -98,7 +98,7 @@ front_line bytes encoding rest l fault e s stop = record {
   stops = stop.stops;
 }
 
-pub lines_stopped : (k : ℕ) (bytes : List ℕ) (fault : KindFault) → length bytes ≤ k → lines_at k bytes ≡ Err fault
+lines_stopped : (k : ℕ) (bytes : List ℕ) (fault : KindFault) → length bytes ≤ k → lines_at k bytes ≡ Err fault
     → StopsLines bytes fault
 unfolding lines_at
 lines_stopped k [] fault h e = absurd cc
@@ -146,7 +146,7 @@ lines_stop_at (l ∷ lines) k bytes front next more fault h e j stop =
     t.0 ∙ ap (λ (q : Result (List Line) KindFault). q >>= λ ls. Ok (l ∷ ls))
     (lines_stop_at lines (k - 1) (j.1 ++ next ∷ more) j.1 next more fault t.1 refl j.4 stop)
 
-pub lines_stop : (k : ℕ) (bytes : List ℕ) (fault : KindFault) → length bytes ≤ k → StopsLines bytes fault
+lines_stop : (k : ℕ) (bytes : List ℕ) (fault : KindFault) → length bytes ≤ k → StopsLines bytes fault
     → lines_at k bytes ≡ Err fault
 lines_stop k bytes fault h s =
     lines_stop_at s.lines k bytes s.front s.next s.more fault h s.cut s.joined s.stops
