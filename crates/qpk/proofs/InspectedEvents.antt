@@ -29,7 +29,7 @@ pub next_is : (events : List ReadEvent) (i : ℕ) (d : ReadEvent) → i < length
 next_is events i d h = ap events_in (drop_more events i d h)
 
 -- a piece of the encoder stream that was heard
-pub goes_heard : (start now new : Table) (all left : List Event) (before text after unread piece : List ℕ) (taken : ℕ)
+goes_heard : (start now new : Table) (all left : List Event) (before text after unread piece : List ℕ) (taken : ℕ)
     → Goes start all before now unread (Piece piece ∷ left) text
     → Hears now new (unread ++ piece) text after (Ok taken)
     → Goes start all before new (drop taken (unread ++ piece)) left after
@@ -76,7 +76,7 @@ goes_next start now all before text unread events i item event goes h is e =
     ∙ ap (λ (x : Event). x ∷ events_in (drop (i + 1) events)) (ap event_of (sym is) ∙ e)) goes
 
 -- the unread bytes, with a piece behind them
-pub unread_is : (stream joined piece : List ℕ) (taken : ℕ) → taken ≤ length stream → joined ≡ stream ++ piece
+unread_is : (stream joined piece : List ℕ) (taken : ℕ) → taken ≤ length stream → joined ≡ stream ++ piece
     → drop taken joined ≡ drop taken stream ++ piece
 unread_is stream joined piece taken h e = ap (drop taken) e ∙ drop-append-le taken stream piece h
 

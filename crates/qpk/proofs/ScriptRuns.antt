@@ -144,9 +144,6 @@ if_ok (Err e) P Q f p = tt
 
 -- ---- events in turn
 
-pub prints_none : (s : SessionView) → PrintsAll s s [] []
-prints_none s v shows = record { last = v; shows = shows; prints = (refl, refl) }
-
 prints_last : (v last next : Session) (events : List spec.Event) (e : spec.Event) (out here : List ℕ)
     → PrintsEvents v events last out → PrintsEvent last e next here
     → PrintsEvents v (events ++ e ∷ []) next (out ++ here)
@@ -167,7 +164,7 @@ prints_last v last next (f ∷ events) e out here (mid, first, more, one, rest, 
   ap (λ (xs : List ℕ). xs ++ here) is ∙ append_assoc first more here,
 )
 
-pub prints_more : (old mid new : SessionView) (events : List spec.Event) (e : spec.Event) (out here : List ℕ)
+prints_more : (old mid new : SessionView) (events : List spec.Event) (e : spec.Event) (out here : List ℕ)
     → PrintsAll old mid events out → PrintsOne mid new e here → PrintsAll old new (events ++ e ∷ []) (out ++ here)
 prints_more old mid new events e out here all one v shows =
     let m = all v shows in
