@@ -1,17 +1,20 @@
 //! The live entries of a table, and the blocks that reference them.
 
-ghost use Rattle.std.specs.Prelude.{◌≡◌, ℕ, ◌+◌, ◌^◌, ◌<◌, ◌≤◌, List, [], ◌++◌, length, drop, IfSome, IfNone};
+ghost use Rattle.std.specs.Prelude.{◌≡◌, ℕ, ◌+◌, ◌^◌, ◌<◌, ◌≤◌, List, [], ◌∷◌, ◌++◌, length, drop, IfSome, IfNone};
+ghost use Rattle.std.specs.Prelude.{OnOk, OnErr};
 ghost use Rattle.std.specs.VecDeque.{deque_capacity};
-ghost use Rattle.qpack_spec.specs.Field.{total_size};
+ghost use Rattle.qpack_base.specs.HeaderFields.{field_of};
+ghost use Rattle.qpack_spec.specs.Field.{field_size, total_size};
 ghost use Rattle.qpack_spec.specs.Table.{fields_in};
 ghost use Rattle.qpack_table.specs.Tables.{entries_of, uses_of, flags_of, AreFlagged, AreUsed, AreCounted};
 ghost use Rattle.qpack_table.specs.Indexes.{IsIndexOf, HasRoomForEntry};
 ghost use Rattle.qpack_table.specs.Tables.{live_fields};
 ghost use Rattle.qpack_table.specs.declared.dynamic.index.hash.Hashes.{Hashes};
 
-use crate::dynamic::index::Index;
+use crate::dynamic::index::{Hashes, Index};
 use crate::vas::VirtualAddressSpace;
 use qpack_base::field::HeaderField;
+use std::alloc::AllocError;
 use std::collections::VecDeque;
 
 /// A live entry.
@@ -110,4 +113,43 @@ pub(super) fn drop_oldest(
         vas.drop();
     }
     freed
+}
+
+/// The oldest entries go, and another comes in behind the newest; the sum of their sizes is counted along. Refused,
+/// which is for memory alone, none goes and none comes in.
+pub(super) fn replace_oldest(
+    entries: &mut VecDeque<Entry>,
+    index: &mut Index,
+    vas: &mut VirtualAddressSpace,
+    mem_size: &mut usize,
+    evicted: usize,
+    entry: Entry,
+) -> Result<(), AllocError>
+    requires there { evicted ≤ length entries.old.items }
+    requires counted { vas.old.total ≡ vas.old.dropped + length entries.old.items }
+    requires few { vas.old.total < 2 ^ 62 }
+    requires index { IsIndexOf vas.old.dropped (live_fields entries.old.items) (length entries.old.items) index.old }
+    requires sum { mem_size.old ≡ total_size (fields_in (entries_of entries.old.items)) }
+    requires small { mem_size.old < 2 ^ 63 }
+    requires small_entry { field_size (field_of entry.field) < 2 ^ 63 }
+    ensures entered { OnOk result (entries.new.items ≡ drop evicted entries.old.items ++ entry ∷ []) }
+    ensures dropped { OnOk result (vas.new.dropped ≡ vas.old.dropped + evicted) }
+    ensures inserted { OnOk result (vas.new.total ≡ vas.old.total + 1) }
+    ensures sum { OnOk result (mem_size.new
+        ≡ total_size (drop evicted (fields_in (entries_of entries.old.items))) + field_size (field_of entry.field)) }
+    ensures same_sum { OnErr result (mem_size.new ≡ mem_size.old) }
+    ensures same_entries { OnErr result (entries.new.items ≡ entries.old.items) }
+    ensures same_space { OnErr result (vas.new ≡ vas.old) }
+    ensures index { IsIndexOf vas.new.dropped (live_fields entries.new.items) (length entries.new.items) index.new }
+{
+    let hashes = Hashes::of(&entry.field);
+    let size = entry.field.mem_size();
+    entries.reserve(1)?;
+    index.reserve(entries, vas.total_dropped(), hashes)?;
+    let freed = drop_oldest(entries, index, vas, evicted);
+    *mem_size = *mem_size - freed + size;
+    let absolute = vas.add();
+    entries.push_back_reserved(entry);
+    index.enter(entries, vas.total_dropped(), absolute, hashes);
+    Ok(())
 }

@@ -18,8 +18,8 @@ ghost use Rattle.qpack_table.specs.declared.dynamic.Error.TheVariants.{MaximumTa
 
 use crate::dynamic::Error;
 use crate::dynamic::capacities::{Capacities, GREATEST_CAPACITY};
-use crate::dynamic::entry::{Entry, UnacknowledgedBlock, drop_oldest};
-use crate::dynamic::index::{Hashes, Index};
+use crate::dynamic::entry::{Entry, UnacknowledgedBlock, drop_oldest, replace_oldest};
+use crate::dynamic::index::Index;
 use crate::vas::VirtualAddressSpace;
 use qpack_base::field::HeaderField;
 use std::alloc::{AllocError, Global};
@@ -240,21 +240,20 @@ impl DynamicTable {
         ensures ok { OnOk result (self.new ≡ with_entry self.old (record { field = field_of field; sent = sent })) }
         ensures err { OnErr result (self.new ≡ self.old) }
     {
-        let hashes = Hashes::of(&field);
-        let dropped = self.vas.total_dropped();
-        self.entries.reserve(1)?;
-        self.index.reserve(&self.entries, dropped, hashes)?;
-        let freed = drop_oldest(&mut self.entries, &mut self.index, &mut self.vas, evicted);
-        self.mem_size = self.mem_size - freed + field.mem_size();
-        let absolute = self.vas.add();
-        self.entries.push_back_reserved(Entry {
+        let entry = Entry {
             field,
             sent,
             referenced: false,
             uses: 0,
-        });
-        let dropped = self.vas.total_dropped();
-        self.index.enter(&self.entries, dropped, absolute, hashes);
+        };
+        replace_oldest(
+            &mut self.entries,
+            &mut self.index,
+            &mut self.vas,
+            &mut self.mem_size,
+            evicted,
+            entry,
+        )?;
         Ok(())
     }
 
@@ -272,24 +271,22 @@ impl DynamicTable {
             ≡ with_reference (with_entry self.old (sent_entry (field_of field))) (insert_count self.old + 1)) }
         ensures err { OnErr result (self.new ≡ self.old) }
     {
-        let hashes = Hashes::of(&field);
-        let dropped = self.vas.total_dropped();
-        self.entries.reserve(1)?;
         self.referenced.reserve(1)?;
-        self.index.reserve(&self.entries, dropped, hashes)?;
-        let freed = drop_oldest(&mut self.entries, &mut self.index, &mut self.vas, evicted);
-        let size = field.mem_size();
-        self.mem_size = self.mem_size - freed + size;
-        let absolute = self.vas.add();
-        self.entries.push_back_reserved(Entry {
+        let entry = Entry {
             field,
             sent: true,
             referenced: true,
             uses: 1,
-        });
-        let dropped = self.vas.total_dropped();
-        self.index.enter(&self.entries, dropped, absolute, hashes);
-        self.referenced.push_reserved(absolute);
+        };
+        replace_oldest(
+            &mut self.entries,
+            &mut self.index,
+            &mut self.vas,
+            &mut self.mem_size,
+            evicted,
+            entry,
+        )?;
+        self.referenced.push_reserved(self.vas.total_inserted());
         Ok(())
     }
 
