@@ -1,6 +1,7 @@
 -- The codes of a text, byte by byte, and how many bits they have.
 use Rattle.std.proofs.Common.{◌≡◌, ℕ, ◌+◌, ◌-◌, ◌/◌, ◌%◌, ◌^◌, ◌<◌, ◌≤◌, List, [], ◌∷◌, ◌++◌, length, take, get_or}
 use Rattle.std.proofs.Common.{min, ap, ◌∙◌, arith, append-nil}
+use Rattle.std.specs.Prelude.{slice_index}
 use Rattle.std.proofs.lemmas.List.{take_more, take_all, length-append}
 use Rattle.std.proofs.lemmas.List.Concat.{flat_map-cons}
 use Rattle.std.proofs.lemmas.Grind.{flat_map-append}
@@ -28,17 +29,17 @@ pub record IsCounted (text : List ℕ) (i bytes bits : ℕ) : Type 0 where
   pub whole : bytes ≡ min (length (bits_of_text (take i text)) / 8) (2 ^ 64 - 1)
   pub over : bits ≡ length (bits_of_text (take i text)) % 8
 
-pub count_more : (text : List ℕ) (i bytes bits n : ℕ) (entry : ℕ × ℕ) → i < length text → IsCounted text i bytes bits
-    → IsCodeOf (get_or text i 0) entry → n ≡ entry.0
+pub count_more : (text : List ℕ) (i bytes bits n : ℕ) → i < length text → IsCounted text i bytes bits
+    → n ≡ length (code_of (get_or text i 0))
     → IsCounted text (i + 1) (min (bytes + (bits + n) / 8) (2 ^ 64 - 1)) ((bits + n) % 8)
-count_more text i bytes bits n entry h c w e =
+count_more text i bytes bits n h c e =
     let len : length (bits_of_text (take (i + 1) text)) ≡ length (bits_of_text (take i text)) + n =
     omega (
       arith,
       ap length (text_more text i h),
       length-append (bits_of_text (take i text))
           (code_of (get_or text i 0)),
-      code_bits (get_or text i 0) entry w,
+      e,
     ) in
     record { whole = omega (arith, len, c.whole, c.over); over = omega (arith, len, c.over) }
 
@@ -60,21 +61,48 @@ count_odd text i bytes bits h c n = let k = count_all text i bytes bits h c in
 
 -- ---- the bits summed
 
-pub sum_more : (text : List ℕ) (i bits n : ℕ) (entry : ℕ × ℕ) → i < length text
-    → bits ≡ length (bits_of_text (take i text)) → IsCodeOf (get_or text i 0) entry → n ≡ entry.0
-    → (bits + n ≡ length (bits_of_text (take (i + 1) text))) × (n ≤ 30)
-sum_more text i bits n entry h s w e = (
-  omega (
-    arith,
-    ap (λ (l : List ℕ). length l) (text_more text i h),
-    length-append (bits_of_text (take i text)) (code_of (get_or text i 0)),
-    code_bits (get_or text i 0) entry w,
-  ),
-  omega (arith, w.most),
-)
+pub sum_more : (text : List ℕ) (i bits n : ℕ) → i < length text → bits ≡ length (bits_of_text (take i text))
+    → n ≡ length (code_of (get_or text i 0)) → bits + n ≡ length (bits_of_text (take (i + 1) text))
+sum_more text i bits n h s e =
+    omega (
+      arith,
+      ap (λ (l : List ℕ). length l) (text_more text i h),
+      length-append (bits_of_text (take i text)) (code_of (get_or text i 0)),
+      e,
+    )
 
 pub sum_all : (text : List ℕ) (i bits : ℕ) → length text ≤ i → bits ≡ length (bits_of_text (take i text))
-    → bits + 7 < 2 ^ 64 → (bits + 7) / 8 ≡ min (length (payload_of text)) (2 ^ 64 - 1)
-sum_all text i bits h s few =
+    → bits ≡ length (bits_of_text text)
+sum_all text i bits h s =
     let all = ap (λ (l : List ℕ). length (bits_of_text l)) (take_all i text h) in
-    omega (arith, all, payload_length text)
+    omega (arith, all, s)
+
+first_code_more : (b : ℕ) (text : List ℕ)
+    → length (bits_of_text (b ∷ text)) ≡ length (code_of b) + length (bits_of_text text)
+first_code_more b text = ap (λ (l : List ℕ). length l) (flat_map-cons code_of b text)
+    ∙ length-append (code_of b) (bits_of_text text)
+
+pub sum_four : (xs : List ℕ) → length xs ≡ 4
+    → length (code_of (slice_index xs 0)) + length (code_of (slice_index xs 1)) + length (code_of (slice_index xs 2))
+    + length (code_of (slice_index xs 3)) ≡ length (bits_of_text xs)
+sum_four [] h = absurd (omega (arith, h))
+sum_four (a ∷ []) h = absurd (omega (arith, h))
+sum_four (a ∷ b ∷ []) h = absurd (omega (arith, h))
+sum_four (a ∷ b ∷ c ∷ []) h = absurd (omega (arith, h))
+sum_four (a ∷ b ∷ c ∷ d ∷ []) h =
+    omega (
+      arith,
+      first_code_more a (b ∷ c ∷ d ∷ []),
+      first_code_more b (c ∷ d ∷ []),
+      first_code_more c (d ∷ []),
+      ap (λ (l : List ℕ). length l) (one_code d),
+    )
+sum_four (a ∷ b ∷ c ∷ d ∷ e ∷ xs) h = absurd (omega (arith, h))
+
+-- the bits of a text in two parts
+pub sum_parts : (text part behind : List ℕ) → text ≡ part ++ behind
+    → length (bits_of_text text) ≡ length (bits_of_text part) + length (bits_of_text behind)
+sum_parts text part behind e =
+    ap (λ (l : List ℕ). length (bits_of_text l)) e
+    ∙ ap (λ (l : List ℕ). length l) (flat_map-append code_of part behind)
+    ∙ length-append (bits_of_text part) (bits_of_text behind)

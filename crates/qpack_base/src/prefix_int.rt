@@ -94,7 +94,6 @@ fn read_groups(buf: &mut Cursor) -> Result<u64, Error>
 /// Appends the shortest spelling of the value with a prefix of `size` bits, under the flags, which are
 /// cut to the bits above the prefix. Refused, the vector is as before; with free room for the
 /// spelling it succeeds and takes no memory.
-#[tactic(auto, unfolding(qpack_spec::specs::Integer::written_integer))]
 pub fn encode<A: Allocator>(
     size: u8,
     flags: u8,
@@ -111,18 +110,29 @@ pub fn encode<A: Allocator>(
         vec_capacity buf.new ≡ vec_capacity buf.old }
     ensures capacity { vec_capacity buf.old ≤ vec_capacity buf.new }
 {
+    make_room(buf, encoded_len(size, value))?;
+    put(size, flags, value, buf);
+    Ok(())
+}
+
+/// The same into the free room.
+#[inline(always)]
+#[tactic(auto, unfolding(qpack_spec::specs::Integer::written_integer))]
+pub(crate) fn put<A: Allocator>(size: u8, flags: u8, value: u64, buf: &mut Vec<u8, A>)
+    requires least { 1 ≤ size }
+    requires most { size ≤ 8 }
+    requires room { vec_len buf.old + length (written_integer size flags value) ≤ vec_capacity buf.old }
+    ensures items { buf.new.items ≡ buf.old.items ++ written_integer size flags value }
+    ensures capacity { vec_capacity buf.new ≡ vec_capacity buf.old }
+{
     let end = power(size);
     let high = u64::from(flags) % power(8 - size) * end;
     if value < end - 1 {
-        make_room(buf, 1)?;
         buf.push_reserved((high + value) as u8);
-        return Ok(());
+        return;
     }
-    let rest = value - (end - 1);
-    make_room(buf, 1 + groups_len(rest))?;
     buf.push_reserved((high + (end - 1)) as u8);
-    put_groups(rest, buf);
-    Ok(())
+    put_groups(value - (end - 1), buf);
 }
 
 /// How many bytes the shortest spelling of the value has, with a prefix of `size` bits.

@@ -139,7 +139,7 @@ pub fn decode(alloc: Global, size: u8, buf: &mut Cursor) -> Result<Vec<u8>, Erro
 /// Appends the coded literal of the value with a prefix of `size` bits, under the flags, which are cut
 /// to the bits above it. Refused, the vector is as before; with free room for the literal it succeeds
 /// and takes no memory.
-#[tactic(auto, unfolding(qpack_spec::specs::Text::written_string))]
+#[inline(always)]
 pub fn encode<A: Allocator>(
     size: u8,
     flags: u8,
@@ -157,10 +157,31 @@ pub fn encode<A: Allocator>(
         vec_capacity buf.new ≡ vec_capacity buf.old }
     ensures capacity { vec_capacity buf.old ≤ vec_capacity buf.new }
 {
+    Ok(append(size, flags, value, buf)?)
+}
+
+/// The same, with an error that comes back in a register.
+#[tactic(auto, unfolding(qpack_spec::specs::Text::written_string))]
+fn append<A: Allocator>(
+    size: u8,
+    flags: u8,
+    value: &[u8],
+    buf: &mut Vec<u8, A>,
+) -> Result<(), NoMemory>
+    requires least { 2 ≤ size }
+    requires most { size ≤ 8 }
+    ensures ok { OnOk result (buf.new.items ≡ buf.old.items ++ written_string size flags value.now) }
+    ensures err { OnErr result (buf.new.items ≡ buf.old.items) }
+    ensures succeeds { vec_len buf.old + length (written_string size flags value.now) ≤ vec_capacity buf.old →
+        IsOk result }
+    ensures still { vec_len buf.old + length (written_string size flags value.now) ≤ vec_capacity buf.old →
+        vec_capacity buf.new ≡ vec_capacity buf.old }
+    ensures capacity { vec_capacity buf.old ≤ vec_capacity buf.new }
+{
     let len = encoding::payload_len(value);
     let head = prefix_int::encoded_len(size - 1, len as u64);
     make_room(buf, len.saturating_add(head))?;
-    prefix_int::encode(size - 1, flags % 0x80 * 2 + 1, len as u64, buf)?;
+    prefix_int::put(size - 1, flags % 0x80 * 2 + 1, len as u64, buf);
     encoding::put_payload(value, buf);
     Ok(())
 }

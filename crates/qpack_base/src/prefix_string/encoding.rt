@@ -2,10 +2,11 @@
 
 ghost use Rattle.std.specs.Prelude.{◌≡◌, ◌≢◌, ◌+◌, ◌*◌, ◌%◌, ◌/◌, ◌-◌, ◌^◌, ◌<◌, ◌≤◌, ◌++◌, List, [], ℕ, IfOk, OnErr};
 ghost use Rattle.std.specs.Prelude.{◌∷◌, length, min, vec_len, vec_capacity};
-ghost use Rattle.qpack_spec.specs.Huffman.{bits_of, bits_of_text, payload_of};
+ghost use Rattle.qpack_spec.specs.Huffman.{bits_of, bits_of_text, code_of, payload_of};
 ghost use Rattle.qpack_base.specs.WrittenPayloads.{AddsBits, AddsLastBits, AddsCodes, HasAdded};
 
 use crate::prefix_string::encoding_table::codes;
+use core::mem::replace_with;
 use std::alloc::{AllocError, Allocator};
 use thiserror::Error as ThisError;
 
@@ -20,8 +21,8 @@ impl From<AllocError> for HuffmanEncodingError {
     }
 }
 
-/// Up to so many bytes the bits of their codes are summed in one number.
-const FEW: usize = 1 << 58;
+/// Up to so many bytes the bits of their codes are summed in a number of 32 bits.
+const FEW: usize = 1 << 26;
 
 /// How many bytes the payload of a text has, held at the greatest number.
 pub(super) fn payload_len(text: &[u8]) -> usize
@@ -30,23 +31,56 @@ pub(super) fn payload_len(text: &[u8]) -> usize
     if text.len() > FEW {
         return long_payload_len(text);
     }
-    let codes = codes();
-    let mut bits = 0usize;
-    for byte in text {
-        bits += usize::from(codes[usize::from(*byte)].0);
+    let mut bits = 0u32;
+    let mut rest = text;
+    while let Some((four, behind)) = rest.split_first_chunk::<4>() {
+        bits += bits_of_four(four);
+        rest = behind;
     }
-    (bits + 7) / 8
+    ((bits + bits_of_few(rest) + 7) / 8) as usize
+}
+
+/// How many bits the codes of four bytes have.
+#[inline(always)]
+fn bits_of_four(four: &[u8; 4]) -> u32
+    ensures len { result ≡ length (bits_of_text four.now) }
+    ensures most { result ≤ 120 }
+{
+    let [first, second, third, fourth] = four;
+    bits_of_byte(*first) + bits_of_byte(*second) + bits_of_byte(*third) + bits_of_byte(*fourth)
+}
+
+/// How many bits the codes of a text have that is not long.
+#[inline(always)]
+fn bits_of_few(text: &[u8]) -> u32
+    requires { length text.now ≤ 2 ^ 26 }
+    ensures len { result ≡ length (bits_of_text text.now) }
+    ensures most { result ≤ 30 * length text.now }
+{
+    let mut bits = 0u32;
+    for byte in text {
+        bits += bits_of_byte(*byte);
+    }
+    bits
+}
+
+/// How many bits the code of a byte has.
+#[inline(always)]
+fn bits_of_byte(byte: u8) -> u32
+    ensures len { result ≡ length (code_of byte) }
+    ensures most { result ≤ 30 }
+{
+    codes()[usize::from(byte)].0
 }
 
 /// The same of any text.
 fn long_payload_len(text: &[u8]) -> usize
     ensures { result ≡ min (length (payload_of text.now)) (2 ^ 64 - 1) }
 {
-    let codes = codes();
     let mut bytes = 0usize;
     let mut bits = 0usize;
     for byte in text {
-        bits += usize::from(codes[usize::from(*byte)].0);
+        bits += bits_of_byte(*byte) as usize;
         bytes = bytes.saturating_add(bits / 8);
         bits %= 8;
     }
@@ -71,7 +105,6 @@ impl Pending {
         ensures { AddsCodes (byte ∷ []) self result }
     {
         let (bits, code) = codes()[usize::from(byte)];
-        let bits = u32::from(bits);
         Pending {
             bits: (self.bits << bits) + u64::from(code),
             count: self.count + bits,
@@ -136,42 +169,60 @@ impl Pending {
         if pending.count < 64 {
             return pending.flush(buf);
         }
-        self.put_long(four, buf)
-    }
-
-    /// `put_each`, kept out of the loop of those whose codes are not long.
-    #[inline(never)]
-    fn put_long<A: Allocator>(self, text: &[u8], buf: &mut Vec<u8, A>) -> Pending
-        requires few { self.count < 32 }
-        requires room { 8 * vec_len buf.old + self.count + length (bits_of_text text.now) ≤ 8 * vec_capacity buf.old }
-        ensures added { HasAdded (bits_of self.count self.bits ++ bits_of_text text.now) result.count
-            result.bits buf.old.items buf.new.items }
-        ensures few { result.count < 32 }
-        ensures len { 8 * vec_len buf.new + result.count ≡
-            8 * vec_len buf.old + self.count + length (bits_of_text text.now) }
-        ensures capacity { vec_capacity buf.new ≡ vec_capacity buf.old }
-    {
-        self.put_each(text, buf)
+        replace_with(buf, (self, four), with_long_codes)
     }
 }
 
-/// Appends the payload of a text into the free room, four bytes of the text at a time.
+/// The vector with the codes of four bytes behind it, as `put_each` appends them, kept out of the loop of those whose
+/// codes are not long.
+#[inline(never)]
+fn with_long_codes<A: Allocator>(
+    mut buf: Vec<u8, A>,
+    from: (Pending, &[u8; 4]),
+) -> (Vec<u8, A>, Pending)
+    requires few { from.0.count < 32 }
+    requires room { 8 * vec_len buf + from.0.count + length (bits_of_text from.1.now) ≤ 8 * vec_capacity buf }
+    ensures added { HasAdded (bits_of from.entry.0.count from.entry.0.bits ++ bits_of_text from.entry.1.now)
+        result.1.count result.1.bits buf.items result.0.items }
+    ensures few { result.1.count < 32 }
+    ensures len { 8 * vec_len result.0 + result.1.count ≡
+        8 * vec_len buf + from.entry.0.count + length (bits_of_text from.entry.1.now) }
+    ensures capacity { vec_capacity result.0 ≡ vec_capacity buf }
+{
+    let (pending, four) = from;
+    let pending = pending.put_each(four, &mut buf);
+    (buf, pending)
+}
+
+/// Appends the payload of a text into the free room.
 pub(super) fn put_payload<A: Allocator>(text: &[u8], buf: &mut Vec<u8, A>)
     requires { vec_len buf.old + length (payload_of text.now) ≤ vec_capacity buf.old }
     ensures items { buf.new.items ≡ buf.old.items ++ payload_of text.now }
     ensures capacity { vec_capacity buf.new ≡ vec_capacity buf.old }
 {
+    replace_with(buf, text, with_payload);
+}
+
+/// The vector with the payload of a text behind it, four bytes of the text at a time. It is taken by value, so that
+/// its pointer and its length stay in registers.
+fn with_payload<A: Allocator>(mut buf: Vec<u8, A>, text: &[u8]) -> (Vec<u8, A>, ())
+    requires { vec_len buf + length (payload_of text.now) ≤ vec_capacity buf }
+    ensures items { result.0.items ≡ buf.items ++ payload_of text.now }
+    ensures capacity { vec_capacity result.0 ≡ vec_capacity buf }
+{
     let mut pending = Pending { bits: 0, count: 0 };
     let mut rest = text;
     while let Some((four, behind)) = rest.split_first_chunk::<4>() {
-        pending = pending.put_quad(four, buf);
+        pending = pending.put_quad(four, &mut buf);
         rest = behind;
     }
-    let last = pending.put_each(rest, buf);
-    put_last(last.bits % power(last.count), last.count, buf);
+    let last = pending.put_each(rest, &mut buf);
+    put_last(last.bits % power(last.count), last.count, &mut buf);
+    (buf, ())
 }
 
 /// Appends 32 bits into the free room.
+#[inline(always)]
 fn put_four<A: Allocator>(four: u64, buf: &mut Vec<u8, A>)
     requires fits { four < 2 ^ 32 }
     requires room { vec_len buf.old + 4 ≤ vec_capacity buf.old }
@@ -187,6 +238,7 @@ fn put_four<A: Allocator>(four: u64, buf: &mut Vec<u8, A>)
 }
 
 /// Appends the last bits into the free room, filled up with ones to whole bytes.
+#[inline(always)]
 fn put_last<A: Allocator>(loaded: u64, count: u32, buf: &mut Vec<u8, A>)
     requires fits { loaded < 2 ^ count }
     requires few { count < 32 }

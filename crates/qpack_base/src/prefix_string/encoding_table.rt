@@ -3,13 +3,13 @@
 ghost use Rattle.qpack_base.specs.HuffmanTables.{AreCodes};
 
 /// For each byte how many bits its code has, and the code as a number.
-pub(super) fn codes() -> &'static [(u8, u32); 256]
+pub(super) fn codes() -> &'static [(u32, u32); 256]
     ensures { AreCodes result.now }
 {
     &CODES
 }
 
-static CODES: [(u8, u32); 256] = [
+static CODES: [(u32, u32); 256] = [
     (13, 0x1ff8),
     (23, 0x7fffd8),
     (28, 0xfffffe2),

@@ -1,6 +1,5 @@
-use Rattle.qpack_base.specs.HuffmanTables.{AreCodes}
 use Rattle.qpack_base.proofs.WrittenCodes.{IsCounted}
 use Rattle.qpack_base.proofs.prefix_string.encoding.long_payload_len.Given as goal
 
 abbrev pub invariant-loop-byte : goal.invariant-loop-byte
-invariant-loop-byte l = AreCodes l.codes × IsCounted l.text l.byte-index l.bytes l.bits
+invariant-loop-byte l = IsCounted l.text l.byte-index l.bytes l.bits

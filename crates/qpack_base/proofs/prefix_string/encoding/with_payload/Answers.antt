@@ -2,11 +2,11 @@ use Rattle.std.proofs.Common.{ℕ, ◌%◌, ◌^◌, List, [], ◌++◌, take, r
 use Rattle.std.proofs.Common.{vec_len, vec_capacity, take-append-drop}
 use Rattle.qpack_base.specs.WrittenPayloads.{AddsLastBits}
 use Rattle.qpack_base.proofs.PutCodes.{none_put, more_put, put_room, last_room, all_done, all_put, bytes_from}
-use Rattle.qpack_base.proofs.prefix_string.encoding.put_payload.Goals as goal
+use Rattle.qpack_base.proofs.prefix_string.encoding.with_payload.Goals as goal
 
 pub loop-four-init : goal.loop-four-init
 loop-four-init g c = record {
-  put = none_put c.args.text.now _ c.args.buf.now.items;
+  put = none_put c.args.text.now _ c.args.buf.items;
   few = omega arith;
   capacity = refl;
 }
@@ -18,7 +18,7 @@ put_quad-pending-requires-clause-room g c =
     let whole = ap (λ (l : List ℕ). l ++ c.in-Some.behind.now) parts.0
     ∙ ap (λ (l : List ℕ). take 4 loop.rest.now ++ l) parts.1 ∙ take-append-drop 4 loop.rest.now in
     put_room c.args.text.now loop.rest.now c.in-Some.four.now c.in-Some.behind.now loop.pending.count
-    loop.pending.bits (vec_len c.args.buf.now) (vec_len loop.buf) (vec_capacity loop.buf) c.args.buf.now.items
+    loop.pending.bits (vec_len c.args.buf) (vec_len loop.buf) (vec_capacity loop.buf) c.args.buf.items
     loop.buf.items loop.invariant.put (sym whole) (omega (arith, c.requires, loop.invariant.capacity))
 
 pub loop-four-preserved : goal.loop-four-preserved
@@ -30,8 +30,8 @@ loop-four-preserved g c =
     ∙ ap (λ (l : List ℕ). take 4 loop.rest.now ++ l) parts.1 ∙ take-append-drop 4 loop.rest.now in
     record {
       put = more_put c.args.text.now loop.rest.now c.in-Some.four.now c.in-Some.behind.now loop.pending.count
-          loop.pending.bits next.result.count next.result.bits (vec_len c.args.buf.now) (vec_len loop.buf)
-          (vec_len next.new.buf) c.args.buf.now.items loop.buf.items next.new.buf.items loop.invariant.put (sym whole)
+          loop.pending.bits next.result.count next.result.bits (vec_len c.args.buf) (vec_len loop.buf)
+          (vec_len next.new.buf) c.args.buf.items loop.buf.items next.new.buf.items loop.invariant.put (sym whole)
           next.ensures.added next.ensures.len;
       few = next.ensures.few;
       capacity = next.ensures.capacity ∙ loop.invariant.capacity;
@@ -41,7 +41,7 @@ pub put_each-last-requires-clause-room : goal.put_each-last-requires-clause-room
 put_each-last-requires-clause-room g c =
     let loop = c.loop-four in
     put_room c.args.text.now loop.rest.now loop.rest.now [] loop.pending.count loop.pending.bits
-    (vec_len c.args.buf.now) (vec_len loop.buf) (vec_capacity loop.buf) c.args.buf.now.items loop.buf.items
+    (vec_len c.args.buf) (vec_len loop.buf) (vec_capacity loop.buf) c.args.buf.items loop.buf.items
     loop.invariant.put (sym (append-nil loop.rest.now)) (omega (arith, c.requires, loop.invariant.capacity))
 
 pub put_last-requires-clause-room : goal.put_last-requires-clause-room
@@ -49,11 +49,11 @@ put_last-requires-clause-room g c =
     let loop = c.loop-four in
     let last = c.put_each-last in
     let put = more_put c.args.text.now loop.rest.now loop.rest.now [] loop.pending.count loop.pending.bits
-    last.result.count last.result.bits (vec_len c.args.buf.now) (vec_len loop.buf) (vec_len last.new.buf)
-    c.args.buf.now.items loop.buf.items last.new.buf.items loop.invariant.put (sym (append-nil loop.rest.now))
+    last.result.count last.result.bits (vec_len c.args.buf) (vec_len loop.buf) (vec_len last.new.buf)
+    c.args.buf.items loop.buf.items last.new.buf.items loop.invariant.put (sym (append-nil loop.rest.now))
     last.ensures.added last.ensures.len in
-    last_room c.args.text.now last.result.count last.result.bits (vec_len c.args.buf.now) (vec_len last.new.buf)
-    (vec_capacity last.new.buf) c.args.buf.now.items last.new.buf.items put
+    last_room c.args.text.now last.result.count last.result.bits (vec_len c.args.buf) (vec_len last.new.buf)
+    (vec_capacity last.new.buf) c.args.buf.items last.new.buf.items put
     (omega (arith, c.requires, loop.invariant.capacity, last.ensures.capacity))
 
 pub returns-clause-items : goal.returns-clause-items
@@ -61,13 +61,13 @@ returns-clause-items g c =
     let loop = c.loop-four in
     let last = c.put_each-last in
     let put = more_put c.args.text.now loop.rest.now loop.rest.now [] loop.pending.count loop.pending.bits
-    last.result.count last.result.bits (vec_len c.args.buf.now) (vec_len loop.buf) (vec_len last.new.buf)
-    c.args.buf.now.items loop.buf.items last.new.buf.items loop.invariant.put (sym (append-nil loop.rest.now))
+    last.result.count last.result.bits (vec_len c.args.buf) (vec_len loop.buf) (vec_len last.new.buf)
+    c.args.buf.items loop.buf.items last.new.buf.items loop.invariant.put (sym (append-nil loop.rest.now))
     last.ensures.added last.ensures.len in
-    let added = all_done c.args.text.now last.result.count last.result.bits (vec_len c.args.buf.now)
-    (vec_len last.new.buf) c.args.buf.now.items last.new.buf.items put in
+    let added = all_done c.args.text.now last.result.count last.result.bits (vec_len c.args.buf)
+    (vec_len last.new.buf) c.args.buf.items last.new.buf.items put in
     let filled = subst (λ (n : ℕ). AddsLastBits last.result.count (last.result.bits % n) last.new.buf.items
     c.put_last.new.buf.items) c.power.ensures c.put_last.ensures.items in
-    all_put c.args.text.now last.result.count (last.result.bits % 2 ^ last.result.count) c.args.buf.now.items
+    all_put c.args.text.now last.result.count (last.result.bits % 2 ^ last.result.count) c.args.buf.items
     last.new.buf.items c.put_last.new.buf.items (bytes_from c.args.text.now (λ i. omega (arith, c.type_inv.text i)))
     added filled

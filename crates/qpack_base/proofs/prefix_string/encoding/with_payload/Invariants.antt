@@ -1,6 +1,6 @@
 use Rattle.std.proofs.Common.{◌≡◌, ◌<◌, length, vec_len, vec_capacity}
 use Rattle.qpack_base.proofs.PutCodes.{IsPut}
-use Rattle.qpack_base.proofs.prefix_string.encoding.put_payload.Given as goal
+use Rattle.qpack_base.proofs.prefix_string.encoding.with_payload.Given as goal
 
 abbrev pub invariant-loop-four : goal.invariant-loop-four
 invariant-loop-four g l = record {

@@ -1,7 +1,7 @@
 use Rattle.std.proofs.Common.{◌-◌, ◌^◌, arith}
 use Rattle.std.proofs.lemmas.Nat.{pow_pos}
 use Rattle.qpack_spec.proofs.WrittenIntegers.{byte_fits}
-use Rattle.qpack_base.proofs.prefix_int.encode.Goals as goal
+use Rattle.qpack_base.proofs.prefix_int.put.Goals as goal
 
 pub overflow_cast-high : goal.overflow_cast-high
 overflow_cast-high g c =
