@@ -22,3 +22,4 @@ pub mod SessionDeliveries
 pub mod SessionStarts
 pub mod SessionRuns
 pub mod SessionAnswers
+pub mod SessionMemory

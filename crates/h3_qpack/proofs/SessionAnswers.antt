@@ -94,9 +94,9 @@ module _ (capacity limit : ℕ) where
       → Run v steps w → AreAnswered events outcomes steps → AllByRecursion IsUnrefused outcomes
   all_unrefused done v w [] [] [] start run h = tt
   all_unrefused done v w (e ∷ es) (o ∷ os) (step ∷ steps) start run h = (
-    unrefused capacity limit done v (sessions_safe capacity limit done v start) step.0 step.1 run.0 run.1.goes o h.1,
+    unrefused capacity limit done v (sessions_safe capacity limit done v start) step.0 step.1 run.0 run.1.goes o h.2,
     all_unrefused (done ++ step ∷ []) run.0 w es os steps
-        (run_more (initial_session capacity limit) v run.0 done step.0 step.1 start run.1) run.2 h.2,
+        (run_more (initial_session capacity limit) v run.0 done step.0 step.1 start run.1) run.2 h.3,
   )
   all_unrefused done v w [] [] (step ∷ steps) start run h = absurd h
   all_unrefused done v w [] (o ∷ os) [] start run h = absurd h
@@ -120,10 +120,10 @@ module _ (capacity limit : ℕ) where
       v,
       start,
       exact_event capacity limit done v (sessions_safe capacity limit done v start) step.0 step.1 run.0
-          run.1.goes o h.1,
+          run.1.goes o h.2,
     ),
     all_exact (done ++ step ∷ []) run.0 w es os steps
-        (run_more (initial_session capacity limit) v run.0 done step.0 step.1 start run.1) run.2 h.2,
+        (run_more (initial_session capacity limit) v run.0 done step.0 step.1 start run.1) run.2 h.3,
   )
   all_exact done v w [] [] (step ∷ steps) start run h = absurd h
   all_exact done v w [] (o ∷ os) [] start run h = absurd h

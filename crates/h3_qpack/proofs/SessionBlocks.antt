@@ -111,7 +111,7 @@ encodes_so s encoder told streams number fields required v at is bytes w shows =
     (written_shown s v encoder told streams _ _ _ shows (sym e.table) (sym e.told)
     (shows_changed s.streams streams v.streams number w.stream
     (record kept { blocks = kept.blocks ++ block_made v fields ∷ [] }) same w.changes shows.streams))
-    bytes (encode_skips v number fields ∙ is) (inl (ap (λ (n : ℕ). spec.Encoded n) e.required_is, refl))
+    tt bytes (encode_skips v number fields ∙ is) (inl (ap (λ (n : ℕ). spec.Encoded n) e.required_is, refl))
     (record {
       sent = w.writes.told_fits;
       blocks = fits_changed s.streams streams number w.stream
@@ -134,7 +134,7 @@ gives_up s encoder told streams number fields v at is bytes small (inl h) keeps 
     spec.NoMemory v (refl, refl)
     (written_shown s v encoder told streams v.streams v.encoder v.encoder_stream shows (shows.encoder ∙ sym h.0)
     (shows.encoder_stream ∙ sym h.1) (λ q. keeps q ∙ shows.streams q))
-    bytes (encode_skips v number fields ∙ is) (inr (inr (refl, refl)))
+    tt bytes (encode_skips v number fields ∙ is) (inr (inr (refl, refl)))
     (record { sent = small; blocks = fits_kept s.streams streams keeps fits.blocks })
 gives_up s encoder told streams number fields v at is bytes small (inr g) keeps shows =
     let fits = fits_reached s at in
@@ -147,7 +147,7 @@ gives_up s encoder told streams number fields v at is bytes small (inr g) keeps 
     ∙ ap (λ (l : List ℕ). l ++ written_encoder_instructions (rule s.encoder front).instructions) shows.encoder_stream
     ∙ sym g.told)
     (λ q. keeps q ∙ shows.streams q))
-    bytes (encode_skips v number fields ∙ is) (inr (inl (record { many = g.many; answers = refl; leads = refl })))
+    tt bytes (encode_skips v number fields ∙ is) (inr (inl (record { many = g.many; answers = refl; leads = refl })))
     (record { sent = small; blocks = fits_kept s.streams streams keeps fits.blocks })
 
 pub encodes : (s : SessionView) (encoder : Table) (told : List ℕ) (streams : List (ℕ × StoredStream)) (number : ℕ)

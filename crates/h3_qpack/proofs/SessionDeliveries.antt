@@ -27,7 +27,7 @@ use Rattle.h3_qpack.specs.declared.encoder.EncoderError.{EncoderError}
 use Rattle.h3_qpack.specs.declared.session.Outcome.TheVariants as outcome
 
 -- so many bytes were consumed of a front and a rest of which the rest is left
-front_consumed : (bytes front rest left : List ℕ) (position : ℕ) → bytes ≡ front ++ rest → left ≡ rest
+pub front_consumed : (bytes front rest left : List ℕ) (position : ℕ) → bytes ≡ front ++ rest → left ≡ rest
     → position + length left ≡ length bytes → position ≡ length front
 front_consumed bytes front rest left position cut same counts =
     let whole = ap (λ (l : List ℕ). length l) cut in
@@ -211,7 +211,8 @@ module _ (s : SessionView) (new : DecoderView) (count delivered taken position :
       let takes = receives.takes in
       let ends = delivery_ends takes.front takes.rest receives.taken r takes.cut takes.ends receives.ends in
       let fits = fits_reached s m.reached in
-      lawful after (spec.ToDecoder count) (outcome.Delivered r) v ends.answer ends.next ends.answers ends.shown tt refl
+      lawful after (spec.ToDecoder count) (outcome.Delivered r) v ends.answer ends.next ends.answers ends.shown tt tt
+      refl
       (record {
         lines = takes.lines;
         front = takes.front;
@@ -350,7 +351,8 @@ module _ (s : SessionView) (new : Table) (count delivered position : ℕ) (bytes
     hears_so r hears =
         let ends = hearing_ends hears.front hears.rest r hears.cut hears.ends in
         let fits = fits_reached s at in
-        lawful behind (spec.ToEncoder count) (outcome.Heard r) v ends.answer ends.next ends.answers ends.shown tt refl
+        lawful behind (spec.ToEncoder count) (outcome.Heard r) v ends.answer ends.next ends.answers ends.shown tt tt
+        refl
         (record {
           lines = hears.lines;
           front = hears.front;

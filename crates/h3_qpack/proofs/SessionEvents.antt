@@ -81,7 +81,7 @@ cancels s streams told number (Ok done) at is changes wrote _ _ v shows =
       streams = shows_changed s.streams streams v.streams number _ (record kept { cancelled = true }) cancelled changes
           shows.streams;
     })
-    tt (cancellation_skips s v number shows ∙ is) (inl (refl, refl))
+    tt tt (cancellation_skips s v number shows ∙ is) (inl (refl, refl))
     (record {
       sent = fits.sent;
       blocks = fits_changed s.streams streams number _
@@ -90,7 +90,7 @@ cancels s streams told number (Ok done) at is changes wrote _ _ v shows =
 cancels s streams told number (Err e) at is _ _ keeps same v shows =
     let fits = fits_reached s at in
     lawful (with_streams s streams told) (spec.Cancel number) (outcome.Cancelled (Err e)) v spec.NoMemory v refl
-    (kept_shown s v streams told shows keeps same) tt (cancellation_skips s v number shows ∙ is) (inr (refl, refl))
+    (kept_shown s v streams told shows keeps same) tt tt (cancellation_skips s v number shows ∙ is) (inr (refl, refl))
     (record { sent = fits.sent; blocks = fits_kept s.streams streams keeps fits.blocks })
 
 -- ---- an acknowledgment
@@ -125,7 +125,7 @@ acknowledges s streams told number at is changes wrote v shows =
       streams = shows_changed s.streams streams v.streams number _
           (record kept { acknowledged = kept.acknowledged + 1 }) acknowledged changes shows.streams;
     })
-    tt (acknowledgment_skips s v number shows ∙ is) (inl (refl, refl))
+    tt tt (acknowledgment_skips s v number shows ∙ is) (inl (refl, refl))
     (record {
       sent = fits.sent;
       blocks = fits_changed s.streams streams number _
@@ -140,7 +140,7 @@ unfolding LawfulStep
 acknowledges_nothing s told number e at is same v shows =
     let fits = fits_reached s at in
     lawful (with_streams s s.streams told) (spec.Acknowledge number) (outcome.Acknowledged (Err e)) v spec.NoMemory v
-    refl (kept_shown s v s.streams told shows (λ q. refl) same) tt (acknowledgment_skips s v number shows ∙ is)
+    refl (kept_shown s v s.streams told shows (λ q. refl) same) tt tt (acknowledgment_skips s v number shows ∙ is)
     (inr (refl, refl)) (record { sent = fits.sent; blocks = fits.blocks })
 
 -- ---- a capacity
@@ -183,7 +183,7 @@ refuses_capacity s encoder told capacity e v answers at shows h =
     let reason = reason_told (with_capacity s.encoder capacity) (refusal_of e) h.0 in
     lawful (with_encoder s encoder told) (spec.ChangeCapacity capacity) (outcome.CapacitySet (Err e)) v
     (spec.CapacityRefused reason.0) v (answers reason.0 reason.1)
-    (encoder_shown s v encoder told shows h.1 h.2) tt refl
+    (encoder_shown s v encoder told shows h.1 h.2) tt tt refl
     (inr (inl (record {
       refusal = reason.0;
       is_refused = ap (λ (t : Table). with_capacity t capacity) shows.encoder ∙ reason.2;
@@ -199,7 +199,7 @@ unfolding LawfulStep skip_reason
 wants_memory s encoder told capacity v at shows h =
     let fits = fits_reached s at in
     lawful (with_encoder s encoder told) (spec.ChangeCapacity capacity) (outcome.CapacitySet (Err Memory)) v
-    spec.NoMemory v refl (encoder_shown s v encoder told shows h.0 h.1) tt refl (inr (inr (refl, refl)))
+    spec.NoMemory v refl (encoder_shown s v encoder told shows h.0 h.1) tt tt refl (inr (inr (refl, refl)))
     (record { sent = subst (λ (l : List ℕ). length l < 2 ^ 63) (sym h.1) fits.sent; blocks = fits.blocks })
 
 sets : (s : SessionView) (encoder : Table) (told : List ℕ) (capacity : ℕ) (v : Session) → IsReached s
@@ -224,7 +224,7 @@ sets s encoder told capacity v at small shows h =
       decoder_stream_taken = shows.decoder_stream_taken;
       streams = shows.streams;
     })
-    tt refl
+    tt tt refl
     (inl (record {
       table = encoder;
       is_set = ap (λ (t : Table). with_capacity t capacity) shows.encoder ∙ h.0;
@@ -299,7 +299,7 @@ decodes s streams number bytes d at is found read changes v shows =
       streams = shows_changed s.streams streams v.streams number _ (record kept { decoded = kept.decoded + 1 }) decoded
           changes shows.streams;
     })
-    tt (decode_skips s v number shows ∙ is)
+    tt tt (decode_skips s v number shows ∙ is)
     (inl (record {
       block = block.0;
       is_next = block.1;
@@ -325,7 +325,7 @@ undecoded s number bytes e v read at is found same stays answers shows =
     let kept = stream_at v.streams number in
     let block = found_block (stream_at s.streams number) kept bytes (shows.streams number) found in
     let reads = read_same s v bytes block.0 shows block.2 ∙ same in
-    lawful s (spec.Decode number) (outcome.Decoded (Err e)) v (decode_outcome read) v answers shows tt
+    lawful s (spec.Decode number) (outcome.Decoded (Err e)) v (decode_outcome read) v answers shows tt tt
     (decode_skips s v number shows ∙ is)
     (inl (record {
       block = block.0;
@@ -340,7 +340,7 @@ decode_wants_memory : (s : SessionView) (number : ℕ) (v : Session) → IsReach
     → Shows s v → Goes s (spec.Decode number) (outcome.Decoded (Err decoder.Memory)) v
 unfolding LawfulStep
 decode_wants_memory s number v at is shows =
-    lawful s (spec.Decode number) (outcome.Decoded (Err decoder.Memory)) v spec.NoMemory v refl shows tt
+    lawful s (spec.Decode number) (outcome.Decoded (Err decoder.Memory)) v spec.NoMemory v refl shows tt tt
     (decode_skips s v number shows ∙ is) (inr (refl, refl)) (fits_reached s at)
 
 by_reading : (s : SessionView) (number : ℕ) (bytes : List ℕ) (e : DecoderError) (v : Session) (read : Reading)

@@ -9,23 +9,23 @@ use Rattle.qpack_safety.specs.SessionSafety.{IsSafe}
 use Rattle.qpack_safety.proofs.FourParts.{sessions_safe}
 use Rattle.h3_qpack.proofs.Sessions.{run_more}
 use Rattle.h3_qpack.specs.SessionRuns.{AreAnswered, Continues, PerformsAll, Runs}
-use Rattle.h3_qpack.specs.Sessions.{SessionView, Reaches, Answers, Follows, event_of}
+use Rattle.h3_qpack.specs.Sessions.{SessionView, Reaches, Answers, IsAnswerTo, Follows, event_of}
 use Rattle.h3_qpack.specs.declared.session.Event.{Event}
 use Rattle.h3_qpack.specs.declared.session.Outcome.{Outcome}
 
 answered_more : (es : List Event) (os : List Outcome) (steps : List (spec.Event
     × spec.Outcome)) (e : Event) (o : Outcome)
-    (answer : spec.Outcome) → AreAnswered es os steps → Answers o answer
+    (answer : spec.Outcome) → AreAnswered es os steps → IsAnswerTo (event_of e) o → Answers o answer
     → AreAnswered (es ++ e ∷ []) (os ++ o ∷ []) (steps ++ (event_of e, answer) ∷ [])
-answered_more [] [] [] e o answer h answers = (refl, answers, tt)
-answered_more [] [] (step ∷ steps) e o answer h answers = absurd h
-answered_more [] (r ∷ os) [] e o answer h answers = absurd h
-answered_more [] (r ∷ os) (step ∷ steps) e o answer h answers = absurd h
-answered_more (d ∷ es) [] [] e o answer h answers = absurd h
-answered_more (d ∷ es) [] (step ∷ steps) e o answer h answers = absurd h
-answered_more (d ∷ es) (r ∷ os) [] e o answer h answers = absurd h
-answered_more (d ∷ es) (r ∷ os) (step ∷ steps) e o answer h answers =
-    (h.0, h.1, answered_more es os steps e o answer h.2 answers)
+answered_more [] [] [] e o answer h kind answers = (refl, kind, answers, tt)
+answered_more [] [] (step ∷ steps) e o answer h kind answers = absurd h
+answered_more [] (r ∷ os) [] e o answer h kind answers = absurd h
+answered_more [] (r ∷ os) (step ∷ steps) e o answer h kind answers = absurd h
+answered_more (d ∷ es) [] [] e o answer h kind answers = absurd h
+answered_more (d ∷ es) [] (step ∷ steps) e o answer h kind answers = absurd h
+answered_more (d ∷ es) (r ∷ os) [] e o answer h kind answers = absurd h
+answered_more (d ∷ es) (r ∷ os) (step ∷ steps) e o answer h kind answers =
+    (h.0, h.1, h.2, answered_more es os steps e o answer h.3 kind answers)
 
 -- no events lead nowhere
 pub performs_none : (s : SessionView) (outcomes : List Outcome) → PerformsAll s s [] outcomes outcomes
@@ -50,7 +50,7 @@ performs_more old mid new events more e r before told behind p follows whole wro
       (record {
         steps = k.steps ++ (event_of e, goes.answer) ∷ [];
         session = goes.next;
-        answered = answered_more events p.0 k.steps e r goes.answer k.answered goes.answers;
+        answered = answered_more events p.0 k.steps e r goes.answer k.answered goes.kind goes.answers;
         shows = goes.shows;
         run = run_more v k.session goes.next k.steps (event_of e) goes.answer k.run goes.passes;
       }),

@@ -13,7 +13,7 @@ use Rattle.qpack_safety.specs.SessionSafety.{IsSafe}
 use Rattle.qpack_safety.proofs.FourParts.{sessions_safe}
 use Rattle.h3_qpack.specs.Sessions.{StoredBlock, StoredStream, stored_block, stored_stream, stored_requires_entry}
 use Rattle.h3_qpack.specs.Sessions.{SessionView, Shows, IsReached, Follows, Goes, Answers, ChangesStream}
-use Rattle.h3_qpack.specs.Sessions.{Keeps}
+use Rattle.h3_qpack.specs.Sessions.{IsAnswerTo, Keeps}
 use Rattle.h3_qpack.specs.Sessions.{KeepsStreams, stored_skip, decode_skip, acknowledgment_skip}
 use Rattle.h3_qpack.specs.Sessions.{cancellation_skip}
 use Rattle.h3_qpack.specs.declared.session.Outcome.{Outcome}
@@ -205,6 +205,7 @@ skipped s e reason at bytes is v shows =
       answer = spec.Skipped reason;
       next = v;
       answers = refl;
+      kind = tt;
       shows = shows;
       passes = record {
         has_bytes = bytes;
@@ -215,13 +216,15 @@ skipped s e reason at bytes is v shows =
 
 -- an event that is lawful goes
 pub lawful : (new : SessionView) (e : spec.Event) (r : Outcome) (v : Session) (o : spec.Outcome) (v' : Session)
-    → Answers r o → Shows new v' → IsByteEvent e → skip_reason v e ≡ None → LawfulStep v e o v' → Fits new
+    → Answers r o → Shows new v' → IsAnswerTo e r → IsByteEvent e → skip_reason v e ≡ None → LawfulStep v e o v'
+    → Fits new
     → Goes new e r v
-lawful new e r v o v' answers shows bytes is step fits =
+lawful new e r v o v' answers shows kind bytes is step fits =
     record {
       answer = o;
       next = v';
       answers = answers;
+      kind = kind;
       shows = shows;
       passes = record { has_bytes = bytes; goes = inr (is, step); fits = shown_fits new v' shows fits };
     }

@@ -14,3 +14,4 @@ pub mod Sessions
 pub mod SessionStarts
 pub mod SessionRuns
 pub mod SessionAnswers
+pub mod SessionMemory

@@ -5,15 +5,16 @@ use Rattle.qpack_spec.specs.Session as spec
 use Rattle.qpack_spec.specs.Session.{Session, StartRefusal}
 use Rattle.qpack_table.specs.declared.dynamic.Error.{Error}
 use Rattle.qpack_table.specs.declared.dynamic.Error.TheVariants.{Memory}
-use Rattle.h3_qpack.specs.Sessions.{SessionView, Shows, Reaches, Answers, event_of}
+use Rattle.h3_qpack.specs.Sessions.{SessionView, Shows, Reaches, Answers, IsAnswerTo, event_of}
 use Rattle.h3_qpack.specs.SessionStarts.{start_refusal_of}
 use Rattle.h3_qpack.specs.declared.session.Event.{Event}
 use Rattle.h3_qpack.specs.declared.session.Outcome.{Outcome}
 
--- the steps are these events, each with what it answered
+-- the steps are these events, each with what it answered, which is of its kind
 abbrev pub AreAnswered : List Event → List Outcome → List (spec.Event × spec.Outcome) → Type 0
 AreAnswered [] [] [] = Unit {0}
-AreAnswered (e ∷ es) (o ∷ os) (step ∷ steps) = (step.0 ≡ event_of e) × Answers o step.1 × AreAnswered es os steps
+AreAnswered (e ∷ es) (o ∷ os) (step ∷ steps) =
+    (step.0 ≡ event_of e) × IsAnswerTo (event_of e) o × Answers o step.1 × AreAnswered es os steps
 AreAnswered es os steps = ⊥
 
 -- events, each with its answer, lead from the beginning to a session that is shown, and P holds of it

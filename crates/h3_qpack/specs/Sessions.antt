@@ -214,11 +214,24 @@ Answers (outcome.CapacitySet (Err e)) o =
     (refusal : TableRefusal) × (o ≡ spec.CapacityRefused refusal) × (hearing.refusal_of e ≡ Some refusal)
 Answers (outcome.Skipped reason) o = o ≡ spec.Skipped reason
 
--- from a session that is shown an event leads, with this answer, to a session that is shown behind it
+-- the answer is one of the event's kind, or it tells why the event is skipped
+abbrev pub IsAnswerTo : spec.Event → Outcome → Type 0
+IsAnswerTo event (outcome.Skipped reason) = Unit {0}
+IsAnswerTo (spec.Encode number fields) (outcome.Encoded r) = Unit {0}
+IsAnswerTo (spec.Decode number) (outcome.Decoded r) = Unit {0}
+IsAnswerTo (spec.ToDecoder bytes) (outcome.Delivered r) = Unit {0}
+IsAnswerTo (spec.ToEncoder bytes) (outcome.Heard r) = Unit {0}
+IsAnswerTo (spec.Acknowledge number) (outcome.Acknowledged r) = Unit {0}
+IsAnswerTo (spec.Cancel number) (outcome.Cancelled r) = Unit {0}
+IsAnswerTo (spec.ChangeCapacity capacity) (outcome.CapacitySet r) = Unit {0}
+IsAnswerTo event result = ⊥
+
+-- from a session that is shown an event leads, with this answer of its kind, to a session that is shown behind it
 pub record Goes (new : SessionView) (event : spec.Event) (result : Outcome) (v : Session) : Type 0 where
   pub answer : spec.Outcome
   pub next : Session
   pub answers : Answers result answer
+  pub kind : IsAnswerTo event result
   pub shows : Shows new next
   pub passes : Passes v event answer next
 

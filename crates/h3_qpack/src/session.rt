@@ -11,6 +11,7 @@ ghost use Rattle.qpack_table.specs.declared.dynamic.Error.TheVariants.{MaximumTa
 ghost use Rattle.h3_qpack.specs.Sessions.{Follows, Keeps, Reaches, IsReached, event_of};
 ghost use Rattle.h3_qpack.specs.SessionStarts.{Begins, IsBlock};
 ghost use Rattle.h3_qpack.specs.SessionRuns.{Runs, RefusesRun};
+ghost use Rattle.h3_qpack.specs.SessionMemory.{IsAskedFor};
 ghost use Rattle.h3_qpack.specs.SessionAnswers.{IsUnrefused, IsExactBehind, AreExact};
 
 use crate::decoder::{Decoded, Decoder, DecoderError};
@@ -141,13 +142,19 @@ impl Session {
     /// Does what an event says, and tells what came of it. An event outside a lawful session is skipped and changes
     /// nothing; one that is refused memory can be given again.
     pub fn step(&mut self, event: &Event) -> Outcome
-        // It is a step of the definition, from whichever session is shown before it to one that is shown behind it.
+        // It is a step of the definition, from whichever session is shown before it to one that is shown behind it, and
+        // its answer is one of its own kind.
         ensures goes { Follows self.old self.new (event_of event.now) result }
         // It refuses no instruction but for memory.
         ensures unrefused { IsUnrefused result }
         // A decode answers exactly the fields that were handed to the encode of its block, or it wants memory, or tells
         // the block's required insert count, which exceeds the insertions received.
         ensures exact { IsExactBehind self.old (event_of event.now) result }
+        // Memory is refused only where it is asked for: by a decode, where in its block a line, or a string whose
+        // payload is not empty, stands whole behind a prefix; by a delivery to the decoder, where insertions are still
+        // to be reported or the next instruction asks for memory; and by what writes bytes. A delivery to the encoder
+        // takes none.
+        ensures asks { IsAskedFor self.old self.new (event_of event.now) result }
         // Whatever events led to the session before it, they and this one with its answer lead to one of which the
         // four parts of the session theorem hold. (a) The outcomes and the state are a run of the session. Each block
         // and the encoder stream are the rule's. Both tables are those that the instructions make of an empty one, and

@@ -3,6 +3,7 @@
 ghost use Rattle.std.specs.Prelude.{◌+◌, ◌≤◌, length, vec_len, vec_capacity};
 ghost use Rattle.qpack_spec.specs.Session.{Encode, Decode, ToDecoder, ToEncoder, Acknowledge, Cancel, ChangeCapacity};
 ghost use Rattle.h3_qpack.specs.Sessions.{Follows, event_of};
+ghost use Rattle.h3_qpack.specs.SessionMemory.{IsAskedFor};
 ghost use Rattle.h3_qpack.specs.SessionRuns.{PerformsAll};
 ghost use Rattle.h3_qpack.specs.Stateless.{fields_in};
 
@@ -27,6 +28,7 @@ impl Session {
     /// Does what an event says.
     pub(super) fn perform(&mut self, event: &Event) -> Outcome
         ensures goes { Follows self.old self.new (event_of event.now) result }
+        ensures asks { IsAskedFor self.old self.new (event_of event.now) result }
     {
         match event {
             Event::Encode(stream, fields) => self.encode(*stream, fields),
@@ -42,6 +44,7 @@ impl Session {
     /// A block of the fields is encoded for a stream.
     pub(super) fn encode(&mut self, number: u64, fields: &[HeaderField]) -> Outcome
         ensures goes { Follows self.old self.new (Encode number (fields_in fields.now)) result }
+        ensures asks { IsAskedFor self.old self.new (Encode number (fields_in fields.now)) result }
     {
         read_fields(fields);
         if let Some(reason) = self.streams.encode_skip(number) {
@@ -62,6 +65,7 @@ impl Session {
     /// The oldest undecoded block of a stream is decoded.
     pub(super) fn decode(&mut self, number: u64) -> Outcome
         ensures goes { Follows self.old self.new (Decode number) result }
+        ensures asks { IsAskedFor self.old self.new (Decode number) result }
     {
         let bytes = match self.streams.next_block(number) {
             Ok(bytes) => bytes,
@@ -79,6 +83,7 @@ impl Session {
     /// So many more bytes of the encoder stream come to the decoder, behind those that it left.
     pub(super) fn deliver_to_decoder(&mut self, count: usize) -> Outcome
         ensures goes { Follows self.old self.new (ToDecoder count) result }
+        ensures asks { IsAskedFor self.old self.new (ToDecoder count) result }
     {
         let len = self.encoder_stream.len();
         let delivered = delivered_after(self.encoder_stream_delivered, count, len);
@@ -95,6 +100,7 @@ impl Session {
     /// So many more bytes of the decoder stream come to the encoder, behind those that it left.
     pub(super) fn deliver_to_encoder(&mut self, count: usize) -> Outcome
         ensures goes { Follows self.old self.new (ToEncoder count) result }
+        ensures asks { IsAskedFor self.old self.new (ToEncoder count) result }
     {
         let len = self.decoder_stream.len();
         let delivered = delivered_after(self.decoder_stream_delivered, count, len);
@@ -109,6 +115,7 @@ impl Session {
     /// The oldest decoded block of a stream that requires an entry is acknowledged.
     pub(super) fn acknowledge(&mut self, number: u64) -> Outcome
         ensures goes { Follows self.old self.new (Acknowledge number) result }
+        ensures asks { IsAskedFor self.old self.new (Acknowledge number) result }
     {
         if let Some(reason) = self.streams.acknowledgment_skip(number) {
             return Outcome::Skipped(reason);
@@ -125,6 +132,7 @@ impl Session {
     /// A stream is cancelled.
     pub(super) fn cancel(&mut self, number: u64) -> Outcome
         ensures goes { Follows self.old self.new (Cancel number) result }
+        ensures asks { IsAskedFor self.old self.new (Cancel number) result }
     {
         if let Some(reason) = self.streams.cancellation_skip(number) {
             return Outcome::Skipped(reason);
@@ -136,6 +144,7 @@ impl Session {
     /// The encoder sets the capacity in bytes, and writes it.
     pub(super) fn change_capacity(&mut self, capacity: usize) -> Outcome
         ensures goes { Follows self.old self.new (ChangeCapacity capacity) result }
+        ensures asks { IsAskedFor self.old self.new (ChangeCapacity capacity) result }
     {
         Outcome::CapacitySet(
             self.encoder

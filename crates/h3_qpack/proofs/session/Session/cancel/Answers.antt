@@ -4,12 +4,11 @@ use Rattle.h3_qpack.proofs.Sessions.{follows_from, stays_from, reached_behind, s
 use Rattle.h3_qpack.proofs.SessionEvents.{cancels}
 use Rattle.h3_qpack.proofs.session.Session.cancel.Goals as goal
 
-pub returns-in-Some : goal.returns-in-Some
-returns-in-Some c = record {
-  goes = stays_from _ c.args.self.now _ _ c.self.view_is
-      (skipped _ (Cancel c.args.number) c.in-Some.reason c.self.invariant tt
-      (λ v shows. cancellation_skips _ v c.args.number shows ∙ sym c.cancellation_skip.ensures ∙ c.in-Some.is));
-}
+pub returns-in-Some-clause-goes : goal.returns-in-Some-clause-goes
+returns-in-Some-clause-goes c =
+    stays_from _ c.args.self.now _ _ c.self.view_is
+    (skipped _ (Cancel c.args.number) c.in-Some.reason c.self.invariant tt
+    (λ v shows. cancellation_skips _ v c.args.number shows ∙ sym c.cancellation_skip.ensures ∙ c.in-Some.is))
 
 pub invariant_of-self : goal.invariant_of-self
 invariant_of-self c =
@@ -18,10 +17,9 @@ invariant_of-self c =
     (sym c.cancellation_skip.ensures ∙ c.in_default.is)
     c.cancel.ensures.ok c.cancel.ensures.writes c.cancel.ensures.err c.cancel.ensures.as_before)
 
-pub returns : goal.returns
-returns c = record {
-  goes = follows_from _ c.args.self.now _ _ _ c.self.view_is
-      (cancels _ c.cancel.new.self c.cancel.new.decoder_stream.items c.args.number c.cancel.result c.self.invariant
-      (sym c.cancellation_skip.ensures ∙ c.in_default.is)
-      c.cancel.ensures.ok c.cancel.ensures.writes c.cancel.ensures.err c.cancel.ensures.as_before);
-}
+pub returns-clause-goes : goal.returns-clause-goes
+returns-clause-goes c =
+    follows_from _ c.args.self.now _ _ _ c.self.view_is
+    (cancels _ c.cancel.new.self c.cancel.new.decoder_stream.items c.args.number c.cancel.result c.self.invariant
+    (sym c.cancellation_skip.ensures ∙ c.in_default.is)
+    c.cancel.ensures.ok c.cancel.ensures.writes c.cancel.ensures.err c.cancel.ensures.as_before)

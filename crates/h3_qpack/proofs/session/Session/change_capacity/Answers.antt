@@ -10,11 +10,9 @@ invariant_of-self c =
     (sets_capacity _ c.set_capacity.new.self told.items c.args.capacity c.set_capacity.result c.self.invariant
     (omega (arith, told.ok.0, told.ok.1, told.small)) c.set_capacity.ensures.sets)
 
-pub returns : goal.returns
-returns c =
+pub returns-clause-goes : goal.returns-clause-goes
+returns-clause-goes c =
     let told = c.set_capacity.new.encoder_buf in
-    record {
-      goes = follows_from _ c.args.self.now _ _ _ c.self.view_is
-          (sets_capacity _ c.set_capacity.new.self told.items c.args.capacity c.set_capacity.result c.self.invariant
-          (omega (arith, told.ok.0, told.ok.1, told.small)) c.set_capacity.ensures.sets);
-    }
+    follows_from _ c.args.self.now _ _ _ c.self.view_is
+    (sets_capacity _ c.set_capacity.new.self told.items c.args.capacity c.set_capacity.result c.self.invariant
+    (omega (arith, told.ok.0, told.ok.1, told.small)) c.set_capacity.ensures.sets)

@@ -1,6 +1,7 @@
 use Rattle.std.proofs.Common.{◌∙◌, arith}
 use Rattle.h3_qpack.proofs.Sessions.{follows_from, reached_behind, ordered_reached}
 use Rattle.h3_qpack.proofs.SessionDeliveries.{hears_offered, offers}
+use Rattle.h3_qpack.proofs.SessionMemory.{hearing_asks_not}
 use Rattle.h3_qpack.proofs.session.Session.deliver_to_encoder.Goals as goal
 
 pub offered-offered-requires-clause-order : goal.offered-offered-requires-clause-order
@@ -30,20 +31,24 @@ invariant_of-self c =
     c.on_decoder_recv-answer.ensures.total c.position.ensures)
     c.on_decoder_recv-answer.ensures.hears)
 
-pub returns : goal.returns
-returns c = record {
-  goes = follows_from _ c.args.self.now _ _ _ c.self.view_is
-      (hears_offered _ c.on_decoder_recv-answer.new.self c.args.count c.delivered_after-delivered.result
-      c.position.result
-      c.new-offered.result.rest c.on_decoder_recv-answer.new.buf.rest c.on_decoder_recv-answer.result c.self.invariant
-      (offers c.self.inside.decoder_stream.items c.deref.result.now c.offered-offered.result.now
-      c.new-offered.result.rest
-      c.on_decoder_recv-answer.new.buf.rest c.self.inside.decoder_stream_taken c.self.inside.decoder_stream_delivered
-      c.args.count
-      c.delivered_after-delivered.result c.len-len.result c.position.result c.new-offered.result.total
-      c.on_decoder_recv-answer.new.buf.total c.delivered_after-delivered.ensures (c.len-len.ensures
-      ∙ c.self.inside.decoder_stream.ok.0)
-      c.deref.ensures.value c.offered-offered.ensures c.new-offered.ensures.rest c.new-offered.ensures.total
-      c.on_decoder_recv-answer.ensures.total c.position.ensures)
-      c.on_decoder_recv-answer.ensures.hears);
-}
+pub returns-clause-goes : goal.returns-clause-goes
+returns-clause-goes c =
+    follows_from _ c.args.self.now _ _ _ c.self.view_is
+    (hears_offered _ c.on_decoder_recv-answer.new.self c.args.count c.delivered_after-delivered.result
+    c.position.result
+    c.new-offered.result.rest c.on_decoder_recv-answer.new.buf.rest c.on_decoder_recv-answer.result c.self.invariant
+    (offers c.self.inside.decoder_stream.items c.deref.result.now c.offered-offered.result.now
+    c.new-offered.result.rest
+    c.on_decoder_recv-answer.new.buf.rest c.self.inside.decoder_stream_taken c.self.inside.decoder_stream_delivered
+    c.args.count
+    c.delivered_after-delivered.result c.len-len.result c.position.result c.new-offered.result.total
+    c.on_decoder_recv-answer.new.buf.total c.delivered_after-delivered.ensures (c.len-len.ensures
+    ∙ c.self.inside.decoder_stream.ok.0)
+    c.deref.ensures.value c.offered-offered.ensures c.new-offered.ensures.rest c.new-offered.ensures.total
+    c.on_decoder_recv-answer.ensures.total c.position.ensures)
+    c.on_decoder_recv-answer.ensures.hears)
+
+pub returns-clause-asks : goal.returns-clause-asks
+returns-clause-asks c =
+    hearing_asks_not c.args.self.now c.args.self.now c.args.count c.on_decoder_recv-answer.result
+    c.on_decoder_recv-answer.ensures.no_memory
