@@ -10,6 +10,7 @@ pub mod Counts
 pub mod Hearing
 pub mod Additions
 pub mod Rooms
+pub mod Stills
 pub mod AddedFields
 pub mod ReferencedRoom
 pub mod DraftedBlocks

@@ -38,6 +38,8 @@ pub(super) fn append_block<A: Allocator, B: Allocator, H: AsField>(
     ensures as_before { OnErr result (take (vec_len block.old) block.new.items ≡ block.old.items) }
     ensures memory { IfErr result (λ e. e ≡ Memory) }
     ensures capacity { vec_capacity block.old ≤ vec_capacity block.new }
+    ensures still { OnOk result
+        (vec_len block.new ≤ vec_capacity block.old → vec_capacity block.new ≡ vec_capacity block.old) }
 {
     let max = handle.agreed_max();
     let len = block.len();
@@ -66,6 +68,8 @@ fn append_fields<A: Allocator, B: Allocator, H: AsField>(
     ensures as_before { OnErr result (take (vec_len lines.old) lines.new.items ≡ lines.old.items) }
     ensures memory { IfErr result (λ e. e ≡ Memory) }
     ensures capacity { vec_capacity lines.old ≤ vec_capacity lines.new }
+    ensures still { OnOk result
+        (vec_len lines.new ≤ vec_capacity lines.old → vec_capacity lines.new ≡ vec_capacity lines.old) }
 {
     for field in fields {
         append_field(handle, field.as_field(), lines, encoder_buf)?;
@@ -80,10 +84,13 @@ fn put_in_front<A: Allocator>(
     len: usize,
 ) -> Result<(), NoMemory>
     requires { len ≤ vec_len block.old }
+    ensures longer { vec_len block.old ≤ vec_len block.new }
     ensures ok { OnOk result (block.new.items
         ≡ take len block.old.items ++ written_prefix (prefix_of prefix.now) ++ drop len block.old.items) }
     ensures err { OnErr result (block.new.items ≡ block.old.items) }
     ensures capacity { vec_capacity block.old ≤ vec_capacity block.new }
+    ensures still { OnOk result
+        (vec_len block.new ≤ vec_capacity block.old → vec_capacity block.new ≡ vec_capacity block.old) }
 {
     let end = block.len();
     prefix.encode(block)?;

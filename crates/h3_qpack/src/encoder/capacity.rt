@@ -26,6 +26,9 @@ pub fn set_dynamic_table_size<A: Allocator>(
 ) -> Result<(), EncoderError>
     ensures sets { SetsCapacity size table.old table.new encoder_buf.old.items encoder_buf.new.items result }
     ensures memory { vec_len encoder_buf.old + 11 ≤ vec_capacity encoder_buf.old → result ≡ Err Memory → ⊥ }
+    ensures still { vec_len encoder_buf.old + 11 ≤ vec_capacity encoder_buf.old
+        → vec_capacity encoder_buf.new ≡ vec_capacity encoder_buf.old }
+    ensures capacity { vec_capacity encoder_buf.old ≤ vec_capacity encoder_buf.new }
 {
     make_room(encoder_buf, GREATEST_NUMBER)?;
     table.set_max_size(size)?;

@@ -1,6 +1,6 @@
 //! The encoder of a connection: its table, and the decoder instructions that it hears (RFC 9204, section 2.1).
 
-ghost use Rattle.std.specs.Prelude.{◌≡◌, ◌+◌, ◌≤◌, Err, None, IfOk, IfErr, OnErr, vec_len, vec_capacity};
+ghost use Rattle.std.specs.Prelude.{◌≡◌, ◌+◌, ◌≤◌, Err, None, IfOk, IfErr, OnOk, OnErr, vec_len, vec_capacity};
 ghost use Rattle.std.specs.Iterator.{IsFinite};
 ghost use Rattle.qpack_spec.specs.Table.{empty_table};
 ghost use Rattle.qpack_base.specs.HeaderFields.{DrainsFields};
@@ -83,6 +83,9 @@ impl Encoder {
     ) -> Result<(), EncoderError>
         ensures sets { SetsCapacity size self.old self.new encoder_buf.old.items encoder_buf.new.items result }
         ensures memory { vec_len encoder_buf.old + 11 ≤ vec_capacity encoder_buf.old → result ≡ Err Memory → ⊥ }
+        ensures still { vec_len encoder_buf.old + 11 ≤ vec_capacity encoder_buf.old
+            → vec_capacity encoder_buf.new ≡ vec_capacity encoder_buf.old }
+        ensures capacity { vec_capacity encoder_buf.old ≤ vec_capacity encoder_buf.new }
     {
         set_dynamic_table_size(&mut self.table.table, encoder_buf, size)
     }
@@ -95,7 +98,8 @@ impl<D: WritesSections> Encoder<D> {
     /// entry that stood at the block's start, an insertion, and a literal.
     ///
     /// Refused, which is for memory alone, the block is as before. The insertions that were made stand, their
-    /// instructions are written, and nothing more is referenced: the call can be made again.
+    /// instructions are written, and nothing more is referenced: the call can be made again. A block's vector with free
+    /// room for it is not grown.
     pub fn encode<'a, A: Allocator, B: Allocator, T: Iterator<Item = &'a HeaderField> + Drop>(
         &mut self,
         stream_id: u64,
@@ -113,6 +117,8 @@ impl<D: WritesSections> Encoder<D> {
         ensures as_before { OnErr result (block.new.items ≡ block.old.items) }
         ensures memory { IfErr result (λ e. e ≡ Memory) }
         ensures capacity { vec_capacity block.old ≤ vec_capacity block.new }
+        ensures still { OnOk result
+            (vec_len block.new ≤ vec_capacity block.old → vec_capacity block.new ≡ vec_capacity block.old) }
     {
         encode_items(&mut self.table, stream_id, block, encoder_buf, fields)
     }

@@ -43,6 +43,8 @@ pub(super) fn append_field<A: Allocator, B: Allocator>(
     ensures as_before { OnErr result (take (vec_len lines.old) lines.new.items ≡ lines.old.items) }
     ensures memory { IfErr result (λ e. e ≡ Memory) }
     ensures capacity { vec_capacity lines.old ≤ vec_capacity lines.new }
+    ensures still { OnOk result
+        (vec_len lines.new ≤ vec_capacity lines.old → vec_capacity lines.new ≡ vec_capacity lines.old) }
 {
     if let Some(index) = StaticTable::find(field) {
         return Ok(Indexed::Static(index).encode(lines)?);
@@ -72,6 +74,8 @@ fn append_insertion<A: Allocator, B: Allocator>(
     ensures as_before { OnErr result (take (vec_len lines.old) lines.new.items ≡ lines.old.items) }
     ensures memory { IfErr result (λ e. e ≡ Memory) }
     ensures capacity { vec_capacity lines.old ≤ vec_capacity lines.new }
+    ensures still { OnOk result
+        (vec_len lines.new ≤ vec_capacity lines.old → vec_capacity lines.new ≡ vec_capacity lines.old) }
 {
     make_room(encoder_buf, instruction_room(block, field))?;
     let insertion = block.insert(field)?;

@@ -14,6 +14,8 @@ pub(super) fn make_room<A: Allocator>(
     ensures len { vec_len buf.new ≡ vec_len buf.old }
     ensures ok { OnOk result (vec_len buf.new + additional ≤ vec_capacity buf.new) }
     ensures succeeds { vec_len buf.old + additional ≤ vec_capacity buf.old → IsOk result }
+    ensures still { vec_len buf.old + additional ≤ vec_capacity buf.old → vec_capacity buf.new ≡ vec_capacity buf.old }
+    ensures capacity { vec_capacity buf.old ≤ vec_capacity buf.new }
 {
     if additional <= buf.capacity().saturating_sub(buf.len()) {
         return Ok(());

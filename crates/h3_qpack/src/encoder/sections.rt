@@ -1,6 +1,6 @@
 //! Field sections as an encoder writes them, and what it asks of its table for that (RFC 9204, section 2.1).
 
-ghost use Rattle.std.specs.Prelude.{◌≡◌, ◌≤◌, map, Ok, IfOk, IfErr, OnErr, vec_capacity};
+ghost use Rattle.std.specs.Prelude.{◌≡◌, ◌≤◌, map, Ok, IfOk, IfErr, OnOk, OnErr, vec_len, vec_capacity};
 ghost use Rattle.std.specs.Iterator.{IsFinite, Drains};
 ghost use Rattle.qpack_spec.specs.Table.{Table, commit, without_references};
 ghost use Rattle.h3_qpack.specs.Encoding.{DrainsFieldsOf, EncodesBlock, GivesUpBlock, StopsEncodingOf};
@@ -36,7 +36,9 @@ pub trait WritesSections {
             encoder_buf.old.items encoder_buf.new.items) }
         ensures as_before { OnErr result (block.new.items ≡ block.old.items) }
         ensures memory { IfErr result (λ e. e ≡ Memory) }
-        ensures capacity { vec_capacity block.old ≤ vec_capacity block.new };
+        ensures capacity { vec_capacity block.old ≤ vec_capacity block.new }
+        ensures still { OnOk result
+            (vec_len block.new ≤ vec_capacity block.old → vec_capacity block.new ≡ vec_capacity block.old) };
 
     /// Gives the block in progress up: what it references is referenced no more.
     fn give_up(&mut self)
@@ -126,6 +128,8 @@ pub(super) fn encode_items<
     ensures as_before { OnErr result (block.new.items ≡ block.old.items) }
     ensures memory { IfErr result (λ e. e ≡ Memory) }
     ensures capacity { vec_capacity block.old ≤ vec_capacity block.new }
+    ensures still { OnOk result
+        (vec_len block.new ≤ vec_capacity block.old → vec_capacity block.new ≡ vec_capacity block.old) }
 {
     match gather(table.memory(), fields) {
         Ok(gathered) => table.write_section(stream_id, block, encoder_buf, &gathered),

@@ -2,6 +2,7 @@ use Rattle.std.proofs.Common.{◌∙◌, arith, map}
 use Rattle.std.proofs.lemmas.Result.{err_from_is_err_and}
 use Rattle.h3_qpack.proofs.DraftedBlocks.{drafts_block, gives_up, gives_up_all}
 use Rattle.h3_qpack.proofs.ReferencedRoom.{room_referenced}
+use Rattle.h3_qpack.proofs.Stills.{still_next}
 use Rattle.h3_qpack.proofs.encoder.block.append_block.Goals as goal
 
 pub returns-in_err-append_fields-clause-err : goal.returns-in_err-append_fields-clause-err
@@ -39,3 +40,8 @@ returns-clause-ok g c =
     (omega (arith, c.len-len.ensures, c.args.block.now.ok.0)) c.required_insert_count-required.ensures.exact
     c.agreed_max-max.ensures.exact (c.base.ensures ∙ c.append_fields.ensures.base) c.new-prefix.ensures
     c.in_ok-put_in_front.ensures.ok
+
+pub returns-clause-still : goal.returns-clause-still
+returns-clause-still g c =
+    still_next c.args.block.now c.append_fields.new.lines c.put_in_front.new.block c.put_in_front.ensures.longer
+    c.in_ok-append_fields.ensures.still c.in_ok-put_in_front.ensures.still

@@ -3,6 +3,7 @@ use Rattle.std.proofs.lemmas.Result.{err_from_is_err_and}
 use Rattle.qpack_base.specs.HeaderFields.{field_of}
 use Rattle.h3_qpack.proofs.AddedFields.{adds_none, adds_next, stops_next}
 use Rattle.h3_qpack.proofs.WrittenBlocks.{take-append_front}
+use Rattle.h3_qpack.proofs.Stills.{still_next, longer_written}
 use Rattle.h3_qpack.proofs.encoder.block.append_fields.Goals as goal
 
 pub loop-field-init : goal.loop-field-init
@@ -15,6 +16,7 @@ loop-field-init g c =
       adds = adds_none c.args.handle.now.table.now c.args.handle.now.base lines c.args.encoder_buf.now.items;
       front = take-append_front lines [] lines lines _ (sym c.args.lines.now.ok.0) refl (sym (append-nil lines));
       capacity = omega arith;
+      still = λ fits. refl;
     }
 
 pub returns-in_err-append_field-clause-err : goal.returns-in_err-append_field-clause-err
@@ -44,4 +46,7 @@ loop-field-preserved g c =
       front = take-append_front c.args.lines.now.items _ c.append_field.new.lines.items c.append_field.new.lines.items _
           (sym c.args.lines.now.ok.0) refl adds.lines;
       capacity = omega (arith, c.append_field.ensures.capacity, c.loop-field.invariant.capacity);
+      still = still_next c.args.lines.now c.loop-field.lines c.append_field.new.lines
+          (longer_written _ c.loop-field.lines c.append_field.new.lines c.in_ok-append_field.ensures.ok.lines)
+          c.loop-field.invariant.still c.in_ok-append_field.ensures.still;
     }

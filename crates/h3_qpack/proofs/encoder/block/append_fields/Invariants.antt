@@ -13,4 +13,5 @@ invariant-loop-field g l = record {
       l.handle.table.now l.fn.lines.items l.lines.items l.fn.encoder_buf.items l.encoder_buf.items;
   front : take (vec_len l.fn.lines) l.lines.items ≡ l.fn.lines.items;
   capacity : vec_capacity l.fn.lines ≤ vec_capacity l.lines;
+  still : vec_len l.lines ≤ vec_capacity l.fn.lines → vec_capacity l.lines ≡ vec_capacity l.fn.lines;
 }

@@ -1,4 +1,4 @@
-use Rattle.std.proofs.Common.{arith}
+use Rattle.std.proofs.Common.{◌∙◌, arith}
 use Rattle.h3_qpack.proofs.Rooms.{capacity_most, no_err}
 use Rattle.h3_qpack.proofs.encoder.capacity.set_dynamic_table_size.Goals as goal
 
@@ -13,3 +13,13 @@ returns-in_err-encode-clause-memory g c =
     let most = capacity_most c.args.size in
     absurd (no_err c.encode.result c.in_err-encode.field-0.0 (c.encode.ensures.writes.succeeds
     (omega (arith, c.in_ok-make_room.ensures.ok, most))) c.in_err-encode.was)
+
+pub returns-in_err-encode-clause-still : goal.returns-in_err-encode-clause-still
+returns-in_err-encode-clause-still g c fits =
+    c.encode.ensures.writes.still (omega (arith, c.in_ok-make_room.ensures.ok, capacity_most c.args.size))
+    ∙ c.make_room.ensures.still fits
+
+pub returns-clause-still : goal.returns-clause-still
+returns-clause-still g c fits =
+    c.encode.ensures.writes.still (omega (arith, c.in_ok-make_room.ensures.ok, capacity_most c.args.size))
+    ∙ c.make_room.ensures.still fits

@@ -6,6 +6,7 @@ use Rattle.qpack_table.specs.Handles.{lookup_of}
 use Rattle.qpack_table.specs.declared.dynamic.encoder.DynamicLookupResult.{DynamicLookupResult}
 use Rattle.h3_qpack.specs.Encoding.{draft_of_field}
 use Rattle.h3_qpack.proofs.Additions.{adds_static, adds_found, stops_found, no_relative, on_ok_adds, on_err_stops}
+use Rattle.h3_qpack.proofs.Stills.{still_written}
 use Rattle.h3_qpack.proofs.encoder.fields.append_field.Goals as goal
 
 pub returns-in-Some-clause-ok : goal.returns-in-Some-clause-ok
@@ -54,4 +55,15 @@ returns g c =
       as_before = c.append_insertion.ensures.as_before;
       memory = c.append_insertion.ensures.memory;
       capacity = c.append_insertion.ensures.capacity;
+      still = c.append_insertion.ensures.still;
     }
+
+pub returns-in-Some-clause-still : goal.returns-in-Some-clause-still
+returns-in-Some-clause-still g c =
+    still_written _ c.args.lines.now c.encode.new.buf c.in_ok-encode.ensures.writes.ok
+    c.in_ok-encode.ensures.writes.still
+
+pub returns-in-Relative-clause-still : goal.returns-in-Relative-clause-still
+returns-in-Relative-clause-still g c =
+    still_written _ c.args.lines.now c.encode-in-Relative.new.buf c.in_ok-encode-2.ensures.writes.ok
+    c.in_ok-encode-2.ensures.writes.still

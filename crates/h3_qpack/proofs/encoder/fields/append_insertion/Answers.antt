@@ -5,6 +5,7 @@ use Rattle.qpack_base.specs.HeaderFields.{field_of}
 use Rattle.qpack_table.specs.Handles.{insertion_of}
 use Rattle.h3_qpack.specs.Encoding.{written_insertion}
 use Rattle.h3_qpack.proofs.Additions.{adds_insertion, stops_inserted}
+use Rattle.h3_qpack.proofs.Stills.{still_written}
 use Rattle.h3_qpack.proofs.encoder.fields.append_insertion.Goals as goal
 
 pub returns-in_err-append_inserted-clause-err : goal.returns-in_err-append_inserted-clause-err
@@ -31,3 +32,8 @@ returns-clause-ok g c =
     (c.in_ok-write_instruction.ensures.writes.ok
     ∙ ap (λ (x : List ℕ). x ++ written_insertion f (insertion_of c.in_ok-insertion.insertion))
     c.in_ok-make_room.ensures.items)
+
+pub returns-clause-still : goal.returns-clause-still
+returns-clause-still g c =
+    still_written _ c.args.lines.now c.append_inserted.new.buf c.in_ok-append_inserted.ensures.writes.ok
+    c.in_ok-append_inserted.ensures.writes.still
