@@ -1,7 +1,9 @@
 -- A literal is its length and its payload, one after the other.
-use Rattle.std.proofs.Common.{◌≡◌, ℕ, ◌+◌, ◌-◌, ◌*◌, ◌%◌, ◌^◌, ◌≤◌, List, ◌++◌, length, sym, ap, ◌∙◌, arith}
+use Rattle.std.proofs.Common.{◌≡◌, ℕ, ◌+◌, ◌-◌, ◌*◌, ◌%◌, ◌^◌, ◌≤◌, List, [], ◌∷◌, ◌++◌, length, sym, ap, ◌∙◌, arith}
 use Rattle.std.proofs.Common.{append_assoc, refl}
 use Rattle.std.proofs.Math.Pow.{mod-mod-pow}
+use Rattle.std.proofs.Math.Seq.{set-append_seam}
+use Rattle.std.specs.Prelude.{slice_set}
 use Rattle.qpack_spec.specs.Integer.{written_integer}
 use Rattle.qpack_spec.specs.Huffman.{payload_of}
 use Rattle.qpack_spec.specs.Text.{written_string}
@@ -28,3 +30,17 @@ literal_put n flags len value old head new l h p =
     ∙ ap (λ (a : List ℕ). old ++ (a ++ payload_of value))
     (flags_same (n - 1) (flags % 128 * 2 + 1) (2 * flags + 1) len (omega arith)
     ∙ ap (written_integer (n - 1) (2 * flags + 1)) l)
+
+-- the same where the byte of the length is written behind the payload, in the place of another
+pub literal_headed : (n flags len start head : ℕ) (value old pushed put : List ℕ) → start ≡ length old
+    → pushed ≡ old ++ 0 ∷ [] → put ≡ pushed ++ payload_of value → len ≡ length (payload_of value)
+    → written_integer (n - 1) (flags % 128 * 2 + 1) len ≡ head ∷ []
+    → slice_set put start head ≡ old ++ written_string n flags value
+literal_headed n flags len start head value old pushed put s p q l h =
+    let payload = payload_of value in
+    let is : put ≡ old ++ 0 ∷ payload = q ∙ ap (λ (a : List ℕ). a ++ payload) p ∙ append_assoc old (0 ∷ []) payload in
+    let headed : slice_set put start head ≡ old ++ head ∷ payload = ap (λ (a : List ℕ). slice_set a start head) is
+    ∙ ap (λ (k : ℕ). slice_set (old ++ 0 ∷ payload) k head) s ∙ set-append_seam old 0 payload head in
+    literal_put n flags len value old (old ++ head ∷ []) (slice_set put start head) l
+    (ap (λ (a : List ℕ). old ++ a) (sym h))
+    (headed ∙ sym (append_assoc old (head ∷ []) payload))

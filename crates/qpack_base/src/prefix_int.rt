@@ -1,6 +1,7 @@
 //! Integers with a prefix of 1 to 8 bits (RFC 7541, section 5.1; RFC 9204, section 4.1.1).
 
 ghost use Rattle.std.specs.Prelude.{◌≡◌, ℕ, ◌+◌, ◌*◌, ◌^◌, ◌<◌, ◌≤◌, ◌-◌, ◌++◌, ◌↔◌, List, IfOk, OnOk, OnErr, IsOk};
+ghost use Rattle.std.specs.Prelude.{[], ◌∷◌, IfSome};
 ghost use Rattle.std.specs.Prelude.{vec_len, vec_capacity, length};
 ghost use Rattle.qpack_spec.specs.Bytes.{Begins};
 ghost use Rattle.qpack_spec.specs.Integer.{integer_at, groups_at, SpellsInteger, OverflowsInteger, TruncatesInteger};
@@ -133,6 +134,22 @@ pub(crate) fn put<A: Allocator>(size: u8, flags: u8, value: u64, buf: &mut Vec<u
     }
     buf.push_reserved((high + (end - 1)) as u8);
     put_groups(value - (end - 1), buf);
+}
+
+/// The shortest spelling of a value that is one byte, under the flags, which are cut to the bits above the prefix.
+#[inline(always)]
+#[tactic(auto, unfolding(qpack_spec::specs::Integer::written_integer))]
+pub(crate) fn short(size: u8, flags: u8, value: u64) -> Option<u8>
+    requires least { 1 ≤ size }
+    requires most { size ≤ 8 }
+    ensures { IfSome result (λ byte. written_integer size flags value ≡ byte ∷ []) }
+{
+    let end = power(size);
+    if value >= end - 1 {
+        return None;
+    }
+    let high = u64::from(flags) % power(8 - size) * end;
+    Some((high + value) as u8)
 }
 
 /// How many bytes the shortest spelling of the value has, with a prefix of `size` bits.

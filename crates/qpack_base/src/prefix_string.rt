@@ -2,7 +2,7 @@
 //! RFC 9204, section 4.1.2).
 
 ghost use Rattle.std.specs.Prelude.{◌≡◌, ◌≢◌, ℕ, ◌≤◌, ◌-◌, ◌++◌, ◌↔◌, List, [], Err, IfOk, IfErr, OnOk, OnErr, IsOk};
-ghost use Rattle.std.specs.Prelude.{◌+◌, length, vec_len, vec_capacity};
+ghost use Rattle.std.specs.Prelude.{◌+◌, ◌*◌, length, vec_len, vec_capacity, IsTrue, false};
 ghost use Rattle.qpack_spec.specs.Bytes.{Begins};
 ghost use Rattle.qpack_spec.specs.Huffman.{HuffmanFault, bits_of_bytes, with_front, text_of_bits};
 ghost use Rattle.qpack_spec.specs.Text.{LengthOverflows, BadHuffman, SpellsString, RefusesString, TruncatesString};
@@ -161,8 +161,67 @@ pub fn encode<A: Allocator>(
 }
 
 /// The same, with an error that comes back in a register.
-#[tactic(auto, unfolding(qpack_spec::specs::Text::written_string))]
 fn append<A: Allocator>(
+    size: u8,
+    flags: u8,
+    value: &[u8],
+    buf: &mut Vec<u8, A>,
+) -> Result<(), NoMemory>
+    requires least { 2 ≤ size }
+    requires most { size ≤ 8 }
+    ensures ok { OnOk result (buf.new.items ≡ buf.old.items ++ written_string size flags value.now) }
+    ensures err { OnErr result (buf.new.items ≡ buf.old.items) }
+    ensures succeeds { vec_len buf.old + length (written_string size flags value.now) ≤ vec_capacity buf.old →
+        IsOk result }
+    ensures still { vec_len buf.old + length (written_string size flags value.now) ≤ vec_capacity buf.old →
+        vec_capacity buf.new ≡ vec_capacity buf.old }
+    ensures capacity { vec_capacity buf.old ≤ vec_capacity buf.new }
+{
+    if has_ample_room(value, buf) && append_short(size, flags, value, buf) {
+        return Ok(());
+    }
+    append_measured(size, flags, value, buf)
+}
+
+/// Whether there is room for a byte and the payload of this text, which has at most four bytes for each of the text.
+#[inline(always)]
+fn has_ample_room<A: Allocator>(value: &[u8], buf: &Vec<u8, A>) -> bool
+    ensures { IsTrue result → vec_len buf.now + 4 * length value.now + 1 ≤ vec_capacity buf.now }
+{
+    value.len() < buf.capacity().saturating_sub(buf.len()) / 4
+}
+
+/// Appends the literal of a text that is shorter than its prefix counts, if its length stands in one byte: that byte is
+/// written again when the payload stands behind it. Else the vector is as before.
+#[inline(always)]
+#[tactic(auto, unfolding(qpack_spec::specs::Text::written_string))]
+fn append_short<A: Allocator>(size: u8, flags: u8, value: &[u8], buf: &mut Vec<u8, A>) -> bool
+    requires least { 2 ≤ size }
+    requires most { size ≤ 8 }
+    requires room { vec_len buf.old + 4 * length value.now + 1 ≤ vec_capacity buf.old }
+    ensures done { IsTrue result → buf.new.items ≡ buf.old.items ++ written_string size flags value.now }
+    ensures undone { result ≡ false → buf.new.items ≡ buf.old.items }
+    ensures capacity { vec_capacity buf.new ≡ vec_capacity buf.old }
+{
+    if value.len() >= 1 << (size - 1) {
+        return false;
+    }
+    let start = buf.len();
+    buf.push_reserved(0);
+    encoding::put_payload(value, buf);
+    let len = buf.len() - start - 1;
+    let Some(head) = prefix_int::short(size - 1, flags % 0x80 * 2 + 1, len as u64) else {
+        buf.truncate(start);
+        return false;
+    };
+    buf[start] = head;
+    true
+}
+
+/// Appends the literal, with its length first.
+#[inline(never)]
+#[tactic(auto, unfolding(qpack_spec::specs::Text::written_string))]
+fn append_measured<A: Allocator>(
     size: u8,
     flags: u8,
     value: &[u8],

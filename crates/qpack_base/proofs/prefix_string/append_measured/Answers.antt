@@ -2,7 +2,7 @@ use Rattle.std.proofs.Common.{◌≡◌, ℕ, ◌+◌, ◌-◌, ◌*◌, ◌%◌
 use Rattle.qpack_spec.specs.Integer.{written_integer}
 use Rattle.qpack_spec.specs.Huffman.{payload_of}
 use Rattle.qpack_base.proofs.PutStrings.{literal_put}
-use Rattle.qpack_base.proofs.prefix_string.append.Goals as goal
+use Rattle.qpack_base.proofs.prefix_string.append_measured.Goals as goal
 
 pub returns-clause-ok : goal.returns-clause-ok
 returns-clause-ok g c =
