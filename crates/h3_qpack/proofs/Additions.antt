@@ -74,11 +74,6 @@ stops_inserted f t i insertion new told_old told_new is told =
           ∙ ap (λ (x : Insertable). written_encoder_instructions (instructions_of f x.insertion)) (sym is)),
     )
 
--- nothing was done
-pub stops_before : (d : Draft) (old new : Table) (told_old told_new : List ℕ) → new ≡ old → told_new ≡ told_old
-    → StopsAdding d old new told_old told_new
-stops_before d old new told_old told_new same told = inl (ap (λ (x : Table). without_references x) same, told)
-
 -- ---- an equal static field
 
 pub adds_static : (t : Table) (base : ℕ) (f : Field) (index : ℕ) (lines_old lines_new told : List ℕ)
@@ -97,7 +92,7 @@ adds_static t base f index lines_old lines_new told is lines =
 -- ---- what the handle finds
 
 -- looking for a field changes what is referenced alone
-pub find_keeps : (t : Table) (base : ℕ) (f : Field) (lookup : Lookup) (new : Table)
+find_keeps : (t : Table) (base : ℕ) (f : Field) (lookup : Lookup) (new : Table)
     → find_field t base f ≡ record { lookup = lookup; table = new } → without_references new ≡ without_references t
 unfolding find_field without_references with_reference
 find_keeps t base f lookup new is =
@@ -151,7 +146,7 @@ left_to_insertion t base f lookup new none is no_line = rw (none, is) (by_lookup
     by_lookup (AtPostBase index absolute) h = refl
     by_lookup NotFound h = refl
 
-pub adds_after_find : (t : Table) (base : ℕ) (f : Field) (lookup : Lookup) (now new : Table)
+adds_after_find : (t : Table) (base : ℕ) (f : Field) (lookup : Lookup) (now new : Table)
     (lines_old lines_new told_old told_new : List ℕ)
     → static_index f ≡ None → find_field t base f ≡ record { lookup = lookup; table = now } → IsNoLine lookup
     → Adds (with_insertion (draft_at now) f (insert_field now base f)) new lines_old lines_new told_old told_new
@@ -160,7 +155,7 @@ adds_after_find t base f lookup now new lines_old lines_new told_old told_new no
     subst (λ (d : Draft). Adds d new lines_old lines_new told_old told_new)
     (sym (left_to_insertion t base f lookup now none is no_line)) adds
 
-pub stops_after_find : (t : Table) (base : ℕ) (f : Field) (lookup : Lookup) (now new : Table)
+stops_after_find : (t : Table) (base : ℕ) (f : Field) (lookup : Lookup) (now new : Table)
     (told_old told_new : List ℕ)
     → static_index f ≡ None → find_field t base f ≡ record { lookup = lookup; table = now } → IsNoLine lookup
     → StopsAdding (with_insertion (draft_at now) f (insert_field now base f)) now new told_old told_new

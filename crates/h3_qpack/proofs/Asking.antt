@@ -1,5 +1,5 @@
 -- A line was read behind the beginning of a block that is read alone.
-use Rattle.std.proofs.Common.{◌≡◌, ℕ, List, drop, Some, Ok, sym, subst, ◌∙◌, inl, inr, ◌⊎◌}
+use Rattle.std.proofs.Common.{◌≡◌, ℕ, List, drop, Some, Ok, sym, subst, ◌∙◌, inl, inr}
 use Rattle.std.specs.Prelude.{slice_get}
 use Rattle.qpack_spec.specs.Bytes.{Begins}
 use Rattle.qpack_spec.specs.Field.{Field}

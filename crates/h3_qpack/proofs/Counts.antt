@@ -69,7 +69,7 @@ capacity_counts t u n e =
       | inr above ↦ absurd (let l = above.1 in cc)
     ]
 
-pub instruction_counts : (t u : Table) (i : EncoderInstruction) → apply_encoder_instruction t i ≡ Ok u
+instruction_counts : (t u : Table) (i : EncoderInstruction) → apply_encoder_instruction t i ≡ Ok u
     → insert_count t ≤ insert_count u
 unfolding apply_encoder_instruction
 instruction_counts t u (InsertStaticName index value) e =

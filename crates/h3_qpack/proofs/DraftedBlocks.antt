@@ -1,10 +1,9 @@
 -- A block that is put together of its prefix and its lines, or given up.
-use Rattle.std.proofs.Common.{◌≡◌, ℕ, List, [], ◌++◌, take, drop, length, map, Option, refl, sym, ap, subst}
-use Rattle.std.proofs.Common.{◌∙◌, append-nil, append_assoc, inl, inr, Result, Ok, Err}
+use Rattle.std.proofs.Common.{◌≡◌, ℕ, List, [], ◌++◌, take, drop, length, Option, refl, sym, ap, subst}
+use Rattle.std.proofs.Common.{◌∙◌, append-nil, append_assoc, inl, Result, Ok, Err}
 use Rattle.std.specs.Prelude.{IfOk, OnErr}
 use Rattle.std.proofs.Math.Seq.{take-length}
 use Rattle.std.proofs.lemmas.List.{take_at, drop_at}
-use Rattle.std.specs.Iterator.{Drains}
 use Rattle.qpack_spec.specs.BlockReading.{written_block}
 use Rattle.qpack_spec.specs.Field.{Field}
 use Rattle.qpack_spec.specs.Handle.{handle_fields}
@@ -16,7 +15,7 @@ use Rattle.qpack_spec.specs.Rule.{Draft, rule, block_of, required_insert_count}
 use Rattle.qpack_spec.specs.Table.{Table, insert_count, without_references, commit}
 use Rattle.qpack_spec.specs.Window.{maximum_capacity}
 use Rattle.qpack_spec.proofs.Handles.{handle_is_rule}
-use Rattle.h3_qpack.specs.Encoding.{DrainsFieldsOf, draft_at, draft_of_fields, Adds, StopsAmong, DraftsBlock}
+use Rattle.h3_qpack.specs.Encoding.{draft_at, draft_of_fields, Adds, StopsAmong, DraftsBlock}
 use Rattle.h3_qpack.specs.Encoding.{GivesUpBlock, StopsEncodingOf, EncodesBlock}
 use Rattle.h3_qpack.specs.declared.encoder.EncoderError.{EncoderError}
 
@@ -76,7 +75,7 @@ drafts_block t base fs new before lines block told_old told_new len required mos
 
 -- ---- a block that is given up
 
-pub gives_up_none : (t : Table) (told : List ℕ) → GivesUpBlock [] t (without_references t) told told
+gives_up_none : (t : Table) (told : List ℕ) → GivesUpBlock [] t (without_references t) told told
 unfolding rule without_references written_encoder_instructions
 gives_up_none t told = record { many = 0; table = refl; told = sym (append-nil told) }
 
@@ -198,22 +197,6 @@ unfolding without_references
 released_again old begun new begins is = is ∙ ap (λ (t : Table). without_references t) begins
 
 -- ---- over the items that were gathered
-
-pub encodes_items : {S H : Type 0} (field : H → Field) (steps : S → Option H → S → Type 0) (it : S)
-    (gathered xs : List H) (answer : Result ℕ EncoderError) (P : ℕ → List Field → Type 0)
-    → Drains steps it gathered → xs ≡ gathered → IfOk answer (λ n. P n (map field xs))
-    → IfOk answer (λ n. DrainsFieldsOf field steps it (P n))
-encodes_items field steps it gathered xs (Err e) P drains same p = tt
-encodes_items field steps it gathered xs (Ok n) P drains same p =
-    (gathered, drains, subst (λ l. P n (map field l)) same p)
-
-pub stops_items : {S H : Type 0} (field : H → Field) (steps : S → Option H → S → Type 0) (it : S)
-    (gathered xs : List H) (answer : Result ℕ EncoderError) (old new : Table) (told_old told_new : List ℕ)
-    → Drains steps it gathered → xs ≡ gathered → OnErr answer (GivesUpBlock (map field xs) old new told_old told_new)
-    → OnErr answer (StopsEncodingOf field steps it old new told_old told_new)
-stops_items field steps it gathered xs (Ok n) old new told_old told_new drains same p = tt
-stops_items field steps it gathered xs (Err e) old new told_old told_new drains same p =
-    inr (gathered, drains, subst (λ l. GivesUpBlock (map field l) old new told_old told_new) same p)
 
 -- before anything was gathered
 pub stops_ungathered : {S H : Type 0} (field : H → Field) (steps : S → Option H → S → Type 0) (it : S)

@@ -3,7 +3,7 @@ use Rattle.std.proofs.Common.{◌≡◌, ℕ, ◌+◌, ◌<◌, List, [], ◌∷
 use Rattle.std.proofs.Common.{Result, Ok, Err}
 use Rattle.std.proofs.Common.{refl, sym, ap, subst, ◌∙◌, arith, append_assoc, append-nil, length-append}
 use Rattle.std.proofs.lemmas.Bool.{cond_both}
-use Rattle.std.specs.Prelude.{⊤, nat_lt}
+use Rattle.std.specs.Prelude.{nat_lt}
 use Rattle.qpack_spec.specs.Bytes.{Begins, ◌>>=◌}
 use Rattle.qpack_spec.specs.Text.{StringFault, LengthOverflows, BadHuffman}
 use Rattle.qpack_spec.specs.Form.{Form, Index, IndexAndValue, NameAndValue, BadInteger, BadString, Truncates}
@@ -172,12 +172,6 @@ stops_at_table old new rest left r e at applies = (by_refusal (refusal_of e) ref
         bad_instruction at.encoding r refusal at.cut at.spells
         (subst (λ (o : Option TableRefusal). IsRefusedFor (apply_decoder_instruction old r) o) some applies.0) some
 
--- and one that it takes
-pub heard_one : (old new : table.Table) (rest left : List ℕ) (r : DecoderInstruction) → StandsAt rest left r
-    → apply_decoder_instruction old r ≡ Ok new → HearsOne old new rest left
-heard_one old new rest left r at applies =
-    record { encoding = at.encoding; instruction = r; cut = at.cut; spells = at.spells; applies = applies }
-
 -- ---- instructions in turn
 
 -- these were taken so far
@@ -258,14 +252,3 @@ heard_until old now new bytes rest left e h takes =
       applies = h.applies ∙ ap (λ (t : table.Table). Ok t) (sym takes.1);
       ends = subst (λ (t : table.Table). StopsHearing t rest left e) (sym takes.1) takes.0;
     }
-
--- none of this is told as want of memory
-memory_stops_not : (t : table.Table) (rest left : List ℕ) → StopsHearing t rest left Memory → ⊥
-memory_stops_not t rest left (bad_bytes fault begins told stays) = absurd (let e = told in cc)
-memory_stops_not t rest left (bad_instruction encoding r refusal cut spells refused told) = absurd (let e = told in cc)
-
-pub memory_is_not_told : (old new : table.Table) (bytes left : List ℕ) (r : Result ⊤ EncoderError)
-    → Hears old new bytes left r → r ≡ Err Memory → ⊥
-memory_is_not_told old new bytes left r h same =
-    let is = subst (λ (x : Result ⊤ EncoderError). Hears old new bytes left x) same h in
-    memory_stops_not new is.rest left is.ends

@@ -58,7 +58,7 @@ field_takes w base bytes f rest e =
     bytes_ok (Ok x) r e = let s = ok_is x r e in ap (λ (y : Line × List ℕ). Ok y) s
     bytes_ok (Err x) r e = absurd cc
 
-pub field_line : (w : Window) (base : ℕ) (bytes : List ℕ) (f : Field) (rest : List ℕ) → field_at w base bytes
+field_line : (w : Window) (base : ℕ) (bytes : List ℕ) (f : Field) (rest : List ℕ) → field_at w base bytes
     ≡ Ok (f, rest)
     → Begins HoldsLine bytes
 field_line w base bytes f rest e =

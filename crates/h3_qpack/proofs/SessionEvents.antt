@@ -165,7 +165,7 @@ encoder_shown s v encoder told shows same wrote =
     }
 
 -- the reason that is told, if it is refused for one
-pub reason_told : {A E : Type 0} (read : Result A E) (o : Option E) → IsRefusedFor read o
+reason_told : {A E : Type 0} (read : Result A E) (o : Option E) → IsRefusedFor read o
     → (x : E) × (o ≡ Some x) × (read ≡ Err x)
 reason_told read (Some x) h = (x, refl, h)
 reason_told read None h = absurd h

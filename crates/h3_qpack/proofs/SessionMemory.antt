@@ -1,5 +1,5 @@
 -- Where an event of a session asks for memory.
-use Rattle.std.proofs.Common.{◌≡◌, ◌+◌, ◌<◌, ◌⊎◌, ℕ, List, ◌++◌, length, take, drop, min, Result, Ok, Err}
+use Rattle.std.proofs.Common.{◌≡◌, ◌+◌, ℕ, List, ◌++◌, length, take, drop, Result, Ok, Err}
 use Rattle.std.proofs.Common.{drop-drop, refl, sym, ap, subst, ◌∙◌, arith, inl, inr}
 use Rattle.std.proofs.Math.Seq.{drop-append_seam}
 use Rattle.std.proofs.lemmas.List.{take_min}
@@ -11,7 +11,7 @@ use Rattle.h3_qpack.proofs.SessionDeliveries.{Offers, front_consumed, decoder_mo
 use Rattle.h3_qpack.specs.Receiving as receiving
 use Rattle.h3_qpack.specs.Receiving.{DecoderView, Receives, EndsReceiving, EndsTaking, Stops, AsksToTake, to_report}
 use Rattle.h3_qpack.specs.Sections.{form_fault_of}
-use Rattle.h3_qpack.specs.SessionMemory.{AsksToDecode, AsksAtDecoder, IsAskedFor}
+use Rattle.h3_qpack.specs.SessionMemory.{AsksAtDecoder, IsAskedFor}
 use Rattle.h3_qpack.specs.Sessions.{StoredStream, SessionView, IsReached, HasBytes}
 use Rattle.h3_qpack.specs.declared.decoder.Decoded.{Decoded}
 use Rattle.h3_qpack.specs.declared.decoder.DecoderError.{DecoderError}

@@ -1,6 +1,6 @@
 -- Runs of the session's code, event by event.
 use Rattle.std.proofs.Common.{◌≡◌, ◌≤◌, ℕ, List, [], ◌∷◌, ◌++◌, length, take, refl, sym, ap, subst, ◌∙◌, append_assoc}
-use Rattle.std.proofs.Common.{append-nil, min, arith}
+use Rattle.std.proofs.Common.{min, arith}
 use Rattle.std.proofs.Math.Seq.{take-length}
 use Rattle.std.proofs.lemmas.List.{take_min}
 use Rattle.qpack_spec.specs.Session as spec
@@ -26,15 +26,6 @@ answered_more (d ∷ es) [] (step ∷ steps) e o answer h kind answers = absurd 
 answered_more (d ∷ es) (r ∷ os) [] e o answer h kind answers = absurd h
 answered_more (d ∷ es) (r ∷ os) (step ∷ steps) e o answer h kind answers =
     (h.0, h.1, h.2, answered_more es os steps e o answer h.3 kind answers)
-
--- no events lead nowhere
-pub performs_none : (s : SessionView) (outcomes : List Outcome) → PerformsAll s s [] outcomes outcomes
-performs_none s outcomes = (
-  [],
-  sym (append-nil outcomes),
-  λ v shows.
-      record { steps = []; session = v; answered = tt; shows = shows; run = refl },
-)
 
 -- one event more
 pub performs_more : (old mid new : SessionView) (events more : List Event) (e : Event) (r : Outcome)

@@ -3,7 +3,7 @@ use Rattle.std.proofs.Common.{◌≡◌, ◌<◌, ◌≤◌, ◌^◌, ◌-◌, �
 use Rattle.std.proofs.Common.{true, false}
 use Rattle.std.proofs.Common.{refl, sym, ap, subst, ◌∙◌, arith}
 use Rattle.std.proofs.lemmas.Bool.Decides.{nat_tests}
-use Rattle.qpack_spec.specs.Session.{CapacityTooLarge, LimitTooLarge, begin_session}
+use Rattle.qpack_spec.specs.Session.{begin_session}
 use Rattle.qpack_spec.specs.Session.{initial_session}
 use Rattle.qpack_spec.specs.History.{window_of}
 use Rattle.qpack_spec.specs.Table.{Table, empty_table, table_of, with_capacity, all_evictable}
@@ -20,7 +20,7 @@ le_false : (a b : ℕ) → b < a → nat_le a b ≡ false
 le_false a b h = grind (arith, nat_tests)
 
 -- an empty table takes any capacity below 2^30 that is its maximum
-pub empty_resized : (capacity : ℕ) → capacity < 2 ^ 30
+empty_resized : (capacity : ℕ) → capacity < 2 ^ 30
     → with_capacity (empty_table 0 (Some capacity) 0) capacity ≡ Ok (empty_table capacity (Some capacity) 0)
 unfolding with_capacity eviction_count all_evictable
 empty_resized capacity small = rw (le_true capacity (min capacity (2 ^ 30 - 1)) (omega arith)) refl
@@ -29,14 +29,6 @@ pub begins_ok : (capacity limit : ℕ) → capacity < 2 ^ 30 → limit < 65535
     → begin_session capacity limit ≡ Ok (initial_session capacity limit)
 begins_ok capacity limit small few =
     rw (le_true capacity (2 ^ 30 - 1) (omega arith), le_true limit 65534 (omega arith)) refl
-
-pub begins_large : (capacity limit : ℕ) → 2 ^ 30 ≤ capacity → begin_session capacity limit ≡ Err CapacityTooLarge
-begins_large capacity limit large = rw (le_false capacity (2 ^ 30 - 1) (omega arith)) refl
-
-pub begins_many : (capacity limit : ℕ) → capacity < 2 ^ 30 → 65535 ≤ limit
-    → begin_session capacity limit ≡ Err LimitTooLarge
-begins_many capacity limit small many =
-    rw (le_true capacity (2 ^ 30 - 1) (omega arith), le_false limit 65534 (omega arith)) refl
 
 -- what is kept at the beginning
 abbrev pub first_view : ℕ → ℕ → SessionView

@@ -79,7 +79,7 @@ fits_shown s v shows fits =
           (sym (shows.streams number)) (stored_fit (stream_at v.streams number).blocks (fits.blocks_fit number));
     }
 
-pub shown_fits : (s : SessionView) (v : Session) → Shows s v → Fits s → FitsMemory v
+shown_fits : (s : SessionView) (v : Session) → Shows s v → Fits s → FitsMemory v
 shown_fits s v shows fits =
     record {
       sent_fits = subst (λ (l : List ℕ). length l < 2 ^ 63) (sym shows.encoder_stream) fits.sent;

@@ -24,7 +24,7 @@ at_number : (q k : ℕ) → is_eq (nat_cmp q k) ≡ nat_eq k q
 at_number q k = grind (arith, nat_tests, common_steps)
 
 -- the stream of a number is what a look-up finds
-pub stream_is : {B : Type 0} (es : List (ℕ × RequestStream B)) (q : ℕ)
+stream_is : {B : Type 0} (es : List (ℕ × RequestStream B)) (q : ℕ)
     → stream_at es q ≡ unwrap_or (lookup (is_at (nat_cmp q)) es) unused
 stream_is [] q = refl
 stream_is (e ∷ es) q = grind (arith, at_number q e.0, stream_is es q)
