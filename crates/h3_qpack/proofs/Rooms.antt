@@ -1,10 +1,9 @@
 -- How much room instructions need.
 use Rattle.std.proofs.Common.{◌≡◌, ℕ, zero, suc, ◌+◌, ◌*◌, ◌/◌, ◌-◌, ◌<◌, ◌≤◌, List, [], ◌∷◌, length, inl, inr, arith}
 use Rattle.std.proofs.Common.{Result, Ok, Err, Bool, true, false, refl, ap, length-append}
-use Rattle.std.specs.Prelude.{IsOk, not, nat_le, nat_lt, ◌==◌, ◌&&◌}
+use Rattle.std.specs.Prelude.{IsOk, not, nat_lt, ◌==◌, ◌&&◌}
 use Rattle.std.specs.List.{position_or_len, list_any, count_by}
-use Rattle.std.proofs.lemmas.Bool.{cases_lt, le-ltb, lt-ltb, cond_both}
-use Rattle.std.proofs.lemmas.Bool.Decides.{nat_tests}
+use Rattle.std.proofs.lemmas.Bool.{cases_lt, le-ltb, lt-leb, lt-ltb, cond_both}
 use Rattle.std.proofs.lemmas.List.Concat.{flat_map-cons}
 use Rattle.qpack_spec.specs.Field.{Field, field_size}
 use Rattle.qpack_spec.specs.Handle.{Insertion, Duplicated, InsertedWithStaticName, InsertedWithName, Inserted}
@@ -121,7 +120,7 @@ pub large_writes_none : (t : Table) (base : ℕ) (f : Field) → t.capacity < fi
     → length (written_insertion f (insert_field t base f).insertion) ≤ 0
 unfolding insert_field has_room
 large_writes_none t base f large =
-    rw (le_false (field_size f) t.capacity large)
+    rw (lt-leb (field_size f) t.capacity large)
     (cond_both (below_limit t && false) _ _
     (λ (i : Insertable). length (written_insertion f i.insertion) ≤ 0)
     (λ b. absurd (both_false (below_limit t) b)) (λ b. omega arith))
@@ -129,9 +128,6 @@ large_writes_none t base f large =
     both_false : (b : Bool) → b && false ≡ true → ⊥
     both_false true e = absurd cc
     both_false false e = absurd cc
-
-    le_false : (m n : ℕ) → n < m → nat_le m n ≡ false
-    le_false m n h = grind (arith, nat_tests)
 
 -- ---- what succeeds is not refused
 

@@ -1,8 +1,7 @@
 -- How a session begins.
-use Rattle.std.proofs.Common.{◌≡◌, ◌<◌, ◌≤◌, ◌^◌, ◌-◌, ℕ, List, [], Option, Some, None, Ok, Err, min, nat_le}
-use Rattle.std.proofs.Common.{true, false}
+use Rattle.std.proofs.Common.{◌≡◌, ◌<◌, ◌≤◌, ◌^◌, ◌-◌, ℕ, List, [], Option, Some, None, Ok, Err, min}
 use Rattle.std.proofs.Common.{refl, sym, ap, subst, ◌∙◌, arith}
-use Rattle.std.proofs.lemmas.Bool.Decides.{nat_tests}
+use Rattle.std.proofs.lemmas.Bool.{le-leb}
 use Rattle.qpack_spec.specs.Session.{begin_session}
 use Rattle.qpack_spec.specs.Session.{initial_session}
 use Rattle.qpack_spec.specs.History.{window_of}
@@ -13,22 +12,16 @@ use Rattle.qpack_base.specs.Refusals.{IsRefusedFor}
 use Rattle.h3_qpack.specs.Receiving.{DecoderView}
 use Rattle.h3_qpack.specs.Sessions.{SessionView, StoredStream, Shows, Reaches, IsReached}
 
-le_true : (a b : ℕ) → a ≤ b → nat_le a b ≡ true
-le_true a b h = grind (arith, nat_tests)
-
-le_false : (a b : ℕ) → b < a → nat_le a b ≡ false
-le_false a b h = grind (arith, nat_tests)
-
 -- an empty table takes any capacity below 2^30 that is its maximum
-empty_resized : (capacity : ℕ) → capacity < 2 ^ 30
+pub empty_resized : (capacity : ℕ) → capacity < 2 ^ 30
     → with_capacity (empty_table 0 (Some capacity) 0) capacity ≡ Ok (empty_table capacity (Some capacity) 0)
 unfolding with_capacity eviction_count all_evictable
-empty_resized capacity small = rw (le_true capacity (min capacity (2 ^ 30 - 1)) (omega arith)) refl
+empty_resized capacity small = rw (le-leb capacity (min capacity (2 ^ 30 - 1)) (omega arith)) refl
 
 pub begins_ok : (capacity limit : ℕ) → capacity < 2 ^ 30 → limit < 65535
     → begin_session capacity limit ≡ Ok (initial_session capacity limit)
 begins_ok capacity limit small few =
-    rw (le_true capacity (2 ^ 30 - 1) (omega arith), le_true limit 65534 (omega arith)) refl
+    rw (le-leb capacity (2 ^ 30 - 1) (omega arith), le-leb limit 65534 (omega arith)) refl
 
 -- what is kept at the beginning
 abbrev pub first_view : ℕ → ℕ → SessionView

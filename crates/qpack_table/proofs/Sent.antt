@@ -10,7 +10,6 @@ use Rattle.qpack_spec.specs.Field.{Field, field_size, total_size}
 use Rattle.qpack_spec.specs.Table as table
 use Rattle.qpack_spec.specs.Table.{Table, fields_in, insert_count, has_number, sent_entry, with_entry, with_reference}
 use Rattle.qpack_spec.specs.Table.{eviction_count_for, can_evict, has_room, below_limit, may_reference}
-use Rattle.qpack_spec.specs.Table.{without_references}
 use Rattle.qpack_spec.specs.Window.{eviction_count}
 use Rattle.qpack_spec.proofs.Lists.{get_append_end}
 use Rattle.qpack_table.specs.Positions.{Positions}
@@ -143,7 +142,3 @@ pub no_room_by_walk : (t : Table) (f : Field) (size : ℕ) (r : Option ℕ) → 
 no_room_by_walk t f size None same fits few held =
     room_by_entries t f (eviction_count_for t f) false fits few refl (held f same)
 no_room_by_walk t f size (Some evicted) same fits few held = tt
-
-pub same_count : (t : Table) → insert_count (without_references t) ≡ insert_count t
-unfolding without_references
-same_count t = refl

@@ -7,7 +7,7 @@
 //! ```text
 //!                           |      dropped      |            live             |
 //! absolute index            |  1    2    3    4 |  5    6    7    8    9   10 |
-//! position                     |                   |  0    1    2    3    4    5 |
+//! position                  |                   |  0    1    2    3    4    5 |
 //! relative, instruction     |                   |  5    4    3    2    1    0 |
 //! relative, line            |                   |  3    2    1    0           |
 //! post-base, line           |                   |                      0    1 |
