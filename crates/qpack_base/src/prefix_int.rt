@@ -1,7 +1,7 @@
 //! Integers with a prefix of 1 to 8 bits (RFC 7541, section 5.1; RFC 9204, section 4.1.1).
 
 ghost use Rattle.std.specs.Prelude.{◌≡◌, ℕ, ◌+◌, ◌*◌, ◌^◌, ◌<◌, ◌≤◌, ◌-◌, ◌++◌, ◌↔◌, List, IfOk, OnOk, OnErr, IsOk};
-ghost use Rattle.std.specs.Prelude.{[], ◌∷◌, IfSome};
+ghost use Rattle.std.specs.Prelude.{◌%◌, [], ◌∷◌, IfSome};
 ghost use Rattle.std.specs.Prelude.{vec_len, vec_capacity, length};
 ghost use Rattle.qpack_spec.specs.Bytes.{Begins};
 ghost use Rattle.qpack_spec.specs.Integer.{integer_at, groups_at, SpellsInteger, OverflowsInteger, TruncatesInteger};
@@ -126,14 +126,13 @@ pub(crate) fn put<A: Allocator>(size: u8, flags: u8, value: u64, buf: &mut Vec<u
     ensures items { buf.new.items ≡ buf.old.items ++ written_integer size flags value }
     ensures capacity { vec_capacity buf.new ≡ vec_capacity buf.old }
 {
-    let end = power(size);
-    let high = u64::from(flags) % power(8 - size) * end;
-    if value < end - 1 {
-        buf.push_reserved((high + value) as u8);
+    let most = power(size) - 1;
+    if value < most {
+        buf.push_reserved(first_byte(size, flags, value));
         return;
     }
-    buf.push_reserved((high + (end - 1)) as u8);
-    put_groups(value - (end - 1), buf);
+    buf.push_reserved(first_byte(size, flags, most));
+    put_groups(value - most, buf);
 }
 
 /// The shortest spelling of a value that is one byte, under the flags, which are cut to the bits above the prefix.
@@ -144,12 +143,22 @@ pub(crate) fn short(size: u8, flags: u8, value: u64) -> Option<u8>
     requires most { size ≤ 8 }
     ensures { IfSome result (λ byte. written_integer size flags value ≡ byte ∷ []) }
 {
-    let end = power(size);
-    if value >= end - 1 {
+    if value >= power(size) - 1 {
         return None;
     }
-    let high = u64::from(flags) % power(8 - size) * end;
-    Some((high + value) as u8)
+    Some(first_byte(size, flags, value))
+}
+
+/// The prefix under the flags, which are cut to the bits above it.
+#[inline(always)]
+fn first_byte(size: u8, flags: u8, prefix: u64) -> u8
+    requires least { 1 ≤ size }
+    requires most { size ≤ 8 }
+    requires fits { prefix < 2 ^ size }
+    ensures { result ≡ flags % 2 ^ (8 - size) * 2 ^ size + prefix }
+{
+    let high = u64::from(flags) % power(8 - size) * power(size);
+    (high + prefix) as u8
 }
 
 /// How many bytes the shortest spelling of the value has, with a prefix of `size` bits.
