@@ -1,115 +1,128 @@
 //! Field sections and encoder instructions under a dynamic table.
 
-use crate::shown::shown_answer;
-use h3_qpack::HeaderField;
 use h3_qpack::coding::{Cursor, NoMemory};
-use h3_qpack::decoder::{Decoder, DecoderError, ack_header, stream_canceled};
-use h3_qpack::dynamic::DynamicTable;
+use h3_qpack::decoder::{Decoded, Decoder, DecoderError, ack_header, stream_canceled};
+use h3_qpack::dynamic::{DynamicTable, Error};
 use qpack_testing::{again, bytes, field, same};
 use std::alloc::Global;
+use std::fmt::Write;
 use std::test::Fail;
 
-/// A decoder of this capacity, and no entry.
-fn decoder(alloc: Global, capacity: usize) -> Result<Decoder, Fail> {
+/// A table of this capacity, in which so many of the fields `foo1: bar`, `foo2: bar` and so on were put.
+type Put = (usize, usize);
+
+/// A decoder with such a table.
+fn decoder(alloc: Global, put: Put) -> Result<Decoder, Fail> {
     let mut table = DynamicTable::new(alloc);
-    table.set_max_size(capacity)?;
+    put_all(alloc, &mut table, put)?;
     Ok(Decoder::from(table))
 }
 
-/// A decoder of capacity 4096 with the fields `foo1: bar`, `foo2: bar` and so on.
-fn with_fields(alloc: Global, count: usize) -> Result<Decoder, Fail> {
-    let mut table = DynamicTable::new(alloc);
-    table.set_max_size(4096)?;
+/// Sets the capacity, and puts the fields.
+fn put_all(alloc: Global, table: &mut DynamicTable, (capacity, count): Put) -> Result<(), Fail> {
+    table.set_max_size(capacity)?;
     for n in 1..=count {
         let name = again(|| format!(in alloc; "foo{n}"))?;
-        let field = field(alloc, name.as_bytes(), b"bar")?;
-        put(alloc, &mut table, &field)?;
-    }
-    Ok(Decoder::from(table))
-}
-
-/// Puts a copy of a field.
-fn put(alloc: Global, table: &mut DynamicTable, entry: &HeaderField) -> Result<(), Fail> {
-    let copy = field(alloc, entry.name.as_slice(), entry.value.as_slice())?;
-    if table.put(copy).is_err() {
-        let copy = field(alloc, entry.name.as_slice(), entry.value.as_slice())?;
-        table.put(copy)?;
+        put(alloc, table, name.as_bytes())?;
     }
     Ok(())
 }
 
-/// What a section in hexadecimal is decoded to: its fields, their size and whether it requires an entry; or the error.
-fn shown(alloc: Global, decoder: &Decoder, section: &[u8]) -> Result<String, DecoderError> {
-    let answer = decoder.decode_header(&mut Cursor::new(section));
-    if matches!(answer, Err(DecoderError::Memory)) {
-        return Err(DecoderError::Memory);
+/// Puts the field of this name and the value `bar`, and again after a refusal for memory.
+fn put(alloc: Global, table: &mut DynamicTable, name: &[u8]) -> Result<(), Fail> {
+    match table.put(field(alloc, name, b"bar")?) {
+        Err(Error::Memory) => Ok(table.put(field(alloc, name, b"bar")?)?),
+        answer => Ok(answer?),
     }
-    Ok(shown_answer(alloc, &answer)?)
+}
+
+/// What a section is decoded to: its fields, their size and whether it requires an entry; or the error.
+fn shown(alloc: Global, decoder: &Decoder, section: &[u8]) -> Result<String, DecoderError> {
+    match decoder.decode_header(&mut Cursor::new(section)) {
+        Ok(decoded) => Ok(shown_fields(alloc, &decoded)?),
+        Err(DecoderError::Memory) => Err(DecoderError::Memory),
+        Err(e) => Ok(format!(in alloc; "{e:?}")?),
+    }
+}
+
+/// The fields of a block, their size and whether it requires an entry.
+fn shown_fields(alloc: Global, decoded: &Decoded) -> Result<String, NoMemory> {
+    let mut text = String::new(alloc);
+    for field in &decoded.fields {
+        write!(text, "{field}, ")?;
+    }
+    write!(text, "{} {}", decoded.mem_size, decoded.dyn_ref)?;
+    Ok(text)
 }
 
 /// A section in hexadecimal is decoded to this.
 fn decodes(alloc: Global, decoder: &Decoder, section: &[u8], to: &str) -> Result<(), Fail> {
     let section = bytes(alloc, section)?;
-    let text = again(|| shown(alloc, decoder, section.as_slice()))?;
+    let text = again(|| shown(alloc, decoder, &section))?;
     same(text.as_str(), to)
 }
 
-/// Each of these sections is decoded to what stands beside it.
-fn decode_each(
-    alloc: Global,
-    decoder: &Decoder,
-    cases: &[(&'static [u8], &'static str)],
-) -> Result<(), Fail> {
-    for (section, to) in cases {
+/// A section in hexadecimal, and what it is decoded to.
+type Section = (&'static [u8], &'static str);
+
+/// Each of these sections is decoded so.
+fn decodes_each(alloc: Global, decoder: &Decoder, sections: &[Section]) -> Result<(), Fail> {
+    for (section, to) in sections {
         decodes(alloc, decoder, section, to)?;
     }
     Ok(())
 }
 
+/// Under such a table each of these sections is decoded so.
+fn decode_all(alloc: Global, put: Put, sections: &[Section]) -> Result<(), Fail> {
+    let decoder = decoder(alloc, put)?;
+    decodes_each(alloc, &decoder, sections)
+}
+
 #[test]
 fn sections_mean_the_entries_that_they_name(rt: HostRuntime) -> Result<(), Fail> {
-    let cases = [
+    const SECTIONS: &[Section] = &[
         (
-            b"0581801011".as_slice(),
+            b"0581801011",
             "\"foo2\": \"bar\", \"foo3\": \"bar\", \"foo4\": \"bar\", 117 true",
         ),
         (b"03000086a8be148c7633", "\"foo3\": \"new bar3\", 44 true"),
     ];
-    decode_each(rt.alloc(), &with_fields(rt.alloc(), 4)?, &cases)
+    decode_all(rt.alloc(), (4096, 4), SECTIONS)
 }
 
 #[test]
 fn a_section_may_name_an_entry_of_many(rt: HostRuntime) -> Result<(), Fail> {
-    let many = with_fields(rt.alloc(), 138)?;
-    decodes(rt.alloc(), &many, b"86008a", "\"foo123\": \"bar\", 41 true")
+    const SECTIONS: &[Section] = &[(b"86008a", "\"foo123\": \"bar\", 41 true")];
+    decode_all(rt.alloc(), (4096, 138), SECTIONS)
 }
 
 #[test]
 fn sections_are_refused_at_their_count(rt: HostRuntime) -> Result<(), Fail> {
-    let cases = [
-        (b"0100".as_slice(), "InvalidInteger(Overflow)"),
+    const SECTIONS: &[Section] = &[
+        (b"0100", "InvalidInteger(Overflow)"),
         (b"0200", "MissingRefs(1)"),
         (b"0300", "InvalidInteger(Overflow)"),
     ];
-    decode_each(rt.alloc(), &decoder(rt.alloc(), 32)?, &cases)?;
-    decodes(rt.alloc(), &decoder(rt.alloc(), 0)?, b"0300", "0 false")
+    decode_all(rt.alloc(), (32, 0), SECTIONS)?;
+    decode_all(rt.alloc(), (0, 0), &[(b"0300", "0 false")])
 }
 
 #[test]
 fn a_base_below_0_is_told_before_missing_entries(rt: HostRuntime) -> Result<(), Fail> {
-    let cases = [
-        (b"0900".as_slice(), "MissingRefs(8)"),
+    const SECTIONS: &[Section] = &[
+        (b"0900", "MissingRefs(8)"),
         (b"0483", "BadBaseIndex(-1)"),
         (b"0482", "MissingRefs(3)"),
     ];
-    decode_each(rt.alloc(), &decoder(rt.alloc(), 4096)?, &cases)
+    decode_all(rt.alloc(), (4096, 0), SECTIONS)
 }
 
 #[test]
 fn sections_are_refused_at_their_base_or_an_index(rt: HostRuntime) -> Result<(), Fail> {
-    let behind = "DynamicTable(BadPostbaseIndex(9223372036854775822))";
-    let cases = [
-        (b"0280".as_slice(), "0 true"),
+    const BEHIND: &str = "DynamicTable(BadPostbaseIndex(9223372036854775822))";
+    const SECTIONS: &[Section] = &[
+        (b"0280", "0 true"),
         (b"0281", "BadBaseIndex(-1)"),
         (
             b"02ffffffffffffffffff7f",
@@ -119,72 +132,103 @@ fn sections_are_refused_at_their_base_or_an_index(rt: HostRuntime) -> Result<(),
             b"027fffffffffffffffff7f80",
             "DynamicTable(BadIndex(9223372036854775934))",
         ),
-        (b"02001fffffffffffffffff7f", behind),
-        (b"027fffffffffffffffff7f1fffffffffffffffff7f", behind),
+        (b"02001fffffffffffffffff7f", BEHIND),
+        (b"027fffffffffffffffff7f1fffffffffffffffff7f", BEHIND),
         (b"020081", "DynamicTable(BadRelativeIndex(1))"),
         (b"0000ff24", "InvalidStaticIndex(99)"),
     ];
-    decode_each(rt.alloc(), &with_fields(rt.alloc(), 1)?, &cases)
+    decode_all(rt.alloc(), (4096, 1), SECTIONS)
 }
 
 #[test]
 fn a_base_past_the_insertions_points_behind_the_newest(rt: HostRuntime) -> Result<(), Fail> {
-    let two = with_fields(rt.alloc(), 2)?;
-    decodes(rt.alloc(), &two, b"020980", "DynamicTable(BadIndex(9))")
+    const SECTIONS: &[Section] = &[(b"020980", "DynamicTable(BadIndex(9))")];
+    decode_all(rt.alloc(), (4096, 2), SECTIONS)
 }
 
-/// The bytes in hexadecimal are received so: the answer, the position where the cursor is left, what is written in
-/// hexadecimal.
-fn receives(
-    alloc: Global,
-    decoder: &mut Decoder,
-    offered: &[u8],
-    to: (&str, usize, &[u8]),
-) -> Result<(), Fail> {
-    let offered = bytes(alloc, offered)?;
-    let expected = bytes(alloc, to.2)?;
+/// Bytes of an encoder stream, and how they are received: the answer, the position where the cursor is left, and what
+/// is written. The bytes are in hexadecimal.
+type Piece = (
+    &'static [u8],
+    Result<usize, DecoderError>,
+    usize,
+    &'static [u8],
+);
+
+/// The bytes are received so.
+fn receives(alloc: Global, decoder: &mut Decoder, piece: &Piece) -> Result<(), Fail> {
+    let offered = bytes(alloc, piece.0)?;
+    let expected = bytes(alloc, piece.3)?;
     let mut written = Vec::new(alloc);
-    let mut buf = Cursor::new(offered.as_slice());
-    let answer = match decoder.on_encoder_recv(&mut buf, &mut written) {
+    let mut buf = Cursor::new(&offered);
+    let answer = receive(decoder, &mut buf, &mut written)?;
+    same(&answer, &piece.1)?;
+    same((buf.position(), written), (piece.2, expected))
+}
+
+/// What bytes are answered; they are offered again where memory was refused, and then nothing was written.
+fn receive(
+    decoder: &mut Decoder,
+    buf: &mut Cursor,
+    written: &mut Vec<u8>,
+) -> Result<Result<usize, DecoderError>, Fail> {
+    match decoder.on_encoder_recv(buf, written) {
         Err(DecoderError::Memory) => {
             same(written.len(), 0)?;
-            decoder.on_encoder_recv(&mut buf, &mut written)
+            Ok(decoder.on_encoder_recv(buf, written))
         }
-        answer => answer,
-    };
-    let text = again(|| format!(in alloc; "{answer:?}"))?;
-    same(text.as_str(), to.0)?;
-    same(buf.position(), to.1)?;
-    same(written.as_slice(), expected.as_slice())
+        answer => Ok(answer),
+    }
+}
+
+/// Each of these pieces is received so, and the capacity is this then.
+fn receives_each(
+    alloc: Global,
+    decoder: &mut Decoder,
+    pieces: &[Piece],
+    capacity: usize,
+) -> Result<(), Fail> {
+    for piece in pieces {
+        receives(alloc, decoder, piece)?;
+    }
+    same(decoder.table().max_mem_size(), capacity)
+}
+
+/// Under such a table each of these pieces is received so, and the capacity is this then.
+fn receive_all(alloc: Global, put: Put, pieces: &[Piece], capacity: usize) -> Result<(), Fail> {
+    let mut decoder = decoder(alloc, put)?;
+    receives_each(alloc, &mut decoder, pieces, capacity)
 }
 
 #[test]
 fn insertions_are_reported_in_pieces(rt: HostRuntime) -> Result<(), Fail> {
-    let mut long = again(|| Vec::from_slice(rt.alloc(), b"6294e7838c767f"))?;
-    for _ in 0..129u32 {
-        again(|| long.extend_from_slice(b"00"))?;
-    }
-    let mut decoder = decoder(rt.alloc(), 4096)?;
-    receives(
-        rt.alloc(),
-        &mut decoder,
-        long.as_slice(),
-        ("Ok(130)", 136, b"3f013f0102"),
-    )?;
-    same(decoder.table().total_inserted(), 130)
+    // An insertion and 129 duplicates.
+    const LONG: &[Piece] = &[(
+        b"6294e7838c767f\
+        00000000000000000000000000000000000000000000000000000000000000000000000000000000000000\
+        00000000000000000000000000000000000000000000000000000000000000000000000000000000000000\
+        00000000000000000000000000000000000000000000000000000000000000000000000000000000000000",
+        Ok(130),
+        136,
+        b"3f013f0102",
+    )];
+    receive_all(rt.alloc(), (4096, 0), LONG, 4096)
+}
+
+/// A truncated instruction waits for its rest, and is applied then.
+fn waits_for_the_rest(alloc: Global, decoder: &mut Decoder) -> Result<(), Fail> {
+    const PIECES: &[Piece] = &[
+        (b"6294e7838c76", Ok(0), 0, b""),
+        (b"6294e7838c767f00c4", Ok(2), 8, b"02"),
+    ];
+    receives_each(alloc, decoder, PIECES, 4096)?;
+    decodes(alloc, decoder, b"030080", "\"foo\": \"bar\", 38 true")
 }
 
 #[test]
 fn a_truncated_instruction_waits(rt: HostRuntime) -> Result<(), Fail> {
-    let mut decoder = decoder(rt.alloc(), 4096)?;
-    receives(rt.alloc(), &mut decoder, b"6294e7838c76", ("Ok(0)", 0, b""))?;
-    receives(
-        rt.alloc(),
-        &mut decoder,
-        b"6294e7838c767f00c4",
-        ("Ok(2)", 8, b"02"),
-    )?;
-    decodes(rt.alloc(), &decoder, b"030080", "\"foo\": \"bar\", 38 true")
+    let mut decoder = decoder(rt.alloc(), (4096, 0))?;
+    waits_for_the_rest(rt.alloc(), &mut decoder)
 }
 
 /// Receives an insertion and a duplicate of it. Where memory is refused, which is answered by `false`, nothing is
@@ -210,59 +254,78 @@ fn receives_twice(
     }
 }
 
+/// The same, and once more where memory was refused.
+fn receives_in_two_calls(alloc: Global, decoder: &mut Decoder) -> Result<(), Fail> {
+    let offered = bytes(alloc, b"6294e7838c767f00")?;
+    let mut buf = Cursor::new(&offered);
+    let mut written = Vec::new(alloc);
+    let received = receives_twice(decoder, &mut buf, &mut written)?
+        || receives_twice(decoder, &mut buf, &mut written)?;
+    same(received, true)
+}
+
 #[test]
 fn what_was_refused_memory_is_received_again(rt: HostRuntime) -> Result<(), Fail> {
-    let mut decoder = decoder(rt.alloc(), 4096)?;
-    let offered = bytes(rt.alloc(), b"6294e7838c767f00")?;
-    let mut buf = Cursor::new(offered.as_slice());
-    let mut written = Vec::new(rt.alloc());
-    if receives_twice(&mut decoder, &mut buf, &mut written)? {
-        return Ok(());
-    }
-    same(receives_twice(&mut decoder, &mut buf, &mut written)?, true)
+    let mut decoder = decoder(rt.alloc(), (4096, 0))?;
+    receives_in_two_calls(rt.alloc(), &mut decoder)
 }
 
 #[test]
 fn refused_instructions_keep_what_was_inserted(rt: HostRuntime) -> Result<(), Fail> {
-    let mut decoder = decoder(rt.alloc(), 4096)?;
-    let unknown = ("Err(InvalidStaticIndex(3000))", 7, b"".as_slice());
-    receives(rt.alloc(), &mut decoder, b"6294e7838c767ffff91680", unknown)?;
-    receives(rt.alloc(), &mut decoder, b"00", ("Ok(2)", 1, b"02"))
+    const PIECES: &[Piece] = &[
+        (
+            b"6294e7838c767ffff91680",
+            Err(DecoderError::InvalidStaticIndex(3000)),
+            7,
+            b"",
+        ),
+        (b"00", Ok(2), 1, b"02"),
+    ];
+    receive_all(rt.alloc(), (4096, 0), PIECES, 4096)
 }
 
 #[test]
 fn an_index_that_names_nothing_is_not_consumed(rt: HostRuntime) -> Result<(), Fail> {
-    let mut decoder = decoder(rt.alloc(), 4096)?;
-    let first = ("Err(DynamicTable(BadRelativeIndex(0)))", 0, b"".as_slice());
-    let far = (
-        "Err(DynamicTable(BadRelativeIndex(9223372036854775870)))",
-        0,
-        b"".as_slice(),
-    );
-    receives(rt.alloc(), &mut decoder, b"00", first)?;
-    receives(rt.alloc(), &mut decoder, b"bfffffffffffffffff7f80", far)
+    const PIECES: &[Piece] = &[
+        (
+            b"00",
+            Err(DecoderError::DynamicTable(Error::BadRelativeIndex(0))),
+            0,
+            b"",
+        ),
+        (
+            b"bfffffffffffffffff7f80",
+            Err(DecoderError::DynamicTable(Error::BadRelativeIndex(9_223_372_036_854_775_870))),
+            0,
+            b"",
+        ),
+    ];
+    receive_all(rt.alloc(), (4096, 0), PIECES, 4096)
 }
 
 #[test]
 fn what_the_table_refuses_is_consumed(rt: HostRuntime) -> Result<(), Fail> {
-    let mut narrow = decoder(rt.alloc(), 33)?;
-    let no_room = ("Err(DynamicTable(MaxTableSizeReached))", 7, b"".as_slice());
-    let too_large = (
-        "Err(DynamicTable(MaximumTableSizeTooLarge))",
-        10,
-        b"".as_slice(),
-    );
-    receives(rt.alloc(), &mut narrow, b"6294e7838c767f", no_room)?;
-    receives(rt.alloc(), &mut narrow, b"3fffffffffffffffff7f", too_large)?;
-    same(narrow.table().max_mem_size(), 33)
+    const PIECES: &[Piece] = &[
+        (
+            b"6294e7838c767f",
+            Err(DecoderError::DynamicTable(Error::MaxTableSizeReached)),
+            7,
+            b"",
+        ),
+        (
+            b"3fffffffffffffffff7f",
+            Err(DecoderError::DynamicTable(Error::MaximumTableSizeTooLarge)),
+            10,
+            b"",
+        ),
+    ];
+    receive_all(rt.alloc(), (33, 0), PIECES, 33)
 }
 
 #[test]
 fn a_capacity_may_fall_to_0(rt: HostRuntime) -> Result<(), Fail> {
-    let mut one = with_fields(rt.alloc(), 1)?;
-    receives(rt.alloc(), &mut one, b"20", ("Ok(1)", 1, b""))?;
-    receives(rt.alloc(), &mut one, b"6294e7838c767f", ("Ok(1)", 7, b""))?;
-    same(one.table().max_mem_size(), 0)
+    const PIECES: &[Piece] = &[(b"20", Ok(1), 1, b""), (b"6294e7838c767f", Ok(1), 7, b"")];
+    receive_all(rt.alloc(), (4096, 1), PIECES, 0)
 }
 
 /// Appends an acknowledgment and a cancellation of stream 4.

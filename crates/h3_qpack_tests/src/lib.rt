@@ -11,10 +11,4 @@ mod encoder;
 #[cfg(test)]
 mod encoding;
 #[cfg(test)]
-mod scripts;
-#[cfg(test)]
-mod sessions;
-#[cfg(test)]
-mod shown;
-#[cfg(test)]
 mod texts;

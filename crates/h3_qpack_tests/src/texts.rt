@@ -6,7 +6,7 @@ use std::test::Fail;
 
 #[test]
 fn faults_of_decoding_say_what_they_are(rt: HostRuntime) -> Result<(), Fail> {
-    let errors = [
+    const ERRORS: &[(DecoderError, &str)] = &[
         (
             DecoderError::InvalidInteger(prefix_int::Error::Overflow),
             "invalid integer: value overflow",
@@ -44,7 +44,7 @@ fn faults_of_decoding_say_what_they_are(rt: HostRuntime) -> Result<(), Fail> {
         (DecoderError::BufSize, "number in buffer wrong size"),
         (DecoderError::Memory, "out of memory"),
     ];
-    for (error, text) in &errors {
+    for (error, text) in ERRORS {
         prints(rt.alloc(), error, text)?;
     }
     prints(
@@ -56,7 +56,7 @@ fn faults_of_decoding_say_what_they_are(rt: HostRuntime) -> Result<(), Fail> {
 
 #[test]
 fn faults_of_encoding_say_what_they_are(rt: HostRuntime) -> Result<(), Fail> {
-    let errors = [
+    const ERRORS: &[(EncoderError, &str)] = &[
         (
             EncoderError::Insertion(dynamic::Error::UnknownStreamId(4)),
             "dynamic table insertion: UnknownStreamId(4)",
@@ -75,7 +75,7 @@ fn faults_of_encoding_say_what_they_are(rt: HostRuntime) -> Result<(), Fail> {
         ),
         (EncoderError::Memory, "out of memory"),
     ];
-    for (error, text) in &errors {
+    for (error, text) in ERRORS {
         prints(rt.alloc(), error, text)?;
     }
     prints(

@@ -1,19 +1,17 @@
 //! Worked scripts whose events are given again where memory was refused to them: each later decode answers what was
 //! handed, and no stream is refused. Each test holds whichever one allocation is refused.
 
-use h3_qpack::coding::NoMemory;
+use crate::events::{
+    ALL, BAZ_BAR, FOO_BAR, FOO_BAR_TWICE, Given, event_of, unlawful, wants_memory,
+};
 use h3_qpack::decoder::{Decoded, DecoderError};
-use h3_qpack::encoder::EncoderError;
 use h3_qpack::session::{Event, Outcome, Session};
 use qpack_testing::{Pairs, again, fields, same};
 use std::alloc::Global;
 use std::test::Fail;
 
-/// The lists that are encoded: two fields, one of them twice, and eight of one name.
-const LISTS: [Pairs; 11] = [
-    &[(b"foo", b"bar")],
-    &[(b"baz", b"bar")],
-    &[(b"foo", b"bar"), (b"foo", b"bar")],
+/// The lists of one field that are encoded in turn.
+const IN_TURN: [Pairs; 8] = [
     &[(b"n", b"1")],
     &[(b"n", b"2")],
     &[(b"n", b"3")],
@@ -24,64 +22,12 @@ const LISTS: [Pairs; 11] = [
     &[(b"n", b"8")],
 ];
 
-const FOO_BAR: usize = 0;
-
-const BAZ_BAR: usize = 1;
-
-const FOO_BAR_TWICE: usize = 2;
-
-/// The first of the eight.
-const NUMBERED: usize = 3;
-
-/// An event of a script; an encode has the place of its list.
+/// A block that was encoded: its stream, the list that was handed, and whether it was decoded.
 #[derive(Clone, Copy)]
-enum Given {
-    Encode(u64, usize),
-    Decode(u64),
-    ToDecoder(usize),
-    ToEncoder(usize),
-    Ack(u64),
-    Cancel(u64),
-    SetCapacity(usize),
-}
-
-/// A block that was encoded: its stream, the place of the list that was handed, and whether it was decoded.
-#[derive(Drop)]
 struct Handed {
     stream: u64,
-    list: usize,
+    list: Pairs,
     is_decoded: bool,
-}
-
-/// The list at a place.
-fn list_at(list: usize) -> Pairs {
-    LISTS.get(list).copied().unwrap_or(&[])
-}
-
-/// The event.
-fn event_of(alloc: Global, given: Given) -> Result<Event, NoMemory> {
-    Ok(match given {
-        Given::Encode(stream, list) => Event::Encode(stream, fields(alloc, list_at(list))?),
-        Given::Decode(stream) => Event::Decode(stream),
-        Given::ToDecoder(count) => Event::ToDecoder(count),
-        Given::ToEncoder(count) => Event::ToEncoder(count),
-        Given::Ack(stream) => Event::Ack(stream),
-        Given::Cancel(stream) => Event::Cancel(stream),
-        Given::SetCapacity(capacity) => Event::SetCapacity(capacity),
-    })
-}
-
-/// Whether an event was refused memory.
-fn wants_memory(outcome: &Outcome) -> bool {
-    matches!(
-        outcome,
-        Outcome::Encoded(Err(EncoderError::Memory))
-            | Outcome::Decoded(Err(DecoderError::Memory))
-            | Outcome::Delivered(Err(DecoderError::Memory))
-            | Outcome::Acknowledged(Err(_))
-            | Outcome::Cancelled(Err(_))
-            | Outcome::CapacitySet(Err(EncoderError::Memory))
-    )
 }
 
 /// What a session wrote and kept: bytes of the decoder stream, and blocks of the streams of the scripts.
@@ -93,94 +39,141 @@ fn kept(session: &Session) -> (usize, usize) {
     (session.decoder_bytes().len(), blocks)
 }
 
-/// Gives an event, and again where memory was refused to it, which wrote no instruction and kept no block. Bytes that
-/// were delivered are offered again by a delivery of none.
-fn give(alloc: Global, session: &mut Session, given: Given) -> Result<Outcome, Fail> {
-    let event = again(|| event_of(alloc, given))?;
-    let before = kept(session);
-    let outcome = session.step(&event);
-    if !wants_memory(&outcome) {
-        return Ok(outcome);
-    }
-    same(kept(session), before)?;
-    match event {
-        Event::ToDecoder(_) => Ok(session.step(&Event::ToDecoder(0))),
-        event => Ok(session.step(&event)),
-    }
+/// Whether an event that is neither an encode nor a decode was done, or skipped as any may be.
+fn is_done(outcome: &Outcome) -> bool {
+    matches!(
+        outcome,
+        Outcome::Delivered(Ok(_))
+            | Outcome::Heard(Ok(()))
+            | Outcome::CapacitySet(Ok(()))
+            | Outcome::Acknowledged(Ok(()))
+            | Outcome::Cancelled(Ok(()))
+            | Outcome::Skipped(_)
+    )
 }
 
-/// The fields are those of a list.
-fn are(decoded: &Decoded, list: usize) -> Result<(), Fail> {
-    let pairs = list_at(list);
-    same(decoded.fields.len(), pairs.len())?;
-    for (field, pair) in decoded.fields.iter().zip(pairs.iter()) {
-        same((field.name.as_slice(), field.value.as_slice()), *pair)?;
-    }
-    Ok(())
+/// A session, and the blocks that were encoded.
+#[derive(Drop)]
+struct Played {
+    session: Session,
+    handed: Vec<Handed>,
 }
 
-/// The list of the next undecoded block of a stream, which is decoded now.
-fn next_list(handed: &mut [Handed], stream: u64) -> Option<usize> {
-    for block in handed {
-        if block.stream == stream && !block.is_decoded {
-            block.is_decoded = true;
-            return Some(block.list);
+impl Played {
+    fn new(alloc: Global, capacity: usize, limit: usize) -> Result<Played, Fail> {
+        let handed = again(|| Vec::with_capacity(alloc, 16))?;
+        let session = Session::new(alloc, capacity, limit)?;
+        Ok(Played { session, handed })
+    }
+
+    /// Gives an event, and again where memory was refused to it, which wrote no instruction and kept no block. Bytes
+    /// that were delivered are offered again by a delivery of none.
+    fn give(&mut self, alloc: Global, given: Given) -> Result<Outcome, Fail> {
+        let event = event_of(alloc, given)?;
+        let before = kept(&self.session);
+        let outcome = self.session.step(&event);
+        if !wants_memory(&outcome) {
+            return Ok(outcome);
+        }
+        same(kept(&self.session), before)?;
+        match event {
+            Event::ToDecoder(_) => Ok(self.session.step(&Event::ToDecoder(0))),
+            event => Ok(self.session.step(&event)),
         }
     }
-    None
-}
 
-/// An answer is no refusal of a stream; a decode answers what was handed, or waits for insertions that did not come.
-fn is_lawful(
-    session: &Session,
-    handed: &mut Vec<Handed>,
-    given: Given,
-    outcome: &Outcome,
-) -> Result<(), Fail> {
-    match (given, outcome) {
-        (Given::Encode(stream, list), Outcome::Encoded(Ok(_))) => {
-            let block = Handed {
-                stream,
-                list,
-                is_decoded: false,
-            };
-            handed
-                .push(block)
-                .map_err(|_| Fail::new(format_args!("no room")))
+    /// An event, given again where it was refused memory, is answered by no refusal of a stream, and a decode exactly.
+    fn play(&mut self, alloc: Global, given: Given) -> Result<(), Fail> {
+        let outcome = self.give(alloc, given)?;
+        match (given, &outcome) {
+            (Given::Encode(stream, list), Outcome::Encoded(Ok(_))) => Ok(
+                self.handed.push(Handed {
+                    stream,
+                    list,
+                    is_decoded: false,
+                })?,
+            ),
+            (Given::Decode(stream), Outcome::Decoded(answer)) => {
+                self.is_exact(alloc, stream, answer)
+            }
+            (_, outcome) if is_done(outcome) => Ok(()),
+            (_, outcome) => Err(unlawful(outcome)),
         }
-        (Given::Decode(stream), Outcome::Decoded(Ok(decoded))) => {
-            match next_list(handed.as_mut_slice(), stream) {
-                Some(list) => are(decoded, list),
-                None => Err(Fail::new(format_args!("no such block"))),
+    }
+
+    /// Delivers so many bytes, which may be refused memory.
+    fn deliver_once(&mut self, count: usize) {
+        self.session.step(&Event::ToDecoder(count));
+    }
+
+    /// Events in turn, behind which so many blocks are decoded.
+    fn play_each(&mut self, alloc: Global, script: &[Given], decoded: usize) -> Result<(), Fail> {
+        for given in script {
+            self.play(alloc, *given)?;
+        }
+        same(self.decoded_count(), decoded)
+    }
+
+    /// A decode answers what was handed, or waits for insertions that did not come.
+    fn is_exact(
+        &mut self,
+        alloc: Global,
+        stream: u64,
+        answer: &Result<Decoded, DecoderError>,
+    ) -> Result<(), Fail> {
+        match answer {
+            Ok(decoded) => {
+                let list = self.next_list(stream).unwrap_or(&[]);
+                same(decoded.fields == fields(alloc, list)?, true)
+            }
+            Err(DecoderError::MissingRefs(required)) => {
+                let received = self.session.decoder().table().total_inserted();
+                same(*required > received, true)
+            }
+            Err(e) => Err(Fail::new(format_args!("{e:?}"))),
+        }
+    }
+
+    /// The list of the next undecoded block of a stream, which is decoded now.
+    fn next_list(&mut self, stream: u64) -> Option<Pairs> {
+        for block in &mut self.handed {
+            if block.stream == stream && !block.is_decoded {
+                block.is_decoded = true;
+                return Some(block.list);
             }
         }
-        (Given::Decode(_), Outcome::Decoded(Err(DecoderError::MissingRefs(required)))) => {
-            same(*required > session.decoder().table().total_inserted(), true)
+        None
+    }
+
+    /// These bytes are those of the decoder stream.
+    fn has_replied(&self, bytes: &[u8]) -> Result<(), Fail> {
+        same(self.session.decoder_bytes(), bytes)
+    }
+
+    /// How many blocks were decoded.
+    fn decoded_count(&self) -> usize {
+        let mut count = 0usize;
+        for block in &self.handed {
+            count = count.saturating_add(usize::from(block.is_decoded));
         }
-        (_, Outcome::Delivered(Ok(_)) | Outcome::Heard(Ok(())) | Outcome::CapacitySet(Ok(())))
-        | (_, Outcome::Acknowledged(Ok(())) | Outcome::Cancelled(Ok(())) | Outcome::Skipped(_)) => {
-            Ok(())
-        }
-        (_, outcome) => Err(Fail::new(format_args!("{outcome:?}"))),
+        count
     }
 }
 
-/// All events of a script, each given again where it was refused memory. Answers how many blocks were decoded.
-fn play(alloc: Global, capacity: usize, limit: usize, script: &[Given]) -> Result<usize, Fail> {
-    let mut session = Session::new(alloc, capacity, limit)?;
-    let mut handed = again(|| Vec::with_capacity(alloc, 16))?;
-    for given in script {
-        let outcome = give(alloc, &mut session, *given)?;
-        is_lawful(&session, &mut handed, *given, &outcome)?;
-    }
-    Ok(handed.iter().filter(|block| block.is_decoded).count())
+/// All events of a script, each given again where it was refused memory: so many blocks are decoded.
+fn play_all(
+    alloc: Global,
+    (capacity, limit): (usize, usize),
+    script: &[Given],
+    decoded: usize,
+) -> Result<(), Fail> {
+    let mut played = Played::new(alloc, capacity, limit)?;
+    played.play_each(alloc, script, decoded)
 }
-
-const ALL: usize = usize::MAX;
 
 #[test]
 fn a_block_that_waits_is_decoded(rt: HostRuntime) -> Result<(), Fail> {
-    let script = [
+    const SCRIPT: &[Given] = &[
         Given::Encode(4, FOO_BAR),
         Given::Decode(4),
         Given::ToDecoder(6),
@@ -192,24 +185,24 @@ fn a_block_that_waits_is_decoded(rt: HostRuntime) -> Result<(), Fail> {
         Given::Ack(4),
         Given::ToEncoder(ALL),
     ];
-    same(play(rt.alloc(), 4096, 1, &script)?, 1)
+    play_all(rt.alloc(), (4096, 1), SCRIPT, 1)
 }
 
 #[test]
 fn a_duplicate_is_decoded(rt: HostRuntime) -> Result<(), Fail> {
-    let script = [
+    const SCRIPT: &[Given] = &[
         Given::Encode(4, FOO_BAR_TWICE),
         Given::ToDecoder(ALL),
         Given::Decode(4),
         Given::Ack(4),
         Given::ToEncoder(ALL),
     ];
-    same(play(rt.alloc(), 4096, 1, &script)?, 1)
+    play_all(rt.alloc(), (4096, 1), SCRIPT, 1)
 }
 
 #[test]
 fn what_was_cancelled_is_skipped(rt: HostRuntime) -> Result<(), Fail> {
-    let script = [
+    const SCRIPT: &[Given] = &[
         Given::Encode(4, FOO_BAR),
         Given::Cancel(4),
         Given::ToEncoder(1),
@@ -222,12 +215,12 @@ fn what_was_cancelled_is_skipped(rt: HostRuntime) -> Result<(), Fail> {
         Given::Decode(8),
         Given::Decode(12),
     ];
-    same(play(rt.alloc(), 64, 4, &script)?, 2)
+    play_all(rt.alloc(), (64, 4), SCRIPT, 2)
 }
 
 #[test]
 fn blocks_around_new_capacities_are_decoded(rt: HostRuntime) -> Result<(), Fail> {
-    let script = [
+    const SCRIPT: &[Given] = &[
         Given::Encode(4, FOO_BAR),
         Given::ToDecoder(ALL),
         Given::Decode(4),
@@ -241,14 +234,13 @@ fn blocks_around_new_capacities_are_decoded(rt: HostRuntime) -> Result<(), Fail>
         Given::Decode(8),
         Given::Decode(12),
     ];
-    same(play(rt.alloc(), 4096, 1, &script)?, 3)
+    play_all(rt.alloc(), (4096, 1), SCRIPT, 3)
 }
 
-#[test]
-fn eight_blocks_in_turn_are_decoded(rt: HostRuntime) -> Result<(), Fail> {
-    let mut session = Session::new(rt.alloc(), 64, 1)?;
-    let mut handed = again(|| Vec::with_capacity(rt.alloc(), 16))?;
-    for list in NUMBERED..LISTS.len() {
+/// Lists that are encoded, delivered, decoded, acknowledged and heard of in turn.
+fn play_in_turn(alloc: Global, played: &mut Played, lists: &[Pairs]) -> Result<(), Fail> {
+    let mut count = 0usize;
+    for list in lists {
         let round = [
             Given::Encode(0, list),
             Given::ToDecoder(ALL),
@@ -256,30 +248,32 @@ fn eight_blocks_in_turn_are_decoded(rt: HostRuntime) -> Result<(), Fail> {
             Given::Ack(0),
             Given::ToEncoder(ALL),
         ];
-        for given in round {
-            let outcome = give(rt.alloc(), &mut session, given)?;
-            is_lawful(&session, &mut handed, given, &outcome)?;
-        }
+        count = count.saturating_add(1);
+        played.play_each(alloc, &round, count)?;
     }
-    let decoded = handed.iter().filter(|block| block.is_decoded).count();
-    same((decoded, session.blocks(0)), (8, 8))
+    same((count, played.session.blocks(0)), (8, 8))
 }
 
-/// A delivery that is refused memory has delivered its bytes: the decode behind it waits or is exact, and a delivery of
-/// none takes what is left, and reports what was inserted.
+#[test]
+fn eight_blocks_in_turn_are_decoded(rt: HostRuntime) -> Result<(), Fail> {
+    let mut played = Played::new(rt.alloc(), 64, 1)?;
+    play_in_turn(rt.alloc(), &mut played, &IN_TURN)
+}
+
+/// An insertion is delivered by a call that may be refused memory: the decode behind it waits or is exact, and a
+/// delivery of none takes what is left, and reports what was inserted.
+fn deliver_and_decode(alloc: Global, played: &mut Played) -> Result<(), Fail> {
+    played.play(alloc, Given::Encode(4, FOO_BAR))?;
+    played.deliver_once(7);
+    played.play(alloc, Given::Decode(4))?;
+    let outcome = played.give(alloc, Given::ToDecoder(0))?;
+    same(matches!(outcome, Outcome::Delivered(Ok(1))), true)?;
+    played.has_replied(b"\x01")
+}
+
+/// A delivery that is refused memory has delivered its bytes.
 #[test]
 fn a_refused_delivery_is_taken_by_one_of_none(rt: HostRuntime) -> Result<(), Fail> {
-    let alloc = rt.alloc();
-    let mut session = Session::new(alloc, 4096, 1)?;
-    let mut handed = again(|| Vec::with_capacity(alloc, 16))?;
-    let given = Given::Encode(4, FOO_BAR);
-    let outcome = give(alloc, &mut session, given)?;
-    is_lawful(&session, &mut handed, given, &outcome)?;
-    session.step(&Event::ToDecoder(7));
-    let given = Given::Decode(4);
-    let outcome = give(alloc, &mut session, given)?;
-    is_lawful(&session, &mut handed, given, &outcome)?;
-    let outcome = give(alloc, &mut session, Given::ToDecoder(0))?;
-    same(matches!(outcome, Outcome::Delivered(Ok(1))), true)?;
-    same(session.decoder_bytes(), b"\x01".as_slice())
+    let mut played = Played::new(rt.alloc(), 4096, 1)?;
+    deliver_and_decode(rt.alloc(), &mut played)
 }

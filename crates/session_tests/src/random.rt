@@ -1,10 +1,11 @@
 //! Random scripts of sessions: each decode answers exactly what was handed, or waits, and no stream is refused.
 
+use crate::events::unlawful;
+use h3_qpack::HeaderField;
 use h3_qpack::coding::NoMemory;
 use h3_qpack::decoder::DecoderError;
 use h3_qpack::encoder::EncoderError;
 use h3_qpack::session::{Event, Outcome, Session};
-use h3_qpack::{Decoded, HeaderField};
 use qpack_testing::{Numbers, again, field, same};
 use std::alloc::Global;
 use std::test::Fail;
@@ -22,44 +23,41 @@ const PAIRS: [(&[u8], &[u8]); 6] = [
 /// How many streams a script uses.
 const STREAMS: usize = 3;
 
-/// What a stream was handed, block by block, as places in the list of pairs, and how many of its blocks were decoded.
+/// How many events a script has.
+const EVENTS: usize = 60;
+
+/// The list of a block: the places of its fields in the list of pairs, and behind them places where none stands.
+type Places = [usize; 3];
+
+/// What a stream was handed, block by block, and how many of its blocks were decoded.
 #[derive(Drop)]
 struct Handed {
     stream: u64,
-    blocks: Vec<Vec<usize>>,
+    blocks: Vec<Places>,
     decoded: usize,
     /// How many of those referenced the table.
     dynamic: usize,
 }
 
-/// Some places in the list of pairs.
-fn places(alloc: Global, numbers: &mut Numbers) -> Result<Vec<usize>, NoMemory> {
-    let mut places = Vec::new(alloc);
-    for _ in 0..numbers.below(4) {
-        places.push(numbers.below(6))?;
+/// The places of a list.
+fn places(numbers: &mut Numbers) -> Places {
+    let mut places = [PAIRS.len(); 3];
+    let count = numbers.below(4);
+    for place in places.iter_mut().take(count) {
+        *place = numbers.below(PAIRS.len());
     }
-    Ok(places)
+    places
 }
 
 /// The fields at these places.
-fn fields_at(alloc: Global, places: &[usize]) -> Result<Vec<HeaderField>, NoMemory> {
-    let mut fields = Vec::new(alloc);
+fn fields_at(alloc: Global, places: Places) -> Result<Vec<HeaderField>, NoMemory> {
+    let mut fields = again(|| Vec::with_capacity(alloc, places.len()))?;
     for place in places {
-        if let Some((name, value)) = PAIRS.get(*place) {
+        if let Some((name, value)) = PAIRS.get(place) {
             fields.push(field(alloc, name, value)?)?;
         }
     }
     Ok(fields)
-}
-
-/// The fields are those at these places.
-fn are_at(decoded: &Decoded, places: &[usize]) -> Result<(), Fail> {
-    same(decoded.fields.len(), places.len())?;
-    for (field, place) in decoded.fields.iter().zip(places.iter()) {
-        let at = PAIRS.get(*place).copied();
-        same(Some((field.name.as_slice(), field.value.as_slice())), at)?;
-    }
-    Ok(())
 }
 
 /// A block of a stream is encoded, and what was handed is noted.
@@ -69,38 +67,29 @@ fn encodes(
     session: &mut Session,
     handed: &mut Handed,
 ) -> Result<(), Fail> {
-    let places = again(|| places(alloc, numbers))?;
-    let event = Event::Encode(
-        handed.stream,
-        again(|| fields_at(alloc, places.as_slice()))?,
-    );
-    again(|| handed.blocks.reserve(1))?;
+    let places = places(numbers);
+    let event = Event::Encode(handed.stream, fields_at(alloc, places)?);
     match session.step(&event) {
-        Outcome::Encoded(Ok(_)) => {
-            handed.blocks.push(places)?;
-            Ok(())
-        }
-        Outcome::Encoded(Err(e)) => same(e, EncoderError::Memory),
-        outcome => Err(Fail::new(format_args!("{outcome:?}"))),
+        Outcome::Encoded(Ok(_)) => Ok(handed.blocks.push(places)?),
+        Outcome::Encoded(Err(EncoderError::Memory)) => Ok(()),
+        outcome => Err(unlawful(&outcome)),
     }
 }
 
 /// A block of a stream is decoded: to what was handed, or it waits or is skipped.
-fn decodes(session: &mut Session, handed: &mut Handed) -> Result<(), Fail> {
+fn decodes(alloc: Global, session: &mut Session, handed: &mut Handed) -> Result<(), Fail> {
     match session.step(&Event::Decode(handed.stream)) {
         Outcome::Decoded(Ok(decoded)) => {
-            if let Some(places) = handed.blocks.get(handed.decoded) {
-                are_at(&decoded, places.as_slice())?;
-            } else {
-                return Err(Fail::new(format_args!("no such block")));
-            }
+            let places = handed.blocks.get(handed.decoded).copied();
+            let fields = fields_at(alloc, places.unwrap_or([PAIRS.len(); 3]))?;
+            same((places.is_some(), decoded.fields == fields), (true, true))?;
             handed.decoded = handed.decoded.saturating_add(1);
             handed.dynamic = handed.dynamic.saturating_add(usize::from(decoded.dyn_ref));
             Ok(())
         }
         Outcome::Decoded(Err(DecoderError::MissingRefs(_) | DecoderError::Memory))
         | Outcome::Skipped(_) => Ok(()),
-        outcome => Err(Fail::new(format_args!("{outcome:?}"))),
+        outcome => Err(unlawful(&outcome)),
     }
 }
 
@@ -116,8 +105,8 @@ fn goes(numbers: &mut Numbers, session: &mut Session, stream: u64) -> Result<(),
         },
     };
     match session.step(&event) {
-        Outcome::Delivered(Err(e)) => same(e, DecoderError::Memory),
-        Outcome::Heard(Err(e)) => Err(Fail::new(format_args!("{e:?}"))),
+        Outcome::Delivered(Err(DecoderError::Memory)) => Ok(()),
+        outcome @ (Outcome::Delivered(Err(_)) | Outcome::Heard(Err(_))) => Err(unlawful(&outcome)),
         _ => Ok(()),
     }
 }
@@ -131,23 +120,49 @@ fn acts(
 ) -> Result<(), Fail> {
     match numbers.below(4) {
         0 => encodes(alloc, numbers, session, handed),
-        1 => decodes(session, handed),
+        1 => decodes(alloc, session, handed),
         _ => goes(numbers, session, handed.stream),
     }
 }
 
 /// Streams that were handed nothing.
 fn streams(alloc: Global) -> Result<Vec<Handed>, NoMemory> {
-    let mut streams = Vec::new(alloc);
+    let mut streams = Vec::with_capacity(alloc, STREAMS)?;
     for stream in 0..STREAMS {
         streams.push(Handed {
             stream: stream as u64,
-            blocks: Vec::new(alloc),
+            blocks: Vec::with_capacity(alloc, EVENTS)?,
             decoded: 0,
             dynamic: 0,
         })?;
     }
     Ok(streams)
+}
+
+/// The events of a script.
+fn act_often(
+    alloc: Global,
+    numbers: &mut Numbers,
+    session: &mut Session,
+    streams: &mut [Handed],
+) -> Result<(), Fail> {
+    for _ in 0..EVENTS {
+        let at = numbers.below(STREAMS);
+        if let Some(handed) = streams.get_mut(at) {
+            acts(alloc, numbers, session, handed)?;
+        }
+    }
+    Ok(())
+}
+
+/// One script; answers how many decoded blocks referenced the table.
+fn script(alloc: Global, numbers: &mut Numbers) -> Result<usize, Fail> {
+    let capacity = numbers.below(200);
+    let limit = numbers.below(4);
+    let mut streams = again(|| streams(alloc))?;
+    let mut session = Session::new(alloc, capacity, limit)?;
+    let acted = act_often(alloc, numbers, &mut session, &mut streams);
+    acted.map(|()| dynamic_in(&streams))
 }
 
 /// How many decoded blocks of the streams referenced the table.
@@ -157,21 +172,6 @@ fn dynamic_in(streams: &[Handed]) -> usize {
         sum = sum.saturating_add(handed.dynamic);
     }
     sum
-}
-
-/// One script; answers how many decoded blocks referenced the table.
-fn script(alloc: Global, numbers: &mut Numbers) -> Result<usize, Fail> {
-    let capacity = numbers.below(200);
-    let limit = numbers.below(4);
-    let mut session = Session::new(alloc, capacity, limit)?;
-    let mut streams = again(|| streams(alloc))?;
-    for _ in 0..60u32 {
-        let at = numbers.below(STREAMS);
-        if let Some(handed) = streams.get_mut(at) {
-            acts(alloc, numbers, &mut session, handed)?;
-        }
-    }
-    Ok(dynamic_in(streams.as_slice()))
 }
 
 #[test]
