@@ -1,4 +1,4 @@
-use Rattle.std.proofs.Common.{◌-◌, ◌^◌, arith}
+use Rattle.std.proofs.Common.{arith}
 use Rattle.qpack_spec.proofs.WrittenIntegers.{byte_fits}
 use Rattle.qpack_base.proofs.prefix_int.first_byte.Goals as goal
 
