@@ -1,14 +1,15 @@
 -- No code has fewer than five bits, so that the room for a payload's text is known before it is read; none has more
--- than 30, so that room for a text's payload is known before it is written.
+-- than 31, so that room for a text's payload is known before it is written.
 use Rattle.std.proofs.Common.{◌≡◌, ℕ, zero, suc, ◌+◌, ◌*◌, ◌-◌, ◌/◌, ◌^◌, ◌<◌, ◌≤◌, Bool, true}
 use Rattle.std.proofs.Common.{List, [], ◌∷◌, ◌++◌, length, refl, ap, subst, arith}
 use Rattle.std.proofs.Common.{inl, inr}
 use Rattle.std.proofs.lemmas.List.{length-append}
 use Rattle.std.proofs.lemmas.List.Concat.{flat_map-cons}
-use Rattle.std.proofs.lemmas.Bool.{cases_eq, leb-true}
-use Rattle.std.specs.Prelude.{◌&&◌, nat_le}
+use Rattle.std.proofs.lemmas.Bool.{cases_eq, cond_both, leb-true}
+use Rattle.std.specs.Prelude.{◌&&◌, ◌==◌, nat_le, nat_lt, not}
+use Rattle.std.specs.List.{position_or_len, list_any, count_by}
 use Rattle.qpack_spec.specs.Huffman.{bits_of, bytes_by_length, bytes_of_length, first_code, code_length, code_of}
-use Rattle.qpack_spec.specs.Huffman.{bits_of_text, payload_of, AreBytes}
+use Rattle.qpack_spec.specs.Huffman.{bits_of_text, payload_of}
 use Rattle.qpack_spec.proofs.Bits.{bits_length}
 use Rattle.qpack_spec.proofs.Codes.{both}
 use Rattle.qpack_spec.proofs.WrittenPayloads.{payload_length}
@@ -71,40 +72,46 @@ room_behind bits number free after left now long is fits one =
 
 -- ---- the room for a text's payload
 
--- whether the codes of k bytes from b on have at most 30 bits
-abbrev all_few : ℕ → ℕ → Bool
-all_few zero b = true
-all_few (suc k) b = nat_le (length (code_of b)) 30 && all_few k (suc b)
+position_most : {X : Type 0} (p : X → Bool) (xs : List X) → position_or_len p xs ≤ length xs
+position_most p [] = omega arith
+position_most p (x ∷ xs) =
+    cond_both (not (p x)) (1 + position_or_len p xs) 0 (λ n. n ≤ suc (length xs))
+    (λ t. let i = position_most p xs in omega (arith, i)) (λ f. omega arith)
 
-all_codes_few : all_few 256 0 ≡ true
-unfolding bytes_by_length bytes_of_length first_code code_length code_of bits_of
-all_codes_few = refl
+rows : length bytes_by_length ≡ 30
+unfolding bytes_by_length
+rows = refl
 
-few_each : (k b c : ℕ) → all_few k b ≡ true → b ≤ c → c < b + k → length (code_of c) ≤ 30
-few_each zero b c e l u = absurd (omega arith)
-few_each (suc k) b c e l u =
-    let h = both (nat_le (length (code_of b)) 30) (all_few k (suc b)) e in
-    elim (cases_eq b c) [
-      | inl q ↦ subst (λ (d : ℕ). length (code_of d) ≤ 30) q (leb-true _ _ h.0)
-      | inr n ↦ few_each k (suc b) c h.1 (omega arith) (omega arith)
-    ]
+code_length_most : (b : ℕ) → code_length b ≤ 31
+unfolding code_length
+code_length_most b =
+    let p = position_most (λ bytes. list_any (λ c. c == b) bytes) bytes_by_length in omega (arith, p, rows)
 
-few_bits : (text : List ℕ) → AreBytes text → length (bits_of_text text) ≤ 30 * length text
-few_bits [] ok = omega arith
-few_bits (b ∷ text) ok =
+-- a code has 31 bits at most, one that stands for no byte too
+code_most : (b : ℕ) → length (code_of b) ≤ 31
+unfolding code_of
+code_most b =
+    let many = bits_length (code_length b)
+    (first_code (code_length b) + count_by (λ c. nat_lt c b) (bytes_of_length (code_length b))) in
+    let most = code_length_most b in
+    omega (arith, many, most)
+
+bits_most : (text : List ℕ) → length (bits_of_text text) ≤ 31 * length text
+bits_most [] = omega arith
+bits_most (b ∷ text) =
     omega (
       arith,
       ap (λ (l : List ℕ). length l) (flat_map-cons code_of b text),
       length-append (code_of b) (bits_of_text text),
-      few_each 256 0 b all_codes_few (omega arith) (omega (arith, ok.0)),
-      few_bits text ok.1,
+      code_most b,
+      bits_most text,
     )
 
-eighths : (bits n : ℕ) → bits ≤ 30 * n → (bits + 7) / 8 ≤ 4 * n
+eighths : (bits n : ℕ) → bits ≤ 31 * n → (bits + 7) / 8 ≤ 4 * n
 eighths bits zero h = let none : bits ≡ 0 = omega (arith, h) in rw none (omega arith)
 eighths bits (suc n) h = omega (arith, h)
 
 -- no payload has more than four bytes for each of its text
-pub payload_most : (text : List ℕ) → AreBytes text → length (payload_of text) ≤ 4 * length text
-payload_most text ok =
-    omega (arith, payload_length text, eighths (length (bits_of_text text)) (length text) (few_bits text ok))
+pub payload_most : (text : List ℕ) → length (payload_of text) ≤ 4 * length text
+payload_most text =
+    omega (arith, payload_length text, eighths (length (bits_of_text text)) (length text) (bits_most text))

@@ -2,15 +2,13 @@ use Rattle.std.proofs.Common.{◌≡◌, ◌-◌, length, ap, List, ℕ, arith}
 use Rattle.std.proofs.lemmas.List.{length-append}
 use Rattle.qpack_spec.specs.Huffman.{payload_of}
 use Rattle.qpack_base.proofs.CodeRoom.{payload_most}
-use Rattle.qpack_base.proofs.PutCodes.{bytes_from}
 use Rattle.qpack_base.proofs.PutStrings.{literal_headed}
 use Rattle.qpack_base.proofs.prefix_string.append_short.Goals as goal
 
 pub put_payload-requires : goal.put_payload-requires
 put_payload-requires g c =
     let value = c.args.value.now in
-    let most = payload_most value (bytes_from value (λ i. omega (arith, c.type_inv.value i))) in
-    omega (arith, most, c.requires.room, c.push_reserved.ensures.len, c.push_reserved.ensures.capacity)
+    omega (arith, payload_most value, c.requires.room, c.push_reserved.ensures.len, c.push_reserved.ensures.capacity)
 
 pub returns-clause-done : goal.returns-clause-done
 returns-clause-done g c = λ done.
