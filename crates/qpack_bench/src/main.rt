@@ -67,15 +67,15 @@ fn run(rt: &HostRuntime, alloc: Global) -> Result<()> {
     println!(rt; "{read} blocks of h3 read as their fields, with their sizes")?;
     let read = comparing::read_alike(alloc, &lists, &of_nghttp3)?;
     println!(rt; "{read} blocks of nghttp3 read as their fields")?;
+    let words = words_of(rt)?;
+    if words.rounds > 0 {
+        timing::time(rt, alloc, &lists, words.rounds)?;
+    }
     for (file, max_capacity) in RECORDINGS {
         tell_replayed(rt, alloc, &lists, file, max_capacity)?;
     }
-    let words = words_of(rt)?;
     for capacity in [4096, 65536] {
         connection::tell(rt, alloc, &lists, capacity, words.rounds)?;
-    }
-    if words.rounds > 0 {
-        timing::time(rt, alloc, &lists, words.rounds)?;
     }
     if words.entries > 0 {
         let found = table::drive(alloc, words.entries)?;
