@@ -3,6 +3,7 @@
 use h3_qpack::coding::{Cursor, NoMemory};
 use h3_qpack::decoder::{Decoded, Decoder, DecoderError, ack_header, stream_canceled};
 use h3_qpack::dynamic::{DynamicTable, Error};
+use h3_qpack::prefix_int;
 use qpack_testing::{again, bytes, field, same};
 use std::alloc::Global;
 use std::fmt::Write;
@@ -200,19 +201,87 @@ fn receive_all(alloc: Global, put: Put, pieces: &[Piece], capacity: usize) -> Re
     receives_each(alloc, &mut decoder, pieces, capacity)
 }
 
+/// An insertion and 62 duplicates, in hexadecimal.
+const SIXTY_THREE: &[u8] = b"6294e7838c767f\
+    00000000000000000000000000000000000000000000000000000000000000\
+    00000000000000000000000000000000000000000000000000000000000000";
+
+/// An insertion and 129 duplicates, in hexadecimal.
+const HUNDRED_AND_THIRTY: &[u8] = b"6294e7838c767f\
+    00000000000000000000000000000000000000000000000000000000000000000000000000000000000000\
+    00000000000000000000000000000000000000000000000000000000000000000000000000000000000000\
+    00000000000000000000000000000000000000000000000000000000000000000000000000000000000000";
+
 #[test]
 fn insertions_are_reported_in_pieces(rt: HostRuntime) -> Result<(), Fail> {
-    // An insertion and 129 duplicates.
-    const LONG: &[Piece] = &[(
-        b"6294e7838c767f\
-        00000000000000000000000000000000000000000000000000000000000000000000000000000000000000\
-        00000000000000000000000000000000000000000000000000000000000000000000000000000000000000\
-        00000000000000000000000000000000000000000000000000000000000000000000000000000000000000",
-        Ok(130),
-        136,
-        b"3f013f0102",
-    )];
-    receive_all(rt.alloc(), (4096, 0), LONG, 4096)
+    const FEW: &[Piece] = &[(SIXTY_THREE, Ok(63), 69, b"3f00")];
+    receive_all(rt.alloc(), (4096, 0), FEW, 4096)?;
+    const MANY: &[Piece] = &[(HUNDRED_AND_THIRTY, Ok(130), 136, b"3f013f0102")];
+    receive_all(rt.alloc(), (4096, 0), MANY, 4096)
+}
+
+/// The sum of the increments that were written (RFC 9204, section 4.4.3).
+fn sum_of_increments(written: &[u8]) -> Result<u64, Fail> {
+    let mut buf = Cursor::new(written);
+    let mut sum = 0u64;
+    for _ in 0..written.len() {
+        if buf.position() == written.len() {
+            break;
+        }
+        let (flags, increment) = prefix_int::decode(6, &mut buf)?;
+        same(flags, 0)?;
+        sum = sum.saturating_add(increment);
+    }
+    Ok(sum)
+}
+
+/// Receives bytes, offered again where memory was refused: the answer, how many are taken, and the sum of the
+/// increments that are written.
+fn receive_whole(
+    alloc: Global,
+    decoder: &mut Decoder,
+    offered: &[u8],
+) -> Result<(usize, usize, u64), Fail> {
+    let mut written = Vec::new(alloc);
+    let mut buf = Cursor::new(offered);
+    let answer = receive(decoder, &mut buf, &mut written)?;
+    Ok((answer?, buf.position(), sum_of_increments(&written)?))
+}
+
+/// The bytes in two pieces, the first of so many, insert and report what they do in one: the newest entry and the
+/// oldest of the 107 that fit are there, and none behind it.
+fn is_same_when_cut(
+    alloc: Global,
+    decoder: &mut Decoder,
+    offered: &[u8],
+    cut: usize,
+) -> Result<(), Fail> {
+    let first = offered.get(..cut).unwrap_or(offered);
+    let (_, taken, reported) = receive_whole(alloc, decoder, first)?;
+    let rest = offered.get(taken..).unwrap_or(b"");
+    let (received, more, unreported) = receive_whole(alloc, decoder, rest)?;
+    same((received, taken.saturating_add(more)), (130, offered.len()))?;
+    same(reported.saturating_add(unreported), 130)?;
+    const SECTIONS: &[Section] = &[
+        (b"830080bf2b", "\"foo\": \"bar\", \"foo\": \"bar\", 76 true"),
+        (b"8300bf2c", "DynamicTable(BadRelativeIndex(107))"),
+    ];
+    decodes_each(alloc, decoder, SECTIONS)
+}
+
+/// The same, by a new decoder.
+fn is_cut(alloc: Global, offered: &[u8], cut: usize) -> Result<(), Fail> {
+    let mut decoder = decoder(alloc, (4096, 0))?;
+    is_same_when_cut(alloc, &mut decoder, offered, cut)
+}
+
+#[test]
+fn insertions_cut_anywhere_are_the_same(rt: HostRuntime) -> Result<(), Fail> {
+    let offered = bytes(rt.alloc(), HUNDRED_AND_THIRTY)?;
+    for cut in 0..=offered.len() {
+        is_cut(rt.alloc(), &offered, cut)?;
+    }
+    Ok(())
 }
 
 /// A truncated instruction waits for its rest, and is applied then.

@@ -217,6 +217,30 @@ fn an_entry_of_a_cancelled_block_goes_once_it_is_received(rt: HostRuntime) -> Re
 }
 
 #[test]
+fn a_cancellation_releases_every_block_of_its_stream(rt: HostRuntime) -> Result<(), Fail> {
+    const CASES: &[Case] = &[
+        (
+            Given::Encode(4, FOO_BAR),
+            "Encoded(Ok(1))",
+            b"028010",
+            b"6294e7838c767f",
+        ),
+        (Given::Encode(4, FOO_BAR), "Encoded(Ok(1))", b"020080", b""),
+        (Given::Encode(4, FOO_BAR), "Encoded(Ok(1))", b"020080", b""),
+        (Given::Cancel(4), "Cancelled(Ok(()))", b"", b"44"),
+        (Given::ToDecoder(7), "Delivered(Ok(1))", b"", b"01"),
+        (Given::ToEncoder(2), "Heard(Ok(()))", b"", b""),
+        (
+            Given::Encode(8, BAZ_BAR),
+            "Encoded(Ok(2))",
+            b"038010",
+            b"638c7eff838c767f",
+        ),
+    ];
+    plays_all(rt.alloc(), 64, 4, CASES)
+}
+
+#[test]
 fn a_capacity_is_set_within_a_session(rt: HostRuntime) -> Result<(), Fail> {
     const CASES: &[Case] = &[
         (Given::SetCapacity(38), "CapacitySet(Ok(()))", b"", b"3f07"),
