@@ -7,8 +7,8 @@ ghost use Rattle.qpack_spec.specs.Line.{written_line};
 ghost use Rattle.qpack_spec.specs.BlockReading.{written_block};
 ghost use Rattle.qpack_spec.specs.Stateless.{stateless_line, stateless_block, saturated_size};
 ghost use Rattle.qpack_base.specs.HeaderFields.{field_of, DrainsFields};
+ghost use Rattle.qpack_base.specs.Writes.{Writes};
 ghost use Rattle.qpack_base.specs.declared.prefix_string.Error.TheVariants.{Memory as NoRoom};
-ghost use Rattle.qpack_wire.specs.Writes.{Writes};
 ghost use Rattle.h3_qpack.specs.Errors.{encoder_error_of_table, encoder_error_of_string, encoder_error_of_parse};
 ghost use Rattle.h3_qpack.specs.declared.encoder.EncoderError.TheVariants.{Memory};
 

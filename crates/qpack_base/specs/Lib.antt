@@ -10,6 +10,7 @@ pub mod StaticFields
 pub mod HuffmanTables
 pub mod BitPositions
 pub mod Payloads
+pub mod Writes
 pub mod Strings
 pub mod WrittenPayloads
 pub mod ParseErrors

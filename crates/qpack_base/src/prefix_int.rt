@@ -1,13 +1,14 @@
 //! Integers with a prefix of 1 to 8 bits (RFC 7541, section 5.1; RFC 9204, section 4.1.1).
 
 ghost use Rattle.std.specs.Prelude.{◌≡◌, ℕ, ◌+◌, ◌*◌, ◌^◌, ◌<◌, ◌≤◌, ◌-◌, ◌++◌, ◌↔◌, List, IfOk, OnOk, OnErr, IsOk};
-ghost use Rattle.std.specs.Prelude.{◌%◌, [], ◌∷◌, IfSome};
+ghost use Rattle.std.specs.Prelude.{◌%◌, [], ◌∷◌, IfSome, IfNone};
 ghost use Rattle.std.specs.Prelude.{vec_len, vec_capacity, length};
 ghost use Rattle.qpack_spec.specs.Bytes.{Begins};
 ghost use Rattle.qpack_spec.specs.Integer.{integer_at, groups_at, SpellsInteger, OverflowsInteger, TruncatesInteger};
 ghost use Rattle.qpack_spec.specs.Integer.{written_integer, written_groups};
 ghost use Rattle.qpack_base.specs.Cursor.{MovesPast};
 ghost use Rattle.qpack_base.specs.Integers.{ReadsInteger, ReadsGroups};
+ghost use Rattle.qpack_base.specs.Writes.{Writes};
 ghost use Rattle.qpack_base.specs.declared.prefix_int.Error.TheVariants.{Overflow, UnexpectedEnd as Truncated};
 
 use crate::coding::{self, BufExt, Cursor, NoMemory, make_room};
@@ -39,6 +40,7 @@ const MOST_GROUPS: u8 = 9;
 
 /// Reads the integer at the cursor, with a prefix of `size` bits: the flags, which are the bits above
 /// the prefix, and the value. Takes no memory. On error the cursor's position is unspecified.
+#[inline(always)]
 pub fn decode(size: u8, buf: &mut Cursor) -> Result<(u8, u64), Error>
     requires least { 1 ≤ size }
     requires most { size ≤ 8 }
@@ -57,6 +59,7 @@ pub fn decode(size: u8, buf: &mut Cursor) -> Result<(u8, u64), Error>
     read(size, buf)
 }
 
+#[inline(always)]
 #[tactic(auto, unfolding(qpack_spec::specs::Integer::integer_at))]
 fn read(size: u8, buf: &mut Cursor) -> Result<(u8, u64), Error>
     requires least { 1 ≤ size }
@@ -75,6 +78,7 @@ fn read(size: u8, buf: &mut Cursor) -> Result<(u8, u64), Error>
 }
 
 /// Reads groups of seven bits, the least first, up to the byte whose high bit is clear.
+#[inline(never)]
 fn read_groups(buf: &mut Cursor) -> Result<u64, Error>
     ensures exact { ReadsGroups buf.old buf.new result (groups_at 9 buf.old.rest) }
     ensures small { IfOk result (λ sum. sum < 2 ^ 63) }
@@ -95,6 +99,7 @@ fn read_groups(buf: &mut Cursor) -> Result<u64, Error>
 /// Appends the shortest spelling of the value with a prefix of `size` bits, under the flags, which are
 /// cut to the bits above the prefix. Refused, the vector is as before; with free room for the
 /// spelling it succeeds and takes no memory.
+#[inline(always)]
 pub fn encode<A: Allocator>(
     size: u8,
     flags: u8,
@@ -111,14 +116,34 @@ pub fn encode<A: Allocator>(
         vec_capacity buf.new ≡ vec_capacity buf.old }
     ensures capacity { vec_capacity buf.old ≤ vec_capacity buf.new }
 {
+    let Some(byte) = short(size, flags, value) else {
+        return encode_long(size, flags, value, buf);
+    };
+    make_room(buf, 1)?;
+    buf.push_reserved(byte);
+    Ok(())
+}
+
+/// The same of a value that fills the prefix.
+#[inline(never)]
+fn encode_long<A: Allocator>(
+    size: u8,
+    flags: u8,
+    value: u64,
+    buf: &mut Vec<u8, A>,
+) -> Result<(), NoMemory>
+    requires least { 1 ≤ size }
+    requires most { size ≤ 8 }
+    requires long { 2 ^ size ≤ value + 1 }
+    ensures { Writes (written_integer size flags value) buf.old buf.new result }
+{
     make_room(buf, encoded_len(size, value))?;
-    put(size, flags, value, buf);
+    put_long(size, flags, value, buf);
     Ok(())
 }
 
 /// The same into the free room.
 #[inline(always)]
-#[tactic(auto, unfolding(qpack_spec::specs::Integer::written_integer))]
 pub(crate) fn put<A: Allocator>(size: u8, flags: u8, value: u64, buf: &mut Vec<u8, A>)
     requires least { 1 ≤ size }
     requires most { size ≤ 8 }
@@ -126,22 +151,36 @@ pub(crate) fn put<A: Allocator>(size: u8, flags: u8, value: u64, buf: &mut Vec<u
     ensures items { buf.new.items ≡ buf.old.items ++ written_integer size flags value }
     ensures capacity { vec_capacity buf.new ≡ vec_capacity buf.old }
 {
-    let most = power(size) - 1;
-    if value < most {
-        buf.push_reserved(first_byte(size, flags, value));
-        return;
+    match short(size, flags, value) {
+        Some(byte) => buf.push_reserved(byte),
+        None => put_long(size, flags, value, buf),
     }
+}
+
+/// The same of a value that fills the prefix.
+#[inline(never)]
+#[tactic(auto, unfolding(qpack_spec::specs::Integer::written_integer))]
+fn put_long<A: Allocator>(size: u8, flags: u8, value: u64, buf: &mut Vec<u8, A>)
+    requires least { 1 ≤ size }
+    requires most { size ≤ 8 }
+    requires long { 2 ^ size ≤ value + 1 }
+    requires room { vec_len buf.old + length (written_integer size flags value) ≤ vec_capacity buf.old }
+    ensures items { buf.new.items ≡ buf.old.items ++ written_integer size flags value }
+    ensures capacity { vec_capacity buf.new ≡ vec_capacity buf.old }
+{
+    let most = power(size) - 1;
     buf.push_reserved(first_byte(size, flags, most));
     put_groups(value - most, buf);
 }
 
-/// The shortest spelling of a value that is one byte, under the flags, which are cut to the bits above the prefix.
+/// The shortest spelling of a value, under the flags, which are cut to the bits above the prefix, if it is one byte.
 #[inline(always)]
 #[tactic(auto, unfolding(qpack_spec::specs::Integer::written_integer))]
 pub(crate) fn short(size: u8, flags: u8, value: u64) -> Option<u8>
     requires least { 1 ≤ size }
     requires most { size ≤ 8 }
-    ensures { IfSome result (λ byte. written_integer size flags value ≡ byte ∷ []) }
+    ensures some { IfSome result (λ byte. written_integer size flags value ≡ byte ∷ []) }
+    ensures none { IfNone result (2 ^ size ≤ value + 1) }
 {
     if value >= power(size) - 1 {
         return None;

@@ -11,7 +11,6 @@ pub mod WireLaws
 pub mod StreamLineLaws
 pub mod Cuttings
 pub mod KindLaws
-pub mod Writes
 pub mod Memory
 pub mod Blocks
 pub mod NextLines

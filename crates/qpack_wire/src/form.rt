@@ -3,8 +3,8 @@
 ghost use Rattle.std.specs.Prelude.{◌≡◌, ◌≤◌, ◌++◌, IfErr};
 ghost use Rattle.qpack_spec.specs.Integer.{written_integer};
 ghost use Rattle.qpack_spec.specs.Text.{written_string};
+ghost use Rattle.qpack_base.specs.Writes.{Writes};
 ghost use Rattle.qpack_base.specs.declared.prefix_string.Error.TheVariants.{Memory as NoRoom};
-ghost use Rattle.qpack_wire.specs.Writes.{Writes};
 
 use qpack_base::{prefix_int, prefix_string};
 use std::alloc::Allocator;

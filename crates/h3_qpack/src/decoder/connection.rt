@@ -4,7 +4,7 @@ ghost use Rattle.std.specs.Prelude.{◌≡◌, Err, OnOk};
 ghost use Rattle.qpack_spec.specs.BlockReading.{reading_of_bytes};
 ghost use Rattle.qpack_spec.specs.Instruction.{Acknowledgment, Cancellation, written_decoder_instruction};
 ghost use Rattle.qpack_spec.specs.Table.{window};
-ghost use Rattle.qpack_wire.specs.Writes.{Writes};
+ghost use Rattle.qpack_base.specs.Writes.{Writes};
 ghost use Rattle.qpack_wire.specs.Memory.{AsksSectionForMemory};
 ghost use Rattle.h3_qpack.specs.Receiving.{Receives};
 ghost use Rattle.h3_qpack.specs.Sections.{DecodesSection};

@@ -6,9 +6,9 @@ ghost use Rattle.qpack_spec.specs.Handle.{insert_field, with_insertion, with_fou
 ghost use Rattle.qpack_spec.specs.Handle.{line_of as line_of_insertion, literal_at};
 ghost use Rattle.qpack_spec.specs.Line.{written_line};
 ghost use Rattle.qpack_base.specs.HeaderFields.{field_of};
+ghost use Rattle.qpack_base.specs.Writes.{Writes};
 ghost use Rattle.qpack_base.specs.declared.prefix_string.Error.TheVariants.{Memory as NoRoom};
 ghost use Rattle.qpack_table.specs.Handles.{insertion_of, lookup_of};
-ghost use Rattle.qpack_wire.specs.Writes.{Writes};
 ghost use Rattle.h3_qpack.specs.Encoding.{written_insertion, draft_at, draft_of_field, Adds, StopsAdding};
 ghost use Rattle.h3_qpack.specs.declared.encoder.EncoderError.TheVariants.{Memory};
 

@@ -2,12 +2,12 @@
 
 ghost use Rattle.std.specs.Prelude.{◌≡◌, Err};
 ghost use Rattle.qpack_spec.specs.Line.{written_line};
+ghost use Rattle.qpack_base.specs.Writes.{Writes};
 ghost use Rattle.qpack_base.specs.declared.parse_error.ParseError.TheVariants.{Memory};
 ghost use Rattle.qpack_wire.specs.Alone.{SpellsKind, RefusesKind, kind_at};
 ghost use Rattle.qpack_wire.specs.Answers.{Decodes, ReadsForm};
 ghost use Rattle.qpack_wire.specs.Lines.{indexed, indexed_with_post_base, line_of_indexed};
 ghost use Rattle.qpack_wire.specs.Lines.{line_of_indexed_with_post_base};
-ghost use Rattle.qpack_wire.specs.Writes.{Writes};
 
 use qpack_base::coding::{Cursor, NoMemory};
 use qpack_base::parse_error::ParseError;

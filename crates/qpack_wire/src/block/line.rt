@@ -2,12 +2,12 @@
 
 ghost use Rattle.std.specs.Prelude.{◌≡◌, ◌∷◌, drop, Err, IfErr};
 ghost use Rattle.qpack_spec.specs.Line.{SpellsLine, line_form, written_line};
+ghost use Rattle.qpack_base.specs.Writes.{Writes};
 ghost use Rattle.qpack_base.specs.declared.prefix_string.Error.TheVariants.{Memory as NoRoom};
 ghost use Rattle.qpack_base.specs.declared.parse_error.ParseError.TheVariants.{Memory};
 ghost use Rattle.qpack_wire.specs.Answers.{Decodes, ReadsForm};
 ghost use Rattle.qpack_wire.specs.BlockLines.{field_of_first, line_of, RefusesBlockLine, line_at};
 ghost use Rattle.qpack_wire.specs.Memory.{AsksForMemory};
-ghost use Rattle.qpack_wire.specs.Writes.{Writes};
 
 use crate::block::indexes::{
     INDEXED_DYNAMIC, INDEXED_SIZE, Indexed, IndexedWithPostBase, POST_BASE, POST_BASE_SIZE,

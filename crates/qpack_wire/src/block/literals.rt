@@ -2,6 +2,7 @@
 
 ghost use Rattle.std.specs.Prelude.{◌≡◌, Err, IfErr};
 ghost use Rattle.qpack_spec.specs.Line.{NamedStatic, NamedDynamic, NamedPostBase, Literal as LiteralLine, written_line};
+ghost use Rattle.qpack_base.specs.Writes.{Writes};
 ghost use Rattle.qpack_base.specs.declared.prefix_string.Error.TheVariants.{Memory as NoRoom};
 ghost use Rattle.qpack_base.specs.declared.parse_error.ParseError.TheVariants.{Memory};
 ghost use Rattle.qpack_wire.specs.Alone.{form_for, SpellsKind, RefusesKind, kind_at};
@@ -10,7 +11,6 @@ ghost use Rattle.qpack_wire.specs.Lines.{literal_with_name_ref, literal_with_pos
 ghost use Rattle.qpack_wire.specs.Lines.{line_of_literal_with_name_ref, line_of_literal_with_post_base_name_ref};
 ghost use Rattle.qpack_wire.specs.Lines.{line_of_literal};
 ghost use Rattle.qpack_wire.specs.Memory.{AsksForMemory, AsksAt};
-ghost use Rattle.qpack_wire.specs.Writes.{Writes};
 
 use crate::form::{VALUE_SIZE, put_index_and_value, put_name_and_value};
 use qpack_base::coding::Cursor;

@@ -3,10 +3,10 @@
 ghost use Rattle.std.specs.Prelude.{◌≡◌, ◌+◌, ◌*◌, ◌^◌, ◌<◌, ◌≤◌, Err};
 ghost use Rattle.qpack_spec.specs.Prefix.{SpellsPrefix, prefix_for, required_at, read_required, read_base, read_prefix};
 ghost use Rattle.qpack_spec.specs.Prefix.{written_prefix};
+ghost use Rattle.qpack_base.specs.Writes.{Writes};
 ghost use Rattle.qpack_base.specs.declared.parse_error.ParseError.TheVariants.{Memory};
 ghost use Rattle.qpack_wire.specs.Answers.{Decodes, ReadsForm};
 ghost use Rattle.qpack_wire.specs.Prefixes.{prefix_of, RefusesPrefix, read_prefix_at, or_prefix_error};
-ghost use Rattle.qpack_wire.specs.Writes.{Writes};
 
 use qpack_base::coding::{Cursor, NoMemory};
 use qpack_base::parse_error::ParseError;

@@ -2,6 +2,7 @@
 
 ghost use Rattle.std.specs.Prelude.{◌≡◌, Err};
 ghost use Rattle.qpack_spec.specs.Instruction.{written_decoder_instruction};
+ghost use Rattle.qpack_base.specs.Writes.{Writes};
 ghost use Rattle.qpack_base.specs.declared.parse_error.ParseError.TheVariants.{Memory};
 ghost use Rattle.qpack_wire.specs.Alone.{SpellsKind, RefusesKind, kind_at};
 ghost use Rattle.qpack_wire.specs.Answers.{ReadsForm};
@@ -10,7 +11,6 @@ ghost use Rattle.qpack_wire.specs.Instructions.{insert_count_increment, header_a
 ghost use Rattle.qpack_wire.specs.Instructions.{decoder_instruction_of_insert_count_increment};
 ghost use Rattle.qpack_wire.specs.Instructions.{decoder_instruction_of_header_ack};
 ghost use Rattle.qpack_wire.specs.Instructions.{decoder_instruction_of_stream_cancel};
-ghost use Rattle.qpack_wire.specs.Writes.{Writes};
 
 use crate::stream::ends::or_none;
 use qpack_base::coding::{Cursor, NoMemory};

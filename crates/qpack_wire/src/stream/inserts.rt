@@ -3,6 +3,7 @@
 ghost use Rattle.std.specs.Prelude.{◌≡◌, Err, IfErr};
 ghost use Rattle.qpack_spec.specs.Instruction.{InsertStaticName, InsertDynamicName, InsertLiteralName};
 ghost use Rattle.qpack_spec.specs.Instruction.{written_encoder_instruction};
+ghost use Rattle.qpack_base.specs.Writes.{Writes};
 ghost use Rattle.qpack_base.specs.declared.prefix_string.Error.TheVariants.{Memory as NoRoom};
 ghost use Rattle.qpack_base.specs.declared.parse_error.ParseError.TheVariants.{Memory};
 ghost use Rattle.qpack_wire.specs.Alone.{form_for, SpellsKind, RefusesKind, kind_at};
@@ -12,7 +13,6 @@ ghost use Rattle.qpack_wire.specs.Instructions.{insert_with_name_ref, insert_wit
 ghost use Rattle.qpack_wire.specs.Instructions.{encoder_instruction_of_insert_with_name_ref};
 ghost use Rattle.qpack_wire.specs.Instructions.{encoder_instruction_of_insert_without_name_ref};
 ghost use Rattle.qpack_wire.specs.Memory.{AsksForMemory, AsksAt};
-ghost use Rattle.qpack_wire.specs.Writes.{Writes};
 
 use crate::form::{VALUE_SIZE, put_index_and_value, put_name_and_value};
 use crate::stream::ends::or_none;

@@ -1,12 +1,12 @@
 //! Reading a stream line by line, however it is cut into pieces.
 
 ghost use Rattle.std.specs.Prelude.{◌≡◌, ℕ, List, Result, Err};
+ghost use Rattle.qpack_base.specs.Writes.{Writes};
 ghost use Rattle.qpack_base.specs.declared.parse_error.ParseError.TheVariants.{Memory};
 ghost use Rattle.qpack_wire.specs.Alone.{KindFault};
 ghost use Rattle.qpack_wire.specs.StreamAnswers.{DecodesInstruction, StaysUnlessRead, ReadsStream};
 ghost use Rattle.qpack_wire.specs.WireLaws.{WrittenIsSpelled, WrittenIsReadBack, SpellingsHaveOneInstruction};
 ghost use Rattle.qpack_wire.specs.WireLaws.{NoInstructionBeginsAnother};
-ghost use Rattle.qpack_wire.specs.Writes.{Writes};
 
 use qpack_base::coding::{Cursor, NoMemory};
 use qpack_base::parse_error::ParseError;

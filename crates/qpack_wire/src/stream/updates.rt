@@ -2,13 +2,13 @@
 
 ghost use Rattle.std.specs.Prelude.{◌≡◌, Err};
 ghost use Rattle.qpack_spec.specs.Instruction.{written_encoder_instruction};
+ghost use Rattle.qpack_base.specs.Writes.{Writes};
 ghost use Rattle.qpack_base.specs.declared.parse_error.ParseError.TheVariants.{Memory};
 ghost use Rattle.qpack_wire.specs.Alone.{SpellsKind, RefusesKind, kind_at};
 ghost use Rattle.qpack_wire.specs.Answers.{ReadsForm};
 ghost use Rattle.qpack_wire.specs.StreamAnswers.{DecodesInstruction, ReadsStream};
 ghost use Rattle.qpack_wire.specs.Instructions.{duplicate, dynamic_table_size_update, encoder_instruction_of_duplicate};
 ghost use Rattle.qpack_wire.specs.Instructions.{encoder_instruction_of_dynamic_table_size_update};
-ghost use Rattle.qpack_wire.specs.Writes.{Writes};
 
 use crate::stream::ends::or_none;
 use qpack_base::coding::{Cursor, NoMemory};

@@ -30,4 +30,4 @@ returns-clause-done g c = λ done.
     ) in
     literal_headed c.args.size c.args.flags (c.len.result - c.len-start.result - 1) c.len-start.result c.in-Some.head
     value old.items pushed.items put.items start c.push_reserved.ensures.items c.put_payload.ensures.items len
-    c.in-Some.ensures
+    c.in-Some.ensures.some

@@ -1,4 +1,4 @@
--- What the writers of a line, an instruction or a prefix leave in the vector.
+-- What a writer of an integer, a string, a line, an instruction or a prefix leaves in the vector.
 use Rattle.std.specs.Prelude.{◌≡◌, ℕ, ◌+◌, ◌≤◌, List, ◌++◌, length, vec_len, vec_capacity, Result, OnOk, OnErr, IsOk}
 use Rattle.std.specs.declared.vec.Vec.{Vec}
 
