@@ -54,6 +54,7 @@ impl StaticTable {
     }
 
     /// The equal field, or else the first one with the name, in one search.
+    #[inline(always)]
     pub fn lookup(name: &[u8], value: &[u8]) -> Option<StaticMatch>
         ensures { result ≡ match_of (static_index (field name.now value.now)) (static_name_index name.now) }
     {
