@@ -16,6 +16,7 @@ const VALUE_FLAGS: u8 = 0;
 
 /// Appends an index, with a prefix of `size` bits under the flags, and a value. Refused, the vector is
 /// as before.
+#[inline(always)]
 pub(crate) fn put_index_and_value<A: Allocator>(
     size: u8,
     flags: u8,
@@ -39,6 +40,7 @@ pub(crate) fn put_index_and_value<A: Allocator>(
 
 /// Appends a name, with a prefix of `size` bits under the flags, and a value. Refused, the vector is
 /// as before.
+#[inline(always)]
 pub(crate) fn put_name_and_value<A: Allocator>(
     size: u8,
     flags: u8,

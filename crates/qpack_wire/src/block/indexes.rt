@@ -38,6 +38,7 @@ pub enum Indexed {
 impl Indexed {
     /// Reads such a line at the cursor. Takes no memory. Where it is refused, the cursor's place is
     /// not told.
+    #[inline(always)]
     pub fn decode(buf: &mut Cursor) -> Result<Indexed, ParseError>
         ensures decodes { Decodes line_of_indexed (SpellsKind indexed) (RefusesKind indexed) buf.old buf.new result }
         ensures no_memory { result ≡ Err Memory → ⊥ }
@@ -49,6 +50,7 @@ impl Indexed {
 
     /// Appends the written spelling of the line. Refused, the vector is as before; with free room for
     /// the spelling it succeeds and takes no memory.
+    #[inline(always)]
     #[tactic(auto, unfolding(qpack_spec::specs::Line::written_line))]
     pub fn encode<A: Allocator>(&self, buf: &mut Vec<u8, A>) -> Result<(), NoMemory>
         ensures writes { Writes (written_line (line_of_indexed self.now)) buf.old buf.new result }
@@ -64,6 +66,7 @@ impl Indexed {
     }
 }
 
+#[inline(always)]
 #[tactic(auto, unfolding(crate::specs::Alone::kind_at, qpack_spec::specs::Form::made_at))]
 fn read_indexed(buf: &mut Cursor) -> Result<Indexed, ParseError>
     ensures exact { ReadsForm line_of_indexed buf.old buf.new result (kind_at indexed buf.old.rest) }
@@ -92,6 +95,7 @@ pub struct IndexedWithPostBase(pub usize);
 impl IndexedWithPostBase {
     /// Reads such a line at the cursor. Takes no memory. Where it is refused, the cursor's place is
     /// not told.
+    #[inline(always)]
     pub fn decode(buf: &mut Cursor) -> Result<IndexedWithPostBase, ParseError>
         ensures decodes { Decodes line_of_indexed_with_post_base (SpellsKind indexed_with_post_base)
             (RefusesKind indexed_with_post_base) buf.old buf.new result }
@@ -105,6 +109,7 @@ impl IndexedWithPostBase {
 
     /// Appends the written spelling of the line. Refused, the vector is as before; with free room for
     /// the spelling it succeeds and takes no memory.
+    #[inline(always)]
     #[tactic(auto, unfolding(qpack_spec::specs::Line::written_line))]
     pub fn encode<A: Allocator>(&self, buf: &mut Vec<u8, A>) -> Result<(), NoMemory>
         ensures writes { Writes (written_line (line_of_indexed_with_post_base self.now)) buf.old buf.new result }
@@ -113,6 +118,7 @@ impl IndexedWithPostBase {
     }
 }
 
+#[inline(always)]
 #[tactic(auto, unfolding(crate::specs::Alone::kind_at, qpack_spec::specs::Form::made_at))]
 fn read_indexed_with_post_base(buf: &mut Cursor) -> Result<IndexedWithPostBase, ParseError>
     ensures exact { ReadsForm line_of_indexed_with_post_base buf.old buf.new result

@@ -75,6 +75,7 @@ pub enum BlockLine {
 impl BlockLine {
     /// Reads the line at the cursor, in the form that its first byte names. Where it is refused, the
     /// cursor's position is unspecified.
+    #[inline(always)]
     pub fn decode(alloc: Global, buf: &mut Cursor) -> Result<BlockLine, ParseError>
         ensures decodes { Decodes line_of SpellsLine RefusesBlockLine buf.old buf.new result }
         // Memory is refused only where a string whose payload is not empty stands whole.
@@ -101,6 +102,7 @@ impl BlockLine {
     }
 }
 
+#[inline(always)]
 #[tactic(auto, using(crate::proofs::BlockLines::line_of_nothing))]
 fn read_line(alloc: Global, buf: &mut Cursor) -> Result<BlockLine, ParseError>
     ensures exact { ReadsForm line_of buf.old buf.new result (line_at buf.old.rest) }
@@ -113,6 +115,7 @@ fn read_line(alloc: Global, buf: &mut Cursor) -> Result<BlockLine, ParseError>
 }
 
 /// Reads the line, which begins with this byte.
+#[inline(always)]
 #[tactic(auto, using(crate::proofs::BlockLines::lines_by_first))]
 fn read_line_of(alloc: Global, first: u8, buf: &mut Cursor) -> Result<BlockLine, ParseError>
     requires { buf.old.rest ≡ first ∷ drop 1 buf.old.rest }

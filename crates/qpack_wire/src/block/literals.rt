@@ -74,6 +74,7 @@ impl LiteralWithNameRef {
     }
 
     /// Reads such a line at the cursor. On error the cursor's position is unspecified.
+    #[inline(always)]
     pub fn decode(alloc: Global, buf: &mut Cursor) -> Result<LiteralWithNameRef, ParseError>
         ensures decodes { Decodes line_of_literal_with_name_ref (SpellsKind literal_with_name_ref)
             (RefusesKind literal_with_name_ref) buf.old buf.new result }
@@ -104,6 +105,7 @@ impl LiteralWithNameRef {
 
     /// Appends the written spelling of a line with a borrowed value behind a name of the static table, as
     /// `encode` does.
+    #[inline(always)]
     #[tactic(auto, unfolding(qpack_spec::specs::Line::written_line))]
     pub fn write_static<A: Allocator>(
         index: usize,
@@ -118,6 +120,7 @@ impl LiteralWithNameRef {
 
     /// Appends the written spelling of a line with a borrowed value behind a name of the dynamic table, as
     /// `encode` does.
+    #[inline(always)]
     #[tactic(auto, unfolding(qpack_spec::specs::Line::written_line))]
     pub fn write_dynamic<A: Allocator>(
         index: usize,
@@ -131,6 +134,7 @@ impl LiteralWithNameRef {
     }
 }
 
+#[inline(always)]
 #[tactic(auto, unfolding(crate::specs::Alone::kind_at, qpack_spec::specs::Form::made_at))]
 fn read_literal_with_name_ref(
     alloc: Global,
@@ -188,6 +192,7 @@ impl LiteralWithPostBaseNameRef {
     }
 
     /// Reads such a line at the cursor. On error the cursor's position is unspecified.
+    #[inline(always)]
     pub fn decode(alloc: Global, buf: &mut Cursor) -> Result<LiteralWithPostBaseNameRef, ParseError>
         ensures decodes { Decodes line_of_literal_with_post_base_name_ref (SpellsKind literal_with_post_base_name_ref)
             (RefusesKind literal_with_post_base_name_ref) buf.old buf.new result }
@@ -211,6 +216,7 @@ impl LiteralWithPostBaseNameRef {
     }
 
     /// Appends the written spelling of a line with a borrowed value, as `encode` does.
+    #[inline(always)]
     #[tactic(auto, unfolding(qpack_spec::specs::Line::written_line))]
     pub fn write<A: Allocator>(
         index: usize,
@@ -230,6 +236,7 @@ impl LiteralWithPostBaseNameRef {
     }
 }
 
+#[inline(always)]
 #[tactic(auto, unfolding(crate::specs::Alone::kind_at, qpack_spec::specs::Form::made_at))]
 fn read_literal_with_post_base_name_ref(
     alloc: Global,
@@ -286,6 +293,7 @@ impl Literal {
 
     /// Reads such a line at the cursor. A first byte of another form is refused whole, before
     /// anything is read. On error the cursor's position is unspecified.
+    #[inline(always)]
     pub fn decode(alloc: Global, buf: &mut Cursor) -> Result<Literal, ParseError>
         ensures decodes { Decodes line_of_literal (SpellsKind literal) (RefusesKind literal) buf.old buf.new result }
         // Memory is refused only where a string whose payload is not empty stands whole.
@@ -306,6 +314,7 @@ impl Literal {
     }
 
     /// Appends the written spelling of a line with a borrowed name and value, as `encode` does.
+    #[inline(always)]
     #[tactic(auto, unfolding(qpack_spec::specs::Line::written_line))]
     pub fn write<A: Allocator>(
         name: &[u8],
@@ -319,6 +328,7 @@ impl Literal {
     }
 }
 
+#[inline(always)]
 #[tactic(auto, unfolding(crate::specs::Alone::kind_at, qpack_spec::specs::Form::made_at))]
 fn read_literal(alloc: Global, buf: &mut Cursor) -> Result<Literal, ParseError>
     ensures exact { ReadsForm line_of_literal buf.old buf.new result (kind_at literal buf.old.rest) }
