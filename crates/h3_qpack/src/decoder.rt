@@ -176,7 +176,7 @@ impl<T: Drop> From<AllocFailed<T>> for DecoderError {
     }
 }
 
-/// DecodesStateless the block that the cursor has left without a dynamic table, up to a sum of sizes. The
+/// Decodes the block that the cursor has left without a dynamic table, up to a sum of sizes. The
 /// block's prefix is read, and means nothing here.
 pub fn decode_stateless(
     alloc: Global,
