@@ -157,6 +157,17 @@ fn a_literal_may_name_an_entry_behind_the_base(rt: HostRuntime) -> Result<(), Fa
 }
 
 #[test]
+fn an_entry_of_the_block_in_progress_stays(rt: HostRuntime) -> Result<(), Fail> {
+    const SECTIONS: &[Section] = &[(
+        b"",
+        4,
+        &[FOO_BAR, BAZ_BAR],
+        (1, b"0280102b8c7eff838c767f", b"6294e7838c767f"),
+    )];
+    writes(rt.alloc(), (38, 1), SECTIONS)
+}
+
+#[test]
 fn an_entry_is_held_until_it_is_received(rt: HostRuntime) -> Result<(), Fail> {
     const SECTIONS: &[Section] = &[
         (b"", 4, &[FOO_BAR], (1, b"028010", b"6294e7838c767f")),
