@@ -36,8 +36,7 @@ pub enum Indexed {
 }
 
 impl Indexed {
-    /// Reads such a line at the cursor. Takes no memory. Where it is refused, the cursor's place is
-    /// not told.
+    /// Reads such a line at the cursor. Takes no memory. On error the cursor's position is unspecified.
     #[inline(always)]
     pub fn decode(buf: &mut Cursor) -> Result<Indexed, ParseError>
         ensures decodes { Decodes line_of_indexed (SpellsKind indexed) (RefusesKind indexed) buf.old buf.new result }
@@ -93,8 +92,7 @@ pub(crate) const POST_BASE: u8 = 0b0001;
 pub struct IndexedWithPostBase(pub usize);
 
 impl IndexedWithPostBase {
-    /// Reads such a line at the cursor. Takes no memory. Where it is refused, the cursor's place is
-    /// not told.
+    /// Reads such a line at the cursor. Takes no memory. On error the cursor's position is unspecified.
     #[inline(always)]
     pub fn decode(buf: &mut Cursor) -> Result<IndexedWithPostBase, ParseError>
         ensures decodes { Decodes line_of_indexed_with_post_base (SpellsKind indexed_with_post_base)

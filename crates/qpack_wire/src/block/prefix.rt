@@ -75,8 +75,7 @@ impl HeaderPrefix {
         }
     }
 
-    /// Reads a prefix at the cursor. Takes no memory. Where it is refused, the cursor's place is not
-    /// told.
+    /// Reads a prefix at the cursor. Takes no memory. On error the cursor's position is unspecified.
     pub fn decode(buf: &mut Cursor) -> Result<HeaderPrefix, ParseError>
         ensures decodes { Decodes prefix_of SpellsPrefix RefusesPrefix buf.old buf.new result }
         ensures no_memory { result ≡ Err Memory → ⊥ }

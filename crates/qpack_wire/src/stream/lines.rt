@@ -39,7 +39,7 @@ pub trait Wire: Sized + Drop {
     ghost asks_for_memory: { List ℕ → Type 0 };
 
     /// Reads the line at the cursor, or none of a truncated one. Where none is read, the cursor's
-    /// place is not told.
+    /// position is unspecified.
     fn decode(alloc: Global, buf: &mut Cursor) -> Result<Option<Self>, ParseError>
         ensures decodes { DecodesInstruction line_of spells refuses buf.old buf.new result }
         ensures memory { result ≡ Err Memory → asks_for_memory buf.old.rest }
