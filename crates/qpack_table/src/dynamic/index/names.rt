@@ -13,6 +13,7 @@ ghost use Rattle.qpack_table.specs.Indexes.{AreHashesOf, AreNamesOf, HasRoomForL
 
 use crate::dynamic::entry::Entry;
 use crate::dynamic::index::hash::{Hashes, hash_name, place_of};
+use qpack_base::bytes::same;
 use std::alloc::{AllocError, Global};
 use std::collections::VecDeque;
 
@@ -22,7 +23,7 @@ fn is_named(entry: &Entry, hashes: Hashes, name: &[u8], hash: u32) -> bool
     requires hash { hash ≡ name_hash name.now }
     ensures { IsTrue result ↔ ((field_of entry.now.field).name ≡ name.now) }
 {
-    hashes.name == hash && entry.field.name.as_slice() == name
+    hashes.name == hash && same(entry.field.name.as_slice(), name)
 }
 
 /// What is kept of a live entry beside it.
