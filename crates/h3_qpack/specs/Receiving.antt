@@ -13,10 +13,12 @@ use Rattle.qpack_spec.specs.Instruction.{RefusesEncoderInstruction, written_deco
 use Rattle.qpack_spec.specs.StaticTable.{static_table}
 use Rattle.qpack_spec.specs.Stream.{Joined}
 use Rattle.qpack_spec.specs.Session.{apply_encoder_instructions, is_consumed, increments, sum_of, IsPiece}
-use Rattle.qpack_spec.specs.Table.{Table, window, insert_count, apply_encoder_instruction}
+use Rattle.qpack_spec.specs.Table.{Table, window, insert_count, apply_encoder_instruction, put}
 use Rattle.qpack_spec.specs.Window.{TableRefusal, NoEntry, NoStaticField, DoesNotFit, AboveMaximum, UnknownStream}
 use Rattle.qpack_spec.specs.Window.{relative_entry, with_value}
+use Rattle.qpack_base.specs.HeaderFields.{field_of}
 use Rattle.qpack_base.specs.Refusals.{IsRefusedFor}
+use Rattle.qpack_base.specs.declared.field.HeaderField.{HeaderField}
 use Rattle.qpack_table.specs.declared.dynamic.Error.TheVariants.{BadRelativeIndex, MaxTableSizeReached}
 use Rattle.qpack_table.specs.declared.dynamic.Error.TheVariants.{MaximumTableSizeTooLarge, UnknownStreamId}
 use Rattle.qpack_wire.specs.Memory.{AsksForMemory}
@@ -54,6 +56,12 @@ field_to_insert t (InsertDynamicName relative value) = option_map (λ f. with_va
 field_to_insert t (InsertLiteralName name value) = Some (record { name = name; value = value })
 field_to_insert t (Duplicate relative) = relative_entry (window t) relative
 field_to_insert t (SetCapacity capacity) = None
+
+-- the field that an instruction is to insert was found; or it is refused as the instruction is, or memory is
+abbrev pub FindsField : Table → EncoderInstruction → Result HeaderField DecoderError → Type 0
+FindsField t i (Ok field) = IsSome (field_to_insert t i) × (apply_encoder_instruction t i ≡ put t (field_of field))
+FindsField t i (Err Memory) = IsSome (field_to_insert t i)
+FindsField t i (Err e) = IsRefusedFor (apply_encoder_instruction t i) (refusal_of e)
 
 -- memory may be asked for: a string of the next instruction stands whole, or a field is to be inserted
 abbrev pub AsksToTake : Table → List ℕ → Type 0

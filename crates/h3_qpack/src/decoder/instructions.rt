@@ -1,11 +1,12 @@
 //! Encoder instructions, as a decoder takes them (RFC 9204, section 4.3).
 
 ghost use Rattle.std.specs.Prelude.{◌≡◌, ◌<◌, Err, IsSome, IsTrue, OnOk, OnErr};
-ghost use Rattle.qpack_spec.specs.Instruction.{written_decoder_instructions};
+ghost use Rattle.qpack_spec.specs.Instruction.{Duplicate as DuplicateOf, written_decoder_instructions};
 ghost use Rattle.qpack_spec.specs.Table.{apply_encoder_instruction, put, with_capacity};
 ghost use Rattle.qpack_base.specs.HeaderFields.{field_of};
+ghost use Rattle.qpack_wire.specs.Instructions.{encoder_instruction_of_insert_with_name_ref};
 ghost use Rattle.qpack_wire.specs.StreamLines.{encoder_instruction_of};
-ghost use Rattle.h3_qpack.specs.Receiving.{Applies, field_to_insert, TakesNext, TakesInstructions, Reports};
+ghost use Rattle.h3_qpack.specs.Receiving.{Applies, field_to_insert, FindsField, TakesNext, TakesInstructions, Reports};
 ghost use Rattle.h3_qpack.specs.Receiving.{is_passed};
 ghost use Rattle.h3_qpack.specs.declared.decoder.DecoderError.TheVariants.{Memory};
 ghost use Rattle.h3_qpack.specs.declared.decoder.DecoderError.TheVariants.{DynamicTable as DynamicTableError};
@@ -85,25 +86,44 @@ fn apply(table: &mut DynamicTable, line: EncoderLine) -> Result<(), DecoderError
     ensures memory { result ≡ Err Memory → IsSome (field_to_insert table.old (encoder_instruction_of line)) }
 {
     match line {
-        EncoderLine::InsertWithNameRef(InsertWithNameRef::Static { index, value }) => {
-            let field = StaticTable::get(index)?.with_value(value)?;
-            insert(table, field)
-        }
-        EncoderLine::InsertWithNameRef(InsertWithNameRef::Dynamic { index, value }) => {
-            let field = table.get_relative(index)?.with_value(value)?;
+        EncoderLine::InsertWithNameRef(line) => {
+            let field = with_name(table, line)?;
             insert(table, field)
         }
         EncoderLine::InsertWithoutNameRef(InsertWithoutNameRef { name, value }) => {
             insert(table, HeaderField::new(name, value))
         }
         EncoderLine::Duplicate(Duplicate(index)) => {
-            let field = table.get_relative(index)?.clone()?;
+            let field = duplicated(table, index)?;
             insert(table, field)
         }
         EncoderLine::DynamicTableSizeUpdate(DynamicTableSizeUpdate(size)) => {
             set_capacity(table, size)
         }
     }
+}
+
+/// The field that an insertion with a name reference asks for (RFC 9204, section 4.3.2).
+#[tactic(auto, unfolding(qpack_spec::specs::Table::apply_encoder_instruction))]
+fn with_name(table: &DynamicTable, line: InsertWithNameRef) -> Result<HeaderField, DecoderError>
+    ensures { FindsField table.now (encoder_instruction_of_insert_with_name_ref line) result }
+{
+    match line {
+        InsertWithNameRef::Static { index, value } => {
+            Ok(StaticTable::get(index)?.with_value(value)?)
+        }
+        InsertWithNameRef::Dynamic { index, value } => {
+            Ok(table.get_relative(index)?.with_value(value)?)
+        }
+    }
+}
+
+/// The field that a duplicate asks for (RFC 9204, section 4.3.4).
+#[tactic(auto, unfolding(qpack_spec::specs::Table::apply_encoder_instruction))]
+fn duplicated(table: &DynamicTable, index: usize) -> Result<HeaderField, DecoderError>
+    ensures { FindsField table.now (DuplicateOf index) result }
+{
+    Ok(table.get_relative(index)?.clone()?)
 }
 
 /// Puts a field. Refused, nothing changes.

@@ -6,6 +6,7 @@ ghost use Rattle.qpack_spec.specs.BlockReading.{fields_in_bytes, reading_of_byte
 ghost use Rattle.qpack_spec.specs.Reading.{line_field};
 ghost use Rattle.qpack_spec.specs.Table.{window};
 ghost use Rattle.qpack_wire.specs.BlockLines.{line_of};
+ghost use Rattle.qpack_wire.specs.Lines.{line_of_indexed, line_of_literal_with_name_ref};
 ghost use Rattle.qpack_wire.specs.Memory.{AsksLine, AsksSectionForMemory};
 ghost use Rattle.h3_qpack.specs.Sections.{DecodesSection, GivesLineField, ReadsField, ReadsFields, field_at};
 ghost use Rattle.h3_qpack.specs.Stateless.{IsFinished};
@@ -84,23 +85,50 @@ fn read_field(
 }
 
 /// The field that a line means (RFC 9204, sections 4.5.2 to 4.5.6).
-#[tactic(auto, unfolding(qpack_spec::specs::Reading::line_field, qpack_spec::specs::Reading::static_field))]
+#[tactic(auto, unfolding(qpack_spec::specs::Reading::line_field))]
 fn field_of_line(table: &DynamicTableDecoder, line: BlockLine) -> Result<HeaderField, DecoderError>
     ensures { GivesLineField result (line_field (window table.now.table.now) table.now.base (line_of line)) }
 {
     match line {
-        BlockLine::Indexed(Indexed::Static(index)) => Ok(StaticTable::get(index)?),
-        BlockLine::Indexed(Indexed::Dynamic(index)) => Ok(table.get_relative(index)?.clone()?),
+        BlockLine::Indexed(line) => field_of_indexed(table, line),
         BlockLine::IndexedWithPostBase(line) => Ok(table.get_postbase(line.0)?.clone()?),
-        BlockLine::LiteralWithNameRef(LiteralWithNameRef::Static { index, value }) => {
-            Ok(StaticTable::get(index)?.with_value(value)?)
-        }
-        BlockLine::LiteralWithNameRef(LiteralWithNameRef::Dynamic { index, value }) => {
-            Ok(table.get_relative(index)?.with_value(value)?)
-        }
+        BlockLine::LiteralWithNameRef(line) => field_of_literal_with_name_ref(table, line),
         BlockLine::LiteralWithPostBaseNameRef(LiteralWithPostBaseNameRef { index, value }) => {
             Ok(table.get_postbase(index)?.with_value(value)?)
         }
         BlockLine::Literal(Literal { name, value }) => Ok(HeaderField::new(name, value)),
+    }
+}
+
+/// The field that an indexed field line means.
+#[inline(always)]
+#[tactic(auto, unfolding(qpack_spec::specs::Reading::line_field, qpack_spec::specs::Reading::static_field))]
+fn field_of_indexed(table: &DynamicTableDecoder, line: Indexed) -> Result<HeaderField, DecoderError>
+    ensures { GivesLineField result
+        (line_field (window table.now.table.now) table.now.base (line_of_indexed line)) }
+{
+    match line {
+        Indexed::Static(index) => Ok(StaticTable::get(index)?),
+        Indexed::Dynamic(index) => Ok(table.get_relative(index)?.clone()?),
+    }
+}
+
+/// The field that a literal field line with a name reference means.
+#[inline(always)]
+#[tactic(auto, unfolding(qpack_spec::specs::Reading::line_field, qpack_spec::specs::Reading::static_field))]
+fn field_of_literal_with_name_ref(
+    table: &DynamicTableDecoder,
+    line: LiteralWithNameRef,
+) -> Result<HeaderField, DecoderError>
+    ensures { GivesLineField result
+        (line_field (window table.now.table.now) table.now.base (line_of_literal_with_name_ref line)) }
+{
+    match line {
+        LiteralWithNameRef::Static { index, value } => {
+            Ok(StaticTable::get(index)?.with_value(value)?)
+        }
+        LiteralWithNameRef::Dynamic { index, value } => {
+            Ok(table.get_relative(index)?.with_value(value)?)
+        }
     }
 }
