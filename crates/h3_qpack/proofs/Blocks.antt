@@ -1,16 +1,17 @@
 -- Blocks that a stream keeps.
 use Rattle.std.proofs.Common.{◌≡◌, ℕ, List, [], ◌∷◌, ◌++◌, length, take, filter, length-append}
-use Rattle.std.proofs.Common.{zero, suc, subst, refl, sym, ap}
+use Rattle.std.proofs.Common.{subst, refl, sym, ap}
 use Rattle.std.proofs.Common.{◌∙◌, arith, inl, inr, IsSome, Some, Result, Ok, Err, IfOk, OnErr, nat_eq}
-use Rattle.std.proofs.Common.{if◌then◌else◌}
 use Rattle.std.proofs.iter.Yields.{fronts}
 use Rattle.std.proofs.lemmas.List.{take-append-le}
 use Rattle.std.proofs.lemmas.Bool.Decides.{nat_tests}
+use Rattle.std.proofs.Math.Seq.{take-nil}
 use Rattle.std.specs.BTreeMap.{BTreeMap, is_at, WritesThrough}
 use Rattle.std.specs.Map.{lookup}
 use Rattle.std.specs.Ordering.{nat_cmp}
 use Rattle.std.specs.Slice.Iter.{iter_rest}
 use Rattle.std.specs.declared.slice.Iter.{Iter}
+use Rattle.std.specs.Prelude.{if◌then◌else◌}
 use Rattle.qpack_spec.specs.Field.{Field}
 use Rattle.qpack_spec.specs.Instruction.{written_encoder_instructions}
 use Rattle.qpack_spec.specs.Rule.{rule}
@@ -58,20 +59,15 @@ encodes_slice number s xs old new block block' told told' required e empty d =
     (subst (λ (fs : List Field). EncodesBlock number fs old new block block' told told' required)
     (fields_from_slice s xs d.0 e d.1) d.2)
 
--- no field is taken of none
-take_none : {X : Type 0} (n : ℕ) → take {A = X} n [] ≡ []
-take_none zero = refl
-take_none (suc n) = refl
-
 -- a block that was given up before its fields were gathered was given up behind none of them
 given_up_at_once : (fs : List Field) (old new : Table) (told told' : List ℕ) → GivesUpBlock [] old new told told'
     → GivesUpBlock fs old new told told'
 given_up_at_once fs old new told told' g =
     record {
       many = 0;
-      table = subst (λ (l : List Field). new ≡ without_references (rule old l).table) (take_none g.many) g.table;
+      table = subst (λ (l : List Field). new ≡ without_references (rule old l).table) (take-nil g.many) g.table;
       told = subst (λ (l : List Field). told' ≡ told ++ written_encoder_instructions (rule old l).instructions)
-          (take_none g.many) g.told;
+          (take-nil g.many) g.told;
     }
 
 pub stops_slice : (s : Iter HeaderField) (xs : List HeaderField) (old new : Table) (told told' : List ℕ)

@@ -13,9 +13,7 @@ use Rattle.h3_qpack.specs.declared.decoder.DecoderError.TheVariants.{MissingRefs
 use Rattle.h3_qpack.specs.Stateless.{fault_of, FailsStateless, DecodesStateless, Tells, GivesFields, GivesFault}
 use Rattle.h3_qpack.specs.Stateless.{FindsFields}
 use Rattle.h3_qpack.specs.Stateless.{FindsFault, fields_in}
-
-abbrev good : List Field → Result (List Field) StatelessFault
-good fs = Ok fs
+use Rattle.h3_qpack.proofs.ReadLines.{good}
 
 -- no error but want of memory tells of fields
 no_fault : (e : DecoderError) (fs : List Field) → FailsStateless e (good fs) → e ≡ Memory

@@ -5,14 +5,13 @@ use Rattle.std.proofs.Common.{append_assoc, append-nil, length-append, inl, inr,
 use Rattle.std.specs.Prelude.{slice_get}
 use Rattle.std.proofs.lemmas.Bool.{lt-ltb, le-ltb}
 use Rattle.qpack_spec.specs.Bytes.{Begins, ◌>>=◌}
-use Rattle.qpack_spec.specs.Field.{Field, field_size, total_size}
+use Rattle.qpack_spec.specs.Field.{Field, field_size}
 use Rattle.qpack_spec.specs.Form.{FormFault, form_at}
 use Rattle.qpack_spec.specs.Line.{Line, line_form}
 use Rattle.qpack_spec.specs.Stateless.{StatelessFault, NamesEntry, TooLong, saturated_size, stateless_field}
 use Rattle.qpack_spec.specs.Stateless.{or_bad_bytes}
 use Rattle.qpack_spec.specs.Stateless.{within_limit, stateless_at}
 use Rattle.qpack_spec.proofs.Results.{bind_ok, chosen, ok_is, ok_pair}
-use Rattle.qpack_spec.proofs.Sizes.{total_last}
 use Rattle.qpack_spec.proofs.FormLaws.{TakesSpelling, form_takes}
 use Rattle.qpack_base.specs.declared.field.HeaderField.{HeaderField}
 use Rattle.qpack_base.specs.HeaderFields.{field_of}
@@ -213,9 +212,6 @@ turn_good k limit sum rest b front whole f more fits is at read low =
 pub told_is : (sum size told held now : ℕ) → held ≡ saturated_size sum → told ≡ min size (2 ^ 64 - 1)
     → now ≡ min (held + told) (2 ^ 64 - 1) → now ≡ saturated_size (sum + size)
 told_is sum size told held now h t n = rw (n, h, t) (omega arith)
-
-pub total_more : (fs : List Field) (f : Field) → total_size (fs ++ f ∷ []) ≡ total_size fs + field_size f
-total_more fs f = total_last fs f
 
 pub fields_more : (xs : List HeaderField) (x : HeaderField) → fields_in (xs ++ x ∷ []) ≡ fields_in xs ++ field_of x ∷ []
 fields_more [] x = refl

@@ -17,6 +17,7 @@ use Rattle.qpack_spec.proofs.Drafts.{room}
 use Rattle.qpack_spec.proofs.Positions.{newest_found}
 use Rattle.qpack_spec.proofs.Sizes.{total_first}
 use Rattle.qpack_spec.proofs.Windows.{eviction_count_fits, size_least}
+use Rattle.qpack_table.proofs.Greatest.{greatest_none}
 use Rattle.h3_qpack.specs.Encoding.{draft_at, draft_of_fields}
 
 -- the live entries fit so many bytes, and an entry does if one is referenced
@@ -111,10 +112,6 @@ fits_fields : (most base : ℕ) (d : Draft) (fs : List Field) → Fits most d.ta
 fits_fields most base d [] k = k
 fits_fields most base d (f ∷ fs) k = fits_fields most base (handle_field base d f) fs (fits_field most base d f k)
 
-none_referenced : greatest_of [] ≡ 0
-unfolding greatest_of
-none_referenced = omega arith
-
 -- a block that references an entry has a maximum capacity of 32 at least
 pub room_referenced : (most base : ℕ) (t : Table) (fs : List Field) (new : Table) → t.referenced ≡ []
     → t.capacity ≤ most → total_size (fields_in t.live) ≤ most → new ≡ (draft_of_fields t base fs).table
@@ -123,6 +120,6 @@ room_referenced most base t fs new begins capacity live is =
     let k : Fits most t = record {
       capacity = capacity;
       live = live;
-      roomy = λ h. absurd (omega (arith, h, ap greatest_of begins, none_referenced));
+      roomy = λ h. absurd (omega (arith, h, ap greatest_of begins, greatest_none));
     } in
     rw is ((fits_fields most base (draft_at t) fs k).roomy)

@@ -4,7 +4,7 @@ use Rattle.std.proofs.Common.{Err, refl, sym, ap, ◌∙◌, subst, inl, inr, �
 use Rattle.std.specs.List.{AllByRecursion}
 use Rattle.std.specs.Prelude.{nat_le}
 use Rattle.std.proofs.lemmas.Bool.{cond_both, le-leb, leb-true}
-use Rattle.std.proofs.lemmas.List.{append_assoc, length-map, drop-map}
+use Rattle.std.proofs.lemmas.List.{append_assoc, drop-map}
 use Rattle.qpack_spec.specs.Field.{Field}
 use Rattle.qpack_spec.specs.Instruction.{SetCapacity}
 use Rattle.qpack_spec.specs.Window.{Window, greatest_capacity, eviction_count, TableRefusal, DoesNotFit, AboveMaximum}
@@ -16,8 +16,8 @@ use Rattle.qpack_spec.specs.Table.{with_capacity}
 use Rattle.qpack_spec.specs.Session.{stream_at}
 use Rattle.qpack_safety.specs.AbstractSession.{AbstractSession, after_resize}
 use Rattle.qpack_spec.proofs.Lists.{every_drop, every_weaker}
-use Rattle.qpack_spec.proofs.Windows.{Sound, leads_append, window_grown, grows_one, eviction_count_bound}
-use Rattle.qpack_spec.proofs.Positions.{IsFree, evicted_free, opened_above, drops_received}
+use Rattle.qpack_spec.proofs.Windows.{Sound, leads_append, window_grown, grows_one}
+use Rattle.qpack_spec.proofs.Positions.{IsFree, evicted_free, opened_above, drops_received, eviction_count_live}
 use Rattle.qpack_spec.proofs.Drafts.{IsLive, IsSent, KeepsTable}
 use Rattle.qpack_safety.proofs.Invariant.{stream_grows, Invariant, sound_made}
 
@@ -62,10 +62,6 @@ window_resized t n =
       dropped = t.dropped + k;
       live = l;
     } in w) (sym (drop-map (λ (x : Entry). x.field) k t.live))
-
-eviction_count_live : (t : Table) (n : ℕ) → eviction_count n (fields_in t.live) ≤ length t.live
-eviction_count_live t n = omega
-    (arith, eviction_count_bound n (fields_in t.live), length-map t.live (λ (x : Entry). x.field))
 
 -- the parts of a resized table
 pub record SameResized (t t' : Table) (k : ℕ) : Type 0 where

@@ -54,7 +54,7 @@ pub spelled_length : (encoding more : List ℕ) (l : Line) → SpellsLine encodi
     < length (encoding ++ more)
 spelled_length encoding more l s = omega (arith, length-append encoding more, ap length s.begins)
 
-no_bytes : (steps : ℕ) (w : Window) (base : ℕ) → fields_at steps w base [] ≡ Ok []
+pub no_bytes : (steps : ℕ) (w : Window) (base : ℕ) → fields_at steps w base [] ≡ Ok []
 unfolding fields_at
 no_bytes zero w base = refl
 no_bytes (suc steps) w base = refl

@@ -2,7 +2,7 @@
 -- length and rank say.
 use Rattle.std.proofs.Common.{◌≡◌, ℕ, zero, suc, ◌+◌, ◌*◌, ◌<◌, Bool, true, false, List, [], ◌∷◌, ◌++◌, Result, Ok, Err}
 use Rattle.std.proofs.Common.{refl, arith}
-use Rattle.std.specs.Prelude.{◌==◌, ◌&&◌, nat_lt, nat_le, length}
+use Rattle.std.specs.Prelude.{◌==◌, ◌&&◌, nat_lt, length}
 use Rattle.std.specs.Str.{bytes_eq}
 use Rattle.qpack_spec.specs.Huffman.{HuffmanFault, MissingBits, Unhandled, bytes_by_length, bytes_of_length, first_code}
 use Rattle.qpack_spec.specs.Huffman.{code_length, code_of, code_at, bits_of, ones}
@@ -27,11 +27,6 @@ abbrev pub rows_good : ℕ → ℕ → List (List ℕ) → Bool
 rows_good n next [] = true
 rows_good n next (row ∷ rows) = row_good (suc n) (2 * next) row && rows_good (suc n) (2 * next + length row) rows
 
--- whether the codes of k bytes from b on have at most thirty bits
-abbrev pub all_short : ℕ → ℕ → Bool
-all_short zero b = true
-all_short (suc k) b = nat_le (length (code_of b)) 30 && all_short k (suc b)
-
 -- the number behind the last code of all
 abbrev pub end_of : List (List ℕ) → ℕ → ℕ
 end_of [] next = next
@@ -40,10 +35,6 @@ end_of (row ∷ rows) next = end_of rows (2 * next + length row)
 pub all_codes : all_give 256 0 ≡ true
 unfolding bytes_by_length bytes_of_length first_code code_length code_of code_at bits_of
 all_codes = refl
-
-pub all_codes_short : all_short 256 0 ≡ true
-unfolding bytes_by_length bytes_of_length first_code code_length code_of bits_of
-all_codes_short = refl
 
 pub all_rows : rows_good 0 0 bytes_by_length ≡ true
 unfolding bytes_by_length bytes_of_length first_code code_length code_of bits_of

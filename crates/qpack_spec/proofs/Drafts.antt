@@ -146,11 +146,11 @@ room t f h =
     let q = and_parts (nat_lt (insert_count t) (2 ^ 62)) _ p.1 in
     record { fits = leb-true _ _ p.0; few = ltb-true _ _ q.0; drops = q.1 }
 
-evicted_bound : (t : Table) (f : Field) → field_size f ≤ t.capacity → eviction_count_for t f ≤ length t.live
+pub evicted_bound : (t : Table) (f : Field) → field_size f ≤ t.capacity → eviction_count_for t f ≤ length t.live
 evicted_bound t f h =
     omega (arith, eviction_count_push t.capacity (fields_in t.live) f h, length-map t.live (λ (x : Entry). x.field))
 
-count_after : (t : Table) (f : Field) → eviction_count_for t f ≤ length t.live
+pub count_after : (t : Table) (f : Field) → eviction_count_for t f ≤ length t.live
     → insert_count (with_entry t (sent_entry f)) ≡ insert_count t + 1
 unfolding with_entry
 count_after t f h =

@@ -1,7 +1,7 @@
 -- The laws of forms, for whatever first bytes name them.
 use Rattle.std.proofs.Common.{◌≡◌, ℕ, Bool, true, false, List, [], ◌∷◌, ◌++◌, Option, None, Some, Result, Ok, Err, refl}
 use Rattle.std.proofs.Common.{sym, ap, subst, ◌∙◌, append_assoc, inl, inr}
-use Rattle.std.proofs.lemmas.List.{append_cancel_right, append_cancel_left}
+use Rattle.std.proofs.lemmas.List.{append_cancel_left}
 use Rattle.std.proofs.lemmas.Option.{same_Some}
 use Rattle.qpack_spec.specs.Bytes.{Begins}
 use Rattle.qpack_spec.specs.Integer.{Overflow, UnexpectedEnd, integer_at}
@@ -12,7 +12,7 @@ use Rattle.qpack_spec.specs.Form.{Spells, Refuses, Truncates, or_bad_integer, or
 use Rattle.qpack_spec.specs.FormLaws.{FormsHaveOneValue, NoFormBeginsAnother, ReadingFindsForms}
 use Rattle.qpack_spec.specs.FormLaws.{ReadingFindsFormRefusals, ReadingFindsFormTruncation}
 use Rattle.qpack_spec.proofs.Results.{ok_pair}
-use Rattle.qpack_spec.proofs.Integers.{none_begins}
+use Rattle.qpack_spec.proofs.Integers.{none_begins, same_front}
 use Rattle.qpack_spec.proofs.Texts.{no_string_begins}
 use Rattle.qpack_spec.proofs.Forms.{index_again, index_refused, text_again, text_refused, made_takes, made_again}
 use Rattle.qpack_spec.proofs.Forms.{made_refused, made_refusal}
@@ -172,7 +172,7 @@ reads_form_refusals form_of bytes e c = (
   λ b. ap (form_at form_of) b.parts ∙ form_refused form_of b.encoding b.rest e b.holds,
 )
 
-refuses_whole : {L : Type 0} (form_of : ℕ → Option (Form L)) (encoding : List ℕ) (e : FormFault)
+pub refuses_whole : {L : Type 0} (form_of : ℕ → Option (Form L)) (encoding : List ℕ) (e : FormFault)
     → Refuses L form_of encoding e
     → is_cut e ≡ false
 refuses_whole form_of encoding e r = go (is_cut e) refl
@@ -202,9 +202,6 @@ reads_form_truncation {L} form_of bytes = (
     back t (Err e) q = cut t e q (is_cut e) refl
 
 -- ---- no spelling or refusal begins another
-
-same_front : (a b x y : List ℕ) → a ++ x ≡ b ++ y → x ≡ y → a ≡ b
-same_front a b x y e same = append_cancel_right a b x (e ∙ ap (λ (z : List ℕ). b ++ z) (sym same))
 
 -- two things in turn, of each of which none begins another
 turns_begin : (P Q R S : List ℕ → Type 0)

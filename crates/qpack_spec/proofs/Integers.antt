@@ -245,7 +245,7 @@ one_value n encoding f g v w p q =
     (t.0, t.1)
 
 -- lists that end before the same rest are the same
-same_front : (a b x y : List ℕ) → a ++ x ≡ b ++ y → x ≡ y → a ≡ b
+pub same_front : (a b x y : List ℕ) → a ++ x ≡ b ++ y → x ≡ y → a ≡ b
 same_front a b x y e same = append_cancel_right a b x (e ∙ ap (λ (z : List ℕ). b ++ z) (sym same))
 
 -- a refusal has ten bytes

@@ -44,6 +44,12 @@ every_get P [] i x e h = absurd (cc)
 every_get P (y ∷ ys) zero x e h = let q : y ≡ x = cc in subst P q h.0
 every_get P (y ∷ ys) (suc i) x e h = every_get P ys i x e h.1
 
+-- a place within a list has an element
+pub get_within : {X : Type 0} (xs : List X) (i : ℕ) → i < length xs → (x : X) × (slice_get xs i ≡ Some x)
+get_within [] i h = absurd (omega arith)
+get_within (y ∷ xs) zero h = (y, refl)
+get_within (y ∷ xs) (suc i) h = get_within xs i (omega arith)
+
 -- an element of a list's end
 pub get_drop : {X : Type 0} (d : ℕ) (xs : List X) (i : ℕ) → slice_get (drop d xs) i ≡ slice_get xs (d + i)
 get_drop zero xs i = ap (slice_get xs) (omega arith)

@@ -4,17 +4,17 @@ use Rattle.std.proofs.Common.{◌∷◌, ◌++◌, length, drop, take, Option, N
 use Rattle.std.proofs.Common.{inr, ◌⊎◌, arith, length-drop}
 use Rattle.std.specs.List.{AllByRecursion, slice_get, list_any}
 use Rattle.std.specs.Option.{option_map}
-use Rattle.std.specs.Prelude.{nat_eq, not, MatchOption}
+use Rattle.std.specs.Prelude.{nat_eq, MatchOption}
 use Rattle.std.specs.Str.{bytes_eq}
 use Rattle.std.proofs.lemmas.Slice.Eq.{bytes_eq-Decides}
 use Rattle.std.proofs.lemmas.Bool.{or_cases, eqb-true, cond_both, lt-ltb, le-leb, eq-eqb, ne_eqb, or_parts, and_parts}
-use Rattle.std.proofs.lemmas.Bool.{or_right, or_left, cases_lt, ltb-false}
+use Rattle.std.proofs.lemmas.Bool.{or_right, or_left, cases_lt, ltb-false, not-true}
 use Rattle.std.proofs.lemmas.Option.{slice_get_within, same_Some}
 use Rattle.std.proofs.lemmas.List.{length-map, length-take-le, drop-map, map-append}
 use Rattle.qpack_spec.specs.Field.{Field, field_size, has_name, is_field}
 use Rattle.qpack_spec.specs.StaticTable.{static_table, IsLeastStatic, NoStatic, static_index, static_name_index}
 use Rattle.qpack_spec.specs.Window.{Window, window_insert_count, relative_entry, insertion, effect, with_value}
-use Rattle.qpack_spec.specs.Window.{window_after, Inserts}
+use Rattle.qpack_spec.specs.Window.{window_after, Inserts, eviction_count}
 use Rattle.qpack_spec.specs.Table.{Entry, UnacknowledgedBlock, Table, fields_in, window, insert_count, has_number}
 use Rattle.qpack_spec.specs.Table.{with_number, with_numbers}
 use Rattle.qpack_spec.specs.Table.{is_evictable, all_evictable, can_evict, eviction_count_for, with_entry}
@@ -22,7 +22,7 @@ use Rattle.qpack_spec.specs.Table.{later_position, last_position, newest_index}
 use Rattle.qpack_spec.specs.Rule.{by_name, by_static_name, by_equal, instruction_for}
 use Rattle.qpack_spec.proofs.StaticIndexes.{field_is, index_is_least, name_index_is_least}
 use Rattle.qpack_spec.proofs.Lists.{every_append, every_left, every_right, get_drop, every_both, every_weaker}
-use Rattle.qpack_spec.proofs.Windows.{size_least}
+use Rattle.qpack_spec.proofs.Windows.{size_least, eviction_count_bound}
 
 -- an element that passes, and its place
 record FoundAt (X : Type 0) (p : X → Bool) (xs : List X) (i : ℕ) : Type 0 where
@@ -167,15 +167,16 @@ window_entered t x =
       live = l;
     } in w) e
 
+-- what goes is live
+pub eviction_count_live : (t : Table) (n : ℕ) → eviction_count n (fields_in t.live) ≤ length t.live
+eviction_count_live t n =
+    omega (arith, eviction_count_bound n (fields_in t.live), length-map t.live (λ (x : Entry). x.field))
+
 -- no block references the entry, and it was received
 pub record IsFree (t : Table) (x : ℕ) : Type 0 where
   pub unnamed : has_number x t.referenced ≡ false
   pub unopened : list_any (λ (b : UnacknowledgedBlock). has_number x b.entries) t.unacknowledged ≡ false
   pub received : x ≤ t.known_received_count
-
-not-true : (b : Bool) → not b ≡ true → b ≡ false
-not-true true h = absurd cc
-not-true false h = refl
 
 evictable_free : (t : Table) (x : ℕ) → is_evictable t x true ≡ true → IsFree t x
 unfolding is_evictable

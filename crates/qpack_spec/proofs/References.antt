@@ -22,7 +22,7 @@ use Rattle.qpack_spec.proofs.Positions.{tracked_append}
 
 -- ---- the greatest of what is tracked
 
-greatest_append : (xs : List ℕ) (a : ℕ) → greatest_of (xs ++ a ∷ []) ≡ max (greatest_of xs) a
+pub greatest_append : (xs : List ℕ) (a : ℕ) → greatest_of (xs ++ a ∷ []) ≡ max (greatest_of xs) a
 unfolding greatest_of
 greatest_append [] a = omega arith
 greatest_append (x ∷ xs) a = omega (arith, greatest_append xs a)

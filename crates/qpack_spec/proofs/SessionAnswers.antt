@@ -1,8 +1,8 @@
 -- Every event has an answer at every session.
-use Rattle.std.proofs.Common.{ℕ, zero, suc, ◌+◌, ◌^◌, ◌<◌, ◌≤◌, ◌≡◌, Bool, true, false, cond, List, [], ◌∷◌, ◌++◌}
+use Rattle.std.proofs.Common.{ℕ, zero, suc, ◌+◌, ◌^◌, ◌≤◌, ◌≡◌, Bool, true, false, cond, List, [], ◌∷◌, ◌++◌}
 use Rattle.std.proofs.Common.{length, take, drop, Option, None, Some, Result, Ok, Err, refl, sym, ap, ◌∙◌, arith, inl}
 use Rattle.std.proofs.Common.{inr, length-append, append_assoc}
-use Rattle.std.specs.List.{AllByRecursion, slice_get}
+use Rattle.std.specs.List.{AllByRecursion}
 use Rattle.std.specs.Prelude.{nat_lt, nat_le}
 use Rattle.std.proofs.lemmas.Bool.{ltb-true}
 use Rattle.qpack_spec.specs.Bytes.{Begins, ◌>>=◌}
@@ -23,6 +23,7 @@ use Rattle.qpack_spec.specs.Reading.{Reading, Fields, Missing, Faulty}
 use Rattle.qpack_spec.specs.BlockReading.{reading_of_bytes}
 use Rattle.qpack_spec.specs.SessionLaws.{EventsHaveAnswers}
 use Rattle.qpack_spec.proofs.FormLaws.{form_takes, form_refusal, reads_form_truncation}
+use Rattle.qpack_spec.proofs.Lists.{get_within}
 
 -- how a reading of lines ends behind those that were taken: the rest is truncated, or refused, or the next step is
 data Stops (L : Type 0) (form_of : ℕ → Option (Form L)) (step : Table → L
@@ -228,12 +229,6 @@ to_encoder v n =
         × (o ≡ NoMemory → ⊥)
     go r = ends r r.stops
 
--- a place within a list has an element
-within_some : {X : Type 0} (xs : List X) (i : ℕ) → i < length xs → (x : X) × (slice_get xs i ≡ Some x)
-within_some [] i h = absurd (omega arith)
-within_some (y ∷ xs) zero h = (y, refl)
-within_some (y ∷ xs) (suc i) h = within_some xs i (omega arith)
-
 lawful_decode : (a b c : Bool) (reason : ℕ) → cond a (Some 1) (cond b (Some 3) (cond c None (Some reason))) ≡ None
     → c ≡ true
 lawful_decode true b c reason h = absurd cc
@@ -254,7 +249,7 @@ lawful_answers v (Decode s) h =
     let k = stream_at v.streams s in
     let more : nat_lt k.decoded (length k.blocks) ≡ true =
     lawful_decode (nat_le (2 ^ 62) s) k.cancelled (nat_lt k.decoded (length k.blocks)) 2 h in
-    let b = within_some k.blocks k.decoded (ltb-true _ _ more) in (
+    let b = get_within k.blocks k.decoded (ltb-true _ _ more) in (
       _,
       _,
       inl (record { block = b.0; is_next = b.1; answers = refl; moves = refl }),

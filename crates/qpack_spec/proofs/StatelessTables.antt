@@ -22,7 +22,7 @@ use Rattle.qpack_spec.specs.StatelessMeaning.{no_table, IsNoEntry, NamesNoEntry,
 use Rattle.qpack_spec.specs.StatelessMeaning.{AgreesWithoutTable, StatelessIsWithoutTable}
 use Rattle.std.proofs.lemmas.List.{append_assoc}
 use Rattle.qpack_spec.proofs.FormLaws.{form_takes}
-use Rattle.qpack_spec.proofs.BlockReadings.{prefix_takes}
+use Rattle.qpack_spec.proofs.BlockReadings.{prefix_takes, no_bytes}
 use Rattle.qpack_spec.proofs.StatelessMeanings.{no_entry as no_entry_alone, before, limited, meant, next, next_ok}
 use Rattle.qpack_spec.proofs.StatelessMeanings.{meant_ok, low_is}
 use Rattle.qpack_spec.proofs.StatelessMeanings.{high_is}
@@ -100,11 +100,6 @@ fields_are : (steps : ℕ) (w : Window) (base b : ℕ) (bytes : List ℕ)
     → fields_at (suc steps) w base (b ∷ bytes) ≡ behind_line steps w base (form_at line_form (b ∷ bytes))
 unfolding fields_at behind_line behind_field
 fields_are steps w base b bytes = refl
-
-no_fields : (steps : ℕ) (w : Window) (base : ℕ) → fields_at steps w base [] ≡ Ok []
-unfolding fields_at
-no_fields zero w base = refl
-no_fields (suc steps) w base = refl
 
 -- a field in front
 field_agrees : (f : Field) (encoding rest : List ℕ) (r : Result (List Field) StatelessFault)
@@ -266,7 +261,7 @@ lines_up_to : (steps limit sum : ℕ) (agreed_max : Option ℕ) (bytes : List �
     → fields_at steps (no_table agreed_max) 0 bytes ≡ Ok fs → stateless_at steps limit sum bytes
     ≡ up_to_limit limit sum fs
 lines_up_to steps limit sum agreed_max [] fs h e =
-    let none : fs ≡ [] = ok_is fs [] (sym e ∙ no_fields steps (no_table agreed_max) 0) in
+    let none : fs ≡ [] = ok_is fs [] (sym e ∙ no_bytes steps (no_table agreed_max) 0) in
     none_alone steps limit sum ∙ ap (up_to_limit limit sum) (sym none)
 lines_up_to zero limit sum agreed_max (b ∷ bytes) fs h e = absurd (omega arith)
 lines_up_to (suc steps) limit sum agreed_max (b ∷ bytes) fs h e =

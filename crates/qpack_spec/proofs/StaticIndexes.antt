@@ -5,21 +5,18 @@ use Rattle.std.specs.Prelude.{slice_get, position, MatchOption}
 use Rattle.std.specs.List.{position_or_len, list_any}
 use Rattle.std.specs.Bool.{Decides}
 use Rattle.std.specs.Str.{bytes_eq}
-use Rattle.std.proofs.lemmas.Bool.{cases_lt, lt-ltb, le-ltb}
-use Rattle.std.proofs.lemmas.Option.{slice_get_within}
+use Rattle.std.proofs.lemmas.Bool.{cases_lt, lt-ltb, le-ltb, and_parts, and_from}
+use Rattle.std.proofs.lemmas.Option.{slice_get_within, same_Some}
 use Rattle.std.proofs.lemmas.Slice.Eq.{bytes_eq-Decides}
 use Rattle.qpack_spec.specs.Field.{Field, has_name, is_field}
 use Rattle.qpack_spec.specs.StaticTable.{static_table, static_index, static_name_index, IsLeastStatic, NoStatic}
 use Rattle.qpack_spec.specs.StaticTableLaws.{StaticFieldsDiffer, StaticIndexIsLeast, StaticNameIndexIsLeast}
 
-same_some : {X : Type 0} (x y : X) → Some x ≡ Some y → x ≡ y
-same_some x y e = cc
-
 step_before : {X : Type 0} (p : X → Bool) (y : X) (ys : List X) (n : ℕ) (x : X) (b : Bool) → p y ≡ b
     → ((k : ℕ) → k < n → slice_get ys k ≡ Some x → p x ≡ false)
     → (k : ℕ) → k < cond (not b) (1 + n) 0 → slice_get (y ∷ ys) k ≡ Some x → p x ≡ false
 step_before p y ys n x true is rest k h e = absurd (omega arith)
-step_before p y ys n x false is rest zero h e = ap p (sym (same_some y x e)) ∙ is
+step_before p y ys n x false is rest zero h e = ap p (sym (same_Some y x e)) ∙ is
 step_before p y ys n x false is rest (suc k) h e = rest k (omega arith) e
 
 -- no element before the first that passes does
@@ -68,14 +65,6 @@ places p Q xs d =
           let t = (d x).1 q in absurd cc)
     ]
 
-and_true : (a b : Bool) → (a && b) ≡ true → (a ≡ true) × (b ≡ true)
-and_true true b e = (refl, e)
-and_true false b e = absurd cc
-
-both_true : (a b : Bool) → a ≡ true → b ≡ true → (a && b) ≡ true
-both_true true b p q = q
-both_true false b p q = absurd cc
-
 pub field_is : (n m v w : List ℕ) → n ≡ m → v ≡ w
     → (let f : Field = record { name = n; value = v } in let g : Field = record { name = m; value = w } in f ≡ g)
 field_is n m v w p q = cc
@@ -83,10 +72,10 @@ field_is n m v w p q = cc
 is_field-Decides : (f g : Field) → Decides (is_field f g) (g ≡ f)
 is_field-Decides f g = (
   λ e.
-      let b = and_true (bytes_eq f.name g.name) (bytes_eq f.value g.value) e in
+      let b = and_parts (bytes_eq f.name g.name) (bytes_eq f.value g.value) e in
       field_is g.name f.name g.value f.value (sym ((bytes_eq-Decides f.name g.name).0 b.0))
       (sym ((bytes_eq-Decides f.value g.value).0 b.1)),
-  λ e. both_true _ _ ((bytes_eq-Decides f.name g.name).1 (ap (λ (x : Field). x.name) (sym e)))
+  λ e. and_from _ _ ((bytes_eq-Decides f.name g.name).1 (ap (λ (x : Field). x.name) (sym e)))
       ((bytes_eq-Decides f.value g.value).1 (ap (λ (x : Field). x.value) (sym e))),
 )
 
@@ -129,7 +118,7 @@ table_differs = refl
 passes_any : (p : Field → Bool) (fs : List Field) (k : ℕ) (f : Field) → slice_get fs k ≡ Some f → p f ≡ true
     → list_any p fs ≡ true
 passes_any p [] k f e t = absurd cc
-passes_any p (g ∷ fs) zero f e t = rw (ap p (same_some g f e) ∙ t) refl
+passes_any p (g ∷ fs) zero f e t = rw (ap p (same_Some g f e) ∙ t) refl
 passes_any p (g ∷ fs) (suc k) f e t = rw (passes_any p fs k f e t) (or_true (p g))
   where
     or_true : (b : Bool) → (b || true) ≡ true
@@ -147,10 +136,10 @@ differ_places : (fs : List Field) → differ fs ≡ true → (i j : ℕ) (f : Fi
 differ_places [] d i j f p q = absurd cc
 differ_places (g ∷ fs) d zero zero f p q = refl
 differ_places (g ∷ fs) d zero (suc j) f p q =
-    absurd (let n = (and_true _ _ d).0 in not_any g fs j n (q ∙ ap (λ (x : Field). Some x) (sym (same_some g f p))))
+    absurd (let n = (and_parts _ _ d).0 in not_any g fs j n (q ∙ ap (λ (x : Field). Some x) (sym (same_Some g f p))))
 differ_places (g ∷ fs) d (suc i) zero f p q =
-    absurd (let n = (and_true _ _ d).0 in not_any g fs i n (p ∙ ap (λ (x : Field). Some x) (sym (same_some g f q))))
-differ_places (g ∷ fs) d (suc i) (suc j) f p q = ap (λ (n : ℕ). suc n) (differ_places fs (and_true _ _ d).1 i j f p q)
+    absurd (let n = (and_parts _ _ d).0 in not_any g fs i n (p ∙ ap (λ (x : Field). Some x) (sym (same_Some g f q))))
+differ_places (g ∷ fs) d (suc i) (suc j) f p q = ap (λ (n : ℕ). suc n) (differ_places fs (and_parts _ _ d).1 i j f p q)
 
 pub fields_differ : StaticFieldsDiffer
 fields_differ i j f p q = differ_places static_table table_differs i j f p q

@@ -1,5 +1,5 @@
 -- The laws of a table's window: what was dropped, in closed form.
-use Rattle.std.proofs.Common.{ℕ, zero, suc, ◌+◌, ◌-◌, ◌<◌, ◌≤◌, ◌≡◌, List, [], ◌∷◌, ◌++◌, length, drop, max, Result, Ok}
+use Rattle.std.proofs.Common.{ℕ, ◌+◌, ◌-◌, ◌<◌, ◌≤◌, ◌≡◌, List, [], ◌∷◌, ◌++◌, length, drop, max, Result, Ok}
 use Rattle.std.proofs.Common.{Err, refl, sym, ap, ◌∙◌, subst, inl, inr, ◌⊎◌, arith, length-drop}
 use Rattle.std.specs.List.{AllByRecursion, slice_get}
 use Rattle.std.specs.Prelude.{nat_lt, nat_le, nat_eq}
@@ -21,17 +21,11 @@ use Rattle.qpack_spec.specs.WindowLaws.{LiveEntriesAreFew, EvictionCountIsLeast,
 use Rattle.qpack_spec.specs.WindowLaws.{SetsNoCapacity}
 use Rattle.qpack_spec.specs.WindowLaws.{LiveIsLongestTail, all_taken, WindowsFollowHistories}
 use Rattle.qpack_spec.proofs.Results.{bind_ok, ok_is}
-use Rattle.qpack_spec.proofs.Sizes.{total_first}
+use Rattle.qpack_spec.proofs.Sizes.{drop_smaller}
 use Rattle.qpack_spec.proofs.Windows.{eviction_count_bound, eviction_count_fits, eviction_count_least, Sound}
 use Rattle.qpack_spec.proofs.Windows.{sound_begin}
 use Rattle.qpack_spec.proofs.Windows.{sound_grown, allowed, sound_few, live_push, window_grown, leads_sound}
 use Rattle.qpack_spec.proofs.Windows.{leads_split, leads_unique, leads_grows}
-
--- a tail is no larger
-shorter : (n : ℕ) (fs : List Field) → total_size (drop n fs) ≤ total_size fs
-shorter zero fs = omega arith
-shorter (suc n) [] = omega arith
-shorter (suc n) (f ∷ fs) = omega (arith, shorter n fs, total_first f fs)
 
 -- behind d entries, the least number is that of all, or d
 eviction_count_drop : (c : ℕ) (fs : List Field) (d : ℕ) → d + eviction_count c (drop d fs) ≡ max d (eviction_count c fs)
@@ -54,7 +48,7 @@ eviction_count_drop c fs d =
         let m : eviction_count c (drop d fs) ≤ 0 =
         eviction_count_least c (drop d fs) 0 (subst (λ (k : ℕ). total_size (drop k fs) ≤ c) n
         (rw (← drop-drop) (omega
-        (arith, shorter (d - eviction_count c fs) (drop (eviction_count c fs) fs), eviction_count_fits c fs)))) in
+        (arith, drop_smaller (d - eviction_count c fs) (drop (eviction_count c fs) fs), eviction_count_fits c fs)))) in
         omega arith
 
 -- what was dropped is the greater of what was dropped before and what has to go now

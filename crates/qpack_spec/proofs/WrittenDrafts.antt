@@ -29,9 +29,8 @@ use Rattle.qpack_spec.specs.Rule.{by_entry, by_static, rule_field, rule_fields, 
 use Rattle.qpack_spec.specs.WrittenLaws.{IsSmall, IsWritableValue, IsByteField, IsByteLine, IsByteEncoderInstruction}
 use Rattle.qpack_spec.specs.WrittenLaws.{IsWritableLine, IsWritableEncoderInstruction}
 use Rattle.qpack_spec.proofs.Lists.{every_append}
-use Rattle.qpack_spec.proofs.Windows.{eviction_count_push}
 use Rattle.qpack_spec.proofs.Positions.{newest_found, static_found, static_name_found}
-use Rattle.qpack_spec.proofs.Drafts.{Room, room}
+use Rattle.qpack_spec.proofs.Drafts.{Room, room, count_after, evicted_bound}
 
 -- a block in progress whose numbers are small and whose strings are bytes
 pub record WrittenDraft (d : Draft) : Type 0 where
@@ -92,21 +91,7 @@ instruction_written f stay few w = equal_instruction f stay few w (last_position
 -- ---- the cases of the rule
 
 pub count_entered : (t : Table) (f : Field) → Room t f → insert_count (with_entry t (sent_entry f)) ≡ insert_count t + 1
-unfolding with_entry
-count_entered t f r =
-    let b : eviction_count_for t f ≤ length t.live =
-    omega (
-      arith,
-      eviction_count_push t.capacity (fields_in t.live) f r.fits,
-      length-map t.live
-          (λ (x : Entry). x.field),
-    ) in
-    omega (
-      arith,
-      length-drop (eviction_count_for t f) (t.live ++ sent_entry f ∷ []),
-      length-append t.live
-          (sent_entry f ∷ []),
-    )
+count_entered t f r = count_after t f (evicted_bound t f r.fits)
 
 inserts_written : (base : ℕ) (d : Draft) (f : Field) → WrittenDraft d → IsByteField f → Room d.table f
     → WrittenDraft (with_new_entry base d f)

@@ -1,9 +1,6 @@
 -- The written payload means its text, and is the only one that does; the laws of payloads.
-use Rattle.std.proofs.Common.{◌≡◌, ℕ, zero, suc, ◌+◌, ◌-◌, ◌*◌, ◌/◌, ◌<◌, ◌≤◌, true, List, [], ◌∷◌, length, Result, Ok}
-use Rattle.std.proofs.Common.{Err, refl, sym, ap, subst, ◌∙◌, arith, inl, inr, ◌⊎◌}
-use Rattle.std.specs.Prelude.{nat_le}
-use Rattle.std.proofs.lemmas.Bool.{cases_eq, leb-true}
-use Rattle.std.proofs.lemmas.List.{length-append}
+use Rattle.std.proofs.Common.{◌≡◌, ℕ, ◌+◌, ◌-◌, ◌*◌, ◌/◌, List, [], ◌∷◌, length, Result, Ok}
+use Rattle.std.proofs.Common.{Err, refl, sym, ap, ◌∙◌, arith, inl, inr, ◌⊎◌}
 use Rattle.std.proofs.lemmas.List.Concat.{flat_map-cons}
 use Rattle.qpack_spec.specs.Huffman.{HuffmanFault, bytes_by_length, bits_of_bytes, AreBytes, code_length, code_of}
 use Rattle.qpack_spec.specs.Huffman.{code_at, bits_of_text, PayloadMeans, PayloadMeansNothing, payload_of, text_of_bits}
@@ -13,8 +10,8 @@ use Rattle.qpack_spec.specs.HuffmanLaws.{PayloadsHaveOneFault, ReadingFindsTexts
 use Rattle.qpack_spec.proofs.Results.{ok_is, ok_pair}
 use Rattle.qpack_spec.proofs.Bits.{AreBits, bits_are, bits_join, bytes_bits, packed_bits, packed_bytes, packed_is}
 use Rattle.qpack_spec.proofs.Bits.{packed_length}
-use Rattle.qpack_spec.proofs.CodeTable.{all_short, all_codes_short, ones_unhandled}
-use Rattle.qpack_spec.proofs.Codes.{both, code_again}
+use Rattle.qpack_spec.proofs.CodeTable.{ones_unhandled}
+use Rattle.qpack_spec.proofs.Codes.{code_again}
 use Rattle.qpack_spec.proofs.Payloads.{text_means, text_again}
 use Rattle.qpack_spec.proofs.PayloadFaults.{fault_means, fault_again}
 
@@ -34,27 +31,6 @@ payload_is payload text ok m = packed_is payload (bits_of_text text) m.padding o
 pub payload_length : (text : List ℕ) → length (payload_of text) ≡ (length (bits_of_text text) + 7) / 8
 unfolding payload_of
 payload_length text = packed_length ((length (bits_of_text text) + 7) / 8) (bits_of_text text)
-
-short_each : (k b c : ℕ) → all_short k b ≡ true → b ≤ c → c < b + k → length (code_of c) ≤ 30
-short_each zero b c e l u = absurd (omega arith)
-short_each (suc k) b c e l u =
-    let h = both (nat_le (length (code_of b)) 30) (all_short k (suc b)) e in
-    elim (cases_eq b c) [
-      | inl q ↦ subst (λ (d : ℕ). length (code_of d) ≤ 30) q (leb-true _ _ h.0)
-      | inr n ↦ short_each k (suc b) c h.1 (omega arith) (omega arith)
-    ]
-
-bits_few : (text : List ℕ) → AreBytes text → length (bits_of_text text) ≤ 30 * length text
-bits_few [] ok = omega arith
-bits_few (b ∷ text) ok =
-    omega (
-      arith,
-      ap (λ (l : List ℕ). length l) (flat_map-cons code_of b text),
-      length-append (code_of b) (bits_of_text text),
-      short_each 256 0 b all_codes_short (omega arith)
-          (omega (arith, ok.0)),
-      bits_few text ok.1,
-    )
 
 pub written_means : WrittenPayloadsMeanTheirText
 unfolding payload_of

@@ -8,6 +8,7 @@ use Rattle.std.proofs.lemmas.Bool.{cases_lt, lt-ltb, le-ltb}
 use Rattle.std.proofs.lemmas.List.{drop_all, length-take}
 use Rattle.qpack_spec.specs.Table as table
 use Rattle.qpack_spec.specs.Table.{has_number, is_evictable, all_evictable}
+use Rattle.qpack_spec.proofs.Lists.{get_within}
 use Rattle.qpack_table.specs.Tables.{entry_of, entries_of, times, references_in, IsEvictableAt}
 use Rattle.qpack_table.proofs.References.{named_if_used}
 use Rattle.qpack_table.specs.declared.dynamic.entry.Entry.{Entry}
@@ -71,11 +72,6 @@ next_tested (y ∷ ys) (suc evicted) (suc position) x h is =
     next_tested ys evicted position x (omega (arith, h)) is
     ∙ ap (λ (n : ℕ). x ∷ drop n (take (suc evicted) (y ∷ ys))) (sym next)
 
-there_is : {X : Type 0} (xs : List X) (position : ℕ) → position < length xs → (x : X) × (slice_get xs position ≡ Some x)
-there_is [] position h = absurd (omega (arith, h))
-there_is (x ∷ xs) zero h = (x, refl)
-there_is (x ∷ xs) (suc position) h = there_is xs position (omega (arith, h))
-
 -- one position further
 all_evictable_step : (t : table.Table) (evicted position : ℕ) (answer : Bool) → position < evicted → evicted
     ≤ length t.live
@@ -85,7 +81,7 @@ all_evictable_step : (t : table.Table) (evicted position : ℕ) (answer : Bool) 
     else false)
 unfolding all_evictable
 all_evictable_step t evicted position answer h few at =
-    let some = there_is t.live position (omega (arith, h, few)) in
+    let some = get_within t.live position (omega (arith, h, few)) in
     let is : answer ≡ is_evictable t (t.dropped + position + 1) some.0.sent =
     subst (λ o. IfSome o (λ (e : table.Entry). answer ≡ is_evictable t (t.dropped + position + 1) e.sent)) some.1 at in
     let here : t.dropped + position + 1 ≡ suc (t.dropped + position) = omega arith in

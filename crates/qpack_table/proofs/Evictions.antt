@@ -8,25 +8,19 @@ use Rattle.qpack_spec.specs.Field.{Field, field_size, total_size}
 use Rattle.qpack_spec.specs.Table.{fields_in}
 use Rattle.qpack_spec.specs.Table as table
 use Rattle.qpack_spec.specs.Window.{eviction_count}
-use Rattle.qpack_spec.proofs.Sizes.{total_first, total_last}
+use Rattle.qpack_spec.proofs.Sizes.{total_first, total_last, drop_smaller}
 use Rattle.qpack_spec.proofs.Windows.{eviction_count_fits, eviction_count_least, eviction_count_bound}
-use Rattle.qpack_spec.proofs.Windows.{eviction_count_push, size_least}
+use Rattle.qpack_spec.proofs.Windows.{eviction_count_push}
 use Rattle.qpack_table.specs.Positions.{Positions}
 use Rattle.qpack_table.specs.Tables.{entry_of, entries_of, IsSized}
 use Rattle.qpack_table.specs.declared.dynamic.entry.Entry.{Entry}
-
--- fewer fields are no larger
-shorter : (n : ℕ) (fs : List Field) → total_size (drop n fs) ≤ total_size fs
-shorter zero fs = omega arith
-shorter (suc n) [] = omega arith
-shorter (suc n) (f ∷ fs) = omega (arith, shorter n fs, total_first f fs)
 
 further : (n k : ℕ) (fs : List Field) → n ≤ k → total_size (drop k fs) ≤ total_size (drop n fs)
 further n k fs h =
     let m : n + (k - n) ≡ k = omega (arith, h) in
     subst (λ (j : ℕ). total_size (drop j fs) ≤ total_size (drop n fs)) m
     (subst (λ (l : List Field). total_size l ≤ total_size (drop n fs)) (drop-drop (k - n) n fs)
-    (shorter (k - n) (drop n fs)))
+    (drop_smaller (k - n) (drop n fs)))
 
 -- while the rest doesn't fit, more have to go
 pub still : (room : ℕ) (fs : List Field) (k : ℕ) → room < total_size (drop k fs) → k < eviction_count room fs
@@ -123,7 +117,8 @@ evicted_all room es rest evicted all k =
 -- what is left is no more than what there was
 pub evicted_bound : (room : ℕ) (es : List Entry) (rest evicted size : ℕ) → size ≡ total_size (fields_in (entries_of es))
     → GoneSoFar room es rest evicted → rest ≤ size
-evicted_bound room es rest evicted size sum k = omega (arith, sum, k.sum, shorter evicted (fields_in (entries_of es)))
+evicted_bound room es rest evicted size sum k =
+    omega (arith, sum, k.sum, drop_smaller evicted (fields_in (entries_of es)))
 
 -- ---- the oldest go
 
@@ -168,7 +163,7 @@ sized_less v w es now size left capacity k kept few items sum dropped total = re
   );
   sum = sum ∙ ap (λ (l : List Field). total_size l) (fields_drop k es
       ∙ ap (λ (l : List Entry). fields_in (entries_of l)) (sym items));
-  fits = omega (arith, kept.fits, kept.sum, sum, shorter k (fields_in (entries_of es)));
+  fits = omega (arith, kept.fits, kept.sum, sum, drop_smaller k (fields_in (entries_of es)));
   small = kept.small;
 }
 
@@ -257,7 +252,3 @@ sized_resized v w es now size left capacity most k freed kept evicted small item
       fits = omega (arith, is, ap (λ (n : ℕ). total_size (drop n fs)) evicted, eviction_count_fits most fs);
       small = small;
     }
-
-fields_few : (fs : List Field) → length fs ≤ total_size fs
-fields_few [] = omega arith
-fields_few (f ∷ fs) = omega (arith, fields_few fs, total_first f fs, size_least f)

@@ -4,13 +4,9 @@ use Rattle.std.proofs.Common.{arith, inl, inr, add-one}
 use Rattle.std.proofs.Math.Seq.{take-suc}
 use Rattle.std.proofs.lemmas.Bool.{cases_lt}
 use Rattle.qpack_spec.specs.Reading.{greatest_of}
+use Rattle.qpack_spec.proofs.References.{greatest_append}
 use Rattle.qpack_table.specs.Tables.{times}
 use Rattle.qpack_table.proofs.Marks.{once_more}
-
-greatest_append : (xs : List ℕ) (a : ℕ) → greatest_of (xs ++ a ∷ []) ≡ max (greatest_of xs) a
-unfolding greatest_of
-greatest_append [] a = omega arith
-greatest_append (x ∷ xs) a = omega (arith, greatest_append xs a)
 
 pub greatest_none : greatest_of [] ≡ 0
 unfolding greatest_of

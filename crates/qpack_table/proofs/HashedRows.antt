@@ -3,7 +3,7 @@ use Rattle.std.proofs.Common.{◌≡◌, ℕ, zero, suc, ◌+◌, ◌<◌, ◌�
 use Rattle.std.proofs.Common.{sym, ap}
 use Rattle.std.proofs.Common.{subst, ◌∙◌, inl, inr, ◌⊎◌, arith}
 use Rattle.std.specs.Prelude.{Contains, sum_by, vec_len, vec_capacity}
-use Rattle.std.proofs.lemmas.Bool.{cases_lt}
+use Rattle.std.proofs.lemmas.Bool.{cases_eq}
 use Rattle.std.specs.List.{All}
 use Rattle.std.proofs.lemmas.List.{length-set, get_or-set_other, get_or-set_same}
 use Rattle.std.proofs.lemmas.List.Elements.{All-head, All-tail, All-get_or}
@@ -22,16 +22,6 @@ home_chosen hash k count n f e is g = is ∙ (λ i. place_among (g i) (e i))
 
 pub home_within : (k count n : ℕ) → count ≡ n → k < count → k < n
 home_within k count n g h = omega (arith, g, h)
-
-pub same_or_not : (j k : ℕ) → (j ≡ k) ⊎ (j ≡ k → ⊥)
-same_or_not j k =
-    elim (cases_lt j k) [
-      | inl lt ↦ inr (λ e. omega (arith, lt, e))
-      | inr le ↦ elim (cases_lt k j) [
-        | inl lt ↦ inr (λ e. omega (arith, lt, e))
-        | inr more ↦ inl (omega (arith, le, more))
-      ]
-    ]
 
 -- how many indexes a row has
 abbrev pub size : Row → ℕ
@@ -82,7 +72,7 @@ pub room_left : (rows : List Row) (k : ℕ) (r new : Row) (hash : ℕ) → k < l
 room_left rows k r new hash within read shorter capacity has = record {
   some = omega (arith, has.some, length-set rows k new);
   room = λ d. subst (λ (n : ℕ). HasRoom (get_or (set rows k new) (place_among n hash) d)) (sym (length-set rows k new))
-      (pick (place_among (length rows) hash) d refl (same_or_not (place_among (length rows) hash) k));
+      (pick (place_among (length rows) hash) d refl (cases_eq (place_among (length rows) hash) k));
 }
   where
     HasRoom : Row → Type 0

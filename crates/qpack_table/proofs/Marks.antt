@@ -1,10 +1,11 @@
 -- The marks of entries: which ones the block in progress references, and how many blocks reference each.
 use Rattle.std.proofs.Common.{◌≡◌, ℕ, zero, suc, ◌+◌, ◌-◌, ◌<◌, ◌≤◌, Bool, true, false, List, [], ◌∷◌, ◌++◌}
-use Rattle.std.proofs.Common.{length, map, drop, Some, refl, sym, ap, subst, ◌∙◌, arith, rules, get_or, add-one}
-use Rattle.std.proofs.Common.{drop-cons, append-nil, append_assoc}
+use Rattle.std.proofs.Common.{length, map, drop, Some, refl, sym, ap, subst, ◌∙◌, arith, rules, get_or}
+use Rattle.std.proofs.Common.{append-nil, append_assoc}
 use Rattle.std.specs.Prelude.{slice_get, slice_set, nat_eq}
 use Rattle.std.proofs.lemmas.Bool.{ne_eqb}
-use Rattle.std.proofs.lemmas.List.{drop_all}
+use Rattle.std.proofs.lemmas.List.{drop_all, drop_more}
+use Rattle.std.proofs.lemmas.Option.{slice_get_within}
 use Rattle.qpack_spec.specs.Table.{has_number}
 use Rattle.qpack_table.specs.Tables.{times, entry_of, entries_of, uses_of, flags_of, AreUsed, AreFlagged, AreCounted}
 use Rattle.qpack_table.specs.declared.dynamic.entry.Entry.{Entry}
@@ -51,14 +52,6 @@ once_more a rest = let here : nat_eq a a ≡ true = refl_eq a in
     refl_eq : (n : ℕ) → nat_eq n n ≡ true
     refl_eq n = search rules
 
-there_within : {X : Type 0} (xs : List X) (i : ℕ) (x : X) → slice_get xs i ≡ Some x → i < length xs
-there_within [] i x at = absurd cc
-there_within (y ∷ ys) zero x at = omega arith
-there_within (y ∷ ys) (suc i) x at = omega (arith, there_within ys i x at)
-
-next_reference : (xs : List ℕ) (i : ℕ) → i < length xs → drop i xs ≡ get_or xs i 0 ∷ drop (i + 1) xs
-next_reference xs i within = rw (add-one, drop-cons xs i 0 within) refl
-
 -- ---- flags
 
 -- an entry that says that it is referenced is among these
@@ -98,7 +91,7 @@ cleared_past dropped before now x left all k past = record {
   live = k.live;
   uses = k.uses;
   flags = λ h p e there flag.
-      sym (other_has x (dropped + p + 1) left (past p (there_within now p e there))) ∙ k.flags h p e there flag;
+      sym (other_has x (dropped + p + 1) left (past p (slice_get_within now p e there))) ∙ k.flags h p e there flag;
 }
 
 -- the next reference is that of a live entry
@@ -109,7 +102,7 @@ pub cleared_more : (dropped : ℕ) (before now next : List Entry) (references al
     → Cleared dropped before next (drop (i + 1) references) all
 cleared_more dropped before now next references all i position old new k there is within at same written =
     rw written (cleared_at dropped before now (get_or references i 0) (drop (i + 1) references) all position old new
-    (rw (← next_reference references i there) k) is (item_there now position old within at) same)
+    (rw (← drop_more references i 0 there) k) is (item_there now position old within at) same)
 
 -- the next reference is that of no live entry
 pub cleared_other : (dropped : ℕ) (before now next : List Entry) (references all : List ℕ) (i : ℕ)
@@ -118,7 +111,7 @@ pub cleared_other : (dropped : ℕ) (before now next : List Entry) (references a
     → Cleared dropped before next (drop (i + 1) references) all
 cleared_other dropped before now next references all i k there past same =
     rw same (cleared_past dropped before now (get_or references i 0) (drop (i + 1) references) all
-    (rw (← next_reference references i there) k) past)
+    (rw (← drop_more references i 0 there) k) past)
 
 pub cleared_all : (dropped : ℕ) (before now : List Entry) (all : List ℕ) (i : ℕ)
     → Cleared dropped before now (drop i all) all → length all ≤ i
@@ -185,11 +178,11 @@ lowered_past dropped before now x left all k past = record {
   flags = k.flags;
   counts = λ rest h p e there.
       subst (λ (n : ℕ). n ≤ e.uses)
-      (other_times x (dropped + p + 1) (left ++ rest) (past p (there_within now p e there))) (k.counts rest h p e
+      (other_times x (dropped + p + 1) (left ++ rest) (past p (slice_get_within now p e there))) (k.counts rest h p e
       there);
   uses = λ rest h p e there.
       k.uses rest h p e there
-      ∙ other_times x (dropped + p + 1) (left ++ rest) (past p (there_within now p e there));
+      ∙ other_times x (dropped + p + 1) (left ++ rest) (past p (slice_get_within now p e there));
 }
 
 pub lowered_more : (dropped : ℕ) (before now next : List Entry) (references all : List ℕ) (i position : ℕ)
@@ -199,7 +192,7 @@ pub lowered_more : (dropped : ℕ) (before now next : List Entry) (references al
     → Lowered dropped before next (drop (i + 1) references) all
 lowered_more dropped before now next references all i position old new k there is within at same written =
     rw written (lowered_at dropped before now (get_or references i 0) (drop (i + 1) references) all position old new
-    (rw (← next_reference references i there) k) is (item_there now position old within at) same)
+    (rw (← drop_more references i 0 there) k) is (item_there now position old within at) same)
 
 -- an entry whose reference is left has a use
 pub still_used : (dropped : ℕ) (before now : List Entry) (references all : List ℕ) (i position : ℕ) (old : Entry)
@@ -215,7 +208,7 @@ still_used dropped before now references all i position old start k there is wit
     omega (
       arith,
       first,
-      ap (λ (l : List ℕ). times a l) (next_reference references i there),
+      ap (λ (l : List ℕ). times a l) (drop_more references i 0 there),
       counted position old (item_there now position old within at),
     )
 
@@ -225,7 +218,7 @@ pub lowered_other : (dropped : ℕ) (before now next : List Entry) (references a
     → Lowered dropped before next (drop (i + 1) references) all
 lowered_other dropped before now next references all i k there past same =
     rw same (lowered_past dropped before now (get_or references i 0) (drop (i + 1) references) all
-    (rw (← next_reference references i there) k) past)
+    (rw (← drop_more references i 0 there) k) past)
 
 pub lowered_all : (dropped : ℕ) (before now : List Entry) (all : List ℕ) (i : ℕ)
     → Lowered dropped before now (drop i all) all → length all ≤ i

@@ -1,7 +1,7 @@
 -- The chains of names: behind an insertion, behind an eviction, and along a walk.
 use Rattle.std.proofs.Common.{◌≡◌, ℕ, ◌+◌, ◌-◌, ◌<◌, ◌≤◌, [], ◌∷◌, ◌++◌, List, length, get_or, set, drop, None}
 use Rattle.std.proofs.Common.{Some, sym, ap, subst, ◌∙◌, inl, inr, ◌⊎◌, arith}
-use Rattle.std.proofs.lemmas.Bool.{cases_lt}
+use Rattle.std.proofs.lemmas.Bool.{cases_lt, cases_eq}
 use Rattle.std.proofs.lemmas.Slice.Eq.{bytes_eq-Decides}
 use Rattle.std.proofs.lemmas.List.{length-set, length-drop, length-append, get_or-set_other, get_or-set_same}
 use Rattle.std.proofs.lemmas.List.{get_or-drop}
@@ -19,7 +19,6 @@ use Rattle.qpack_table.specs.declared.dynamic.entry.Entry.{Entry}
 use Rattle.qpack_table.proofs.RowSearches.{field_there, fields_long}
 use Rattle.qpack_table.specs.Indexes.{bucket, IsNewestOf, AreHashesOf, IsLinkOf, AreNamesOf, IsNewestIn}
 use Rattle.qpack_table.specs.declared.dynamic.index.names.Link.{Link}
-use Rattle.qpack_table.proofs.HashedRows.{same_or_not}
 use Rattle.qpack_table.proofs.NewestEntries.{PassesAt, newest_at, newest_nowhere}
 use Rattle.qpack_table.proofs.RowChanges.{field_pushed, drop_field}
 
@@ -164,7 +163,7 @@ module _ (dropped : ℕ) (live : List Field) (entered : ℕ) (heads : List ℕ) 
     some = λ h. omega (arith, within, length-set heads k index);
     newest = λ j d h.
         subst (λ (n : ℕ). IsNewestOf dropped live n j (dropped + (entered + 1) + 1) (get_or (set heads k index) j d))
-        (sym (length-set heads k index)) (head j d (omega (arith, h, length-set heads k index)) (same_or_not j k));
+        (sym (length-set heads k index)) (head j d (omega (arith, h, length-set heads k index)) (cases_eq j k));
     counted = omega (arith, are.counted, length-append links (link ∷ []));
     linked = λ a d g h.
         subst (λ (n : ℕ). IsLinkOf dropped live n a (get_or (links ++ link ∷ []) (a - dropped - 1) d))

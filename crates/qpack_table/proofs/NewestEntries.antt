@@ -1,10 +1,11 @@
 -- The newest entry that passes, as the definitions find it.
 use Rattle.std.proofs.Common.{◌≡◌, ℕ, zero, suc, ◌+◌, ◌-◌, ◌<◌, ◌≤◌, Bool, true, false, [], ◌∷◌, List, length, get_or}
 use Rattle.std.proofs.Common.{Option, None, Some, refl, sym, ap, subst, ◌∙◌, arith}
-use Rattle.std.specs.Prelude.{slice_index_or, slice_get, Contains}
+use Rattle.std.specs.Prelude.{slice_index_or, Contains}
 use Rattle.std.specs.Option.{option_map}
 use Rattle.std.specs.Ordering.{is_eq}
 use Rattle.std.proofs.lemmas.List.{length-map}
+use Rattle.std.proofs.lemmas.Option.{get_or_from_slice_get}
 use Rattle.qpack_spec.specs.Field.{Field, is_field}
 use Rattle.qpack_spec.specs.Table as table
 use Rattle.qpack_spec.specs.Table.{Table, fields_in, later_position, last_position, newest_index}
@@ -42,12 +43,6 @@ last_from p (x ∷ xs) (suc i) d h e =
       least = omega (arith, r.least);
     }
 
--- the element of a position that was got
-got : {X : Type 0} (xs : List X) (i : ℕ) (x d : X) → slice_get xs i ≡ Some x → get_or xs i d ≡ x
-got [] i x d h = absurd cc
-got (y ∷ ys) zero x d h = cc
-got (y ∷ ys) (suc i) x d h = got ys i x d h
-
 -- a live index whose field passes
 pub record PassesAt (dropped : ℕ) (fields : List Field) (p : Field → Bool) (a : ℕ) : Type 0 where
   pub live : IsLiveIndex dropped fields a
@@ -63,7 +58,7 @@ module _ (t : Table) (p : Field → Bool) where
       let place : a - t.dropped - 1 ≡ at.place = omega (arith, at.index) in
       let field : slice_index_or (fields_in t.live) (a - t.dropped - 1) none ≡ at.item =
       ap (λ (i : ℕ). slice_index_or (fields_in t.live) i none) place
-      ∙ got (fields_in t.live) at.place at.item none at.there in
+      ∙ get_or_from_slice_get (fields_in t.live) at.place at.item none at.there in
       record { live = (at.above, omega (arith, at.within, long)); passes = ap p field ∙ at.passes }
 
   -- a live index whose field passes is at most what the definitions find

@@ -4,7 +4,7 @@ use Rattle.std.proofs.Common.{subst, ◌∙◌}
 use Rattle.std.proofs.Common.{inl, inr, ◌⊎◌, arith}
 use Rattle.std.specs.Prelude.{slice_index, Contains, sum_by}
 use Rattle.std.specs.List.Sorted.{IsPermutation}
-use Rattle.std.proofs.lemmas.Bool.{cases_lt}
+use Rattle.std.proofs.lemmas.Bool.{cases_lt, cases_eq}
 use Rattle.std.proofs.lemmas.List.{length-set, get_or-set_other, get_or-set_same}
 use Rattle.std.proofs.lemmas.List.Sums.{sum_by-set}
 use Rattle.std.proofs.lemmas.List.Sorted.{length_permutation, Contains-permutation, IsPermutation-sym}
@@ -12,7 +12,7 @@ use Rattle.qpack_spec.specs.Field.{Field}
 use Rattle.qpack_table.specs.Rows.{field_at, IsRow}
 use Rattle.qpack_table.specs.Indexes.{home, AreRowsOf}
 use Rattle.qpack_table.specs.declared.dynamic.index.row.Row.{Row}
-use Rattle.qpack_table.proofs.HashedRows.{size, same_or_not}
+use Rattle.qpack_table.proofs.HashedRows.{size}
 use Rattle.qpack_table.proofs.RowPlaces.{contained}
 use Rattle.qpack_table.proofs.RowChanges.{contains_more, contains_other, field_pushed, row_pushed, drop_field}
 use Rattle.qpack_table.proofs.RowChanges.{row_behind}
@@ -70,13 +70,13 @@ module _ (to : ℕ) (new : List Field) (entered : ℕ) (rows : List Row) (k : �
   pub rows_changed : AreRowsOf to new entered (set rows k r)
   rows_changed = record {
     some = λ g. omega (arith, within, same_length);
-    are_rows = λ j d h. pick_row j d (omega (arith, h, same_length)) (same_or_not j k);
+    are_rows = λ j d h. pick_row j d (omega (arith, h, same_length)) (cases_eq j k);
     at_home = λ j d a h g.
         subst (λ (n : ℕ). (a ≤ to + entered) × (home n (field_at to new a) ≡ j)) (sym same_length)
-        (pick_home j d a (omega (arith, h, same_length)) g (same_or_not j k));
+        (pick_home j d a (omega (arith, h, same_length)) g (cases_eq j k));
     complete = λ a d g h.
         subst (λ (n : ℕ). Contains ((get_or (set rows k r) (home n (field_at to new a)) d).indexes.items) a)
-        (sym same_length) (pick_there a d g h (same_or_not (home (length rows) (field_at to new a)) k));
+        (sym same_length) (pick_there a d g h (cases_eq (home (length rows) (field_at to new a)) k));
     counted = c.counted;
   }
 
@@ -143,7 +143,7 @@ module _ (dropped : ℕ) (live : List Field) (entered : ℕ) (rows : List Row) (
     rows_entered = record {
       row = rises;
       others = λ j d h ne. are.are_rows j d h;
-      at_home = λ a c. home_new a (same_or_not newest a)
+      at_home = λ a c. home_new a (cases_eq newest a)
           (Contains-permutation (new.indexes.items) (newest ∷ r.indexes.items) a
           (IsPermutation-sym (newest ∷ r.indexes.items) (new.indexes.items) moved) c);
       others_at_home = λ j d a h ne c.

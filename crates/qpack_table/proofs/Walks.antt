@@ -2,13 +2,13 @@
 use Rattle.std.proofs.Common.{◌≡◌, ℕ, suc, ◌+◌, ◌-◌, ◌<◌, ◌≤◌, true, false, List, length, take, drop, get_or, sym, ap}
 use Rattle.std.proofs.Common.{subst, ◌∙◌, arith, Option, None, Some}
 use Rattle.std.specs.Prelude.{IfSome, IfNone}
-use Rattle.std.proofs.lemmas.List.{length-map}
+use Rattle.std.proofs.lemmas.Option.{IfSome_then}
 use Rattle.qpack_base.specs.HeaderFields.{field_of}
 use Rattle.qpack_spec.specs.Field.{Field, field_size}
 use Rattle.qpack_spec.specs.Table as table
 use Rattle.qpack_spec.specs.Table.{Table, fields_in, all_evictable, can_evict, eviction_count_for}
 use Rattle.qpack_spec.specs.Window.{eviction_count}
-use Rattle.qpack_spec.proofs.Windows.{eviction_count_bound}
+use Rattle.qpack_spec.proofs.Positions.{eviction_count_live}
 use Rattle.qpack_table.specs.Tables.{entries_of, IsEvictableAt}
 use Rattle.qpack_table.specs.declared.dynamic.entry.Entry.{Entry}
 use Rattle.qpack_table.proofs.EvictableEntries.{stops_at_first, free_goes_on, all_free}
@@ -29,18 +29,11 @@ goes t es room rest evicted k more =
     subst (λ (l : List table.Entry). evicted < eviction_count room (fields_in l)) (sym k.same)
     (still room (fields_in (entries_of es)) evicted (omega (arith, more, k.gone.sum)))
 
-bound : (t : Table) (room : ℕ) → eviction_count room (fields_in t.live) ≤ length t.live
-bound t room = omega (
-  arith,
-  eviction_count_bound room (fields_in t.live),
-  length-map t.live (λ (e : table.Entry). e.field),
-)
-
 pub walk_held : (t : Table) (es : List Entry) (room rest evicted : ℕ) → Walked t es room rest evicted → room < rest
     → IsEvictableAt t evicted false → can_evict t (eviction_count room (fields_in t.live)) ≡ false
 walk_held t es room rest evicted k more at = k.free
     ∙ stops_at_first t (eviction_count room (fields_in t.live)) evicted (goes t es room rest evicted k more)
-    (bound t room) at
+    (eviction_count_live t room) at
 
 pub walk_more : (t : Table) (es : List Entry) (room rest evicted size : ℕ) (e : Entry) → Walked t es room rest evicted
     → evicted < length es → room < rest → IsEvictableAt t evicted true → e ≡ get_or es evicted e
@@ -49,7 +42,7 @@ walk_more t es room rest evicted size e k within more at is exact = record {
   same = k.same;
   gone = evicted_more room es rest evicted size e within more is exact k.gone;
   free = k.free ∙ free_goes_on t (eviction_count room (fields_in t.live)) evicted (goes t es room rest evicted k more)
-      (bound t room) at;
+      (eviction_count_live t room) at;
 }
 
 counted : (t : Table) (es : List Entry) (room rest evicted : ℕ) → Walked t es room rest evicted
@@ -75,10 +68,6 @@ walk_free t es room rest evicted k is =
 
 -- ---- before a field
 
-if_some : {X : Type 0} (r : Option X) (P Q : X → Type 0) → IfSome r P → ((x : X) → P x → Q x) → IfSome r Q
-if_some None P Q h more = tt
-if_some (Some x) P Q h more = more x h
-
 if_none : {X : Type 0} (r : Option X) (P Q : Type 0) → IfNone r P → (P → Q) → IfNone r Q
 if_none None P Q h more = more h
 if_none (Some x) P Q h more = tt
@@ -95,9 +84,7 @@ pub least_for : (t : Table) (room size : ℕ) (r : Option ℕ) → size ≤ t.ca
     → IfSome r (λ evicted. evicted ≡ eviction_count room (fields_in t.live))
     → IfSome r (λ evicted. (f : Field) → field_size f ≡ size → evicted ≡ eviction_count_for t f)
 least_for t room size r fits is h =
-    if_some r (λ evicted. evicted ≡ eviction_count room (fields_in t.live))
-    (λ evicted. (f : Field) → field_size f ≡ size → evicted ≡ eviction_count_for t f) h
-    (λ evicted e f same. e ∙ beside t room size f fits is same)
+    IfSome_then r h (λ evicted e f same. e ∙ beside t room size f fits is same)
 
 pub held_for : (t : Table) (room size : ℕ) (r : Option ℕ) → size ≤ t.capacity → room ≡ t.capacity - size
     → IfNone r (can_evict t (eviction_count room (fields_in t.live)) ≡ false)

@@ -1,14 +1,14 @@
 -- Reading a form alone from left to right is its relation: spellings, refusals, and what is cut off.
-use Rattle.std.proofs.Common.{◌≡◌, ℕ, ◌/◌, ◌^◌, Bool, true, false, List, [], ◌∷◌, ◌++◌, Option, None, Some, Result, Ok}
+use Rattle.std.proofs.Common.{◌≡◌, ℕ, ◌/◌, ◌^◌, false, List, [], ◌∷◌, ◌++◌, Option, None, Some, Result, Ok}
 use Rattle.std.proofs.Common.{Err, refl, sym, ap, subst, ◌∙◌, inl, inr}
 use Rattle.qpack_spec.specs.Bytes.{Begins, ◌>>=◌}
 use Rattle.qpack_spec.specs.Integer.{IntegerFault, Overflow, UnexpectedEnd, StandsFor, OverflowsInteger, integer_at}
-use Rattle.qpack_spec.specs.Form.{FormFault, BadInteger, BadString, is_cut, Form, Index, IndexAndValue, NameAndValue}
+use Rattle.qpack_spec.specs.Form.{FormFault, BadInteger, BadString, Form, Index, IndexAndValue, NameAndValue}
 use Rattle.qpack_spec.specs.Form.{Spells, Refuses, or_bad_integer, made_at, form_at}
 use Rattle.qpack_spec.proofs.Integers.{integer_takes, integer_again, overflow_begins}
 use Rattle.qpack_spec.proofs.Forms.{index_refused, made_again, made_refused}
 use Rattle.qpack_spec.proofs.FormLaws.{TakesSpelling, form_takes, form_again, form_refused, form_refusal}
-use Rattle.qpack_spec.proofs.FormLaws.{reads_form_truncation}
+use Rattle.qpack_spec.proofs.FormLaws.{refuses_whole}
 use Rattle.qpack_wire.specs.Alone.{Kind, ByFlags, ByFirstByte, KindFault, Unreadable, Foreign, form_for}
 use Rattle.qpack_wire.specs.Alone.{SpellsKind, RefusesForeign, RefusesKind, is_cut_kind, or_unreadable}
 use Rattle.qpack_wire.specs.Alone.{made_or_foreign, kind_at}
@@ -213,21 +213,9 @@ alone_refusal {L} a c (b ∷ bs) fault e k = go (form_for a b) refl
         subst (λ (g : KindFault). Begins (λ x. RefusesKind a x g) (b ∷ bs)) (sym u.told)
         (record { encoding = w.encoding; rest = w.rest; parts = w.parts; holds = inl w.holds })
 
-whole_form : {L : Type 0} (form_of : ℕ → Option (Form L)) (encoding : List ℕ) (f : FormFault)
-    → Refuses L form_of encoding f
-    → is_cut f ≡ false
-whole_form form_of encoding f r = go (is_cut f) refl
-  where
-    go : (b : Bool) → is_cut f ≡ b → is_cut f ≡ false
-    go false q = q
-    go true q =
-        let m = form_refused form_of encoding [] f r in
-        let cut = (reads_form_truncation form_of (encoding ++ [])).0 (f, q, m) in
-        absurd ((cut encoding [] refl).1 f r)
-
 whole_text : {L : Type 0} (a : Kind L) → Coherent a → (encoding : List ℕ) (fault : KindFault)
     → RefusesKind a encoding fault → is_cut_kind fault ≡ false
-whole_text a c encoding (Unreadable f) (inl r) = whole_form (form_for a) encoding f r
+whole_text a c encoding (Unreadable f) (inl r) = refuses_whole (form_for a) encoding f r
 whole_text (ByFlags n named) c [] (Unreadable f) (inr r) = absurd r
 whole_text (ByFlags n named) c (b ∷ bs) (Unreadable (BadInteger Overflow)) (inr r) = refl
 whole_text (ByFlags n named) c (b ∷ bs) (Unreadable (BadInteger UnexpectedEnd)) (inr r) = absurd r.1
@@ -275,5 +263,5 @@ forms_follow {L} form_of refuses same none = record {
     told_again encoding rest (Foreign bits) r = absurd (none encoding bits r)
 
     all_whole : (encoding : List ℕ) (fault : KindFault) → refuses encoding fault → is_cut_kind fault ≡ false
-    all_whole encoding (Unreadable f) r = whole_form form_of encoding f ((same encoding f).0 r)
+    all_whole encoding (Unreadable f) r = refuses_whole form_of encoding f ((same encoding f).0 r)
     all_whole encoding (Foreign bits) r = absurd (none encoding bits r)

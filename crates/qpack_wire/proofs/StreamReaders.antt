@@ -15,10 +15,7 @@ use Rattle.qpack_wire.specs.Alone.{KindFault, Unreadable, is_cut_kind}
 use Rattle.qpack_wire.specs.Answers.{fault_of, Tells, Fails, FailsEarly, Gives, TellsRefusal, ReadsForm}
 use Rattle.qpack_wire.specs.StreamAnswers.{FindsInstruction, GivesInstruction, ReadsInstruction, TellsNone}
 use Rattle.qpack_wire.specs.StreamAnswers.{DecodesInstruction, without_end}
-use Rattle.qpack_wire.proofs.Readers.{Follows, found, only, refusals, ends}
-
-abbrev failed : {V : Type 0} → ParseError → Result V ParseError
-failed e = Err e
+use Rattle.qpack_wire.proofs.Readers.{Follows, found, only, refusals, ends, failed}
 
 abbrev none : {V : Type 0} → Result (Option V) ParseError
 none = Ok None

@@ -1,11 +1,10 @@
 -- Instructions of the encoder stream, heard and printed one by one.
-use Rattle.std.proofs.Common.{◌≡◌, ◌≢◌, ℕ, ◌-◌, ◌+◌, ◌<◌, List, [], ◌∷◌, ◌++◌, length, take, drop, Option, Some, None}
+use Rattle.std.proofs.Common.{◌≡◌, ◌≢◌, ℕ, ◌-◌, ◌+◌, List, [], ◌∷◌, ◌++◌, length, take, drop, Option, Some, None}
 use Rattle.std.proofs.Common.{Ok, Bool, true, false, refl, sym, ap, subst, ◌∙◌, append_assoc, append-nil}
 use Rattle.std.proofs.Common.{length-append, arith}
 use Rattle.std.proofs.lemmas.List.{take_at, drop_at}
 use Rattle.qpack_base.specs.Cursor.{CursorView}
-use Rattle.qpack_spec.specs.Form.{Truncates}
-use Rattle.qpack_spec.specs.Instruction.{EncoderInstruction, encoder_instruction_form, SpellsEncoderInstruction}
+use Rattle.qpack_spec.specs.Instruction.{EncoderInstruction, SpellsEncoderInstruction}
 use Rattle.qpack_spec.specs.Session.{apply_encoder_instructions}
 use Rattle.qpack_spec.specs.Stream.{Joined}
 use Rattle.qpack_spec.specs.Table.{Table}
@@ -54,10 +53,6 @@ pub found_next : (bytes left : List ℕ) (o : Option EncoderLine) (line : Encode
     → (encoding : List ℕ) × (bytes ≡ encoding ++ left) × SpellsEncoderInstruction encoding (encoder_instruction_of line)
 found_next bytes left o line is read = subst (λ (o : Option EncoderLine). ReadsNext bytes left (Ok o)) is read
 
-pub none_next : (bytes left : List ℕ) (o : Option EncoderLine) → o ≡ None → ReadsNext bytes left (Ok o)
-    → Truncates encoder_instruction_form bytes × (left ≡ bytes)
-none_next bytes left o is read = subst (λ (o : Option EncoderLine). ReadsNext bytes left (Ok o)) is read
-
 -- the bytes in front of what is left
 pub front_is : (bytes encoding left : List ℕ) → bytes ≡ encoding ++ left → take (length bytes - length left) bytes
     ≡ encoding
@@ -101,16 +96,6 @@ pub record HasHeard (old now : Table) (bytes rest before text : List ℕ) : Type
   pub applies : apply_encoder_instructions old lines ≡ Ok now
   pub printed : text ≡ before ++ instructions_text lines
 
-pub heard_none : (t : Table) (bytes before : List ℕ) → HasHeard t t bytes bytes before before
-heard_none t bytes before = record {
-  lines = [];
-  front = [];
-  cut = refl;
-  joined = refl;
-  applies = refl;
-  printed = sym (append-nil before);
-}
-
 text_last : (lines : List EncoderInstruction) (i : EncoderInstruction) → instructions_text (lines ++ i ∷ [])
     ≡ instructions_text lines ++ instruction_text i
 text_last [] i = append-nil (instruction_text i)
@@ -133,15 +118,6 @@ heard_more old now new bytes rest left before text after h one =
           ∙ append_assoc before (instructions_text h.lines) (instruction_text t.instruction)
           ∙ ap (λ (x : List ℕ). before ++ x) (sym (text_last h.lines t.instruction));
     }
-
--- an instruction takes a byte at least
-pub one_shortens : (now new : Table) (rest left text after : List ℕ) (b : Bool)
-    → HearsNext now new rest left text after (Ok b) → b ≡ true → length left < length rest
-one_shortens now new rest left text after true one is =
-    let t = one.takes in
-    let parts : length rest ≡ length t.encoding + length left = ap length t.cut ∙ length-append t.encoding left in
-    omega (arith, parts, ap length t.spells.begins)
-one_shortens now new rest left text after false none is = absurd cc
 
 pub one_was : (now new : Table) (rest left text after : List ℕ) (b : Bool)
     → HearsNext now new rest left text after (Ok b) → b ≡ true → HearsOne now new rest left text after

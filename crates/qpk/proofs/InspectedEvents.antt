@@ -3,8 +3,7 @@ use Rattle.std.proofs.Common.{◌≡◌, ℕ, ◌+◌, ◌-◌, ◌<◌, ◌≤�
 use Rattle.std.proofs.Common.{Ok, refl, sym, ap, subst, ◌∙◌, append_assoc, append-nil, length-append, arith}
 use Rattle.std.proofs.Common.{inl, inr}
 use Rattle.std.specs.Prelude.{get_or}
-use Rattle.std.proofs.lemmas.List.{drop-append-le, drop-drop, drop_more, drop_all, length-drop}
-use Rattle.qpk.proofs.Writes.{rest_is}
+use Rattle.std.proofs.lemmas.List.{drop-append-le, drop-drop, drop_more, drop_all, length-drop, take_rest}
 use Rattle.qpack_spec.specs.Table.{Table}
 use Rattle.h3_qpack.specs.declared.decoder.DecoderError.{DecoderError}
 use Rattle.qpk.specs.Inspecting.{Event, Piece, Section, Inspects}
@@ -84,7 +83,7 @@ pub slice_unread : (stream joined slice piece given : List ℕ) (taken : ℕ) �
     → joined ≡ stream ++ given → given ≡ piece → slice ≡ joined
     → take (length slice - taken) (drop taken slice) ≡ drop taken stream ++ piece
 slice_unread stream joined slice piece given taken h e g s =
-    rest_is slice taken ∙ ap (drop taken) s
+    take_rest slice taken ∙ ap (drop taken) s
     ∙ unread_is stream joined piece taken h (e ∙ ap (λ (x : List ℕ). stream ++ x) g)
 
 -- what stands behind some events

@@ -6,9 +6,10 @@ use Rattle.std.specs.Borrow.{Bor}
 use Rattle.std.specs.Prelude.{MatchResult}
 use Rattle.std.specs.Result.{result_ok}
 use Rattle.std.specs.Str.{all_ascii_digits}
-use Rattle.std.specs.Str.Parse.{AllDigits, IsNumeral, digits_value, without_leading_plus, ParsesUnsigned}
+use Rattle.std.specs.Str.Parse.{IsNumeral, digits_value, without_leading_plus, ParsesUnsigned}
 use Rattle.std.proofs.lemmas.Str.{IsUtf8-from_ascii}
-use Rattle.std.proofs.lemmas.Str.Parse.{IsNumeralModel, numerals_by_value, tells_all_ascii_digits, digit_from_value}
+use Rattle.std.proofs.lemmas.Str.Parse.{IsNumeralModel, numerals_by_value, tells_all_ascii_digits}
+use Rattle.std.proofs.lemmas.Fmt.{IsAscii-from_digits}
 use Rattle.qpack_spec.specs.Field.{Field}
 use Rattle.qpk.specs.FieldText.{with_byte, with_name_byte, field_of_line}
 use Rattle.qpk.specs.Scripts.{parts_of, number_of_digits, number_of, event_alone}
@@ -92,12 +93,6 @@ pub no_text : {E : Type 0} (part : List ℕ) (P : Bor (List ℕ) → Type 0) (Q 
 no_text part P Q (Ok x) e m = absurd cc
 no_text part P Q (Err f) e m = m.0
 
--- what says a number is ASCII
-digits_ascii : (ds : List ℕ) → AllDigits 10 ds → IsAscii ds
-digits_ascii [] d i = omega arith
-digits_ascii (c ∷ cs) d zero = let k = digit_from_value c d.0 in omega (arith, k.1)
-digits_ascii (c ∷ cs) d (suc i) = digits_ascii cs d.1 i
-
 plus_ascii : (bs : List ℕ) → IsAscii (without_leading_plus bs) → IsAscii bs
 plus_ascii [] h = h
 plus_ascii (b ∷ bs) h = go (eqb b 43) refl h
@@ -118,7 +113,7 @@ not_decimal (d ∷ ds) n = go (all_ascii_digits (d ∷ ds)) refl
 
 pub no_text_no_number : (part : List ℕ) → (IsUtf8 part → ⊥) → number_of part ≡ None
 no_text_no_number part n = not_decimal (without_leading_plus part) (λ a.
-    n (IsUtf8-from_ascii part (plus_ascii part (digits_ascii (without_leading_plus part)
+    n (IsUtf8-from_ascii part (plus_ascii part (IsAscii-from_digits (without_leading_plus part)
     (own.to (without_leading_plus part) a)))))
 
 -- ---- fields

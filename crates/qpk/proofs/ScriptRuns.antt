@@ -1,8 +1,9 @@
 -- A script's session, event by event, and what is printed of it.
 use Rattle.std.proofs.Common.{◌≡◌, ◌<◌, ◌≤◌, ◌⊎◌, inl, inr, ℕ, zero, suc, ◌+◌, ◌-◌, List, [], ◌∷◌, ◌++◌, length, take}
-use Rattle.std.proofs.Common.{drop, map, get_or, slice_get, slice_range, Option, Some, None, MatchOption, Result, Ok}
-use Rattle.std.proofs.Common.{Err, IfOk, refl, sym, ap, subst, ◌∙◌, append_assoc, append-nil, add-one, arith, take_all}
+use Rattle.std.proofs.Common.{drop, map, get_or, slice_get, slice_range, Option, Some, None, MatchOption, Ok}
+use Rattle.std.proofs.Common.{Err, refl, sym, ap, subst, ◌∙◌, append_assoc, append-nil, add-one, arith, take_all}
 use Rattle.std.proofs.Common.{drop_of_length-le}
+use Rattle.std.proofs.lemmas.List.{take_rest}
 use Rattle.std.specs.Borrow.{Bor}
 use Rattle.std.specs.Prelude.{unwrap_or}
 use Rattle.qpack_spec.specs.Session as spec
@@ -23,7 +24,6 @@ use Rattle.qpk.specs.Runs.{printed_answer, written_stream, bytes_of_block, newes
 use Rattle.qpk.specs.Runs.{PrintsEvents, PrintsOne, PrintsAll, stored_stream_bytes, bytes_of_stored, newest_stored}
 use Rattle.qpk.specs.Runs.{stored_block_bytes, PrintsRun}
 use Rattle.qpk.specs.Scripts.{events_in, script_events}
-use Rattle.qpk.proofs.Writes.{rest_is}
 
 -- ---- the bytes of a session that is shown
 
@@ -138,10 +138,6 @@ event_prints old new e r block added out follows made wrote prints v shows =
       };
     }
 
-pub if_ok : {A E : Type 0} (r : Result A E) (P Q : A → Type 0) → ((x : A) → P x → Q x) → IfOk r P → IfOk r Q
-if_ok (Ok x) P Q f p = f x p
-if_ok (Err e) P Q f p = tt
-
 -- ---- events in turn
 
 prints_last : (v last next : Session) (events : List spec.Event) (e : spec.Event) (out here : List ℕ)
@@ -217,4 +213,4 @@ added_is P xs n None none r (inl lt) empty is =
     ap (λ (b : Bor (List ℕ)). b.now) is ∙ empty ∙ sym (drop_of_length-le xs (omega arith))
 added_is P xs n None none r (inr lt) empty is = absurd (omega arith)
 added_is P xs n (Some x) none r (least, most, range, p) empty is =
-    ap (λ (b : Bor (List ℕ)). b.now) is ∙ range ∙ rest_is xs n
+    ap (λ (b : Bor (List ℕ)). b.now) is ∙ range ∙ take_rest xs n

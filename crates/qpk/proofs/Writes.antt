@@ -1,9 +1,9 @@
 -- Writes of one piece after the other.
-use Rattle.std.proofs.Common.{◌≡◌, ℕ, ◌+◌, List, ◌++◌, ◌-◌, ◌≤◌, length, Option, Some, None, take, drop, refl, sym, ap}
-use Rattle.std.proofs.Common.{subst, arith, append_assoc, append-nil, ◌∙◌}
+use Rattle.std.proofs.Common.{◌≡◌, ℕ, ◌+◌, List, ◌++◌, ◌-◌, length, Option, Some, None, take, drop, sym, ap}
+use Rattle.std.proofs.Common.{subst, append_assoc, ◌∙◌}
 use Rattle.std.proofs.Math.Seq.{take-add}
 use Rattle.std.specs.Io.KnownBytes.{Appends, Keeps}
-use Rattle.std.proofs.lemmas.List.{drop-drop, take_all, length-drop}
+use Rattle.std.proofs.lemmas.List.{drop-drop, take_rest}
 
 -- what a writer gained is a front of the bytes, and the rest is left
 abbrev pub Written : Option (List ℕ) → Option (List ℕ) → List ℕ → List ℕ → Type 0
@@ -21,21 +21,12 @@ appends_kept (Some old) None c xs p q = absurd p
 appends_kept (Some old) (Some mid) None xs p q = absurd q
 appends_kept (Some old) (Some mid) (Some new) xs p q = q ∙ p
 
-pub written_none : (a : Option (List ℕ)) (bytes : List ℕ) → Written a a bytes bytes
-written_none None bytes = (0, refl, tt)
-written_none (Some old) bytes = (0, refl, sym (append-nil old))
-
--- the rest of a slice, as it is taken
-pub rest_is : (xs : List ℕ) (m : ℕ) → take (length xs - m) (drop m xs) ≡ drop m xs
-rest_is xs m = take_all (length xs - m) (drop m xs)
-    (subst (λ (k : ℕ). k ≤ length xs - m) (sym (length-drop m xs)) (omega arith))
-
 pub written_more : (a b c : Option (List ℕ)) (bytes rest after : List ℕ) (m : ℕ) → Written a b bytes rest
     → Appends b c (take m rest) → after ≡ take (length rest - m) (drop m rest)
     → Written a c bytes after
 written_more a b c bytes rest after m (n, left, wrote) more e = (
   n + m,
-  e ∙ rest_is rest m ∙ ap (drop m) left ∙ drop-drop m n bytes,
+  e ∙ take_rest rest m ∙ ap (drop m) left ∙ drop-drop m n bytes,
   subst (Appends a c) (ap (λ l. take n bytes ++ take m l) left ∙ sym (take-add n m bytes))
       (appends_two a b c (take n bytes) (take m rest) wrote more),
 )

@@ -2,9 +2,10 @@ use Rattle.std.proofs.Common.{◌≡◌, ◌+◌, ◌∷◌, ◌++◌, [], ℕ, 
 use Rattle.std.specs.Prelude.{slice_get}
 use Rattle.std.proofs.lemmas.Result.{err_from_is_err_and}
 use Rattle.qpack_spec.specs.Field.{field_size, total_size}
+use Rattle.qpack_spec.proofs.Sizes.{total_last}
 use Rattle.qpack_base.specs.HeaderFields.{field_of}
 use Rattle.h3_qpack.specs.Stateless.{fields_in}
-use Rattle.h3_qpack.proofs.ReadLines.{none_left, lines_end, turn_bad, turn_long, turn_good, told_is, total_more}
+use Rattle.h3_qpack.proofs.ReadLines.{none_left, lines_end, turn_bad, turn_long, turn_good, told_is}
 use Rattle.h3_qpack.proofs.ReadLines.{fields_more}
 use Rattle.qpack_wire.proofs.Asking.{asks_held, asks_begun}
 use Rattle.h3_qpack.proofs.Asking.{held_begun}
@@ -75,7 +76,7 @@ loop-byte-preserved c =
     ap fields_in c.in_ok-push.ensures.items ∙ fields_more c.loop-byte.fields.items c.in_ok-field.field in
     let all : total_size (fields_in c.loop-byte.fields.items ++ field_of c.in_ok-field.field ∷ [])
     ≡ sum + field_size (field_of c.in_ok-field.field) =
-    total_more (fields_in c.loop-byte.fields.items) (field_of c.in_ok-field.field) in
+    total_last (fields_in c.loop-byte.fields.items) (field_of c.in_ok-field.field) in
     record {
       lines = rw (more, all) goes.next;
       size = rw (more, all) told;

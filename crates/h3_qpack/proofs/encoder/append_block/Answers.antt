@@ -4,9 +4,10 @@ use Rattle.std.proofs.lemmas.Result.{err_from_is_err_and}
 use Rattle.qpack_spec.specs.Prefix.{Prefix, written_prefix}
 use Rattle.qpack_spec.specs.BlockReading.{written_block}
 use Rattle.qpack_spec.specs.Stateless.{stateless_block}
+use Rattle.qpack_spec.proofs.Sizes.{total_last}
 use Rattle.qpack_base.specs.HeaderFields.{field_of, fields_behind}
 use Rattle.h3_qpack.proofs.WrittenBlocks.{begun, grown, take-append_front, behind_more}
-use Rattle.h3_qpack.proofs.ReadLines.{told_is, total_more}
+use Rattle.h3_qpack.proofs.ReadLines.{told_is}
 use Rattle.h3_qpack.proofs.encoder.append_block.Goals as goal
 
 pub loop-field-init : goal.loop-field-init
@@ -34,7 +35,7 @@ loop-field-preserved g c =
     let more = behind_more c.loop-field.yielded c.in-Some.field in
     let told = told_is (total_size fs) (field_size f) c.mem_size.result c.loop-field.size c.saturating_add-size.result
     c.loop-field.invariant.1 c.mem_size.ensures c.saturating_add-size.ensures in
-    rw (more, total_more fs f) (
+    rw (more, total_last fs f) (
       grown c.args.block.now.items c.loop-field.block.items c.append_line.new.block.items fs f c.loop-field.invariant.0
           c.in_ok-append_line.ensures.writes.ok,
       told,

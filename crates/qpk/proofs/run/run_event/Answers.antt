@@ -1,7 +1,8 @@
 use Rattle.std.proofs.Common.{ℕ, List, length, drop, refl, ap, ◌∙◌}
+use Rattle.std.proofs.lemmas.Result.{IfOk-weaker}
 use Rattle.h3_qpack.specs.Sessions.{event_of}
 use Rattle.qpk.specs.Runs.{stored_stream_bytes}
-use Rattle.qpk.proofs.ScriptRuns.{if_ok, added_is, event_prints}
+use Rattle.qpk.proofs.ScriptRuns.{added_is, event_prints}
 use Rattle.qpk.proofs.run.run_event.Goals as goal
 
 pub returns : goal.returns
@@ -12,7 +13,7 @@ returns c =
     c.unwrap_or-added.result c.get.ensures.lookup.0 refl c.unwrap_or-added.ensures
     ∙ ap (λ (xs : List ℕ). drop (length xs) c.written_stream.result.now) c.written_stream-before.ensures
     ∙ ap (λ (xs : List ℕ). drop (length (stored_stream_bytes e c.args.session.now)) xs) c.written_stream.ensures in
-    if_ok c.outcome_lines.result _ _
+    IfOk-weaker c.outcome_lines.result _ _
     (λ text prints. event_prints c.args.session.now c.step-outcome.new.self e c.step-outcome.result
     c.made_block.result.now c.unwrap_or-added.result.now _ c.step-outcome.ensures.goes c.made_block.ensures added
     prints)

@@ -2,10 +2,11 @@ use Rattle.std.proofs.Common.{◌≡◌, ◌+◌, ◌∷◌, ◌++◌, [], ap, �
 use Rattle.std.proofs.lemmas.Result.{err_from_is_err_and}
 use Rattle.qpack_spec.specs.Field.{field_size, total_size}
 use Rattle.qpack_spec.specs.Table.{window}
+use Rattle.qpack_spec.proofs.Sizes.{total_last}
 use Rattle.qpack_base.specs.HeaderFields.{field_of}
 use Rattle.h3_qpack.specs.Stateless.{fields_in}
 use Rattle.qpack_wire.proofs.Asking.{asks_held, asks_begun}
-use Rattle.h3_qpack.proofs.ReadLines.{told_is, total_more, fields_more}
+use Rattle.h3_qpack.proofs.ReadLines.{told_is, fields_more}
 use Rattle.h3_qpack.proofs.ReadSections.{fields_end, turn_bad, turn_good, line_begun}
 use Rattle.h3_qpack.proofs.ReadSections.{none_of}
 use Rattle.h3_qpack.proofs.decoder.sections.read_fields.Goals as goal
@@ -53,7 +54,7 @@ loop-alloc-preserved c =
     ap fields_in c.in_ok-push.ensures.items ∙ fields_more c.loop-alloc.fields.items c.in_ok-field.field in
     let all : total_size (fields_in c.loop-alloc.fields.items ++ field_of c.in_ok-field.field ∷ [])
     ≡ sum + field_size (field_of c.in_ok-field.field) =
-    total_more (fields_in c.loop-alloc.fields.items) (field_of c.in_ok-field.field) in
+    total_last (fields_in c.loop-alloc.fields.items) (field_of c.in_ok-field.field) in
     record {
       lines = rw more goes.next;
       size = rw (more, all) told;
