@@ -38,7 +38,7 @@ live_is_there w absolute live =
       | inr h ↦ absurd (omega (arith, live.0, live.1, h.0))
     ]
 
-not_there : {X : Type 0} (o : Option X) → o ≡ None → IsSome o → ⊥
+pub not_there : {X : Type 0} (o : Option X) → o ≡ None → IsSome o → ⊥
 not_there o e h = cc
 
 pub there_is_live : (w : Window) (absolute : ℕ) → IsSome (absolute_entry w absolute) → IsLive (positions_of w) absolute

@@ -6,11 +6,13 @@ use Rattle.std.specs.Prelude.{not, slice_get, nat_lt, IfSome, if◌then◌else�
 use Rattle.std.specs.List.{list_any}
 use Rattle.std.proofs.lemmas.Bool.{cases_lt, lt-ltb, le-ltb}
 use Rattle.std.proofs.lemmas.List.{drop_all, length-take}
+use Rattle.std.proofs.lemmas.Option.{slice_get_read}
 use Rattle.qpack_spec.specs.Table as table
 use Rattle.qpack_spec.specs.Table.{has_number, is_evictable, all_evictable}
 use Rattle.qpack_spec.proofs.Lists.{get_within}
 use Rattle.qpack_table.specs.Tables.{entry_of, entries_of, times, references_in, IsEvictableAt}
 use Rattle.qpack_table.proofs.References.{named_if_used}
+use Rattle.qpack_table.proofs.Lookups.{entry_there}
 use Rattle.qpack_table.specs.declared.dynamic.entry.Entry.{Entry}
 
 by_either : (x y z : Bool) → (x || y) ≡ true → (x || (y || z)) ≡ true
@@ -44,12 +46,6 @@ evictable_unused t a n sent e h =
     (list_any (λ (b : table.UnacknowledgedBlock). has_number a b.entries) t.unacknowledged)
     (sent && nat_lt t.known_received_count a)
     (named_if_used t.referenced t.unacknowledged a ∙ ap (nat_lt 0) none))
-
-pub entry_there : (es : List Entry) (position : ℕ) (e : Entry) → position < length es → e ≡ get_or es position e
-    → slice_get (entries_of es) position ≡ Some (entry_of e)
-entry_there [] position e h is = absurd (omega (arith, h))
-entry_there (x ∷ es) zero e h is = ap (λ (y : Entry). Some (entry_of y)) (sym is)
-entry_there (x ∷ es) (suc k) e h is = entry_there es k e (omega (arith, h)) is
 
 pub evictable_at : (t : table.Table) (es : List Entry) (position : ℕ) (e : Entry) (answer : Bool) → t.live
     ≡ entries_of es
@@ -109,9 +105,7 @@ all_free t evicted position h =
 
 pub item_there : {X : Type 0} (xs : List X) (position : ℕ) (x : X) → position < length xs → x ≡ get_or xs position x
     → slice_get xs position ≡ Some x
-item_there [] position x h is = absurd (omega (arith, h))
-item_there (y ∷ ys) zero x h is = ap (λ z. Some z) (sym is)
-item_there (y ∷ ys) (suc k) x h is = item_there ys k x (omega (arith, h)) is
+item_there xs position x h is = slice_get_read xs (length xs) position x refl h is
 
 -- at most is less than one more
 below_or_not : (a b : ℕ) → nat_lt b a ≡ not (nat_lt a (b + 1))

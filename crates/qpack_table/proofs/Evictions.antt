@@ -2,7 +2,8 @@
 use Rattle.std.proofs.Common.{◌≡◌, ℕ, zero, suc, ◌+◌, ◌-◌, ◌^◌, ◌<◌, ◌≤◌, List, [], ◌∷◌, ◌++◌, length, drop, get_or}
 use Rattle.std.proofs.Common.{refl, sym, ap, subst, ◌∙◌, arith, inl, inr}
 use Rattle.std.proofs.lemmas.Bool.{cases_lt}
-use Rattle.std.proofs.lemmas.List.{drop-drop, drop-append-le, drop-map, length-drop, length-append}
+use Rattle.std.proofs.lemmas.List.{drop-drop, drop-append-le, drop-map, length-drop, length-append, drop_more}
+use Rattle.std.proofs.lemmas.List.{map-append}
 use Rattle.qpack_base.specs.HeaderFields.{field_of}
 use Rattle.qpack_spec.specs.Field.{Field, field_size, total_size}
 use Rattle.qpack_spec.specs.Table.{fields_in}
@@ -12,8 +13,9 @@ use Rattle.qpack_spec.proofs.Sizes.{total_first, total_last, drop_smaller}
 use Rattle.qpack_spec.proofs.Windows.{eviction_count_fits, eviction_count_least, eviction_count_bound}
 use Rattle.qpack_spec.proofs.Windows.{eviction_count_push}
 use Rattle.qpack_table.specs.Positions.{Positions}
-use Rattle.qpack_table.specs.Tables.{entry_of, entries_of, IsSized}
+use Rattle.qpack_table.specs.Tables.{entry_of, entries_of, IsSized, live_fields}
 use Rattle.qpack_table.specs.declared.dynamic.entry.Entry.{Entry}
+use Rattle.qpack_table.proofs.Lookups.{fields_long}
 
 further : (n k : ℕ) (fs : List Field) → n ≤ k → total_size (drop k fs) ≤ total_size (drop n fs)
 further n k fs h =
@@ -61,23 +63,18 @@ eviction_count_beside capacity fs f fits =
 abbrev field_at : Entry → Field
 field_at e = field_of e.field
 
-fields-length : (es : List Entry) → length (fields_in (entries_of es)) ≡ length es
-fields-length [] = refl
-fields-length (e ∷ es) = ap (λ (n : ℕ). suc n) (fields-length es)
-
-fields_drop : (k : ℕ) (es : List Entry) → drop k (fields_in (entries_of es)) ≡ fields_in (entries_of (drop k es))
+-- the fields of what is left are what is left of the fields
+fields_drop : (k : ℕ) (es : List Entry) → drop k (live_fields es) ≡ live_fields (drop k es)
 fields_drop zero es = refl
 fields_drop (suc k) [] = refl
 fields_drop (suc k) (e ∷ es) = fields_drop k es
 
 fields_more : (es : List Entry) (k : ℕ) (e : Entry) → k < length es → e ≡ get_or es k e
-    → drop k (fields_in (entries_of es)) ≡ field_at e ∷ drop (k + 1) (fields_in (entries_of es))
-fields_more [] k e h is = absurd (omega (arith, h))
-fields_more (x ∷ es) zero e h is = ap (λ (y : Entry). field_at y ∷ fields_in (entries_of es)) (sym is)
-fields_more (x ∷ es) (suc k) e h is =
-    let next : suc k + 1 ≡ suc (k + 1) = omega arith in
-    fields_more es k e (omega (arith, h)) is ∙ ap (λ (n : ℕ). field_at e ∷ drop n (fields_in (entries_of (x ∷ es))))
-    (sym next)
+    → drop k (live_fields es) ≡ field_at e ∷ drop (k + 1) (live_fields es)
+fields_more es k e h is =
+    fields_drop k es
+    ∙ ap (λ (l : List Entry). live_fields l) (drop_more es k e h ∙ ap (λ (x : Entry). x ∷ drop (k + 1) es) (sym is))
+    ∙ ap (λ (fs : List Field). field_at e ∷ fs) (sym (fields_drop (k + 1) es))
 
 -- of the oldest, so many go so far
 pub record GoneSoFar (room : ℕ) (es : List Entry) (rest evicted : ℕ) : Type 0 where
@@ -112,7 +109,7 @@ evicted_fits room es rest evicted fits k =
 pub evicted_all : (room : ℕ) (es : List Entry) (rest evicted : ℕ) → length es ≤ evicted → GoneSoFar room es rest evicted
     → evicted ≡ eviction_count room (fields_in (entries_of es))
 evicted_all room es rest evicted all k =
-    omega (arith, k.least, all, eviction_count_bound room (fields_in (entries_of es)), fields-length es)
+    omega (arith, k.least, all, eviction_count_bound room (fields_in (entries_of es)), fields_long es)
 
 -- what is left is no more than what there was
 pub evicted_bound : (room : ℕ) (es : List Entry) (rest evicted size : ℕ) → size ≡ total_size (fields_in (entries_of es))
@@ -172,14 +169,13 @@ live_less es now k items = ap (λ (l : List Entry). entries_of l) items ∙ sym 
 
 -- ---- one comes behind the newest
 
-joined_fields : (es : List Entry) (e : Entry) → fields_in (entries_of (es ++ e ∷ []))
-    ≡ fields_in (entries_of es) ++ field_at e ∷ []
-joined_fields [] e = refl
-joined_fields (x ∷ es) e = ap (λ (l : List Field). field_at x ∷ l) (joined_fields es e)
-
 pub joined_entries : (es : List Entry) (e : Entry) → entries_of (es ++ e ∷ []) ≡ entries_of es ++ entry_of e ∷ []
-joined_entries [] e = refl
-joined_entries (x ∷ es) e = ap (λ (l : List table.Entry). entry_of x ∷ l) (joined_entries es e)
+joined_entries es e = map-append entry_of es (e ∷ [])
+
+pub joined_fields : (es : List Entry) (e : Entry) → live_fields (es ++ e ∷ []) ≡ live_fields es ++ field_of e.field ∷ []
+joined_fields es e =
+    ap (λ (l : List table.Entry). fields_in l) (joined_entries es e)
+    ∙ map-append (λ (x : table.Entry). x.field) (entries_of es) (entry_of e ∷ [])
 
 -- the sizes that a table keeps, with some entries less and one more
 pub sized_inserted : (v w : Positions) (es now : List Entry) (size left capacity : ℕ) (e : Entry) (k : ℕ)
@@ -191,8 +187,8 @@ pub sized_inserted : (v w : Positions) (es now : List Entry) (size left capacity
 sized_inserted v w es now size left capacity e k kept room evicted items sum dropped total =
     let fs = fields_in (entries_of es) in
     let few : k ≤ length es = omega
-    (arith, evicted, eviction_count_push capacity fs (field_at e) room, fields-length es) in
-    let within : k ≤ length fs = omega (arith, few, fields-length es) in
+    (arith, evicted, eviction_count_push capacity fs (field_at e) room, fields_long es) in
+    let within : k ≤ length fs = omega (arith, few, fields_long es) in
     let fits : total_size (drop k fs) + field_size (field_at e) ≤ capacity =
     omega (
       arith,
@@ -232,7 +228,7 @@ evicted_within es f capacity k fits evicted = omega (
   arith,
   evicted,
   eviction_count_push capacity (fields_in (entries_of es)) f fits,
-  fields-length es,
+  fields_long es,
 )
 
 -- the sizes that a table keeps, with fewer entries and another capacity
@@ -243,7 +239,7 @@ pub sized_resized : (v w : Positions) (es now : List Entry) (size left capacity 
     → left ≡ size - freed → w.dropped ≡ v.dropped + k → w.total ≡ v.total → IsSized w now left most
 sized_resized v w es now size left capacity most k freed kept evicted small items sum rest dropped total =
     let fs = fields_in (entries_of es) in
-    let few : k ≤ length es = omega (arith, evicted, eviction_count_bound most fs, fields-length es) in
+    let few : k ≤ length es = omega (arith, evicted, eviction_count_bound most fs, fields_long es) in
     let is : left ≡ total_size (drop k fs) = omega (arith, rest, sum, kept.sum) in
     let less = sized_less v w es now size left capacity k kept few items is dropped total in
     record {

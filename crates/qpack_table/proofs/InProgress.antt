@@ -3,7 +3,7 @@ use Rattle.std.proofs.Common.{◌≡◌, ℕ, suc, ◌+◌, ◌<◌, ◌≤◌, 
 use Rattle.std.proofs.Common.{Some, refl, sym, ap, subst, ◌∙◌, arith, inl, inr, min, get_or}
 use Rattle.std.specs.Prelude.{slice_get, slice_set, nat_lt, if◌then◌else◌}
 use Rattle.std.specs.List.{AllByRecursion}
-use Rattle.std.proofs.lemmas.Bool.{cases_lt, lt-ltb}
+use Rattle.std.proofs.lemmas.Bool.{cases_lt, lt-ltb, cases_eq}
 use Rattle.qpack_spec.proofs.Lists.{every_append}
 use Rattle.qpack_spec.specs.Table as table
 use Rattle.qpack_spec.specs.Table.{has_number, with_number, with_unacknowledged, without_references, with_reference}
@@ -150,14 +150,9 @@ has_by_times : (b : ℕ) (xs ys : List ℕ) → times b xs ≡ times b ys → ha
 has_by_times b xs ys e = is_among b xs ∙ ap (nat_lt 0) e ∙ sym (is_among b ys)
 
 once_with : (a b : ℕ) (xs : List ℕ) → times a xs ≡ 0 → NoneTwice xs → times b (xs ++ a ∷ []) ≤ 1
-once_with a b xs none once = elim (cases_lt a b) [
-  | inl lt ↦ omega (arith, times_last a b xs (λ e. omega (arith, lt, e)), once b)
-  | inr ge ↦ elim (cases_lt b a) [
-    | inl lt ↦ omega (arith, times_last a b xs (λ e. omega (arith, lt, e)), once b)
-    | inr le ↦
-        let same : b ≡ a = omega (arith, ge, le) in
-        rw same (omega (arith, none, times_here a xs))
-  ]
+once_with a b xs none once = elim (cases_eq a b) [
+  | inl same ↦ rw (← same) (omega (arith, none, times_here a xs))
+  | inr other ↦ omega (arith, times_last a b xs other, once b)
 ]
 
 pub tracked_referenced : (v : Positions) (es now : List Entry) (referenced left : List ℕ)

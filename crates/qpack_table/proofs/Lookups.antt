@@ -1,10 +1,12 @@
 -- Lookups by index are those of the window.
-use Rattle.std.proofs.Common.{◌≡◌, ℕ, zero, suc, ◌+◌, ◌<◌, ◌≤◌, List, [], ◌∷◌, length, get_or, Option, Some, None}
+use Rattle.std.proofs.Common.{◌≡◌, ℕ, ◌+◌, ◌<◌, ◌≤◌, List, length, get_or, Option, Some, None}
 use Rattle.std.proofs.Common.{refl, sym, ap, subst, ◌∙◌, arith, inl, inr}
 use Rattle.std.specs.Prelude.{slice_get, IsSome, IfErr, IsErr, IsErrAnd, IfOk, Result, Ok, Err}
 use Rattle.std.proofs.lemmas.Bool.{cases_lt}
 use Rattle.std.proofs.lemmas.List.{length-map}
+use Rattle.std.proofs.lemmas.Option.{slice_get-map, slice_get_read, get_or_from_slice_get, slice_get_past}
 use Rattle.std.specs.Borrow.{Bor}
+use Rattle.std.specs.Option.{option_map}
 use Rattle.qpack_base.specs.HeaderFields.{field_of}
 use Rattle.qpack_base.specs.declared.field.HeaderField.{HeaderField}
 use Rattle.qpack_spec.specs.Field.{Field}
@@ -16,24 +18,38 @@ use Rattle.qpack_spec.specs.Window.{absolute_entry, relative_entry}
 use Rattle.qpack_table.specs.Positions.{Positions, positions_of, IsLive, IsPositionOf, IsNotEvicted}
 use Rattle.qpack_table.specs.Positions.{newest_relative_index, relative_index}
 use Rattle.qpack_table.specs.Positions.{post_base_index}
-use Rattle.qpack_table.specs.Tables.{entry_of, entries_of, LooksUp}
+use Rattle.qpack_table.specs.Tables.{entry_of, entries_of, LooksUp, live_fields}
 use Rattle.qpack_table.specs.declared.dynamic.Error.{Error}
 use Rattle.qpack_table.specs.declared.dynamic.Error.TheVariants.{BadIndex}
 use Rattle.qpack_table.specs.declared.dynamic.entry.Entry.{Entry}
 use Rattle.qpack_table.proofs.Entries.{there_is_live, live_is_there, at_position, recent_is_entry, relative_at_position}
-use Rattle.qpack_table.proofs.Entries.{relative_dropped, post_base_is_entry}
+use Rattle.qpack_table.proofs.Entries.{relative_dropped, post_base_is_entry, not_there}
+
+-- there are as many fields as entries
+pub fields_long : (es : List Entry) → length (live_fields es) ≡ length es
+fields_long es = length-map (entries_of es) _ ∙ length-map es entry_of
+
+-- an entry that is read there, and its field
+pub entry_there : (es : List Entry) (position : ℕ) (e : Entry) → position < length es → e ≡ get_or es position e
+    → slice_get (entries_of es) position ≡ Some (entry_of e)
+entry_there es position e h is =
+    slice_get-map entry_of es position
+    ∙ ap (λ (o : Option Entry). option_map entry_of o) (slice_get_read es (length es) position e refl h is)
 
 pub field_there : (es : List Entry) (position : ℕ) (e : Entry) → position < length es → e ≡ get_or es position e
-    → slice_get (fields_in (entries_of es)) position ≡ Some (field_of e.field)
-field_there [] position e h is = absurd (omega (arith, h))
-field_there (x ∷ es) zero e h is = ap (λ (y : Entry). Some (field_of y.field)) (sym is)
-field_there (x ∷ es) (suc k) e h is = field_there es k e (omega (arith, h)) is
+    → slice_get (live_fields es) position ≡ Some (field_of e.field)
+field_there es position e h is =
+    slice_get-map (λ (x : table.Entry). x.field) (entries_of es) position
+    ∙ ap (λ (o : Option table.Entry). option_map (λ (x : table.Entry). x.field) o) (entry_there es position e h is)
+
+pub field_read : (es : List Entry) (position : ℕ) (e : Entry) (d : Field) → position < length es
+    → e ≡ get_or es position e → get_or (live_fields es) position d ≡ field_of e.field
+field_read es position e d h is =
+    get_or_from_slice_get (live_fields es) position (field_of e.field) d (field_there es position e h is)
 
 pub field_missing : (es : List Entry) (position : ℕ) → length es ≤ position
-    → slice_get (fields_in (entries_of es)) position ≡ None
-field_missing [] position h = refl
-field_missing (x ∷ es) zero h = absurd (omega (arith, h))
-field_missing (x ∷ es) (suc k) h = field_missing es k (omega (arith, h))
+    → slice_get (live_fields es) position ≡ None
+field_missing es position h = slice_get_past (live_fields es) position (omega (arith, h, fields_long es))
 
 same_positions : (a b m n : ℕ) → a ≡ m → b ≡ n → (let p : Positions = record { total = a; dropped = b } in
     let q : Positions = record { total = m; dropped = n } in p ≡ q)
@@ -82,10 +98,7 @@ recent_live v t index position e live at none =
     let some = live_is_there (window t) (newest_relative_index (positions_of (window t)) index) there in
     let missing : absolute_entry (window t) (newest_relative_index (positions_of (window t)) index) ≡ None =
     sym (recent_is_entry (window t) index) ∙ recent_there v t index position e at ∙ none in
-    not_both (absolute_entry (window t) (newest_relative_index (positions_of (window t)) index)) missing some
-  where
-    not_both : {X : Type 0} (o : Option X) → o ≡ None → IsSome o → ⊥
-    not_both o e h = cc
+    not_there (absolute_entry (window t) (newest_relative_index (positions_of (window t)) index)) missing some
 
 pub never_refused : {X E : Type 0} (r : Result X E) (P Q : E → Type 0) (N : Type 0) → IfErr r (λ e. P e × N)
     → (N → ⊥) → IfErr r Q
@@ -158,10 +171,7 @@ behind_base v t base index position (Err x) e live at found refused =
     let none : absolute_entry (window t) (post_base_index base index) ≡ None =
     at_position (window t) (post_base_index base index) position
     (subst (λ (p : Positions). IsPositionOf p (post_base_index base index) position) e at) ∙ refused.1 in
-    absurd (not_both (absolute_entry (window t) (post_base_index base index)) none some)
-  where
-    not_both : {X : Type 0} (o : Option X) → o ≡ None → IsSome o → ⊥
-    not_both o e h = cc
+    absurd (not_there (absolute_entry (window t) (post_base_index base index)) none some)
 
 pub past_base : (v : Positions) (t : table.Table) (base index : ℕ) → v ≡ positions_of (window t)
     → (IsLive v (post_base_index base index) → ⊥) → post_base_field (window t) base index ≡ Err (BehindBase index)

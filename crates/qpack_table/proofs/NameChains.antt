@@ -16,11 +16,11 @@ use Rattle.qpack_base.specs.HeaderFields.{field_of}
 use Rattle.qpack_table.specs.Rows.{field_at}
 use Rattle.qpack_table.specs.Tables.{live_fields}
 use Rattle.qpack_table.specs.declared.dynamic.entry.Entry.{Entry}
-use Rattle.qpack_table.proofs.RowSearches.{field_there, fields_long}
 use Rattle.qpack_table.specs.Indexes.{bucket, IsNewestOf, AreHashesOf, IsLinkOf, AreNamesOf, IsNewestIn}
 use Rattle.qpack_table.specs.declared.dynamic.index.names.Link.{Link}
 use Rattle.qpack_table.proofs.NewestEntries.{PassesAt, newest_at, newest_nowhere}
 use Rattle.qpack_table.proofs.RowChanges.{field_pushed, drop_field}
+use Rattle.qpack_table.proofs.Lookups.{field_read, fields_long}
 
 -- ---- the entries change
 
@@ -258,7 +258,7 @@ pub name_read : (dropped : ℕ) (es : List Entry) (index : ℕ) (e : Entry) → 
     → index ≤ dropped + length (live_fields es) → e ≡ get_or es (index - dropped - 1) e
     → (field_at dropped (live_fields es) index).name ≡ (field_of e.field).name
 name_read dropped es index e above le read =
-    ap (λ (f : Field). f.name) (field_there es (index - dropped - 1) e (record { name = []; value = [] })
+    ap (λ (f : Field). f.name) (field_read es (index - dropped - 1) e (record { name = []; value = [] })
     (omega (arith, above, le, fields_long es)) read)
 
 -- the hash of a link that was read

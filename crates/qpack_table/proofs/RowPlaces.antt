@@ -19,7 +19,8 @@ use Rattle.qpack_table.specs.Rows.{field_at, key_at, IsLiveIndex, IsRow, is_behi
 use Rattle.qpack_table.specs.Tables.{live_fields}
 use Rattle.qpack_table.specs.Rows.{IsNewest}
 use Rattle.qpack_table.proofs.RowOrder.{lower_first, not_higher, same_between, not_behind, behind_turned, before_turned}
-use Rattle.qpack_table.proofs.RowSearches.{not_both, field_there, fields_long}
+use Rattle.qpack_table.proofs.RowSearches.{not_both}
+use Rattle.qpack_table.proofs.Lookups.{field_read, fields_long}
 
 -- an index that a row contains, at its place
 pub record IsAt (row : List ℕ) (index k : ℕ) : Type 0 where
@@ -111,9 +112,7 @@ stands_right_before dropped live row index place is at c =
     elim (cases_lt (c.0 + 1) place) [
       | inl lt ↦
           let less : key_cmp (key_at dropped live index) (key_at dropped live (slice_index row (place - 1))) ≡ Less =
-          subst (λ (i : ℕ). key_cmp (key_at dropped live i) (key_at dropped live (slice_index row
-          (place - 1))) ≡ Less) there.is (is.rises c.0 (place - 1) 0 (omega (arith, lt)) (omega
-          (arith, lt, at.within))) in
+          earlier dropped live row is (field_at dropped live index) index place at index c.0 there lt in
           absurd (not_both _ (before_turned (key_at dropped live index) (key_at dropped live (slice_index row
           (place - 1))) less) (at.before (place - 1) (omega (arith, before))))
       | inr le ↦
@@ -220,7 +219,7 @@ place_of_entry : (dropped : ℕ) (es : List Entry) (row : List ℕ) (index place
 place_of_entry dropped es row index place e live read at =
     let none : Field = record { name = []; value = [] } in
     let same : field_at dropped (live_fields es) index ≡ field_of e.field =
-    field_there es (index - dropped - 1) e none (omega (arith, live.0, live.1)) read in
+    field_read es (index - dropped - 1) e none (omega (arith, live.0, live.1)) read in
     subst (λ (f : Field). IsPlaceBehind dropped (live_fields es) row f index place) (sym same) at
 
 pub entered_in : (dropped : ℕ) (es : List Entry) (row new : List ℕ) (index place : ℕ) (e : Entry)

@@ -1,5 +1,5 @@
 -- A halving search in a row.
-use Rattle.std.proofs.Common.{◌≡◌, ℕ, zero, suc, ◌+◌, ◌-◌, ◌<◌, ◌≤◌, Bool, true, false, List, [], ◌∷◌, length, get_or}
+use Rattle.std.proofs.Common.{◌≡◌, ℕ, ◌+◌, ◌-◌, ◌<◌, ◌≤◌, Bool, true, false, List, [], length, get_or}
 use Rattle.std.proofs.Common.{refl, sym, ap, subst, ◌∙◌, inl, inr, arith}
 use Rattle.std.specs.Prelude.{slice_index}
 use Rattle.std.specs.declared.cmp.Ordering.{Ordering}
@@ -7,27 +7,16 @@ use Rattle.std.specs.declared.cmp.Ordering.TheVariants.{Less, Equal, Greater}
 use Rattle.std.specs.Ordering.{nat_cmp, is_gt, is_eq, ordering_then}
 use Rattle.std.proofs.lemmas.Bool.{cases_lt}
 use Rattle.std.proofs.lemmas.Cmp.{upto, tied_itself}
-use Rattle.std.proofs.lemmas.List.{get_or_default, length-map}
+use Rattle.std.proofs.lemmas.List.{get_or_default}
 use Rattle.qpack_base.specs.HeaderFields.{field_of}
 use Rattle.qpack_spec.specs.Field.{Field}
 use Rattle.qpack_base.specs.HeaderFields.{field_cmp}
-use Rattle.qpack_table.specs.Tables.{entry_of, entries_of}
 use Rattle.qpack_table.specs.Rows.{key_cmp, field_at, key_at, IsRow, is_behind}
 use Rattle.qpack_table.specs.Tables.{live_fields}
 use Rattle.qpack_table.specs.Rows.{IsEqualBefore}
 use Rattle.qpack_table.specs.declared.dynamic.entry.Entry.{Entry}
 use Rattle.qpack_table.proofs.RowOrder.{key_cmp_total, same_when_equal, equal_when_same}
-
--- an entry's field is among the fields
-pub field_there : (es : List Entry) (place : ℕ) (e : Entry) (d : Field) → place < length es → e ≡ get_or es place e
-    → get_or (live_fields es) place d ≡ field_of e.field
-field_there [] place e d h is = absurd (omega (arith, h))
-field_there (x ∷ es) zero e d h is = ap (λ (y : Entry). field_of y.field) (sym is)
-field_there (x ∷ es) (suc k) e d h is = field_there es k e d (omega (arith, h)) is
-
--- and there are as many fields as entries
-pub fields_long : (es : List Entry) → length (live_fields es) ≡ length es
-fields_long es = length-map (entries_of es) _ ∙ length-map es entry_of
+use Rattle.qpack_table.proofs.Lookups.{fields_long, field_read}
 
 pub not_both : (b : Bool) → b ≡ true → b ≡ false → ⊥
 not_both b h k = cc
@@ -138,7 +127,7 @@ tested dropped es row f last middle index e order rank both behind is lt read en
     let long = fields_long es in
     let none : Field = record { name = []; value = [] } in
     let field : field_of e.field ≡ field_at dropped (live_fields es) index =
-    sym (field_there es (index - dropped - 1) e none (omega (arith, live.0, live.1, same, long)) entry) in
+    sym (field_read es (index - dropped - 1) e none (omega (arith, live.0, live.1, same, long)) entry) in
     let at : order ≡ field_cmp (field_at dropped (live_fields es) (slice_index row middle)) f =
     ordered ∙ ap (λ (g : Field). field_cmp g f) (field ∙ ap (field_at dropped (live_fields es)) same) in
     let rank_at : rank ≡ nat_cmp (slice_index row middle) last = ranks ∙ ap (λ (i : ℕ). nat_cmp i last) same in

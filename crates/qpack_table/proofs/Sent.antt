@@ -4,6 +4,7 @@ use Rattle.std.proofs.Common.{length, drop, Option, Some, None, refl, sym, ap, �
 use Rattle.std.specs.Prelude.{slice_set, nat_le, IfSome, IfNone}
 use Rattle.std.proofs.lemmas.Bool.{lt-ltb, le-ltb, lt-leb, le-leb}
 use Rattle.std.proofs.lemmas.List.{length-drop}
+use Rattle.std.proofs.Math.Seq.{set-append_seam}
 use Rattle.qpack_base.specs.HeaderFields.{field_of}
 use Rattle.qpack_base.specs.declared.field.HeaderField.{HeaderField}
 use Rattle.qpack_spec.specs.Field.{Field, field_size, total_size}
@@ -22,10 +23,6 @@ use Rattle.qpack_table.proofs.Evictions.{evicted_within, joined_entries}
 use Rattle.qpack_table.proofs.References.{times_append, not_among}
 use Rattle.qpack_table.proofs.Kept.{kept_put, sized_as, indexed_as}
 use Rattle.qpack_table.proofs.InProgress.{tracked_referenced, with_new}
-
-set_last : {X : Type 0} (xs : List X) (x y : X) → slice_set (xs ++ x ∷ []) (length xs) y ≡ xs ++ y ∷ []
-set_last [] x y = refl
-set_last (z ∷ zs) x y = ap (λ l. z ∷ l) (set_last zs x y)
 
 -- an entry that is sent and referenced, and as if it were neither referenced nor used yet
 abbrev pub sent_now : HeaderField → Entry
@@ -55,7 +52,7 @@ kept_sent {index} {shown} v w es now size left capacity referenced more unacknow
     let put = kept_put v w es mid size left capacity referenced unacknowledged least blocked (sent_before f) k kept room
     evicted refl sum refl refl dropped total (indexed_as w.dropped now mid (sym same) indexed) in
     let set : now ≡ slice_set mid (length (drop k es)) (sent_now f) =
-    items ∙ sym (set_last (drop k es) (sent_before f) (sent_now f)) in
+    items ∙ sym (set-append_seam (drop k es) (sent_before f) [] (sent_now f)) in
     record {
       sized = sized_as w mid now left capacity same put.sized;
       tracked = tracked_referenced w mid now referenced more unacknowledged n (length (drop k es)) (sent_before f)

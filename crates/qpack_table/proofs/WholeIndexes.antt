@@ -1,5 +1,5 @@
 -- The index as a whole.
-use Rattle.std.proofs.Common.{◌≡◌, ℕ, ◌+◌, ◌-◌, ◌<◌, ◌≤◌, [], ◌∷◌, ◌++◌, List, length, get_or, drop, refl, sym, ap}
+use Rattle.std.proofs.Common.{◌≡◌, ℕ, ◌+◌, ◌-◌, ◌<◌, ◌≤◌, [], ◌∷◌, ◌++◌, List, length, get_or, drop, sym, ap}
 use Rattle.std.proofs.Common.{subst, ◌∙◌, arith}
 use Rattle.std.proofs.lemmas.List.{length-drop, length-append}
 use Rattle.std.proofs.Math.Seq.{get_or-append_seam}
@@ -13,9 +13,10 @@ use Rattle.qpack_table.specs.declared.dynamic.entry.Entry.{Entry}
 use Rattle.qpack_table.specs.declared.dynamic.index.Index.{Index}
 use Rattle.qpack_table.specs.declared.dynamic.index.hash.Hashes.{Hashes}
 use Rattle.qpack_table.specs.declared.dynamic.index.names.Link.{Link}
-use Rattle.qpack_table.proofs.RowSearches.{fields_long}
 use Rattle.qpack_table.proofs.NameChains.{names_pushed}
 use Rattle.qpack_table.proofs.RowsChanges.{rows_pushed}
+use Rattle.qpack_table.proofs.Evictions.{joined_fields}
+use Rattle.qpack_table.proofs.Lookups.{fields_long}
 
 -- what a call promises of names that count as many links as there are
 pub names_counted : (P : ℕ → Type 0) (dropped : ℕ) (live : List Field) (entered : ℕ) (heads : List ℕ)
@@ -62,10 +63,6 @@ index_shed from to es rest e index is items moved =
     subst (λ (d : ℕ). IsIndexOf d (live_fields rest) (length rest) index) (sym moved)
     (subst (λ (n : ℕ). IsIndexOf (from + 1) (live_fields rest) n index) count
     (subst (λ (l : List Entry). IsIndexOf (from + 1) (drop 1 (live_fields l)) (length es - 1) index) items is))
-
-joined_fields : (es : List Entry) (e : Entry) → live_fields (es ++ e ∷ []) ≡ live_fields es ++ field_of e.field ∷ []
-joined_fields [] e = refl
-joined_fields (x ∷ es) e = ap (λ (l : List Field). field_of x.field ∷ l) (joined_fields es e)
 
 -- one is pushed that has not come in yet
 index_joined : (dropped : ℕ) (es now : List Entry) (e : Entry) (index : Index)

@@ -2,8 +2,8 @@ use Rattle.std.proofs.Common.{◌≡◌, ◌<◌, ◌+◌, length, refl, sym, ru
 use Rattle.qpack_table.specs.Tables.{live_fields}
 use Rattle.qpack_table.proofs.RowsChanges.{rows_changed, rows_left}
 use Rattle.qpack_table.proofs.HashedRows.{home_chosen, home_within, row_there, row_has, room_left}
-use Rattle.qpack_table.proofs.RowSearches.{fields_long}
 use Rattle.qpack_table.proofs.dynamic.index.rows.Rows.leave.Goals as goal
+use Rattle.qpack_table.proofs.Lookups.{fields_long}
 
 pub leave-requires-clause-row : goal.leave-requires-clause-row
 leave-requires-clause-row c =

@@ -2,8 +2,8 @@ use Rattle.std.proofs.Common.{◌≡◌, length, rules, sym, arith}
 use Rattle.qpack_table.proofs.Halvings.{counts_fewer}
 use Rattle.qpack_table.proofs.HashedRows.{home_chosen, home_within, row_there, row_has, row_few}
 use Rattle.qpack_table.proofs.NewestEntries.{none_live, newest_in}
-use Rattle.qpack_table.proofs.RowSearches.{fields_long}
 use Rattle.qpack_table.proofs.dynamic.index.rows.Rows.newest_equal.Goals as goal
+use Rattle.qpack_table.proofs.Lookups.{fields_long}
 
 pub returns-then-is_empty-clause-found : goal.returns-then-is_empty-clause-found
 returns-then-is_empty-clause-found c =
