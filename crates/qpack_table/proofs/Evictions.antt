@@ -6,7 +6,7 @@ use Rattle.std.proofs.lemmas.List.{drop-drop, drop-append-le, drop-map, length-d
 use Rattle.std.proofs.lemmas.List.{map-append}
 use Rattle.qpack_base.specs.HeaderFields.{field_of}
 use Rattle.qpack_spec.specs.Field.{Field, field_size, total_size}
-use Rattle.qpack_spec.specs.Table.{fields_in}
+use Rattle.qpack_spec.specs.Table.{fields_in, eviction_count_for}
 use Rattle.qpack_spec.specs.Table as table
 use Rattle.qpack_spec.specs.Window.{eviction_count}
 use Rattle.qpack_spec.proofs.Sizes.{total_first, total_last, drop_smaller}
@@ -220,6 +220,18 @@ sized_inserted v w es now size left capacity e k kept room evicted items sum dro
 pub left_is : (size freed less left all n : ℕ) → size ≡ all → freed + left ≡ all → n ≡ less
     → size - freed + n ≡ left + less
 left_is size freed less left all n a b e = omega (arith, a, b, e)
+
+-- a field's room and what goes for it, of a table under another name
+pub record RoomFor (t : table.Table) (f : Field) (n : ℕ) : Type 0 where
+  pub fits : field_size f ≤ t.capacity
+  pub evicted : n ≡ eviction_count_for t f
+
+pub room_as : (u t : table.Table) (f : Field) (n : ℕ) → u ≡ t → field_size f ≤ t.capacity
+    → n ≡ eviction_count_for t f → RoomFor u f n
+room_as u t f n same fits is = record {
+  fits = omega (arith, fits, ap (λ (x : table.Table). x.capacity) same);
+  evicted = is ∙ ap (λ (x : table.Table). eviction_count_for x f) (sym same);
+}
 
 -- no more have to go than there are
 pub evicted_within : (es : List Entry) (f : Field) (capacity k : ℕ) → field_size f ≤ capacity

@@ -12,9 +12,7 @@ use Rattle.qpack_table.proofs.dynamic.entry.replace_oldest.Goals as goal
 
 pub enter-requires-clause-live : goal.enter-requires-clause-live
 enter-requires-clause-live c =
-    let at = newest_there c.args.vas.now c.drop_oldest-freed.new.vas c.add-absolute.new.self c.args.entries.now.items
-    c.drop_oldest-freed.new.entries.items c.args.evicted c.add-absolute.result c.total_dropped-2.result
-    c.requires.counted (c.drop_oldest-freed.ensures.left
+    let at = newest_there _ _ _ _ _ _ _ _ c.requires.counted (c.drop_oldest-freed.ensures.left
     ∙ ap (λ (l : List Entry). drop c.args.evicted l) c.in_ok-reserve.ensures.items) c.requires.there
     c.drop_oldest-freed.ensures.dropped c.add-absolute.ensures.index c.add-absolute.ensures.added
     c.total_dropped-2.ensures.exact in
@@ -24,9 +22,7 @@ enter-requires-clause-live c =
 
 pub enter-requires-clause-index : goal.enter-requires-clause-index
 enter-requires-clause-index c =
-    let at = newest_there c.args.vas.now c.drop_oldest-freed.new.vas c.add-absolute.new.self c.args.entries.now.items
-    c.drop_oldest-freed.new.entries.items c.args.evicted c.add-absolute.result c.total_dropped-2.result
-    c.requires.counted (c.drop_oldest-freed.ensures.left
+    let at = newest_there _ _ _ _ _ _ _ _ c.requires.counted (c.drop_oldest-freed.ensures.left
     ∙ ap (λ (l : List Entry). drop c.args.evicted l) c.in_ok-reserve.ensures.items) c.requires.there
     c.drop_oldest-freed.ensures.dropped c.add-absolute.ensures.index c.add-absolute.ensures.added
     c.total_dropped-2.ensures.exact in
@@ -38,9 +34,7 @@ enter-requires-clause-room c = c.drop_oldest-freed.ensures.room c.of-hashes.resu
 
 pub enter-requires-clause-hashes : goal.enter-requires-clause-hashes
 enter-requires-clause-hashes c =
-    let at = newest_there c.args.vas.now c.drop_oldest-freed.new.vas c.add-absolute.new.self c.args.entries.now.items
-    c.drop_oldest-freed.new.entries.items c.args.evicted c.add-absolute.result c.total_dropped-2.result
-    c.requires.counted (c.drop_oldest-freed.ensures.left
+    let at = newest_there _ _ _ _ _ _ _ _ c.requires.counted (c.drop_oldest-freed.ensures.left
     ∙ ap (λ (l : List Entry). drop c.args.evicted l) c.in_ok-reserve.ensures.items) c.requires.there
     c.drop_oldest-freed.ensures.dropped c.add-absolute.ensures.index c.add-absolute.ensures.added
     c.total_dropped-2.ensures.exact in
@@ -55,9 +49,7 @@ returns-clause-entered c =
 
 pub returns-clause-index : goal.returns-clause-index
 returns-clause-index c =
-    let at = newest_there c.args.vas.now c.drop_oldest-freed.new.vas c.add-absolute.new.self c.args.entries.now.items
-    c.drop_oldest-freed.new.entries.items c.args.evicted c.add-absolute.result c.total_dropped-2.result
-    c.requires.counted (c.drop_oldest-freed.ensures.left
+    let at = newest_there _ _ _ _ _ _ _ _ c.requires.counted (c.drop_oldest-freed.ensures.left
     ∙ ap (λ (l : List Entry). drop c.args.evicted l) c.in_ok-reserve.ensures.items) c.requires.there
     c.drop_oldest-freed.ensures.dropped c.add-absolute.ensures.index c.add-absolute.ensures.added
     c.total_dropped-2.ensures.exact in

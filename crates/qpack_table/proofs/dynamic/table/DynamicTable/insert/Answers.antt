@@ -1,54 +1,39 @@
-use Rattle.std.proofs.Common.{◌≡◌, ◌∷◌, ◌++◌, [], ◌≤◌, ℕ, false, List, drop, refl, ap, sym, ◌∙◌, arith}
+use Rattle.std.proofs.Common.{◌∷◌, ◌++◌, [], ℕ, false, List, drop, refl, ap, sym, ◌∙◌, arith}
 use Rattle.std.proofs.lemmas.List.{drop-map}
 use Rattle.qpack_base.specs.HeaderFields.{field_of}
-use Rattle.qpack_spec.specs.Field.{field_size}
 use Rattle.qpack_spec.specs.Table as table
-use Rattle.qpack_spec.specs.Table.{Table, eviction_count_for, fields_in}
-use Rattle.qpack_spec.specs.Window.{eviction_count}
 use Rattle.qpack_table.specs.Tables.{entry_of, entries_of}
 use Rattle.qpack_table.specs.declared.dynamic.entry.Entry.{Entry}
 use Rattle.qpack_table.proofs.Changes.{entered}
-use Rattle.qpack_table.proofs.Evictions.{joined_entries, evicted_within}
+use Rattle.qpack_table.proofs.Evictions.{joined_entries, evicted_within, room_as}
 use Rattle.qpack_table.proofs.Kept.{kept_put}
 use Rattle.qpack_table.proofs.dynamic.table.DynamicTable.insert.Goals as goal
 
 pub replace_oldest-requires-clause-there : goal.replace_oldest-requires-clause-there
 replace_oldest-requires-clause-there c =
-    let fits : field_size (field_of c.args.field) ≤ c.self.inside.capacities.capacity =
-    omega (arith, c.requires.fits, ap (λ (t : Table). t.capacity) c.self.view_is) in
-    let evicted : c.args.evicted ≡ eviction_count c.self.inside.capacities.capacity
-    (fields_in (entries_of c.self.inside.entries.items) ++ field_of c.args.field ∷ []) =
-    c.requires.evicted ∙ ap (λ (t : Table). eviction_count_for t (field_of c.args.field)) (sym c.self.view_is) in
+    let room = room_as _ _ _ _ c.self.view_is c.requires.fits c.requires.evicted in
     evicted_within c.self.inside.entries.items (field_of c.args.field) c.self.inside.capacities.capacity c.args.evicted
-    fits evicted
+    room.fits room.evicted
 
 pub invariant_of-self-2 : goal.invariant_of-self-2
 invariant_of-self-2 c =
-    let fits : field_size (field_of c.args.field) ≤ c.self.inside.capacities.capacity =
-    omega (arith, c.requires.fits, ap (λ (t : Table). t.capacity) c.self.view_is) in
-    let evicted : c.args.evicted ≡ eviction_count c.self.inside.capacities.capacity
-    (fields_in (entries_of c.self.inside.entries.items) ++ field_of c.args.field ∷ []) =
-    c.requires.evicted ∙ ap (λ (t : Table). eviction_count_for t (field_of c.args.field)) (sym c.self.view_is) in
+    let room = room_as _ _ _ _ c.self.view_is c.requires.fits c.requires.evicted in
     let new : Entry = record { field = c.args.field; sent = c.args.sent; referenced = false; uses = 0 } in
     kept_put c.self.inside.vas c.replace_oldest.new.vas c.self.inside.entries.items
     c.replace_oldest.new.entries.items _ _ c.self.inside.capacities.capacity _ _ _ _ new c.args.evicted
-    c.self.invariant fits evicted c.in_ok-replace_oldest.ensures.entered
+    c.self.invariant room.fits room.evicted c.in_ok-replace_oldest.ensures.entered
     c.in_ok-replace_oldest.ensures.sum refl refl
     c.in_ok-replace_oldest.ensures.dropped c.in_ok-replace_oldest.ensures.inserted c.in_ok-replace_oldest.ensures.index
 
 pub returns-clause-ok : goal.returns-clause-ok
 returns-clause-ok c =
-    let fits : field_size (field_of c.args.field) ≤ c.self.inside.capacities.capacity =
-    omega (arith, c.requires.fits, ap (λ (t : Table). t.capacity) c.self.view_is) in
-    let evicted : c.args.evicted ≡ eviction_count c.self.inside.capacities.capacity
-    (fields_in (entries_of c.self.inside.entries.items) ++ field_of c.args.field ∷ []) =
-    c.requires.evicted ∙ ap (λ (t : Table). eviction_count_for t (field_of c.args.field)) (sym c.self.view_is) in
+    let room = room_as _ _ _ _ c.self.view_is c.requires.fits c.requires.evicted in
     let new : Entry = record { field = c.args.field; sent = c.args.sent; referenced = false; uses = 0 } in
     rw (← c.self.view_is) (entered _ (entry_of new) c.replace_oldest.new.vas.dropped
-    (entries_of c.replace_oldest.new.entries.items) fits
-    (omega (arith, evicted, c.in_ok-replace_oldest.ensures.dropped))
+    (entries_of c.replace_oldest.new.entries.items) room.fits
+    (omega (arith, room.evicted, c.in_ok-replace_oldest.ensures.dropped))
     (ap (λ (l : List Entry). entries_of l) c.in_ok-replace_oldest.ensures.entered
     ∙ joined_entries (drop c.args.evicted c.self.inside.entries.items) new
     ∙ ap (λ (l : List table.Entry). l ++ entry_of new ∷ [])
     (sym (drop-map entry_of c.args.evicted c.self.inside.entries.items))
-    ∙ ap (λ (n : ℕ). drop n (entries_of c.self.inside.entries.items) ++ entry_of new ∷ []) evicted))
+    ∙ ap (λ (n : ℕ). drop n (entries_of c.self.inside.entries.items) ++ entry_of new ∷ []) room.evicted))

@@ -1,36 +1,25 @@
-use Rattle.std.proofs.Common.{◌≡◌, ◌∷◌, ◌++◌, [], ◌≤◌, ℕ, List, drop, ap, sym, ◌∙◌, arith}
+use Rattle.std.proofs.Common.{◌∷◌, ◌++◌, [], ℕ, List, drop, ap, sym, ◌∙◌, arith}
 use Rattle.std.proofs.lemmas.List.{drop-map, length-map}
 use Rattle.qpack_base.specs.HeaderFields.{field_of}
-use Rattle.qpack_spec.specs.Field.{field_size}
 use Rattle.qpack_spec.specs.Table as table
-use Rattle.qpack_spec.specs.Table.{Table, eviction_count_for, fields_in}
-use Rattle.qpack_spec.specs.Window.{eviction_count}
 use Rattle.qpack_table.specs.Tables.{entry_of, entries_of}
 use Rattle.qpack_table.specs.declared.dynamic.entry.Entry.{Entry}
 use Rattle.qpack_table.proofs.Sent.{sent_now, kept_sent, not_referenced, entered_and_referenced}
-use Rattle.qpack_table.proofs.Evictions.{joined_entries, evicted_within}
+use Rattle.qpack_table.proofs.Evictions.{joined_entries, evicted_within, room_as}
 use Rattle.qpack_table.proofs.dynamic.table.DynamicTable.insert_sent.Goals as goal
 
 pub replace_oldest-requires-clause-there : goal.replace_oldest-requires-clause-there
 replace_oldest-requires-clause-there c =
-    let fits : field_size (field_of c.args.field) ≤ c.self.inside.capacities.capacity =
-    omega (arith, c.requires.fits, ap (λ (t : Table). t.capacity) c.self.view_is) in
-    let evicted : c.args.evicted ≡ eviction_count c.self.inside.capacities.capacity
-    (fields_in (entries_of c.self.inside.entries.items) ++ field_of c.args.field ∷ []) =
-    c.requires.evicted ∙ ap (λ (t : Table). eviction_count_for t (field_of c.args.field)) (sym c.self.view_is) in
+    let room = room_as _ _ _ _ c.self.view_is c.requires.fits c.requires.evicted in
     evicted_within c.self.inside.entries.items (field_of c.args.field) c.self.inside.capacities.capacity c.args.evicted
-    fits evicted
+    room.fits room.evicted
 
 pub invariant_of-self-2 : goal.invariant_of-self-2
 invariant_of-self-2 c =
-    let fits : field_size (field_of c.args.field) ≤ c.self.inside.capacities.capacity =
-    omega (arith, c.requires.fits, ap (λ (t : Table). t.capacity) c.self.view_is) in
-    let evicted : c.args.evicted ≡ eviction_count c.self.inside.capacities.capacity
-    (fields_in (entries_of c.self.inside.entries.items) ++ field_of c.args.field ∷ []) =
-    c.requires.evicted ∙ ap (λ (t : Table). eviction_count_for t (field_of c.args.field)) (sym c.self.view_is) in
+    let room = room_as _ _ _ _ c.self.view_is c.requires.fits c.requires.evicted in
     kept_sent c.self.inside.vas c.replace_oldest.new.vas c.self.inside.entries.items
     c.replace_oldest.new.entries.items _ _ c.self.inside.capacities.capacity _ _ _ _ _ c.args.field c.args.evicted
-    c.total_inserted.result c.self.invariant fits evicted c.in_ok-replace_oldest.ensures.entered
+    c.total_inserted.result c.self.invariant room.fits room.evicted c.in_ok-replace_oldest.ensures.entered
     c.in_ok-replace_oldest.ensures.sum
     c.in_ok-replace_oldest.ensures.dropped c.in_ok-replace_oldest.ensures.inserted c.total_inserted.ensures.total
     (c.push_reserved.ensures.items ∙ ap (λ (l : List ℕ). l ++ c.total_inserted.result ∷ [])
@@ -39,20 +28,16 @@ invariant_of-self-2 c =
 
 pub returns-clause-ok : goal.returns-clause-ok
 returns-clause-ok c =
-    let fits : field_size (field_of c.args.field) ≤ c.self.inside.capacities.capacity =
-    omega (arith, c.requires.fits, ap (λ (t : Table). t.capacity) c.self.view_is) in
-    let evicted : c.args.evicted ≡ eviction_count c.self.inside.capacities.capacity
-    (fields_in (entries_of c.self.inside.entries.items) ++ field_of c.args.field ∷ []) =
-    c.requires.evicted ∙ ap (λ (t : Table). eviction_count_for t (field_of c.args.field)) (sym c.self.view_is) in
+    let room = room_as _ _ _ _ c.self.view_is c.requires.fits c.requires.evicted in
     let new : Entry = sent_now c.args.field in
     rw (← c.self.view_is) (entered_and_referenced _ (field_of c.args.field) c.replace_oldest.new.vas.dropped
-    c.total_inserted.result (entries_of c.replace_oldest.new.entries.items) _ fits
-    (omega (arith, evicted, c.in_ok-replace_oldest.ensures.dropped))
+    c.total_inserted.result (entries_of c.replace_oldest.new.entries.items) _ room.fits
+    (omega (arith, room.evicted, c.in_ok-replace_oldest.ensures.dropped))
     (ap (λ (l : List Entry). entries_of l) c.in_ok-replace_oldest.ensures.entered
     ∙ joined_entries (drop c.args.evicted c.self.inside.entries.items) new
     ∙ ap (λ (l : List table.Entry). l ++ entry_of new ∷ [])
     (sym (drop-map entry_of c.args.evicted c.self.inside.entries.items))
-    ∙ ap (λ (n : ℕ). drop n (entries_of c.self.inside.entries.items) ++ entry_of new ∷ []) evicted)
+    ∙ ap (λ (n : ℕ). drop n (entries_of c.self.inside.entries.items) ++ entry_of new ∷ []) room.evicted)
     (omega (
       arith,
       c.total_inserted.ensures.total,
