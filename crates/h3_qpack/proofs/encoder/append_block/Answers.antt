@@ -11,13 +11,13 @@ use Rattle.h3_qpack.proofs.ReadLines.{told_is}
 use Rattle.h3_qpack.proofs.encoder.append_block.Goals as goal
 
 pub loop-field-init : goal.loop-field-init
-loop-field-init g c = (
-  begun c.args.block.now.items c.encode.new.buf.items
+loop-field-init g c = record {
+  written = begun c.args.block.now.items c.encode.new.buf.items
       (c.in_ok-encode.ensures.writes.ok
-      ∙ ap (λ (p : Prefix). c.args.block.now.items ++ written_prefix p) c.new.ensures),
-  refl,
-  c.encode.ensures.writes.capacity,
-)
+      ∙ ap (λ (p : Prefix). c.args.block.now.items ++ written_prefix p) c.new.ensures);
+  size = refl;
+  capacity = c.encode.ensures.writes.capacity;
+}
 
 pub returns-in_err-append_line-clause-err : goal.returns-in_err-append_line-clause-err
 returns-in_err-append_line-clause-err g c =
@@ -26,7 +26,7 @@ returns-in_err-append_line-clause-err g c =
     rw p.1
     (take-append_front c.args.block.now.items (written_block (stateless_block (fields_behind c.loop-field.yielded)))
     c.loop-field.block.items c.append_line.new.block.items _ (sym c.args.block.now.ok.0)
-    c.in_err-append_line.ensures.writes.err c.loop-field.invariant.0)
+    c.in_err-append_line.ensures.writes.err c.loop-field.invariant.written)
 
 pub loop-field-preserved : goal.loop-field-preserved
 loop-field-preserved g c =
@@ -34,10 +34,10 @@ loop-field-preserved g c =
     let f = field_of c.in-Some.field.now in
     let more = behind_more c.loop-field.yielded c.in-Some.field in
     let told = told_is (total_size fs) (field_size f) c.mem_size.result c.loop-field.size c.saturating_add-size.result
-    c.loop-field.invariant.1 c.mem_size.ensures c.saturating_add-size.ensures in
-    rw (more, total_last fs f) (
-      grown c.args.block.now.items c.loop-field.block.items c.append_line.new.block.items fs f c.loop-field.invariant.0
-          c.in_ok-append_line.ensures.writes.ok,
-      told,
-      omega (arith, c.loop-field.invariant.2, c.append_line.ensures.writes.capacity),
-    )
+    c.loop-field.invariant.size c.mem_size.ensures c.saturating_add-size.ensures in
+    rw (more, total_last fs f) (record {
+      written = grown c.args.block.now.items c.loop-field.block.items c.append_line.new.block.items fs f
+          c.loop-field.invariant.written c.in_ok-append_line.ensures.writes.ok;
+      size = told;
+      capacity = omega (arith, c.loop-field.invariant.capacity, c.append_line.ensures.writes.capacity);
+    })

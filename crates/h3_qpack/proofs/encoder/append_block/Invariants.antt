@@ -6,7 +6,8 @@ use Rattle.qpack_base.specs.HeaderFields.{fields_behind}
 use Rattle.h3_qpack.proofs.encoder.append_block.Given as goal
 
 abbrev pub invariant-loop-field : goal.invariant-loop-field
-invariant-loop-field g l =
-    (l.block.items ≡ l.fn.block.items ++ written_block (stateless_block (fields_behind l.yielded)))
-    × (l.size ≡ saturated_size (total_size (fields_behind l.yielded)))
-    × (vec_capacity l.fn.block ≤ vec_capacity l.block)
+invariant-loop-field g l = record {
+  written : l.block.items ≡ l.fn.block.items ++ written_block (stateless_block (fields_behind l.yielded));
+  size : l.size ≡ saturated_size (total_size (fields_behind l.yielded));
+  capacity : vec_capacity l.fn.block ≤ vec_capacity l.block;
+}
