@@ -1,22 +1,18 @@
 -- Decoder instructions that the encoder takes, one by one.
-use Rattle.std.proofs.Common.{◌≡◌, ℕ, ◌+◌, ◌<◌, List, [], ◌∷◌, ◌++◌, length, Bool, true, false, Option, Some, None}
+use Rattle.std.proofs.Common.{◌≡◌, ℕ, ◌+◌, List, ◌++◌, false, Option, Some, None}
 use Rattle.std.proofs.Common.{Result, Ok, Err}
-use Rattle.std.proofs.Common.{refl, sym, ap, subst, ◌∙◌, arith, append_assoc, append-nil, length-append}
+use Rattle.std.proofs.Common.{refl, sym, ap, subst}
 use Rattle.std.proofs.lemmas.Bool.{cond_both}
 use Rattle.std.specs.Prelude.{nat_lt}
-use Rattle.qpack_spec.specs.Bytes.{Begins, ◌>>=◌}
+use Rattle.qpack_spec.specs.Bytes.{Begins}
 use Rattle.qpack_spec.specs.Text.{StringFault, LengthOverflows, BadHuffman}
 use Rattle.qpack_spec.specs.Form.{Form, Index, IndexAndValue, NameAndValue, BadInteger, BadString, Truncates}
 use Rattle.qpack_spec.specs.Form.{RefusesForm}
 use Rattle.qpack_spec.specs.Instruction.{DecoderInstruction, decoder_instruction_form, SpellsDecoderInstruction}
 use Rattle.qpack_spec.specs.Instruction.{RefusesDecoderInstruction}
-use Rattle.qpack_spec.specs.Session.{apply_decoder_instructions}
-use Rattle.qpack_spec.specs.Stream.{Joined}
 use Rattle.qpack_spec.specs.Table as table
 use Rattle.qpack_spec.specs.Table.{apply_decoder_instruction}
 use Rattle.qpack_spec.specs.Window.{TableRefusal}
-use Rattle.qpack_spec.proofs.Cuttings.{joined_append}
-use Rattle.qpack_spec.proofs.Results.{bind_ok, ok_is}
 use Rattle.qpack_base.specs.Cursor.{CursorView}
 use Rattle.qpack_base.specs.Integers.{integer_fault_of}
 use Rattle.qpack_base.specs.Payloads.{huffman_fault_of}
@@ -35,8 +31,7 @@ use Rattle.qpack_wire.specs.StreamAnswers.{FailsWhole, DecodesInstruction, Reads
 use Rattle.qpack_wire.specs.StreamLines.{RefusesDecoderLine, decoder_instruction_of, decoder_instruction_at}
 use Rattle.qpack_wire.specs.declared.stream.decoder_stream.DecoderLine.{DecoderLine}
 use Rattle.h3_qpack.specs.Errors.{encoder_error_of_parse, encoder_error_of_table}
-use Rattle.h3_qpack.specs.Hearing.{Applies, refusal_of, StopsHearing, bad_bytes, bad_instruction, HearsOne, HearsNext}
-use Rattle.h3_qpack.specs.Hearing.{Hears}
+use Rattle.h3_qpack.specs.Hearing.{Applies, refusal_of, StopsHearing, bad_bytes, bad_instruction}
 use Rattle.h3_qpack.specs.declared.encoder.EncoderError.{EncoderError}
 use Rattle.h3_qpack.specs.declared.encoder.EncoderError.TheVariants.{Memory}
 
@@ -171,84 +166,3 @@ stops_at_table old new rest left r e at applies = (by_refusal (refusal_of e) ref
     by_refusal (Some refusal) some =
         bad_instruction at.encoding r refusal at.cut at.spells
         (subst (λ (o : Option TableRefusal). IsRefusedFor (apply_decoder_instruction old r) o) some applies.0) some
-
--- ---- instructions in turn
-
--- these were taken so far
-pub record HasHeard (old now : table.Table) (bytes rest : List ℕ) : Type 0 where
-  pub lines : List DecoderInstruction
-  pub front : List ℕ
-  pub cut : bytes ≡ front ++ rest
-  pub joined : Joined SpellsDecoderInstruction front lines
-  pub applies : apply_decoder_instructions old lines ≡ Ok now
-
-pub heard_none : (t : table.Table) (bytes : List ℕ) → HasHeard t t bytes bytes
-heard_none t bytes = record { lines = []; front = []; cut = refl; joined = refl; applies = refl }
-
--- the table behind one instruction more
-applied_last : (lines : List DecoderInstruction) (r : DecoderInstruction) (old now new : table.Table)
-    → apply_decoder_instructions old lines ≡ Ok now
-    → apply_decoder_instruction now r ≡ Ok new → apply_decoder_instructions old (lines ++ r ∷ []) ≡ Ok new
-applied_last [] r old now new applied last =
-    let same : old ≡ now = ok_is old now applied in
-    ap (λ (t : table.Table). apply_decoder_instruction t r >>= λ u. Ok u) same
-    ∙ ap (λ (x : Result table.Table TableRefusal). x >>= λ u. Ok u) last
-applied_last (l ∷ lines) r old now new applied last =
-    let first = bind_ok (apply_decoder_instruction old l) (λ u. apply_decoder_instructions u lines) now applied in
-    ap (λ (x : Result table.Table TableRefusal). x >>= λ u. apply_decoder_instructions u (lines ++ r ∷ [])) first.1
-    ∙ applied_last lines r first.0 now new first.2 last
-
-pub heard_more : (old now new : table.Table) (bytes rest left : List ℕ) → HasHeard old now bytes rest
-    → HearsOne now new rest left
-    → HasHeard old new bytes left
-heard_more old now new bytes rest left h one =
-    record {
-      lines = h.lines ++ one.instruction ∷ [];
-      front = h.front ++ one.encoding;
-      cut = h.cut ∙ ap (λ (x : List ℕ). h.front ++ x) one.cut ∙ sym (append_assoc h.front one.encoding left);
-      joined = joined_append SpellsDecoderInstruction h.front one.encoding h.lines (one.instruction ∷ []) h.joined
-          (one.encoding, [], sym (append-nil one.encoding), one.spells, refl);
-      applies = applied_last h.lines one.instruction old now new h.applies one.applies;
-    }
-
--- an instruction takes a byte at least
-pub one_shortens : (now new : table.Table) (rest left : List ℕ) → HearsOne now new rest left → length left < length rest
-one_shortens now new rest left one =
-    let parts : length rest ≡ length one.encoding + length left = ap length one.cut ∙ length-append one.encoding left in
-    omega (arith, parts, ap length one.spells.begins)
-
-pub one_was : (old new : table.Table) (rest left : List ℕ) (b : Bool) → HearsNext old new rest left (Ok b) → b ≡ true
-    → HearsOne old new rest left
-one_was old new rest left true takes is = takes
-one_was old new rest left false takes is = absurd cc
-
--- none stands whole any more
-pub heard_all : (old now new : table.Table) (bytes rest left : List ℕ) (b : Bool) → HasHeard old now bytes rest
-    → HearsNext now new rest left (Ok b) → b ≡ false
-    → Hears old new bytes left (Ok tt)
-heard_all old now new bytes rest left true h takes is = absurd cc
-heard_all old now new bytes rest left false h takes is =
-    record {
-      lines = h.lines;
-      front = h.front;
-      rest = rest;
-      cut = h.cut;
-      joined = h.joined;
-      applies = h.applies ∙ ap (λ (t : table.Table). Ok t) (sym takes.2);
-      ends = (takes.0, takes.1);
-    }
-
--- the next one is not taken
-pub heard_until : (old now new : table.Table) (bytes rest left : List ℕ) (e : EncoderError)
-    → HasHeard old now bytes rest → HearsNext now new rest left (Err e)
-    → Hears old new bytes left (Err e)
-heard_until old now new bytes rest left e h takes =
-    record {
-      lines = h.lines;
-      front = h.front;
-      rest = rest;
-      cut = h.cut;
-      joined = h.joined;
-      applies = h.applies ∙ ap (λ (t : table.Table). Ok t) (sym takes.1);
-      ends = subst (λ (t : table.Table). StopsHearing t rest left e) (sym takes.1) takes.0;
-    }

@@ -1,19 +1,15 @@
 -- Instructions that the decoder takes, one by one.
-use Rattle.std.proofs.Common.{◌≡◌, ℕ, ◌+◌, ◌<◌, List, [], ◌∷◌, ◌++◌, length, Bool, true, false, if◌then◌else◌, Option}
+use Rattle.std.proofs.Common.{◌≡◌, ℕ, ◌+◌, List, ◌++◌, Bool, true, false, if◌then◌else◌, Option}
 use Rattle.std.proofs.Common.{Some, None, Result, Ok, Err}
-use Rattle.std.proofs.Common.{refl, sym, ap, subst, ◌∙◌, inl, inr, arith, append_assoc, append-nil, length-append}
+use Rattle.std.proofs.Common.{refl, sym, ap, subst, ◌∙◌, inl, inr}
 use Rattle.std.specs.Prelude.{⊤, IsSome}
-use Rattle.qpack_spec.specs.Bytes.{Begins, ◌>>=◌}
+use Rattle.qpack_spec.specs.Bytes.{Begins}
 use Rattle.qpack_spec.specs.Text.{LengthOverflows, BadHuffman}
 use Rattle.qpack_spec.specs.Form.{BadInteger, BadString, Truncates}
 use Rattle.qpack_spec.specs.Instruction.{EncoderInstruction, encoder_instruction_form, SpellsEncoderInstruction}
-use Rattle.qpack_spec.specs.Session.{apply_encoder_instructions}
-use Rattle.qpack_spec.specs.Stream.{Joined}
 use Rattle.qpack_spec.specs.Table as table
 use Rattle.qpack_spec.specs.Table.{apply_encoder_instruction}
 use Rattle.qpack_spec.specs.Window.{TableRefusal}
-use Rattle.qpack_spec.proofs.Cuttings.{joined_append}
-use Rattle.qpack_spec.proofs.Results.{bind_ok, ok_is}
 use Rattle.qpack_base.specs.Cursor.{CursorView}
 use Rattle.qpack_base.specs.Integers.{integer_fault_of}
 use Rattle.qpack_base.specs.Payloads.{huffman_fault_of}
@@ -37,7 +33,7 @@ use Rattle.qpack_wire.specs.StreamLines.{RefusesEncoderLine, encoder_instruction
 use Rattle.qpack_wire.specs.declared.stream.encoder_stream.EncoderLine.{EncoderLine}
 use Rattle.h3_qpack.specs.Errors.{decoder_error_of_parse, decoder_error_of_table}
 use Rattle.h3_qpack.specs.Receiving.{Applies, field_to_insert, refusal_of, is_passed, is_passed_for, Stops, no_memory}
-use Rattle.h3_qpack.specs.Receiving.{bad_bytes, bad_instruction, TakesOne, TakesNext, TakesInstructions}
+use Rattle.h3_qpack.specs.Receiving.{bad_bytes, bad_instruction}
 use Rattle.h3_qpack.specs.declared.decoder.DecoderError.{DecoderError}
 use Rattle.h3_qpack.specs.declared.decoder.DecoderError.TheVariants.{Memory}
 
@@ -179,91 +175,3 @@ left_behind passed r answer more rest left is was moves stays =
         → left ≡ (if is_passed answer then more else rest)
     by_answer true at moves stays = moves refl ∙ rw (← at) refl
     by_answer false at moves stays = stays refl ∙ rw (← at) refl
-
--- ---- instructions in turn
-
--- these were taken so far
-pub record HasTaken (old now : table.Table) (bytes rest : List ℕ) : Type 0 where
-  pub lines : List EncoderInstruction
-  pub front : List ℕ
-  pub cut : bytes ≡ front ++ rest
-  pub joined : Joined SpellsEncoderInstruction front lines
-  pub applies : apply_encoder_instructions old lines ≡ Ok now
-
-pub taken_none : (t : table.Table) (bytes : List ℕ) → HasTaken t t bytes bytes
-taken_none t bytes = record { lines = []; front = []; cut = refl; joined = refl; applies = refl }
-
-pub joined_last : (lines : List EncoderInstruction) (front encoding : List ℕ) (i : EncoderInstruction)
-    → Joined SpellsEncoderInstruction front lines
-    → SpellsEncoderInstruction encoding i → Joined SpellsEncoderInstruction (front ++ encoding) (lines ++ i ∷ [])
-joined_last lines front encoding i joined spells =
-    joined_append SpellsEncoderInstruction front encoding lines (i ∷ []) joined
-    (encoding, [], sym (append-nil encoding), spells, refl)
-
--- the table behind one instruction more
-pub applied_last : (lines : List EncoderInstruction) (i : EncoderInstruction) (old now new : table.Table)
-    → apply_encoder_instructions old lines ≡ Ok now
-    → apply_encoder_instruction now i ≡ Ok new → apply_encoder_instructions old (lines ++ i ∷ []) ≡ Ok new
-applied_last [] i old now new applied last =
-    let same : old ≡ now = ok_is old now applied in
-    ap (λ (t : table.Table). apply_encoder_instruction t i >>= λ u. Ok u) same
-    ∙ ap (λ (r : Result table.Table TableRefusal). r >>= λ u. Ok u) last
-applied_last (l ∷ lines) i old now new applied last =
-    let first = bind_ok (apply_encoder_instruction old l) (λ u. apply_encoder_instructions u lines) now applied in
-    ap (λ (r : Result table.Table TableRefusal). r >>= λ u. apply_encoder_instructions u (lines ++ i ∷ [])) first.1
-    ∙ applied_last lines i first.0 now new first.2 last
-
-pub taken_more : (old now new : table.Table) (bytes rest left : List ℕ) → HasTaken old now bytes rest
-    → TakesOne now new rest left
-    → HasTaken old new bytes left
-taken_more old now new bytes rest left h one =
-    record {
-      lines = h.lines ++ one.instruction ∷ [];
-      front = h.front ++ one.encoding;
-      cut = h.cut ∙ ap (λ (x : List ℕ). h.front ++ x) one.cut ∙ sym (append_assoc h.front one.encoding left);
-      joined = joined_last h.lines h.front one.encoding one.instruction h.joined one.spells;
-      applies = applied_last h.lines one.instruction old now new h.applies one.applies;
-    }
-
--- an instruction takes a byte at least
-pub one_shortens : (now new : table.Table) (rest left : List ℕ) → TakesOne now new rest left → length left < length rest
-one_shortens now new rest left one =
-    let parts : length rest ≡ length one.encoding + length left = ap length one.cut ∙ length-append one.encoding left in
-    omega (arith, parts, ap length one.spells.begins)
-
-pub one_was : (old new : table.Table) (rest left : List ℕ) (b : Bool) → TakesNext old new rest left (Ok b) → b ≡ true
-    → TakesOne old new rest left
-one_was old new rest left true takes is = takes
-one_was old new rest left false takes is = absurd cc
-
--- none stands whole any more
-pub taken_all : (old now new : table.Table) (bytes rest left : List ℕ) (b : Bool) → HasTaken old now bytes rest
-    → TakesNext now new rest left (Ok b) → b ≡ false
-    → TakesInstructions old new bytes left (Ok tt)
-taken_all old now new bytes rest left true h takes is = absurd cc
-taken_all old now new bytes rest left false h takes is =
-    record {
-      lines = h.lines;
-      front = h.front;
-      rest = rest;
-      cut = h.cut;
-      joined = h.joined;
-      applies = h.applies ∙ ap (λ (t : table.Table). Ok t) (sym takes.2);
-      ends = (takes.0, takes.1);
-    }
-
--- the next one is not taken
-pub taken_until : (old now new : table.Table) (bytes rest left : List ℕ) (e : DecoderError)
-    → HasTaken old now bytes rest
-    → TakesNext now new rest left (Err e)
-    → TakesInstructions old new bytes left (Err e)
-taken_until old now new bytes rest left e h takes =
-    record {
-      lines = h.lines;
-      front = h.front;
-      rest = rest;
-      cut = h.cut;
-      joined = h.joined;
-      applies = h.applies ∙ ap (λ (t : table.Table). Ok t) (sym takes.1);
-      ends = subst (λ (t : table.Table). Stops t rest left e) (sym takes.1) takes.0;
-    }

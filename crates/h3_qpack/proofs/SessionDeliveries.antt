@@ -214,14 +214,16 @@ module _ (s : SessionView) (new : DecoderView) (count delivered taken position :
       lawful after (spec.ToDecoder count) (outcome.Delivered r) v ends.answer ends.next ends.answers ends.shown tt tt
       refl
       (record {
-        lines = takes.lines;
-        front = takes.front;
-        rest = takes.rest;
         table = new.table;
-        offered = offered_same s v count m.shows ∙ offered ∙ takes.cut;
-        joined = takes.joined;
-        applies = ap (λ (t : Table). apply_encoder_instructions t takes.lines) m.shows.decoder ∙ takes.applies;
-        ends = ends.ends;
+        takes = record {
+          lines = takes.lines;
+          front = takes.front;
+          rest = takes.rest;
+          cut = offered_same s v count m.shows ∙ offered ∙ takes.cut;
+          joined = takes.joined;
+          applies = ap (λ (t : Table). apply_encoder_instructions t takes.lines) m.shows.decoder ∙ takes.applies;
+          ends = ends.ends;
+        };
       })
       (record { sent = fits.sent; blocks = fits.blocks })
 
@@ -354,14 +356,16 @@ module _ (s : SessionView) (new : Table) (count delivered position : ℕ) (bytes
         lawful behind (spec.ToEncoder count) (outcome.Heard r) v ends.answer ends.next ends.answers ends.shown tt tt
         refl
         (record {
-          lines = hears.lines;
-          front = hears.front;
-          rest = hears.rest;
           table = new;
-          offered = heard_same s v count shows ∙ o.offered ∙ hears.cut;
-          joined = hears.joined;
-          hears = ap (λ (t : Table). apply_decoder_instructions t hears.lines) shows.encoder ∙ hears.applies;
-          ends = ends.ends;
+          takes = record {
+            lines = hears.lines;
+            front = hears.front;
+            rest = hears.rest;
+            cut = heard_same s v count shows ∙ o.offered ∙ hears.cut;
+            joined = hears.joined;
+            applies = ap (λ (t : Table). apply_decoder_instructions t hears.lines) shows.encoder ∙ hears.applies;
+            ends = ends.ends;
+          };
         })
         (record { sent = fits.sent; blocks = fits.blocks })
 

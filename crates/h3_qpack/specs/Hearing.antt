@@ -1,19 +1,19 @@
 -- What an encoder does with the bytes of the decoder stream (RFC 9204, section 4.4), and with a capacity
 -- (section 3.2.3).
-use Rattle.std.specs.Prelude.{◌≡◌, ℕ, ⊤, Bool, true, false, List, ◌++◌, Option, None, Some, Result, Ok, Err}
+use Rattle.std.specs.Prelude.{◌≡◌, ℕ, ⊤, Bool, List, ◌++◌, Option, None, Some, Result, Ok, Err}
 use Rattle.qpack_spec.specs.Bytes.{Begins}
-use Rattle.qpack_spec.specs.Form.{FormFault, BadInteger, Truncates}
+use Rattle.qpack_spec.specs.Form.{FormFault, BadInteger}
 use Rattle.qpack_spec.specs.Instruction.{DecoderInstruction, decoder_instruction_form, SpellsDecoderInstruction}
 use Rattle.qpack_spec.specs.Instruction.{RefusesDecoderInstruction, SetCapacity, written_encoder_instruction}
-use Rattle.qpack_spec.specs.Stream.{Joined}
-use Rattle.qpack_spec.specs.Session.{apply_decoder_instructions}
 use Rattle.qpack_spec.specs.Table.{Table, apply_decoder_instruction, with_capacity}
 use Rattle.qpack_spec.specs.Window.{TableRefusal}
+use Rattle.qpack_spec.specs.Taking.{TakesAllOf}
 use Rattle.qpack_base.specs.Integers.{integer_fault_of}
 use Rattle.qpack_base.specs.Refusals.{IsRefusedFor}
 use Rattle.qpack_table.specs.Tables as tables
 use Rattle.h3_qpack.specs.declared.encoder.EncoderError.{EncoderError}
 use Rattle.h3_qpack.specs.declared.encoder.EncoderError.TheVariants.{Insertion, InvalidInteger, Memory}
+use Rattle.h3_qpack.specs.Taking.{TakesNextOf, EndsTakingOf}
 
 -- the fault of bytes that an error tells
 abbrev pub form_fault_of : EncoderError → Option FormFault
@@ -42,36 +42,22 @@ pub data StopsHearing (t : Table) (rest left : List ℕ) (e : EncoderError) : Ty
       → SpellsDecoderInstruction encoding r
       → apply_decoder_instruction t r ≡ Err refusal → refusal_of e ≡ Some refusal → StopsHearing t rest left e
 
--- an instruction was taken from the front of the bytes
-pub record HearsOne (old new : Table) (rest left : List ℕ) : Type 0 where
-  pub encoding : List ℕ
-  pub instruction : DecoderInstruction
-  pub cut : rest ≡ encoding ++ left
-  pub spells : SpellsDecoderInstruction encoding instruction
-  pub applies : apply_decoder_instruction old instruction ≡ Ok new
-
--- an instruction is taken, or none stands whole, or it is not taken; then the table is as before
+-- an instruction is taken, or none stands whole, or it is not taken
 abbrev pub HearsNext : Table → Table → List ℕ → List ℕ → Result Bool EncoderError → Type 0
-HearsNext old new rest left (Ok true) = HearsOne old new rest left
-HearsNext old new rest left (Ok false) = Truncates decoder_instruction_form rest × (left ≡ rest) × (new ≡ old)
-HearsNext old new rest left (Err e) = StopsHearing old rest left e × (new ≡ old)
+HearsNext old new rest left r =
+    TakesNextOf decoder_instruction_form apply_decoder_instruction StopsHearing old new rest left r
 
 -- ---- all instructions that stand whole
 
 -- behind those that were taken none stands whole, or one is not taken
 abbrev pub EndsHearing : Table → List ℕ → List ℕ → Result ⊤ EncoderError → Type 0
-EndsHearing t rest left (Ok done) = Truncates decoder_instruction_form rest × (left ≡ rest)
-EndsHearing t rest left (Err e) = StopsHearing t rest left e
+EndsHearing t rest left r = EndsTakingOf decoder_instruction_form StopsHearing t rest left r
 
 -- the instructions at the front of the bytes are taken, each with what it makes of the table
-pub record Hears (old new : Table) (bytes left : List ℕ) (r : Result ⊤ EncoderError) : Type 0 where
-  pub lines : List DecoderInstruction
-  pub front : List ℕ
-  pub rest : List ℕ
-  pub cut : bytes ≡ front ++ rest
-  pub joined : Joined SpellsDecoderInstruction front lines
-  pub applies : apply_decoder_instructions old lines ≡ Ok new
-  pub ends : EndsHearing new rest left r
+abbrev pub Hears : Table → Table → List ℕ → List ℕ → Result ⊤ EncoderError → Type 0
+Hears old new bytes left r =
+    TakesAllOf decoder_instruction_form apply_decoder_instruction old new bytes
+    (λ front rest. EndsHearing new rest left r)
 
 -- ---- a capacity
 

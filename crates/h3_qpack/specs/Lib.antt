@@ -7,6 +7,7 @@ pub use Rattle.qpack_base.specs.HeaderFields
 pub mod Errors
 pub mod Stateless
 pub mod Sections
+pub mod Taking
 pub mod Receiving
 pub mod Hearing
 pub mod Encoding

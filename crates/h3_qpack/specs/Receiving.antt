@@ -6,16 +6,16 @@ use Rattle.std.specs.Option.{option_map}
 use Rattle.std.specs.List.{AllByRecursion}
 use Rattle.qpack_spec.specs.Bytes.{Begins}
 use Rattle.qpack_spec.specs.Field.{Field}
-use Rattle.qpack_spec.specs.Form.{FormFault, Truncates}
+use Rattle.qpack_spec.specs.Form.{FormFault}
 use Rattle.qpack_spec.specs.Instruction.{EncoderInstruction, InsertStaticName, InsertDynamicName, InsertLiteralName}
 use Rattle.qpack_spec.specs.Instruction.{Duplicate, SetCapacity, encoder_instruction_form, SpellsEncoderInstruction}
 use Rattle.qpack_spec.specs.Instruction.{RefusesEncoderInstruction, written_decoder_instructions}
 use Rattle.qpack_spec.specs.StaticTable.{static_table}
-use Rattle.qpack_spec.specs.Stream.{Joined}
-use Rattle.qpack_spec.specs.Session.{apply_encoder_instructions, is_consumed, increments, sum_of, IsPiece}
+use Rattle.qpack_spec.specs.Session.{is_consumed, increments, sum_of, IsPiece}
 use Rattle.qpack_spec.specs.Table.{Table, window, insert_count, apply_encoder_instruction, put}
 use Rattle.qpack_spec.specs.Window.{TableRefusal, NoEntry, NoStaticField, DoesNotFit, AboveMaximum, UnknownStream}
 use Rattle.qpack_spec.specs.Window.{relative_entry, with_value}
+use Rattle.qpack_spec.specs.Taking.{TakesAllOf}
 use Rattle.qpack_base.specs.HeaderFields.{field_of}
 use Rattle.qpack_base.specs.Refusals.{IsRefusedFor}
 use Rattle.qpack_base.specs.declared.field.HeaderField.{HeaderField}
@@ -25,6 +25,7 @@ use Rattle.qpack_wire.specs.Memory.{AsksForMemory}
 use Rattle.h3_qpack.specs.Sections.{form_fault_of}
 use Rattle.h3_qpack.specs.declared.decoder.DecoderError.{DecoderError}
 use Rattle.h3_qpack.specs.declared.decoder.DecoderError.TheVariants.{DynamicTable, InvalidStaticIndex, Memory}
+use Rattle.h3_qpack.specs.Taking.{TakesOneOf, TakesNextOf, EndsTakingOf}
 
 -- a decoder: its table, and how many insertions it has not reported yet
 pub record DecoderView : Type 0 where
@@ -84,18 +85,13 @@ pub data Stops (t : Table) (rest left : List ℕ) (e : DecoderError) : Type 0 wh
       → Stops t rest left e
 
 -- an instruction was taken from the front of the bytes
-pub record TakesOne (old new : Table) (rest left : List ℕ) : Type 0 where
-  pub encoding : List ℕ
-  pub instruction : EncoderInstruction
-  pub cut : rest ≡ encoding ++ left
-  pub spells : SpellsEncoderInstruction encoding instruction
-  pub applies : apply_encoder_instruction old instruction ≡ Ok new
+abbrev pub TakesOne : Table → Table → List ℕ → List ℕ → Type 0
+TakesOne old new rest left = TakesOneOf encoder_instruction_form apply_encoder_instruction old new rest left
 
--- an instruction is taken, or none stands whole, or it is not taken; then the table is as before
+-- an instruction is taken, or none stands whole, or it is not taken
 abbrev pub TakesNext : Table → Table → List ℕ → List ℕ → Result Bool DecoderError → Type 0
-TakesNext old new rest left (Ok true) = TakesOne old new rest left
-TakesNext old new rest left (Ok false) = Truncates encoder_instruction_form rest × (left ≡ rest) × (new ≡ old)
-TakesNext old new rest left (Err e) = Stops old rest left e × (new ≡ old)
+TakesNext old new rest left r =
+    TakesNextOf encoder_instruction_form apply_encoder_instruction Stops old new rest left r
 
 -- an instruction that was answered so is passed: it was applied, or the table refuses what it asks for
 abbrev pub is_passed_for : Option TableRefusal → Bool
@@ -110,18 +106,13 @@ is_passed (Err e) = is_passed_for (refusal_of e)
 
 -- behind those that were taken none stands whole, or one is not taken
 abbrev pub EndsTaking : Table → List ℕ → List ℕ → Result ⊤ DecoderError → Type 0
-EndsTaking t rest left (Ok done) = Truncates encoder_instruction_form rest × (left ≡ rest)
-EndsTaking t rest left (Err e) = Stops t rest left e
+EndsTaking t rest left r = EndsTakingOf encoder_instruction_form Stops t rest left r
 
 -- the instructions at the front of the bytes are taken, each with what it makes of the table
-pub record TakesInstructions (old new : Table) (bytes left : List ℕ) (r : Result ⊤ DecoderError) : Type 0 where
-  pub lines : List EncoderInstruction
-  pub front : List ℕ
-  pub rest : List ℕ
-  pub cut : bytes ≡ front ++ rest
-  pub joined : Joined SpellsEncoderInstruction front lines
-  pub applies : apply_encoder_instructions old lines ≡ Ok new
-  pub ends : EndsTaking new rest left r
+abbrev pub TakesInstructions : Table → Table → List ℕ → List ℕ → Result ⊤ DecoderError → Type 0
+TakesInstructions old new bytes left r =
+    TakesAllOf encoder_instruction_form apply_encoder_instruction old new bytes
+    (λ front rest. EndsTaking new rest left r)
 
 -- ---- a call
 

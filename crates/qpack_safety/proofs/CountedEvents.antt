@@ -101,10 +101,10 @@ counted_happens v (Decode s) o v' (inl h) c =
     both true = counts_stream v.encoder s _ v.streams refl c
     both false = c
 counted_happens v (Decode s) o v' (inr h) c = subst CountsItsBlocks (sym h.1) c
-counted_happens v (ToDecoder n) o v' h c = counted_delivery v n h.table h.front h.rest o v' h.ends c
+counted_happens v (ToDecoder n) o v' h c = counted_delivery v n h.table h.takes.front h.takes.rest o v' h.takes.ends c
 counted_happens v (ToEncoder n) o v' h c =
-    counted_hearing v n h.table h.front h.rest o v' h.ends
-    (counts_all_heard v.encoder h.table h.lines v.streams h.hears c)
+    counted_hearing v n h.table h.takes.front h.takes.rest o v' h.takes.ends
+    (counts_all_heard v.encoder h.table h.takes.lines v.streams h.takes.applies c)
 counted_happens v (Acknowledge s) o v' (inl h) c =
     subst CountsItsBlocks (sym h.1) (counts_stream v.encoder s _ v.streams refl c)
 counted_happens v (Acknowledge s) o v' (inr h) c = subst CountsItsBlocks (sym h.1) c

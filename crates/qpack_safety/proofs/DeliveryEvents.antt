@@ -55,27 +55,29 @@ pub record Moved (capacity limit : ℕ) (v : Session) (w : AbstractSession) (n :
 
 pub moved : (capacity limit : ℕ) (v : Session) (w : AbstractSession) (n : ℕ) (o : Outcome) (v' : Session) → Refines v w
     → Invariant capacity limit w → (c : DeliversToDecoder v n o v')
-    → Moved capacity limit v w n c.lines c.front c.rest c.table
+    → Moved capacity limit v w n c.takes.lines c.takes.front c.takes.rest c.table
 moved capacity limit v w n o v' sh k c =
     let on =
     carried_on SpellsEncoderInstruction (wire encoder_instruction_form) v.encoder_stream v.encoder_stream_taken
     (v.encoder_stream_delivered + n) w.taken
-    w.in_flight c.lines c.front c.rest sh.encoder_stream (omega (arith, sh.sent_order)) c.offered c.joined in
-    let t : Took w (after_steps (taking_all c.lines) w) c.lines on.still =
-    takes_lines capacity limit w c.lines on.still k on.goes_on in
-    let table_is : c.table ≡ table_of (after_steps (taking_all c.lines) w).decoder =
-    ok_is _ _ (sym c.applies ∙ ap (λ (x : Table). apply_encoder_instructions x c.lines) sh.decoder_is ∙ t.t_decoder) in
+    w.in_flight c.takes.lines c.takes.front c.takes.rest sh.encoder_stream (omega (arith, sh.sent_order)) c.takes.cut
+    c.takes.joined in
+    let t : Took w (after_steps (taking_all c.takes.lines) w) c.takes.lines on.still =
+    takes_lines capacity limit w c.takes.lines on.still k on.goes_on in
+    let table_is : c.table ≡ table_of (after_steps (taking_all c.takes.lines) w).decoder =
+    ok_is _ _ (sym c.takes.applies ∙ ap (λ (x : Table). apply_encoder_instructions x c.takes.lines) sh.decoder_is
+    ∙ t.t_decoder) in
     let before : insert_count v.decoder ≡ window_insert_count w.decoder = ap insert_count sh.decoder_is
     ∙ count_put w.decoder in
-    let behind : insert_count c.table ≡ window_insert_count (after_steps (taking_all c.lines) w).decoder =
-    ap insert_count table_is ∙ count_put (after_steps (taking_all c.lines) w).decoder in
+    let behind : insert_count c.table ≡ window_insert_count (after_steps (taking_all c.takes.lines) w).decoder =
+    ap insert_count table_is ∙ count_put (after_steps (taking_all c.takes.lines) w).decoder in
     record {
       on = on;
       took = t;
-      keeps = inv_run capacity limit (taking_all c.lines) w k;
+      keeps = inv_run capacity limit (taking_all c.takes.lines) w k;
       table_is = table_is;
-      place = piece_ends v.encoder_stream c.front c.rest v.encoder_stream_taken
-          (v.encoder_stream_delivered + n) c.offered
+      place = piece_ends v.encoder_stream c.takes.front c.takes.rest v.encoder_stream_taken
+          (v.encoder_stream_delivered + n) c.takes.cut
           (omega (arith, sh.sent_order))
           (omega (
             arith,
@@ -154,17 +156,18 @@ no_bad_instruction capacity limit v w n lines front rest table encoding more i e
 
 pub lands_delivered : (capacity limit : ℕ) (v : Session) (w : AbstractSession) (n : ℕ) (o : Outcome) (v' : Session)
     → Refines v w → Invariant capacity limit w → DeliversToDecoder v n o v' → RefinesSome capacity limit v'
-lands_delivered capacity limit v w n o v' sh k c = go (moved capacity limit v w n o v' sh k c) c.ends
+lands_delivered capacity limit v w n o v' sh k c = go (moved capacity limit v w n o v' sh k c) c.takes.ends
   where
     at : (u : Session) → v' ≡ u → RefinesSome capacity limit u → RefinesSome capacity limit v'
     at u e l = subst (RefinesSome capacity limit) (sym e) l
 
-    go : Moved capacity limit v w n c.lines c.front c.rest c.table → EndsAtDecoder v n c.table c.front c.rest o v'
+    go : Moved capacity limit v w n c.takes.lines c.takes.front c.takes.rest c.table
+        → EndsAtDecoder v n c.table c.takes.front c.takes.rest o v'
         → RefinesSome capacity limit v'
     go m (takes_all pieces cut sizes sum is goes) =
-        let shown = moved_shown capacity limit v w n c.lines c.front c.rest c.table sh m in
-        let w1 = after_steps (taking_all c.lines) w in
-        at (with_decoder_moved v n c.table (length c.front) 0
+        let shown = moved_shown capacity limit v w n c.takes.lines c.takes.front c.takes.rest c.table sh m in
+        let w1 = after_steps (taking_all c.takes.lines) w in
+        at (with_decoder_moved v n c.table (length c.takes.front) 0
         (v.decoder_stream ++ written_decoder_instructions (increments pieces))) goes (record {
           abstract = record w1 { decoder_in_flight = w1.decoder_in_flight ++ increments pieces; unreported = 0 };
           refines = record {
@@ -185,28 +188,32 @@ lands_delivered capacity limit v w n o v' sh k c = go (moved capacity limit v w 
           keeps = inv_reported capacity limit w1 pieces (sum ∙ m.unreported_is) m.keeps;
         })
     go m (no_memory is goes) =
-        at (with_decoder_moved v n c.table (length c.front) (unreported_after v c.table) v.decoder_stream) goes
+        at (with_decoder_moved v n c.table (length c.takes.front) (unreported_after v c.table) v.decoder_stream) goes
         (record {
-          abstract = after_steps (taking_all c.lines) w;
-          refines = moved_shown capacity limit v w n c.lines c.front c.rest c.table sh m;
+          abstract = after_steps (taking_all c.takes.lines) w;
+          refines = moved_shown capacity limit v w n c.takes.lines c.takes.front c.takes.rest c.table sh m;
           keeps = m.keeps;
         })
     go m (bad_bytes fault b is goes) =
-        absurd (no_bad_bytes capacity limit v w n c.lines c.front c.rest c.table fault m b)
+        absurd (no_bad_bytes capacity limit v w n c.takes.lines c.takes.front c.takes.rest c.table fault m b)
     go m (bad_instruction encoding more i e cut s bad is goes) =
-        absurd (no_bad_instruction capacity limit v w n c.lines c.front c.rest c.table encoding more i e m cut s bad)
+        absurd (no_bad_instruction capacity limit v w n c.takes.lines c.takes.front c.takes.rest c.table encoding more i
+        e m cut s bad)
 
 pub delivered_lawful : (capacity limit : ℕ) (v : Session) (w : AbstractSession) (n : ℕ) (fault : StreamFault)
     (v' : Session) → Refines v w → Invariant capacity limit w → DeliversToDecoder v n (Refused fault) v' → ⊥
-delivered_lawful capacity limit v w n fault v' sh k c = go (moved capacity limit v w n (Refused fault) v' sh k c) c.ends
+delivered_lawful capacity limit v w n fault v' sh k c = go (moved capacity limit v w n (Refused fault) v' sh k c)
+    c.takes.ends
   where
-    go : Moved capacity limit v w n c.lines c.front c.rest c.table
-        → EndsAtDecoder v n c.table c.front c.rest (Refused fault) v' → ⊥
+    go : Moved capacity limit v w n c.takes.lines c.takes.front c.takes.rest c.table
+        → EndsAtDecoder v n c.table c.takes.front c.takes.rest (Refused fault) v' → ⊥
     go m (takes_all pieces cut sizes sum is goes) = absurd cc
     go m (no_memory is goes) = absurd cc
-    go m (bad_bytes f b is goes) = no_bad_bytes capacity limit v w n c.lines c.front c.rest c.table f m b
+    go m (bad_bytes f b is goes) = no_bad_bytes capacity limit v w n c.takes.lines c.takes.front c.takes.rest c.table f
+        m b
     go m (bad_instruction encoding more i e cut s bad is goes) =
-        no_bad_instruction capacity limit v w n c.lines c.front c.rest c.table encoding more i e m cut s bad
+        no_bad_instruction capacity limit v w n c.takes.lines c.takes.front c.takes.rest c.table encoding more i e m cut
+        s bad
 
 -- ---- to the encoder
 
@@ -222,23 +229,25 @@ record Reached (capacity limit : ℕ) (v : Session) (w : AbstractSession) (n : �
 
 reached : (capacity limit : ℕ) (v : Session) (w : AbstractSession) (n : ℕ) (o : Outcome) (v' : Session)
     (sh : Refines v w) → Invariant capacity limit w → (c : DeliversToEncoder v n o v')
-    → Reached capacity limit v w n c.lines c.front c.rest c.table sh.heard_lines
+    → Reached capacity limit v w n c.takes.lines c.takes.front c.takes.rest c.table sh.heard_lines
 reached capacity limit v w n o v' sh k c =
     let on =
     carried_on SpellsDecoderInstruction (wire decoder_instruction_form) v.decoder_stream v.decoder_stream_taken
     (v.decoder_stream_delivered + n) sh.heard_lines
-    w.decoder_in_flight c.lines c.front c.rest sh.decoder_stream (omega (arith, sh.told_order)) c.offered c.joined
+    w.decoder_in_flight c.takes.lines c.takes.front c.takes.rest sh.decoder_stream (omega (arith, sh.told_order))
+    c.takes.cut c.takes.joined
     in
-    let t : Listens w (after_steps (hearing_all c.lines) w) c.lines on.still =
-    hears_lines capacity limit w c.lines on.still k on.goes_on in
+    let t : Listens w (after_steps (hearing_all c.takes.lines) w) c.takes.lines on.still =
+    hears_lines capacity limit w c.takes.lines on.still k on.goes_on in
     record {
       on = on;
       listens = t;
-      keeps = inv_run capacity limit (hearing_all c.lines) w k;
-      table_is = ok_is _ _ (sym c.hears ∙ ap (λ (x : Table). apply_decoder_instructions x c.lines) sh.encoder_is
+      keeps = inv_run capacity limit (hearing_all c.takes.lines) w k;
+      table_is = ok_is _ _ (sym c.takes.applies ∙ ap (λ (x : Table). apply_decoder_instructions x c.takes.lines)
+          sh.encoder_is
           ∙ t.l_encoder);
-      place = piece_ends v.decoder_stream c.front c.rest v.decoder_stream_taken
-          (v.decoder_stream_delivered + n) c.offered
+      place = piece_ends v.decoder_stream c.takes.front c.takes.rest v.decoder_stream_taken
+          (v.decoder_stream_delivered + n) c.takes.cut
           (omega (arith, sh.told_order))
           (omega (
             arith,
@@ -281,10 +290,10 @@ no_bad_decoder_instruction capacity limit v w n lines front rest table before en
 
 pub lands_heard : (capacity limit : ℕ) (v : Session) (w : AbstractSession) (n : ℕ) (o : Outcome) (v' : Session)
     → Refines v w → Invariant capacity limit w → DeliversToEncoder v n o v' → RefinesSome capacity limit v'
-lands_heard capacity limit v w n o v' sh k c = go (reached capacity limit v w n o v' sh k c) c.ends
+lands_heard capacity limit v w n o v' sh k c = go (reached capacity limit v w n o v' sh k c) c.takes.ends
   where
-    shown : Reached capacity limit v w n c.lines c.front c.rest c.table sh.heard_lines
-        → Refines (with_encoder_moved v n c.table (length c.front)) (after_steps (hearing_all c.lines) w)
+    shown : Reached capacity limit v w n c.takes.lines c.takes.front c.takes.rest c.table sh.heard_lines
+        → Refines (with_encoder_moved v n c.table (length c.takes.front)) (after_steps (hearing_all c.takes.lines) w)
     shown m =
         let t = m.listens in
         record {
@@ -293,34 +302,39 @@ lands_heard capacity limit v w n o v' sh k c = go (reached capacity limit v w n 
           unreported_is = sh.unreported_is ∙ sym t.l_unreported;
           encoder_stream = rw (t.l_taken, t.l_in_flight) sh.encoder_stream;
           sent_order = sh.sent_order;
-          heard_lines = sh.heard_lines ++ c.lines;
+          heard_lines = sh.heard_lines ++ c.takes.lines;
           decoder_stream = rw t.l_decoder_instructions m.on.carried;
           told_order = omega (arith, m.place);
           streams_are = λ s. rw (t.l_taken, t.l_in_flight, t.l_streams) (sh.streams_are s);
         }
 
-    go : Reached capacity limit v w n c.lines c.front c.rest c.table sh.heard_lines
-        → EndsAtEncoder v n c.table c.front c.rest o v' → RefinesSome capacity limit v'
+    go : Reached capacity limit v w n c.takes.lines c.takes.front c.takes.rest c.table sh.heard_lines
+        → EndsAtEncoder v n c.table c.takes.front c.takes.rest o v' → RefinesSome capacity limit v'
     go m (takes_all_at_encoder cut is goes) =
         subst (RefinesSome capacity limit) (sym goes)
-        (record { abstract = after_steps (hearing_all c.lines) w; refines = shown m; keeps = m.keeps })
+        (record { abstract = after_steps (hearing_all c.takes.lines) w; refines = shown m; keeps = m.keeps })
     go m (bad_bytes_at_encoder fault b is goes) =
-        absurd (no_bad_decoder_instruction_bytes capacity limit v w n c.lines c.front c.rest c.table sh.heard_lines
+        absurd (no_bad_decoder_instruction_bytes capacity limit v w n c.takes.lines c.takes.front c.takes.rest c.table
+        sh.heard_lines
         fault m b)
     go m (bad_decoder_instruction encoding more r e cut s bad is goes) =
-        absurd (no_bad_decoder_instruction capacity limit v w n c.lines c.front c.rest c.table sh.heard_lines encoding
+        absurd (no_bad_decoder_instruction capacity limit v w n c.takes.lines c.takes.front c.takes.rest c.table
+        sh.heard_lines encoding
         more r e m cut s
         bad)
 
 pub heard_lawful : (capacity limit : ℕ) (v : Session) (w : AbstractSession) (n : ℕ) (fault : StreamFault)
     (v' : Session) → Refines v w → Invariant capacity limit w → DeliversToEncoder v n (Refused fault) v' → ⊥
-heard_lawful capacity limit v w n fault v' sh k c = go (reached capacity limit v w n (Refused fault) v' sh k c) c.ends
+heard_lawful capacity limit v w n fault v' sh k c = go (reached capacity limit v w n (Refused fault) v' sh k c)
+    c.takes.ends
   where
-    go : Reached capacity limit v w n c.lines c.front c.rest c.table sh.heard_lines
-        → EndsAtEncoder v n c.table c.front c.rest (Refused fault) v' → ⊥
+    go : Reached capacity limit v w n c.takes.lines c.takes.front c.takes.rest c.table sh.heard_lines
+        → EndsAtEncoder v n c.table c.takes.front c.takes.rest (Refused fault) v' → ⊥
     go m (takes_all_at_encoder cut is goes) = absurd cc
     go m (bad_bytes_at_encoder f b is goes) =
-        no_bad_decoder_instruction_bytes capacity limit v w n c.lines c.front c.rest c.table sh.heard_lines f m b
+        no_bad_decoder_instruction_bytes capacity limit v w n c.takes.lines c.takes.front c.takes.rest c.table
+        sh.heard_lines f m b
     go m (bad_decoder_instruction encoding more r e cut s bad is goes) =
-        no_bad_decoder_instruction capacity limit v w n c.lines c.front c.rest c.table sh.heard_lines encoding more r e
+        no_bad_decoder_instruction capacity limit v w n c.takes.lines c.takes.front c.takes.rest c.table sh.heard_lines
+        encoding more r e
         m cut s bad

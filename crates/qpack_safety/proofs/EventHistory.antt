@@ -166,8 +166,8 @@ happens_adds v (Decode t) o v' s (inl h) =
     known_as v (Decode t) s o _ v' _ h.answers h.moves
     (adds_read v t (reading_of_bytes (window v.decoder) h.block.bytes) s)
 happens_adds v (Decode t) o v' s (inr h) = known_as v (Decode t) s o _ v' _ h.0 h.1 (adds_none v v s refl)
-happens_adds v (ToDecoder n) o v' s h = adds_delivery v n h.table h.front h.rest o v' s h.ends
-happens_adds v (ToEncoder n) o v' s h = adds_hearing v n h.table h.front h.rest o v' s h.ends
+happens_adds v (ToDecoder n) o v' s h = adds_delivery v n h.table h.takes.front h.takes.rest o v' s h.takes.ends
+happens_adds v (ToEncoder n) o v' s h = adds_hearing v n h.table h.takes.front h.takes.rest o v' s h.takes.ends
 happens_adds v (Acknowledge t) o v' s (inl h) =
     known_as v (Acknowledge t) s o _ v' _ h.0 h.1 (same_stream v t s _ _ refl refl)
 happens_adds v (Acknowledge t) o v' s (inr h) = known_as v (Acknowledge t) s o _ v' _ h.0 h.1 (adds_none v v s refl)

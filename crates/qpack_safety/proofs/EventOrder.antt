@@ -211,15 +211,17 @@ happens_moves v (Decode t) o v' d (inl h) =
     both false = stays_ordered v v d refl
 happens_moves v (Decode t) o v' d (inr h) = stays_ordered v v' d h.1
 happens_moves v (ToDecoder n) o v' d h =
-    delivery_moves v n h.table h.front h.rest o v' d
-    (piece_ends v.encoder_stream h.front h.rest v.encoder_stream_taken (v.encoder_stream_delivered + n) h.offered
+    delivery_moves v n h.table h.takes.front h.takes.rest o v' d
+    (piece_ends v.encoder_stream h.takes.front h.takes.rest v.encoder_stream_taken (v.encoder_stream_delivered + n)
+    h.takes.cut
     (omega (arith, d.encoder_stream_taken))
-    (omega (arith, d.encoder_stream_taken, d.encoder_stream_delivered))) h.ends
+    (omega (arith, d.encoder_stream_taken, d.encoder_stream_delivered))) h.takes.ends
 happens_moves v (ToEncoder n) o v' d h =
-    hearing_moves v n h.table h.front h.rest o v' d
-    (piece_ends v.decoder_stream h.front h.rest v.decoder_stream_taken (v.decoder_stream_delivered + n) h.offered
+    hearing_moves v n h.table h.takes.front h.takes.rest o v' d
+    (piece_ends v.decoder_stream h.takes.front h.takes.rest v.decoder_stream_taken (v.decoder_stream_delivered + n)
+    h.takes.cut
     (omega (arith, d.decoder_stream_taken))
-    (omega (arith, d.decoder_stream_taken, d.decoder_stream_delivered))) h.ends
+    (omega (arith, d.decoder_stream_taken, d.decoder_stream_delivered))) h.takes.ends
 happens_moves v (Acknowledge t) o v' d (inl h) =
     wrote v v' _ [] _ d h.1 (record {
       sent_is = sym (append-nil v.encoder_stream);

@@ -224,14 +224,15 @@ hearing_of v n o v' (inr h) = h.1
 delivery_answers : (capacity limit : ℕ) (v : Session) (n : ℕ) (o : Outcome) (v' : Session)
     → RefinesSome capacity limit v → DeliversToDecoder v n o v' → (o ≡ Delivered (insert_count v'.decoder))
     ⊎ (o ≡ NoMemory)
-delivery_answers capacity limit v n o v' r c = go c.ends
+delivery_answers capacity limit v n o v' r c = go c.takes.ends
   where
     refused : (fault : StreamFault) → o ≡ Refused fault → ⊥
     refused fault is =
         delivered_lawful capacity limit v r.abstract n fault v' r.refines r.keeps
         (subst (λ (x : Outcome). DeliversToDecoder v n x v') is c)
 
-    go : EndsAtDecoder v n c.table c.front c.rest o v' → (o ≡ Delivered (insert_count v'.decoder)) ⊎ (o ≡ NoMemory)
+    go : EndsAtDecoder v n c.table c.takes.front c.takes.rest o v' → (o ≡ Delivered (insert_count v'.decoder)) ⊎ (o
+        ≡ NoMemory)
     go (takes_all pieces cut sizes sum is goes) =
         inl (is ∙ ap (λ (x : Session). Delivered (insert_count x.decoder)) (sym goes))
     go (no_memory is goes) = inr is
@@ -240,14 +241,14 @@ delivery_answers capacity limit v n o v' r c = go c.ends
 
 hearing_answers : (capacity limit : ℕ) (v : Session) (n : ℕ) (o : Outcome) (v' : Session)
     → RefinesSome capacity limit v → DeliversToEncoder v n o v' → o ≡ Heard
-hearing_answers capacity limit v n o v' r c = go c.ends
+hearing_answers capacity limit v n o v' r c = go c.takes.ends
   where
     refused : (fault : StreamFault) → o ≡ Refused fault → ⊥
     refused fault is =
         heard_lawful capacity limit v r.abstract n fault v' r.refines r.keeps
         (subst (λ (x : Outcome). DeliversToEncoder v n x v') is c)
 
-    go : EndsAtEncoder v n c.table c.front c.rest o v' → o ≡ Heard
+    go : EndsAtEncoder v n c.table c.takes.front c.takes.rest o v' → o ≡ Heard
     go (takes_all_at_encoder cut is goes) = is
     go (bad_bytes_at_encoder fault b is goes) = absurd (refused _ is)
     go (bad_decoder_instruction encoding more x e cut s bad is goes) = absurd (refused _ is)

@@ -296,12 +296,12 @@ pub delivers_whole : (capacity limit : ℕ) (v : Session) (w : AbstractSession) 
     → slice_get (stream_at u.streams s).blocks position ≡ Some b → b.end ≤ v'.encoder_stream_delivered → b.end
     ≤ v'.encoder_stream_taken
 delivers_whole capacity limit v w n received v' sh k c u x su more s position b there le =
-    go (moved capacity limit v w n (Delivered received) v' sh k c) c.ends
+    go (moved capacity limit v w n (Delivered received) v' sh k c) c.takes.ends
   where
-    whole_window : (m : Moved capacity limit v w n c.lines c.front c.rest c.table)
-        → Truncates encoder_instruction_form c.rest
+    whole_window : (m : Moved capacity limit v w n c.takes.lines c.takes.front c.takes.rest c.table)
+        → Truncates encoder_instruction_form c.takes.rest
         → b.end ≤ min (v.encoder_stream_delivered + n) (length v.encoder_stream) → b.end
-        ≤ v.encoder_stream_taken + length c.front
+        ≤ v.encoder_stream_taken + length c.takes.front
     whole_window m cut within =
         let found =
         agrees_get (RefinesBlock u.encoder_stream (x.taken ++ x.in_flight)) (stream_at u.streams s).blocks
@@ -309,23 +309,24 @@ delivers_whole capacity limit v w n received v' sh k c u x su more s position b 
         let e = found.2.ends in
         let carried = m.on.carried in
         let behind = m.on.more ++ more.0 in
-        let same : e.front ++ e.rest ≡ carried.front ++ (c.rest ++ behind) =
+        let same : e.front ++ e.rest ≡ carried.front ++ (c.takes.rest ++ behind) =
         sym e.cut ∙ more.1 ∙ ap (λ l. l ++ more.0) (carried.cut ∙ ap (λ l. carried.front ++ l) m.on.rest_is)
-        ∙ append_assoc carried.front (c.rest ++ m.on.more) more.0
-        ∙ ap (λ l. carried.front ++ l) (append_assoc c.rest m.on.more more.0) in
+        ∙ append_assoc carried.front (c.takes.rest ++ m.on.more) more.0
+        ∙ ap (λ l. carried.front ++ l) (append_assoc c.takes.rest m.on.more more.0) in
         let few =
         reads_delivered SpellsEncoderInstruction (wire encoder_instruction_form)
-        (w.taken ++ c.lines) e.first [] carried.front
-        c.rest behind e.front e.rest carried.front_joined (λ encoding l i q y. (cut encoding l q).0 i y) e.joined same
+        (w.taken ++ c.takes.lines) e.first [] carried.front
+        c.takes.rest behind e.front e.rest carried.front_joined (λ encoding l i q y. (cut encoding l q).0 i y) e.joined
+        same
         (omega (arith, e.place_is, within, m.place, carried.ends)) in
         let short =
         fronts_order SpellsEncoderInstruction (wire encoder_instruction_form) e.first
-        (w.taken ++ c.lines) e.front carried.front
-        e.rest (c.rest ++ behind) e.joined carried.front_joined same few in
+        (w.taken ++ c.takes.lines) e.front carried.front
+        e.rest (c.takes.rest ++ behind) e.joined carried.front_joined same few in
         omega (arith, short, e.place_is, carried.ends)
 
-    go : Moved capacity limit v w n c.lines c.front c.rest c.table
-        → EndsAtDecoder v n c.table c.front c.rest (Delivered received) v' → b.end ≤ v'.encoder_stream_taken
+    go : Moved capacity limit v w n c.takes.lines c.takes.front c.takes.rest c.table
+        → EndsAtDecoder v n c.table c.takes.front c.takes.rest (Delivered received) v' → b.end ≤ v'.encoder_stream_taken
     go m (takes_all pieces cut sizes sum is goes) =
         let within : b.end ≤ min (v.encoder_stream_delivered + n) (length v.encoder_stream) =
         omega (arith, le, ap (λ (y : Session). y.encoder_stream_delivered) goes) in

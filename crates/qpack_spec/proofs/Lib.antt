@@ -20,6 +20,7 @@ pub mod WrittenStrings
 pub mod Forms
 pub mod FormLaws
 pub mod Cuttings
+pub mod Taking
 pub mod StreamReadings
 pub mod WrittenForms
 pub mod BlockReadings

@@ -304,14 +304,16 @@ delivers_part =
     inr (
       refl,
       record {
-        lines = [];
-        front = [];
-        rest = 98 ∷ 148 ∷ 231 ∷ 131 ∷ 140 ∷ 118 ∷ [];
         table = written.decoder;
-        offered = refl;
-        joined = refl;
-        applies = refl;
-        ends = takes_all [] cut_part tt refl refl refl;
+        takes = record {
+          lines = [];
+          front = [];
+          rest = 98 ∷ 148 ∷ 231 ∷ 131 ∷ 140 ∷ 118 ∷ [];
+          cut = refl;
+          joined = refl;
+          applies = refl;
+          ends = takes_all [] cut_part tt refl refl refl;
+        };
       },
     )
 
@@ -325,15 +327,17 @@ delivers_rest =
     inr (
       refl,
       record {
-        lines = InsertLiteralName (codes "foo") (codes "bar") ∷ [];
-        front = 98 ∷ 148 ∷ 231 ∷ 131 ∷ 140 ∷ 118 ∷ 127 ∷ [];
-        rest = [];
         table = filled;
-        offered = refl;
-        joined = line_then encoder_instruction_form _ []
-            (InsertLiteralName (codes "foo") (codes "bar")) [] insertion_read refl;
-        applies = refl;
-        ends = takes_all (1 ∷ []) cut_none ((lit≤ tt, lit≤ tt), tt) refl refl refl;
+        takes = record {
+          lines = InsertLiteralName (codes "foo") (codes "bar") ∷ [];
+          front = 98 ∷ 148 ∷ 231 ∷ 131 ∷ 140 ∷ 118 ∷ 127 ∷ [];
+          rest = [];
+          cut = refl;
+          joined = line_then encoder_instruction_form _ []
+              (InsertLiteralName (codes "foo") (codes "bar")) [] insertion_read refl;
+          applies = refl;
+          ends = takes_all (1 ∷ []) cut_none ((lit≤ tt, lit≤ tt), tt) refl refl refl;
+        };
       },
     )
 
@@ -359,16 +363,18 @@ hears_both =
     inr (
       refl,
       record {
-        lines = Increment 1 ∷ Acknowledgment 4 ∷ [];
-        front = 1 ∷ 132 ∷ [];
-        rest = [];
         table = released;
-        offered = refl;
-        joined =
-            line_then decoder_instruction_form _ (132 ∷ []) (Increment 1) (Acknowledgment 4 ∷ []) increment_read
-            (line_then decoder_instruction_form _ [] (Acknowledgment 4) [] acknowledgment_read refl);
-        hears = refl;
-        ends = takes_all_at_encoder cut_none_heard refl refl;
+        takes = record {
+          lines = Increment 1 ∷ Acknowledgment 4 ∷ [];
+          front = 1 ∷ 132 ∷ [];
+          rest = [];
+          cut = refl;
+          joined =
+              line_then decoder_instruction_form _ (132 ∷ []) (Increment 1) (Acknowledgment 4 ∷ []) increment_read
+              (line_then decoder_instruction_form _ [] (Acknowledgment 4) [] acknowledgment_read refl);
+          applies = refl;
+          ends = takes_all_at_encoder cut_none_heard refl refl;
+        };
       },
     )
 

@@ -4,7 +4,7 @@ use Rattle.std.specs.Prelude.{◌≡◌, ◌<◌, ℕ, ◌+◌, ◌-◌, ◌^◌
 use Rattle.std.specs.Prelude.{nat_le, nat_eq, List, [], ◌∷◌, ◌++◌, length, take, drop, Option, None, Some, slice_get}
 use Rattle.std.specs.Prelude.{Result, Ok, Err}
 use Rattle.std.specs.List.{AllByRecursion, filter}
-use Rattle.qpack_spec.specs.Bytes.{Begins, ◌>>=◌}
+use Rattle.qpack_spec.specs.Bytes.{Begins}
 use Rattle.qpack_spec.specs.Field.{Field, total_size}
 use Rattle.qpack_spec.specs.Form.{FormFault, Truncates}
 use Rattle.qpack_spec.specs.Instruction.{EncoderInstruction, SetCapacity, DecoderInstruction, Acknowledgment}
@@ -14,7 +14,6 @@ use Rattle.qpack_spec.specs.Instruction.{RefusesEncoderInstruction}
 use Rattle.qpack_spec.specs.Instruction.{SpellsDecoderInstruction, RefusesDecoderInstruction}
 use Rattle.qpack_spec.specs.Instruction.{written_encoder_instruction, written_encoder_instructions}
 use Rattle.qpack_spec.specs.Instruction.{written_decoder_instruction, written_decoder_instructions}
-use Rattle.qpack_spec.specs.Stream.{Joined}
 use Rattle.qpack_spec.specs.Window.{TableRefusal, NoEntry, NoStaticField, DoesNotFit, AboveMaximum, UnknownStream}
 use Rattle.qpack_spec.specs.History.{initial_history, window_of}
 use Rattle.qpack_spec.specs.Reading.{Fault, Reading, Fields, Missing, Faulty}
@@ -25,6 +24,7 @@ use Rattle.qpack_spec.specs.Table.{with_capacity}
 use Rattle.qpack_spec.specs.Rule.{rule, required_insert_count, block_of, committed_table}
 use Rattle.qpack_spec.specs.Stateless.{saturated_size}
 use Rattle.qpack_spec.specs.WrittenLaws.{IsByteField}
+use Rattle.qpack_spec.specs.Taking.{apply_in_turn, TakesAllOf}
 
 -- a block: its bytes, the required insert count that was answered, how long the encoder stream was at its end, and the
 -- fields that were handed to the encoder
@@ -241,13 +241,11 @@ with_decoded v s = let k = stream_at v.streams s in with_kept_stream v s (record
 
 -- the table behind some instructions
 abbrev pub apply_encoder_instructions : Table → List EncoderInstruction → Result Table TableRefusal
-apply_encoder_instructions t [] = Ok t
-apply_encoder_instructions t (i ∷ is) = apply_encoder_instruction t i >>= λ u. apply_encoder_instructions u is
+apply_encoder_instructions t is = apply_in_turn apply_encoder_instruction t is
 
 -- the table behind some decoder instructions
 abbrev pub apply_decoder_instructions : Table → List DecoderInstruction → Result Table TableRefusal
-apply_decoder_instructions t [] = Ok t
-apply_decoder_instructions t (r ∷ rs) = apply_decoder_instruction t r >>= λ u. apply_decoder_instructions u rs
+apply_decoder_instructions t rs = apply_in_turn apply_decoder_instruction t rs
 
 -- the sum of some numbers
 abbrev pub sum_of : List ℕ → ℕ
@@ -318,14 +316,10 @@ pub data EndsAtDecoder (v : Session) (n : ℕ) (t : Table) (front rest : List �
 -- the next n bytes are delivered to the decoder, and offered behind those that it left; it takes instructions at their
 -- front
 pub record DeliversToDecoder (v : Session) (n : ℕ) (o : Outcome) (v' : Session) : Type 0 where
-  pub lines : List EncoderInstruction
-  pub front : List ℕ
-  pub rest : List ℕ
   pub table : Table
-  pub offered : drop v.encoder_stream_taken (take (v.encoder_stream_delivered + n) v.encoder_stream) ≡ front ++ rest
-  pub joined : Joined SpellsEncoderInstruction front lines
-  pub applies : apply_encoder_instructions v.decoder lines ≡ Ok table
-  pub ends : EndsAtDecoder v n table front rest o v'
+  pub takes : TakesAllOf encoder_instruction_form apply_encoder_instruction v.decoder table
+      (drop v.encoder_stream_taken (take (v.encoder_stream_delivered + n) v.encoder_stream))
+      (λ front rest. EndsAtDecoder v n table front rest o v')
 
 -- the session when the next n bytes were delivered to the encoder, so many consumed, and this table made
 abbrev pub with_encoder_moved : Session → ℕ → Table → ℕ → Session
@@ -354,14 +348,10 @@ pub data EndsAtEncoder (v : Session) (n : ℕ) (t : Table) (front rest : List �
 -- the next n bytes are delivered to the encoder, and offered behind those that it left; it takes decoder instructions
 -- at their front
 pub record DeliversToEncoder (v : Session) (n : ℕ) (o : Outcome) (v' : Session) : Type 0 where
-  pub lines : List DecoderInstruction
-  pub front : List ℕ
-  pub rest : List ℕ
   pub table : Table
-  pub offered : drop v.decoder_stream_taken (take (v.decoder_stream_delivered + n) v.decoder_stream) ≡ front ++ rest
-  pub joined : Joined SpellsDecoderInstruction front lines
-  pub hears : apply_decoder_instructions v.encoder lines ≡ Ok table
-  pub ends : EndsAtEncoder v n table front rest o v'
+  pub takes : TakesAllOf decoder_instruction_form apply_decoder_instruction v.encoder table
+      (drop v.decoder_stream_taken (take (v.decoder_stream_delivered + n) v.decoder_stream))
+      (λ front rest. EndsAtEncoder v n table front rest o v')
 
 -- an event refused for memory, where it leaves everything as it was
 abbrev pub LeavesAll : Session → Outcome → Session → Type 0

@@ -4,15 +4,16 @@ use Rattle.std.proofs.Common.{Ok, Bool, true, false, refl, sym, ap, subst, ◌�
 use Rattle.std.proofs.Common.{length-append, arith}
 use Rattle.std.proofs.lemmas.List.{take_at, drop_at}
 use Rattle.qpack_base.specs.Cursor.{CursorView}
-use Rattle.qpack_spec.specs.Instruction.{EncoderInstruction, SpellsEncoderInstruction}
+use Rattle.qpack_spec.specs.Instruction.{EncoderInstruction, SpellsEncoderInstruction, encoder_instruction_form}
 use Rattle.qpack_spec.specs.Session.{apply_encoder_instructions}
 use Rattle.qpack_spec.specs.Stream.{Joined}
-use Rattle.qpack_spec.specs.Table.{Table}
+use Rattle.qpack_spec.specs.Table.{Table, apply_encoder_instruction}
+use Rattle.qpack_spec.proofs.Taking.{joined_last, applied_last}
 use Rattle.qpack_wire.specs.StreamAnswers.{DecodesInstruction, StaysUnlessRead}
 use Rattle.qpack_wire.specs.StreamLines.{RefusesEncoderLine, encoder_instruction_of}
 use Rattle.qpack_wire.specs.declared.stream.encoder_stream.EncoderLine.{EncoderLine}
 use Rattle.h3_qpack.specs.Receiving.{Stops}
-use Rattle.h3_qpack.proofs.Instructions.{no_line, joined_last, applied_last}
+use Rattle.h3_qpack.proofs.Instructions.{no_line}
 use Rattle.h3_qpack.specs.declared.decoder.DecoderError.{DecoderError}
 use Rattle.h3_qpack.specs.declared.decoder.DecoderError.TheVariants as decoder
 use Rattle.qpk.specs.Answers.{fault_of_decoder}
@@ -112,8 +113,8 @@ heard_more old now new bytes rest left before text after h one =
       lines = h.lines ++ t.instruction ∷ [];
       front = h.front ++ t.encoding;
       cut = h.cut ∙ ap (λ (x : List ℕ). h.front ++ x) t.cut ∙ sym (append_assoc h.front t.encoding left);
-      joined = joined_last h.lines h.front t.encoding t.instruction h.joined t.spells;
-      applies = applied_last h.lines t.instruction old now new h.applies t.applies;
+      joined = joined_last encoder_instruction_form h.lines h.front t.encoding t.instruction h.joined t.spells;
+      applies = applied_last apply_encoder_instruction h.lines t.instruction old now new h.applies t.applies;
       printed = one.text ∙ ap (λ (x : List ℕ). x ++ instruction_text t.instruction) h.printed
           ∙ append_assoc before (instructions_text h.lines) (instruction_text t.instruction)
           ∙ ap (λ (x : List ℕ). before ++ x) (sym (text_last h.lines t.instruction));

@@ -1,18 +1,21 @@
 use Rattle.std.proofs.Common.{refl, ◌∙◌}
 use Rattle.std.proofs.lemmas.Result.{err_from_is_err_and}
-use Rattle.h3_qpack.proofs.Instructions.{taken_none, taken_more, taken_all, taken_until, one_was, one_shortens}
+use Rattle.qpack_spec.specs.Instruction.{encoder_instruction_form}
+use Rattle.qpack_spec.specs.Table.{apply_encoder_instruction}
+use Rattle.h3_qpack.specs.Receiving.{Stops}
 use Rattle.h3_qpack.proofs.decoder.instructions.take_instructions.Goals as goal
+use Rattle.h3_qpack.proofs.Taking.{taken_none, taken_more, taken_all, taken_until, one_was, one_shortens}
 
 pub loop-init : goal.loop-init
-loop-init c = record { taken = taken_none _ _; total = refl }
+loop-init c = record { taken = taken_none encoder_instruction_form apply_encoder_instruction Stops _ _; total = refl }
 
 pub returns-in_err-take_instruction-clause-takes : goal.returns-in_err-take_instruction-clause-takes
 returns-in_err-take_instruction-clause-takes c =
     let p = err_from_is_err_and c.from_residual.result c.from_residual.ensures.1 in
     rw (p.1, p.2)
-    (taken_until c.args.table.now c.loop.table c.take_instruction.new.table c.args.buf.now.rest c.loop.buf.rest
-    c.take_instruction.new.buf.rest c.in_err-take_instruction.field-0.0 c.loop.invariant.taken
-    c.in_err-take_instruction.ensures.takes)
+    (taken_until encoder_instruction_form apply_encoder_instruction Stops c.args.table.now c.loop.table
+    c.take_instruction.new.table c.args.buf.now.rest c.loop.buf.rest c.take_instruction.new.buf.rest
+    c.in_err-take_instruction.field-0.0 c.loop.invariant.taken c.in_err-take_instruction.ensures.takes)
 
 pub returns-in_err-take_instruction-clause-total : goal.returns-in_err-take_instruction-clause-total
 returns-in_err-take_instruction-clause-total c =
@@ -20,25 +23,28 @@ returns-in_err-take_instruction-clause-total c =
 
 pub loop-smaller : goal.loop-smaller
 loop-smaller c =
-    one_shortens c.loop.table c.take_instruction.new.table c.loop.buf.rest c.take_instruction.new.buf.rest
-    (one_was c.loop.table c.take_instruction.new.table c.loop.buf.rest c.take_instruction.new.buf.rest
-    c.in_ok-take_instruction.field-0 c.in_ok-take_instruction.ensures.takes c.if-branch.true)
+    one_shortens encoder_instruction_form apply_encoder_instruction Stops c.loop.table c.take_instruction.new.table
+    c.loop.buf.rest c.take_instruction.new.buf.rest
+    (one_was encoder_instruction_form apply_encoder_instruction Stops c.loop.table c.take_instruction.new.table
+    c.loop.buf.rest c.take_instruction.new.buf.rest c.in_ok-take_instruction.field-0
+    c.in_ok-take_instruction.ensures.takes c.if-branch.true)
 
 pub loop-preserved : goal.loop-preserved
 loop-preserved c =
     record {
-      taken = taken_more c.args.table.now c.loop.table c.take_instruction.new.table c.args.buf.now.rest c.loop.buf.rest
-          c.take_instruction.new.buf.rest c.loop.invariant.taken
-          (one_was c.loop.table c.take_instruction.new.table c.loop.buf.rest c.take_instruction.new.buf.rest
+      taken = taken_more encoder_instruction_form apply_encoder_instruction Stops c.args.table.now c.loop.table
+          c.take_instruction.new.table c.args.buf.now.rest c.loop.buf.rest c.take_instruction.new.buf.rest
+          c.loop.invariant.taken (one_was encoder_instruction_form apply_encoder_instruction Stops c.loop.table
+          c.take_instruction.new.table c.loop.buf.rest c.take_instruction.new.buf.rest
           c.in_ok-take_instruction.field-0 c.in_ok-take_instruction.ensures.takes c.if-branch.true);
       total = c.in_ok-take_instruction.ensures.total ∙ c.loop.invariant.total;
     }
 
 pub returns-clause-takes : goal.returns-clause-takes
 returns-clause-takes c =
-    taken_all c.args.table.now c.loop.table c.take_instruction.new.table c.args.buf.now.rest c.loop.buf.rest
-    c.take_instruction.new.buf.rest c.in_ok-take_instruction.field-0 c.loop.invariant.taken
-    c.in_ok-take_instruction.ensures.takes c.if-branch.false
+    taken_all encoder_instruction_form apply_encoder_instruction Stops c.args.table.now c.loop.table
+    c.take_instruction.new.table c.args.buf.now.rest c.loop.buf.rest c.take_instruction.new.buf.rest
+    c.in_ok-take_instruction.field-0 c.loop.invariant.taken c.in_ok-take_instruction.ensures.takes c.if-branch.false
 
 pub returns-clause-total : goal.returns-clause-total
 returns-clause-total c = c.in_ok-take_instruction.ensures.total ∙ c.loop.invariant.total

@@ -1,10 +1,13 @@
 use Rattle.std.proofs.Common.{◌≡◌, length}
-use Rattle.h3_qpack.proofs.Instructions.{HasTaken}
+use Rattle.qpack_spec.specs.Instruction.{encoder_instruction_form}
+use Rattle.qpack_spec.specs.Table.{apply_encoder_instruction}
+use Rattle.h3_qpack.specs.Receiving.{Stops}
 use Rattle.h3_qpack.proofs.decoder.instructions.take_instructions.Given as goal
+use Rattle.h3_qpack.proofs.Taking.{HasTaken}
 
 abbrev pub invariant-loop : goal.invariant-loop
 invariant-loop l = record {
-  taken : HasTaken l.fn.table l.table l.fn.buf.rest l.buf.rest;
+  taken : HasTaken encoder_instruction_form apply_encoder_instruction Stops l.fn.table l.table l.fn.buf.rest l.buf.rest;
   total : l.buf.total ≡ l.fn.buf.total;
 }
 

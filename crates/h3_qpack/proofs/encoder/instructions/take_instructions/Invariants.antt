@@ -1,10 +1,14 @@
 use Rattle.std.proofs.Common.{◌≡◌, length}
-use Rattle.h3_qpack.proofs.Hearing.{HasHeard}
+use Rattle.qpack_spec.specs.Instruction.{decoder_instruction_form}
+use Rattle.qpack_spec.specs.Table.{apply_decoder_instruction}
+use Rattle.h3_qpack.specs.Hearing.{StopsHearing}
 use Rattle.h3_qpack.proofs.encoder.instructions.take_instructions.Given as goal
+use Rattle.h3_qpack.proofs.Taking.{HasTaken}
 
 abbrev pub invariant-loop : goal.invariant-loop
 invariant-loop l = record {
-  heard : HasHeard l.fn.table l.table l.fn.buf.rest l.buf.rest;
+  heard : HasTaken decoder_instruction_form apply_decoder_instruction StopsHearing l.fn.table l.table l.fn.buf.rest
+      l.buf.rest;
   total : l.buf.total ≡ l.fn.buf.total;
 }
 
