@@ -118,10 +118,8 @@ with_insertion d f i =
 
 -- an entry up to the base is a line by itself; anything else is left to an insertion
 abbrev pub with_found : ℕ → Draft → Field → Lookup → Table → Draft
-with_found base d f (AtStatic index) t = with_insertion d f (insert_field t base f)
 with_found base d f (AtRelative index absolute) t = record d { table = t; lines = d.lines ++ IndexedDynamic index ∷ [] }
-with_found base d f (AtPostBase index absolute) t = with_insertion d f (insert_field t base f)
-with_found base d f NotFound t = with_insertion d f (insert_field t base f)
+with_found base d f found t = with_insertion d f (insert_field t base f)
 
 -- an equal static field, else what the handle answers
 abbrev pub by_handle : ℕ → Draft → Field → Option ℕ → Draft

@@ -14,7 +14,7 @@ use Rattle.qpack_spec.specs.Instruction.{RefusesEncoderInstruction}
 use Rattle.qpack_spec.specs.Instruction.{SpellsDecoderInstruction, RefusesDecoderInstruction}
 use Rattle.qpack_spec.specs.Instruction.{written_encoder_instruction, written_encoder_instructions}
 use Rattle.qpack_spec.specs.Instruction.{written_decoder_instruction, written_decoder_instructions}
-use Rattle.qpack_spec.specs.Window.{TableRefusal, NoEntry, NoStaticField, DoesNotFit, AboveMaximum, UnknownStream}
+use Rattle.qpack_spec.specs.Window.{TableRefusal, NoEntry, NoStaticField}
 use Rattle.qpack_spec.specs.History.{initial_history, window_of}
 use Rattle.qpack_spec.specs.Reading.{Fault, Reading, Fields, Missing, Faulty}
 use Rattle.qpack_spec.specs.BlockReading.{reading_of_bytes, written_block}
@@ -272,9 +272,7 @@ IsPiece n = (1 ≤ n) × (n ≤ 64)
 abbrev pub is_consumed : TableRefusal → Bool
 is_consumed (NoEntry relative) = false
 is_consumed (NoStaticField index) = false
-is_consumed DoesNotFit = true
-is_consumed AboveMaximum = true
-is_consumed (UnknownStream stream) = true
+is_consumed refusal = true
 
 -- the session when the next n bytes were delivered to the decoder, so many consumed, and this table made
 abbrev pub with_decoder_moved : Session → ℕ → Table → ℕ → ℕ → List ℕ → Session
@@ -360,9 +358,7 @@ LeavesAll v o v' = (o ≡ NoMemory) × (v' ≡ v)
 -- a block was decoded
 abbrev pub is_read : Option Reading → Bool
 is_read (Some (Fields fs b)) = true
-is_read (Some (Missing r)) = false
-is_read (Some (Faulty e)) = false
-is_read None = false
+is_read read = false
 
 -- what a decode answers for a reading; a sum of sizes is held at 2^64 - 1
 abbrev pub decode_outcome : Reading → Outcome
@@ -444,12 +440,7 @@ Step v e o v' = Skips v e o v' ⊎ ((skip_reason v e ≡ None) × LawfulStep v e
 -- names and values of an event's fields are bytes
 abbrev pub IsByteEvent : Event → Type 0
 IsByteEvent (Encode s fs) = AllByRecursion IsByteField fs
-IsByteEvent (Decode s) = Unit {0}
-IsByteEvent (ToDecoder n) = Unit {0}
-IsByteEvent (ToEncoder n) = Unit {0}
-IsByteEvent (Acknowledge s) = Unit {0}
-IsByteEvent (Cancel s) = Unit {0}
-IsByteEvent (ChangeCapacity n) = Unit {0}
+IsByteEvent e = Unit {0}
 
 -- what is kept has fewer than 2^63 bytes, as every vector has: what was sent, and each block
 pub record FitsMemory (v : Session) : Type 0 where

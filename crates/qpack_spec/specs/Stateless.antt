@@ -7,8 +7,8 @@ use Rattle.qpack_spec.specs.Bytes.{◌>>=◌}
 use Rattle.qpack_spec.specs.Field.{Field, field_size}
 use Rattle.qpack_spec.specs.StaticTable.{static_index, static_name_index}
 use Rattle.qpack_spec.specs.Form.{FormFault, form_at}
-use Rattle.qpack_spec.specs.Line.{Line, IndexedStatic, IndexedDynamic, IndexedPostBase, NamedStatic, NamedDynamic}
-use Rattle.qpack_spec.specs.Line.{NamedPostBase, Literal, line_form}
+use Rattle.qpack_spec.specs.Line.{Line, IndexedStatic, NamedStatic}
+use Rattle.qpack_spec.specs.Line.{Literal, line_form}
 use Rattle.qpack_spec.specs.Prefix.{prefix_at}
 use Rattle.qpack_spec.specs.Reading.{Fault, BadForm, static_field, field_with_value, Block}
 use Rattle.qpack_spec.specs.BlockReading.{written_block}
@@ -54,12 +54,9 @@ or_bad_section (Err e) = Err (BadSection e)
 -- the field that a line means alone
 abbrev pub stateless_field : Line → Result Field StatelessFault
 stateless_field (IndexedStatic index) = or_bad_section (static_field index)
-stateless_field (IndexedDynamic relative) = Err NamesEntry
-stateless_field (IndexedPostBase post_base) = Err NamesEntry
 stateless_field (NamedStatic index value) = or_bad_section (field_with_value value (static_field index))
-stateless_field (NamedDynamic relative value) = Err NamesEntry
-stateless_field (NamedPostBase post_base value) = Err NamesEntry
 stateless_field (Literal name value) = Ok (record { name = name; value = value })
+stateless_field line = Err NamesEntry
 
 -- a form's fault
 abbrev pub or_bad_bytes : {A : Type 0} → Result A FormFault → Result A StatelessFault

@@ -7,7 +7,7 @@ use Rattle.qpack_spec.specs.Line.{Line, line_form, SpellsLine}
 use Rattle.qpack_spec.specs.Prefix.{Prefix, SpellsPrefix, prefix_at}
 use Rattle.qpack_spec.specs.Stream.{Joined}
 use Rattle.qpack_spec.specs.Window.{Window, maximum_capacity}
-use Rattle.qpack_spec.specs.Reading.{Fault, BadForm, BadPrefix, BelowWindow, AboveWindow, BehindBase, NotStatic}
+use Rattle.qpack_spec.specs.Reading.{Fault, BadForm, BelowWindow, BehindBase}
 use Rattle.qpack_spec.specs.Reading.{Reading, Fields, Missing, Faulty}
 use Rattle.qpack_spec.specs.BlockReading.{reading_of_bytes}
 use Rattle.qpack_spec.specs.Stateless.{StatelessFault, BadSection, NamesEntry, TooLong, saturated_size, stateless_field}
@@ -78,10 +78,7 @@ no_table agreed_max = record { capacity = 0; agreed_max = agreed_max; dropped = 
 abbrev pub IsNoEntry : Fault → Type 0
 IsNoEntry (BelowWindow index) = Unit {0}
 IsNoEntry (BehindBase index) = Unit {0}
-IsNoEntry (BadForm fault) = ⊥
-IsNoEntry (BadPrefix fault) = ⊥
-IsNoEntry (AboveWindow place) = ⊥
-IsNoEntry (NotStatic index) = ⊥
+IsNoEntry fault = ⊥
 
 -- the fault under such a table of bytes that are refused alone because a line references an entry: no entry is there;
 -- or the bytes of a post-base line can't be read, which is refused alone by its first byte

@@ -3,8 +3,7 @@ use Rattle.std.specs.Prelude.{◌≡◌, ℕ, ◌*◌, ◌≤◌, ◌↔◌, Lis
 use Rattle.std.specs.List.{AllByRecursion}
 use Rattle.qpack_spec.specs.Bytes.{◌>>=◌}
 use Rattle.qpack_spec.specs.Field.{Field, total_size}
-use Rattle.qpack_spec.specs.Instruction.{EncoderInstruction, InsertStaticName, InsertDynamicName, InsertLiteralName}
-use Rattle.qpack_spec.specs.Instruction.{Duplicate}
+use Rattle.qpack_spec.specs.Instruction.{EncoderInstruction}
 use Rattle.qpack_spec.specs.Instruction.{SetCapacity}
 use Rattle.qpack_spec.specs.Window.{Window, eviction_count, TableRefusal, apply}
 use Rattle.qpack_spec.specs.History.{History, window_of, empty_history, Leads}
@@ -50,11 +49,8 @@ pub record IsLongestTail (capacity : ℕ) (all live : List Field) : Type 0 where
 
 -- the instruction sets no capacity
 abbrev pub SetsNoCapacity : EncoderInstruction → Type 0
-SetsNoCapacity (InsertStaticName index value) = Unit {0}
-SetsNoCapacity (InsertDynamicName relative value) = Unit {0}
-SetsNoCapacity (InsertLiteralName name value) = Unit {0}
-SetsNoCapacity (Duplicate relative) = Unit {0}
 SetsNoCapacity (SetCapacity capacity) = ⊥
+SetsNoCapacity i = Unit {0}
 
 -- with one capacity the live entries are the longest tail of all insertions that fits (section 3.2.2)
 abbrev pub LiveIsLongestTail : Type 0

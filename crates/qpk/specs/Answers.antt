@@ -69,15 +69,5 @@ DecodesText (Err e) limit read = FailsHexadecimal e limit read
 
 -- what a refused block is told as
 abbrev pub fault_of_decoder : DecoderError → Fault
-fault_of_decoder (decoder.InvalidInteger e) = Refused (decoder.InvalidInteger e)
-fault_of_decoder (decoder.InvalidString e) = Refused (decoder.InvalidString e)
-fault_of_decoder (decoder.InvalidIndex e) = Refused (decoder.InvalidIndex e)
-fault_of_decoder (decoder.DynamicTable e) = Refused (decoder.DynamicTable e)
-fault_of_decoder (decoder.InvalidStaticIndex i) = Refused (decoder.InvalidStaticIndex i)
-fault_of_decoder (decoder.UnknownPrefix bits) = Refused (decoder.UnknownPrefix bits)
-fault_of_decoder (decoder.MissingRefs required) = Refused (decoder.MissingRefs required)
-fault_of_decoder (decoder.BadBaseIndex base) = Refused (decoder.BadBaseIndex base)
-fault_of_decoder decoder.UnexpectedEnd = Refused decoder.UnexpectedEnd
-fault_of_decoder (decoder.HeaderTooLong sum) = Refused (decoder.HeaderTooLong sum)
-fault_of_decoder decoder.BufSize = Refused decoder.BufSize
 fault_of_decoder decoder.Memory = Memory
+fault_of_decoder e = Refused e

@@ -39,20 +39,15 @@ undecoded_text e = None
 -- and the bytes that it added to a stream
 abbrev pub printed_outcome : Outcome → List ℕ → List ℕ → Option (List ℕ)
 printed_outcome (Encoded (Ok required)) block added = Some (encoded_text required block added)
-printed_outcome (Encoded (Err e)) block added = None
 printed_outcome (Decoded (Ok d)) block added = Some (decoded_text d.mem_size (fields_in d.fields.items))
 printed_outcome (Decoded (Err e)) block added = undecoded_text e
 printed_outcome (Delivered (Ok total)) block added = Some (received_text total added)
-printed_outcome (Delivered (Err e)) block added = None
 printed_outcome (Heard (Ok done)) block added = Some (codes "heard\n")
-printed_outcome (Heard (Err e)) block added = None
 printed_outcome (Acknowledged (Ok done)) block added = Some (added_text (codes "acked") added)
-printed_outcome (Acknowledged (Err e)) block added = None
 printed_outcome (Cancelled (Ok done)) block added = Some (added_text (codes "cancelled") added)
-printed_outcome (Cancelled (Err e)) block added = None
 printed_outcome (CapacitySet (Ok done)) block added = Some (added_text (codes "capacity") added)
-printed_outcome (CapacitySet (Err e)) block added = None
 printed_outcome (Skipped reason) block added = Some (index_text (codes "skipped") reason)
+printed_outcome outcome block added = None
 
 -- this is printed, or that the event is refused, in the words of the encoder or the decoder
 abbrev pub PrintsText : Option (List ℕ) → List ℕ → Type 0

@@ -17,27 +17,20 @@ abbrev pub printed_answer : spec.Outcome → List ℕ → List ℕ → Option (L
 printed_answer (spec.Encoded required) block added = Some (encoded_text required block added)
 printed_answer (spec.Decoded fs size is_dynamic) block added = Some (decoded_text size fs)
 printed_answer (spec.MissingReferences required) block added = Some (index_text (codes "missing") required)
-printed_answer (spec.BadBlock fault) block added = None
 printed_answer (spec.Delivered total) block added = Some (received_text total added)
 printed_answer spec.Heard block added = Some (codes "heard\n")
 printed_answer spec.Acknowledged block added = Some (added_text (codes "acked") added)
 printed_answer spec.Cancelled block added = Some (added_text (codes "cancelled") added)
 printed_answer spec.CapacitySet block added = Some (added_text (codes "capacity") added)
-printed_answer (spec.CapacityRefused refusal) block added = None
-printed_answer (spec.Refused fault) block added = None
-printed_answer spec.NoMemory block added = None
 printed_answer (spec.Skipped reason) block added = Some (index_text (codes "skipped") reason)
+printed_answer answer block added = None
 
 -- the stream that an event adds bytes to, if it adds any: an encode and a capacity are told to the decoder, all else
 -- to the encoder
 abbrev pub written_stream : spec.Event → Session → List ℕ
 written_stream (spec.Encode stream fs) v = v.encoder_stream
 written_stream (spec.ChangeCapacity capacity) v = v.encoder_stream
-written_stream (spec.Decode stream) v = v.decoder_stream
-written_stream (spec.ToDecoder bytes) v = v.decoder_stream
-written_stream (spec.ToEncoder bytes) v = v.decoder_stream
-written_stream (spec.Acknowledge stream) v = v.decoder_stream
-written_stream (spec.Cancel stream) v = v.decoder_stream
+written_stream e v = v.decoder_stream
 
 -- the bytes that an event added
 abbrev pub added_bytes : spec.Event → Session → Session → List ℕ
@@ -133,11 +126,7 @@ BeginsRun (Err fault) capacity limit = FailsToBegin fault capacity limit
 abbrev pub stored_stream_bytes : spec.Event → SessionView → List ℕ
 stored_stream_bytes (spec.Encode stream fs) s = s.encoder_stream
 stored_stream_bytes (spec.ChangeCapacity capacity) s = s.encoder_stream
-stored_stream_bytes (spec.Decode stream) s = s.decoder_stream
-stored_stream_bytes (spec.ToDecoder bytes) s = s.decoder_stream
-stored_stream_bytes (spec.ToEncoder bytes) s = s.decoder_stream
-stored_stream_bytes (spec.Acknowledge stream) s = s.decoder_stream
-stored_stream_bytes (spec.Cancel stream) s = s.decoder_stream
+stored_stream_bytes e s = s.decoder_stream
 
 abbrev pub bytes_of_stored : Option StoredBlock → List ℕ
 bytes_of_stored None = []

@@ -65,17 +65,13 @@ Answers (Run capacity limit) input out = PrintsRun capacity limit input out
 
 -- the output of a command that ends at a refusal in its input
 abbrev pub Stops : Command → List ℕ → List ℕ → DecoderError → Type 0
-Stops Encode input out e = ⊥
-Stops (Decode limit) input out e = ⊥
 Stops (Inspect capacity) input out e = PrintsInspection capacity input out (Some e)
-Stops (Run capacity limit) input out e = ⊥
+Stops command input out e = ⊥
 
 -- which only an inspection does
 abbrev pub IsInspection : Command → Type 0
-IsInspection Encode = ⊥
-IsInspection (Decode limit) = ⊥
 IsInspection (Inspect capacity) = Unit {0}
-IsInspection (Run capacity limit) = ⊥
+IsInspection command = ⊥
 
 -- the output, and whether it ends at a refusal
 abbrev pub Prints : Command → List ℕ → List ℕ → Option DecoderError → Type 0
