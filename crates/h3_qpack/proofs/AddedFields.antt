@@ -83,21 +83,23 @@ appended before first second mid now is then =
 
 -- ---- what is kept of the fields so far
 
-pub adds_none : (t : Table) (base : ℕ) (lines told : List ℕ) → Adds (draft_of_fields t base []) t lines lines told told
+pub adds_none : (t : Table) (base : ℕ) (lines written : List ℕ)
+    → Adds (draft_of_fields t base []) t lines lines written written
 unfolding written_lines written_encoder_instructions
-adds_none t base lines told =
-    record { table = refl; lines = sym (append-nil lines); told = sym (append-nil told) }
+adds_none t base lines written =
+    record { table = refl; lines = sym (append-nil lines); written = sym (append-nil written) }
 
 adds_last : (t : Table) (base : ℕ) (fs : List Field) (f : Field) (mid new : Table)
-    (lines_old lines_mid lines_new told_old told_mid told_new : List ℕ)
-    → Adds (draft_of_fields t base fs) mid lines_old lines_mid told_old told_mid
-    → Adds (draft_of_field mid base f) new lines_mid lines_new told_mid told_new
-    → Adds (draft_of_fields t base (fs ++ f ∷ [])) new lines_old lines_new told_old told_new
-adds_last t base fs f mid new lines_old lines_mid lines_new told_old told_mid told_new so_far more =
+    (lines_old lines_mid lines_new written_old written_mid written_new : List ℕ)
+    → Adds (draft_of_fields t base fs) mid lines_old lines_mid written_old written_mid
+    → Adds (draft_of_field mid base f) new lines_mid lines_new written_mid written_new
+    → Adds (draft_of_fields t base (fs ++ f ∷ [])) new lines_old lines_new written_old written_new
+adds_last t base fs f mid new lines_old lines_mid lines_new written_old written_mid written_new so_far more =
     let d = draft_of_fields t base fs in
     let goes = goes_on_fields t base fs f in
-    let next : Adds (draft_of_field d.table base f) new lines_mid lines_new told_mid told_new =
-    subst (λ (x : Table). Adds (draft_of_field x base f) new lines_mid lines_new told_mid told_new) so_far.table more in
+    let next : Adds (draft_of_field d.table base f) new lines_mid lines_new written_mid written_new =
+    subst (λ (x : Table). Adds (draft_of_field x base f) new lines_mid lines_new written_mid written_new) so_far.table
+    more in
     let m = draft_of_field d.table base f in
     record {
       table = next.table ∙ sym goes.table;
@@ -105,41 +107,41 @@ adds_last t base fs f mid new lines_old lines_mid lines_new told_old told_mid to
           next.lines
           ∙ ap (λ (x : List ℕ). lines_old ++ x)
           (sym (ap written_lines goes.lines ∙ lines_behind d.lines m.lines));
-      told = appended told_old (written_encoder_instructions d.instructions)
-          (written_encoder_instructions m.instructions) told_mid told_new so_far.told next.told
-          ∙ ap (λ (x : List ℕ). told_old ++ x)
+      written = appended written_old (written_encoder_instructions d.instructions)
+          (written_encoder_instructions m.instructions) written_mid written_new so_far.written next.written
+          ∙ ap (λ (x : List ℕ). written_old ++ x)
           (sym (ap written_encoder_instructions goes.instructions
           ∙ instructions_behind d.instructions m.instructions));
     }
 
 stops_before_last : (t : Table) (base : ℕ) (fs : List Field) (mid new : Table)
-    (lines_old lines_mid told_old told_mid told_new : List ℕ)
-    → Adds (draft_of_fields t base fs) mid lines_old lines_mid told_old told_mid
-    → without_references new ≡ without_references mid → told_new ≡ told_mid
+    (lines_old lines_mid written_old written_mid written_new : List ℕ)
+    → Adds (draft_of_fields t base fs) mid lines_old lines_mid written_old written_mid
+    → without_references new ≡ without_references mid → written_new ≡ written_mid
     → (without_references new ≡ without_references (draft_of_fields t base fs).table)
-    × (told_new ≡ told_old ++ written_encoder_instructions (draft_of_fields t base fs).instructions)
-stops_before_last t base fs mid new lines_old lines_mid told_old told_mid told_new so_far same told =
-    (same ∙ ap (λ (x : Table). without_references x) so_far.table, told ∙ so_far.told)
+    × (written_new ≡ written_old ++ written_encoder_instructions (draft_of_fields t base fs).instructions)
+stops_before_last t base fs mid new lines_old lines_mid written_old written_mid written_new so_far same written =
+    (same ∙ ap (λ (x : Table). without_references x) so_far.table, written ∙ so_far.written)
 
 stops_behind_last : (t : Table) (base : ℕ) (fs : List Field) (f : Field) (mid new : Table)
-    (lines_old lines_mid told_old told_mid told_new : List ℕ)
-    → Adds (draft_of_fields t base fs) mid lines_old lines_mid told_old told_mid
+    (lines_old lines_mid written_old written_mid written_new : List ℕ)
+    → Adds (draft_of_fields t base fs) mid lines_old lines_mid written_old written_mid
     → new ≡ (draft_of_field mid base f).table
-    → told_new ≡ told_mid ++ written_encoder_instructions (draft_of_field mid base f).instructions
+    → written_new ≡ written_mid ++ written_encoder_instructions (draft_of_field mid base f).instructions
     → (without_references new ≡ without_references (draft_of_fields t base (fs ++ f ∷ [])).table)
-    × (told_new ≡ told_old ++ written_encoder_instructions (draft_of_fields t base (fs ++ f ∷ [])).instructions)
-stops_behind_last t base fs f mid new lines_old lines_mid told_old told_mid told_new so_far is told =
+    × (written_new ≡ written_old ++ written_encoder_instructions (draft_of_fields t base (fs ++ f ∷ [])).instructions)
+stops_behind_last t base fs f mid new lines_old lines_mid written_old written_mid written_new so_far is written =
     let d = draft_of_fields t base fs in
     let goes = goes_on_fields t base fs f in
     let m = draft_of_field d.table base f in (
       ap (λ (x : Table). without_references x)
           (is ∙ ap (λ (x : Table). (draft_of_field x base f).table) so_far.table ∙ sym goes.table),
-      appended told_old (written_encoder_instructions d.instructions) (written_encoder_instructions m.instructions)
-          told_mid told_new so_far.told
-          (told
-          ∙ ap (λ (x : Table). told_mid ++ written_encoder_instructions (draft_of_field x base f).instructions)
+      appended written_old (written_encoder_instructions d.instructions) (written_encoder_instructions m.instructions)
+          written_mid written_new so_far.written
+          (written
+          ∙ ap (λ (x : Table). written_mid ++ written_encoder_instructions (draft_of_field x base f).instructions)
           so_far.table)
-          ∙ ap (λ (x : List ℕ). told_old ++ x)
+          ∙ ap (λ (x : List ℕ). written_old ++ x)
           (sym (ap written_encoder_instructions goes.instructions
           ∙ instructions_behind d.instructions m.instructions)),
     )
@@ -162,49 +164,52 @@ take_fields field [] (suc i) = refl
 take_fields field (x ∷ xs) (suc i) = ap (λ (fs : List Field). field x ∷ fs) (take_fields field xs i)
 
 -- a field that an item lends, under another base that is the same
-adds_lent : (f g : Field) (mid new : Table) (base other : ℕ) (lines_mid lines_new told_mid told_new : List ℕ)
-    → other ≡ base → f ≡ g → Adds (draft_of_field mid other f) new lines_mid lines_new told_mid told_new
-    → Adds (draft_of_field mid base g) new lines_mid lines_new told_mid told_new
-adds_lent f g mid new base other lines_mid lines_new told_mid told_new same lent adds =
-    subst (λ (b : ℕ). Adds (draft_of_field mid b g) new lines_mid lines_new told_mid told_new) same
-    (subst (λ (h : Field). Adds (draft_of_field mid other h) new lines_mid lines_new told_mid told_new) lent adds)
+adds_lent : (f g : Field) (mid new : Table) (base other : ℕ) (lines_mid lines_new written_mid written_new : List ℕ)
+    → other ≡ base → f ≡ g → Adds (draft_of_field mid other f) new lines_mid lines_new written_mid written_new
+    → Adds (draft_of_field mid base g) new lines_mid lines_new written_mid written_new
+adds_lent f g mid new base other lines_mid lines_new written_mid written_new same lent adds =
+    subst (λ (b : ℕ). Adds (draft_of_field mid b g) new lines_mid lines_new written_mid written_new) same
+    (subst (λ (h : Field). Adds (draft_of_field mid other h) new lines_mid lines_new written_mid written_new) lent adds)
 
-stops_lent : (f g : Field) (mid new : Table) (base other : ℕ) (told_mid told_new : List ℕ)
-    → other ≡ base → f ≡ g → StopsAdding (draft_of_field mid other f) mid new told_mid told_new
-    → StopsAdding (draft_of_field mid base g) mid new told_mid told_new
-stops_lent f g mid new base other told_mid told_new same lent stops =
-    subst (λ (b : ℕ). StopsAdding (draft_of_field mid b g) mid new told_mid told_new) same
-    (subst (λ (h : Field). StopsAdding (draft_of_field mid other h) mid new told_mid told_new) lent stops)
+stops_lent : (f g : Field) (mid new : Table) (base other : ℕ) (written_mid written_new : List ℕ)
+    → other ≡ base → f ≡ g → StopsAdding (draft_of_field mid other f) mid new written_mid written_new
+    → StopsAdding (draft_of_field mid base g) mid new written_mid written_new
+stops_lent f g mid new base other written_mid written_new same lent stops =
+    subst (λ (b : ℕ). StopsAdding (draft_of_field mid b g) mid new written_mid written_new) same
+    (subst (λ (h : Field). StopsAdding (draft_of_field mid other h) mid new written_mid written_new) lent stops)
 
 pub adds_next : {H : Type 0} (field : H → Field) (xs : List H) (i : ℕ) (x : H) (f : Field) (t : Table)
-    (base other : ℕ) (mid new : Table) (lines_old lines_mid lines_new told_old told_mid told_new : List ℕ)
+    (base other : ℕ) (mid new : Table) (lines_old lines_mid lines_new written_old written_mid written_new : List ℕ)
     → i < length xs → x ≡ get_or xs i x → other ≡ base → f ≡ field x
-    → Adds (draft_of_fields t base (map field (take i xs))) mid lines_old lines_mid told_old told_mid
-    → Adds (draft_of_field mid other f) new lines_mid lines_new told_mid told_new
-    → Adds (draft_of_fields t base (map field (take (i + 1) xs))) new lines_old lines_new told_old told_new
-adds_next field xs i x f t base other mid new lines_old lines_mid lines_new told_old told_mid told_new within is same
+    → Adds (draft_of_fields t base (map field (take i xs))) mid lines_old lines_mid written_old written_mid
+    → Adds (draft_of_field mid other f) new lines_mid lines_new written_mid written_new
+    → Adds (draft_of_fields t base (map field (take (i + 1) xs))) new lines_old lines_new written_old written_new
+adds_next field xs i x f t base other mid new lines_old lines_mid lines_new written_old written_mid written_new within
+    is same
     lent so_far more =
     rw (front_of field xs i x within, ← is)
-    (adds_last t base (map field (take i xs)) (field x) mid new lines_old lines_mid lines_new told_old told_mid
-    told_new so_far (adds_lent f (field x) mid new base other lines_mid lines_new told_mid told_new same lent more))
+    (adds_last t base (map field (take i xs)) (field x) mid new lines_old lines_mid lines_new written_old written_mid
+    written_new so_far (adds_lent f (field x) mid new base other lines_mid lines_new written_mid written_new same lent
+    more))
 
 pub stops_next : {H : Type 0} (field : H → Field) (xs : List H) (i : ℕ) (x : H) (f : Field) (t : Table)
-    (base other : ℕ) (mid new : Table) (lines_old lines_mid told_old told_mid told_new : List ℕ)
+    (base other : ℕ) (mid new : Table) (lines_old lines_mid written_old written_mid written_new : List ℕ)
     → i < length xs → x ≡ get_or xs i x → other ≡ base → f ≡ field x
-    → Adds (draft_of_fields t base (map field (take i xs))) mid lines_old lines_mid told_old told_mid
-    → StopsAdding (draft_of_field mid other f) mid new told_mid told_new
-    → StopsAmong (map field xs) t base new told_old told_new
-stops_next field xs i x f t base other mid new lines_old lines_mid told_old told_mid told_new within is same lent so_far
+    → Adds (draft_of_fields t base (map field (take i xs))) mid lines_old lines_mid written_old written_mid
+    → StopsAdding (draft_of_field mid other f) mid new written_mid written_new
+    → StopsAmong (map field xs) t base new written_old written_new
+stops_next field xs i x f t base other mid new lines_old lines_mid written_old written_mid written_new within is same
+    lent so_far
     stops =
-    elim (stops_lent f (field x) mid new base other told_mid told_new same lent stops) [
+    elim (stops_lent f (field x) mid new base other written_mid written_new same lent stops) [
       | inl h ↦
-          let q = stops_before_last t base (map field (take i xs)) mid new lines_old lines_mid told_old told_mid
-          told_new so_far h.0 h.1 in
-          record { many = i; table = rw (take_fields field xs i) q.0; told = rw (take_fields field xs i) q.1 }
+          let q = stops_before_last t base (map field (take i xs)) mid new lines_old lines_mid written_old written_mid
+          written_new so_far h.0 h.1 in
+          record { many = i; table = rw (take_fields field xs i) q.0; written = rw (take_fields field xs i) q.1 }
       | inr h ↦
-          let q = stops_behind_last t base (map field (take i xs)) (field x) mid new lines_old lines_mid told_old
-          told_mid told_new so_far h.0 h.1 in
+          let q = stops_behind_last t base (map field (take i xs)) (field x) mid new lines_old lines_mid written_old
+          written_mid written_new so_far h.0 h.1 in
           let front : take (i + 1) (map field xs) ≡ map field (take i xs) ++ field x ∷ [] =
           take_fields field xs (i + 1) ∙ rw (front_of field xs i x within, ← is) refl in
-          record { many = i + 1; table = rw front q.0; told = rw front q.1 }
+          record { many = i + 1; table = rw front q.0; written = rw front q.1 }
     ]

@@ -41,51 +41,51 @@ insertion_written f (NotInserted lookup) = no_instruction
 -- ---- an insertion, or a literal
 
 pub adds_insertion : (f : Field) (t : Table) (i : Insertable) (insertion : Insertion)
-    (new : Table) (lines_old lines_new told_old told_new : List ℕ)
+    (new : Table) (lines_old lines_new written_old written_new : List ℕ)
     → i ≡ record { insertion = insertion; table = new }
     → lines_new ≡ lines_old ++ written_line (line_of f insertion)
-    → told_new ≡ told_old ++ written_insertion f insertion
-    → Adds (with_insertion (draft_at t) f i) new lines_old lines_new told_old told_new
-adds_insertion f t i insertion new lines_old lines_new told_old told_new is lines told =
+    → written_new ≡ written_old ++ written_insertion f insertion
+    → Adds (with_insertion (draft_at t) f i) new lines_old lines_new written_old written_new
+adds_insertion f t i insertion new lines_old lines_new written_old written_new is lines written =
     record {
       table = sym (ap (λ (x : Insertable). x.table) is);
       lines = lines
           ∙ ap (λ (x : List ℕ). lines_old ++ x)
           (sym (one_line (line_of f insertion))
           ∙ ap (λ (x : Insertable). written_lines (line_of f x.insertion ∷ [])) (sym is));
-      told = told
-          ∙ ap (λ (x : List ℕ). told_old ++ x)
+      written = written
+          ∙ ap (λ (x : List ℕ). written_old ++ x)
           (sym (insertion_written f insertion)
           ∙ ap (λ (x : Insertable). written_encoder_instructions (instructions_of f x.insertion)) (sym is));
     }
 
 -- the line of an insertion is refused
 pub stops_inserted : (f : Field) (t : Table) (i : Insertable) (insertion : Insertion)
-    (new : Table) (told_old told_new : List ℕ)
+    (new : Table) (written_old written_new : List ℕ)
     → i ≡ record { insertion = insertion; table = new }
-    → told_new ≡ told_old ++ written_insertion f insertion
-    → StopsAdding (with_insertion (draft_at t) f i) t new told_old told_new
-stops_inserted f t i insertion new told_old told_new is told =
+    → written_new ≡ written_old ++ written_insertion f insertion
+    → StopsAdding (with_insertion (draft_at t) f i) t new written_old written_new
+stops_inserted f t i insertion new written_old written_new is written =
     inr (
       sym (ap (λ (x : Insertable). x.table) is),
-      told
-          ∙ ap (λ (x : List ℕ). told_old ++ x)
+      written
+          ∙ ap (λ (x : List ℕ). written_old ++ x)
           (sym (insertion_written f insertion)
           ∙ ap (λ (x : Insertable). written_encoder_instructions (instructions_of f x.insertion)) (sym is)),
     )
 
 -- ---- an equal static field
 
-pub adds_static : (t : Table) (base : ℕ) (f : Field) (index : ℕ) (lines_old lines_new told : List ℕ)
+pub adds_static : (t : Table) (base : ℕ) (f : Field) (index : ℕ) (lines_old lines_new written : List ℕ)
     → static_index f ≡ Some index → lines_new ≡ lines_old ++ written_line (IndexedStatic index)
-    → Adds (draft_of_field t base f) t lines_old lines_new told told
+    → Adds (draft_of_field t base f) t lines_old lines_new written written
 unfolding handle_field
-adds_static t base f index lines_old lines_new told is lines =
+adds_static t base f index lines_old lines_new written is lines =
     rw is (
     record {
       table = refl;
       lines = lines ∙ ap (λ (x : List ℕ). lines_old ++ x) (sym (one_line (IndexedStatic index)));
-      told = sym (append-nil told) ∙ ap (λ (x : List ℕ). told ++ x) (sym no_instruction);
+      written = sym (append-nil written) ∙ ap (λ (x : List ℕ). written ++ x) (sym no_instruction);
     }
     )
 
@@ -105,25 +105,25 @@ find_keeps t base f lookup new is =
         (λ b. refl)
 
 pub adds_found : (t : Table) (base : ℕ) (f : Field) (index absolute : ℕ) (new : Table)
-    (lines_old lines_new told : List ℕ)
+    (lines_old lines_new written : List ℕ)
     → static_index f ≡ None → find_field t base f ≡ record { lookup = AtRelative index absolute; table = new }
     → lines_new ≡ lines_old ++ written_line (IndexedDynamic index)
-    → Adds (draft_of_field t base f) new lines_old lines_new told told
+    → Adds (draft_of_field t base f) new lines_old lines_new written written
 unfolding handle_field
-adds_found t base f index absolute new lines_old lines_new told none is lines =
+adds_found t base f index absolute new lines_old lines_new written none is lines =
     rw (none, is) (
     record {
       table = refl;
       lines = lines ∙ ap (λ (x : List ℕ). lines_old ++ x) (sym (one_line (IndexedDynamic index)));
-      told = sym (append-nil told) ∙ ap (λ (x : List ℕ). told ++ x) (sym no_instruction);
+      written = sym (append-nil written) ∙ ap (λ (x : List ℕ). written ++ x) (sym no_instruction);
     }
     )
 
 -- its line is refused: the instruction buffer gained nothing
-pub stops_found : (t : Table) (base : ℕ) (f : Field) (lookup : Lookup) (new : Table) (d : Draft) (told : List ℕ)
+pub stops_found : (t : Table) (base : ℕ) (f : Field) (lookup : Lookup) (new : Table) (d : Draft) (written : List ℕ)
     → find_field t base f ≡ record { lookup = lookup; table = new }
-    → StopsAdding d t new told told
-stops_found t base f lookup new d told is = inl (find_keeps t base f lookup new is, refl)
+    → StopsAdding d t new written written
+stops_found t base f lookup new d written is = inl (find_keeps t base f lookup new is, refl)
 
 -- what is found is no line by itself
 abbrev pub IsNoLine : Lookup → Type 0
@@ -147,27 +147,27 @@ left_to_insertion t base f lookup new none is no_line = rw (none, is) (by_lookup
     by_lookup NotFound h = refl
 
 adds_after_find : (t : Table) (base : ℕ) (f : Field) (lookup : Lookup) (now new : Table)
-    (lines_old lines_new told_old told_new : List ℕ)
+    (lines_old lines_new written_old written_new : List ℕ)
     → static_index f ≡ None → find_field t base f ≡ record { lookup = lookup; table = now } → IsNoLine lookup
-    → Adds (with_insertion (draft_at now) f (insert_field now base f)) new lines_old lines_new told_old told_new
-    → Adds (draft_of_field t base f) new lines_old lines_new told_old told_new
-adds_after_find t base f lookup now new lines_old lines_new told_old told_new none is no_line adds =
-    subst (λ (d : Draft). Adds d new lines_old lines_new told_old told_new)
+    → Adds (with_insertion (draft_at now) f (insert_field now base f)) new lines_old lines_new written_old written_new
+    → Adds (draft_of_field t base f) new lines_old lines_new written_old written_new
+adds_after_find t base f lookup now new lines_old lines_new written_old written_new none is no_line adds =
+    subst (λ (d : Draft). Adds d new lines_old lines_new written_old written_new)
     (sym (left_to_insertion t base f lookup now none is no_line)) adds
 
 stops_after_find : (t : Table) (base : ℕ) (f : Field) (lookup : Lookup) (now new : Table)
-    (told_old told_new : List ℕ)
+    (written_old written_new : List ℕ)
     → static_index f ≡ None → find_field t base f ≡ record { lookup = lookup; table = now } → IsNoLine lookup
-    → StopsAdding (with_insertion (draft_at now) f (insert_field now base f)) now new told_old told_new
-    → StopsAdding (draft_of_field t base f) t new told_old told_new
-stops_after_find t base f lookup now new told_old told_new none is no_line stops =
+    → StopsAdding (with_insertion (draft_at now) f (insert_field now base f)) now new written_old written_new
+    → StopsAdding (draft_of_field t base f) t new written_old written_new
+stops_after_find t base f lookup now new written_old written_new none is no_line stops =
     let same = left_to_insertion t base f lookup now none is no_line in
     elim stops [
       | inl h ↦ inl (h.0 ∙ find_keeps t base f lookup now is, h.1)
       | inr h ↦
           inr (
             h.0 ∙ ap (λ (d : Draft). d.table) (sym same),
-            h.1 ∙ ap (λ (d : Draft). told_old ++ written_encoder_instructions d.instructions) (sym same),
+            h.1 ∙ ap (λ (d : Draft). written_old ++ written_encoder_instructions d.instructions) (sym same),
           )
     ]
 
@@ -181,26 +181,28 @@ no_relative answer.NotFound h = tt
 -- ---- what an answer promises, under another base that is the same
 
 pub on_ok_adds : {A E : Type 0} (r : Result A E) (t now new : Table) (base other : ℕ) (f : Field)
-    (lookup : Lookup) (lines_old lines_new told_old told_new : List ℕ)
+    (lookup : Lookup) (lines_old lines_new written_old written_new : List ℕ)
     → other ≡ base → static_index f ≡ None
     → find_field t base f ≡ record { lookup = lookup; table = now } → IsNoLine lookup
-    → OnOk r (Adds (with_insertion (draft_at now) f (insert_field now other f)) new lines_old lines_new told_old
-    told_new)
-    → OnOk r (Adds (draft_of_field t base f) new lines_old lines_new told_old told_new)
-on_ok_adds (Ok x) t now new base other f lookup lines_old lines_new told_old told_new same none is no_line adds =
-    adds_after_find t base f lookup now new lines_old lines_new told_old told_new none is no_line
-    (subst (λ (b : ℕ). Adds (with_insertion (draft_at now) f (insert_field now b f)) new lines_old lines_new told_old
-    told_new) same adds)
-on_ok_adds (Err e) t now new base other f lookup lines_old lines_new told_old told_new same none is no_line adds = tt
+    → OnOk r (Adds (with_insertion (draft_at now) f (insert_field now other f)) new lines_old lines_new written_old
+    written_new)
+    → OnOk r (Adds (draft_of_field t base f) new lines_old lines_new written_old written_new)
+on_ok_adds (Ok x) t now new base other f lookup lines_old lines_new written_old written_new same none is no_line adds =
+    adds_after_find t base f lookup now new lines_old lines_new written_old written_new none is no_line
+    (subst (λ (b : ℕ). Adds (with_insertion (draft_at now) f (insert_field now b f)) new lines_old lines_new written_old
+    written_new) same adds)
+on_ok_adds (Err e) t now new base other f lookup lines_old lines_new written_old written_new same none is no_line adds
+    = tt
 
 pub on_err_stops : {A E : Type 0} (r : Result A E) (t now new : Table) (base other : ℕ) (f : Field)
-    (lookup : Lookup) (told_old told_new : List ℕ)
+    (lookup : Lookup) (written_old written_new : List ℕ)
     → other ≡ base → static_index f ≡ None
     → find_field t base f ≡ record { lookup = lookup; table = now } → IsNoLine lookup
-    → OnErr r (StopsAdding (with_insertion (draft_at now) f (insert_field now other f)) now new told_old told_new)
-    → OnErr r (StopsAdding (draft_of_field t base f) t new told_old told_new)
-on_err_stops (Ok x) t now new base other f lookup told_old told_new same none is no_line stops = tt
-on_err_stops (Err e) t now new base other f lookup told_old told_new same none is no_line stops =
-    stops_after_find t base f lookup now new told_old told_new none is no_line
-    (subst (λ (b : ℕ). StopsAdding (with_insertion (draft_at now) f (insert_field now b f)) now new told_old told_new)
+    → OnErr r (StopsAdding (with_insertion (draft_at now) f (insert_field now other f)) now new written_old written_new)
+    → OnErr r (StopsAdding (draft_of_field t base f) t new written_old written_new)
+on_err_stops (Ok x) t now new base other f lookup written_old written_new same none is no_line stops = tt
+on_err_stops (Err e) t now new base other f lookup written_old written_new same none is no_line stops =
+    stops_after_find t base f lookup now new written_old written_new none is no_line
+    (subst (λ (b : ℕ). StopsAdding (with_insertion (draft_at now) f (insert_field now b f)) now new written_old
+    written_new)
     same stops)

@@ -51,30 +51,32 @@ kept_more view now b before items e f same =
 
 -- the fields that were drained are the slice's
 pub encodes_slice : (number : ℕ) (s : Iter HeaderField) (xs : List HeaderField) (old new : Table)
-    (block block' told told' : List ℕ) (required : ℕ) → iter_rest s ≡ xs → block ≡ []
-    → DrainsFields fronts s (λ fs. EncodesBlock number fs old new block block' told told' required)
-    → EncodesBlock number (fields_in xs) old new [] block' told told' required
-encodes_slice number s xs old new block block' told told' required e empty d =
-    subst (λ (b : List ℕ). EncodesBlock number (fields_in xs) old new b block' told told' required) empty
-    (subst (λ (fs : List Field). EncodesBlock number fs old new block block' told told' required)
+    (block block' written written' : List ℕ) (required : ℕ) → iter_rest s ≡ xs → block ≡ []
+    → DrainsFields fronts s (λ fs. EncodesBlock number fs old new block block' written written' required)
+    → EncodesBlock number (fields_in xs) old new [] block' written written' required
+encodes_slice number s xs old new block block' written written' required e empty d =
+    subst (λ (b : List ℕ). EncodesBlock number (fields_in xs) old new b block' written written' required) empty
+    (subst (λ (fs : List Field). EncodesBlock number fs old new block block' written written' required)
     (fields_from_slice s xs d.0 e d.1) d.2)
 
 -- a block that was given up before its fields were gathered was given up behind none of them
-given_up_at_once : (fs : List Field) (old new : Table) (told told' : List ℕ) → GivesUpBlock [] old new told told'
-    → GivesUpBlock fs old new told told'
-given_up_at_once fs old new told told' g =
+given_up_at_once : (fs : List Field) (old new : Table) (written written' : List ℕ)
+    → GivesUpBlock [] old new written written'
+    → GivesUpBlock fs old new written written'
+given_up_at_once fs old new written written' g =
     record {
       many = 0;
       table = subst (λ (l : List Field). new ≡ without_references (rule old l).table) (take-nil g.many) g.table;
-      told = subst (λ (l : List Field). told' ≡ told ++ written_encoder_instructions (rule old l).instructions)
-          (take-nil g.many) g.told;
+      written = subst (λ (l : List Field). written' ≡ written ++ written_encoder_instructions (rule old l).instructions)
+          (take-nil g.many) g.written;
     }
 
-pub stops_slice : (s : Iter HeaderField) (xs : List HeaderField) (old new : Table) (told told' : List ℕ)
-    → iter_rest s ≡ xs → StopsEncoding fronts s old new told told' → GivesUpBlock (fields_in xs) old new told told'
-stops_slice s xs old new told told' e (inl g) = given_up_at_once (fields_in xs) old new told told' g
-stops_slice s xs old new told told' e (inr d) =
-    subst (λ (fs : List Field). GivesUpBlock fs old new told told') (fields_from_slice s xs d.0 e d.1) d.2
+pub stops_slice : (s : Iter HeaderField) (xs : List HeaderField) (old new : Table) (written written' : List ℕ)
+    → iter_rest s ≡ xs → StopsEncoding fronts s old new written written'
+    → GivesUpBlock (fields_in xs) old new written written'
+stops_slice s xs old new written written' e (inl g) = given_up_at_once (fields_in xs) old new written written' g
+stops_slice s xs old new written written' e (inr d) =
+    subst (λ (fs : List Field). GivesUpBlock fs old new written written') (fields_from_slice s xs d.0 e d.1) d.2
 
 -- ---- among the streams
 
@@ -97,17 +99,17 @@ module _ (before opened : List (ℕ × StoredStream)) (m n : BTreeMap ℕ Stored
       (ap (λ (l : List (ℕ × StoredStream)). stream_at l q) h.1 ∙ h.0 q)
 
   -- the block was written at the stream that was looked up
-  pub written_among : (fields : List Field) (old new : Table) (told told' : List ℕ) (r : Result ℕ EncoderError)
-      → IsWritten → IfOk r (WritesBlock number fields old new told told' seen k)
-      → IfOk r (WritesStream number fields old new told told' before n.entries)
-  written_among fields old new told told' (Ok required) h w =
+  pub written_among : (fields : List Field) (old new : Table) (written written' : List ℕ) (r : Result ℕ EncoderError)
+      → IsWritten → IfOk r (WritesBlock number fields old new written written' seen k)
+      → IfOk r (WritesStream number fields old new written written' before n.entries)
+  written_among fields old new written written' (Ok required) h w =
       record {
         stream = k;
-        writes = subst (λ (x : StoredStream). WritesBlock number fields old new told told' x k required)
+        writes = subst (λ (x : StoredStream). WritesBlock number fields old new written written' x k required)
             (same_seen h) w;
         changes = changes h;
       }
-  written_among fields old new told told' (Err e) h w = tt
+  written_among fields old new written written' (Err e) h w = tt
 
   -- or the streams stay, as the one that was looked up does
   pub kept_among : (r : Result ℕ EncoderError) → IsWritten → OnErr r (k ≡ seen)

@@ -34,22 +34,23 @@ rule_is t base fs begins same =
 
 -- ---- the block's bytes
 
-put_together : (before lines prefix written : List ℕ) (len : ℕ) → len ≡ length before → lines ≡ before ++ written
-    → take len lines ++ prefix ++ drop len lines ≡ before ++ (prefix ++ written)
-put_together before lines prefix written len is e =
-    rw (e, take_at before written len (sym is), drop_at before written len (sym is))
-    (append_assoc before prefix written)
+put_together : (before lines prefix text : List ℕ) (len : ℕ) → len ≡ length before → lines ≡ before ++ text
+    → take len lines ++ prefix ++ drop len lines ≡ before ++ (prefix ++ text)
+put_together before lines prefix text len is e =
+    rw (e, take_at before text len (sym is), drop_at before text len (sym is))
+    (append_assoc before prefix text)
 
 pub drafts_block : (t : Table) (base : ℕ) (fs : List Field) (new : Table)
-    (before lines block told_old told_new : List ℕ) (len required most other : ℕ) (prefix : Prefix)
+    (before lines block written_old written_new : List ℕ) (len required most other : ℕ) (prefix : Prefix)
     → t.referenced ≡ [] → base ≡ insert_count t
-    → Adds (draft_of_fields t base fs) new before lines told_old told_new
+    → Adds (draft_of_fields t base fs) new before lines written_old written_new
     → len ≡ length before → required ≡ greatest_of new.referenced → most ≡ maximum_capacity t.agreed_max t.capacity
     → other ≡ base → prefix ≡ prefix_for most required other
     → block ≡ take len lines ++ written_prefix prefix ++ drop len lines
-    → DraftsBlock fs t new before block told_old told_new required
+    → DraftsBlock fs t new before block written_old written_new required
 unfolding written_block
-drafts_block t base fs new before lines block told_old told_new len required most other prefix begins same adds is count
+drafts_block t base fs new before lines block written_old written_new len required most other prefix begins same adds
+    is count
     maximum at made put =
     let d = rule_is t base fs begins same in
     let table : new ≡ (rule t fs).table = adds.table ∙ ap (λ (x : Draft). x.table) d in
@@ -70,36 +71,37 @@ drafts_block t base fs new before lines block told_old told_new len required mos
           ∙ ap (λ (p : Prefix). before ++ (written_prefix p ++ written_lines (draft_of_fields t base fs).lines)) whole
           ∙ ap (λ (x : Draft). before
           ++ (written_prefix (block_of t (rule t fs)).prefix ++ written_lines x.lines)) d;
-      told = adds.told ∙ ap (λ (x : Draft). told_old ++ written_encoder_instructions x.instructions) d;
+      written = adds.written ∙ ap (λ (x : Draft). written_old ++ written_encoder_instructions x.instructions) d;
     }
 
 -- ---- a block that is given up
 
-gives_up_none : (t : Table) (told : List ℕ) → GivesUpBlock [] t (without_references t) told told
+gives_up_none : (t : Table) (written : List ℕ) → GivesUpBlock [] t (without_references t) written written
 unfolding rule without_references written_encoder_instructions
-gives_up_none t told = record { many = 0; table = refl; told = sym (append-nil told) }
+gives_up_none t written = record { many = 0; table = refl; written = sym (append-nil written) }
 
-pub gives_up : (t : Table) (base : ℕ) (fs : List Field) (new : Table) (told_old told_new : List ℕ)
-    → t.referenced ≡ [] → base ≡ insert_count t → StopsAmong fs t base new told_old told_new
-    → GivesUpBlock fs t (without_references new) told_old told_new
-gives_up t base fs new told_old told_new begins same stops =
+pub gives_up : (t : Table) (base : ℕ) (fs : List Field) (new : Table) (written_old written_new : List ℕ)
+    → t.referenced ≡ [] → base ≡ insert_count t → StopsAmong fs t base new written_old written_new
+    → GivesUpBlock fs t (without_references new) written_old written_new
+gives_up t base fs new written_old written_new begins same stops =
     let d = rule_is t base (take stops.many fs) begins same in
     record {
       many = stops.many;
       table = stops.table ∙ ap (λ (x : Draft). without_references x.table) d;
-      told = stops.told ∙ ap (λ (x : Draft). told_old ++ written_encoder_instructions x.instructions) d;
+      written = stops.written ∙ ap (λ (x : Draft). written_old ++ written_encoder_instructions x.instructions) d;
     }
 
 pub gives_up_all : (t : Table) (base : ℕ) (fs : List Field) (new : Table)
-    (before lines told_old told_new : List ℕ)
-    → t.referenced ≡ [] → base ≡ insert_count t → Adds (draft_of_fields t base fs) new before lines told_old told_new
-    → GivesUpBlock fs t (without_references new) told_old told_new
-gives_up_all t base fs new before lines told_old told_new begins same adds =
-    gives_up t base fs new told_old told_new begins same
+    (before lines written_old written_new : List ℕ)
+    → t.referenced ≡ [] → base ≡ insert_count t
+    → Adds (draft_of_fields t base fs) new before lines written_old written_new
+    → GivesUpBlock fs t (without_references new) written_old written_new
+gives_up_all t base fs new before lines written_old written_new begins same adds =
+    gives_up t base fs new written_old written_new begins same
     (record {
       many = length fs;
       table = rw (take-length fs) (ap (λ (x : Table). without_references x) adds.table);
-      told = rw (take-length fs) adds.told;
+      written = rw (take-length fs) adds.written;
     })
 
 -- ---- the end of a block
@@ -108,50 +110,51 @@ rule_again : (t : Table) (fs : List Field) → rule (without_references t) fs �
 unfolding rule without_references
 rule_again t fs = refl
 
-gives_up_again : (old new : Table) (fs : List Field) (told_old told_new : List ℕ)
-    → GivesUpBlock fs (without_references old) new told_old told_new → GivesUpBlock fs old new told_old told_new
-gives_up_again old new fs told_old told_new k =
+gives_up_again : (old new : Table) (fs : List Field) (written_old written_new : List ℕ)
+    → GivesUpBlock fs (without_references old) new written_old written_new
+    → GivesUpBlock fs old new written_old written_new
+gives_up_again old new fs written_old written_new k =
     let d = rule_again old (take k.many fs) in
     record {
       many = k.many;
       table = k.table ∙ ap (λ (x : Draft). without_references x.table) d;
-      told = k.told ∙ ap (λ (x : Draft). told_old ++ written_encoder_instructions x.instructions) d;
+      written = k.written ∙ ap (λ (x : Draft). written_old ++ written_encoder_instructions x.instructions) d;
     }
 
-gives_up_begun : (fs : List Field) (old begun new : Table) (told_old told_new : List ℕ)
-    → begun ≡ without_references old → GivesUpBlock fs begun new told_old told_new
-    → GivesUpBlock fs old new told_old told_new
-gives_up_begun fs old begun new told_old told_new begins k =
-    gives_up_again old new fs told_old told_new
-    (subst (λ (t : Table). GivesUpBlock fs t new told_old told_new) begins k)
+gives_up_begun : (fs : List Field) (old begun new : Table) (written_old written_new : List ℕ)
+    → begun ≡ without_references old → GivesUpBlock fs begun new written_old written_new
+    → GivesUpBlock fs old new written_old written_new
+gives_up_begun fs old begun new written_old written_new begins k =
+    gives_up_again old new fs written_old written_new
+    (subst (λ (t : Table). GivesUpBlock fs t new written_old written_new) begins k)
 
 -- refused, behind lines that were written or before
 pub gives_up_section : (fs : List Field) (r answer : Result ℕ EncoderError) (old begun mid new : Table)
-    (before block told_old told_new : List ℕ)
+    (before block written_old written_new : List ℕ)
     → begun ≡ without_references old
-    → IfOk r (λ required. DraftsBlock fs begun mid before block told_old told_new required)
-    → OnErr r (GivesUpBlock fs begun (without_references mid) told_old told_new)
+    → IfOk r (λ required. DraftsBlock fs begun mid before block written_old written_new required)
+    → OnErr r (GivesUpBlock fs begun (without_references mid) written_old written_new)
     → OnErr answer (new ≡ without_references mid)
-    → OnErr answer (GivesUpBlock fs old new told_old told_new)
-gives_up_section fs r (Ok required) old begun mid new before block told_old told_new begins ok err ends = tt
-gives_up_section fs (Ok required) (Err e) old begun mid new before block told_old told_new begins ok err ends =
+    → OnErr answer (GivesUpBlock fs old new written_old written_new)
+gives_up_section fs r (Ok required) old begun mid new before block written_old written_new begins ok err ends = tt
+gives_up_section fs (Ok required) (Err e) old begun mid new before block written_old written_new begins ok err ends =
     rw ends
-    (gives_up_begun fs old begun (without_references mid) told_old told_new begins
+    (gives_up_begun fs old begun (without_references mid) written_old written_new begins
     (record {
       many = length fs;
       table = rw (take-length fs) (ap (λ (x : Table). without_references x) ok.table);
-      told = rw (take-length fs) ok.told;
+      written = rw (take-length fs) ok.written;
     }))
-gives_up_section fs (Err f) (Err e) old begun mid new before block told_old told_new begins ok err ends =
-    rw ends (gives_up_begun fs old begun (without_references mid) told_old told_new begins err)
+gives_up_section fs (Err f) (Err e) old begun mid new before block written_old written_new begins ok err ends =
+    rw ends (gives_up_begun fs old begun (without_references mid) written_old written_new begins err)
 
 encodes_block : (fs : List Field) (old begun mid new : Table) (stream given : ℕ)
-    (before block told_old told_new : List ℕ) (required : ℕ)
+    (before block written_old written_new : List ℕ) (required : ℕ)
     → begun ≡ without_references old → given ≡ stream
-    → DraftsBlock fs begun mid before block told_old told_new required → new ≡ commit mid given required
-    → EncodesBlock stream fs old new before block told_old told_new required
+    → DraftsBlock fs begun mid before block written_old written_new required → new ≡ commit mid given required
+    → EncodesBlock stream fs old new before block written_old written_new required
 unfolding without_references
-encodes_block fs old begun mid new stream given before block told_old told_new required begins same k ends =
+encodes_block fs old begun mid new stream given before block written_old written_new required begins same k ends =
     let d : rule begun fs ≡ rule old fs = ap (λ (t : Table). rule t fs) begins ∙ rule_again old fs in
     let required_is : required ≡ required_insert_count (rule old fs) =
     k.required_is ∙ ap (λ (x : Draft). required_insert_count x) d in
@@ -164,22 +167,23 @@ encodes_block fs old begun mid new stream given before block told_old told_new r
       block = k.block
           ∙ ap (λ (x : Draft). before ++ written_block (block_of begun x)) d
           ∙ ap (λ (t : Table). before ++ written_block (block_of t (rule old fs))) begins;
-      told = k.told ∙ ap (λ (x : Draft). told_old ++ written_encoder_instructions x.instructions) d;
+      written = k.written ∙ ap (λ (x : Draft). written_old ++ written_encoder_instructions x.instructions) d;
     }
 
 -- the answer is the required insert count
 pub encodes : (fs : List Field) (r answer : Result ℕ EncoderError) (old begun mid new : Table) (stream given : ℕ)
-    (before block told_old told_new : List ℕ)
+    (before block written_old written_new : List ℕ)
     → begun ≡ without_references old → given ≡ stream
-    → IfOk r (λ required. DraftsBlock fs begun mid before block told_old told_new required)
+    → IfOk r (λ required. DraftsBlock fs begun mid before block written_old written_new required)
     → IfOk answer (λ required. (r ≡ Ok required) × (new ≡ commit mid given required))
-    → IfOk answer (λ required. EncodesBlock stream fs old new before block told_old told_new required)
-encodes fs r (Err e) old begun mid new stream given before block told_old told_new begins same ok ends = tt
-encodes fs r (Ok required) old begun mid new stream given before block told_old told_new begins same ok ends =
-    let drafted : DraftsBlock fs begun mid before block told_old told_new required =
-    subst (λ (x : Result ℕ EncoderError). IfOk x (λ n. DraftsBlock fs begun mid before block told_old told_new n))
+    → IfOk answer (λ required. EncodesBlock stream fs old new before block written_old written_new required)
+encodes fs r (Err e) old begun mid new stream given before block written_old written_new begins same ok ends = tt
+encodes fs r (Ok required) old begun mid new stream given before block written_old written_new begins same ok ends =
+    let drafted : DraftsBlock fs begun mid before block written_old written_new required =
+    subst (λ (x : Result ℕ EncoderError). IfOk x (λ n. DraftsBlock fs begun mid before block written_old written_new n))
     ends.0 ok in
-    encodes_block fs old begun mid new stream given before block told_old told_new required begins same drafted ends.1
+    encodes_block fs old begun mid new stream given before block written_old written_new required begins same drafted
+    ends.1
 
 -- ---- a block as it begins
 
@@ -200,6 +204,6 @@ released_again old begun new begins is = is ∙ ap (λ (t : Table). without_refe
 
 -- before anything was gathered
 pub stops_ungathered : {S H : Type 0} (field : H → Field) (steps : S → Option H → S → Type 0) (it : S)
-    (old new : Table) (told : List ℕ) → new ≡ without_references old
-    → StopsEncodingOf field steps it old new told told
-stops_ungathered field steps it old new told is = rw is (inl (gives_up_none old told))
+    (old new : Table) (written : List ℕ) → new ≡ without_references old
+    → StopsEncodingOf field steps it old new written written
+stops_ungathered field steps it old new written is = rw is (inl (gives_up_none old written))

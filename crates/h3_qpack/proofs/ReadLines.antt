@@ -209,9 +209,9 @@ turn_good k limit sum rest b front whole f more fits is at read low =
 -- ---- sizes and fields, one by one
 
 -- the sum held so far, with one size more
-pub told_is : (sum size told held now : ℕ) → held ≡ saturated_size sum → told ≡ min size (2 ^ 64 - 1)
-    → now ≡ min (held + told) (2 ^ 64 - 1) → now ≡ saturated_size (sum + size)
-told_is sum size told held now h t n = rw (n, h, t) (omega arith)
+pub saturated_is : (sum size saturated held now : ℕ) → held ≡ saturated_size sum → saturated ≡ min size (2 ^ 64 - 1)
+    → now ≡ min (held + saturated) (2 ^ 64 - 1) → now ≡ saturated_size (sum + size)
+saturated_is sum size saturated held now h t n = rw (n, h, t) (omega arith)
 
 pub fields_more : (xs : List HeaderField) (x : HeaderField) → fields_in (xs ++ x ∷ []) ≡ fields_in xs ++ field_of x ∷ []
 fields_more [] x = refl

@@ -58,16 +58,16 @@ tells_fault e fault h = (fault, refl, h)
 
 -- the session behind a delivery to the decoder
 abbrev pub decoder_moved : SessionView → DecoderView → ℕ → ℕ → List ℕ → SessionView
-decoder_moved s decoder delivered taken told =
+decoder_moved s decoder delivered taken written =
     record s {
       decoder = decoder;
       encoder_stream_delivered = delivered;
       encoder_stream_taken = taken;
-      decoder_stream = told;
+      decoder_stream = written;
     }
 
 -- what moved, as far as both know it
-pub record Moves (s : SessionView) (decoder : DecoderView) (count delivered taken position : ℕ) (told : List ℕ)
+pub record Moves (s : SessionView) (decoder : DecoderView) (count delivered taken position : ℕ) (written : List ℕ)
     (v : Session)
     : Type 0 where
   pub shows : Shows s v
@@ -75,13 +75,13 @@ pub record Moves (s : SessionView) (decoder : DecoderView) (count delivered take
   pub delivered_is : delivered ≡ min (s.encoder_stream_delivered + count) (length s.encoder_stream)
   pub taken_is : taken ≡ s.encoder_stream_taken + position
 
-moved_shown : (s : SessionView) (decoder : DecoderView) (count delivered taken position : ℕ) (told : List ℕ)
+moved_shown : (s : SessionView) (decoder : DecoderView) (count delivered taken position : ℕ) (written : List ℕ)
     (v : Session)
-    (unreported consumed : ℕ) (told' : List ℕ) → Moves s decoder count delivered taken position told v
-    → unreported ≡ decoder.unreported → position ≡ consumed → told' ≡ told
-    → Shows (decoder_moved s decoder delivered taken told)
-    (with_decoder_moved v count decoder.table consumed unreported told')
-moved_shown s decoder count delivered taken position told v unreported consumed told' m same moved wrote =
+    (unreported consumed : ℕ) (written' : List ℕ) → Moves s decoder count delivered taken position written v
+    → unreported ≡ decoder.unreported → position ≡ consumed → written' ≡ written
+    → Shows (decoder_moved s decoder delivered taken written)
+    (with_decoder_moved v count decoder.table consumed unreported written')
+moved_shown s decoder count delivered taken position written v unreported consumed written' m same moved wrote =
     let shows = m.shows in
     record {
       encoder = shows.encoder;
@@ -118,11 +118,11 @@ offered_same s v count shows =
     shows.encoder_stream
 
 -- how the delivery ended, as the definition has it
-module _ (s : SessionView) (new : DecoderView) (count delivered taken position : ℕ) (told : List ℕ) (v : Session)
-    (bytes left : List ℕ) (m : Moves s new count delivered taken position told v)
+module _ (s : SessionView) (new : DecoderView) (count delivered taken position : ℕ) (written : List ℕ) (v : Session)
+    (bytes left : List ℕ) (m : Moves s new count delivered taken position written v)
     (counts : position + length left ≡ length bytes) where
   abbrev pub after : SessionView
-  after = decoder_moved s new delivered taken told
+  after = decoder_moved s new delivered taken written
 
   -- the way that the delivery went, to an answer
   record Ends (front rest : List ℕ) (r : Result ℕ DecoderError) : Type 0 where
@@ -135,25 +135,26 @@ module _ (s : SessionView) (new : DecoderView) (count delivered taken position :
   unreported_is : new.unreported ≡ to_report s.decoder new.table → unreported_after v new.table ≡ new.unreported
   unreported_is h = reported_same s v new.table m.shows ∙ sym h
 
-  told_is : told ≡ s.decoder_stream → v.decoder_stream ≡ told
-  told_is h = m.shows.decoder_stream ∙ sym h
+  saturated_is : written ≡ s.decoder_stream → v.decoder_stream ≡ written
+  saturated_is h = m.shows.decoder_stream ∙ sym h
 
   -- a refusal for memory
   memory_ends : (front rest : List ℕ) → bytes ≡ front ++ rest → left ≡ rest
-      → new.unreported ≡ to_report s.decoder new.table → told ≡ s.decoder_stream → Ends front rest (Err decoder.Memory)
+      → new.unreported ≡ to_report s.decoder new.table → written ≡ s.decoder_stream
+      → Ends front rest (Err decoder.Memory)
   memory_ends front rest cut same kept wrote =
       record {
         answer = spec.NoMemory;
         next = with_decoder_moved v count new.table (length front) (unreported_after v new.table) v.decoder_stream;
         answers = refl;
-        shown = moved_shown s new count delivered taken position told v _ _ _ m (unreported_is kept)
-            (front_consumed bytes front rest left position cut same counts) (told_is wrote);
+        shown = moved_shown s new count delivered taken position written v _ _ _ m (unreported_is kept)
+            (front_consumed bytes front rest left position cut same counts) (saturated_is wrote);
         ends = no_memory refl refl;
       }
 
   -- the next instruction is not taken
   stop_ends : (front rest : List ℕ) (e : DecoderError) → bytes ≡ front ++ rest → Stops new.table rest left e
-      → new.unreported ≡ to_report s.decoder new.table → told ≡ s.decoder_stream → Ends front rest (Err e)
+      → new.unreported ≡ to_report s.decoder new.table → written ≡ s.decoder_stream → Ends front rest (Err e)
   stop_ends front rest e cut (receiving.no_memory asks is same) kept wrote =
       subst (λ (x : DecoderError). Ends front rest (Err x)) (sym is) (memory_ends front rest cut same kept wrote)
   stop_ends front rest e cut (receiving.bad_bytes fault begins is same) kept wrote =
@@ -161,8 +162,8 @@ module _ (s : SessionView) (new : DecoderView) (count delivered taken position :
         answer = spec.Refused (spec.BadBytes fault);
         next = with_decoder_moved v count new.table (length front) (unreported_after v new.table) v.decoder_stream;
         answers = tells_fault e (spec.BadBytes fault) is;
-        shown = moved_shown s new count delivered taken position told v _ _ _ m (unreported_is kept)
-            (front_consumed bytes front rest left position cut same counts) (told_is wrote);
+        shown = moved_shown s new count delivered taken position written v _ _ _ m (unreported_is kept)
+            (front_consumed bytes front rest left position cut same counts) (saturated_is wrote);
         ends = bad_bytes fault begins refl refl;
       }
   stop_ends front rest e cut (receiving.bad_instruction encoding more i refusal split spells refuses is same) kept
@@ -173,22 +174,22 @@ module _ (s : SessionView) (new : DecoderView) (count delivered taken position :
             (length front + (if is_consumed refusal then length encoding else 0)) (unreported_after v new.table)
             v.decoder_stream;
         answers = tells_fault e (spec.BadInstruction refusal) is;
-        shown = moved_shown s new count delivered taken position told v _ _ _ m (unreported_is kept)
+        shown = moved_shown s new count delivered taken position written v _ _ _ m (unreported_is kept)
             (more_consumed bytes front rest encoding more left (is_consumed refusal) position cut split same counts)
-            (told_is wrote);
+            (saturated_is wrote);
         ends = bad_instruction encoding more i refusal split spells refuses refl refl;
       }
 
   delivery_ends : (front rest : List ℕ) (taking : Result ⊤ DecoderError) (r : Result ℕ DecoderError)
       → bytes ≡ front ++ rest → EndsTaking new.table rest left taking
-      → EndsReceiving s.decoder new taking s.decoder_stream told r → Ends front rest r
+      → EndsReceiving s.decoder new taking s.decoder_stream written r → Ends front rest r
   delivery_ends front rest (Ok done) (Ok total) cut takes ends =
       record {
         answer = spec.Delivered total;
         next = with_decoder_moved v count new.table (length front) 0
             (v.decoder_stream ++ written_decoder_instructions (increments ends.2.pieces));
         answers = refl;
-        shown = moved_shown s new count delivered taken position told v _ _ _ m (sym ends.1)
+        shown = moved_shown s new count delivered taken position written v _ _ _ m (sym ends.1)
             (front_consumed bytes front rest left position cut takes.1 counts)
             (ap (λ (l : List ℕ). l ++ written_decoder_instructions (increments ends.2.pieces)) m.shows.decoder_stream
             ∙ sym ends.2.written);
@@ -204,7 +205,7 @@ module _ (s : SessionView) (new : DecoderView) (count delivered taken position :
 
   pub delivers : (r : Result ℕ DecoderError)
       → drop s.encoder_stream_taken (take (s.encoder_stream_delivered + count) s.encoder_stream) ≡ bytes
-      → Receives s.decoder new bytes left s.decoder_stream told r
+      → Receives s.decoder new bytes left s.decoder_stream written r
       → Goes after (spec.ToDecoder count) (outcome.Delivered r) v
   unfolding LawfulStep skip_reason
   delivers r offered receives =
@@ -225,7 +226,7 @@ module _ (s : SessionView) (new : DecoderView) (count delivered taken position :
           ends = ends.ends;
         };
       })
-      (record { sent = fits.sent; blocks = fits.blocks })
+      (record { encoder_stream = fits.encoder_stream; blocks = fits.blocks })
 
 -- what a call was offered, and what it left
 pub record Offers (items bytes left : List ℕ) (taken before count delivered position : ℕ) : Type 0 where
@@ -248,14 +249,15 @@ offers items seen offered bytes left taken before count delivered len position t
       counts = counts ∙ still ∙ all ∙ ap (λ (l : List ℕ). length l) (sym rest);
     }
 
-pub delivers_offered : (s : SessionView) (new : DecoderView) (count delivered position : ℕ) (told bytes left : List ℕ)
+pub delivers_offered : (s : SessionView) (new : DecoderView) (count delivered position : ℕ)
+    (written bytes left : List ℕ)
     (r : Result ℕ DecoderError) → IsReached s
     → Offers s.encoder_stream bytes left s.encoder_stream_taken s.encoder_stream_delivered count delivered position
-    → Receives s.decoder new bytes left s.decoder_stream told r
-    → Follows s (decoder_moved s new delivered (s.encoder_stream_taken + position) told) (spec.ToDecoder count)
+    → Receives s.decoder new bytes left s.decoder_stream written r
+    → Follows s (decoder_moved s new delivered (s.encoder_stream_taken + position) written) (spec.ToDecoder count)
     (outcome.Delivered r)
-delivers_offered s new count delivered position told bytes left r at o receives v shows =
-    delivers s new count delivered (s.encoder_stream_taken + position) position told v bytes left
+delivers_offered s new count delivered position written bytes left r at o receives v shows =
+    delivers s new count delivered (s.encoder_stream_taken + position) position written v bytes left
     (record { shows = shows; reached = at; delivered_is = o.delivered_is; taken_is = refl }) o.counts r o.offered
     receives
 
@@ -367,7 +369,7 @@ module _ (s : SessionView) (new : Table) (count delivered position : ℕ) (bytes
             ends = ends.ends;
           };
         })
-        (record { sent = fits.sent; blocks = fits.blocks })
+        (record { encoder_stream = fits.encoder_stream; blocks = fits.blocks })
 
 pub hears_offered : (s : SessionView) (new : Table) (count delivered position : ℕ) (bytes left : List ℕ)
     (r : Result ⊤ EncoderError) → IsReached s

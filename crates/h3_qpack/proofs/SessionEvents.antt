@@ -34,12 +34,12 @@ use Rattle.h3_qpack.specs.declared.session.Outcome.TheVariants as outcome
 -- ---- a cancellation
 
 abbrev with_streams : SessionView → List (ℕ × StoredStream) → List ℕ → SessionView
-with_streams s streams told = record s { streams = streams; decoder_stream = told }
+with_streams s streams written = record s { streams = streams; decoder_stream = written }
 
 -- what was shown is still, where only streams that stay were touched
-kept_shown : (s : SessionView) (v : Session) (streams : List (ℕ × StoredStream)) (told : List ℕ) → Shows s v
-    → KeepsStreams s.streams streams → told ≡ s.decoder_stream → Shows (with_streams s streams told) v
-kept_shown s v streams told shows keeps same =
+kept_shown : (s : SessionView) (v : Session) (streams : List (ℕ × StoredStream)) (written : List ℕ) → Shows s v
+    → KeepsStreams s.streams streams → written ≡ s.decoder_stream → Shows (with_streams s streams written) v
+kept_shown s v streams written shows keeps same =
     record {
       encoder = shows.encoder;
       decoder = shows.decoder;
@@ -53,19 +53,20 @@ kept_shown s v streams told shows keeps same =
       streams = λ q. keeps q ∙ shows.streams q;
     }
 
-pub cancels : (s : SessionView) (streams : List (ℕ × StoredStream)) (told : List ℕ) (number : ℕ) (r : Result ⊤ NoMemory)
+pub cancels : (s : SessionView) (streams : List (ℕ × StoredStream)) (written : List ℕ) (number : ℕ)
+    (r : Result ⊤ NoMemory)
     → IsReached s → cancellation_skip s.streams number ≡ None
     → OnOk r (ChangesStream number (record (stream_at s.streams number) { cancelled = true }) s.streams streams)
-    → OnOk r (told ≡ s.decoder_stream ++ written_decoder_instruction (Cancellation number))
-    → OnErr r (KeepsStreams s.streams streams) → OnErr r (told ≡ s.decoder_stream)
-    → Follows s (with_streams s streams told) (spec.Cancel number) (outcome.Cancelled r)
+    → OnOk r (written ≡ s.decoder_stream ++ written_decoder_instruction (Cancellation number))
+    → OnErr r (KeepsStreams s.streams streams) → OnErr r (written ≡ s.decoder_stream)
+    → Follows s (with_streams s streams written) (spec.Cancel number) (outcome.Cancelled r)
 unfolding LawfulStep
-cancels s streams told number (Ok done) at is changes wrote _ _ v shows =
+cancels s streams written number (Ok done) at is changes wrote _ _ v shows =
     let fits = fits_reached s at in
     let kept = stream_at v.streams number in
     let cancelled = ap (λ (k : StoredStream). let x : StoredStream = record k { cancelled = true } in x)
     (shows.streams number) in
-    lawful (with_streams s streams told) (spec.Cancel number) (outcome.Cancelled (Ok done)) v spec.Cancelled
+    lawful (with_streams s streams written) (spec.Cancel number) (outcome.Cancelled (Ok done)) v spec.Cancelled
     (with_cancelled v number) refl
     (record {
       encoder = shows.encoder;
@@ -83,32 +84,33 @@ cancels s streams told number (Ok done) at is changes wrote _ _ v shows =
     })
     tt tt (cancellation_skips s v number shows ∙ is) (inl (refl, refl))
     (record {
-      sent = fits.sent;
+      encoder_stream = fits.encoder_stream;
       blocks = fits_changed s.streams streams number _
           (fits.blocks number) changes fits.blocks;
     })
-cancels s streams told number (Err e) at is _ _ keeps same v shows =
+cancels s streams written number (Err e) at is _ _ keeps same v shows =
     let fits = fits_reached s at in
-    lawful (with_streams s streams told) (spec.Cancel number) (outcome.Cancelled (Err e)) v spec.NoMemory v refl
-    (kept_shown s v streams told shows keeps same) tt tt (cancellation_skips s v number shows ∙ is) (inr (refl, refl))
-    (record { sent = fits.sent; blocks = fits_kept s.streams streams keeps fits.blocks })
+    lawful (with_streams s streams written) (spec.Cancel number) (outcome.Cancelled (Err e)) v spec.NoMemory v refl
+    (kept_shown s v streams written shows keeps same) tt tt (cancellation_skips s v number shows ∙ is)
+    (inr (refl, refl))
+    (record { encoder_stream = fits.encoder_stream; blocks = fits_kept s.streams streams keeps fits.blocks })
 
 -- ---- an acknowledgment
 
-pub acknowledges : (s : SessionView) (streams : List (ℕ × StoredStream)) (told : List ℕ) (number : ℕ) → IsReached s
+pub acknowledges : (s : SessionView) (streams : List (ℕ × StoredStream)) (written : List ℕ) (number : ℕ) → IsReached s
     → acknowledgment_skip s.streams number ≡ None
     → ChangesStream number (record (stream_at s.streams number)
     { acknowledged = (stream_at s.streams number).acknowledged + 1 }) s.streams streams
-    → told ≡ s.decoder_stream ++ written_decoder_instruction (Acknowledgment number)
-    → Follows s (with_streams s streams told) (spec.Acknowledge number) (outcome.Acknowledged (Ok tt))
+    → written ≡ s.decoder_stream ++ written_decoder_instruction (Acknowledgment number)
+    → Follows s (with_streams s streams written) (spec.Acknowledge number) (outcome.Acknowledged (Ok tt))
 unfolding LawfulStep
-acknowledges s streams told number at is changes wrote v shows =
+acknowledges s streams written number at is changes wrote v shows =
     let fits = fits_reached s at in
     let kept = stream_at v.streams number in
     let acknowledged =
     ap (λ (k : StoredStream). let x : StoredStream = record k { acknowledged = k.acknowledged + 1 } in x)
     (shows.streams number) in
-    lawful (with_streams s streams told) (spec.Acknowledge number) (outcome.Acknowledged (Ok tt)) v spec.Acknowledged
+    lawful (with_streams s streams written) (spec.Acknowledge number) (outcome.Acknowledged (Ok tt)) v spec.Acknowledged
     (with_acknowledged v number) refl
     (record {
       encoder = shows.encoder;
@@ -127,30 +129,30 @@ acknowledges s streams told number at is changes wrote v shows =
     })
     tt tt (acknowledgment_skips s v number shows ∙ is) (inl (refl, refl))
     (record {
-      sent = fits.sent;
+      encoder_stream = fits.encoder_stream;
       blocks = fits_changed s.streams streams number _
           (fits.blocks number) changes fits.blocks;
     })
 
 -- refused, nothing is written
-pub acknowledges_nothing : (s : SessionView) (told : List ℕ) (number : ℕ) (e : NoMemory) → IsReached s
-    → acknowledgment_skip s.streams number ≡ None → told ≡ s.decoder_stream
-    → Follows s (with_streams s s.streams told) (spec.Acknowledge number) (outcome.Acknowledged (Err e))
+pub acknowledges_nothing : (s : SessionView) (written : List ℕ) (number : ℕ) (e : NoMemory) → IsReached s
+    → acknowledgment_skip s.streams number ≡ None → written ≡ s.decoder_stream
+    → Follows s (with_streams s s.streams written) (spec.Acknowledge number) (outcome.Acknowledged (Err e))
 unfolding LawfulStep
-acknowledges_nothing s told number e at is same v shows =
+acknowledges_nothing s written number e at is same v shows =
     let fits = fits_reached s at in
-    lawful (with_streams s s.streams told) (spec.Acknowledge number) (outcome.Acknowledged (Err e)) v spec.NoMemory v
-    refl (kept_shown s v s.streams told shows (λ q. refl) same) tt tt (acknowledgment_skips s v number shows ∙ is)
-    (inr (refl, refl)) (record { sent = fits.sent; blocks = fits.blocks })
+    lawful (with_streams s s.streams written) (spec.Acknowledge number) (outcome.Acknowledged (Err e)) v spec.NoMemory v
+    refl (kept_shown s v s.streams written shows (λ q. refl) same) tt tt (acknowledgment_skips s v number shows ∙ is)
+    (inr (refl, refl)) (record { encoder_stream = fits.encoder_stream; blocks = fits.blocks })
 
 -- ---- a capacity
 
 abbrev with_encoder : SessionView → Table → List ℕ → SessionView
-with_encoder s encoder told = record s { encoder = encoder; encoder_stream = told }
+with_encoder s encoder written = record s { encoder = encoder; encoder_stream = written }
 
-encoder_shown : (s : SessionView) (v : Session) (encoder : Table) (told : List ℕ) → Shows s v → encoder ≡ s.encoder
-    → told ≡ s.encoder_stream → Shows (with_encoder s encoder told) v
-encoder_shown s v encoder told shows same wrote =
+encoder_shown : (s : SessionView) (v : Session) (encoder : Table) (written : List ℕ) → Shows s v → encoder ≡ s.encoder
+    → written ≡ s.encoder_stream → Shows (with_encoder s encoder written) v
+encoder_shown s v encoder written shows same wrote =
     record {
       encoder = shows.encoder ∙ sym same;
       decoder = shows.decoder;
@@ -164,53 +166,62 @@ encoder_shown s v encoder told shows same wrote =
       streams = shows.streams;
     }
 
--- the reason that is told, if it is refused for one
+-- the reason that is written, if it is refused for one
 reason_told : {A E : Type 0} (read : Result A E) (o : Option E) → IsRefusedFor read o
     → (x : E) × (o ≡ Some x) × (read ≡ Err x)
 reason_told read (Some x) h = (x, refl, h)
 reason_told read None h = absurd h
 
 -- a capacity that is refused for a reason is refused so
-refuses_capacity : (s : SessionView) (encoder : Table) (told : List ℕ) (capacity : ℕ) (e : EncoderError) (v : Session)
+refuses_capacity : (s : SessionView) (encoder : Table) (written : List ℕ) (capacity : ℕ) (e : EncoderError)
+    (v : Session)
     → ((refusal : TableRefusal) → refusal_of e ≡ Some refusal
     → Answers (outcome.CapacitySet (Err e)) (spec.CapacityRefused refusal))
     → IsReached s → Shows s v → IsRefusedFor (with_capacity s.encoder capacity) (refusal_of e) × (encoder ≡ s.encoder)
-    × (told ≡ s.encoder_stream)
-    → Goes (with_encoder s encoder told) (spec.ChangeCapacity capacity) (outcome.CapacitySet (Err e)) v
+    × (written ≡ s.encoder_stream)
+    → Goes (with_encoder s encoder written) (spec.ChangeCapacity capacity) (outcome.CapacitySet (Err e)) v
 unfolding LawfulStep skip_reason
-refuses_capacity s encoder told capacity e v answers at shows h =
+refuses_capacity s encoder written capacity e v answers at shows h =
     let fits = fits_reached s at in
     let reason = reason_told (with_capacity s.encoder capacity) (refusal_of e) h.0 in
-    lawful (with_encoder s encoder told) (spec.ChangeCapacity capacity) (outcome.CapacitySet (Err e)) v
+    lawful (with_encoder s encoder written) (spec.ChangeCapacity capacity) (outcome.CapacitySet (Err e)) v
     (spec.CapacityRefused reason.0) v (answers reason.0 reason.1)
-    (encoder_shown s v encoder told shows h.1 h.2) tt tt refl
+    (encoder_shown s v encoder written shows h.1 h.2) tt tt refl
     (inr (inl (record {
       refusal = reason.0;
       is_refused = ap (λ (t : Table). with_capacity t capacity) shows.encoder ∙ reason.2;
       answers = refl;
       stays = refl;
     })))
-    (record { sent = subst (λ (l : List ℕ). length l < 2 ^ 63) (sym h.2) fits.sent; blocks = fits.blocks })
+    (record {
+      encoder_stream = subst (λ (l : List ℕ). length l < 2 ^ 63) (sym h.2) fits.encoder_stream;
+      blocks =
+          fits.blocks;
+    })
 
-wants_memory : (s : SessionView) (encoder : Table) (told : List ℕ) (capacity : ℕ) (v : Session) → IsReached s
-    → Shows s v → (encoder ≡ s.encoder) × (told ≡ s.encoder_stream)
-    → Goes (with_encoder s encoder told) (spec.ChangeCapacity capacity) (outcome.CapacitySet (Err Memory)) v
+wants_memory : (s : SessionView) (encoder : Table) (written : List ℕ) (capacity : ℕ) (v : Session) → IsReached s
+    → Shows s v → (encoder ≡ s.encoder) × (written ≡ s.encoder_stream)
+    → Goes (with_encoder s encoder written) (spec.ChangeCapacity capacity) (outcome.CapacitySet (Err Memory)) v
 unfolding LawfulStep skip_reason
-wants_memory s encoder told capacity v at shows h =
+wants_memory s encoder written capacity v at shows h =
     let fits = fits_reached s at in
-    lawful (with_encoder s encoder told) (spec.ChangeCapacity capacity) (outcome.CapacitySet (Err Memory)) v
-    spec.NoMemory v refl (encoder_shown s v encoder told shows h.0 h.1) tt tt refl (inr (inr (refl, refl)))
-    (record { sent = subst (λ (l : List ℕ). length l < 2 ^ 63) (sym h.1) fits.sent; blocks = fits.blocks })
+    lawful (with_encoder s encoder written) (spec.ChangeCapacity capacity) (outcome.CapacitySet (Err Memory)) v
+    spec.NoMemory v refl (encoder_shown s v encoder written shows h.0 h.1) tt tt refl (inr (inr (refl, refl)))
+    (record {
+      encoder_stream = subst (λ (l : List ℕ). length l < 2 ^ 63) (sym h.1) fits.encoder_stream;
+      blocks =
+          fits.blocks;
+    })
 
-sets : (s : SessionView) (encoder : Table) (told : List ℕ) (capacity : ℕ) (v : Session) → IsReached s
-    → length told < 2 ^ 63 → Shows s v
+sets : (s : SessionView) (encoder : Table) (written : List ℕ) (capacity : ℕ) (v : Session) → IsReached s
+    → length written < 2 ^ 63 → Shows s v
     → (with_capacity s.encoder capacity ≡ Ok encoder)
-    × (told ≡ s.encoder_stream ++ written_encoder_instruction (SetCapacity capacity))
-    → Goes (with_encoder s encoder told) (spec.ChangeCapacity capacity) (outcome.CapacitySet (Ok tt)) v
+    × (written ≡ s.encoder_stream ++ written_encoder_instruction (SetCapacity capacity))
+    → Goes (with_encoder s encoder written) (spec.ChangeCapacity capacity) (outcome.CapacitySet (Ok tt)) v
 unfolding LawfulStep skip_reason
-sets s encoder told capacity v at small shows h =
+sets s encoder written capacity v at small shows h =
     let instruction = written_encoder_instruction (SetCapacity capacity) in
-    lawful (with_encoder s encoder told) (spec.ChangeCapacity capacity) (outcome.CapacitySet (Ok tt)) v
+    lawful (with_encoder s encoder written) (spec.ChangeCapacity capacity) (outcome.CapacitySet (Ok tt)) v
     spec.CapacitySet (record v { encoder = encoder; encoder_stream = v.encoder_stream ++ instruction }) refl
     (record {
       encoder = refl;
@@ -231,16 +242,17 @@ sets s encoder told capacity v at small shows h =
       answers = refl;
       leads = refl;
     }))
-    (record { sent = small; blocks = (fits_reached s at).blocks })
+    (record { encoder_stream = small; blocks = (fits_reached s at).blocks })
 
-pub sets_capacity : (s : SessionView) (encoder : Table) (told : List ℕ) (capacity : ℕ) (r : Result ⊤ EncoderError)
-    → IsReached s → length told < 2 ^ 63 → SetsCapacity capacity s.encoder encoder s.encoder_stream told r
-    → Follows s (with_encoder s encoder told) (spec.ChangeCapacity capacity) (outcome.CapacitySet r)
-sets_capacity s encoder told capacity (Ok done) at small h v shows = sets s encoder told capacity v at small shows h
-sets_capacity s encoder told capacity (Err Memory) at small h v shows =
-    wants_memory s encoder told capacity v at shows h
-sets_capacity s encoder told capacity (Err e) at small h v shows =
-    refuses_capacity s encoder told capacity e v (λ refusal told_so. (refusal, refl, told_so)) at shows h
+pub sets_capacity : (s : SessionView) (encoder : Table) (written : List ℕ) (capacity : ℕ) (r : Result ⊤ EncoderError)
+    → IsReached s → length written < 2 ^ 63 → SetsCapacity capacity s.encoder encoder s.encoder_stream written r
+    → Follows s (with_encoder s encoder written) (spec.ChangeCapacity capacity) (outcome.CapacitySet r)
+sets_capacity s encoder written capacity (Ok done) at small h v shows = sets s encoder written capacity v at small
+    shows h
+sets_capacity s encoder written capacity (Err Memory) at small h v shows =
+    wants_memory s encoder written capacity v at shows h
+sets_capacity s encoder written capacity (Err e) at small h v shows =
+    refuses_capacity s encoder written capacity e v (λ refusal told_so. (refusal, refl, told_so)) at shows h
 
 -- ---- a block that is decoded
 
@@ -308,7 +320,7 @@ decodes s streams number bytes d at is found read changes v shows =
       moves = sym (ap (λ (x : Reading). if is_read (Some x) then with_decoded v number else v) reads);
     }))
     (record {
-      sent = fits.sent;
+      encoder_stream = fits.encoder_stream;
       blocks = fits_changed s.streams streams number _
           (fits.blocks number) changes fits.blocks;
     })

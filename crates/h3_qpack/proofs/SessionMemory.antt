@@ -49,11 +49,11 @@ left_is bytes front rest left position cut same counts =
     same ∙ sym (drop-append_seam front rest) ∙ ap (drop (length front)) (sym cut)
     ∙ ap (λ (n : ℕ). drop n bytes) (sym many)
 
-module _ (s : SessionView) (new : DecoderView) (count delivered position : ℕ) (told bytes left : List ℕ)
+module _ (s : SessionView) (new : DecoderView) (count delivered position : ℕ) (written bytes left : List ℕ)
     (o : Offers s.encoder_stream bytes left s.encoder_stream_taken s.encoder_stream_delivered count delivered position)
   where
     abbrev after : SessionView
-    after = decoder_moved s new delivered (s.encoder_stream_taken + position) told
+    after = decoder_moved s new delivered (s.encoder_stream_taken + position) written
 
     -- what is left is what is still to be taken
     to_take : (front rest : List ℕ) → bytes ≡ front ++ rest → left ≡ rest
@@ -79,13 +79,13 @@ module _ (s : SessionView) (new : DecoderView) (count delivered position : ℕ) 
 
     delivery_wants : (front rest : List ℕ) (taking : Result ⊤ DecoderError) → bytes ≡ front ++ rest
         → EndsTaking new.table rest left taking
-        → EndsReceiving s.decoder new taking s.decoder_stream told (Err decoder.Memory) → AsksAtDecoder after
+        → EndsReceiving s.decoder new taking s.decoder_stream written (Err decoder.Memory) → AsksAtDecoder after
     delivery_wants front rest (Ok done) cut takes ends = inl (omega (arith, ends.1, ends.2))
     delivery_wants front rest (Err e) cut takes ends =
         instruction_asks front rest e cut takes (let same = ends.0 in cc)
 
     pub delivery_asks : (old : SessionView) (r : Result ℕ DecoderError) → IsReached s
-        → Receives s.decoder new bytes left s.decoder_stream told r
+        → Receives s.decoder new bytes left s.decoder_stream written r
         → IsAskedFor old after (spec.ToDecoder count) (outcome.Delivered r)
     delivery_asks old (Err decoder.Memory) at receives =
         delivery_wants receives.takes.front receives.takes.rest receives.taken receives.takes.cut receives.takes.ends

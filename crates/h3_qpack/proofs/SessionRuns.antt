@@ -29,9 +29,9 @@ answered_more (d ∷ es) (r ∷ os) (step ∷ steps) e o answer h kind answers =
 
 -- one event more
 pub performs_more : (old mid new : SessionView) (events more : List Event) (e : Event) (r : Outcome)
-    (before told behind : List Outcome) → PerformsAll old mid events before told → Follows mid new (event_of e) r
-    → more ≡ events ++ e ∷ [] → behind ≡ told ++ r ∷ [] → PerformsAll old new more before behind
-performs_more old mid new events more e r before told behind p follows whole wrote = (
+    (before answers behind : List Outcome) → PerformsAll old mid events before answers → Follows mid new (event_of e) r
+    → more ≡ events ++ e ∷ [] → behind ≡ answers ++ r ∷ [] → PerformsAll old new more before behind
+performs_more old mid new events more e r before answers behind p follows whole wrote = (
   p.0 ++ r ∷ [],
   wrote ∙ ap (λ (l : List Outcome). l ++ r ∷ []) p.1 ∙ append_assoc before p.0 (r ∷ []),
   λ v shows.

@@ -100,22 +100,22 @@ table_not_refused t u capacity (Some refusal) first small agreed refused =
 table_not_refused t u capacity None first small agreed refused = refused
 
 pub first_view_is : (capacity limit : ℕ) (encoder table limited made : Table) (decoder : DecoderView)
-    (told heard : List ℕ) (streams : List (ℕ × StoredStream)) → encoder ≡ limited
+    (to_decoder to_encoder : List ℕ) (streams : List (ℕ × StoredStream)) → encoder ≡ limited
     → limited ≡ record table { limit = limit }
     → table ≡ empty_table capacity (Some capacity) 0 → decoder ≡ record { table = made; unreported = 0 }
-    → made ≡ empty_table capacity (Some capacity) 0 → told ≡ [] → heard ≡ [] → streams ≡ []
+    → made ≡ empty_table capacity (Some capacity) 0 → to_decoder ≡ [] → to_encoder ≡ [] → streams ≡ []
     → (let s : SessionView =
     record {
       encoder = encoder;
       decoder = decoder;
-      encoder_stream = told;
+      encoder_stream = to_decoder;
       encoder_stream_delivered = 0;
       encoder_stream_taken = 0;
-      decoder_stream = heard;
+      decoder_stream = to_encoder;
       decoder_stream_delivered = 0;
       decoder_stream_taken = 0;
       streams = streams;
     } in s)
     ≡ first_view capacity limit
-first_view_is capacity limit encoder table limited made decoder told heard streams a b c d e f g h =
+first_view_is capacity limit encoder table limited made decoder to_decoder to_encoder streams a b c d e f g h =
     rw (a, b, c, d, e, f, g, h) refl

@@ -57,7 +57,7 @@ abbrev FitBlocks : List (ℕ × StoredStream) → Type 0
 FitBlocks streams = (number : ℕ) → AllByRecursion (λ b. length b.bytes < 2 ^ 63) (stream_at streams number).blocks
 
 pub record Fits (s : SessionView) : Type 0 where
-  pub sent : length s.encoder_stream < 2 ^ 63
+  pub encoder_stream : length s.encoder_stream < 2 ^ 63
   pub blocks : FitBlocks s.streams
 
 stored_fit : (bs : List KeptBlock) → AllByRecursion (λ b. length b.bytes < 2 ^ 63) bs
@@ -73,7 +73,7 @@ kept_fit (b ∷ bs) h = (h.0, kept_fit bs h.1)
 fits_shown : (s : SessionView) (v : Session) → Shows s v → FitsMemory v → Fits s
 fits_shown s v shows fits =
     record {
-      sent = subst (λ (l : List ℕ). length l < 2 ^ 63) shows.encoder_stream fits.sent_fits;
+      encoder_stream = subst (λ (l : List ℕ). length l < 2 ^ 63) shows.encoder_stream fits.encoder_stream_fits;
       blocks = λ number.
           subst (λ (k : StoredStream). AllByRecursion (λ b. length b.bytes < 2 ^ 63) k.blocks)
           (sym (shows.streams number)) (stored_fit (stream_at v.streams number).blocks (fits.blocks_fit number));
@@ -82,7 +82,7 @@ fits_shown s v shows fits =
 shown_fits : (s : SessionView) (v : Session) → Shows s v → Fits s → FitsMemory v
 shown_fits s v shows fits =
     record {
-      sent_fits = subst (λ (l : List ℕ). length l < 2 ^ 63) (sym shows.encoder_stream) fits.sent;
+      encoder_stream_fits = subst (λ (l : List ℕ). length l < 2 ^ 63) (sym shows.encoder_stream) fits.encoder_stream;
       blocks_fit = λ number.
           kept_fit (stream_at v.streams number).blocks
           (subst (λ (k : StoredStream). AllByRecursion (λ b. length b.bytes < 2 ^ 63) k.blocks)
@@ -94,7 +94,7 @@ run_fits v w [] fits r = subst (λ (u : Session). FitsMemory u) r fits
 run_fits v w (p ∷ ps) fits r = run_fits r.0 w ps r.1.fits r.2
 
 initial_fits : (capacity limit : ℕ) → FitsMemory (initial_session capacity limit)
-initial_fits capacity limit = record { sent_fits = omega arith; blocks_fit = λ number. tt }
+initial_fits capacity limit = record { encoder_stream_fits = omega arith; blocks_fit = λ number. tt }
 
 pub fits_reached : (s : SessionView) → IsReached s → Fits s
 fits_reached s at =

@@ -38,17 +38,17 @@ abbrev pub draft_of_field : Table → ℕ → Field → Draft
 draft_of_field t base f = handle_field base (draft_at t) f
 
 -- the table is the draft's, and exactly its lines and instructions were written
-pub record Adds (d : Draft) (new : Table) (lines_old lines_new told_old told_new : List ℕ) : Type 0 where
+pub record Adds (d : Draft) (new : Table) (lines_old lines_new written_old written_new : List ℕ) : Type 0 where
   pub table : new ≡ d.table
   pub lines : lines_new ≡ lines_old ++ written_lines d.lines
-  pub told : told_new ≡ told_old ++ written_encoder_instructions d.instructions
+  pub written : written_new ≡ written_old ++ written_encoder_instructions d.instructions
 
 -- memory was refused: but for what is referenced, the table is as before, and no instruction was written; or the table
 -- is the draft's, and exactly its instructions were written
 abbrev pub StopsAdding : Draft → Table → Table → List ℕ → List ℕ → Type 0
-StopsAdding d old new told_old told_new =
-    ((without_references new ≡ without_references old) × (told_new ≡ told_old))
-    ⊎ ((new ≡ d.table) × (told_new ≡ told_old ++ written_encoder_instructions d.instructions))
+StopsAdding d old new written_old written_new =
+    ((without_references new ≡ without_references old) × (written_new ≡ written_old))
+    ⊎ ((new ≡ d.table) × (written_new ≡ written_old ++ written_encoder_instructions d.instructions))
 
 -- what fields make of it, one after the other
 abbrev pub draft_of_fields : Table → ℕ → List Field → Draft
@@ -56,48 +56,49 @@ draft_of_fields t base fs = handle_fields base (draft_at t) fs
 
 -- memory was refused behind some of the fields: but for what is referenced, the table is as behind them, and exactly
 -- their instructions were written
-pub record StopsAmong (fields : List Field) (old : Table) (base : ℕ) (new : Table) (told_old told_new : List ℕ) : Type 0
+pub record StopsAmong (fields : List Field) (old : Table) (base : ℕ) (new : Table) (written_old written_new : List ℕ) :
+    Type 0
   where
     pub many : ℕ
     pub table : without_references new ≡ without_references (draft_of_fields old base (take many fields)).table
-    pub told : told_new
-        ≡ told_old ++ written_encoder_instructions (draft_of_fields old base (take many fields)).instructions
+    pub written : written_new
+        ≡ written_old ++ written_encoder_instructions (draft_of_fields old base (take many fields)).instructions
 
 -- ---- a block
 
 -- the block of the fields was written, and is not ended: its bytes and its instructions are the rule's, the table is
 -- the rule's behind its lines, and what is answered is its required insert count
-pub record DraftsBlock (fields : List Field) (old new : Table) (block_old block_new told_old told_new : List ℕ)
+pub record DraftsBlock (fields : List Field) (old new : Table) (block_old block_new written_old written_new : List ℕ)
     (required : ℕ) : Type 0 where
   pub required_is : required ≡ required_insert_count (rule old fields)
   pub table : new ≡ (rule old fields).table
   pub block : block_new ≡ block_old ++ written_block (block_of old (rule old fields))
-  pub told : told_new ≡ told_old ++ written_encoder_instructions (rule old fields).instructions
+  pub written : written_new ≡ written_old ++ written_encoder_instructions (rule old fields).instructions
 
 -- the block of the fields was written: its bytes and its instructions are the rule's, the table is the rule's behind
 -- the block, and what is answered is its required insert count
-pub record EncodesBlock (stream : ℕ) (fields : List Field) (old new : Table) (block_old block_new told_old
-    told_new : List ℕ) (required : ℕ) : Type 0 where
+pub record EncodesBlock (stream : ℕ) (fields : List Field) (old new : Table) (block_old block_new written_old
+    written_new : List ℕ) (required : ℕ) : Type 0 where
   pub required_is : required ≡ required_insert_count (rule old fields)
   pub table : new ≡ committed_table (rule old fields) stream
   pub block : block_new ≡ block_old ++ written_block (block_of old (rule old fields))
-  pub told : told_new ≡ told_old ++ written_encoder_instructions (rule old fields).instructions
+  pub written : written_new ≡ written_old ++ written_encoder_instructions (rule old fields).instructions
 
 -- the block was given up behind some of the fields: their insertions stand and were written, and nothing is referenced
-pub record GivesUpBlock (fields : List Field) (old new : Table) (told_old told_new : List ℕ) : Type 0 where
+pub record GivesUpBlock (fields : List Field) (old new : Table) (written_old written_new : List ℕ) : Type 0 where
   pub many : ℕ
   pub table : new ≡ without_references (rule old (take many fields)).table
-  pub told : told_new ≡ told_old ++ written_encoder_instructions (rule old (take many fields)).instructions
+  pub written : written_new ≡ written_old ++ written_encoder_instructions (rule old (take many fields)).instructions
 
 -- memory was refused: before the fields were gathered, and then nothing was inserted; or behind some of the fields
 abbrev pub StopsEncodingOf : {S H : Type 0} → (H → Field) → (S → Option H → S → Type 0) → S → Table → Table → List ℕ
     → List ℕ → Type 0
-StopsEncodingOf field steps it old new told_old told_new =
-    GivesUpBlock [] old new told_old told_new
-    ⊎ DrainsFieldsOf field steps it (λ fs. GivesUpBlock fs old new told_old told_new)
+StopsEncodingOf field steps it old new written_old written_new =
+    GivesUpBlock [] old new written_old written_new
+    ⊎ DrainsFieldsOf field steps it (λ fs. GivesUpBlock fs old new written_old written_new)
 
 -- the same of references to fields
 abbrev pub StopsEncoding : {S : Type 0} → (S → Option (Bor HeaderField) → S → Type 0) → S → Table → Table → List ℕ
     → List ℕ → Type 0
-StopsEncoding steps it old new told_old told_new =
-    StopsEncodingOf (λ field. field_of field.now) steps it old new told_old told_new
+StopsEncoding steps it old new written_old written_new =
+    StopsEncodingOf (λ field. field_of field.now) steps it old new written_old written_new

@@ -64,8 +64,8 @@ Hears old new bytes left r =
 -- the capacity is set and its instruction written; or it is refused, by the table as the definition refuses it or for
 -- memory, and then nothing changes and nothing is written
 abbrev pub SetsCapacity : ℕ → Table → Table → List ℕ → List ℕ → Result ⊤ EncoderError → Type 0
-SetsCapacity size old new told_old told_new (Ok done) =
-    (with_capacity old size ≡ Ok new) × (told_new ≡ told_old ++ written_encoder_instruction (SetCapacity size))
-SetsCapacity size old new told_old told_new (Err Memory) = (new ≡ old) × (told_new ≡ told_old)
-SetsCapacity size old new told_old told_new (Err e) =
-    IsRefusedFor (with_capacity old size) (refusal_of e) × (new ≡ old) × (told_new ≡ told_old)
+SetsCapacity size old new written_old written_new (Ok done) =
+    (with_capacity old size ≡ Ok new) × (written_new ≡ written_old ++ written_encoder_instruction (SetCapacity size))
+SetsCapacity size old new written_old written_new (Err Memory) = (new ≡ old) × (written_new ≡ written_old)
+SetsCapacity size old new written_old written_new (Err e) =
+    IsRefusedFor (with_capacity old size) (refusal_of e) × (new ≡ old) × (written_new ≡ written_old)

@@ -131,16 +131,17 @@ pub record Reports (many : ℕ) (old new : List ℕ) : Type 0 where
 -- were not, and the total is answered; or it is refused, writes nothing, and keeps them all to be reported
 abbrev pub EndsReceiving : DecoderView → DecoderView → Result ⊤ DecoderError → List ℕ → List ℕ → Result ℕ DecoderError
     → Type 0
-EndsReceiving old new (Ok done) told_old told_new (Ok total) =
-    (total ≡ insert_count new.table) × (new.unreported ≡ 0) × Reports (to_report old new.table) told_old told_new
-EndsReceiving old new (Ok done) told_old told_new (Err e) =
-    (e ≡ Memory) × (0 < to_report old new.table) × (new.unreported ≡ to_report old new.table) × (told_new ≡ told_old)
-EndsReceiving old new (Err e) told_old told_new r =
-    (r ≡ Err e) × (new.unreported ≡ to_report old new.table) × (told_new ≡ told_old)
+EndsReceiving old new (Ok done) written_old written_new (Ok total) =
+    (total ≡ insert_count new.table) × (new.unreported ≡ 0) × Reports (to_report old new.table) written_old written_new
+EndsReceiving old new (Ok done) written_old written_new (Err e) =
+    (e ≡ Memory) × (0 < to_report old new.table) × (new.unreported ≡ to_report old new.table)
+    × (written_new ≡ written_old)
+EndsReceiving old new (Err e) written_old written_new r =
+    (r ≡ Err e) × (new.unreported ≡ to_report old new.table) × (written_new ≡ written_old)
 
 -- bytes of the encoder stream are received, behind which these are left, and these are written for the decoder stream
-pub record Receives (old new : DecoderView) (bytes left told_old told_new : List ℕ) (r : Result ℕ DecoderError)
+pub record Receives (old new : DecoderView) (bytes left written_old written_new : List ℕ) (r : Result ℕ DecoderError)
     : Type 0 where
   pub taken : Result ⊤ DecoderError
   pub takes : TakesInstructions old.table new.table bytes left taken
-  pub ends : EndsReceiving old new taken told_old told_new r
+  pub ends : EndsReceiving old new taken written_old written_new r

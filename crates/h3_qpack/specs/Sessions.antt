@@ -103,24 +103,24 @@ cancellation_skip streams number = stored_skip number (stream_at streams number)
 -- ---- a block
 
 -- a block was written for a stream, as the encoder writes it; its bytes are kept with its required insert count
-pub record WritesBlock (number : ℕ) (fields : List Field) (encoder encoder' : Table) (told told' : List ℕ)
+pub record WritesBlock (number : ℕ) (fields : List Field) (encoder encoder' : Table) (written written' : List ℕ)
     (old new : StoredStream) (required : ℕ) : Type 0 where
   pub bytes : List ℕ
-  pub encodes : EncodesBlock number fields encoder encoder' [] bytes told told' required
+  pub encodes : EncodesBlock number fields encoder encoder' [] bytes written written' required
   pub keeps : new ≡ record old { blocks = old.blocks ++ record { bytes = bytes; required = required } ∷ [] }
   pub block_fits : length bytes < 2 ^ 63
-  pub told_fits : length told' < 2 ^ 63
+  pub written_fits : length written' < 2 ^ 63
 
 -- none was: nothing changed, or the block was given up behind some of the fields
-pub record GivesUp (fields : List Field) (encoder encoder' : Table) (told told' : List ℕ) : Type 0 where
-  pub gives_up : ((encoder' ≡ encoder) × (told' ≡ told)) ⊎ GivesUpBlock fields encoder encoder' told told'
-  pub told_fits : length told' < 2 ^ 63
+pub record GivesUp (fields : List Field) (encoder encoder' : Table) (written written' : List ℕ) : Type 0 where
+  pub gives_up : ((encoder' ≡ encoder) × (written' ≡ written)) ⊎ GivesUpBlock fields encoder encoder' written written'
+  pub written_fits : length written' < 2 ^ 63
 
 -- the same among the streams
-pub record WritesStream (number : ℕ) (fields : List Field) (encoder encoder' : Table) (told told' : List ℕ)
+pub record WritesStream (number : ℕ) (fields : List Field) (encoder encoder' : Table) (written written' : List ℕ)
     (old new : List (ℕ × StoredStream)) (required : ℕ) : Type 0 where
   pub stream : StoredStream
-  pub writes : WritesBlock number fields encoder encoder' told told' (stream_at old number) stream required
+  pub writes : WritesBlock number fields encoder encoder' written written' (stream_at old number) stream required
   pub changes : ChangesStream number stream old new
 
 -- ---- the session

@@ -70,9 +70,9 @@ abbrev code_test : ℕ → ℕ × ℕ → Bool
 code_test byte e =
     nat_le 1 e.0 && (nat_le e.0 30 && (nat_lt e.1 (2 ^ e.0) && bytes_eq (code_of byte) (bits_of e.0 e.1)))
 
-code_at_place : (es : List (ℕ × ℕ)) → passes_from code_test 256 0 es ≡ true → (byte : ℕ) → byte < 256
+code_at_position : (es : List (ℕ × ℕ)) → passes_from code_test 256 0 es ≡ true → (byte : ℕ) → byte < 256
     → IsCodeOf byte (slice_index_or es byte (0, 0))
-code_at_place es p byte h =
+code_at_position es p byte h =
     let e : ℕ × ℕ = slice_index_or es byte (0, 0) in
     let z : 0 + byte ≡ byte = omega arith in
     let code = bytes_eq (code_of byte) (bits_of e.0 e.1) in
@@ -88,4 +88,4 @@ code_at_place es p byte h =
     }
 
 pub codes_agree : (es : List (ℕ × ℕ)) → passes_from code_test 256 0 es ≡ true → AreCodes es
-codes_agree es p = record { at = code_at_place es p }
+codes_agree es p = record { at = code_at_position es p }

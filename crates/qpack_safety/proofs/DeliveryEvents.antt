@@ -9,7 +9,7 @@ use Rattle.qpack_spec.specs.Instruction.{EncoderInstruction, encoder_instruction
 use Rattle.qpack_spec.specs.Instruction.{RefusesEncoderInstruction, DecoderInstruction}
 use Rattle.qpack_spec.specs.Instruction.{decoder_instruction_form, SpellsDecoderInstruction, RefusesDecoderInstruction}
 use Rattle.qpack_spec.specs.Instruction.{written_decoder_instructions}
-use Rattle.qpack_spec.specs.Stream.{Joined}
+use Rattle.qpack_spec.specs.Stream.{SpellsAll}
 use Rattle.qpack_spec.specs.Window.{Window, TableRefusal, window_insert_count, apply}
 use Rattle.qpack_spec.specs.Table.{Table, table_of, insert_count, apply_encoder_instruction, apply_decoder_instruction}
 use Rattle.qpack_safety.specs.AbstractSession.{AbstractSession, after_steps}
@@ -34,10 +34,10 @@ use Rattle.qpack_safety.proofs.Shown.{decoder_instructions_joined, increments_wr
 use Rattle.qpack_safety.proofs.WritingEvents.{RefinesSome}
 
 -- how long a piece is, and where it ends
-pub piece_ends : (bytes front rest : List ℕ) (place most : ℕ) → drop place (take most bytes) ≡ front ++ rest
-    → place ≤ most → place ≤ length bytes → place + length front + length rest ≡ min most (length bytes)
-piece_ends bytes front rest place most e order within =
-    omega (arith, ap length e, length-drop place (take most bytes), length-take most bytes, length-append front rest)
+pub piece_ends : (bytes front rest : List ℕ) (position most : ℕ) → drop position (take most bytes) ≡ front ++ rest
+    → position ≤ most → position ≤ length bytes → position + length front + length rest ≡ min most (length bytes)
+piece_ends bytes front rest position most e order within =
+    omega (arith, ap length e, length-drop position (take most bytes), length-take most bytes, length-append front rest)
 
 -- ---- to the decoder
 
@@ -49,7 +49,7 @@ pub record Moved (capacity limit : ℕ) (v : Session) (w : AbstractSession) (n :
   pub took : Took w (after_steps (taking_all lines) w) lines on.still
   pub keeps : Invariant capacity limit (after_steps (taking_all lines) w)
   pub table_is : table ≡ table_of (after_steps (taking_all lines) w).decoder
-  pub place : v.encoder_stream_taken + length front + length rest
+  pub position : v.encoder_stream_taken + length front + length rest
       ≡ min (v.encoder_stream_delivered + n) (length v.encoder_stream)
   pub unreported_is : unreported_after v table ≡ (after_steps (taking_all lines) w).unreported
 
@@ -60,7 +60,8 @@ moved capacity limit v w n o v' sh k c =
     let on =
     carried_on SpellsEncoderInstruction (wire encoder_instruction_form) v.encoder_stream v.encoder_stream_taken
     (v.encoder_stream_delivered + n) w.taken
-    w.in_flight c.takes.lines c.takes.front c.takes.rest sh.encoder_stream (omega (arith, sh.sent_order)) c.takes.cut
+    w.in_flight c.takes.lines c.takes.front c.takes.rest sh.encoder_stream (omega (arith, sh.encoder_stream_order))
+    c.takes.cut
     c.takes.joined in
     let t : Took w (after_steps (taking_all c.takes.lines) w) c.takes.lines on.still =
     takes_lines capacity limit w c.takes.lines on.still k on.goes_on in
@@ -76,9 +77,9 @@ moved capacity limit v w n o v' sh k c =
       took = t;
       keeps = inv_run capacity limit (taking_all c.takes.lines) w k;
       table_is = table_is;
-      place = piece_ends v.encoder_stream c.takes.front c.takes.rest v.encoder_stream_taken
+      position = piece_ends v.encoder_stream c.takes.front c.takes.rest v.encoder_stream_taken
           (v.encoder_stream_delivered + n) c.takes.cut
-          (omega (arith, sh.sent_order))
+          (omega (arith, sh.encoder_stream_order))
           (omega (
             arith,
             sh.encoder_stream.ends,
@@ -105,10 +106,10 @@ moved_shown capacity limit v w n lines front rest table sh m =
       decoder_is = m.table_is;
       unreported_is = m.unreported_is;
       encoder_stream = rw (t.t_taken, t.t_in_flight) m.on.carried;
-      sent_order = omega (arith, m.place);
-      heard_lines = sh.heard_lines;
+      encoder_stream_order = omega (arith, m.position);
+      decoder_taken = sh.decoder_taken;
       decoder_stream = rw t.t_decoder_instructions sh.decoder_stream;
-      told_order = sh.told_order;
+      decoder_stream_order = sh.decoder_stream_order;
       streams_are = λ s. rw (same, t.t_streams) (sh.streams_are s);
     }
 
@@ -124,7 +125,7 @@ no_bad_bytes capacity limit v w n lines front rest table fault m b =
 
 -- what stands at the front of bytes that are lines is the first of them
 first_line : {L : Type 0} (form_of : ℕ → Option (Form L)) (still : List L) (rest more encoding behind : List ℕ) (l : L)
-    → Joined (λ t x. Spells L form_of t x) (rest ++ more) still → rest ≡ encoding ++ behind
+    → SpellsAll (λ t x. Spells L form_of t x) (rest ++ more) still → rest ≡ encoding ++ behind
     → Spells L form_of encoding l
     → (others : List L) × (still ≡ l ∷ others)
 first_line form_of [] rest more encoding behind l j e s = let q =
@@ -175,14 +176,14 @@ lands_delivered capacity limit v w n o v' sh k c = go (moved capacity limit v w 
             decoder_is = shown.decoder_is;
             unreported_is = refl;
             encoder_stream = shown.encoder_stream;
-            sent_order = shown.sent_order;
-            heard_lines = shown.heard_lines;
+            encoder_stream_order = shown.encoder_stream_order;
+            decoder_taken = shown.decoder_taken;
             decoder_stream =
                 carried_more SpellsDecoderInstruction v.decoder_stream
-                (written_decoder_instructions (increments pieces)) v.decoder_stream_taken shown.heard_lines
+                (written_decoder_instructions (increments pieces)) v.decoder_stream_taken shown.decoder_taken
                 w1.decoder_in_flight (increments pieces) shown.decoder_stream
                 (decoder_instructions_joined (increments pieces) (increments_writable pieces sizes));
-            told_order = shown.told_order;
+            decoder_stream_order = shown.decoder_stream_order;
             streams_are = shown.streams_are;
           };
           keeps = inv_reported capacity limit w1 pieces (sum ∙ m.unreported_is) m.keeps;
@@ -224,17 +225,18 @@ record Reached (capacity limit : ℕ) (v : Session) (w : AbstractSession) (n : �
   pub listens : Listens w (after_steps (hearing_all lines) w) lines on.still
   pub keeps : Invariant capacity limit (after_steps (hearing_all lines) w)
   pub table_is : table ≡ (after_steps (hearing_all lines) w).encoder
-  pub place : v.decoder_stream_taken + length front + length rest
+  pub position : v.decoder_stream_taken + length front + length rest
       ≡ min (v.decoder_stream_delivered + n) (length v.decoder_stream)
 
 reached : (capacity limit : ℕ) (v : Session) (w : AbstractSession) (n : ℕ) (o : Outcome) (v' : Session)
     (sh : Refines v w) → Invariant capacity limit w → (c : DeliversToEncoder v n o v')
-    → Reached capacity limit v w n c.takes.lines c.takes.front c.takes.rest c.table sh.heard_lines
+    → Reached capacity limit v w n c.takes.lines c.takes.front c.takes.rest c.table sh.decoder_taken
 reached capacity limit v w n o v' sh k c =
     let on =
     carried_on SpellsDecoderInstruction (wire decoder_instruction_form) v.decoder_stream v.decoder_stream_taken
-    (v.decoder_stream_delivered + n) sh.heard_lines
-    w.decoder_in_flight c.takes.lines c.takes.front c.takes.rest sh.decoder_stream (omega (arith, sh.told_order))
+    (v.decoder_stream_delivered + n) sh.decoder_taken
+    w.decoder_in_flight c.takes.lines c.takes.front c.takes.rest sh.decoder_stream
+    (omega (arith, sh.decoder_stream_order))
     c.takes.cut c.takes.joined
     in
     let t : Listens w (after_steps (hearing_all c.takes.lines) w) c.takes.lines on.still =
@@ -246,9 +248,9 @@ reached capacity limit v w n o v' sh k c =
       table_is = ok_is _ _ (sym c.takes.applies ∙ ap (λ (x : Table). apply_decoder_instructions x c.takes.lines)
           sh.encoder_is
           ∙ t.l_encoder);
-      place = piece_ends v.decoder_stream c.takes.front c.takes.rest v.decoder_stream_taken
+      position = piece_ends v.decoder_stream c.takes.front c.takes.rest v.decoder_stream_taken
           (v.decoder_stream_delivered + n) c.takes.cut
-          (omega (arith, sh.told_order))
+          (omega (arith, sh.decoder_stream_order))
           (omega (
             arith,
             sh.decoder_stream.ends,
@@ -292,7 +294,7 @@ pub lands_heard : (capacity limit : ℕ) (v : Session) (w : AbstractSession) (n 
     → Refines v w → Invariant capacity limit w → DeliversToEncoder v n o v' → RefinesSome capacity limit v'
 lands_heard capacity limit v w n o v' sh k c = go (reached capacity limit v w n o v' sh k c) c.takes.ends
   where
-    shown : Reached capacity limit v w n c.takes.lines c.takes.front c.takes.rest c.table sh.heard_lines
+    shown : Reached capacity limit v w n c.takes.lines c.takes.front c.takes.rest c.table sh.decoder_taken
         → Refines (with_encoder_moved v n c.table (length c.takes.front)) (after_steps (hearing_all c.takes.lines) w)
     shown m =
         let t = m.listens in
@@ -301,25 +303,25 @@ lands_heard capacity limit v w n o v' sh k c = go (reached capacity limit v w n 
           decoder_is = sh.decoder_is ∙ ap table_of (sym t.l_decoder);
           unreported_is = sh.unreported_is ∙ sym t.l_unreported;
           encoder_stream = rw (t.l_taken, t.l_in_flight) sh.encoder_stream;
-          sent_order = sh.sent_order;
-          heard_lines = sh.heard_lines ++ c.takes.lines;
+          encoder_stream_order = sh.encoder_stream_order;
+          decoder_taken = sh.decoder_taken ++ c.takes.lines;
           decoder_stream = rw t.l_decoder_instructions m.on.carried;
-          told_order = omega (arith, m.place);
+          decoder_stream_order = omega (arith, m.position);
           streams_are = λ s. rw (t.l_taken, t.l_in_flight, t.l_streams) (sh.streams_are s);
         }
 
-    go : Reached capacity limit v w n c.takes.lines c.takes.front c.takes.rest c.table sh.heard_lines
+    go : Reached capacity limit v w n c.takes.lines c.takes.front c.takes.rest c.table sh.decoder_taken
         → EndsAtEncoder v n c.table c.takes.front c.takes.rest o v' → RefinesSome capacity limit v'
     go m (takes_all_at_encoder cut is goes) =
         subst (RefinesSome capacity limit) (sym goes)
         (record { abstract = after_steps (hearing_all c.takes.lines) w; refines = shown m; keeps = m.keeps })
     go m (bad_bytes_at_encoder fault b is goes) =
         absurd (no_bad_decoder_instruction_bytes capacity limit v w n c.takes.lines c.takes.front c.takes.rest c.table
-        sh.heard_lines
+        sh.decoder_taken
         fault m b)
     go m (bad_decoder_instruction encoding more r e cut s bad is goes) =
         absurd (no_bad_decoder_instruction capacity limit v w n c.takes.lines c.takes.front c.takes.rest c.table
-        sh.heard_lines encoding
+        sh.decoder_taken encoding
         more r e m cut s
         bad)
 
@@ -328,13 +330,14 @@ pub heard_lawful : (capacity limit : ℕ) (v : Session) (w : AbstractSession) (n
 heard_lawful capacity limit v w n fault v' sh k c = go (reached capacity limit v w n (Refused fault) v' sh k c)
     c.takes.ends
   where
-    go : Reached capacity limit v w n c.takes.lines c.takes.front c.takes.rest c.table sh.heard_lines
+    go : Reached capacity limit v w n c.takes.lines c.takes.front c.takes.rest c.table sh.decoder_taken
         → EndsAtEncoder v n c.table c.takes.front c.takes.rest (Refused fault) v' → ⊥
     go m (takes_all_at_encoder cut is goes) = absurd cc
     go m (bad_bytes_at_encoder f b is goes) =
         no_bad_decoder_instruction_bytes capacity limit v w n c.takes.lines c.takes.front c.takes.rest c.table
-        sh.heard_lines f m b
+        sh.decoder_taken f m b
     go m (bad_decoder_instruction encoding more r e cut s bad is goes) =
-        no_bad_decoder_instruction capacity limit v w n c.takes.lines c.takes.front c.takes.rest c.table sh.heard_lines
+        no_bad_decoder_instruction capacity limit v w n c.takes.lines c.takes.front c.takes.rest c.table
+        sh.decoder_taken
         encoding more r e
         m cut s bad

@@ -30,41 +30,51 @@ extends_none xs = ([], sym (append-nil xs))
 
 -- more is written, and nothing moves
 record Writes (v v' : Session) (encoder_stream decoder_stream : List ℕ) : Type 0 where
-  pub sent_is : v'.encoder_stream ≡ v.encoder_stream ++ encoder_stream
-  pub told_is : v'.decoder_stream ≡ v.decoder_stream ++ decoder_stream
-  pub sent_taken_is : v'.encoder_stream_taken ≡ v.encoder_stream_taken
-  pub sent_delivered_is : v'.encoder_stream_delivered ≡ v.encoder_stream_delivered
-  pub told_taken_is : v'.decoder_stream_taken ≡ v.decoder_stream_taken
-  pub told_delivered_is : v'.decoder_stream_delivered ≡ v.decoder_stream_delivered
+  pub encoder_stream_is : v'.encoder_stream ≡ v.encoder_stream ++ encoder_stream
+  pub decoder_stream_is : v'.decoder_stream ≡ v.decoder_stream ++ decoder_stream
+  pub encoder_stream_taken_is : v'.encoder_stream_taken ≡ v.encoder_stream_taken
+  pub encoder_stream_delivered_is : v'.encoder_stream_delivered ≡ v.encoder_stream_delivered
+  pub decoder_stream_taken_is : v'.decoder_stream_taken ≡ v.decoder_stream_taken
+  pub decoder_stream_delivered_is : v'.decoder_stream_delivered ≡ v.decoder_stream_delivered
 
 writes_moves : (v v' : Session) (encoder_stream decoder_stream : List ℕ) → IsOrdered v
     → Writes v v' encoder_stream decoder_stream → Moves v v'
 writes_moves v v' encoder_stream decoder_stream o w =
     record {
-      encoder_stream = (encoder_stream, w.sent_is);
-      decoder_stream = (decoder_stream, w.told_is);
-      encoder_stream_taken = omega (arith, w.sent_taken_is);
-      encoder_stream_delivered = omega (arith, w.sent_delivered_is);
-      decoder_stream_taken = omega (arith, w.told_taken_is);
-      decoder_stream_delivered = omega (arith, w.told_delivered_is);
+      encoder_stream = (encoder_stream, w.encoder_stream_is);
+      decoder_stream = (decoder_stream, w.decoder_stream_is);
+      encoder_stream_taken = omega (arith, w.encoder_stream_taken_is);
+      encoder_stream_delivered = omega (arith, w.encoder_stream_delivered_is);
+      decoder_stream_taken = omega (arith, w.decoder_stream_taken_is);
+      decoder_stream_delivered = omega (arith, w.decoder_stream_delivered_is);
       ordered = record {
-        encoder_stream_taken = omega (arith, o.encoder_stream_taken, w.sent_taken_is, w.sent_delivered_is);
+        encoder_stream_taken = omega (
+          arith,
+          o.encoder_stream_taken,
+          w.encoder_stream_taken_is,
+          w.encoder_stream_delivered_is,
+        );
         encoder_stream_delivered =
             omega (
               arith,
               o.encoder_stream_delivered,
-              w.sent_delivered_is,
-              ap length w.sent_is,
+              w.encoder_stream_delivered_is,
+              ap length w.encoder_stream_is,
               length-append
                   v.encoder_stream encoder_stream,
             );
-        decoder_stream_taken = omega (arith, o.decoder_stream_taken, w.told_taken_is, w.told_delivered_is);
+        decoder_stream_taken = omega (
+          arith,
+          o.decoder_stream_taken,
+          w.decoder_stream_taken_is,
+          w.decoder_stream_delivered_is,
+        );
         decoder_stream_delivered =
             omega (
               arith,
               o.decoder_stream_delivered,
-              w.told_delivered_is,
-              ap length w.told_is,
+              w.decoder_stream_delivered_is,
+              ap length w.decoder_stream_is,
               length-append
                   v.decoder_stream decoder_stream,
             );
@@ -76,12 +86,12 @@ stays_ordered : (v v' : Session) → IsOrdered v → v' ≡ v → Moves v v'
 stays_ordered v v' o e =
     subst (Moves v) (sym e) (writes_moves v v [] [] o
     (record {
-      sent_is = sym (append-nil v.encoder_stream);
-      told_is = sym (append-nil v.decoder_stream);
-      sent_taken_is = refl;
-      sent_delivered_is = refl;
-      told_taken_is = refl;
-      told_delivered_is = refl;
+      encoder_stream_is = sym (append-nil v.encoder_stream);
+      decoder_stream_is = sym (append-nil v.decoder_stream);
+      encoder_stream_taken_is = refl;
+      encoder_stream_delivered_is = refl;
+      decoder_stream_taken_is = refl;
+      decoder_stream_delivered_is = refl;
     }))
 
 -- the decoder is delivered bytes
@@ -121,18 +131,18 @@ delivery_moves : (v : Session) (n : ℕ) (t : Table) (front rest : List ℕ) (o 
     → v.encoder_stream_taken + length front + length rest
     ≡ min (v.encoder_stream_delivered + n) (length v.encoder_stream)
     → EndsAtDecoder v n t front rest o v' → Moves v v'
-delivery_moves v n t front rest o v' d place (takes_all pieces cut sizes sum is goes) =
-    subst (Moves v) (sym goes) (delivers_moves v n t (length front) 0 _ d (omega (arith, place)))
-delivery_moves v n t front rest o v' d place (no_memory is goes) =
-    subst (Moves v) (sym goes) (delivery_quiet v n t (length front) _ d (omega (arith, place)))
-delivery_moves v n t front rest o v' d place (bad_bytes fault b is goes) =
-    subst (Moves v) (sym goes) (delivery_quiet v n t (length front) _ d (omega (arith, place)))
-delivery_moves v n t front rest o v' d place (bad_instruction encoding more i e cut s bad is goes) =
+delivery_moves v n t front rest o v' d position (takes_all pieces cut sizes sum is goes) =
+    subst (Moves v) (sym goes) (delivers_moves v n t (length front) 0 _ d (omega (arith, position)))
+delivery_moves v n t front rest o v' d position (no_memory is goes) =
+    subst (Moves v) (sym goes) (delivery_quiet v n t (length front) _ d (omega (arith, position)))
+delivery_moves v n t front rest o v' d position (bad_bytes fault b is goes) =
+    subst (Moves v) (sym goes) (delivery_quiet v n t (length front) _ d (omega (arith, position)))
+delivery_moves v n t front rest o v' d position (bad_instruction encoding more i e cut s bad is goes) =
     let within =
     consumed_within (is_consumed e) (length front) (length encoding) (length more) (length rest) (ap length cut
     ∙ length-append encoding more) in
     subst (Moves v) (sym goes) (delivery_quiet v n t (length front + cond (is_consumed e) (length encoding) 0) _ d
-    (omega (arith, place, within)))
+    (omega (arith, position, within)))
 
 -- the encoder is delivered bytes
 hearing_one : (v : Session) (n : ℕ) (t : Table) (consumed : ℕ) → IsOrdered v
@@ -159,13 +169,13 @@ hearing_moves : (v : Session) (n : ℕ) (t : Table) (front rest : List ℕ) (o :
     → v.decoder_stream_taken + length front + length rest
     ≡ min (v.decoder_stream_delivered + n) (length v.decoder_stream)
     → EndsAtEncoder v n t front rest o v' → Moves v v'
-hearing_moves v n t front rest o v' d place (takes_all_at_encoder cut is goes) =
-    subst (Moves v) (sym goes) (hearing_one v n t (length front) d (omega (arith, place)))
-hearing_moves v n t front rest o v' d place (bad_bytes_at_encoder fault b is goes) =
-    subst (Moves v) (sym goes) (hearing_one v n t (length front) d (omega (arith, place)))
-hearing_moves v n t front rest o v' d place (bad_decoder_instruction encoding more r e cut s bad is goes) =
+hearing_moves v n t front rest o v' d position (takes_all_at_encoder cut is goes) =
+    subst (Moves v) (sym goes) (hearing_one v n t (length front) d (omega (arith, position)))
+hearing_moves v n t front rest o v' d position (bad_bytes_at_encoder fault b is goes) =
+    subst (Moves v) (sym goes) (hearing_one v n t (length front) d (omega (arith, position)))
+hearing_moves v n t front rest o v' d position (bad_decoder_instruction encoding more r e cut s bad is goes) =
     subst (Moves v) (sym goes) (hearing_one v n t (length front + length encoding) d
-    (omega (arith, place, ap length cut, length-append encoding more)))
+    (omega (arith, position, ap length cut, length-append encoding more)))
 
 -- a session that only wrote
 wrote : (v v' u : Session) (encoder_stream decoder_stream : List ℕ) → IsOrdered v → v' ≡ u
@@ -177,21 +187,21 @@ happens_moves : (v : Session) (e : Event) (o : Outcome) (v' : Session) → IsOrd
 unfolding LawfulStep
 happens_moves v (Encode t fs) o v' d (inl h) =
     wrote v v' _ _ [] d h.1 (record {
-      sent_is = refl;
-      told_is = sym (append-nil v.decoder_stream);
-      sent_taken_is = refl;
-      sent_delivered_is = refl;
-      told_taken_is = refl;
-      told_delivered_is = refl;
+      encoder_stream_is = refl;
+      decoder_stream_is = sym (append-nil v.decoder_stream);
+      encoder_stream_taken_is = refl;
+      encoder_stream_delivered_is = refl;
+      decoder_stream_taken_is = refl;
+      decoder_stream_delivered_is = refl;
     })
 happens_moves v (Encode t fs) o v' d (inr (inl h)) =
     wrote v v' _ _ [] d h.leads (record {
-      sent_is = refl;
-      told_is = sym (append-nil v.decoder_stream);
-      sent_taken_is = refl;
-      sent_delivered_is = refl;
-      told_taken_is = refl;
-      told_delivered_is = refl;
+      encoder_stream_is = refl;
+      decoder_stream_is = sym (append-nil v.decoder_stream);
+      encoder_stream_taken_is = refl;
+      encoder_stream_delivered_is = refl;
+      decoder_stream_taken_is = refl;
+      decoder_stream_delivered_is = refl;
     })
 happens_moves v (Encode t fs) o v' d (inr (inr h)) = stays_ordered v v' d h.1
 happens_moves v (Decode t) o v' d (inl h) =
@@ -201,12 +211,12 @@ happens_moves v (Decode t) o v' d (inl h) =
     both true =
         writes_moves v (with_decoded v t) [] [] d
         (record {
-          sent_is = sym (append-nil v.encoder_stream);
-          told_is = sym (append-nil v.decoder_stream);
-          sent_taken_is = refl;
-          sent_delivered_is = refl;
-          told_taken_is = refl;
-          told_delivered_is = refl;
+          encoder_stream_is = sym (append-nil v.encoder_stream);
+          decoder_stream_is = sym (append-nil v.decoder_stream);
+          encoder_stream_taken_is = refl;
+          encoder_stream_delivered_is = refl;
+          decoder_stream_taken_is = refl;
+          decoder_stream_delivered_is = refl;
         })
     both false = stays_ordered v v d refl
 happens_moves v (Decode t) o v' d (inr h) = stays_ordered v v' d h.1
@@ -224,32 +234,32 @@ happens_moves v (ToEncoder n) o v' d h =
     (omega (arith, d.decoder_stream_taken, d.decoder_stream_delivered))) h.takes.ends
 happens_moves v (Acknowledge t) o v' d (inl h) =
     wrote v v' _ [] _ d h.1 (record {
-      sent_is = sym (append-nil v.encoder_stream);
-      told_is = refl;
-      sent_taken_is = refl;
-      sent_delivered_is = refl;
-      told_taken_is = refl;
-      told_delivered_is = refl;
+      encoder_stream_is = sym (append-nil v.encoder_stream);
+      decoder_stream_is = refl;
+      encoder_stream_taken_is = refl;
+      encoder_stream_delivered_is = refl;
+      decoder_stream_taken_is = refl;
+      decoder_stream_delivered_is = refl;
     })
 happens_moves v (Acknowledge t) o v' d (inr h) = stays_ordered v v' d h.1
 happens_moves v (Cancel t) o v' d (inl h) =
     wrote v v' _ [] _ d h.1 (record {
-      sent_is = sym (append-nil v.encoder_stream);
-      told_is = refl;
-      sent_taken_is = refl;
-      sent_delivered_is = refl;
-      told_taken_is = refl;
-      told_delivered_is = refl;
+      encoder_stream_is = sym (append-nil v.encoder_stream);
+      decoder_stream_is = refl;
+      encoder_stream_taken_is = refl;
+      encoder_stream_delivered_is = refl;
+      decoder_stream_taken_is = refl;
+      decoder_stream_delivered_is = refl;
     })
 happens_moves v (Cancel t) o v' d (inr h) = stays_ordered v v' d h.1
 happens_moves v (ChangeCapacity n) o v' d (inl h) =
     wrote v v' _ _ [] d h.leads (record {
-      sent_is = refl;
-      told_is = sym (append-nil v.decoder_stream);
-      sent_taken_is = refl;
-      sent_delivered_is = refl;
-      told_taken_is = refl;
-      told_delivered_is = refl;
+      encoder_stream_is = refl;
+      decoder_stream_is = sym (append-nil v.decoder_stream);
+      encoder_stream_taken_is = refl;
+      encoder_stream_delivered_is = refl;
+      decoder_stream_taken_is = refl;
+      decoder_stream_delivered_is = refl;
     })
 happens_moves v (ChangeCapacity n) o v' d (inr (inl h)) = stays_ordered v v' d h.stays
 happens_moves v (ChangeCapacity n) o v' d (inr (inr h)) = stays_ordered v v' d h.1

@@ -154,7 +154,7 @@ in_accounts capacity limit v r =
     let many : insert_count v.decoder ≡ window_insert_count w.decoder = ap insert_count sh.decoder_is
     ∙ count_put w.decoder in
     record {
-      heard = sh.heard_lines;
+      taken = sh.decoder_taken;
       in_flight = w.decoder_in_flight;
       carried = sh.decoder_stream;
       adds_up =

@@ -9,7 +9,7 @@ use Rattle.std.proofs.lemmas.List.{append_assoc, append_cancel_left}
 use Rattle.qpack_spec.specs.Field.{Field}
 use Rattle.qpack_spec.specs.Form.{Truncates}
 use Rattle.qpack_spec.specs.Instruction.{EncoderInstruction, encoder_instruction_form, SpellsEncoderInstruction}
-use Rattle.qpack_spec.specs.Stream.{Joined, IsCutOff}
+use Rattle.qpack_spec.specs.Stream.{SpellsAll, IsCutOff}
 use Rattle.qpack_spec.specs.Window.{Window, window_insert_count}
 use Rattle.qpack_spec.specs.Reading.{Fault, Reading, Faulty, Fields, Missing, reading, fields_of, references_of}
 use Rattle.qpack_spec.specs.History.{History, whole_window, initial_history, Leads}
@@ -110,11 +110,11 @@ opened_lands capacity limit =
         unreported_is = refl;
         encoder_stream =
             record { front = []; rest = []; cut = refl; ends = refl; front_joined = refl; rest_joined = refl };
-        sent_order = lit≤ tt;
-        heard_lines = [];
+        encoder_stream_order = lit≤ tt;
+        decoder_taken = [];
         decoder_stream =
             record { front = []; rest = []; cut = refl; ends = refl; front_joined = refl; rest_joined = refl };
-        told_order = lit≤ tt;
+        decoder_stream_order = lit≤ tt;
         streams_are = λ s. record { blocks_are = tt; decoded_is = refl; acknowledged_is = refl; cancelled_is = refl };
       };
       keeps = inv_started capacity limit;
@@ -156,7 +156,7 @@ nothing_cut_off S W encoding more l e s = W.spells_some l
 
 -- of two fronts of the same bytes that are lines, the one of fewer lines is no longer
 fronts_order : {L : Type 0} (S : List ℕ → L → Type 0) (W : Wire L S) (ls ms : List L) (a b x y : List ℕ)
-    → Joined S a ls → Joined S b ms → a ++ x ≡ b ++ y → length ls ≤ length ms → length a ≤ length b
+    → SpellsAll S a ls → SpellsAll S b ms → a ++ x ≡ b ++ y → length ls ≤ length ms → length a ≤ length b
 fronts_order S W [] ms a b x y j k e le = omega (arith, ap length j)
 fronts_order S W (l ∷ ls) [] a b x y j k e le = absurd (omega arith)
 fronts_order S W (l ∷ ls) (m ∷ ms) a b x y j k e le =
@@ -169,16 +169,16 @@ fronts_order S W (l ∷ ls) (m ∷ ms) a b x y j k e le =
     omega (arith, rest, ap length j.2, ap length k.2, length-append j.0 j.1, length-append k.0 k.1, ap length same.0)
 
 -- instructions that end within what was taken were taken
-taken_within : (v : Session) (w : AbstractSession) (place many : ℕ) → Refines v w
-    → EndsAt v.encoder_stream (w.taken ++ w.in_flight) place many → place ≤ v.encoder_stream_taken → many
+taken_within : (v : Session) (w : AbstractSession) (position many : ℕ) → Refines v w
+    → EndsAt v.encoder_stream (w.taken ++ w.in_flight) position many → position ≤ v.encoder_stream_taken → many
     ≤ length w.taken
-taken_within v w place many sh e le =
+taken_within v w position many sh e le =
     let c = sh.encoder_stream in
     let same : e.front ++ e.rest ≡ c.front ++ ([] ++ c.rest) = sym e.cut ∙ c.cut in
     let r = reads_delivered SpellsEncoderInstruction
     (wire encoder_instruction_form) w.taken e.first [] c.front [] c.rest e.front
     e.rest c.front_joined (nothing_cut_off SpellsEncoderInstruction (wire encoder_instruction_form)) e.joined same
-    (omega (arith, le, e.place_is, c.ends)) in
+    (omega (arith, le, e.position_is, c.ends)) in
     omega (arith, r, e.many_is)
 
 -- ---- what the decoder reads
@@ -251,8 +251,8 @@ base_known capacity made encoder_stream b ok = pick (cases_lt 0 (required_count 
         )
 
 -- bytes that are lines are one list of them
-lines_same : (bytes : List ℕ) (ls ms : List EncoderInstruction) → Joined SpellsEncoderInstruction bytes ls
-    → Joined SpellsEncoderInstruction bytes ms → ls ≡ ms
+lines_same : (bytes : List ℕ) (ls ms : List EncoderInstruction) → SpellsAll SpellsEncoderInstruction bytes ls
+    → SpellsAll SpellsEncoderInstruction bytes ms → ls ≡ ms
 lines_same bytes ls ms j k =
     let W = wire encoder_instruction_form in
     (one_reading SpellsEncoderInstruction W ls ms bytes bytes [] [] j k (nothing_cut_off SpellsEncoderInstruction W)
@@ -260,16 +260,16 @@ lines_same bytes ls ms j k =
 
 pub means_handed : (capacity limit : ℕ) (v : Session) (w : AbstractSession) → Refines v w → Invariant capacity limit w
     → (instructions : List EncoderInstruction) (all : History)
-    → Joined SpellsEncoderInstruction v.encoder_stream instructions
+    → SpellsAll SpellsEncoderInstruction v.encoder_stream instructions
     → Leads (initial_history capacity) instructions all
-    → (s place : ℕ) (b : KeptBlock) → slice_get (stream_at v.streams s).blocks place ≡ Some b
+    → (s position : ℕ) (b : KeptBlock) → slice_get (stream_at v.streams s).blocks position ≡ Some b
     → meaning_over_all all b.bytes b.required ≡ Ok b.fields
-means_handed capacity limit v w sh k instructions all j l s place b there =
+means_handed capacity limit v w sh k instructions all j l s position b there =
     let found =
     agrees_get (RefinesBlock v.encoder_stream (w.taken ++ w.in_flight)) (stream_at v.streams s).blocks
-    (stream_at w.streams s).blocks place b (sh.streams_are s).blocks_are there in
+    (stream_at w.streams s).blocks position b (sh.streams_are s).blocks_are there in
     let ok : KeepsBlock capacity k.made (w.taken ++ w.in_flight) found.0 =
-    every_get (KeepsBlock capacity k.made (w.taken ++ w.in_flight)) (stream_at w.streams s).blocks place found.0
+    every_get (KeepsBlock capacity k.made (w.taken ++ w.in_flight)) (stream_at w.streams s).blocks position found.0
     found.1 (k.streams s).blocks in
     let lines : instructions ≡ w.taken ++ w.in_flight =
     lines_same v.encoder_stream instructions (w.taken ++ w.in_flight) j
@@ -318,12 +318,12 @@ delivers_whole capacity limit v w n received v' sh k c u x su more s position b 
         (w.taken ++ c.takes.lines) e.first [] carried.front
         c.takes.rest behind e.front e.rest carried.front_joined (λ encoding l i q y. (cut encoding l q).0 i y) e.joined
         same
-        (omega (arith, e.place_is, within, m.place, carried.ends)) in
+        (omega (arith, e.position_is, within, m.position, carried.ends)) in
         let short =
         fronts_order SpellsEncoderInstruction (wire encoder_instruction_form) e.first
         (w.taken ++ c.takes.lines) e.front carried.front
         e.rest (c.takes.rest ++ behind) e.joined carried.front_joined same few in
-        omega (arith, short, e.place_is, carried.ends)
+        omega (arith, short, e.position_is, carried.ends)
 
     go : Moved capacity limit v w n c.takes.lines c.takes.front c.takes.rest c.table
         → EndsAtDecoder v n c.table c.takes.front c.takes.rest (Delivered received) v' → b.end ≤ v'.encoder_stream_taken

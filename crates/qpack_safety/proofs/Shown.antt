@@ -10,7 +10,7 @@ use Rattle.qpack_spec.specs.Instruction.{EncoderInstruction, DecoderInstruction,
 use Rattle.qpack_spec.specs.Instruction.{SpellsDecoderInstruction, written_encoder_instruction}
 use Rattle.qpack_spec.specs.Instruction.{written_encoder_instructions, written_decoder_instruction}
 use Rattle.qpack_spec.specs.Instruction.{written_decoder_instructions}
-use Rattle.qpack_spec.specs.Stream.{Joined}
+use Rattle.qpack_spec.specs.Stream.{SpellsAll}
 use Rattle.qpack_spec.specs.Prefix.{prefix_for}
 use Rattle.qpack_spec.specs.WrittenLaws.{IsWritableEncoderInstruction, IsWritableDecoderInstruction, IsWritablePrefix}
 use Rattle.qpack_safety.specs.AbstractSession.{AbstractBlock, is_dynamic, AbstractStream}
@@ -34,7 +34,7 @@ agrees_push P [] (z ∷ ys) x y h k = absurd h
 agrees_push P (z ∷ xs) [] x y h k = absurd h
 agrees_push P (z ∷ xs) (u ∷ ys) x y h k = (h.0, agrees_push P xs ys x y h.1 k)
 
--- what stands at a place
+-- what stands at a position
 pub agrees_get : {X Y : Type 0} (P : X → Y → Type 0) (xs : List X) (ys : List Y) (i : ℕ) (x : X) → Agrees P xs ys
     → slice_get xs i ≡ Some x → (y : Y) × (slice_get ys i ≡ Some y) × P x y
 agrees_get P [] ys i x h e = absurd (cc)
@@ -44,15 +44,15 @@ agrees_get P (z ∷ xs) (u ∷ ys) (suc i) x h e = agrees_get P xs ys i x h.1 e
 
 -- ---- more is written
 
-ends_grow : (encoder_stream more : List ℕ) (lines behind : List EncoderInstruction) (place many : ℕ)
-    → EndsAt encoder_stream lines place many
-    → EndsAt (encoder_stream ++ more) (lines ++ behind) place many
-ends_grow encoder_stream more lines behind place many e =
+ends_grow : (encoder_stream more : List ℕ) (lines behind : List EncoderInstruction) (position many : ℕ)
+    → EndsAt encoder_stream lines position many
+    → EndsAt (encoder_stream ++ more) (lines ++ behind) position many
+ends_grow encoder_stream more lines behind position many e =
     record {
       front = e.front;
       rest = e.rest ++ more;
       cut = ap (λ b. b ++ more) e.cut ∙ append_assoc e.front e.rest more;
-      place_is = e.place_is;
+      position_is = e.position_is;
       first = e.first;
       others = e.others ++ behind;
       split = ap (λ l. l ++ behind) e.split ∙ append_assoc e.first e.others behind;
@@ -111,7 +111,7 @@ dynamic_many encoder_stream lines (suc n) (x ∷ xs) (y ∷ ys) h =
 -- ---- what is written is joined
 
 pub instructions_joined : (is : List EncoderInstruction) → AllByRecursion IsWritableEncoderInstruction is
-    → Joined SpellsEncoderInstruction (written_encoder_instructions is) is
+    → SpellsAll SpellsEncoderInstruction (written_encoder_instructions is) is
 unfolding written_encoder_instructions
 instructions_joined [] w = refl
 instructions_joined (i ∷ is) w = (
@@ -123,7 +123,7 @@ instructions_joined (i ∷ is) w = (
 )
 
 pub decoder_instructions_joined : (rs : List DecoderInstruction) → AllByRecursion IsWritableDecoderInstruction rs
-    → Joined SpellsDecoderInstruction (written_decoder_instructions rs) rs
+    → SpellsAll SpellsDecoderInstruction (written_decoder_instructions rs) rs
 unfolding written_decoder_instructions
 decoder_instructions_joined [] w = refl
 decoder_instructions_joined (r ∷ rs) w = (
@@ -135,7 +135,7 @@ decoder_instructions_joined (r ∷ rs) w = (
 )
 
 pub one_joined : {L : Type 0} (S : List ℕ → L → Type 0) (encoding : List ℕ) (l : L) → S encoding l
-    → Joined S encoding (l ∷ [])
+    → SpellsAll S encoding (l ∷ [])
 one_joined S encoding l s = (encoding, [], sym (Rattle.std.proofs.lemmas.List.append-nil encoding), s, refl)
 
 pub increments_writable : (ns : List ℕ) → AllByRecursion (λ n. (1 ≤ n) × (n ≤ 64)) ns

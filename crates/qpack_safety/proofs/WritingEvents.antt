@@ -11,7 +11,7 @@ use Rattle.qpack_spec.specs.Instruction.{EncoderInstruction, SetCapacity, Acknow
 use Rattle.qpack_spec.specs.Instruction.{SpellsEncoderInstruction}
 use Rattle.qpack_spec.specs.Instruction.{SpellsDecoderInstruction, written_encoder_instruction}
 use Rattle.qpack_spec.specs.Instruction.{written_encoder_instructions, written_decoder_instruction}
-use Rattle.qpack_spec.specs.Stream.{Joined, Carried}
+use Rattle.qpack_spec.specs.Stream.{SpellsAll, Carries}
 use Rattle.qpack_spec.specs.Window.{maximum_capacity, greatest_capacity, TableRefusal}
 use Rattle.qpack_spec.specs.Reading.{Block, greatest_of}
 use Rattle.qpack_spec.specs.Prefix.{written_prefix}
@@ -51,22 +51,22 @@ few_insertions capacity limit w k =
     let s = sound_made capacity limit w k in omega (arith, count_inserted w.encoder k.made k.encoder.shares s, s.few)
 
 -- all that is sent is the instructions written
-pub whole_sent : (encoder_stream : List ℕ) (place : ℕ) (taken in_flight : List EncoderInstruction)
-    → Carried EncoderInstruction SpellsEncoderInstruction encoder_stream place taken in_flight
-    → Joined SpellsEncoderInstruction encoder_stream (taken ++ in_flight)
-whole_sent encoder_stream place taken in_flight c =
-    subst (λ (b : List ℕ). Joined SpellsEncoderInstruction b (taken ++ in_flight)) (sym c.cut)
+pub whole_sent : (encoder_stream : List ℕ) (position : ℕ) (taken in_flight : List EncoderInstruction)
+    → Carries EncoderInstruction SpellsEncoderInstruction encoder_stream position taken in_flight
+    → SpellsAll SpellsEncoderInstruction encoder_stream (taken ++ in_flight)
+whole_sent encoder_stream position taken in_flight c =
+    subst (λ (b : List ℕ). SpellsAll SpellsEncoderInstruction b (taken ++ in_flight)) (sym c.cut)
     (joined_append SpellsEncoderInstruction c.front c.rest taken in_flight c.front_joined c.rest_joined)
 
 ends_here : (encoder_stream : List ℕ) (lines : List EncoderInstruction)
-    → Joined SpellsEncoderInstruction encoder_stream lines
+    → SpellsAll SpellsEncoderInstruction encoder_stream lines
     → EndsAt encoder_stream lines (length encoder_stream) (length lines)
 ends_here encoder_stream lines j =
     record {
       front = encoder_stream;
       rest = [];
       cut = sym (append-nil encoder_stream);
-      place_is = refl;
+      position_is = refl;
       first = lines;
       others = [];
       split = sym (append-nil lines);
@@ -130,7 +130,7 @@ block_fits v s fs f =
     } in
     let all : AllByRecursion (λ (x : KeptBlock). length x.bytes < 2 ^ 63)
     (stream_at ((s, record k { blocks = k.blocks ++ b ∷ [] }) ∷ v.streams) s).blocks = f.blocks_fit s in
-    (f.sent_fits, last_fits k.blocks b (own (nat_eq s s) (eq-eqb s s refl) all))
+    (f.encoder_stream_fits, last_fits k.blocks b (own (nat_eq s s) (eq-eqb s s refl) all))
   where
     own : (t : Bool) → t ≡ true → AllByRecursion (λ (x : KeptBlock). length x.bytes < 2 ^ 63)
         (cond t (record (stream_at v.streams s) {
@@ -212,10 +212,10 @@ encoded_shown capacity limit v w s fs sh k wr fits =
         decoder_is = sh.decoder_is;
         unreported_is = sh.unreported_is;
         encoder_stream = carried;
-        sent_order = sh.sent_order;
-        heard_lines = sh.heard_lines;
+        encoder_stream_order = sh.encoder_stream_order;
+        decoder_taken = sh.decoder_taken;
         decoder_stream = sh.decoder_stream;
-        told_order = sh.told_order;
+        decoder_stream_order = sh.decoder_stream_order;
         streams_are =
             λ q. shows_update (RefinesStream encoder_stream lines) (nat_eq s q) (stream_at v.streams q)
             (record kept { blocks = kept.blocks ++ b ∷ [] }) (stream_at w.streams q)
@@ -257,10 +257,10 @@ abandoned_shown capacity limit v w fs sh k wr fits =
             sh.encoder_stream (instructions_joined d.instructions
             (instructions_fit d.instructions wd.instructions
             (instructions_short v.encoder_stream d.instructions fits)));
-        sent_order = sh.sent_order;
-        heard_lines = sh.heard_lines;
+        encoder_stream_order = sh.encoder_stream_order;
+        decoder_taken = sh.decoder_taken;
         decoder_stream = sh.decoder_stream;
-        told_order = sh.told_order;
+        decoder_stream_order = sh.decoder_stream_order;
         streams_are =
             λ q. subst (λ (l : List EncoderInstruction). RefinesStream (v.encoder_stream ++ more) l
             (stream_at v.streams q)
@@ -278,7 +278,7 @@ lands_given_up capacity limit v w fs sh k wr f =
     let fits : length (v.encoder_stream ++ written_encoder_instructions (rule w.encoder fs).instructions) < 2 ^ 63 =
     subst (λ (t : Table). length (v.encoder_stream ++ written_encoder_instructions (rule t fs).instructions)
     < 2 ^ 63) sh.encoder_is
-    f.sent_fits in
+    f.encoder_stream_fits in
     subst (λ (t : Table). RefinesSome capacity limit (after_refused_encode (record v { encoder = t }) fs))
     (sym sh.encoder_is)
     (abandoned_shown capacity limit v w fs sh k wr fits)
@@ -320,10 +320,10 @@ lands_resized capacity limit v w n t sh k e =
             carried_more SpellsEncoderInstruction v.encoder_stream more v.encoder_stream_taken w.taken w.in_flight
             (SetCapacity n ∷ [])
             sh.encoder_stream spelled;
-        sent_order = sh.sent_order;
-        heard_lines = sh.heard_lines;
+        encoder_stream_order = sh.encoder_stream_order;
+        decoder_taken = sh.decoder_taken;
         decoder_stream = sh.decoder_stream;
-        told_order = sh.told_order;
+        decoder_stream_order = sh.decoder_stream_order;
         streams_are =
             λ q. subst (λ (l : List EncoderInstruction). RefinesStream (v.encoder_stream ++ more) l
             (stream_at v.streams q)
@@ -359,10 +359,10 @@ lands_decoded capacity limit v w s sh k =
         decoder_is = sh.decoder_is;
         unreported_is = sh.unreported_is;
         encoder_stream = sh.encoder_stream;
-        sent_order = sh.sent_order;
-        heard_lines = sh.heard_lines;
+        encoder_stream_order = sh.encoder_stream_order;
+        decoder_taken = sh.decoder_taken;
         decoder_stream = sh.decoder_stream;
-        told_order = sh.told_order;
+        decoder_stream_order = sh.decoder_stream_order;
         streams_are =
             λ q. shows_update (RefinesStream v.encoder_stream lines) (nat_eq s q) (stream_at v.streams q)
             (record kept { decoded = kept.decoded + 1 }) (stream_at w.streams q)
@@ -439,13 +439,13 @@ lands_acknowledged capacity limit v w s sh k ok =
         decoder_is = sh.decoder_is;
         unreported_is = sh.unreported_is;
         encoder_stream = sh.encoder_stream;
-        sent_order = sh.sent_order;
-        heard_lines = sh.heard_lines;
+        encoder_stream_order = sh.encoder_stream_order;
+        decoder_taken = sh.decoder_taken;
         decoder_stream =
-            carried_more SpellsDecoderInstruction v.decoder_stream more v.decoder_stream_taken sh.heard_lines
+            carried_more SpellsDecoderInstruction v.decoder_stream more v.decoder_stream_taken sh.decoder_taken
             w.decoder_in_flight
             (Acknowledgment s ∷ []) sh.decoder_stream spelled;
-        told_order = sh.told_order;
+        decoder_stream_order = sh.decoder_stream_order;
         streams_are =
             λ q. shows_update (RefinesStream v.encoder_stream lines) (nat_eq s q) (stream_at v.streams q)
             (record kept { acknowledged = kept.acknowledged + 1 }) (stream_at w.streams q)
@@ -488,13 +488,13 @@ lands_cancelled capacity limit v w s sh k small =
         decoder_is = sh.decoder_is;
         unreported_is = sh.unreported_is;
         encoder_stream = sh.encoder_stream;
-        sent_order = sh.sent_order;
-        heard_lines = sh.heard_lines;
+        encoder_stream_order = sh.encoder_stream_order;
+        decoder_taken = sh.decoder_taken;
         decoder_stream =
-            carried_more SpellsDecoderInstruction v.decoder_stream more v.decoder_stream_taken sh.heard_lines
+            carried_more SpellsDecoderInstruction v.decoder_stream more v.decoder_stream_taken sh.decoder_taken
             w.decoder_in_flight (Cancellation s ∷ [])
             sh.decoder_stream spelled;
-        told_order = sh.told_order;
+        decoder_stream_order = sh.decoder_stream_order;
         streams_are =
             λ q. shows_update (RefinesStream v.encoder_stream lines) (nat_eq s q) (stream_at v.streams q)
             (record kept { cancelled = true }) (stream_at w.streams q) (record st { cancelled = true }) new

@@ -2,7 +2,7 @@
 use Rattle.std.specs.Prelude.{◌≡◌, ℕ, ◌≤◌, List, [], ◌∷◌, ◌++◌, length}
 use Rattle.qpack_spec.specs.Instruction.{EncoderInstruction, DecoderInstruction, SpellsEncoderInstruction}
 use Rattle.qpack_spec.specs.Instruction.{SpellsDecoderInstruction}
-use Rattle.qpack_spec.specs.Stream.{Joined, Carried}
+use Rattle.qpack_spec.specs.Stream.{SpellsAll, Carries}
 use Rattle.qpack_spec.specs.BlockReading.{written_block}
 use Rattle.qpack_spec.specs.Table.{table_of}
 use Rattle.qpack_safety.specs.AbstractSession.{AbstractBlock, required_count, AbstractStream, AbstractSession}
@@ -17,16 +17,16 @@ Agrees P (x ∷ xs) [] = ⊥
 Agrees P (x ∷ xs) (y ∷ ys) = P x y × Agrees P xs ys
 
 -- so many first instructions end at a position of the bytes sent
-pub record EndsAt (encoder_stream : List ℕ) (instructions : List EncoderInstruction) (place many : ℕ) : Type 0 where
+pub record EndsAt (encoder_stream : List ℕ) (instructions : List EncoderInstruction) (position many : ℕ) : Type 0 where
   pub front : List ℕ
   pub rest : List ℕ
   pub cut : encoder_stream ≡ front ++ rest
-  pub place_is : length front ≡ place
+  pub position_is : length front ≡ position
   pub first : List EncoderInstruction
   pub others : List EncoderInstruction
   pub split : instructions ≡ first ++ others
   pub many_is : length first ≡ many
-  pub joined : Joined SpellsEncoderInstruction front first
+  pub joined : SpellsAll SpellsEncoderInstruction front first
 
 -- a block in bytes is the written one
 pub record RefinesBlock (encoder_stream : List ℕ) (instructions : List EncoderInstruction) (k : KeptBlock)
@@ -52,12 +52,12 @@ pub record Refines (v : Session) (w : AbstractSession) : Type 0 where
   pub encoder_is : v.encoder ≡ w.encoder
   pub decoder_is : v.decoder ≡ table_of w.decoder
   pub unreported_is : v.unreported ≡ w.unreported
-  pub encoder_stream : Carried EncoderInstruction SpellsEncoderInstruction v.encoder_stream v.encoder_stream_taken
+  pub encoder_stream : Carries EncoderInstruction SpellsEncoderInstruction v.encoder_stream v.encoder_stream_taken
       w.taken w.in_flight
-  pub sent_order : v.encoder_stream_taken ≤ v.encoder_stream_delivered
-  pub heard_lines : List DecoderInstruction
-  pub decoder_stream : Carried DecoderInstruction SpellsDecoderInstruction v.decoder_stream v.decoder_stream_taken
-      heard_lines w.decoder_in_flight
-  pub told_order : v.decoder_stream_taken ≤ v.decoder_stream_delivered
+  pub encoder_stream_order : v.encoder_stream_taken ≤ v.encoder_stream_delivered
+  pub decoder_taken : List DecoderInstruction
+  pub decoder_stream : Carries DecoderInstruction SpellsDecoderInstruction v.decoder_stream v.decoder_stream_taken
+      decoder_taken w.decoder_in_flight
+  pub decoder_stream_order : v.decoder_stream_taken ≤ v.decoder_stream_delivered
   pub streams_are : (s : ℕ) → RefinesStream v.encoder_stream (w.taken ++ w.in_flight) (stream_at v.streams s)
       (stream_at w.streams s)

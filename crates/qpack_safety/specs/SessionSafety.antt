@@ -6,7 +6,7 @@ use Rattle.std.specs.Prelude.{◌++◌, length, map, Option, Some, Ok, slice_get
 use Rattle.qpack_spec.specs.Field.{Field, total_size}
 use Rattle.qpack_spec.specs.Instruction.{EncoderInstruction, DecoderInstruction, SpellsEncoderInstruction}
 use Rattle.qpack_spec.specs.Instruction.{SpellsDecoderInstruction, written_encoder_instructions}
-use Rattle.qpack_spec.specs.Stream.{Joined, Carried}
+use Rattle.qpack_spec.specs.Stream.{SpellsAll, Carries}
 use Rattle.qpack_spec.specs.History.{History, initial_history, window_of, Leads}
 use Rattle.qpack_spec.specs.Reading.{Fields, Missing, references_of, greatest_of}
 use Rattle.qpack_spec.specs.BlockReading.{reading_of_bytes, meaning_over_all, written_block}
@@ -44,7 +44,7 @@ pub record Lockstep (capacity : ℕ) (v : Session) : Type 0 where
   pub in_flight : List EncoderInstruction
   pub received : History
   pub made : History
-  pub carried : Carried EncoderInstruction SpellsEncoderInstruction v.encoder_stream v.encoder_stream_taken taken
+  pub carried : Carries EncoderInstruction SpellsEncoderInstruction v.encoder_stream v.encoder_stream_taken taken
       in_flight
   pub taken_lead : Leads (initial_history capacity) taken received
   pub in_flight_lead : Leads received in_flight made
@@ -53,9 +53,9 @@ pub record Lockstep (capacity : ℕ) (v : Session) : Type 0 where
 
 -- every insertion received is reported and heard, reported and under way as an increment, or not reported yet
 pub record Accounts (v : Session) : Type 0 where
-  pub heard : List DecoderInstruction
+  pub taken : List DecoderInstruction
   pub in_flight : List DecoderInstruction
-  pub carried : Carried DecoderInstruction SpellsDecoderInstruction v.decoder_stream v.decoder_stream_taken heard
+  pub carried : Carries DecoderInstruction SpellsDecoderInstruction v.decoder_stream v.decoder_stream_taken taken
       in_flight
   pub adds_up : v.encoder.known_received_count + increment_sum in_flight + v.unreported ≡ insert_count v.decoder
 
@@ -181,7 +181,7 @@ pub record DecodesWhatWasHanded (capacity : ℕ) (events : List (Event × Outcom
       → b.required ≤ insert_count v.decoder
       → reading_of_bytes (window v.decoder) b.bytes ≡ Fields b.fields (nat_lt 0 b.required)
   pub meanings : (instructions : List EncoderInstruction) (all : History)
-      → Joined SpellsEncoderInstruction v.encoder_stream instructions
+      → SpellsAll SpellsEncoderInstruction v.encoder_stream instructions
       → Leads (initial_history capacity) instructions all
       → (s position : ℕ) (b : KeptBlock) → slice_get (stream_at v.streams s).blocks position ≡ Some b
       → meaning_over_all all b.bytes b.required ≡ Ok b.fields

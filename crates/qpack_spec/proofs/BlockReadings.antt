@@ -10,7 +10,7 @@ use Rattle.qpack_spec.specs.Integer.{IntegerFault, SpellsInteger, integer_at, wr
 use Rattle.qpack_spec.specs.Form.{FormFault, or_bad_integer, form_at}
 use Rattle.qpack_spec.specs.Line.{Line, line_form, SpellsLine, written_line, written_lines}
 use Rattle.qpack_spec.specs.WrittenLaws.{IsWritableLine, IsWritablePrefix, IsWritableBlock}
-use Rattle.qpack_spec.specs.Stream.{Joined}
+use Rattle.qpack_spec.specs.Stream.{SpellsAll}
 use Rattle.qpack_spec.specs.Prefix.{Prefix, PrefixFault, SpellsPrefix, sign_bit, written_prefix, prefix_at, read_prefix}
 use Rattle.qpack_spec.specs.Window.{Window, maximum_capacity, window_insert_count}
 use Rattle.qpack_spec.specs.History.{History, whole_window}
@@ -28,7 +28,7 @@ use Rattle.qpack_spec.proofs.WrittenForms.{lines_spelled, integer_written}
 
 -- ---- lines
 
-joined_written : (ls : List Line) → AllByRecursion IsWritableLine ls → Joined SpellsLine (written_lines ls) ls
+joined_written : (ls : List Line) → AllByRecursion IsWritableLine ls → SpellsAll SpellsLine (written_lines ls) ls
 unfolding written_lines
 joined_written [] w = refl
 joined_written (l ∷ ls) w = (written_line l, written_lines ls, refl, lines_spelled l w.0, joined_written ls w.1)
@@ -69,7 +69,7 @@ unfolding fields_of
 one_line w base l ls = refl
 
 -- the bytes of lines give what the lines mean
-fields_read : (steps : ℕ) (w : Window) (base : ℕ) (bytes : List ℕ) (ls : List Line) → Joined SpellsLine bytes ls
+fields_read : (steps : ℕ) (w : Window) (base : ℕ) (bytes : List ℕ) (ls : List Line) → SpellsAll SpellsLine bytes ls
     → length bytes ≤ steps → fields_at steps w base bytes ≡ fields_of w base ls
 fields_read steps w base bytes [] j h = ap (fields_at steps w base) j ∙ no_bytes steps w base ∙ sym (no_lines w base)
 fields_read zero w base bytes (l ∷ ls) j h = absurd (omega (arith, ap length j.2, spelled_length j.0 j.1 l j.3))
@@ -173,7 +173,7 @@ fields_found (suc steps) w base (b ∷ bytes) h =
 
 -- a front of lines that mean fields is read, and what is behind it
 front_read : (steps : ℕ) (w : Window) (base : ℕ) (front rest : List ℕ) (ls : List Line) (fs : List Field) (e : Fault)
-    → Joined SpellsLine front ls → fields_of w base ls ≡ Ok fs → length (front ++ rest) ≤ steps
+    → SpellsAll SpellsLine front ls → fields_of w base ls ≡ Ok fs → length (front ++ rest) ≤ steps
     → ((k : ℕ) → length rest ≤ k → fields_at k w base rest ≡ Err e) → fields_at steps w base (front ++ rest) ≡ Err e
 front_read steps w base front rest [] fs e j m h stop =
     ap (λ x. fields_at steps w base (x ++ rest)) j

@@ -95,7 +95,7 @@ least_base : (reading_of_bytes (window_with 4096 ((field (codes "foo") (codes "b
 unfolding rows
 least_base = refl
 
--- a place above the window
+-- a position above the window
 above_window : (reading_of_bytes (window_with 4096 ((field (codes "a") (codes "1")) ∷ (field (codes "b") (codes "2"))
     ∷ [])) (2 ∷ 9 ∷ 128 ∷ [])) ≡ Faulty (AboveWindow 9)
 unfolding rows

@@ -1,4 +1,4 @@
--- The code, computed once: each byte's code is read as that byte, and each place of the code has the code that its
+-- The code, computed once: each byte's code is read as that byte, and each position of the code has the code that its
 -- length and rank say.
 use Rattle.std.proofs.Common.{◌≡◌, ℕ, zero, suc, ◌+◌, ◌*◌, ◌<◌, Bool, true, false, List, [], ◌∷◌, ◌++◌, Result, Ok, Err}
 use Rattle.std.proofs.Common.{refl, arith}

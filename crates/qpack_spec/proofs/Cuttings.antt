@@ -5,7 +5,7 @@ use Rattle.std.proofs.lemmas.List.{append_assoc, append_cancel_left, drop_at, ta
 use Rattle.std.proofs.lemmas.List.{length-take}
 use Rattle.qpack_spec.specs.Form.{FormFault, Form, Spells, Refuses, form_at}
 use Rattle.qpack_spec.specs.StreamLaws.{StreamsHaveOneReading, PiecesHoldFronts, PiecesAreNeverRefused}
-use Rattle.qpack_spec.specs.Stream.{Joined, IsCutOff, Carried}
+use Rattle.qpack_spec.specs.Stream.{SpellsAll, IsCutOff, Carries}
 use Rattle.qpack_spec.proofs.Results.{ok_pair}
 use Rattle.qpack_spec.proofs.FormLaws.{form_again, form_refused, no_form_begins}
 use Rattle.qpack_spec.proofs.Lists.{front_of}
@@ -40,17 +40,17 @@ nil_append (x ∷ xs) ys h = absurd (cc)
 record Read (L : Type 0) (S : List ℕ → L → Type 0) (lines in_flight : List L) (rest more : List ℕ) : Type 0 where
   pub still : List L
   pub goes_on : in_flight ≡ lines ++ still
-  pub left : Joined S (rest ++ more) still
+  pub left : SpellsAll S (rest ++ more) still
 
 reads_front : {L : Type 0} (S : List ℕ → L → Type 0) (W : Wire L S) (lines in_flight : List L)
     (front rest more : List ℕ)
-    → Joined S front lines → Joined S (front ++ (rest ++ more)) in_flight → Read L S lines in_flight rest more
+    → SpellsAll S front lines → SpellsAll S (front ++ (rest ++ more)) in_flight → Read L S lines in_flight rest more
 reads_front S W [] in_flight front rest more j f =
     record {
       still = in_flight;
       goes_on = refl;
       left = subst
-          (λ (b : List ℕ). Joined S (b ++ (rest ++ more)) in_flight) j f;
+          (λ (b : List ℕ). SpellsAll S (b ++ (rest ++ more)) in_flight) j f;
     }
 reads_front S W (l ∷ lines) [] front rest more j f =
     let none : front ≡ [] = nil_append front (rest ++ more) f in
@@ -64,14 +64,14 @@ reads_front S W (l ∷ lines) (i ∷ in_flight) front rest more j f =
     append_cancel_left f.0 (j.1 ++ (rest ++ more)) f.1 (ap (λ b. b ++ (j.1 ++ (rest ++ more))) (sym same.0)
     ∙ both) in
     let r = reads_front S W lines in_flight j.1 rest more j.4
-    (subst (λ (b : List ℕ). Joined S b in_flight) (sym tail) f.4) in
+    (subst (λ (b : List ℕ). SpellsAll S b in_flight) (sym tail) f.4) in
     record { still = r.still; goes_on = (λ n. (sym same.1) n ∷ r.goes_on n); left = r.left }
 
 -- what is left of a piece begins with nothing that begins no line
 pub nothing_left : {L : Type 0} (S : List ℕ → L → Type 0) (R : List ℕ → Type 0)
     → ((encoding : List ℕ) → R encoding → encoding ≡ [] → ⊥)
     → ((a b x y : List ℕ) (l : L) → R a → S b l → a ++ x ≡ b ++ y → ⊥)
-    → (still : List L) (rest more a b : List ℕ) → Joined S (rest ++ more) still → rest ≡ a ++ b → R a → ⊥
+    → (still : List L) (rest more a b : List ℕ) → SpellsAll S (rest ++ more) still → rest ≡ a ++ b → R a → ⊥
 nothing_left S R some apart [] rest more a b j e r = some a r (nil_append a b (sym e ∙ nil_append rest more j))
 nothing_left S R some apart (l ∷ still) rest more a b j e r =
     apart a j.0 (b ++ more) j.1 l r j.3 (sym (append_assoc a b more) ∙ ap (λ x. x ++ more) (sym e) ∙ j.2)
@@ -79,7 +79,7 @@ nothing_left S R some apart (l ∷ still) rest more a b j e r =
 -- once the bytes of the first lines were delivered, those lines were read
 pub reads_delivered : {L : Type 0} (S : List ℕ → L
     → Type 0) (W : Wire L S) (lines ms os : List L) (front rest more wanted others : List ℕ)
-    → Joined S front lines → IsCutOff S rest → Joined S wanted ms → wanted ++ others ≡ front ++ (rest ++ more)
+    → SpellsAll S front lines → IsCutOff S rest → SpellsAll S wanted ms → wanted ++ others ≡ front ++ (rest ++ more)
     → length wanted ≤ length front + length rest → length ms ≤ length lines
 reads_delivered S W lines [] os front rest more wanted others j c m e le = omega arith
 reads_delivered S W [] (i ∷ ms) os front rest more wanted others j c m e le =
@@ -102,40 +102,40 @@ reads_delivered S W (l ∷ lines) (i ∷ ms) os front rest more wanted others j 
     let r = reads_delivered S W lines ms os j.1 rest more m.1 others j.4 c m.4 tail (omega arith) in
     omega (arith, r)
 
-pub joined_append : {L : Type 0} (S : List ℕ → L → Type 0) (as' bs : List ℕ) (ls ms : List L) → Joined S as' ls
-    → Joined S bs ms → Joined S (as' ++ bs) (ls ++ ms)
-joined_append S as' bs [] ms j k = subst (λ (b : List ℕ). Joined S (b ++ bs) ms) (sym j) k
+pub joined_append : {L : Type 0} (S : List ℕ → L → Type 0) (as' bs : List ℕ) (ls ms : List L) → SpellsAll S as' ls
+    → SpellsAll S bs ms → SpellsAll S (as' ++ bs) (ls ++ ms)
+joined_append S as' bs [] ms j k = subst (λ (b : List ℕ). SpellsAll S (b ++ bs) ms) (sym j) k
 joined_append S as' bs (l ∷ ls) ms j k =
     (j.0, j.1 ++ bs, ap (λ b. b ++ bs) j.2 ∙ append_assoc j.0 j.1 bs, j.3, joined_append S j.1 bs ls ms j.4 k)
 
 -- of a piece of the bytes under way a front was consumed as these lines: so they are the next ones, and what is behind
 -- them stays under way
 pub record CarriesOn (L : Type 0) (S : List ℕ → L
-    → Type 0) (bytes : List ℕ) (place : ℕ) (taken in_flight lines : List L) (front rest : List ℕ) : Type 0 where
+    → Type 0) (bytes : List ℕ) (position : ℕ) (taken in_flight lines : List L) (front rest : List ℕ) : Type 0 where
   pub still : List L
   pub more : List ℕ
   pub goes_on : in_flight ≡ lines ++ still
-  pub left : Joined S (rest ++ more) still
-  pub carried : Carried L S bytes (place + length front) (taken ++ lines) still
+  pub left : SpellsAll S (rest ++ more) still
+  pub carried : Carries L S bytes (position + length front) (taken ++ lines) still
   pub rest_is : carried.rest ≡ rest ++ more
 
 pub carried_on : {L : Type 0} (S : List ℕ → L
-    → Type 0) (W : Wire L S) (bytes : List ℕ) (place most : ℕ) (taken in_flight lines : List L) (front rest : List ℕ)
-    → Carried L S bytes place taken in_flight → place ≤ most → drop place (take most bytes) ≡ front ++ rest
-    → Joined S front lines
-    → CarriesOn L S bytes place taken in_flight lines front rest
-carried_on {L} S W bytes place most taken in_flight lines front rest c order piece joined =
-    let behind : drop place bytes ≡ c.rest = ap (drop place) c.cut ∙ drop_at c.front c.rest place c.ends in
+    → Type 0) (W : Wire L S) (bytes : List ℕ) (position most : ℕ) (taken in_flight lines : List L) (front rest : List ℕ)
+    → Carries L S bytes position taken in_flight → position ≤ most → drop position (take most bytes) ≡ front ++ rest
+    → SpellsAll S front lines
+    → CarriesOn L S bytes position taken in_flight lines front rest
+carried_on {L} S W bytes position most taken in_flight lines front rest c order piece joined =
+    let behind : drop position bytes ≡ c.rest = ap (drop position) c.cut ∙ drop_at c.front c.rest position c.ends in
     let more = drop most bytes in
-    let within : place ≤ length (take most bytes) =
+    let within : position ≤ length (take most bytes) =
     omega (arith, length-take most bytes, order, c.ends, ap length c.cut, length-append c.front c.rest) in
-    let split : drop place bytes ≡ drop place (take most bytes) ++ more =
-    ap (drop place) (sym (take-append-drop most bytes)) ∙ drop-append-le place (take most bytes) more within in
+    let split : drop position bytes ≡ drop position (take most bytes) ++ more =
+    ap (drop position) (sym (take-append-drop most bytes)) ∙ drop-append-le position (take most bytes) more within in
     let whole : c.rest ≡ front ++ (rest ++ more) =
     sym behind ∙ split ∙ ap (λ b. b ++ more) piece ∙ append_assoc front rest more in
     let r : Read L S lines in_flight rest more =
     reads_front S W lines in_flight front rest more joined
-    (subst (λ (b : List ℕ). Joined S b in_flight) whole c.rest_joined) in
+    (subst (λ (b : List ℕ). SpellsAll S b in_flight) whole c.rest_joined) in
     record {
       still = r.still;
       more = more;
@@ -154,10 +154,10 @@ carried_on {L} S W bytes place most taken in_flight lines front rest c order pie
 
 -- more is written behind what is under way
 pub carried_more : {L : Type 0} (S : List ℕ → L
-    → Type 0) (bytes more : List ℕ) (place : ℕ) (taken in_flight lines : List L)
-    → Carried L S bytes place taken in_flight
-    → Joined S more lines → Carried L S (bytes ++ more) place taken (in_flight ++ lines)
-carried_more S bytes more place taken in_flight lines c j =
+    → Type 0) (bytes more : List ℕ) (position : ℕ) (taken in_flight lines : List L)
+    → Carries L S bytes position taken in_flight
+    → SpellsAll S more lines → Carries L S (bytes ++ more) position taken (in_flight ++ lines)
+carried_more S bytes more position taken in_flight lines c j =
     record {
       front = c.front;
       rest = c.rest ++ more;
@@ -171,7 +171,7 @@ carried_more S bytes more place taken in_flight lines c j =
 
 -- of two ways to read a byte list, the rests being cut off, each has the lines of the other
 pub one_reading : {L : Type 0} (S : List ℕ → L → Type 0) (W : Wire L S) (ls ms : List L) (a b rest more : List ℕ)
-    → Joined S a ls → Joined S b ms → IsCutOff S rest → IsCutOff S more → a ++ rest ≡ b ++ more
+    → SpellsAll S a ls → SpellsAll S b ms → IsCutOff S rest → IsCutOff S more → a ++ rest ≡ b ++ more
     → (ls ≡ ms) × (rest ≡ more)
 one_reading S W [] [] a b rest more j k c d e = (refl, ap (λ z. z ++ rest) (sym j) ∙ e ∙ ap (λ z. z ++ more) k)
 one_reading S W [] (m ∷ ms) a b rest more j k c d e =
@@ -198,7 +198,7 @@ streams_read {L} form_of bytes ls ms rest more h k =
 pub pieces_hold : {L : Type 0} (form_of : ℕ → Option (Form L)) → PiecesHoldFronts form_of
 pieces_hold {L} form_of piece behind all ls rest j h =
     let r = reads_front (λ t l. Spells L form_of t l) (wire form_of) ls all h.front rest behind h.joined
-    (subst (λ (b : List ℕ). Joined (λ t l. Spells L form_of t l) b all) (ap (λ x. x ++ behind) h.cut
+    (subst (λ (b : List ℕ). SpellsAll (λ t l. Spells L form_of t l) b all) (ap (λ x. x ++ behind) h.cut
     ∙ append_assoc h.front rest behind) j) in
     (r.still, r.goes_on, r.left)
 

@@ -322,7 +322,7 @@ found_whole : (t : Table) (h : History) (p : Field → Bool) (a : ℕ) → windo
     → absolute_entry (whole_window h) a ≡ Some at.item
 found_whole t h p a e at =
     subst (λ (x : ℕ). absolute_entry (whole_window h) x ≡ Some at.item) at.index
-    (live_whole t h at.place at.item e at.there)
+    (live_whole t h at.position at.item e at.there)
 
 drafting_literal_by_entry : (t0 : Table) (h0 : History) (done : List Field) (d : Draft) (f : Field)
     → Drafting t0 h0 done d

@@ -44,7 +44,7 @@ every_get P [] i x e h = absurd (cc)
 every_get P (y ∷ ys) zero x e h = let q : y ≡ x = cc in subst P q h.0
 every_get P (y ∷ ys) (suc i) x e h = every_get P ys i x e h.1
 
--- a place within a list has an element
+-- a position within a list has an element
 pub get_within : {X : Type 0} (xs : List X) (i : ℕ) → i < length xs → (x : X) × (slice_get xs i ≡ Some x)
 get_within [] i h = absurd (omega arith)
 get_within (y ∷ xs) zero h = (y, refl)

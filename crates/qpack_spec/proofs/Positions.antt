@@ -44,7 +44,7 @@ last_found {X} p (x ∷ xs) i h = pick (last_position p xs) refl (p x) refl (las
         same_Some 0 n k in subst (FoundAt X p (x ∷ xs)) s (record { item = x; there = refl; passes = q })
     pick None e false q rest n k = absurd (cc)
 
--- the static field of a place that was found
+-- the static field of a position that was found
 pub static_found : (f : Field) (i : ℕ) → static_index f ≡ Some i → slice_get static_table i ≡ Some f
 static_found f i e =
     let is : IsLeastStatic (λ g. g ≡ f) i =
@@ -74,9 +74,9 @@ named_field f g e = field_is g.name f.name f.value f.value (sym e) refl
 -- the newest entry that passes, by its absolute index
 pub record FoundEntry (t : Table) (p : Field → Bool) (a : ℕ) : Type 0 where
   pub item : Field
-  pub place : ℕ
-  pub index : t.dropped + place + 1 ≡ a
-  pub there : slice_get (fields_in t.live) place ≡ Some item
+  pub position : ℕ
+  pub index : t.dropped + position + 1 ≡ a
+  pub there : slice_get (fields_in t.live) position ≡ Some item
   pub passes : p item ≡ true
   pub above : t.dropped < a
   pub within : a ≤ insert_count t
@@ -95,7 +95,7 @@ newest_found t p a h = pick (last_position p (fields_in t.live)) refl h
         let n : length (fields_in t.live) ≡ length t.live = length-map t.live (λ (x : Entry). x.field) in
         record {
           item = at.item;
-          place = i;
+          position = i;
           index = is;
           there = at.there;
           passes = at.passes;

@@ -13,7 +13,7 @@ use Rattle.qpack_spec.specs.Instruction.{InsertLiteralName, Acknowledgment, Incr
 use Rattle.qpack_spec.specs.Instruction.{decoder_instruction_form}
 use Rattle.qpack_spec.specs.Window.{Window, AboveMaximum}
 use Rattle.qpack_spec.specs.Table.{Table, empty_table, table_of, insert_count, with_capacity, with_increment}
-use Rattle.qpack_spec.specs.Stream.{Joined}
+use Rattle.qpack_spec.specs.Stream.{SpellsAll}
 use Rattle.qpack_spec.specs.Session.{KeptBlock, KeptStream, stream_at, Session, Encode, Decode, ToDecoder, ToEncoder}
 use Rattle.qpack_spec.specs.Session.{Acknowledge, Cancel, Encoded, Decoded, MissingReferences, Delivered, Heard}
 use Rattle.qpack_spec.specs.Session.{Acknowledged, Skipped, NoMemory, initial_session, begin_session, CapacityTooLarge}
@@ -229,7 +229,7 @@ acknowledgment_read = refl
 -- one line at the front, and those behind it
 line_then : {L : Type 0} (form_of : ℕ → Option (Form L)) (bytes rest : List ℕ) (l : L) (ls : List L)
     → form_at form_of bytes ≡ Ok (l, rest)
-    → Joined (λ t x. Spells L form_of t x) rest ls → Joined (λ t x. Spells L form_of t x) bytes (l ∷ ls)
+    → SpellsAll (λ t x. Spells L form_of t x) rest ls → SpellsAll (λ t x. Spells L form_of t x) bytes (l ∷ ls)
 line_then form_of bytes rest l ls e j = let k =
     form_takes form_of bytes l rest e in (k.encoding, rest, k.parts, k.spells, j)
 
@@ -244,28 +244,40 @@ one_fits s k ps h rest =
 
 begun_fits : FitsMemory begun
 unfolding rows
-begun_fits = record { sent_fits = lit≤ tt; blocks_fit = λ s. tt }
+begun_fits = record { encoder_stream_fits = lit≤ tt; blocks_fit = λ s. tt }
 
 written_fits : FitsMemory written
 unfolding rows
 written_fits =
-    record { sent_fits = lit≤ tt; blocks_fit = λ s. one_fits s (stream_at written.streams 4) [] (lit≤ tt, tt) tt }
+    record {
+      encoder_stream_fits = lit≤ tt;
+      blocks_fit = λ s. one_fits s (stream_at written.streams 4) [] (lit≤ tt, tt)
+          tt;
+    }
 
 delivered_part_fits : FitsMemory delivered_part
 unfolding rows
 delivered_part_fits =
-    record { sent_fits = lit≤ tt; blocks_fit = λ s. one_fits s (stream_at written.streams 4) [] (lit≤ tt, tt) tt }
+    record {
+      encoder_stream_fits = lit≤ tt;
+      blocks_fit = λ s. one_fits s (stream_at written.streams 4) [] (lit≤ tt, tt)
+          tt;
+    }
 
 delivered_fits : FitsMemory delivered
 unfolding rows
 delivered_fits =
-    record { sent_fits = lit≤ tt; blocks_fit = λ s. one_fits s (stream_at written.streams 4) [] (lit≤ tt, tt) tt }
+    record {
+      encoder_stream_fits = lit≤ tt;
+      blocks_fit = λ s. one_fits s (stream_at written.streams 4) [] (lit≤ tt, tt)
+          tt;
+    }
 
 decoded_fits : FitsMemory decoded
 unfolding rows
 decoded_fits =
     record {
-      sent_fits = lit≤ tt;
+      encoder_stream_fits = lit≤ tt;
       blocks_fit =
           λ s. one_fits s (stream_at decoded.streams 4) written.streams (lit≤ tt, tt)
           (one_fits s (stream_at written.streams 4) [] (lit≤ tt, tt) tt);
@@ -275,7 +287,7 @@ acknowledged_fits : FitsMemory acknowledged
 unfolding rows
 acknowledged_fits =
     record {
-      sent_fits = lit≤ tt;
+      encoder_stream_fits = lit≤ tt;
       blocks_fit = λ s. one_fits s (stream_at acknowledged.streams 4) decoded.streams (lit≤ tt, tt)
           (one_fits s (stream_at decoded.streams 4) written.streams (lit≤ tt, tt)
           (one_fits s (stream_at written.streams 4) [] (lit≤ tt, tt) tt));
@@ -283,7 +295,11 @@ acknowledged_fits =
 
 heard_fits : FitsMemory heard_all
 unfolding rows
-heard_fits = record { sent_fits = acknowledged_fits.sent_fits; blocks_fit = acknowledged_fits.blocks_fit }
+heard_fits = record {
+  encoder_stream_fits = acknowledged_fits.encoder_stream_fits;
+  blocks_fit =
+      acknowledged_fits.blocks_fit;
+}
 
 foo_bar_bytes : AllByRecursion IsByteField (foo_bar ∷ [])
 unfolding rows

@@ -8,7 +8,7 @@ use Rattle.qpack_spec.specs.Field.{Field, field_size, total_size}
 use Rattle.qpack_spec.specs.Form.{FormFault, Form, Index, IndexAndValue, SpellsForm, form_at}
 use Rattle.qpack_spec.specs.Line.{Line, line_form, SpellsLine, NamedPostBase, IndexedPostBase}
 use Rattle.qpack_spec.specs.Prefix.{Prefix, SpellsPrefix, prefix_at}
-use Rattle.qpack_spec.specs.Stream.{Joined}
+use Rattle.qpack_spec.specs.Stream.{SpellsAll}
 use Rattle.qpack_spec.specs.Reading.{BadForm}
 use Rattle.qpack_spec.specs.Stateless.{StatelessFault, BadSection, NamesEntry, TooLong, saturated_size, stateless_field}
 use Rattle.qpack_spec.specs.Stateless.{or_bad_bytes, within_limit, stateless_at, stateless_reading}
@@ -85,7 +85,7 @@ none_alone (suc steps) limit sum = refl
 
 -- what lines give: fields, or the first fault
 abbrev LinesGive : ℕ → ℕ → List ℕ → Result (List Field) StatelessFault → Type 0
-LinesGive limit sum bytes (Ok fs) = Joined SpellsStatelessField bytes fs
+LinesGive limit sum bytes (Ok fs) = SpellsAll SpellsStatelessField bytes fs
     × (saturated_size (sum + total_size fs) ≤ limit)
 LinesGive limit sum bytes (Err e) = StopsBehind limit sum bytes e
 
@@ -249,7 +249,7 @@ fits_first : (limit sum : ℕ) (f : Field) (fs : List Field) → saturated_size 
 fits_first limit sum f fs h = (omega (arith, h, total_first f fs), omega (arith, h, total_first f fs))
 
 lines_read : (steps limit sum : ℕ) (bytes : List ℕ) (fs : List Field) → length bytes ≤ steps
-    → Joined SpellsStatelessField bytes fs → saturated_size (sum + total_size fs) ≤ limit
+    → SpellsAll SpellsStatelessField bytes fs → saturated_size (sum + total_size fs) ≤ limit
     → stateless_at steps limit sum bytes ≡ Ok fs
 lines_read steps limit sum bytes [] h j low = ap (stateless_at steps limit sum) j ∙ none_alone steps limit sum
 lines_read zero limit sum bytes (f ∷ fs) h j low = absurd (omega (arith, ap length j.2, field_length j.0 j.1 f j.3))
@@ -282,7 +282,7 @@ stop_read (suc steps) limit sum first more e h (past_limit encoding rest f cut s
 -- lines that mean fields, and then one that stops
 front_read : (steps limit sum : ℕ) (front : List ℕ) (fs : List Field) (first : ℕ) (more : List ℕ) (e : StatelessFault)
     → length (front ++ first ∷ more) ≤ steps
-    → Joined SpellsStatelessField front fs → saturated_size (sum + total_size fs) ≤ limit
+    → SpellsAll SpellsStatelessField front fs → saturated_size (sum + total_size fs) ≤ limit
     → StopsLine limit (sum + total_size fs) first more e
     → stateless_at steps limit sum (front ++ first ∷ more) ≡ Err e
 front_read steps limit sum front [] first more e h j low s =

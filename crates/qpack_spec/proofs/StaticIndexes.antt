@@ -47,9 +47,9 @@ record IsPlace {X : Type 0} (Q : X → Type 0) (xs : List X) (i : ℕ) : Type 0 
   pub at : (x : X) × (slice_get xs i ≡ Some x) × Q x
   pub before : (k : ℕ) (x : X) → k < i → slice_get xs k ≡ Some x → Q x → ⊥
 
-places : {X : Type 0} (p : X → Bool) (Q : X → Type 0) (xs : List X) → ((x : X) → Decides (p x) (Q x))
+positions : {X : Type 0} (p : X → Bool) (Q : X → Type 0) (xs : List X) → ((x : X) → Decides (p x) (Q x))
     → MatchOption (position p xs) ((k : ℕ) (x : X) → slice_get xs k ≡ Some x → Q x → ⊥) (IsPlace Q xs)
-places p Q xs d =
+positions p Q xs d =
     elim (cases_lt (position_or_len p xs) (length xs)) [
       | inl lt ↦
           let a = passes_at p xs lt in
@@ -85,7 +85,7 @@ has_name-Decides name g = (λ e. sym ((bytes_eq-Decides name g.name).0 e), λ e.
 pub index_is_least : StaticIndexIsLeast
 unfolding static_index
 index_is_least f =
-    go (position (is_field f) static_table) (places (is_field f) (λ g. g ≡ f) static_table (is_field-Decides f))
+    go (position (is_field f) static_table) (positions (is_field f) (λ g. g ≡ f) static_table (is_field-Decides f))
   where
     go : (o : Option ℕ) → MatchOption o (NoStatic (λ g. g ≡ f)) (IsPlace (λ g. g ≡ f) static_table)
         → MatchOption o (NoStatic (λ g. g ≡ f)) (IsLeastStatic (λ g. g ≡ f))
@@ -96,7 +96,7 @@ pub name_index_is_least : StaticNameIndexIsLeast
 unfolding static_name_index
 name_index_is_least name =
     go (position (has_name name) static_table)
-    (places (has_name name) (λ g. g.name ≡ name) static_table (has_name-Decides name))
+    (positions (has_name name) (λ g. g.name ≡ name) static_table (has_name-Decides name))
   where
     go : (o : Option ℕ) → MatchOption o (NoStatic (λ g. g.name ≡ name)) (IsPlace (λ g. g.name ≡ name) static_table)
         → MatchOption o (NoStatic (λ g. g.name ≡ name)) (IsLeastStatic (λ g. g.name ≡ name))

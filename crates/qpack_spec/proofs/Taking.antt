@@ -2,7 +2,7 @@
 use Rattle.std.proofs.Common.{◌≡◌, ℕ, List, [], ◌∷◌, ◌++◌, Option, Result, Ok, refl, sym, ap, ◌∙◌, append-nil}
 use Rattle.qpack_spec.specs.Bytes.{◌>>=◌}
 use Rattle.qpack_spec.specs.Form.{Form, Spells}
-use Rattle.qpack_spec.specs.Stream.{Joined}
+use Rattle.qpack_spec.specs.Stream.{SpellsAll}
 use Rattle.qpack_spec.specs.Table.{Table}
 use Rattle.qpack_spec.specs.Taking.{apply_in_turn, TakesAllOf}
 use Rattle.qpack_spec.specs.Window.{TableRefusal}
@@ -10,8 +10,8 @@ use Rattle.qpack_spec.proofs.Cuttings.{joined_append}
 use Rattle.qpack_spec.proofs.Results.{bind_ok, ok_is}
 
 pub joined_last : {L : Type 0} (form_of : ℕ → Option (Form L)) (lines : List L) (front encoding : List ℕ) (i : L)
-    → Joined (λ t l. Spells L form_of t l) front lines → Spells L form_of encoding i
-    → Joined (λ t l. Spells L form_of t l) (front ++ encoding) (lines ++ i ∷ [])
+    → SpellsAll (λ t l. Spells L form_of t l) front lines → Spells L form_of encoding i
+    → SpellsAll (λ t l. Spells L form_of t l) (front ++ encoding) (lines ++ i ∷ [])
 joined_last {L} form_of lines front encoding i joined spells =
     joined_append (λ t l. Spells L form_of t l) front encoding lines (i ∷ []) joined
     (encoding, [], sym (append-nil encoding), spells, refl)

@@ -6,7 +6,7 @@ use Rattle.qpack_spec.specs.Bytes.{◌>>=◌}
 use Rattle.qpack_spec.specs.Field.{Field}
 use Rattle.qpack_spec.specs.Form.{FormFault, form_at}
 use Rattle.qpack_spec.specs.Line.{Line, line_form, SpellsLine, written_lines}
-use Rattle.qpack_spec.specs.Stream.{Joined}
+use Rattle.qpack_spec.specs.Stream.{SpellsAll}
 use Rattle.qpack_spec.specs.Prefix.{Prefix, PrefixFault, read_base, read_prefix, written_prefix, prefix_at}
 use Rattle.qpack_spec.specs.Window.{Window, maximum_capacity, window_insert_count}
 use Rattle.qpack_spec.specs.History.{History, whole_window}
@@ -23,7 +23,7 @@ pub data StopsAt (w : Window) (base : ℕ) (rest : List ℕ) (e : Fault) : Type 
 -- the bytes are lines, which mean the fields
 pub record ReadsAll (w : Window) (base : ℕ) (bytes : List ℕ) (fs : List Field) : Type 0 where
   pub lines : List Line
-  pub joined : Joined SpellsLine bytes lines
+  pub joined : SpellsAll SpellsLine bytes lines
   pub means : fields_of w base lines ≡ Ok fs
 
 -- behind lines that mean fields, the next line gives none
@@ -33,7 +33,7 @@ pub record ReadsSome (w : Window) (base : ℕ) (bytes : List ℕ) (e : Fault) : 
   pub next : ℕ
   pub more : List ℕ
   pub cut : bytes ≡ front ++ next ∷ more
-  pub joined : Joined SpellsLine front lines
+  pub joined : SpellsAll SpellsLine front lines
   pub so_far : List Field
   pub means : fields_of w base lines ≡ Ok so_far
   pub stops : StopsAt w base (next ∷ more) e

@@ -15,7 +15,7 @@ pub data Fault : Type 0 where
   BadForm : (fault : FormFault) → Fault
   BadPrefix : (fault : PrefixFault) → Fault
   BelowWindow : (relative : ℕ) → Fault
-  AboveWindow : (place : ℕ) → Fault
+  AboveWindow : (position : ℕ) → Fault
   BehindBase : (post_base : ℕ) → Fault
   NotStatic : (index : ℕ) → Fault
 

@@ -444,7 +444,7 @@ IsByteEvent e = Unit {0}
 
 -- what is kept has fewer than 2^63 bytes, as every vector has: what was sent, and each block
 pub record FitsMemory (v : Session) : Type 0 where
-  pub sent_fits : length v.encoder_stream < 2 ^ 63
+  pub encoder_stream_fits : length v.encoder_stream < 2 ^ 63
   pub blocks_fit : (s : ℕ) → AllByRecursion (λ b. length b.bytes < 2 ^ 63) (stream_at v.streams s).blocks
 
 -- an event of a run: names and values are bytes, and what is kept behind it fits memory

@@ -5,7 +5,7 @@ use Rattle.qpack_spec.specs.Field.{Field, field_size, total_size}
 use Rattle.qpack_spec.specs.Form.{FormFault, form_at}
 use Rattle.qpack_spec.specs.Line.{Line, line_form, SpellsLine}
 use Rattle.qpack_spec.specs.Prefix.{Prefix, SpellsPrefix, prefix_at}
-use Rattle.qpack_spec.specs.Stream.{Joined}
+use Rattle.qpack_spec.specs.Stream.{SpellsAll}
 use Rattle.qpack_spec.specs.Window.{Window, maximum_capacity}
 use Rattle.qpack_spec.specs.Reading.{Fault, BadForm, BelowWindow, BehindBase}
 use Rattle.qpack_spec.specs.Reading.{Reading, Fields, Missing, Faulty}
@@ -24,7 +24,7 @@ pub record MeansStateless (limit : ℕ) (bytes : List ℕ) (fields : List Field)
   pub cut : bytes ≡ head ++ lines
   pub prefix : Prefix
   pub spells : SpellsPrefix head prefix
-  pub joined : Joined SpellsStatelessField lines fields
+  pub joined : SpellsAll SpellsStatelessField lines fields
   pub within : saturated_size (total_size fields) ≤ limit
 
 -- why the next line gives no field, the sizes so far having this sum: its first byte says that it is a post-base line,
@@ -46,7 +46,7 @@ pub record StopsBehind (limit sum : ℕ) (lines : List ℕ) (e : StatelessFault)
   pub more : List ℕ
   pub cut : lines ≡ front ++ first ∷ more
   pub so_far : List Field
-  pub joined : Joined SpellsStatelessField front so_far
+  pub joined : SpellsAll SpellsStatelessField front so_far
   pub within : saturated_size (sum + total_size so_far) ≤ limit
   pub stops : StopsLine limit (sum + total_size so_far) first more e
 

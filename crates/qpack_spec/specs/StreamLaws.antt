@@ -2,7 +2,7 @@
 use Rattle.std.specs.Prelude.{◌≡◌, ℕ, ◌⊎◌, List, ◌++◌, Option}
 use Rattle.qpack_spec.specs.Bytes.{Begins}
 use Rattle.qpack_spec.specs.Form.{FormFault, Form, Spells, Refuses, Truncates}
-use Rattle.qpack_spec.specs.Stream.{Joined, Holds}
+use Rattle.qpack_spec.specs.Stream.{SpellsAll, Holds}
 
 -- a byte list holds one list of lines, and leaves one rest
 abbrev pub StreamsHaveOneReading : {L : Type 0} → (ℕ → Option (Form L)) → Type 0
@@ -15,15 +15,16 @@ StreamsHaveOneReading {L} form_of =
 abbrev pub PiecesHoldFronts : {L : Type 0} → (ℕ → Option (Form L)) → Type 0
 PiecesHoldFronts {L} form_of =
     (piece behind : List ℕ) (all ls : List L) (rest : List ℕ)
-    → Joined (λ t l. Spells L form_of t l) (piece ++ behind) all
+    → SpellsAll (λ t l. Spells L form_of t l) (piece ++ behind) all
     → Holds L (λ t l. Spells L form_of t l) piece ls rest
-    → (others : List L) × (all ≡ ls ++ others) × Joined (λ t l. Spells L form_of t l) (rest ++ behind) others
+    → (others : List L) × (all ≡ ls ++ others) × SpellsAll (λ t l. Spells L form_of t l) (rest ++ behind) others
 
 -- and what it leaves begins with no refusal
 abbrev pub PiecesAreNeverRefused : {L : Type 0} → (ℕ → Option (Form L)) → Type 0
 PiecesAreNeverRefused {L} form_of =
     (piece behind : List ℕ) (all ls : List L) (rest encoding more : List ℕ) (fault : FormFault)
-    → Joined (λ t l. Spells L form_of t l) (piece ++ behind) all → Holds L (λ t l. Spells L form_of t l) piece ls rest
+    → SpellsAll (λ t l. Spells L form_of t l) (piece ++ behind) all
+    → Holds L (λ t l. Spells L form_of t l) piece ls rest
     → rest ≡ encoding ++ more → Refuses L form_of encoding fault → ⊥
 
 -- the one reading of a byte list: its lines, and the rest, which is truncated or begins with a refusal

@@ -2,7 +2,7 @@
 use Rattle.std.specs.Prelude.{◌≡◌, ℕ, List, [], ◌∷◌, ◌++◌, Option, Result, Ok}
 use Rattle.qpack_spec.specs.Bytes.{◌>>=◌}
 use Rattle.qpack_spec.specs.Form.{Form, Spells}
-use Rattle.qpack_spec.specs.Stream.{Joined}
+use Rattle.qpack_spec.specs.Stream.{SpellsAll}
 use Rattle.qpack_spec.specs.Table.{Table}
 use Rattle.qpack_spec.specs.Window.{TableRefusal}
 
@@ -20,6 +20,6 @@ pub record TakesAllOf {L : Type 0} (form_of : ℕ → Option (Form L)) (apply : 
   pub front : List ℕ
   pub rest : List ℕ
   pub cut : bytes ≡ front ++ rest
-  pub joined : Joined (λ encoding l. Spells L form_of encoding l) front lines
+  pub joined : SpellsAll (λ encoding l. Spells L form_of encoding l) front lines
   pub applies : apply_in_turn apply old lines ≡ Ok new
   pub ends : Ends front rest

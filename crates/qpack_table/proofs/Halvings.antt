@@ -5,7 +5,7 @@ use Rattle.std.proofs.lemmas.Bool.{cases_lt}
 use Rattle.std.proofs.Math.Nat.{pow-suc, pow-le-pow_right, mul-le-mul_right}
 use Rattle.qpack_table.specs.Rows.{Counts}
 
--- so many steps were made, and so many places are left
+-- so many steps were made, and so many positions are left
 pub record Halved (n left steps : ℕ) : Type 0 where
   pub product : left * 2 ^ steps ≤ n
   pub few : (digits : ℕ) → n < 2 ^ digits → steps ≤ digits

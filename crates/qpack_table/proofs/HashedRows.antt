@@ -9,16 +9,16 @@ use Rattle.std.proofs.lemmas.List.{length-set, get_or-set_other, get_or-set_same
 use Rattle.std.proofs.lemmas.List.Elements.{All-head, All-tail, All-get_or}
 use Rattle.std.proofs.lemmas.List.Sums.{sum_by-cons}
 use Rattle.qpack_spec.specs.Field.{Field}
-use Rattle.qpack_table.specs.Hashes.{field_hash, place_among}
+use Rattle.qpack_table.specs.Hashes.{field_hash, position_among}
 use Rattle.qpack_table.specs.Rows.{field_at, IsRow}
 use Rattle.qpack_table.specs.Indexes.{home, AreRowsOf, HasRoomFor}
 use Rattle.qpack_table.specs.declared.dynamic.index.row.Row.{Row}
 use Rattle.qpack_table.proofs.NewestEntries.{HasAllOf}
 
 -- the row that the code chooses
-pub home_chosen : (hash k count n : ℕ) (f : Field) → hash ≡ field_hash f → k ≡ place_among count hash → count ≡ n
+pub home_chosen : (hash k count n : ℕ) (f : Field) → hash ≡ field_hash f → k ≡ position_among count hash → count ≡ n
     → k ≡ home n f
-home_chosen hash k count n f e is g = is ∙ (λ i. place_among (g i) (e i))
+home_chosen hash k count n f e is g = is ∙ (λ i. position_among (g i) (e i))
 
 pub home_within : (k count n : ℕ) → count ≡ n → k < count → k < n
 home_within k count n g h = omega (arith, g, h)
@@ -44,8 +44,8 @@ module _ (dropped : ℕ) (live : List Field) (entered : ℕ) (rows : List Row) (
   pub row_has : (f : Field) → entered ≡ length live → k ≡ home (length rows) f
       → HasAllOf dropped live (r.indexes.items) f
   row_has f all here a at same =
-      let place : home (length rows) (field_at dropped live a) ≡ k = ap (home (length rows)) same ∙ sym here in
-      subst (λ (x : Row). Contains (x.indexes.items) a) (ap (λ (i : ℕ). get_or rows i r) place ∙ sym read)
+      let position : home (length rows) (field_at dropped live a) ≡ k = ap (home (length rows)) same ∙ sym here in
+      subst (λ (x : Row). Contains (x.indexes.items) a) (ap (λ (i : ℕ). get_or rows i r) position ∙ sym read)
       (are.complete a r at.0 (omega (arith, at.1, all)))
 
   pub row_few : length r.indexes.items ≤ entered
@@ -59,7 +59,7 @@ module _ (dropped : ℕ) (live : List Field) (entered : ℕ) (rows : List Row) (
 
 -- ---- room
 
-pub room_there : (rows : List Row) (hash k : ℕ) (r : Row) → HasRoomFor rows hash → place_among (length rows) hash ≡ k
+pub room_there : (rows : List Row) (hash k : ℕ) (r : Row) → HasRoomFor rows hash → position_among (length rows) hash ≡ k
     → r ≡ get_or rows k r → vec_len r.indexes < vec_capacity r.indexes
 room_there rows hash k r has here read =
     subst (λ (x : Row). vec_len x.indexes < vec_capacity x.indexes)
@@ -71,14 +71,15 @@ pub room_left : (rows : List Row) (k : ℕ) (r new : Row) (hash : ℕ) → k < l
     → HasRoomFor rows hash → HasRoomFor (set rows k new) hash
 room_left rows k r new hash within read shorter capacity has = record {
   some = omega (arith, has.some, length-set rows k new);
-  room = λ d. subst (λ (n : ℕ). HasRoom (get_or (set rows k new) (place_among n hash) d)) (sym (length-set rows k new))
-      (pick (place_among (length rows) hash) d refl (cases_eq (place_among (length rows) hash) k));
+  room = λ d. subst (λ (n : ℕ). HasRoom (get_or (set rows k new) (position_among n hash) d))
+      (sym (length-set rows k new))
+      (pick (position_among (length rows) hash) d refl (cases_eq (position_among (length rows) hash) k));
 }
   where
     HasRoom : Row → Type 0
     HasRoom x = vec_len x.indexes < vec_capacity x.indexes
 
-    pick : (j : ℕ) (d : Row) → place_among (length rows) hash ≡ j → (j ≡ k) ⊎ (j ≡ k → ⊥) → HasRoom (get_or (set
+    pick : (j : ℕ) (d : Row) → position_among (length rows) hash ≡ j → (j ≡ k) ⊎ (j ≡ k → ⊥) → HasRoom (get_or (set
         rows k new) j d)
     pick j d at (inl e) =
         let old = room_there rows hash k r has (at ∙ e) read in

@@ -13,7 +13,7 @@ pub mod Changes
 pub mod Halvings
 pub mod RowOrder
 pub mod RowSearches
-pub mod RowPlaces
+pub mod RowPositions
 pub mod NewestEntries
 pub mod RowChanges
 pub mod HashedRows

@@ -28,10 +28,10 @@ use Rattle.qpack_table.proofs.Lookups.{field_read, fields_long}
 abbrev Agrees : ℕ → List Field → ℕ → List Field → ℕ → Type 0
 Agrees dropped live to new limit = (a : ℕ) → to < a → a < limit → field_at to new a ≡ field_at dropped live a
 
-newest_kept : (dropped to : ℕ) (live new : List Field) (count place limit index : ℕ) → dropped ≤ to
-    → Agrees dropped live to new limit → IsNewestOf dropped live count place limit index
-    → IsNewestOf to new count place limit index
-newest_kept dropped to live new count place limit index le agrees is = record {
+newest_kept : (dropped to : ℕ) (live new : List Field) (count position limit index : ℕ) → dropped ≤ to
+    → Agrees dropped live to new limit → IsNewestOf dropped live count position limit index
+    → IsNewestOf to new count position limit index
+newest_kept dropped to live new count position limit index le agrees is = record {
   below = is.below;
   there = λ h. ap (λ (f : Field). bucket count f.name) (agrees index h is.below) ∙ is.there (omega (arith, le, h));
   newest = λ other g h lt e. is.newest other (omega (arith, le, g)) h lt
@@ -79,9 +79,9 @@ names_left dropped live entered heads links new inside are made = record {
       (omega arith) (λ a g lt. drop_field dropped live a g) (are.newest k d h));
   counted = omega (arith, are.counted, ap (λ (l : List Link). length l) made, length-drop 1 links);
   linked = λ index d g h.
-      let place : 1 + (index - (dropped + 1) - 1) ≡ index - dropped - 1 = omega (arith, g) in
+      let position : 1 + (index - (dropped + 1) - 1) ≡ index - dropped - 1 = omega (arith, g) in
       let same : get_or links (index - dropped - 1) d ≡ get_or new (index - (dropped + 1) - 1) d =
-      ap (λ (i : ℕ). get_or links i d) (sym place) ∙ sym (get_or-drop 1 links (index - (dropped + 1) - 1) d)
+      ap (λ (i : ℕ). get_or links i d) (sym position) ∙ sym (get_or-drop 1 links (index - (dropped + 1) - 1) d)
       ∙ ap (λ (l : List Link). get_or l (index - (dropped + 1) - 1) d) (sym made) in
       subst (λ (l : Link). IsLinkOf (dropped + 1) (drop 1 live) (length heads) index l) same
       (link_kept dropped (dropped + 1) live (drop 1 live) (length heads) index (get_or links (index - dropped - 1) d)
@@ -152,9 +152,9 @@ module _ (dropped : ℕ) (live : List Field) (entered : ℕ) (heads : List ℕ) 
       (are.linked a d g (omega (arith, lt, next)))
   linked_new a d g h (inr le) =
       let same : index ≡ a = omega (arith, le, h, next) in
-      let place : length links ≡ a - dropped - 1 = omega (arith, le, h, next, are.counted) in
+      let position : length links ≡ a - dropped - 1 = omega (arith, le, h, next, are.counted) in
       let is : link ≡ get_or (links ++ link ∷ []) (a - dropped - 1) d =
-      sym (get_or-append_seam links link [] d) ∙ ap (λ (i : ℕ). get_or (links ++ link ∷ []) i d) place in
+      sym (get_or-append_seam links link [] d) ∙ ap (λ (i : ℕ). get_or (links ++ link ∷ []) i d) position in
       subst (λ (l : Link). IsLinkOf dropped live (length heads) a l) is
       (subst (λ (i : ℕ). IsLinkOf dropped live (length heads) i link) same link_new)
 

@@ -16,7 +16,7 @@ use Rattle.qpack_table.specs.Rows.{field_at, IsLiveIndex, IsRow, FindsNewest}
 use Rattle.qpack_table.specs.Indexes.{IsNewestIn}
 use Rattle.qpack_table.specs.declared.dynamic.entry.Entry.{Entry}
 use Rattle.qpack_table.proofs.RowOrder.{equal_when_same}
-use Rattle.qpack_table.proofs.RowPlaces.{contained}
+use Rattle.qpack_table.proofs.RowPositions.{contained}
 
 -- the last position is at least that of each element that passes
 record LastFrom {X : Type 0} (p : X → Bool) (xs : List X) (i : ℕ) : Type 0 where
@@ -55,10 +55,10 @@ module _ (t : Table) (p : Field → Bool) where
       let at = newest_found t p a e in
       let long : length (fields_in t.live) ≡ length t.live = length-map t.live (λ (x : table.Entry). x.field) in
       let none : Field = record { name = []; value = [] } in
-      let place : a - t.dropped - 1 ≡ at.place = omega (arith, at.index) in
+      let position : a - t.dropped - 1 ≡ at.position = omega (arith, at.index) in
       let field : slice_index_or (fields_in t.live) (a - t.dropped - 1) none ≡ at.item =
-      ap (λ (i : ℕ). slice_index_or (fields_in t.live) i none) place
-      ∙ get_or_from_slice_get (fields_in t.live) at.place at.item none at.there in
+      ap (λ (i : ℕ). slice_index_or (fields_in t.live) i none) position
+      ∙ get_or_from_slice_get (fields_in t.live) at.position at.item none at.there in
       record { live = (at.above, omega (arith, at.within, long)); passes = ap p field ∙ at.passes }
 
   -- a live index whose field passes is at most what the definitions find

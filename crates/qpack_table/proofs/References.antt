@@ -111,12 +111,12 @@ last_is (y ∷ xs) e x (suc position) h at = let r = last_is xs e x position (om
     (r.0, ap (λ (n : ℕ). suc n) r.1)
 
 -- an entry behind some, or one of them
-pub data Joined (xs : List Entry) (e x : Entry) (position : ℕ) : Type 0 where
-  Before : (at : slice_get xs position ≡ Some x) → (position < length xs) → Joined xs e x position
-  Last : (is : e ≡ x) → position ≡ length xs → Joined xs e x position
+pub data StandsAt (xs : List Entry) (e x : Entry) (position : ℕ) : Type 0 where
+  Before : (at : slice_get xs position ≡ Some x) → (position < length xs) → StandsAt xs e x position
+  Last : (is : e ≡ x) → position ≡ length xs → StandsAt xs e x position
 
 pub joined : (xs : List Entry) (e x : Entry) (position : ℕ) → slice_get (xs ++ e ∷ []) position ≡ Some x
-    → Joined xs e x position
+    → StandsAt xs e x position
 joined xs e x position at =
     elim (cases_lt position (length xs)) [
       | inl h ↦ Before (sym (get_append_within xs (e ∷ []) position h) ∙ at) h
@@ -132,29 +132,29 @@ tracked_put v w es now e referenced unacknowledged kept counted items unflagged 
   flagged = λ position x at. elim (at_either position x at) [
     | Before old within ↦ kept.flagged position x old
         ∙ ap (λ (a : ℕ). has_number (a + position + 1) referenced) (sym dropped)
-    | Last is place ↦ ap (λ (y : Entry). y.referenced) (sym is) ∙ unflagged
+    | Last is end ↦ ap (λ (y : Entry). y.referenced) (sym is) ∙ unflagged
         ∙ sym (not_among (w.dropped + position + 1) referenced (omega (
           arith,
-          kept.behind (w.dropped + position + 1) (new position place),
+          kept.behind (w.dropped + position + 1) (new position end),
           times_append (w.dropped + position + 1) referenced (references_in unacknowledged),
         )))
   ];
   used = λ position x at. elim (at_either position x at) [
     | Before old within ↦ kept.used position x old
         ∙ ap (λ (a : ℕ). times (a + position + 1) (referenced ++ references_in unacknowledged)) (sym dropped)
-    | Last is place ↦ ap (λ (y : Entry). y.uses) (sym is) ∙ unused
-        ∙ sym (kept.behind (w.dropped + position + 1) (new position place))
+    | Last is end ↦ ap (λ (y : Entry). y.uses) (sym is) ∙ unused
+        ∙ sym (kept.behind (w.dropped + position + 1) (new position end))
   ];
   once = kept.once;
   each_once = kept.each_once;
   behind = λ absolute above. kept.behind absolute (omega (arith, above, total));
 }
   where
-    at_either : (position : ℕ) (x : Entry) → slice_get now position ≡ Some x → Joined es e x position
+    at_either : (position : ℕ) (x : Entry) → slice_get now position ≡ Some x → StandsAt es e x position
     at_either position x at = joined es e x position (ap (λ (l : List Entry). slice_get l position) (sym items) ∙ at)
 
     new : (position : ℕ) → position ≡ length es → v.total < w.dropped + position + 1
-    new position place = omega (arith, counted, dropped, place)
+    new position end = omega (arith, counted, dropped, end)
 
 -- ---- blocks that are released
 

@@ -12,7 +12,7 @@ use Rattle.std.proofs.lemmas.List.Edits.{length-remove, get_or-remove_below, get
 use Rattle.qpack_spec.specs.Field.{Field}
 use Rattle.qpack_table.specs.Rows.{Key, key_cmp, field_at, key_at, IsLiveIndex, IsRow}
 use Rattle.qpack_table.proofs.RowOrder.{key_cmp_total}
-use Rattle.qpack_table.proofs.RowPlaces.{contained, containing}
+use Rattle.qpack_table.proofs.RowPositions.{contained, containing}
 
 -- an index isn't before itself
 not_before_itself : (dropped : ℕ) (live : List Field) (a b : ℕ) → a ≡ b
@@ -27,21 +27,21 @@ not_before_itself dropped live a b e h =
     apart r p q = cc
 
 -- what is taken out of a row is gone
-pub gone_from : (dropped : ℕ) (live : List Field) (row new : List ℕ) (index place : ℕ) → IsRow dropped live row
-    → place < length row → slice_index row place ≡ index → new ≡ remove row place → Contains new index → ⊥
-gone_from dropped live row new index place is lt at made c =
-    let there = contained (remove row place) index (subst (λ (xs : List ℕ). Contains xs index) made c) in
-    let long = length-remove row place lt in
-    elim (cases_lt c.0 place) [
+pub gone_from : (dropped : ℕ) (live : List Field) (row new : List ℕ) (index position : ℕ) → IsRow dropped live row
+    → position < length row → slice_index row position ≡ index → new ≡ remove row position → Contains new index → ⊥
+gone_from dropped live row new index position is lt at made c =
+    let there = contained (remove row position) index (subst (λ (xs : List ℕ). Contains xs index) made c) in
+    let long = length-remove row position lt in
+    elim (cases_lt c.0 position) [
       | inl less ↦
-          let same : slice_index row c.0 ≡ slice_index row place =
-          sym (get_or-remove_below row place 0 c.0 less lt) ∙ there.is ∙ sym at in
-          not_before_itself dropped live (slice_index row c.0) (slice_index row place) same
-          (is.rises c.0 place 0 less lt)
+          let same : slice_index row c.0 ≡ slice_index row position =
+          sym (get_or-remove_below row position 0 c.0 less lt) ∙ there.is ∙ sym at in
+          not_before_itself dropped live (slice_index row c.0) (slice_index row position) same
+          (is.rises c.0 position 0 less lt)
       | inr le ↦
-          let same : slice_index row place ≡ slice_index row (c.0 + 1) =
-          at ∙ sym there.is ∙ get_or-remove_above row place 0 c.0 le lt in
-          not_before_itself dropped live (slice_index row place) (slice_index row (c.0 + 1)) same (is.rises place
+          let same : slice_index row position ≡ slice_index row (c.0 + 1) =
+          at ∙ sym there.is ∙ get_or-remove_above row position 0 c.0 le lt in
+          not_before_itself dropped live (slice_index row position) (slice_index row (c.0 + 1)) same (is.rises position
           (c.0 + 1) 0 (omega (arith, le)) (omega (arith, there.within, long)))
     ]
 
@@ -103,8 +103,8 @@ pub drop_field : (dropped : ℕ) (live : List Field) (a : ℕ) → dropped + 1 <
     → field_at (dropped + 1) (drop 1 live) a ≡ field_at dropped live a
 drop_field dropped live a h =
     let none : Field = record { name = []; value = [] } in
-    let place : 1 + (a - (dropped + 1) - 1) ≡ a - dropped - 1 = omega (arith, h) in
-    get_or-drop 1 live (a - (dropped + 1) - 1) none ∙ ap (λ (i : ℕ). get_or live i none) place
+    let position : 1 + (a - (dropped + 1) - 1) ≡ a - dropped - 1 = omega (arith, h) in
+    get_or-drop 1 live (a - (dropped + 1) - 1) none ∙ ap (λ (i : ℕ). get_or live i none) position
 
 -- a row without the oldest index, once that is dropped
 pub row_behind : (dropped : ℕ) (live : List Field) (row : List ℕ) → 0 < length live → IsRow dropped live row

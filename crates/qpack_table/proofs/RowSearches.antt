@@ -50,7 +50,7 @@ module _ (dropped : ℕ) (live : List Field) (row : List ℕ) (is : IsRow droppe
       pick true e = refl
       pick false e = absurd (not_both _ h (still_not_behind f last i j le lt e))
 
--- what is known between two places: before the lower one nothing is behind, and from the higher one on all is
+-- what is known between two positions: before the lower one nothing is behind, and from the higher one on all is
 pub record Searching (dropped : ℕ) (live : List Field) (row : List ℕ) (f : Field) (last low high : ℕ)
     (equal : Bool) : Type 0 where
   pub order : low ≤ high

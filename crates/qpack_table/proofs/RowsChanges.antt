@@ -13,7 +13,7 @@ use Rattle.qpack_table.specs.Rows.{field_at, IsRow}
 use Rattle.qpack_table.specs.Indexes.{home, AreRowsOf}
 use Rattle.qpack_table.specs.declared.dynamic.index.row.Row.{Row}
 use Rattle.qpack_table.proofs.HashedRows.{size}
-use Rattle.qpack_table.proofs.RowPlaces.{contained}
+use Rattle.qpack_table.proofs.RowPositions.{contained}
 use Rattle.qpack_table.proofs.RowChanges.{contains_more, contains_other, field_pushed, row_pushed, drop_field}
 use Rattle.qpack_table.proofs.RowChanges.{row_behind}
 

@@ -82,11 +82,11 @@ pub hashes_joined : (dropped : ℕ) (es now : List Entry) (e : Entry) (absolute 
     → AreHashesOf hashes (field_at dropped (live_fields now) absolute)
 hashes_joined dropped es now e absolute hashes are items newest =
     let none : Field = record { name = []; value = [] } in
-    let place : absolute - dropped - 1 ≡ length (live_fields es) = omega (arith, newest, fields_long es) in
+    let position : absolute - dropped - 1 ≡ length (live_fields es) = omega (arith, newest, fields_long es) in
     let same : field_at dropped (live_fields now) absolute ≡ field_of e.field =
     ap (λ (l : List Field). get_or l (absolute - dropped - 1) none)
     (ap (λ (l : List Entry). live_fields l) items ∙ joined_fields es e)
-    ∙ ap (λ (i : ℕ). get_or (live_fields es ++ field_of e.field ∷ []) i none) place
+    ∙ ap (λ (i : ℕ). get_or (live_fields es ++ field_of e.field ∷ []) i none) position
     ∙ get_or-append_seam (live_fields es) (field_of e.field) [] none in
     subst (λ (f : Field). AreHashesOf hashes f) (sym same) are
 

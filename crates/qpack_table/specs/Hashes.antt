@@ -6,12 +6,12 @@ use Rattle.std.specs.Int.RustNames.{bit_and, bit_xor}
 use Rattle.qpack_spec.specs.Field.{Field}
 
 -- the two halves of a product, in one
-abbrev pub folded : ℕ → ℕ → ℕ
-folded a b = bit_xor (bit_and (a * b) (2 ^ 64 - 1)) (a * b / 2 ^ 64)
+abbrev pub folded_product : ℕ → ℕ → ℕ
+folded_product a b = bit_xor (bit_and (a * b) (2 ^ 64 - 1)) (a * b / 2 ^ 64)
 
 -- one step over two words
 unfoldable pub words_hash : ℕ → ℕ → ℕ → ℕ
-words_hash hash low high = folded (bit_xor hash low) (bit_xor 16646288086500911323 high)
+words_hash hash low high = folded_product (bit_xor hash low) (bit_xor 16646288086500911323 high)
 
 -- a number of a few bytes, the greatest first
 unfoldable pub few_bytes : List ℕ → ℕ
@@ -38,9 +38,9 @@ pieces_hash (suc more) hash bytes = pieces_hash more (piece_hash hash (take 16 b
 unfoldable pub bytes_hash : ℕ → List ℕ → ℕ
 bytes_hash seed bytes = pieces_hash (length bytes / 16) (bit_xor seed (length bytes)) bytes
 
--- the place of a hash of 32 bits among so many
-unfoldable pub place_among : ℕ → ℕ → ℕ
-place_among count hash = hash * count / 2 ^ 32
+-- the position of a hash of 32 bits among so many
+unfoldable pub position_among : ℕ → ℕ → ℕ
+position_among count hash = hash * count / 2 ^ 32
 
 -- 32 bits of the hash of a name
 unfoldable pub name_hash : List ℕ → ℕ

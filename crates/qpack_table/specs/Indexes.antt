@@ -5,7 +5,7 @@ use Rattle.std.specs.VecDeque.{deque_len, deque_capacity}
 use Rattle.qpack_spec.specs.Field.{Field}
 use Rattle.qpack_spec.specs.Table as table
 use Rattle.qpack_spec.specs.Table.{Table, newest_index}
-use Rattle.qpack_table.specs.Hashes.{field_hash, name_hash, place_among}
+use Rattle.qpack_table.specs.Hashes.{field_hash, name_hash, position_among}
 use Rattle.qpack_table.specs.Rows.{field_at, IsRow}
 use Rattle.qpack_table.specs.declared.dynamic.index.Index.{Index}
 use Rattle.qpack_table.specs.declared.dynamic.index.hash.Hashes.{Hashes}
@@ -15,7 +15,7 @@ use Rattle.qpack_table.specs.declared.dynamic.index.row.Row.{Row}
 
 -- the row of a field, among so many
 abbrev pub home : ℕ → Field → ℕ
-home count f = place_among count (field_hash f)
+home count f = position_among count (field_hash f)
 
 -- so many of the oldest live entries stand in the rows, each in that of its field, and nothing else does
 pub record AreRowsOf (dropped : ℕ) (live : List Field) (entered : ℕ) (rows : List Row) : Type 0 where
@@ -31,21 +31,21 @@ pub record AreRowsOf (dropped : ℕ) (live : List Field) (entered : ℕ) (rows :
 -- the row of a hash has room for one more
 pub record HasRoomFor (rows : List Row) (hash : ℕ) : Type 0 where
   pub some : 0 < length rows
-  pub room : (d : Row) → vec_len ((slice_index_or rows (place_among (length rows) hash) d).indexes)
-      < vec_capacity ((slice_index_or rows (place_among (length rows) hash) d).indexes)
+  pub room : (d : Row) → vec_len ((slice_index_or rows (position_among (length rows) hash) d).indexes)
+      < vec_capacity ((slice_index_or rows (position_among (length rows) hash) d).indexes)
 
 -- ---- names
 
 -- the bucket of a name, among so many
 abbrev pub bucket : ℕ → List ℕ → ℕ
-bucket count name = place_among count (name_hash name)
+bucket count name = position_among count (name_hash name)
 
 -- of the live indexes below a limit, the greatest whose name is in a bucket; one that isn't live, if there is none
-pub record IsNewestOf (dropped : ℕ) (live : List Field) (count place limit index : ℕ) : Type 0 where
+pub record IsNewestOf (dropped : ℕ) (live : List Field) (count position limit index : ℕ) : Type 0 where
   pub below : index < limit
-  pub there : dropped < index → bucket count (field_at dropped live index).name ≡ place
+  pub there : dropped < index → bucket count (field_at dropped live index).name ≡ position
   pub newest : (other : ℕ) → dropped < other → index < other → other < limit
-      → bucket count (field_at dropped live other).name ≢ place
+      → bucket count (field_at dropped live other).name ≢ position
 
 abbrev pub AreHashesOf : Hashes → Field → Type 0
 AreHashesOf hashes f = (hashes.name ≡ name_hash f.name) × (hashes.field ≡ field_hash f)

@@ -42,17 +42,18 @@ abbrev pub is_behind : ℕ → List Field → Field → ℕ → ℕ → Bool
 is_behind dropped live f last index = is_gt
     (key_cmp (key_at dropped live index) (record { field = f; index = last }))
 
--- the place parts the row: what is before it isn't behind, and what is from it on is
-pub record IsPlaceBehind (dropped : ℕ) (live : List Field) (row : List ℕ) (f : Field) (last place : ℕ) : Type 0 where
-  pub within : place ≤ length row
-  pub before : (k : ℕ) → k < place → is_behind dropped live f last (slice_index row k) ≡ false
-  pub after : (k : ℕ) → place ≤ k → k < length row → is_behind dropped live f last (slice_index row k) ≡ true
+-- the position parts the row: what is before it isn't behind, and what is from it on is
+pub record IsPositionBehind (dropped : ℕ) (live : List Field) (row : List ℕ) (f : Field) (last position : ℕ) : Type 0
+  where
+    pub within : position ≤ length row
+    pub before : (k : ℕ) → k < position → is_behind dropped live f last (slice_index row k) ≡ false
+    pub after : (k : ℕ) → position ≤ k → k < length row → is_behind dropped live f last (slice_index row k) ≡ true
 
--- whether the index before a place has the field
+-- whether the index before a position has the field
 abbrev pub IsEqualBefore : ℕ → List Field → List ℕ → Field → ℕ → Bool → Type 0
-IsEqualBefore dropped live row f place equal =
-    MatchBool equal ((0 < place) × (field_at dropped live (slice_index row (place - 1)) ≡ f))
-    (0 < place → field_at dropped live (slice_index row (place - 1)) ≢ f)
+IsEqualBefore dropped live row f position equal =
+    MatchBool equal ((0 < position) × (field_at dropped live (slice_index row (position - 1)) ≡ f))
+    (0 < position → field_at dropped live (slice_index row (position - 1)) ≢ f)
 
 -- the greatest index of the row that has the field
 pub record IsNewest (dropped : ℕ) (live : List Field) (row : List ℕ) (f : Field) (index : ℕ) : Type 0 where

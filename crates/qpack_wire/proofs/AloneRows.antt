@@ -7,7 +7,7 @@ use Rattle.qpack_spec.specs.Form.{BadInteger, made_at}
 use Rattle.qpack_spec.specs.Line.{NamedStatic, NamedPostBase, Literal}
 use Rattle.qpack_spec.specs.Instruction.{Cancellation}
 use Rattle.qpack_wire.specs.Alone.{Unreadable, Foreign, kind_at}
-use Rattle.qpack_wire.specs.Lines.{indexed, literal_with_name_ref, literal_with_post_base_name_ref, literal}
+use Rattle.qpack_wire.specs.Lines.{indexed_line, literal_with_name_ref, literal_with_post_base_name_ref, literal}
 use Rattle.qpack_wire.specs.Instructions.{insert_without_name_ref, duplicate, dynamic_table_size_update}
 use Rattle.qpack_wire.specs.Instructions.{insert_count_increment, header_ack, stream_cancel}
 
@@ -22,7 +22,7 @@ unfolding rows
 foreign_name = refl
 
 -- a name reference where an indexed line is
-foreign_indexed : (kind_at indexed (81 ∷ [])) ≡ Err (Foreign 1)
+foreign_indexed : (kind_at indexed_line (81 ∷ [])) ≡ Err (Foreign 1)
 unfolding rows
 foreign_indexed = refl
 
@@ -42,7 +42,7 @@ unfolding rows
 foreign_insert = refl
 
 -- an integer that is cut is told before foreign bits
-cut_before_foreign : (kind_at indexed (127 ∷ [])) ≡ Err (Unreadable (BadInteger UnexpectedEnd))
+cut_before_foreign : (kind_at indexed_line (127 ∷ [])) ≡ Err (Unreadable (BadInteger UnexpectedEnd))
 unfolding rows
 cut_before_foreign = refl
 

@@ -5,7 +5,7 @@ use Rattle.qpack_spec.specs.Bytes.{◌>>=◌}
 use Rattle.qpack_spec.specs.Line.{Line, SpellsLine}
 use Rattle.qpack_spec.specs.Prefix.{Prefix}
 use Rattle.qpack_spec.specs.Reading.{Block}
-use Rattle.qpack_spec.specs.Stream.{Joined}
+use Rattle.qpack_spec.specs.Stream.{SpellsAll}
 use Rattle.qpack_spec.proofs.Results.{bind_ok, ok_is}
 use Rattle.qpack_wire.specs.Alone.{KindFault}
 use Rattle.qpack_wire.specs.BlockLines.{line_at}
@@ -43,15 +43,15 @@ behind k r = lines_at k r.1 >>= λ ls. Ok (r.0 ∷ ls)
 -- ---- lines that are read are spelled so
 
 pub lines_found : (k : ℕ) (bytes : List ℕ) (ls : List Line) → length bytes ≤ k → lines_at k bytes ≡ Ok ls
-    → Joined SpellsLine bytes ls
+    → SpellsAll SpellsLine bytes ls
 unfolding lines_at
-lines_found k [] ls h e = subst (Joined SpellsLine []) (ok_is [] ls e) refl
+lines_found k [] ls h e = subst (SpellsAll SpellsLine []) (ok_is [] ls e) refl
 lines_found zero (b ∷ bytes) ls h e = absurd (omega (arith, h))
 lines_found (suc k) (b ∷ bytes) ls h e =
     let r = bind_ok (line_at (b ∷ bytes)) (behind k) ls e in
     let m = bind_ok (lines_at k r.0.1) (λ ls. Ok (r.0.0 ∷ ls)) ls r.2 in
     let t = line_takes (b ∷ bytes) r.0.0 r.0.1 r.1 in
-    subst (Joined SpellsLine (b ∷ bytes)) (ok_is (r.0.0 ∷ m.0) ls m.2)
+    subst (SpellsAll SpellsLine (b ∷ bytes)) (ok_is (r.0.0 ∷ m.0) ls m.2)
     (t.encoding, r.0.1, t.parts, t.spells, lines_found k r.0.1 m.0 (omega (arith, h, t.shorter)) m.1)
 
 -- ---- and what is spelled so is read
@@ -74,7 +74,7 @@ joined_turn k bytes encoding more l e s h =
     let short = behind_shorter bytes encoding more l e s in
     (ap (lines_at k) e ∙ turn k encoding more l s (omega (arith, h, short)), omega (arith, h, short))
 
-lines_again : (ls : List Line) (k : ℕ) (bytes : List ℕ) → length bytes ≤ k → Joined SpellsLine bytes ls
+lines_again : (ls : List Line) (k : ℕ) (bytes : List ℕ) → length bytes ≤ k → SpellsAll SpellsLine bytes ls
     → lines_at k bytes ≡ Ok ls
 unfolding lines_at
 lines_again [] k bytes h j = ap (lines_at k) j
@@ -135,7 +135,7 @@ stop_now zero next more fault h e = absurd (omega (arith, h))
 stop_now (suc k) next more fault h e = rw e refl
 
 lines_stop_at : (lines : List Line) (k : ℕ) (bytes front : List ℕ) (next : ℕ) (more : List ℕ) (fault : KindFault)
-    → length bytes ≤ k → bytes ≡ front ++ next ∷ more → Joined SpellsLine front lines
+    → length bytes ≤ k → bytes ≡ front ++ next ∷ more → SpellsAll SpellsLine front lines
     → line_at (next ∷ more) ≡ Err fault → lines_at k bytes ≡ Err fault
 lines_stop_at [] k bytes front next more fault h e j stop =
     let is : bytes ≡ next ∷ more = e ∙ ap (λ (t : List ℕ). t ++ next ∷ more) j in

@@ -4,7 +4,7 @@ use Rattle.qpack_spec.specs.Form.{Form, Spells}
 use Rattle.qpack_spec.specs.Instruction.{SpellsEncoderInstruction}
 use Rattle.qpack_spec.specs.Instruction.{SpellsDecoderInstruction, encoder_instruction_form}
 use Rattle.qpack_spec.specs.Instruction.{decoder_instruction_form}
-use Rattle.qpack_spec.specs.Stream.{Joined, IsCutOff, Holds}
+use Rattle.qpack_spec.specs.Stream.{SpellsAll, IsCutOff, Holds}
 use Rattle.qpack_spec.proofs.Cuttings.{wire, nil_append, joined_append, one_reading}
 use Rattle.qpack_wire.specs.Cuttings.{joined_pieces, ReadInPieces, CuttingChangesNothing}
 
@@ -16,7 +16,7 @@ in_pieces L spells [] unread lines rest c h =
     record {
       front = [];
       cut = append-nil unread ∙ sym h.1;
-      joined = subst (λ (x : List L). Joined spells [] x) (sym h.0) refl;
+      joined = subst (λ (x : List L). SpellsAll spells [] x) (sym h.0) refl;
       cut_off = subst (IsCutOff spells) (sym h.1) c;
     }
 in_pieces L spells (piece ∷ pieces) unread lines rest c h =
@@ -29,7 +29,7 @@ in_pieces L spells (piece ∷ pieces) unread lines rest c h =
     record {
       front = first.front ++ more.front;
       cut = parts;
-      joined = subst (λ (x : List L). Joined spells (first.front ++ more.front) x) (sym h.5)
+      joined = subst (λ (x : List L). SpellsAll spells (first.front ++ more.front) x) (sym h.5)
           (joined_append spells first.front more.front h.0 h.2 first.joined more.joined);
       cut_off = more.cut_off;
     }

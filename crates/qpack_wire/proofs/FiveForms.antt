@@ -6,7 +6,7 @@ use Rattle.std.proofs.lemmas.Bool.{ltb-true, eqb-true, le-ltb, cases_lt}
 use Rattle.qpack_spec.specs.Form.{Form}
 use Rattle.qpack_spec.specs.Line.{Line, SpellsLine, line_form}
 use Rattle.qpack_wire.specs.Alone.{Kind, form_for, SpellsKind}
-use Rattle.qpack_wire.specs.Lines.{indexed, indexed_with_post_base, literal_with_name_ref}
+use Rattle.qpack_wire.specs.Lines.{indexed_line, indexed_line_with_post_base, literal_with_name_ref}
 use Rattle.qpack_wire.specs.Lines.{literal_with_post_base_name_ref, literal}
 use Rattle.qpack_wire.specs.LineLaws.{LinesHaveFiveForms}
 use Rattle.qpack_wire.proofs.BlockLines.{same_indexed, same_post_base, same_name_ref, same_post_base_name_ref}
@@ -25,14 +25,15 @@ one_holds false other x y form e = inr (test_holds other y form e)
 
 -- ---- a form alone names what the line's first byte names
 
-named_indexed : (b : ℕ) (form : Form Line) → form_for indexed b ≡ Some form → line_form b ≡ Some form
+named_indexed : (b : ℕ) (form : Form Line) → form_for indexed_line b ≡ Some form → line_form b ≡ Some form
 named_indexed b form e = pick (one_holds (nat_eq (b / 64) 3) (nat_eq (b / 64) 2) _ _ form e)
   where
     pick : (nat_eq (b / 64) 3 ≡ true) ⊎ (nat_eq (b / 64) 2 ≡ true) → line_form b ≡ Some form
     pick (inl h) = let q = eqb-true (b / 64) 3 h in sym (same_indexed b (omega (arith, q)) (omega (arith, q))) ∙ e
     pick (inr h) = let q = eqb-true (b / 64) 2 h in sym (same_indexed b (omega (arith, q)) (omega (arith, q))) ∙ e
 
-named_post_base : (b : ℕ) (form : Form Line) → form_for indexed_with_post_base b ≡ Some form → line_form b ≡ Some form
+named_post_base : (b : ℕ) (form : Form Line) → form_for indexed_line_with_post_base b ≡ Some form
+    → line_form b ≡ Some form
 named_post_base b form e =
     let q = eqb-true (b / 16) 1 (test_holds (nat_eq (b / 16) 1) _ form e) in
     sym (same_post_base b (omega (arith, q)) (omega (arith, q))) ∙ e
@@ -98,8 +99,8 @@ byte_first b form e =
     ]
 
 apart : (encoding : List ℕ) (l : Line) → SpellsLine encoding l
-    → SpellsKind indexed encoding l
-    ⊎ (SpellsKind indexed_with_post_base encoding l
+    → SpellsKind indexed_line encoding l
+    ⊎ (SpellsKind indexed_line_with_post_base encoding l
     ⊎ (SpellsKind literal_with_name_ref encoding l ⊎ (SpellsKind literal_with_post_base_name_ref encoding l
     ⊎ SpellsKind literal encoding l)))
 apart encoding l s =
@@ -108,7 +109,7 @@ apart encoding l s =
           (same_post_base_name_ref s.first h)))))
       | inr h16 ↦
           elim (cases_lt s.first 32) [
-            | inl h ↦ inr (inl (alone indexed_with_post_base encoding l s (same_post_base s.first h16 h)))
+            | inl h ↦ inr (inl (alone indexed_line_with_post_base encoding l s (same_post_base s.first h16 h)))
             | inr h32 ↦
                 elim (cases_lt s.first 64) [
                   | inl h ↦ inr (inr (inr (inr (alone literal encoding l s (same_literal s.first h32 h)))))
@@ -116,7 +117,7 @@ apart encoding l s =
                       elim (cases_lt s.first 128) [
                         | inl h ↦ inr (inr (inl
                             (alone literal_with_name_ref encoding l s (same_name_ref s.first h64 h))))
-                        | inr h128 ↦ inl (alone indexed encoding l s (same_indexed s.first h128
+                        | inr h128 ↦ inl (alone indexed_line encoding l s (same_indexed s.first h128
                             (byte_first s.first s.form s.names)))
                       ]
                 ]
@@ -126,13 +127,13 @@ apart encoding l s =
 pub five_forms : LinesHaveFiveForms
 five_forms encoding l = (apart encoding l, together)
   where
-    together : SpellsKind indexed encoding l
-        ⊎ (SpellsKind indexed_with_post_base encoding l
+    together : SpellsKind indexed_line encoding l
+        ⊎ (SpellsKind indexed_line_with_post_base encoding l
         ⊎ (SpellsKind literal_with_name_ref encoding l ⊎ (SpellsKind literal_with_post_base_name_ref encoding l
         ⊎ SpellsKind literal encoding l)))
         → SpellsLine encoding l
-    together (inl s) = spelled indexed encoding l named_indexed s
-    together (inr (inl s)) = spelled indexed_with_post_base encoding l named_post_base s
+    together (inl s) = spelled indexed_line encoding l named_indexed s
+    together (inr (inl s)) = spelled indexed_line_with_post_base encoding l named_post_base s
     together (inr (inr (inl s))) = spelled literal_with_name_ref encoding l named_name_ref s
     together (inr (inr (inr (inl s)))) = spelled literal_with_post_base_name_ref encoding l named_post_base_name_ref s
     together (inr (inr (inr (inr s)))) = spelled literal encoding l named_literal s

@@ -6,7 +6,7 @@ use Rattle.qpack_spec.specs.Form.{Form, Index, IndexAndValue}
 use Rattle.qpack_spec.specs.Line.{Line, IndexedStatic, IndexedDynamic, IndexedPostBase, NamedStatic, NamedDynamic}
 use Rattle.qpack_spec.specs.Line.{NamedPostBase}
 use Rattle.qpack_wire.specs.Alone.{SpellsKind, RefusesKind, kind_at}
-use Rattle.qpack_wire.specs.Lines.{indexed, indexed_with_post_base, literal_with_name_ref}
+use Rattle.qpack_wire.specs.Lines.{indexed_line, indexed_line_with_post_base, literal_with_name_ref}
 use Rattle.qpack_wire.specs.Lines.{literal_with_post_base_name_ref, literal}
 use Rattle.qpack_wire.proofs.Readers.{Follows}
 use Rattle.qpack_wire.proofs.Alones.{HasPrefix, Coherent, alone_follows}
@@ -24,7 +24,7 @@ this_prefix n f form h e = subst (λ g. HasPrefix n g) (same_Some f form e) h
 pub none_prefix : {L : Type 0} (n : ℕ) (form : Form L) → None ≡ Some form → HasPrefix n form
 none_prefix n form e = absurd cc
 
-pub coherent_indexed : Coherent indexed
+pub coherent_indexed : Coherent indexed_line
 coherent_indexed flags form e =
     chosen_prefix 6 (nat_eq flags 3) (Some (Index 6 IndexedStatic))
     (if nat_eq flags 2 then Some (Index 6 IndexedDynamic) else None) form
@@ -33,7 +33,7 @@ coherent_indexed flags form e =
     (λ g. this_prefix 6 (Index 6 IndexedDynamic) g refl) (λ g. none_prefix 6 g))
     e
 
-pub coherent_post_base : Coherent indexed_with_post_base
+pub coherent_post_base : Coherent indexed_line_with_post_base
 coherent_post_base flags form e =
     chosen_prefix 4 (nat_eq flags 1) (Some (Index 4 IndexedPostBase)) None form
     (λ f. this_prefix 4 (Index 4 IndexedPostBase) f refl) (λ f. none_prefix 4 f) e
@@ -56,12 +56,12 @@ coherent_post_base_name_ref flags form e =
 
 -- ---- each form
 
-pub indexed_follows : Follows Line (SpellsKind indexed) (RefusesKind indexed) (kind_at indexed)
-indexed_follows = alone_follows indexed coherent_indexed
+pub indexed_follows : Follows Line (SpellsKind indexed_line) (RefusesKind indexed_line) (kind_at indexed_line)
+indexed_follows = alone_follows indexed_line coherent_indexed
 
-pub post_base_follows : Follows Line (SpellsKind indexed_with_post_base) (RefusesKind indexed_with_post_base)
-    (kind_at indexed_with_post_base)
-post_base_follows = alone_follows indexed_with_post_base coherent_post_base
+pub post_base_follows : Follows Line (SpellsKind indexed_line_with_post_base) (RefusesKind indexed_line_with_post_base)
+    (kind_at indexed_line_with_post_base)
+post_base_follows = alone_follows indexed_line_with_post_base coherent_post_base
 
 pub name_ref_follows : Follows Line (SpellsKind literal_with_name_ref) (RefusesKind literal_with_name_ref)
     (kind_at literal_with_name_ref)

@@ -91,54 +91,54 @@ shares_name b low high =
     ]
 
 -- the first bytes of each encoder instruction
-abbrev ToldEncoder : ℕ → EncoderKind → Type 0
-ToldEncoder b encoder.DynamicTableSizeUpdate = (32 ≤ b) × (b < 64)
-ToldEncoder b encoder.InsertWithNameRef = 128 ≤ b
-ToldEncoder b encoder.InsertWithoutNameRef = (64 ≤ b) × (b < 128)
-ToldEncoder b encoder.Duplicate = b < 32
-ToldEncoder b encoder.Unknown = ⊥
+abbrev IsFirstOfEncoder : ℕ → EncoderKind → Type 0
+IsFirstOfEncoder b encoder.DynamicTableSizeUpdate = (32 ≤ b) × (b < 64)
+IsFirstOfEncoder b encoder.InsertWithNameRef = 128 ≤ b
+IsFirstOfEncoder b encoder.InsertWithoutNameRef = (64 ≤ b) × (b < 128)
+IsFirstOfEncoder b encoder.Duplicate = b < 32
+IsFirstOfEncoder b encoder.Unknown = ⊥
 
-told_duplicate : (b : ℕ) → b < 32 → encoder_instruction_of_first b ≡ encoder.Duplicate
-told_duplicate b h = rw (lt-ltb b 32 h) refl
+first_of_duplicate : (b : ℕ) → b < 32 → encoder_instruction_of_first b ≡ encoder.Duplicate
+first_of_duplicate b h = rw (lt-ltb b 32 h) refl
 
-told_size_update : (b : ℕ) → 32 ≤ b → b < 64 → encoder_instruction_of_first b ≡ encoder.DynamicTableSizeUpdate
-told_size_update b low high = rw (le-ltb b 32 low, lt-ltb b 64 high) refl
+first_of_size_update : (b : ℕ) → 32 ≤ b → b < 64 → encoder_instruction_of_first b ≡ encoder.DynamicTableSizeUpdate
+first_of_size_update b low high = rw (le-ltb b 32 low, lt-ltb b 64 high) refl
 
-told_literal : (b : ℕ) → 64 ≤ b → b < 128 → encoder_instruction_of_first b ≡ encoder.InsertWithoutNameRef
-told_literal b low high = rw (le-ltb b 32 (omega arith), le-ltb b 64 low, lt-ltb b 128 high) refl
+first_of_literal : (b : ℕ) → 64 ≤ b → b < 128 → encoder_instruction_of_first b ≡ encoder.InsertWithoutNameRef
+first_of_literal b low high = rw (le-ltb b 32 (omega arith), le-ltb b 64 low, lt-ltb b 128 high) refl
 
-told_name : (b : ℕ) → 128 ≤ b → encoder_instruction_of_first b ≡ encoder.InsertWithNameRef
-told_name b low = rw (le-ltb b 32 (omega arith), le-ltb b 64 (omega arith), le-ltb b 128 low) refl
+first_of_name : (b : ℕ) → 128 ≤ b → encoder_instruction_of_first b ≡ encoder.InsertWithNameRef
+first_of_name b low = rw (le-ltb b 32 (omega arith), le-ltb b 64 (omega arith), le-ltb b 128 low) refl
 
-told_encoder : (b : ℕ) (i : EncoderKind) → encoder_instruction_of_first b ≡ i → ToldEncoder b i
-told_encoder b i e =
-    subst (ToldEncoder b) e
-    (elim (cases_lt b 32) as (λ _. ToldEncoder b (encoder_instruction_of_first b)) [
-      | inl h ↦ subst (ToldEncoder b) (sym (told_duplicate b h)) h
+first_of_encoder : (b : ℕ) (i : EncoderKind) → encoder_instruction_of_first b ≡ i → IsFirstOfEncoder b i
+first_of_encoder b i e =
+    subst (IsFirstOfEncoder b) e
+    (elim (cases_lt b 32) as (λ _. IsFirstOfEncoder b (encoder_instruction_of_first b)) [
+      | inl h ↦ subst (IsFirstOfEncoder b) (sym (first_of_duplicate b h)) h
       | inr h32 ↦
-          elim (cases_lt b 64) as (λ _. ToldEncoder b (encoder_instruction_of_first b)) [
-            | inl h ↦ subst (ToldEncoder b) (sym (told_size_update b h32 h)) (h32, h)
+          elim (cases_lt b 64) as (λ _. IsFirstOfEncoder b (encoder_instruction_of_first b)) [
+            | inl h ↦ subst (IsFirstOfEncoder b) (sym (first_of_size_update b h32 h)) (h32, h)
             | inr h64 ↦
-                elim (cases_lt b 128) as (λ _. ToldEncoder b (encoder_instruction_of_first b)) [
-                  | inl h ↦ subst (ToldEncoder b) (sym (told_literal b h64 h)) (h64, h)
-                  | inr h128 ↦ subst (ToldEncoder b) (sym (told_name b h128)) h128
+                elim (cases_lt b 128) as (λ _. IsFirstOfEncoder b (encoder_instruction_of_first b)) [
+                  | inl h ↦ subst (IsFirstOfEncoder b) (sym (first_of_literal b h64 h)) (h64, h)
+                  | inr h128 ↦ subst (IsFirstOfEncoder b) (sym (first_of_name b h128)) h128
                 ]
           ]
     ])
 
 pub no_unknown_encoder : (b : ℕ) → encoder_instruction_of_first b ≡ encoder.Unknown → ⊥
-no_unknown_encoder b e = told_encoder b encoder.Unknown e
+no_unknown_encoder b e = first_of_encoder b encoder.Unknown e
 
 pub as_duplicate : (b : ℕ) (rest : List ℕ) → b < 256 → BeginsWith b rest
     → encoder_instruction_of_first b ≡ encoder.Duplicate → kind_at duplicate rest ≡ encoder_instruction_at rest
 as_duplicate b rest h e f = as_form encoder_instruction_form duplicate coherent_duplicate b rest e
-    (shares_duplicate b (told_encoder b encoder.Duplicate f))
+    (shares_duplicate b (first_of_encoder b encoder.Duplicate f))
 
 pub as_size_update : (b : ℕ) (rest : List ℕ) → b < 256 → BeginsWith b rest
     → encoder_instruction_of_first b ≡ encoder.DynamicTableSizeUpdate
     → kind_at dynamic_table_size_update rest ≡ encoder_instruction_at rest
 as_size_update b rest h e f =
-    let t = told_encoder b encoder.DynamicTableSizeUpdate f in
+    let t = first_of_encoder b encoder.DynamicTableSizeUpdate f in
     as_form encoder_instruction_form dynamic_table_size_update coherent_dynamic_table_size_update b rest e
     (shares_size_update b t.0 t.1)
 
@@ -146,7 +146,7 @@ pub as_literal_insert : (b : ℕ) (rest : List ℕ) → b < 256 → BeginsWith b
     → encoder_instruction_of_first b ≡ encoder.InsertWithoutNameRef
     → kind_at insert_without_name_ref rest ≡ encoder_instruction_at rest
 as_literal_insert b rest h e f =
-    let t = told_encoder b encoder.InsertWithoutNameRef f in
+    let t = first_of_encoder b encoder.InsertWithoutNameRef f in
     as_form encoder_instruction_form insert_without_name_ref tt b rest e (shares_literal b t.0 t.1)
 
 pub as_name_insert : (b : ℕ) (rest : List ℕ) → b < 256 → BeginsWith b rest
@@ -154,7 +154,7 @@ pub as_name_insert : (b : ℕ) (rest : List ℕ) → b < 256 → BeginsWith b re
     → kind_at insert_with_name_ref rest ≡ encoder_instruction_at rest
 as_name_insert b rest h e f =
     as_form encoder_instruction_form insert_with_name_ref coherent_insert_with_name_ref b rest e
-    (shares_name b (told_encoder b encoder.InsertWithNameRef f) h)
+    (shares_name b (first_of_encoder b encoder.InsertWithNameRef f) h)
 
 -- memory is asked for the instruction where it is for its kind
 
@@ -166,13 +166,13 @@ pub asks_name_insert : (b : ℕ) (rest : List ℕ) → b < 256 → BeginsWith b 
     → encoder_instruction_of_first b ≡ encoder.InsertWithNameRef → AsksAt insert_with_name_ref rest
     → AsksForMemory encoder_instruction_form rest
 asks_name_insert b rest h e f a = asks_form encoder_instruction_form insert_with_name_ref b rest e
-    (shares_name b (told_encoder b encoder.InsertWithNameRef f) h) a
+    (shares_name b (first_of_encoder b encoder.InsertWithNameRef f) h) a
 
 pub asks_literal_insert : (b : ℕ) (rest : List ℕ) → b < 256 → BeginsWith b rest
     → encoder_instruction_of_first b ≡ encoder.InsertWithoutNameRef → AsksAt insert_without_name_ref rest
     → AsksForMemory encoder_instruction_form rest
 asks_literal_insert b rest h e f a =
-    let t = told_encoder b encoder.InsertWithoutNameRef f in
+    let t = first_of_encoder b encoder.InsertWithoutNameRef f in
     asks_form encoder_instruction_form insert_without_name_ref b rest e (shares_literal b t.0 t.1) a
 
 -- each encoder instruction, where the first byte tells it
@@ -207,54 +207,54 @@ shares_ack b low high = (
 )
 
 -- the first bytes of each decoder instruction
-abbrev ToldDecoder : ℕ → DecoderKind → Type 0
-ToldDecoder b decoder.HeaderAck = 128 ≤ b
-ToldDecoder b decoder.StreamCancel = (64 ≤ b) × (b < 128)
-ToldDecoder b decoder.InsertCountIncrement = b < 64
-ToldDecoder b decoder.Unknown = ⊥
+abbrev IsFirstOfDecoder : ℕ → DecoderKind → Type 0
+IsFirstOfDecoder b decoder.HeaderAck = 128 ≤ b
+IsFirstOfDecoder b decoder.StreamCancel = (64 ≤ b) × (b < 128)
+IsFirstOfDecoder b decoder.InsertCountIncrement = b < 64
+IsFirstOfDecoder b decoder.Unknown = ⊥
 
-told_increment : (b : ℕ) → b < 64 → decoder_instruction_of_first b ≡ decoder.InsertCountIncrement
-told_increment b h = rw (lt-ltb b 64 h) refl
+first_of_increment : (b : ℕ) → b < 64 → decoder_instruction_of_first b ≡ decoder.InsertCountIncrement
+first_of_increment b h = rw (lt-ltb b 64 h) refl
 
-told_cancel : (b : ℕ) → 64 ≤ b → b < 128 → decoder_instruction_of_first b ≡ decoder.StreamCancel
-told_cancel b low high = rw (le-ltb b 64 low, lt-ltb b 128 high) refl
+first_of_cancel : (b : ℕ) → 64 ≤ b → b < 128 → decoder_instruction_of_first b ≡ decoder.StreamCancel
+first_of_cancel b low high = rw (le-ltb b 64 low, lt-ltb b 128 high) refl
 
-told_ack : (b : ℕ) → 128 ≤ b → decoder_instruction_of_first b ≡ decoder.HeaderAck
-told_ack b low = rw (le-ltb b 64 (omega arith), le-ltb b 128 low) refl
+first_of_ack : (b : ℕ) → 128 ≤ b → decoder_instruction_of_first b ≡ decoder.HeaderAck
+first_of_ack b low = rw (le-ltb b 64 (omega arith), le-ltb b 128 low) refl
 
-told_decoder : (b : ℕ) (i : DecoderKind) → decoder_instruction_of_first b ≡ i → ToldDecoder b i
-told_decoder b i e =
-    subst (ToldDecoder b) e
-    (elim (cases_lt b 64) as (λ _. ToldDecoder b (decoder_instruction_of_first b)) [
-      | inl h ↦ subst (ToldDecoder b) (sym (told_increment b h)) h
+first_of_decoder : (b : ℕ) (i : DecoderKind) → decoder_instruction_of_first b ≡ i → IsFirstOfDecoder b i
+first_of_decoder b i e =
+    subst (IsFirstOfDecoder b) e
+    (elim (cases_lt b 64) as (λ _. IsFirstOfDecoder b (decoder_instruction_of_first b)) [
+      | inl h ↦ subst (IsFirstOfDecoder b) (sym (first_of_increment b h)) h
       | inr h64 ↦
-          elim (cases_lt b 128) as (λ _. ToldDecoder b (decoder_instruction_of_first b)) [
-            | inl h ↦ subst (ToldDecoder b) (sym (told_cancel b h64 h)) (h64, h)
-            | inr h128 ↦ subst (ToldDecoder b) (sym (told_ack b h128)) h128
+          elim (cases_lt b 128) as (λ _. IsFirstOfDecoder b (decoder_instruction_of_first b)) [
+            | inl h ↦ subst (IsFirstOfDecoder b) (sym (first_of_cancel b h64 h)) (h64, h)
+            | inr h128 ↦ subst (IsFirstOfDecoder b) (sym (first_of_ack b h128)) h128
           ]
     ])
 
 pub no_unknown_decoder : (b : ℕ) → decoder_instruction_of_first b ≡ decoder.Unknown → ⊥
-no_unknown_decoder b e = told_decoder b decoder.Unknown e
+no_unknown_decoder b e = first_of_decoder b decoder.Unknown e
 
 pub as_increment : (b : ℕ) (rest : List ℕ) → b < 256 → BeginsWith b rest
     → decoder_instruction_of_first b ≡ decoder.InsertCountIncrement
     → kind_at insert_count_increment rest ≡ decoder_instruction_at rest
 as_increment b rest h e f =
     as_form decoder_instruction_form insert_count_increment coherent_insert_count_increment b rest e
-    (shares_increment b (told_decoder b decoder.InsertCountIncrement f))
+    (shares_increment b (first_of_decoder b decoder.InsertCountIncrement f))
 
 pub as_cancel : (b : ℕ) (rest : List ℕ) → b < 256 → BeginsWith b rest
     → decoder_instruction_of_first b ≡ decoder.StreamCancel → kind_at stream_cancel rest ≡ decoder_instruction_at rest
 as_cancel b rest h e f =
-    let t = told_decoder b decoder.StreamCancel f in
+    let t = first_of_decoder b decoder.StreamCancel f in
     as_form decoder_instruction_form stream_cancel coherent_stream_cancel b rest e (shares_cancel b t.0 t.1)
 
 pub as_ack : (b : ℕ) (rest : List ℕ) → b < 256 → BeginsWith b rest → decoder_instruction_of_first b ≡ decoder.HeaderAck
     → kind_at header_ack rest ≡ decoder_instruction_at rest
 as_ack b rest h e f =
     as_form decoder_instruction_form header_ack coherent_header_ack b rest e
-    (shares_ack b (told_decoder b decoder.HeaderAck f) h)
+    (shares_ack b (first_of_decoder b decoder.HeaderAck f) h)
 
 -- each decoder instruction, where the first byte tells it
 pub ruleset decoder_by_first = (as_increment, as_cancel, as_ack, no_unknown_decoder)

@@ -6,7 +6,7 @@ use Rattle.qpack_spec.specs.Form.{InTurn}
 use Rattle.qpack_spec.specs.Line.{Line, SpellsLine}
 use Rattle.qpack_spec.specs.Prefix.{SpellsPrefix}
 use Rattle.qpack_spec.specs.Reading.{Block}
-use Rattle.qpack_spec.specs.Stream.{Joined}
+use Rattle.qpack_spec.specs.Stream.{SpellsAll}
 use Rattle.qpack_base.specs.declared.parse_error.ParseError.{ParseError}
 use Rattle.qpack_base.specs.declared.parse_error.ParseError.TheVariants.{Memory}
 use Rattle.qpack_wire.specs.Alone.{KindFault}
@@ -27,7 +27,7 @@ block_of b = record { prefix = prefix_of b.0; lines = lines_of b.1 }
 
 -- the bytes are the block: its prefix, and behind it its lines, one behind the other
 abbrev pub SpellsBlock : List ℕ → Block → Type 0
-SpellsBlock encoding b = InTurn (λ t. SpellsPrefix t b.prefix) (λ t. Joined SpellsLine t b.lines) encoding
+SpellsBlock encoding b = InTurn (λ t. SpellsPrefix t b.prefix) (λ t. SpellsAll SpellsLine t b.lines) encoding
 
 -- behind lines that stand whole the next one can't be read
 pub record StopsLines (bytes : List ℕ) (fault : KindFault) : Type 0 where
@@ -36,7 +36,7 @@ pub record StopsLines (bytes : List ℕ) (fault : KindFault) : Type 0 where
   pub next : ℕ
   pub more : List ℕ
   pub cut : bytes ≡ front ++ next ∷ more
-  pub joined : Joined SpellsLine front lines
+  pub joined : SpellsAll SpellsLine front lines
   pub stops : line_at (next ∷ more) ≡ Err fault
 
 -- why the bytes are no block: their prefix can't be read, or a line behind a whole prefix

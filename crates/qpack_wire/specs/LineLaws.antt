@@ -2,7 +2,7 @@
 use Rattle.std.specs.Prelude.{ℕ, ◌⊎◌, ◌↔◌, List}
 use Rattle.qpack_spec.specs.Line.{Line, SpellsLine}
 use Rattle.qpack_wire.specs.Alone.{SpellsKind}
-use Rattle.qpack_wire.specs.Lines.{indexed, indexed_with_post_base, literal_with_name_ref}
+use Rattle.qpack_wire.specs.Lines.{indexed_line, indexed_line_with_post_base, literal_with_name_ref}
 use Rattle.qpack_wire.specs.Lines.{literal_with_post_base_name_ref, literal}
 
 -- a spelling of a line is one in one of the five forms
@@ -10,7 +10,7 @@ abbrev pub LinesHaveFiveForms : Type 0
 LinesHaveFiveForms =
     (encoding : List ℕ) (l : Line)
     → SpellsLine encoding l
-    ↔ (SpellsKind indexed encoding l
-    ⊎ (SpellsKind indexed_with_post_base encoding l
+    ↔ (SpellsKind indexed_line encoding l
+    ⊎ (SpellsKind indexed_line_with_post_base encoding l
     ⊎ (SpellsKind literal_with_name_ref encoding l ⊎ (SpellsKind literal_with_post_base_name_ref encoding l
     ⊎ SpellsKind literal encoding l))))

@@ -22,16 +22,16 @@ indexed_form flags =
     else None
 
 -- an indexed field line (section 4.5.2)
-abbrev pub indexed : Kind Line
-indexed = ByFlags 6 indexed_form
+abbrev pub indexed_line : Kind Line
+indexed_line = ByFlags 6 indexed_form
 
 -- the first bits 0001
 abbrev pub indexed_with_post_base_form : ℕ → Option (Form Line)
 indexed_with_post_base_form flags = if nat_eq flags 1 then Some (Index 4 IndexedPostBase) else None
 
 -- an indexed field line with a post-base index (section 4.5.3)
-abbrev pub indexed_with_post_base : Kind Line
-indexed_with_post_base = ByFlags 4 indexed_with_post_base_form
+abbrev pub indexed_line_with_post_base : Kind Line
+indexed_line_with_post_base = ByFlags 4 indexed_with_post_base_form
 
 -- the first bits 01NT, T being 1 for the static table; N is free
 abbrev pub literal_with_name_ref_form : ℕ → Option (Form Line)

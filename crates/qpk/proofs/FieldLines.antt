@@ -19,8 +19,8 @@ at byte bytes = position_or_len (λ b. eqb b byte) bytes
 abbrev found : ℕ → List ℕ → Option ℕ
 found byte bytes = position (λ b. eqb b byte) bytes
 
-place_is : (byte : ℕ) (bytes : List ℕ) (n : ℕ) → found byte bytes ≡ Some n → (n ≡ at byte bytes) × (n < length bytes)
-place_is byte bytes n e =
+index_is : (byte : ℕ) (bytes : List ℕ) (n : ℕ) → found byte bytes ≡ Some n → (n ≡ at byte bytes) × (n < length bytes)
+index_is byte bytes n e =
     elim (cases_lt (at byte bytes) (length bytes)) [
       | inl lt ↦
           let s : Some (at byte bytes) ≡ Some n = sym (rw (lt-ltb _ _ lt) refl) ∙ e in
@@ -75,8 +75,8 @@ abbrev pub Parts : Type 0
 Parts = Bor (List ℕ) × Bor (List ℕ)
 
 abbrev pub PartsAt : ℕ → List ℕ → Parts → Type 0
-PartsAt byte bytes parts = (place : ℕ) × (found byte bytes ≡ Some place) × (parts.0.now ≡ take place bytes)
-    × (parts.1.now ≡ drop (place + 1) bytes)
+PartsAt byte bytes parts = (index : ℕ) × (found byte bytes ≡ Some index) × (parts.0.now ≡ take index bytes)
+    × (parts.1.now ≡ drop (index + 1) bytes)
 
 pub first_line : (bytes : List ℕ) (o : Option Parts) (d r : Parts) → 0 < length bytes
     → MatchOption o (found 10 bytes ≡ None) (PartsAt 10 bytes)
@@ -85,7 +85,7 @@ first_line bytes None d r h parts whole none is =
     let l = line_whole bytes h (nowhere 10 bytes parts) in
     rw (is, whole, none) l
 first_line bytes (Some x) d r h parts whole none is =
-    let n = place_is 10 bytes parts.0 parts.1 in
+    let n = index_is 10 bytes parts.0 parts.1 in
     let l = line_ends bytes (omega arith) in
     let s : parts.0 + 1 ≡ suc parts.0 = omega arith in
     rw (is, parts.2, parts.3, s, n.0) l
@@ -123,6 +123,6 @@ pub field_parts : (bytes : List ℕ) (o : Option Parts) → MatchOption o (found
     (λ parts. field_of_line bytes ≡ Some (record { name = parts.0.now; value = parts.1.now }))
 field_parts bytes None h = no_field bytes (nowhere 9 bytes h)
 field_parts bytes (Some x) h =
-    let n = place_is 9 bytes h.0 h.1 in
+    let n = index_is 9 bytes h.0 h.1 in
     let s : h.0 + 1 ≡ suc h.0 = omega arith in
     rw (h.2, h.3, s, n.0) (field_ends bytes (omega arith))

@@ -7,7 +7,8 @@ use Rattle.std.proofs.lemmas.List.{drop-append-le, drop-drop, drop_more, drop_al
 use Rattle.qpack_spec.specs.Table.{Table}
 use Rattle.h3_qpack.specs.declared.decoder.DecoderError.{DecoderError}
 use Rattle.qpk.specs.Inspecting.{Event, Piece, Section, Inspects}
-use Rattle.qpk.specs.Inspections.{event_of, events_in, Hears, FailsHearing, InspectsBlock, FailsInspecting}
+use Rattle.qpk.specs.Inspections.{event_of, events_in, InspectsInstructions, FailsInstructions, InspectsBlock}
+use Rattle.qpk.specs.Inspections.{FailsInspecting}
 use Rattle.qpk.specs.Inspections.{InspectsEvents}
 use Rattle.qpk.specs.declared.inspect.events.Event.{Event as ReadEvent}
 use Rattle.qpk.specs.declared.text.Fault.{Fault}
@@ -27,20 +28,20 @@ pub next_is : (events : List ReadEvent) (i : ℕ) (d : ReadEvent) → i < length
     → events_in (drop i events) ≡ event_of (get_or events i d) ∷ events_in (drop (i + 1) events)
 next_is events i d h = ap events_in (drop_more events i d h)
 
--- a piece of the encoder stream that was heard
-goes_heard : (start now new : Table) (all left : List Event) (before text after unread piece : List ℕ) (taken : ℕ)
+-- a piece of the encoder stream that was inspected
+goes_inspected : (start now new : Table) (all left : List Event) (before text after unread piece : List ℕ) (taken : ℕ)
     → Goes start all before now unread (Piece piece ∷ left) text
-    → Hears now new (unread ++ piece) text after (Ok taken)
+    → InspectsInstructions now new (unread ++ piece) text after (Ok taken)
     → Goes start all before new (drop taken (unread ++ piece)) left after
-goes_heard start now new all left before text after unread piece taken goes hears more refused h =
-    let g = goes (hears.0 ++ more) refused
-    (inl (new, drop taken (unread ++ piece), hears.0, more, hears.1, h, refl)) in
-    (g.0, g.1, ap (λ (x : List ℕ). x ++ more) hears.2 ∙ append_assoc text hears.0 more ∙ g.2)
+goes_inspected start now new all left before text after unread piece taken goes inspects more refused h =
+    let g = goes (inspects.0 ++ more) refused
+    (inl (new, drop taken (unread ++ piece), inspects.0, more, inspects.1, h, refl)) in
+    (g.0, g.1, ap (λ (x : List ℕ). x ++ more) inspects.2 ∙ append_assoc text inspects.0 more ∙ g.2)
 
 -- a piece that is refused
 pub goes_until : (start now : Table) (all left : List Event) (before text after unread piece : List ℕ) (fault : Fault)
     → Goes start all before now unread (Piece piece ∷ left) text
-    → FailsHearing now (unread ++ piece) text after fault → FailsInspecting start all before after fault
+    → FailsInstructions now (unread ++ piece) text after fault → FailsInspecting start all before after fault
 goes_until start now all left before text after unread piece (Refused e) goes fails =
     let g = goes fails.0 (Some e) (inr (e, fails.1, refl)) in (g.0, g.1, fails.2 ∙ g.2)
 goes_until start now all left before text after unread piece Memory goes fails = tt
@@ -95,10 +96,11 @@ pub piece_moves : (start now new : Table) (all left : List Event) (before text a
     (taken more : ℕ)
     → Goes start all before now (drop taken stream) (Piece piece ∷ left) text → taken ≤ length stream
     → joined ≡ stream ++ piece → slice ≡ drop taken stream ++ piece
-    → Hears now new slice text after (Ok more) → Moved start new all left before after joined (taken + more)
-piece_moves start now new all left before text after stream joined piece slice taken more goes h e s hears =
+    → InspectsInstructions now new slice text after (Ok more)
+    → Moved start new all left before after joined (taken + more)
+piece_moves start now new all left before text after stream joined piece slice taken more goes h e s inspects =
     let unread = unread_is stream joined piece taken h e in
-    let heard = subst (λ (b : List ℕ). Hears now new b text after (Ok more)) s hears in
+    let inspected = subst (λ (b : List ℕ). InspectsInstructions now new b text after (Ok more)) s inspects in
     let further : drop (taken + more) joined ≡ drop more (drop taken stream ++ piece) =
     sym (drop-drop more taken joined) ∙ ap (drop more) unread in
     let n : length joined ≡ length stream + length piece = ap length e ∙ length-append stream piece in
@@ -106,8 +108,8 @@ piece_moves start now new all left before text after stream joined piece slice t
     ap length (sym unread) ∙ length-drop taken joined in
     record {
       goes = subst (λ (u : List ℕ). Goes start all before new u left after) (sym further)
-          (goes_heard start now new all left before text after (drop taken stream) piece more goes heard);
-      within = omega (arith, h, n, m, heard.3);
+          (goes_inspected start now new all left before text after (drop taken stream) piece more goes inspected);
+      within = omega (arith, h, n, m, inspected.3);
     }
 
 -- behind the last event none is left

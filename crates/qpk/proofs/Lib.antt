@@ -4,7 +4,7 @@ pub mod ScriptRuns
 pub mod Texts
 pub mod OneInstruction
 pub mod EmptyTables
-pub mod HeardLines
+pub mod InspectedInstructions
 pub mod InspectedEvents
 pub mod PrintedBlocks
 pub mod Words

@@ -4,7 +4,7 @@ use Rattle.std.proofs.Common.{sym, ap, subst, ◌∙◌, append_assoc, append-ni
 use Rattle.std.specs.Prelude.{⊤}
 use Rattle.qpack_spec.specs.Instruction.{EncoderInstruction, encoder_instruction_form, SpellsEncoderInstruction}
 use Rattle.qpack_spec.specs.Session.{apply_encoder_instructions}
-use Rattle.qpack_spec.specs.Stream.{Joined, Holds}
+use Rattle.qpack_spec.specs.Stream.{SpellsAll, Holds}
 use Rattle.qpack_spec.specs.Table.{Table, apply_encoder_instruction}
 use Rattle.qpack_spec.proofs.Cuttings.{wire, nil_append, streams_read}
 use Rattle.qpack_spec.proofs.Results.{bind_ok, ok_is}
@@ -98,7 +98,7 @@ none_behind front (b ∷ rest) e = let l = length-append front (b ∷ rest) in a
 one_refused : (old new : Table) (encoding left : List ℕ) (e : DecoderError) (i : EncoderInstruction)
     → SpellsEncoderInstruction encoding i → e ≢ Memory
     → (lines : List EncoderInstruction) (front rest : List ℕ) → encoding ≡ front ++ rest
-    → Joined SpellsEncoderInstruction front lines → apply_encoder_instructions old lines ≡ Ok new
+    → SpellsAll SpellsEncoderInstruction front lines → apply_encoder_instructions old lines ≡ Ok new
     → Stops new rest left e → RefusesWhole old new encoding e
 one_refused old new encoding left e i s room [] front rest cut joined applies stops =
     let same : old ≡ new = ok_is old new applies in

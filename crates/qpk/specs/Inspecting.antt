@@ -117,12 +117,12 @@ fields_text fs = numbers_text (codes "fields") (length fs) (saturated_size (tota
 -- ---- an event of the encoder stream: the instructions that stand whole are applied in turn
 
 -- each was applied, and what is left is truncated
-pub record HearsAll (old new : Table) (bytes left out : List ℕ) : Type 0 where
+pub record InspectsAll (old new : Table) (bytes left out : List ℕ) : Type 0 where
   pub takes : TakesInstructions old new bytes left (Ok tt)
   pub text : out ≡ instructions_text takes.lines ++ received_text new
 
 -- the one behind those that were applied is refused, and not for memory
-pub record HearsUntil (old : Table) (bytes : List ℕ) (e : DecoderError) (out : List ℕ) : Type 0 where
+pub record InspectsUntil (old : Table) (bytes : List ℕ) (e : DecoderError) (out : List ℕ) : Type 0 where
   pub new : Table
   pub left : List ℕ
   pub takes : TakesInstructions old new bytes left (Err e)
@@ -154,9 +154,9 @@ PrintsBlock t bytes out = PrintsReading t bytes (reading_of_bytes (window t) byt
 abbrev pub Inspects : Table → List ℕ → List Event → List ℕ → Option DecoderError → Type 0
 Inspects t unread [] out refused = (out ≡ []) × (refused ≡ None)
 Inspects t unread (Piece bytes ∷ events) out refused =
-    ((new : Table) × (left : List ℕ) × (here : List ℕ) × (more : List ℕ) × HearsAll t new (unread ++ bytes) left here
+    ((new : Table) × (left : List ℕ) × (here : List ℕ) × (more : List ℕ) × InspectsAll t new (unread ++ bytes) left here
     × Inspects new left events more refused × (out ≡ here ++ more))
-    ⊎ ((e : DecoderError) × HearsUntil t (unread ++ bytes) e out × (refused ≡ Some e))
+    ⊎ ((e : DecoderError) × InspectsUntil t (unread ++ bytes) e out × (refused ≡ Some e))
 Inspects t unread (Section block ∷ events) out refused =
     (here : List ℕ) × (more : List ℕ) × PrintsBlock t block here × Inspects t unread events more refused
     × (out ≡ here ++ more)

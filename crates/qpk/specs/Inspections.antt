@@ -12,7 +12,8 @@ use Rattle.h3_qpack.specs.Receiving.{Stops, TakesOne}
 use Rattle.h3_qpack.specs.declared.decoder.DecoderError.{DecoderError}
 use Rattle.h3_qpack.specs.declared.decoder.DecoderError.TheVariants as decoder
 use Rattle.qpk.specs.Answers.{FailsEvents}
-use Rattle.qpk.specs.Inspecting.{Event, Piece, Section, events_of, instruction_text, HearsAll, HearsUntil, PrintsBlock}
+use Rattle.qpk.specs.Inspecting.{Event, Piece, Section, events_of, instruction_text, InspectsAll, InspectsUntil}
+use Rattle.qpk.specs.Inspecting.{PrintsBlock}
 use Rattle.qpk.specs.Inspecting.{PrintsLines}
 use Rattle.qpk.specs.Inspecting.{Inspects, PrintsInspection}
 use Rattle.qpk.specs.declared.inspect.events.Event.{Event as ReadEvent}
@@ -73,12 +74,12 @@ AppliesWhole old new encoding i (Ok done) = apply_encoder_instruction old i ≡ 
 AppliesWhole old new encoding i (Err fault) = FailsWhole old new encoding fault
 
 -- an instruction was applied, and its line is written behind what was
-pub record HearsOne (old new : Table) (bytes left before after : List ℕ) : Type 0 where
+pub record InspectsOne (old new : Table) (bytes left before after : List ℕ) : Type 0 where
   pub takes : TakesOne old new bytes left
   pub text : after ≡ before ++ instruction_text takes.instruction
 
 -- the next instruction is refused, and not for memory
-pub record StopsHearing (old new : Table) (bytes : List ℕ) (e : DecoderError) : Type 0 where
+pub record StopsInspecting (old new : Table) (bytes : List ℕ) (e : DecoderError) : Type 0 where
   pub left : List ℕ
   pub stops : Stops old bytes left e
   pub same : new ≡ old
@@ -86,27 +87,28 @@ pub record StopsHearing (old new : Table) (bytes : List ℕ) (e : DecoderError) 
 
 -- or want of memory
 abbrev pub FailsNext : Table → Table → List ℕ → List ℕ → List ℕ → Fault → Type 0
-FailsNext old new bytes before after (Refused e) = StopsHearing old new bytes e × (after ≡ before)
+FailsNext old new bytes before after (Refused e) = StopsInspecting old new bytes e × (after ≡ before)
 FailsNext old new bytes before after Memory = Unit {0}
 FailsNext old new bytes before after fault = ⊥
 
-abbrev pub HearsNext : Table → Table → List ℕ → List ℕ → List ℕ → List ℕ → Result Bool Fault → Type 0
-HearsNext old new bytes left before after (Ok true) = HearsOne old new bytes left before after
-HearsNext old new bytes left before after (Ok false) =
+abbrev pub InspectsNext : Table → Table → List ℕ → List ℕ → List ℕ → List ℕ → Result Bool Fault → Type 0
+InspectsNext old new bytes left before after (Ok true) = InspectsOne old new bytes left before after
+InspectsNext old new bytes left before after (Ok false) =
     Truncates encoder_instruction_form bytes × (left ≡ bytes) × (new ≡ old) × (after ≡ before)
-HearsNext old new bytes left before after (Err fault) = FailsNext old new bytes before after fault
+InspectsNext old new bytes left before after (Err fault) = FailsNext old new bytes before after fault
 
 -- the instructions are applied up to the one that is refused, or memory was refused
-abbrev pub FailsHearing : Table → List ℕ → List ℕ → List ℕ → Fault → Type 0
-FailsHearing old bytes before after (Refused e) = (out : List ℕ) × HearsUntil old bytes e out × (after ≡ before ++ out)
-FailsHearing old bytes before after Memory = Unit {0}
-FailsHearing old bytes before after fault = ⊥
+abbrev pub FailsInstructions : Table → List ℕ → List ℕ → List ℕ → Fault → Type 0
+FailsInstructions old bytes before after (Refused e) = (out : List ℕ) × InspectsUntil old bytes e out
+    × (after ≡ before ++ out)
+FailsInstructions old bytes before after Memory = Unit {0}
+FailsInstructions old bytes before after fault = ⊥
 
 -- so many bytes are taken, and the lines of their instructions are written behind what was
-abbrev pub Hears : Table → Table → List ℕ → List ℕ → List ℕ → Result ℕ Fault → Type 0
-Hears old new bytes before after (Ok taken) =
-    (out : List ℕ) × HearsAll old new bytes (drop taken bytes) out × (after ≡ before ++ out) × (taken ≤ length bytes)
-Hears old new bytes before after (Err fault) = FailsHearing old bytes before after fault
+abbrev pub InspectsInstructions : Table → Table → List ℕ → List ℕ → List ℕ → Result ℕ Fault → Type 0
+InspectsInstructions old new bytes before after (Ok taken) =
+    (out : List ℕ) × InspectsAll old new bytes (drop taken bytes) out × (after ≡ before ++ out) × (taken ≤ length bytes)
+InspectsInstructions old new bytes before after (Err fault) = FailsInstructions old bytes before after fault
 
 -- ---- blocks
 

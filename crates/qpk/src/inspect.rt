@@ -18,7 +18,7 @@ mod instructions;
 
 use blocks::inspect_block;
 use events::{Event, read_events};
-use instructions::hear;
+use instructions::inspect_instructions;
 
 /// What is printed of an input, and the refusal that ends it.
 #[derive(Drop)]
@@ -90,7 +90,7 @@ fn inspect_events(
         match event {
             Event::Piece(bytes) => {
                 stream.extend_from_slice(bytes)?;
-                taken += hear(alloc, decoder, &stream[taken..], text)?;
+                taken += inspect_instructions(alloc, decoder, &stream[taken..], text)?;
             }
             Event::Section(block) => inspect_block(alloc, decoder, block, text)?,
         }

@@ -5,16 +5,16 @@ ghost use Rattle.qpk.specs.FieldText.{lines_of, field_of_line, fields_from};
 
 /// What stands before the first such byte, and what stands behind it.
 fn split_at_byte(bytes: &[u8], byte: u8) -> Option<(&[u8], &[u8])>
-    ensures { MatchOption result (position (λ b. b == byte) bytes.now ≡ None) (λ parts. (place : ℕ)
-        × (position (λ b. b == byte) bytes.now ≡ Some place)
-        × (parts.0.now ≡ take place bytes.now) × (parts.1.now ≡ drop (place + 1) bytes.now)) }
+    ensures { MatchOption result (position (λ b. b == byte) bytes.now ≡ None) (λ parts. (index : ℕ)
+        × (position (λ b. b == byte) bytes.now ≡ Some index)
+        × (parts.0.now ≡ take index bytes.now) × (parts.1.now ≡ drop (index + 1) bytes.now)) }
 {
-    let place = place_of(bytes, byte)?;
-    Some((&bytes[..place], &bytes[place + 1..]))
+    let index = index_of(bytes, byte)?;
+    Some((&bytes[..index], &bytes[index + 1..]))
 }
 
-/// The place of the first such byte.
-fn place_of(bytes: &[u8], byte: u8) -> Option<usize>
+/// The index of the first such byte.
+fn index_of(bytes: &[u8], byte: u8) -> Option<usize>
     ensures { result ≡ position (λ b. b == byte) bytes.now }
 {
     bytes.iter().position(|b| *b == byte)

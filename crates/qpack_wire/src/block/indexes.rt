@@ -6,7 +6,7 @@ ghost use Rattle.qpack_base.specs.Writes.{Writes};
 ghost use Rattle.qpack_base.specs.declared.parse_error.ParseError.TheVariants.{Memory};
 ghost use Rattle.qpack_wire.specs.Alone.{SpellsKind, RefusesKind, kind_at};
 ghost use Rattle.qpack_wire.specs.Answers.{Decodes, ReadsForm};
-ghost use Rattle.qpack_wire.specs.Lines.{indexed, indexed_with_post_base, line_of_indexed};
+ghost use Rattle.qpack_wire.specs.Lines.{indexed_line, indexed_line_with_post_base, line_of_indexed};
 ghost use Rattle.qpack_wire.specs.Lines.{line_of_indexed_with_post_base};
 
 use qpack_base::coding::{Cursor, NoMemory};
@@ -39,10 +39,11 @@ impl Indexed {
     /// Reads such a line at the cursor. Takes no memory. On error the cursor's position is unspecified.
     #[inline(always)]
     pub fn decode(buf: &mut Cursor) -> Result<Indexed, ParseError>
-        ensures decodes { Decodes line_of_indexed (SpellsKind indexed) (RefusesKind indexed) buf.old buf.new result }
+        ensures decodes { Decodes line_of_indexed (SpellsKind indexed_line) (RefusesKind indexed_line) buf.old buf.new
+            result }
         ensures no_memory { result ≡ Err Memory → ⊥ }
         // The same, as reading from left to right.
-        ensures exact { ReadsForm line_of_indexed buf.old buf.new result (kind_at indexed buf.old.rest) }
+        ensures exact { ReadsForm line_of_indexed buf.old buf.new result (kind_at indexed_line buf.old.rest) }
     {
         read_indexed(buf)
     }
@@ -68,7 +69,7 @@ impl Indexed {
 #[inline(always)]
 #[tactic(auto, unfolding(crate::specs::Alone::kind_at, qpack_spec::specs::Form::made_at))]
 fn read_indexed(buf: &mut Cursor) -> Result<Indexed, ParseError>
-    ensures exact { ReadsForm line_of_indexed buf.old buf.new result (kind_at indexed buf.old.rest) }
+    ensures exact { ReadsForm line_of_indexed buf.old buf.new result (kind_at indexed_line buf.old.rest) }
     ensures no_memory { result ≡ Err Memory → ⊥ }
 {
     match prefix_int::decode(INDEXED_SIZE, buf)? {
@@ -95,12 +96,12 @@ impl IndexedWithPostBase {
     /// Reads such a line at the cursor. Takes no memory. On error the cursor's position is unspecified.
     #[inline(always)]
     pub fn decode(buf: &mut Cursor) -> Result<IndexedWithPostBase, ParseError>
-        ensures decodes { Decodes line_of_indexed_with_post_base (SpellsKind indexed_with_post_base)
-            (RefusesKind indexed_with_post_base) buf.old buf.new result }
+        ensures decodes { Decodes line_of_indexed_with_post_base (SpellsKind indexed_line_with_post_base)
+            (RefusesKind indexed_line_with_post_base) buf.old buf.new result }
         ensures no_memory { result ≡ Err Memory → ⊥ }
         // The same, as reading from left to right.
         ensures exact { ReadsForm line_of_indexed_with_post_base buf.old buf.new result
-            (kind_at indexed_with_post_base buf.old.rest) }
+            (kind_at indexed_line_with_post_base buf.old.rest) }
     {
         read_indexed_with_post_base(buf)
     }
@@ -120,7 +121,7 @@ impl IndexedWithPostBase {
 #[tactic(auto, unfolding(crate::specs::Alone::kind_at, qpack_spec::specs::Form::made_at))]
 fn read_indexed_with_post_base(buf: &mut Cursor) -> Result<IndexedWithPostBase, ParseError>
     ensures exact { ReadsForm line_of_indexed_with_post_base buf.old buf.new result
-        (kind_at indexed_with_post_base buf.old.rest) }
+        (kind_at indexed_line_with_post_base buf.old.rest) }
     ensures no_memory { result ≡ Err Memory → ⊥ }
 {
     match prefix_int::decode(POST_BASE_SIZE, buf)? {

@@ -2,7 +2,7 @@
 
 ghost use Rattle.std.specs.Prelude.{◌≡◌, string_bytes};
 ghost use Rattle.qpack_spec.specs.Instruction.{EncoderInstruction, SpellsEncoderInstruction};
-ghost use Rattle.qpk.specs.Inspections.{Hears, HearsNext, ReadsNext, AppliesWhole};
+ghost use Rattle.qpk.specs.Inspections.{InspectsInstructions, InspectsNext, ReadsNext, AppliesWhole};
 
 use crate::printing::{index_line, instruction_line};
 use crate::text::Fault;
@@ -14,30 +14,32 @@ use std::alloc::Global;
 
 /// Takes the instructions that stand whole at the front of the bytes, and appends a line for each as it is applied;
 /// then how many insertions were ever received. Answers how many bytes were taken.
-pub fn hear(
+pub fn inspect_instructions(
     alloc: Global,
     decoder: &mut Decoder,
     bytes: &[u8],
     text: &mut String,
 ) -> Result<usize, Fault>
-    ensures { Hears decoder.old.table decoder.new.table bytes.now (string_bytes text.old) (string_bytes text.new)
+    ensures { InspectsInstructions decoder.old.table decoder.new.table bytes.now (string_bytes text.old) (string_bytes
+        text.new)
         result }
 {
     let mut buf = Cursor::new(bytes);
-    while hear_next(alloc, decoder, &mut buf, text)? {}
+    while inspect_next(alloc, decoder, &mut buf, text)? {}
     let total = decoder.table().total_inserted();
     text.push_str(index_line(alloc, "received", total)?.as_str())?;
     Ok(buf.position())
 }
 
 /// Takes the instruction at the cursor, and appends its line once it is applied. Answers whether one stood whole.
-fn hear_next(
+fn inspect_next(
     alloc: Global,
     decoder: &mut Decoder,
     buf: &mut Cursor,
     text: &mut String,
 ) -> Result<bool, Fault>
-    ensures hears { HearsNext decoder.old.table decoder.new.table buf.old.rest buf.new.rest (string_bytes text.old)
+    ensures inspects { InspectsNext decoder.old.table decoder.new.table buf.old.rest buf.new.rest (string_bytes
+        text.old)
         (string_bytes text.new) result }
     ensures total { buf.new.total ≡ buf.old.total }
 {

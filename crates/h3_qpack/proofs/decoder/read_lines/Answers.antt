@@ -5,7 +5,7 @@ use Rattle.qpack_spec.specs.Field.{field_size, total_size}
 use Rattle.qpack_spec.proofs.Sizes.{total_last}
 use Rattle.qpack_base.specs.HeaderFields.{field_of}
 use Rattle.h3_qpack.specs.Stateless.{fields_in}
-use Rattle.h3_qpack.proofs.ReadLines.{none_left, lines_end, turn_bad, turn_long, turn_good, told_is}
+use Rattle.h3_qpack.proofs.ReadLines.{none_left, lines_end, turn_bad, turn_long, turn_good, saturated_is}
 use Rattle.h3_qpack.proofs.ReadLines.{fields_more}
 use Rattle.qpack_wire.proofs.Asking.{asks_held, asks_begun}
 use Rattle.h3_qpack.proofs.Asking.{held_begun}
@@ -32,13 +32,13 @@ returns-then-mem_size-max_size-clause-exact c =
     let inv = c.loop-byte.invariant.lines in
     let sum = total_size (fields_in c.loop-byte.fields.items) in
     let at = c.in-Some.ensures.value ∙ ap (λ (l : List ℕ). slice_get l 0) c.chunk.ensures in
-    let told = told_is sum (field_size (field_of c.in_ok-field.field)) c.mem_size.result c.loop-byte.mem_size
+    let saturated = saturated_is sum (field_size (field_of c.in_ok-field.field)) c.mem_size.result c.loop-byte.mem_size
     c.saturating_add-mem_size.result c.loop-byte.invariant.size c.mem_size.ensures c.saturating_add-mem_size.ensures
     in
-    rw told
+    rw saturated
     (turn_long inv.0 c.args.max_size sum c.loop-byte.buf.rest c.in-Some.byte.now (fields_in c.loop-byte.fields.items) _
     (field_of c.in_ok-field.field) c.read_field.new.buf.rest inv.1 inv.2 at c.in_ok-field.ensures.exact.0
-    (omega (arith, told, c.if-mem_size-max_size.true)))
+    (omega (arith, saturated, c.if-mem_size-max_size.true)))
 
 pub returns-in_err-push-clause-memory : goal.returns-in_err-push-clause-memory
 returns-in_err-push-clause-memory c e =
@@ -53,24 +53,24 @@ loop-byte-smaller c =
     let inv = c.loop-byte.invariant.lines in
     let sum = total_size (fields_in c.loop-byte.fields.items) in
     let at = c.in-Some.ensures.value ∙ ap (λ (l : List ℕ). slice_get l 0) c.chunk.ensures in
-    let told = told_is sum (field_size (field_of c.in_ok-field.field)) c.mem_size.result c.loop-byte.mem_size
+    let saturated = saturated_is sum (field_size (field_of c.in_ok-field.field)) c.mem_size.result c.loop-byte.mem_size
     c.saturating_add-mem_size.result c.loop-byte.invariant.size c.mem_size.ensures c.saturating_add-mem_size.ensures
     in
     (turn_good inv.0 c.args.max_size sum c.loop-byte.buf.rest c.in-Some.byte.now (fields_in c.loop-byte.fields.items) _
     (field_of c.in_ok-field.field) c.read_field.new.buf.rest inv.1 inv.2 at c.in_ok-field.ensures.exact.0
-    (omega (arith, told, c.if-mem_size-max_size.false))).shorter
+    (omega (arith, saturated, c.if-mem_size-max_size.false))).shorter
 
 pub loop-byte-preserved : goal.loop-byte-preserved
 loop-byte-preserved c =
     let inv = c.loop-byte.invariant.lines in
     let sum = total_size (fields_in c.loop-byte.fields.items) in
     let at = c.in-Some.ensures.value ∙ ap (λ (l : List ℕ). slice_get l 0) c.chunk.ensures in
-    let told = told_is sum (field_size (field_of c.in_ok-field.field)) c.mem_size.result c.loop-byte.mem_size
+    let saturated = saturated_is sum (field_size (field_of c.in_ok-field.field)) c.mem_size.result c.loop-byte.mem_size
     c.saturating_add-mem_size.result c.loop-byte.invariant.size c.mem_size.ensures c.saturating_add-mem_size.ensures
     in
     let goes = turn_good inv.0 c.args.max_size sum c.loop-byte.buf.rest c.in-Some.byte.now
     (fields_in c.loop-byte.fields.items) _ (field_of c.in_ok-field.field) c.read_field.new.buf.rest inv.1 inv.2 at
-    c.in_ok-field.ensures.exact.0 (omega (arith, told, c.if-mem_size-max_size.false)) in
+    c.in_ok-field.ensures.exact.0 (omega (arith, saturated, c.if-mem_size-max_size.false)) in
     let more : fields_in c.push.new.self.items ≡ fields_in c.loop-byte.fields.items
     ++ field_of c.in_ok-field.field ∷ [] =
     ap fields_in c.in_ok-push.ensures.items ∙ fields_more c.loop-byte.fields.items c.in_ok-field.field in
@@ -79,7 +79,7 @@ loop-byte-preserved c =
     total_last (fields_in c.loop-byte.fields.items) (field_of c.in_ok-field.field) in
     record {
       lines = rw (more, all) goes.next;
-      size = rw (more, all) told;
+      size = rw (more, all) saturated;
       begun = inr (held_begun c.args.buf.now.rest c.loop-byte.buf.rest c.in-Some.byte.now
           (field_of c.in_ok-field.field) c.read_field.new.buf.rest c.loop-byte.invariant.begun at
           c.in_ok-field.ensures.exact.0);

@@ -7,7 +7,7 @@ use Rattle.qpack_spec.specs.Stateless.{stateless_block}
 use Rattle.qpack_spec.proofs.Sizes.{total_last}
 use Rattle.qpack_base.specs.HeaderFields.{field_of, fields_behind}
 use Rattle.h3_qpack.proofs.WrittenBlocks.{begun, grown, take-append_front, behind_more}
-use Rattle.h3_qpack.proofs.ReadLines.{told_is}
+use Rattle.h3_qpack.proofs.ReadLines.{saturated_is}
 use Rattle.h3_qpack.proofs.encoder.append_block.Goals as goal
 
 pub loop-field-init : goal.loop-field-init
@@ -33,11 +33,12 @@ loop-field-preserved g c =
     let fs = fields_behind c.loop-field.yielded in
     let f = field_of c.in-Some.field.now in
     let more = behind_more c.loop-field.yielded c.in-Some.field in
-    let told = told_is (total_size fs) (field_size f) c.mem_size.result c.loop-field.size c.saturating_add-size.result
+    let saturated = saturated_is (total_size fs) (field_size f) c.mem_size.result c.loop-field.size
+    c.saturating_add-size.result
     c.loop-field.invariant.size c.mem_size.ensures c.saturating_add-size.ensures in
     rw (more, total_last fs f) (record {
       written = grown c.args.block.now.items c.loop-field.block.items c.append_line.new.block.items fs f
           c.loop-field.invariant.written c.in_ok-append_line.ensures.writes.ok;
-      size = told;
+      size = saturated;
       capacity = omega (arith, c.loop-field.invariant.capacity, c.append_line.ensures.writes.capacity);
     })

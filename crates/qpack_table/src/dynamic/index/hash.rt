@@ -2,8 +2,8 @@
 
 ghost use Rattle.std.specs.Prelude.{◌≡◌, ◌<◌};
 ghost use Rattle.qpack_base.specs.HeaderFields.{field_of};
-ghost use Rattle.qpack_table.specs.Hashes.{bytes_hash, name_hash, field_hash, place_among};
-ghost use Rattle.qpack_table.specs.Hashes.{words_hash, piece_hash, rest_hash, few_bytes, folded};
+ghost use Rattle.qpack_table.specs.Hashes.{bytes_hash, name_hash, field_hash, position_among};
+ghost use Rattle.qpack_table.specs.Hashes.{words_hash, piece_hash, rest_hash, few_bytes, folded_product};
 
 use qpack_base::field::HeaderField;
 
@@ -39,10 +39,10 @@ impl Hashes {
     }
 }
 
-/// The place of a hash among so many: which part of all hashes it stands in.
-pub(super) fn place_of(hash: u32, count: usize) -> usize
+/// The position of a hash among so many: which part of all hashes it stands in.
+pub(super) fn position_of(hash: u32, count: usize) -> usize
     requires { 0 < count }
-    ensures place { result ≡ place_among count hash }
+    ensures position { result ≡ position_among count hash }
     ensures within { result < count }
 {
     ((u128::from(hash) * count as u128) >> 32) as usize
@@ -109,7 +109,7 @@ fn hash_words(hash: u64, low: u64, high: u64) -> u64
 
 /// Both halves of a product, in one.
 fn fold_product(a: u64, b: u64) -> u64
-    ensures { result ≡ folded a b }
+    ensures { result ≡ folded_product a b }
 {
     let product = u128::from(a) * u128::from(b);
     (product & LOW_HALF) as u64 ^ (product >> 64) as u64

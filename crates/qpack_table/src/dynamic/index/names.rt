@@ -12,7 +12,7 @@ ghost use Rattle.qpack_table.specs.Tables.{live_fields};
 ghost use Rattle.qpack_table.specs.Indexes.{AreHashesOf, AreNamesOf, HasRoomForLink, IsNewestIn};
 
 use crate::dynamic::entry::Entry;
-use crate::dynamic::index::hash::{Hashes, hash_name, place_of};
+use crate::dynamic::index::hash::{Hashes, hash_name, position_of};
 use qpack_base::bytes::same;
 use std::alloc::{AllocError, Global};
 use std::collections::VecDeque;
@@ -93,7 +93,7 @@ impl Names {
             return None;
         }
         let hash = hash_name(name);
-        let bucket = place_of(hash, self.heads.len());
+        let bucket = position_of(hash, self.heads.len());
         let mut index = self.heads[bucket];
         while index > dropped {
             let position = index - dropped - 1;
@@ -126,7 +126,7 @@ impl Names {
         ensures links { length self.new.links.items ≡ length self.old.links.items + 1 }
         ensures capacity { deque_capacity self.new.links ≡ deque_capacity self.old.links }
     {
-        let bucket = place_of(hashes.name, self.heads.len());
+        let bucket = position_of(hashes.name, self.heads.len());
         let older = self.heads[bucket];
         self.heads[bucket] = index;
         self.links.push_back_reserved(Link { hashes, older });

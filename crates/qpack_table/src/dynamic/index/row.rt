@@ -5,7 +5,7 @@ ghost use Rattle.std.specs.Prelude.{◌≡◌, ◌+◌, ◌-◌, ◌^◌, ◌<�
 ghost use Rattle.std.specs.Prelude.{vec_len, vec_capacity};
 ghost use Rattle.std.specs.List.Sorted.{IsPermutation};
 ghost use Rattle.qpack_base.specs.HeaderFields.{field_of, field_cmp};
-ghost use Rattle.qpack_table.specs.Rows.{IsRow, IsPlaceBehind, IsEqualBefore, FindsNewest, Counts};
+ghost use Rattle.qpack_table.specs.Rows.{IsRow, IsPositionBehind, IsEqualBefore, FindsNewest, Counts};
 ghost use Rattle.qpack_table.specs.Tables.{live_fields};
 
 use crate::dynamic::entry::Entry;
@@ -25,11 +25,11 @@ fn compare(field: &HeaderField, entry: &Entry, steps: &mut Steps) -> Ordering
     entry.field.cmp(field)
 }
 
-/// What a search found: the place behind all that is not past what is sought, and whether the index before that
-/// place has the field.
+/// What a search found: the position behind all that is not past what is sought, and whether the index before that
+/// position has the field.
 #[derive(Clone, Copy)]
 struct Found {
-    place: usize,
+    position: usize,
     equal: bool,
 }
 
@@ -58,7 +58,7 @@ impl Row {
         self.indexes.reserve(1)
     }
 
-    /// The place behind the indexes whose entries stand before a field, or have it and are at most `last`.
+    /// The position behind the indexes whose entries stand before a field, or have it and are at most `last`.
     fn search(
         &self,
         entries: &VecDeque<Entry>,
@@ -68,10 +68,10 @@ impl Row {
         steps: &mut Steps,
     ) -> Found
         requires { IsRow dropped (live_fields entries.now.items) self.now.indexes.items }
-        ensures place { IsPlaceBehind dropped (live_fields entries.now.items) self.now.indexes.items
-            (field_of field.now) last result.place }
+        ensures position { IsPositionBehind dropped (live_fields entries.now.items) self.now.indexes.items
+            (field_of field.now) last result.position }
         ensures equal { IsEqualBefore dropped (live_fields entries.now.items) self.now.indexes.items
-            (field_of field.now) result.place result.equal }
+            (field_of field.now) result.position result.equal }
         ensures steps { Counts (length self.now.indexes.items) steps.old.count steps.new.count }
     {
         let mut low = 0;
@@ -88,7 +88,10 @@ impl Row {
                 equal = order.is_eq();
             }
         }
-        Found { place: low, equal }
+        Found {
+            position: low,
+            equal,
+        }
     }
 
     /// The greatest index whose entry has the field.
@@ -107,7 +110,7 @@ impl Row {
     {
         let found = self.search(entries, dropped, field, dropped + entries.len(), steps);
         if found.equal {
-            Some(self.indexes[found.place - 1])
+            Some(self.indexes[found.position - 1])
         } else {
             None
         }
@@ -125,7 +128,7 @@ impl Row {
         let mut steps = Steps::new();
         let entry = &entries[index - dropped - 1];
         let found = self.search(entries, dropped, &entry.field, index, &mut steps);
-        if let Err(_full) = self.indexes.insert(found.place, index) {}
+        if let Err(_full) = self.indexes.insert(found.position, index) {}
     }
 
     /// Takes an index out.
@@ -141,6 +144,6 @@ impl Row {
         let mut steps = Steps::new();
         let entry = &entries[index - dropped - 1];
         let found = self.search(entries, dropped, &entry.field, index, &mut steps);
-        self.indexes.remove(found.place - 1);
+        self.indexes.remove(found.position - 1);
     }
 }

@@ -11,7 +11,7 @@ ghost use Rattle.qpack_table.specs.Hashes.{field_hash};
 ghost use Rattle.qpack_table.specs.Indexes.{AreRowsOf, HasRoomFor, IsNewestIn};
 
 use crate::dynamic::entry::Entry;
-use crate::dynamic::index::hash::place_of;
+use crate::dynamic::index::hash::position_of;
 use crate::dynamic::index::row::Row;
 use crate::dynamic::steps::Steps;
 use qpack_base::field::HeaderField;
@@ -73,7 +73,7 @@ impl Rows {
         if self.rows.is_empty() {
             return None;
         }
-        let home = place_of(hash, self.rows.len());
+        let home = position_of(hash, self.rows.len());
         self.rows[home].newest_equal(entries, dropped, field, steps)
     }
 
@@ -85,7 +85,7 @@ impl Rows {
         ensures count { length self.new.rows.items ≡ length self.old.rows.items }
         ensures room { OnOk result (HasRoomFor self.new.rows.items hash) }
     {
-        let home = place_of(hash, self.rows.len());
+        let home = position_of(hash, self.rows.len());
         self.rows[home].reserve()
     }
 
@@ -104,7 +104,7 @@ impl Rows {
         ensures rows { AreRowsOf dropped (live_fields entries.now.items) (index - dropped) self.new.rows.items }
         ensures count { length self.new.rows.items ≡ length self.old.rows.items }
     {
-        let home = place_of(hash, self.rows.len());
+        let home = position_of(hash, self.rows.len());
         self.rows[home].enter(entries, dropped, index);
     }
 
@@ -120,7 +120,7 @@ impl Rows {
         ensures count { length self.new.rows.items ≡ length self.old.rows.items }
         ensures room { (other : ℕ) → HasRoomFor self.old.rows.items other → HasRoomFor self.new.rows.items other }
     {
-        let home = place_of(hash, self.rows.len());
+        let home = position_of(hash, self.rows.len());
         self.rows[home].leave(entries, dropped, dropped + 1);
     }
 }

@@ -2,7 +2,7 @@ use Rattle.std.proofs.Common.{◌+◌, ℕ, List, ap, subst, sym, ◌∙◌, dro
 use Rattle.std.specs.Prelude.{string_bytes}
 use Rattle.std.proofs.lemmas.Result.{err_from_is_err_and}
 use Rattle.qpk.specs.Inspecting.{Event, Piece, Section}
-use Rattle.qpk.specs.Inspections.{events_in, event_of, FailsHearing, InspectsBlock}
+use Rattle.qpk.specs.Inspections.{events_in, event_of, FailsInstructions, InspectsBlock}
 use Rattle.qpk.proofs.InspectedEvents.{Goes, goes_none, goes_next, goes_until, goes_block, goes_all}
 use Rattle.qpk.proofs.InspectedEvents.{slice_unread, piece_moves, none_left}
 use Rattle.qpk.proofs.inspect.inspect_events.Goals as goal
@@ -37,9 +37,10 @@ returns-in_err-taken-in-Piece c =
     rw (p.1, p.2)
     (goes_until start c.loop-event.decoder.table all
     (events_in (drop (c.loop-event.event-index + 1) c.args.events.now)) before (string_bytes c.loop-event.text)
-    (string_bytes c.hear.new.text) unread c.in-Piece.bytes.items c.in_err-taken-in-Piece.field-0.0 goes
-    (subst (λ (b : List ℕ). FailsHearing c.loop-event.decoder.table b (string_bytes c.loop-event.text)
-    (string_bytes c.hear.new.text) c.in_err-taken-in-Piece.field-0.0) slice c.in_err-taken-in-Piece.ensures))
+    (string_bytes c.inspect_instructions.new.text) unread c.in-Piece.bytes.items c.in_err-taken-in-Piece.field-0.0 goes
+    (subst (λ (b : List ℕ). FailsInstructions c.loop-event.decoder.table b (string_bytes c.loop-event.text)
+    (string_bytes c.inspect_instructions.new.text) c.in_err-taken-in-Piece.field-0.0) slice
+    c.in_err-taken-in-Piece.ensures))
 
 pub loop-event-preserved : goal.loop-event-preserved
 loop-event-preserved c =
@@ -55,8 +56,9 @@ loop-event-preserved c =
     elim c.match-event.branch [
       | in-Piece+in_ok-extend_from_slice-in-Piece+in_ok-taken-in-Piece w ↦
           rw (w.decoder-is, w.text-is, w.stream-is, w.taken-is)
-          (piece_moves start now w.hear.new.decoder.table all left before (string_bytes c.loop-event.text)
-          (string_bytes w.hear.new.text) c.loop-event.stream.items w.extend_from_slice.new.self.items
+          (piece_moves start now w.inspect_instructions.new.decoder.table all left before (string_bytes
+          c.loop-event.text)
+          (string_bytes w.inspect_instructions.new.text) c.loop-event.stream.items w.extend_from_slice.new.self.items
           w.in-Piece.bytes.items _ c.loop-event.taken w.in_ok-taken-in-Piece.field-0
           (next (Piece w.in-Piece.bytes.items) inv.goes c.loop-event-test.true c.event-item.is
           (ap event_of w.in-Piece.is)) inv.within

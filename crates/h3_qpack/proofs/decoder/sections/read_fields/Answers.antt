@@ -6,7 +6,7 @@ use Rattle.qpack_spec.proofs.Sizes.{total_last}
 use Rattle.qpack_base.specs.HeaderFields.{field_of}
 use Rattle.h3_qpack.specs.Stateless.{fields_in}
 use Rattle.qpack_wire.proofs.Asking.{asks_held, asks_begun}
-use Rattle.h3_qpack.proofs.ReadLines.{told_is, fields_more}
+use Rattle.h3_qpack.proofs.ReadLines.{saturated_is, fields_more}
 use Rattle.h3_qpack.proofs.ReadSections.{fields_end, turn_bad, turn_good, line_begun}
 use Rattle.h3_qpack.proofs.ReadSections.{none_of}
 use Rattle.h3_qpack.proofs.decoder.sections.read_fields.Goals as goal
@@ -43,7 +43,7 @@ pub loop-alloc-preserved : goal.loop-alloc-preserved
 loop-alloc-preserved c =
     let inv = c.loop-alloc.invariant.lines in
     let sum = total_size (fields_in c.loop-alloc.fields.items) in
-    let told = told_is sum (field_size (field_of c.in_ok-field.field)) c.mem_size.result c.loop-alloc.mem_size
+    let saturated = saturated_is sum (field_size (field_of c.in_ok-field.field)) c.mem_size.result c.loop-alloc.mem_size
     c.saturating_add-mem_size.result c.loop-alloc.invariant.size c.mem_size.ensures c.saturating_add-mem_size.ensures
     in
     let goes = turn_good inv.0 (window c.args.table.now.table.now) c.args.table.now.base c.loop-alloc.buf.rest
@@ -57,7 +57,7 @@ loop-alloc-preserved c =
     total_last (fields_in c.loop-alloc.fields.items) (field_of c.in_ok-field.field) in
     record {
       lines = rw more goes.next;
-      size = rw (more, all) told;
+      size = rw (more, all) saturated;
       begun = inr (line_begun (window c.args.table.now.table.now) c.args.table.now.base c.args.buf.now.rest
           c.loop-alloc.buf.rest (field_of c.in_ok-field.field) c.read_field.new.buf.rest c.loop-alloc.invariant.begun
           c.in_ok-field.ensures.exact.0);

@@ -1,5 +1,5 @@
 use Rattle.std.proofs.lemmas.Result.{err_from_is_err_and}
-use Rattle.qpk.proofs.HeardLines.{refused_whole}
+use Rattle.qpk.proofs.InspectedInstructions.{refused_whole}
 use Rattle.qpk.proofs.OneInstruction.{received_one, refused_one}
 use Rattle.qpk.proofs.inspect.instructions.apply.Goals as goal
 

@@ -2,7 +2,7 @@ use Rattle.std.proofs.Common.{refl, ap}
 use Rattle.std.proofs.lemmas.Result.{err_from_is_err_and}
 use Rattle.qpack_base.specs.Cursor.{CursorView}
 use Rattle.h3_qpack.proofs.Instructions.{line_refused}
-use Rattle.qpk.proofs.HeardLines.{read_next}
+use Rattle.qpk.proofs.InspectedInstructions.{read_next}
 use Rattle.qpk.proofs.inspect.instructions.next_instruction.Goals as goal
 
 pub returns-in_err-next_line-clause-reads : goal.returns-in_err-next_line-clause-reads

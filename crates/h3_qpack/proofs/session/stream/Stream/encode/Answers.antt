@@ -10,7 +10,7 @@ returns-in_err-required-clause-err c =
       gives_up = inr (stops_slice c.iter.result c.args.fields.now c.args.encoder.now c.encode.new.self
           c.args.encoder_stream.now.items c.encode.new.encoder_buf.items c.iter.ensures.rest
           c.in_err-required.ensures.err);
-      told_fits = omega (
+      written_fits = omega (
         arith,
         c.encode.new.encoder_buf.ok.0,
         c.encode.new.encoder_buf.ok.1,
@@ -34,7 +34,7 @@ returns-clause-ok c =
       keeps = kept_more _ c.args.self.now _ c.reserve.new.self.items c.push_reserved.new.self.items c.self.view_is
           c.push_reserved.ensures.items c.reserve.ensures.items;
       block_fits = omega (arith, c.encode.new.block.ok.0, c.encode.new.block.ok.1, c.encode.new.block.small);
-      told_fits = omega (
+      written_fits = omega (
         arith,
         c.encode.new.encoder_buf.ok.0,
         c.encode.new.encoder_buf.ok.1,

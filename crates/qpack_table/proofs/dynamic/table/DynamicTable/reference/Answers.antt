@@ -11,7 +11,7 @@ use Rattle.qpack_table.proofs.dynamic.table.DynamicTable.reference.Goals as goal
 
 pub returns-then-index-clause-ok : goal.returns-then-index-clause-ok
 returns-then-index-clause-ok c =
-    let place : c.args.absolute ≡ c.self.inside.vas.dropped + (c.args.absolute - c.total_dropped.result - 1) + 1 =
+    let position : c.args.absolute ≡ c.self.inside.vas.dropped + (c.args.absolute - c.total_dropped.result - 1) + 1 =
     omega (
       arith,
       c.requires.live,
@@ -24,14 +24,15 @@ returns-then-index-clause-ok c =
       c.requires.inserted,
       ap (λ (t : Table). insert_count t) c.self.view_is,
       length-map c.self.inside.entries.items entry_of,
-      place,
+      position,
     ) in
     rw (← c.self.view_is) (referenced_before _ c.args.absolute
-    (flag_tells _ _ _ _ _ _ c.index.result.now _ c.self.invariant.tracked place within c.index.ensures c.if-index.true))
+    (flag_tells _ _ _ _ _ _ c.index.result.now _ c.self.invariant.tracked position within c.index.ensures
+    c.if-index.true))
 
 pub overflow_add-entry : goal.overflow_add-entry
 overflow_add-entry c =
-    let place : c.args.absolute ≡ c.self.inside.vas.dropped + (c.args.absolute - c.total_dropped.result - 1) + 1 =
+    let position : c.args.absolute ≡ c.self.inside.vas.dropped + (c.args.absolute - c.total_dropped.result - 1) + 1 =
     omega (
       arith,
       c.requires.live,
@@ -44,7 +45,7 @@ overflow_add-entry c =
       c.requires.inserted,
       ap (λ (t : Table). insert_count t) c.self.view_is,
       length-map c.self.inside.entries.items entry_of,
-      place,
+      position,
     ) in
     let same = read_twice _ _ _ _ within c.index_mut-entry.ensures.value c.index.ensures in
     let unflagged = ap (λ (e : Entry). e.referenced) same ∙ c.if-index.false in
@@ -58,7 +59,7 @@ overflow_add-entry c =
 
 pub invariant_of-self-2 : goal.invariant_of-self-2
 invariant_of-self-2 c =
-    let place : c.args.absolute ≡ c.self.inside.vas.dropped + (c.args.absolute - c.total_dropped.result - 1) + 1 =
+    let position : c.args.absolute ≡ c.self.inside.vas.dropped + (c.args.absolute - c.total_dropped.result - 1) + 1 =
     omega (
       arith,
       c.requires.live,
@@ -71,7 +72,7 @@ invariant_of-self-2 c =
       c.requires.inserted,
       ap (λ (t : Table). insert_count t) c.self.view_is,
       length-map c.self.inside.entries.items entry_of,
-      place,
+      position,
     ) in
     let same = read_twice _ _ _ _ within c.index_mut-entry.ensures.value c.index.ensures in
     let unflagged = ap (λ (e : Entry). e.referenced) same ∙ c.if-index.false in
@@ -80,8 +81,9 @@ invariant_of-self-2 c =
           (same_live _ _ c.index_mut-entry.result.now _ within c.index_mut-entry.ensures.value refl)
           c.self.invariant.sized;
       tracked = tracked_referenced c.self.inside.vas c.self.inside.entries.items _ _ _ _ c.args.absolute
-          (c.args.absolute - c.total_dropped.result - 1) c.index_mut-entry.result.now _ c.self.invariant.tracked place
-          (omega (arith, place, within, c.self.invariant.sized.counted))
+          (c.args.absolute - c.total_dropped.result - 1) c.index_mut-entry.result.now _ c.self.invariant.tracked
+          position
+          (omega (arith, position, within, c.self.invariant.sized.counted))
           (item_there _ _ _ within c.index_mut-entry.ensures.value) unflagged refl refl c.in_ok-push.ensures.items;
       least = c.self.invariant.least;
       indexed = indexed_as c.self.inside.vas.dropped c.self.inside.entries.items _
@@ -91,7 +93,7 @@ invariant_of-self-2 c =
 
 pub returns-clause-ok : goal.returns-clause-ok
 returns-clause-ok c =
-    let place : c.args.absolute ≡ c.self.inside.vas.dropped + (c.args.absolute - c.total_dropped.result - 1) + 1 =
+    let position : c.args.absolute ≡ c.self.inside.vas.dropped + (c.args.absolute - c.total_dropped.result - 1) + 1 =
     omega (
       arith,
       c.requires.live,
@@ -104,9 +106,10 @@ returns-clause-ok c =
       c.requires.inserted,
       ap (λ (t : Table). insert_count t) c.self.view_is,
       length-map c.self.inside.entries.items entry_of,
-      place,
+      position,
     ) in
     rw (← c.self.view_is) (referenced_now _ c.args.absolute _ _
-    (flag_tells _ _ _ _ _ _ c.index.result.now _ c.self.invariant.tracked place within c.index.ensures c.if-index.false)
+    (flag_tells _ _ _ _ _ _ c.index.result.now _ c.self.invariant.tracked position within c.index.ensures
+    c.if-index.false)
     (same_live _ _ c.index_mut-entry.result.now _ within c.index_mut-entry.ensures.value refl)
     c.in_ok-push.ensures.items)

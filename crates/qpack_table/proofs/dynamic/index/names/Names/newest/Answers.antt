@@ -1,5 +1,5 @@
 use Rattle.std.proofs.Common.{◌≡◌, ◌<◌, ◌∙◌, length, sym, ap, rules, arith}
-use Rattle.qpack_table.specs.Hashes.{name_hash, place_among}
+use Rattle.qpack_table.specs.Hashes.{name_hash, position_among}
 use Rattle.qpack_table.proofs.HashedRows.{home_within}
 use Rattle.qpack_table.proofs.NewestEntries.{none_live}
 use Rattle.qpack_table.proofs.RowSearches.{not_both}
@@ -15,9 +15,10 @@ returns-then-is_empty c =
 pub loop-index-init : goal.loop-index-init
 loop-index-init c =
     let len : c.len.result ≡ length c.args.self.now.heads.items = search rules in
-    let within = home_within _ _ _ len c.place_of-bucket.ensures.within in
+    let within = home_within _ _ _ len c.position_of-bucket.ensures.within in
     walk_begins _ _ _ _ _ (names_of_fields _ _ _ _ c.requires) _ _ within
-    (c.place_of-bucket.ensures.place ∙ (λ i. place_among (len i) (c.hash_name-hash.ensures i))) c.index-index.ensures
+    (c.position_of-bucket.ensures.position ∙ (λ i. position_among (len i) (c.hash_name-hash.ensures i)))
+    c.index-index.ensures
 
 pub is_named-requires-clause-hashes : goal.is_named-requires-clause-hashes
 is_named-requires-clause-hashes c =

@@ -2,16 +2,16 @@ use Rattle.std.proofs.Common.{rules, ◌<◌, ◌-◌, subst, arith, length, Boo
 use Rattle.qpack_base.specs.HeaderFields.{field_of}
 use Rattle.qpack_table.specs.Rows.{IsEqualBefore}
 use Rattle.qpack_table.specs.Tables.{live_fields}
-use Rattle.qpack_table.proofs.RowPlaces.{found_newest, found_none, at_most_newest, read_newest}
+use Rattle.qpack_table.proofs.RowPositions.{found_newest, found_none, at_most_newest, read_newest}
 use Rattle.qpack_table.proofs.dynamic.index.row.Row.newest_equal.Goals as goal
 
 pub returns-then-found-clause-found : goal.returns-then-found-clause-found
 returns-then-found-clause-found c =
-    let at = c.search-found.ensures.place in
+    let at = c.search-found.ensures.position in
     let equal = subst (λ (b : Bool). IsEqualBefore c.args.dropped
     (live_fields c.args.entries.now.items) c.args.self.now.indexes.items
-    (field_of c.args.field.now) c.search-found.result.place b) c.if-found.true c.search-found.ensures.equal in
-    let within : c.search-found.result.place - 1 < length c.args.self.now.indexes.items =
+    (field_of c.args.field.now) c.search-found.result.position b) c.if-found.true c.search-found.ensures.equal in
+    let within : c.search-found.result.position - 1 < length c.args.self.now.indexes.items =
     omega (arith, at.within, equal.0) in
     let same = found_newest _ _ _ c.requires.row _ _ _ at equal.0 equal.1 (at_most_newest _ _ _ _ c.requires.row
     (search rules)) in
@@ -19,8 +19,8 @@ returns-then-found-clause-found c =
 
 pub returns-else-found-clause-found : goal.returns-else-found-clause-found
 returns-else-found-clause-found c =
-    let at = c.search-found.ensures.place in
+    let at = c.search-found.ensures.position in
     let equal = subst (λ (b : Bool). IsEqualBefore c.args.dropped
     (live_fields c.args.entries.now.items) c.args.self.now.indexes.items
-    (field_of c.args.field.now) c.search-found.result.place b) c.if-found.false c.search-found.ensures.equal in
+    (field_of c.args.field.now) c.search-found.result.position b) c.if-found.false c.search-found.ensures.equal in
     found_none _ _ _ c.requires.row _ _ _ at equal (at_most_newest _ _ _ _ c.requires.row (search rules))

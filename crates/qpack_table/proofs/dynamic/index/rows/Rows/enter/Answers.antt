@@ -1,6 +1,6 @@
 use Rattle.std.proofs.Common.{◌≡◌, ℕ, ◌-◌, ◌+◌, length, set, sym, ap, subst, ◌∙◌, rules, arith}
 use Rattle.qpack_table.specs.Tables.{live_fields}
-use Rattle.qpack_table.specs.Hashes.{place_among}
+use Rattle.qpack_table.specs.Hashes.{position_among}
 use Rattle.qpack_table.specs.Indexes.{AreRowsOf}
 use Rattle.qpack_table.proofs.RowsChanges.{rows_changed, rows_entered}
 use Rattle.qpack_table.proofs.HashedRows.{home_chosen, home_within, room_there, row_there, not_entered}
@@ -9,32 +9,32 @@ use Rattle.qpack_table.proofs.dynamic.index.rows.Rows.enter.Goals as goal
 pub enter-requires-clause-row : goal.enter-requires-clause-row
 enter-requires-clause-row c =
     let len : c.len.result ≡ length c.args.self.now.rows.items = search rules in
-    let within = home_within _ _ _ len c.place_of-home.ensures.within in
+    let within = home_within _ _ _ len c.position_of-home.ensures.within in
     row_there _ _ _ _ c.requires.rows _ _ within c.index_mut.ensures.value
 
 pub enter-requires-clause-absent : goal.enter-requires-clause-absent
 enter-requires-clause-absent c =
     let len : c.len.result ≡ length c.args.self.now.rows.items = search rules in
-    let within = home_within _ _ _ len c.place_of-home.ensures.within in
+    let within = home_within _ _ _ len c.position_of-home.ensures.within in
     not_entered _ _ _ _ c.requires.rows _ _ within c.index_mut.ensures.value c.args.index
     (omega (arith, c.requires.live.0))
 
 pub enter-requires-clause-room : goal.enter-requires-clause-room
 enter-requires-clause-room c =
     let len : c.len.result ≡ length c.args.self.now.rows.items = search rules in
-    room_there _ _ _ _ c.requires.room (sym (c.place_of-home.ensures.place ∙ ap (λ (n : ℕ). place_among n
+    room_there _ _ _ _ c.requires.room (sym (c.position_of-home.ensures.position ∙ ap (λ (n : ℕ). position_among n
     c.args.hash) len)) c.index_mut.ensures.value
 
 pub returns-clause-rows : goal.returns-clause-rows
 returns-clause-rows c =
     let len : c.len.result ≡ length c.args.self.now.rows.items = search rules in
-    let within = home_within _ _ _ len c.place_of-home.ensures.within in
+    let within = home_within _ _ _ len c.position_of-home.ensures.within in
     let next : c.args.index ≡ c.args.dropped + (c.args.index - c.args.dropped - 1) + 1 =
     omega (arith, c.requires.live.0) in
     let count : c.args.index - c.args.dropped - 1 + 1 ≡ c.args.index - c.args.dropped =
     omega (arith, c.requires.live.0) in
     subst (λ (n : ℕ). AreRowsOf c.args.dropped (live_fields c.args.entries.now.items) n
-    (set c.args.self.now.rows.items c.place_of-home.result c.enter.new.self)) count
+    (set c.args.self.now.rows.items c.position_of-home.result c.enter.new.self)) count
     (rows_changed _ _ _ _ _ _ within (rows_entered _ _ _ _ _ _ _ within c.index_mut.ensures.value c.requires.rows
-    c.args.index next (sym (home_chosen _ _ _ _ _ c.requires.hash c.place_of-home.ensures.place len))
+    c.args.index next (sym (home_chosen _ _ _ _ _ c.requires.hash c.position_of-home.ensures.position len))
     c.enter.ensures.row c.enter.ensures.indexes))

@@ -19,13 +19,13 @@ newest_equal-requires-clause-row c =
 pub returns-clause-found : goal.returns-clause-found
 returns-clause-found c =
     let len : c.len.result ≡ length c.args.self.now.rows.items = search rules in
-    let within = home_within _ _ _ len c.place_of-home.ensures.within in
+    let within = home_within _ _ _ len c.position_of-home.ensures.within in
     newest_in _ _ _ _ (row_there _ _ _ _ c.requires.rows _ _ within c.index.ensures)
     (row_has _ _ _ _ c.requires.rows _ _ within c.index.ensures _ (sym (fields_long c.args.entries.now.items))
-    (home_chosen _ _ _ _ _ c.requires.hash c.place_of-home.ensures.place len)) _ c.newest_equal.ensures.found
+    (home_chosen _ _ _ _ _ c.requires.hash c.position_of-home.ensures.position len)) _ c.newest_equal.ensures.found
 
 pub returns-clause-steps : goal.returns-clause-steps
 returns-clause-steps c =
     let len : c.len.result ≡ length c.args.self.now.rows.items = search rules in
-    let within = home_within _ _ _ len c.place_of-home.ensures.within in
+    let within = home_within _ _ _ len c.position_of-home.ensures.within in
     counts_fewer _ _ _ _ (row_few _ _ _ _ c.requires.rows _ _ within c.index.ensures) c.newest_equal.ensures.steps

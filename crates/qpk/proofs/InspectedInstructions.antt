@@ -1,4 +1,4 @@
--- Instructions of the encoder stream, heard and printed one by one.
+-- Instructions of the encoder stream, inspected and printed one by one.
 use Rattle.std.proofs.Common.{◌≡◌, ◌≢◌, ℕ, ◌-◌, ◌+◌, List, [], ◌∷◌, ◌++◌, length, take, drop, Option, Some, None}
 use Rattle.std.proofs.Common.{Ok, Bool, true, false, refl, sym, ap, subst, ◌∙◌, append_assoc, append-nil}
 use Rattle.std.proofs.Common.{length-append, arith}
@@ -6,7 +6,7 @@ use Rattle.std.proofs.lemmas.List.{take_at, drop_at}
 use Rattle.qpack_base.specs.Cursor.{CursorView}
 use Rattle.qpack_spec.specs.Instruction.{EncoderInstruction, SpellsEncoderInstruction, encoder_instruction_form}
 use Rattle.qpack_spec.specs.Session.{apply_encoder_instructions}
-use Rattle.qpack_spec.specs.Stream.{Joined}
+use Rattle.qpack_spec.specs.Stream.{SpellsAll}
 use Rattle.qpack_spec.specs.Table.{Table, apply_encoder_instruction}
 use Rattle.qpack_spec.proofs.Taking.{joined_last, applied_last}
 use Rattle.qpack_wire.specs.StreamAnswers.{DecodesInstruction, StaysUnlessRead}
@@ -18,8 +18,8 @@ use Rattle.h3_qpack.specs.declared.decoder.DecoderError.{DecoderError}
 use Rattle.h3_qpack.specs.declared.decoder.DecoderError.TheVariants as decoder
 use Rattle.qpk.specs.Answers.{fault_of_decoder}
 use Rattle.qpk.specs.Inspecting.{instruction_text, instructions_text, received_text}
-use Rattle.qpk.specs.Inspections.{ReadsNext, RefusesWhole, FailsWhole, HearsOne, FailsNext, HearsNext}
-use Rattle.qpk.specs.Inspections.{FailsHearing, Hears}
+use Rattle.qpk.specs.Inspections.{ReadsNext, RefusesWhole, FailsWhole, InspectsOne, FailsNext, InspectsNext}
+use Rattle.qpk.specs.Inspections.{FailsInstructions, InspectsInstructions}
 use Rattle.qpk.specs.declared.text.Fault.{Fault}
 use Rattle.qpk.specs.declared.text.Fault.TheVariants.{Refused, Memory}
 
@@ -88,12 +88,12 @@ fails_next fault old new bytes encoding left before cut fails = absurd fails
 
 -- ---- all that stand whole
 
--- these were heard and printed so far
-pub record HasHeard (old now : Table) (bytes rest before text : List ℕ) : Type 0 where
+-- these were inspected and printed so far
+pub record HasInspected (old now : Table) (bytes rest before text : List ℕ) : Type 0 where
   pub lines : List EncoderInstruction
   pub front : List ℕ
   pub cut : bytes ≡ front ++ rest
-  pub joined : Joined SpellsEncoderInstruction front lines
+  pub joined : SpellsAll SpellsEncoderInstruction front lines
   pub applies : apply_encoder_instructions old lines ≡ Ok now
   pub printed : text ≡ before ++ instructions_text lines
 
@@ -104,10 +104,10 @@ text_last (l ∷ lines) i =
     ap (λ (x : List ℕ). instruction_text l ++ x) (text_last lines i)
     ∙ sym (append_assoc (instruction_text l) (instructions_text lines) (instruction_text i))
 
-pub heard_more : (old now new : Table) (bytes rest left before text after : List ℕ)
-    → HasHeard old now bytes rest before text → HearsOne now new rest left text after
-    → HasHeard old new bytes left before after
-heard_more old now new bytes rest left before text after h one =
+pub inspected_more : (old now new : Table) (bytes rest left before text after : List ℕ)
+    → HasInspected old now bytes rest before text → InspectsOne now new rest left text after
+    → HasInspected old new bytes left before after
+inspected_more old now new bytes rest left before text after h one =
     let t = one.takes in
     record {
       lines = h.lines ++ t.instruction ∷ [];
@@ -121,15 +121,15 @@ heard_more old now new bytes rest left before text after h one =
     }
 
 pub one_was : (now new : Table) (rest left text after : List ℕ) (b : Bool)
-    → HearsNext now new rest left text after (Ok b) → b ≡ true → HearsOne now new rest left text after
+    → InspectsNext now new rest left text after (Ok b) → b ≡ true → InspectsOne now new rest left text after
 one_was now new rest left text after true one is = one
 one_was now new rest left text after false none is = absurd cc
 
 -- the next one is not applied
-pub heard_until : (old now new : Table) (bytes rest before text after : List ℕ) (fault : Fault)
-    → HasHeard old now bytes rest before text → FailsNext now new rest text after fault
-    → FailsHearing old bytes before after fault
-heard_until old now new bytes rest before text after (Refused e) h fails =
+pub inspected_until : (old now new : Table) (bytes rest before text after : List ℕ) (fault : Fault)
+    → HasInspected old now bytes rest before text → FailsNext now new rest text after fault
+    → FailsInstructions old bytes before after fault
+inspected_until old now new bytes rest before text after (Refused e) h fails =
     let stop = fails.0 in (
       instructions_text h.lines,
       record {
@@ -149,19 +149,19 @@ heard_until old now new bytes rest before text after (Refused e) h fails =
       },
       fails.1 ∙ h.printed,
     )
-heard_until old now new bytes rest before text after Memory h fails = tt
-heard_until old now new bytes rest before text after fault h fails = absurd fails
+inspected_until old now new bytes rest before text after Memory h fails = tt
+inspected_until old now new bytes rest before text after fault h fails = absurd fails
 
 -- none stands whole any more: what is left is what stands behind so many bytes
-pub heard_all : (old now new : Table) (bytes rest left before text after last : List ℕ) (b : Bool) (taken : ℕ)
-    → HasHeard old now bytes rest before text → HearsNext now new rest left text after (Ok b) → b ≡ false
+pub inspected_all : (old now new : Table) (bytes rest left before text after last : List ℕ) (b : Bool) (taken : ℕ)
+    → HasInspected old now bytes rest before text → InspectsNext now new rest left text after (Ok b) → b ≡ false
     → last ≡ after ++ received_text new → taken + length left ≡ length bytes
-    → Hears old new bytes before last (Ok taken)
-heard_all old now new bytes rest left before text after last true taken h none is printed place = absurd cc
-heard_all old now new bytes rest left before text after last false taken h none is printed place =
+    → InspectsInstructions old new bytes before last (Ok taken)
+inspected_all old now new bytes rest left before text after last true taken h none is printed passed = absurd cc
+inspected_all old now new bytes rest left before text after last false taken h none is printed passed =
     let n : taken ≡ length h.front =
     (let l : length bytes ≡ length h.front + length rest = ap length h.cut ∙ length-append h.front rest in
-    let m = ap length none.1 in omega (arith, l, m, place)) in
+    let m = ap length none.1 in omega (arith, l, m, passed)) in
     let behind : drop taken bytes ≡ rest =
     ap (λ (k : ℕ). drop k bytes) n ∙ ap (drop (length h.front)) h.cut ∙ drop_at h.front rest (length h.front) refl in (
       instructions_text h.lines ++ received_text new,
@@ -179,5 +179,5 @@ heard_all old now new bytes rest left before text after last false taken h none 
       },
       printed ∙ ap (λ (x : List ℕ). x ++ received_text new) (none.3 ∙ h.printed)
           ∙ append_assoc before (instructions_text h.lines) (received_text new),
-      omega (arith, place),
+      omega (arith, passed),
     )

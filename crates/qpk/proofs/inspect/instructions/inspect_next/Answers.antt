@@ -3,18 +3,18 @@ use Rattle.std.specs.Prelude.{string_bytes}
 use Rattle.std.proofs.lemmas.Result.{err_from_is_err_and}
 use Rattle.qpack_spec.specs.Instruction.{SpellsEncoderInstruction}
 use Rattle.qpack_wire.specs.StreamLines.{encoder_instruction_of}
-use Rattle.qpk.proofs.HeardLines.{refused_next, found_next, slice_is, fails_next}
-use Rattle.qpk.proofs.inspect.instructions.hear_next.Goals as goal
+use Rattle.qpk.proofs.InspectedInstructions.{refused_next, found_next, slice_is, fails_next}
+use Rattle.qpk.proofs.inspect.instructions.inspect_next.Goals as goal
 
-pub returns-in_err-line-clause-hears : goal.returns-in_err-line-clause-hears
-returns-in_err-line-clause-hears c =
+pub returns-in_err-line-clause-inspects : goal.returns-in_err-line-clause-inspects
+returns-in_err-line-clause-inspects c =
     let p = err_from_is_err_and c.from_residual.result c.from_residual.ensures.1 in
     rw (p.1, p.2)
     (refused_next c.in_err-line.field-0.0 c.args.decoder.now.table c.args.buf.now.rest (string_bytes c.args.text.now)
     (c.in_err-line.ensures.reads.0 c.args.decoder.now.table))
 
-pub returns-in_err-apply-clause-hears : goal.returns-in_err-apply-clause-hears
-returns-in_err-apply-clause-hears c =
+pub returns-in_err-apply-clause-inspects : goal.returns-in_err-apply-clause-inspects
+returns-in_err-apply-clause-inspects c =
     let p = err_from_is_err_and c.from_residual-in_err-apply.result c.from_residual-in_err-apply.ensures.1 in
     let at = found_next c.args.buf.now.rest c.next_instruction.new.buf.rest c.in_ok-line.field-0 c.in-Some.line
     c.in-Some.is c.in_ok-line.ensures.reads in
@@ -28,8 +28,8 @@ returns-in_err-apply-clause-hears c =
     (fails_next c.in_err-apply.field-0.0 c.args.decoder.now.table c.apply.new.decoder.table c.args.buf.now.rest at.0
     c.next_instruction.new.buf.rest (string_bytes c.args.text.now) at.1 whole)
 
-pub returns-clause-hears : goal.returns-clause-hears
-returns-clause-hears c =
+pub returns-clause-inspects : goal.returns-clause-inspects
+returns-clause-inspects c =
     let at = found_next c.args.buf.now.rest c.next_instruction.new.buf.rest c.in_ok-line.field-0 c.in-Some.line
     c.in-Some.is c.in_ok-line.ensures.reads in
     let slice = slice_is c.chunk-bytes.result.now c.args.buf.now.rest at.0 c.next_instruction.new.buf.rest

@@ -1,4 +1,4 @@
--- What stands before the place that a search found.
+-- What stands before the position that a search found.
 use Rattle.std.proofs.Common.{◌≡◌, ℕ, ◌+◌, ◌-◌, ◌<◌, ◌≤◌, [], ◌∷◌, true, List, length, get_or, refl, sym, ap, subst}
 use Rattle.std.proofs.Common.{◌∙◌, inl, inr, ◌⊎◌, arith}
 use Rattle.std.specs.Prelude.{slice_index, Contains, Result, Ok, Err, IsOk, if◌then◌else◌}
@@ -15,7 +15,7 @@ use Rattle.qpack_base.specs.HeaderFields.{field_of}
 use Rattle.qpack_spec.specs.Field.{Field}
 use Rattle.qpack_table.specs.declared.dynamic.entry.Entry.{Entry}
 use Rattle.qpack_table.specs.Rows.{Key, key_cmp}
-use Rattle.qpack_table.specs.Rows.{field_at, key_at, IsLiveIndex, IsRow, is_behind, IsPlaceBehind}
+use Rattle.qpack_table.specs.Rows.{field_at, key_at, IsLiveIndex, IsRow, is_behind, IsPositionBehind}
 use Rattle.qpack_table.specs.Tables.{live_fields}
 use Rattle.qpack_table.specs.Rows.{IsNewest}
 use Rattle.qpack_table.proofs.RowOrder.{lower_first, not_higher, same_between, not_behind, behind_turned, before_turned}
@@ -33,90 +33,91 @@ contained row index c = record { within = c.1; is = get_or_default row c.0 0 ind
 pub containing : (row : List ℕ) (index k : ℕ) → IsAt row index k → Contains row index
 containing row index k h = (k, h.within, get_or_default row k index 0 h.within ∙ h.is)
 
-module _ (dropped : ℕ) (live : List Field) (row : List ℕ) (is : IsRow dropped live row) (f : Field) (last place : ℕ)
-    (at : IsPlaceBehind dropped live row f last place) where
-  -- an index of the field that is at most the last one stands before the place
-  pub stands_before : (other k : ℕ) → IsAt row other k → field_at dropped live other ≡ f → other ≤ last → k < place
+module _ (dropped : ℕ) (live : List Field) (row : List ℕ) (is : IsRow dropped live row) (f : Field) (last position : ℕ)
+    (at : IsPositionBehind dropped live row f last position) where
+  -- an index of the field that is at most the last one stands before the position
+  pub stands_before : (other k : ℕ) → IsAt row other k → field_at dropped live other ≡ f → other ≤ last → k < position
   stands_before other k there same le =
-      elim (cases_lt k place) [
+      elim (cases_lt k position) [
         | inl lt ↦ lt
         | inr past ↦ absurd (not_both (is_behind dropped live f last other) (subst (λ
             (i : ℕ). is_behind dropped live f last i ≡ true) there.is (at.after k past there.within)) (not_higher
             (key_at dropped live other) (record { field = f; index = last }) same le))
       ]
 
-  -- the index before the place, and an index before that one
-  earlier : (other k : ℕ) → IsAt row other k → k + 1 < place
-      → key_cmp (key_at dropped live other) (key_at dropped live (slice_index row (place - 1))) ≡ Less
+  -- the index before the position, and an index before that one
+  earlier : (other k : ℕ) → IsAt row other k → k + 1 < position
+      → key_cmp (key_at dropped live other) (key_at dropped live (slice_index row (position - 1))) ≡ Less
   earlier other k there lt = subst (λ (i : ℕ). key_cmp (key_at dropped live i) (key_at dropped live (slice_index row
-      (place - 1))) ≡ Less) there.is (is.rises k (place - 1) 0 (omega (arith, lt)) (omega (arith, lt, at.within)))
+      (position - 1))) ≡ Less) there.is (is.rises k (position - 1) 0 (omega (arith, lt)) (omega (arith, lt, at.within)))
 
-  pub found_newest : 0 < place → field_at dropped live (slice_index row (place - 1)) ≡ f → ((k : ℕ)
-      → k < length row → slice_index row k ≤ last) → IsNewest dropped live row f (slice_index row (place - 1))
+  pub found_newest : 0 < position → field_at dropped live (slice_index row (position - 1)) ≡ f → ((k : ℕ)
+      → k < length row → slice_index row k ≤ last) → IsNewest dropped live row f (slice_index row (position - 1))
   found_newest some same bound =
-      let here : IsAt row (slice_index row (place - 1)) (place - 1) = record {
+      let here : IsAt row (slice_index row (position - 1)) (position - 1) = record {
         within =
             omega (arith, some, at.within);
         is = refl;
       } in
       record {
-        among = containing row _ (place - 1) here;
+        among = containing row _ (position - 1) here;
         equal = same;
         newest = λ other c e. below other c.0 (contained row other c) e;
       }
     where
-      below : (other k : ℕ) → IsAt row other k → field_at dropped live other ≡ f → other ≤ slice_index row (place - 1)
+      below : (other k : ℕ) → IsAt row other k → field_at dropped live other ≡ f
+          → other ≤ slice_index row (position - 1)
       below other k there e =
-          let before : k < place = stands_before other k there e (subst (λ (i : ℕ). i ≤ last) there.is
+          let before : k < position = stands_before other k there e (subst (λ (i : ℕ). i ≤ last) there.is
           (bound k there.within)) in
-          elim (cases_lt (k + 1) place) [
+          elim (cases_lt (k + 1) position) [
             | inl lt ↦
-                let less : other < slice_index row (place - 1) =
-                lower_first (key_at dropped live other) (key_at dropped live (slice_index row (place - 1))) (e
+                let less : other < slice_index row (position - 1) =
+                lower_first (key_at dropped live other) (key_at dropped live (slice_index row (position - 1))) (e
                 ∙ sym same) (earlier other k there lt) in
                 omega (arith, less)
             | inr le ↦
-                let here : place - 1 ≡ k = omega (arith, before, le) in
-                let one : slice_index row (place - 1) ≡ other = ap (slice_index row) here ∙ there.is in
+                let here : position - 1 ≡ k = omega (arith, before, le) in
+                let one : slice_index row (position - 1) ≡ other = ap (slice_index row) here ∙ there.is in
                 omega (arith, one)
           ]
 
-  pub found_none : (0 < place → field_at dropped live (slice_index row (place - 1)) ≡ f → ⊥) → ((k : ℕ)
+  pub found_none : (0 < position → field_at dropped live (slice_index row (position - 1)) ≡ f → ⊥) → ((k : ℕ)
       → k < length row → slice_index row k ≤ last) → (other : ℕ) → Contains row other
       → field_at dropped live other ≡ f → ⊥
   found_none differs bound other c e =
       let there = contained row other c in
-      let before : c.0 < place = stands_before other c.0 there e (subst (λ (i : ℕ). i ≤ last) there.is
+      let before : c.0 < position = stands_before other c.0 there e (subst (λ (i : ℕ). i ≤ last) there.is
       (bound c.0 there.within)) in
-      elim (cases_lt (c.0 + 1) place) [
+      elim (cases_lt (c.0 + 1) position) [
         | inl lt ↦ differs (omega (arith, before)) (same_between (key_at dropped live other) (key_at dropped live
-            (slice_index row (place - 1))) (record {
+            (slice_index row (position - 1))) (record {
               field = f;
               index =
                   last;
-            }) e (earlier other c.0 there lt) (at.before (place - 1) (omega (arith, before))))
+            }) e (earlier other c.0 there lt) (at.before (position - 1) (omega (arith, before))))
         | inr le ↦
-            let here : place - 1 ≡ c.0 = omega (arith, before, le) in
+            let here : position - 1 ≡ c.0 = omega (arith, before, le) in
             differs (omega (arith, before)) (ap (λ (k : ℕ). field_at dropped live (slice_index row k)) here
             ∙ ap (field_at dropped live) there.is ∙ e)
       ]
 
--- an index that the row contains stands right before the place for it
-stands_right_before : (dropped : ℕ) (live : List Field) (row : List ℕ) (index place : ℕ)
-    → IsRow dropped live row → IsPlaceBehind dropped live row (field_at dropped live index) index place
-    → Contains row index → (0 < place) × (slice_index row (place - 1) ≡ index)
-stands_right_before dropped live row index place is at c =
+-- an index that the row contains stands right before the position for it
+stands_right_before : (dropped : ℕ) (live : List Field) (row : List ℕ) (index position : ℕ)
+    → IsRow dropped live row → IsPositionBehind dropped live row (field_at dropped live index) index position
+    → Contains row index → (0 < position) × (slice_index row (position - 1) ≡ index)
+stands_right_before dropped live row index position is at c =
     let there = contained row index c in
-    let before : c.0 < place = stands_before dropped live row is
-    (field_at dropped live index) index place at index c.0 there refl (omega arith) in
-    elim (cases_lt (c.0 + 1) place) [
+    let before : c.0 < position = stands_before dropped live row is
+    (field_at dropped live index) index position at index c.0 there refl (omega arith) in
+    elim (cases_lt (c.0 + 1) position) [
       | inl lt ↦
-          let less : key_cmp (key_at dropped live index) (key_at dropped live (slice_index row (place - 1))) ≡ Less =
-          earlier dropped live row is (field_at dropped live index) index place at index c.0 there lt in
+          let less : key_cmp (key_at dropped live index) (key_at dropped live (slice_index row (position - 1))) ≡ Less =
+          earlier dropped live row is (field_at dropped live index) index position at index c.0 there lt in
           absurd (not_both _ (before_turned (key_at dropped live index) (key_at dropped live (slice_index row
-          (place - 1))) less) (at.before (place - 1) (omega (arith, before))))
+          (position - 1))) less) (at.before (position - 1) (omega (arith, before))))
       | inr le ↦
-          let here : place - 1 ≡ c.0 = omega (arith, before, le) in
+          let here : position - 1 ≡ c.0 = omega (arith, before, le) in
           (omega (arith, before), ap (slice_index row) here ∙ there.is)
     ]
 
@@ -133,7 +134,7 @@ all_pairs_insert {X} R xs n y le all below above i j d lt within = pick (cases_l
     inside : j < length xs + 1
     inside = omega (arith, within, length-insert xs n y le)
 
-    -- an element of the new list behind the place
+    -- an element of the new list behind the position
     moved : (k : ℕ) → n < k → get_or new k d ≡ get_or xs (k - 1) d
     moved k g = subst (λ (q : ℕ). get_or new q d ≡ get_or xs (k - 1) d) {x =
         k - 1 + 1} (omega (arith, g)) (get_or-insert_above xs n y d (k - 1) (omega (arith, g)) le)
@@ -160,23 +161,23 @@ all_pairs_insert {X} R xs n y le all below above i j d lt within = pick (cases_l
             (arith, inside, c)))
     pick (inr a) (inr b) (inr c) = absurd (omega (arith, a, c, lt))
 
-pub entered : (dropped : ℕ) (live : List Field) (row : List ℕ) (index place : ℕ) → IsRow dropped live row
-    → IsPlaceBehind dropped live row (field_at dropped live index) index place → IsLiveIndex dropped live index
-    → (Contains row index → ⊥) → IsRow dropped live (insert row place index)
-entered dropped live row index place is at there absent = record {
-  all_live = λ k h. All-get_or (IsLiveIndex dropped live) (insert row place index) k 0 h (All-permutation
-      (IsLiveIndex dropped live) (index ∷ row) (insert row place index) (IsPermutation-insert row place index)
+pub entered : (dropped : ℕ) (live : List Field) (row : List ℕ) (index position : ℕ) → IsRow dropped live row
+    → IsPositionBehind dropped live row (field_at dropped live index) index position → IsLiveIndex dropped live index
+    → (Contains row index → ⊥) → IsRow dropped live (insert row position index)
+entered dropped live row index position is at there absent = record {
+  all_live = λ k h. All-get_or (IsLiveIndex dropped live) (insert row position index) k 0 h (All-permutation
+      (IsLiveIndex dropped live) (index ∷ row) (insert row position index) (IsPermutation-insert row position index)
       (All-cons (IsLiveIndex dropped live) index row there (All-from_get_or
       (IsLiveIndex dropped live) row
       0 is.all_live)));
   rises = all_pairs_insert (λ a b. key_cmp (key_at dropped live a)
-      (key_at dropped live b) ≡ Less) row place index at.within is.rises below above;
+      (key_at dropped live b) ≡ Less) row position index at.within is.rises below above;
 }
   where
     key : ℕ → Key
     key k = key_at dropped live k
 
-    below : (k d : ℕ) → k < place → key_cmp (key_at dropped live (get_or row k d)) (key_at dropped live index) ≡ Less
+    below : (k d : ℕ) → k < position → key_cmp (key_at dropped live (get_or row k d)) (key_at dropped live index) ≡ Less
     below k d h =
         let lt : k < length row = omega (arith, h, at.within) in
         subst (λ (i : ℕ). key_cmp (key_at dropped live i) (key_at dropped live index) ≡ Less)
@@ -184,7 +185,7 @@ entered dropped live row index place is at there absent = record {
         (not_behind (key_at dropped live (slice_index row k)) (key_at dropped live index) (at.before k h)
         (λ e. absent (containing row index k (record { within = lt; is = e }))))
 
-    above : (k d : ℕ) → place ≤ k → k < length row
+    above : (k d : ℕ) → position ≤ k → k < length row
         → key_cmp (key_at dropped live index) (key_at dropped live (get_or row k d)) ≡ Less
     above k d h lt =
         subst (λ (i : ℕ). key_cmp (key_at dropped live index) (key_at dropped live i) ≡ Less)
@@ -199,38 +200,39 @@ at_most_newest dropped es row last is e k h =
     let live : slice_index row k ≤ dropped + length (live_fields es) = (is.all_live k h).1 in
     omega (arith, live, long, e)
 
--- an index that was read before a place
+-- an index that was read before a position
 pub read_newest : (dropped : ℕ) (live : List Field) (row : List ℕ) (f : Field) (k index : ℕ) → k < length row
     → index ≡ get_or row k index → IsNewest dropped live row f (slice_index row k) → IsNewest dropped live row f index
 read_newest dropped live row f k index lt read h =
     subst (IsNewest dropped live row f) (sym (read ∙ get_or_default row k index 0 lt)) h
 
 -- an insertion that has room is made
-pub entered_there : {X E : Type 0} (r : Result X E) (old new : List ℕ) (place index : ℕ)
-    → new ≡ (if is_ok r then insert old place index else old) → IsOk r → new ≡ insert old place index
-entered_there (Ok x) old new place index e ok = e
-entered_there (Err x) old new place index e ok = absurd cc
+pub entered_there : {X E : Type 0} (r : Result X E) (old new : List ℕ) (position index : ℕ)
+    → new ≡ (if is_ok r then insert old position index else old) → IsOk r → new ≡ insert old position index
+entered_there (Ok x) old new position index e ok = e
+entered_there (Err x) old new position index e ok = absurd cc
 
--- the place for an index that is live, as its entry was read
-place_of_entry : (dropped : ℕ) (es : List Entry) (row : List ℕ) (index place : ℕ) (e : Entry)
+-- the position for an index that is live, as its entry was read
+position_of_entry : (dropped : ℕ) (es : List Entry) (row : List ℕ) (index position : ℕ) (e : Entry)
     → (dropped < index) × (index ≤ dropped + length es) → e ≡ get_or es (index - dropped - 1) e
-    → IsPlaceBehind dropped (live_fields es) row (field_of e.field) index place
-    → IsPlaceBehind dropped (live_fields es) row (field_at dropped (live_fields es) index) index place
-place_of_entry dropped es row index place e live read at =
+    → IsPositionBehind dropped (live_fields es) row (field_of e.field) index position
+    → IsPositionBehind dropped (live_fields es) row (field_at dropped (live_fields es) index) index position
+position_of_entry dropped es row index position e live read at =
     let none : Field = record { name = []; value = [] } in
     let same : field_at dropped (live_fields es) index ≡ field_of e.field =
     field_read es (index - dropped - 1) e none (omega (arith, live.0, live.1)) read in
-    subst (λ (f : Field). IsPlaceBehind dropped (live_fields es) row f index place) (sym same) at
+    subst (λ (f : Field). IsPositionBehind dropped (live_fields es) row f index position) (sym same) at
 
-pub entered_in : (dropped : ℕ) (es : List Entry) (row new : List ℕ) (index place : ℕ) (e : Entry)
+pub entered_in : (dropped : ℕ) (es : List Entry) (row new : List ℕ) (index position : ℕ) (e : Entry)
     → IsRow dropped (live_fields es) row → (dropped < index) × (index ≤ dropped + length es) → (Contains row index
     → ⊥) → e ≡ get_or es (index - dropped - 1) e
-    → IsPlaceBehind dropped (live_fields es) row (field_of e.field) index place → new ≡ insert row place index
+    → IsPositionBehind dropped (live_fields es) row (field_of e.field) index position → new ≡ insert row position index
     → IsRow dropped (live_fields es) new
-entered_in dropped es row new index place e is live absent read at made =
+entered_in dropped es row new index position e is live absent read at made =
     let long = fields_long es in
     subst (IsRow dropped (live_fields es)) (sym made)
-    (entered dropped (live_fields es) row index place is (place_of_entry dropped es row index place e live read at)
+    (entered dropped (live_fields es) row index position is (position_of_entry dropped es row index position e live
+    read at)
     (live.0, omega (arith, live.1, long)) absent)
 
 -- an index of a row is live
@@ -243,18 +245,19 @@ contained_live dropped es row index is c =
     is.all_live c.0 there.within in
     (omega (arith, live.0, there.is), omega (arith, live.1, long, there.is))
 
-pub leaves_place : (dropped : ℕ) (es : List Entry) (row : List ℕ) (index place : ℕ) (e : Entry)
+pub leaves_position : (dropped : ℕ) (es : List Entry) (row : List ℕ) (index position : ℕ) (e : Entry)
     → IsRow dropped (live_fields es) row → Contains row index → e ≡ get_or es (index - dropped - 1) e
-    → IsPlaceBehind dropped (live_fields es) row (field_of e.field) index place
-    → (0 < place) × (slice_index row (place - 1) ≡ index)
-leaves_place dropped es row index place e is c read at =
-    stands_right_before dropped (live_fields es) row index place is (place_of_entry dropped es row index place e
+    → IsPositionBehind dropped (live_fields es) row (field_of e.field) index position
+    → (0 < position) × (slice_index row (position - 1) ≡ index)
+leaves_position dropped es row index position e is c read at =
+    stands_right_before dropped (live_fields es) row index position is
+    (position_of_entry dropped es row index position e
     (contained_live dropped es row index is c) read at) c
 
-pub left_permutes : (row new : List ℕ) (index place : ℕ) → (0 < place) × (slice_index row (place - 1) ≡ index)
-    → place ≤ length row → new ≡ remove row (place - 1) → IsPermutation row (index ∷ new)
-left_permutes row new index place at within made =
-    let lt : place - 1 < length row = omega (arith, at.0, within) in
-    let is : index ≡ get_or row (place - 1) index = sym at.1 ∙ get_or_default row (place - 1) 0 index lt in
+pub left_permutes : (row new : List ℕ) (index position : ℕ) → (0 < position) × (slice_index row (position - 1) ≡ index)
+    → position ≤ length row → new ≡ remove row (position - 1) → IsPermutation row (index ∷ new)
+left_permutes row new index position at within made =
+    let lt : position - 1 < length row = omega (arith, at.0, within) in
+    let is : index ≡ get_or row (position - 1) index = sym at.1 ∙ get_or_default row (position - 1) 0 index lt in
     subst (λ (xs : List ℕ). IsPermutation row (index ∷ xs)) (sym made) (IsPermutation-remove row
-    (place - 1) index lt is)
+    (position - 1) index lt is)
