@@ -1,6 +1,6 @@
 //! Few bytes that make a decoder copy many: lines and instructions that name a large entry.
 
-use crate::ends::{decoded_size, new_decoder, prefix_of, receive, write_insertion};
+use crate::ends::{decoder_of, prefix_of, tell_decoded, tell_received, write_insertion};
 use crate::meter::{Case, Meter};
 use anyhow::{Result, bail};
 use h3_qpack::coding::Cursor;
@@ -30,23 +30,22 @@ pub(crate) fn tell(meter: &Meter, alloc: Global, size: usize) -> Result<()> {
 
 /// A decoder with one entry, whose name has so many bytes and whose value is empty.
 fn with_large_entry(alloc: Global, size: usize) -> Result<Decoder> {
-    let mut decoder = new_decoder(alloc, CAPACITY)?;
     let name = Vec::from_elem(alloc, b'a', size)?;
     let mut stream = Vec::new(alloc);
     write_insertion(&name, b"", &mut stream)?;
-    receive(alloc, &mut decoder, &stream)?;
-    Ok(decoder)
+    decoder_of(alloc, CAPACITY, &stream)
 }
 
 /// Tells how long a block of lines of one byte takes, each of which is the large entry.
 fn tell_lines(meter: &Meter, alloc: Global, size: usize) -> Result<()> {
     let decoder = with_large_entry(alloc, size)?;
-    let mut block = prefix_of(alloc, &decoder)?;
-    for _ in 0..COUNT {
-        block.push(0x80)?;
-    }
-    let start = meter.start()?;
-    let decoded = decoded_size(&decoder, &block)?;
+    tell_lines_of(meter, alloc, size, &decoder)
+}
+
+/// The same, of this decoder.
+fn tell_lines_of(meter: &Meter, alloc: Global, size: usize, decoder: &Decoder) -> Result<()> {
+    let mut block = prefix_of(alloc, decoder)?;
+    push_often(0x80, COUNT, &mut block)?;
     let case = Case {
         name: "decode_header, lines of a large entry",
         size,
@@ -54,16 +53,22 @@ fn tell_lines(meter: &Meter, alloc: Global, size: usize) -> Result<()> {
         bytes: block.len(),
     };
     let expected = size.saturating_add(32).saturating_mul(COUNT);
-    meter.tell(case, start, decoded, expected as u64)
+    tell_decoded(meter, case, decoder, &block, expected as u64)
+}
+
+/// Writes a byte so often.
+fn push_often(byte: u8, count: usize, block: &mut Vec<u8>) -> Result<()> {
+    for _ in 0..count {
+        block.push(byte)?;
+    }
+    Ok(())
 }
 
 /// Tells how long a block without a table takes that passes the limit: of so many lines of one byte, of a static field
 /// whose size is 42 bytes.
 fn tell_limit(meter: &Meter, alloc: Global, size: usize) -> Result<()> {
     let mut block = Vec::from_slice(alloc, b"\0\0")?;
-    for _ in 0..size.saturating_add(COUNT) {
-        block.push(0xD1)?;
-    }
+    push_often(0xD1, size.saturating_add(COUNT), &mut block)?;
     let start = meter.start()?;
     let sum = refused_size(alloc, &block)?;
     let case = Case {
@@ -125,8 +130,6 @@ fn tell_stream(
     stream: &[u8],
 ) -> Result<()> {
     let mut decoder = with_large_entry(alloc, size)?;
-    let start = meter.start()?;
-    let received = receive(alloc, &mut decoder, stream)?;
     let case = Case {
         name,
         size,
@@ -134,35 +137,37 @@ fn tell_stream(
         bytes: stream.len(),
     };
     let expected = count.saturating_add(1);
-    meter.tell(case, start, received, expected as u64)
+    tell_received(meter, alloc, case, &mut decoder, stream, expected as u64)
 }
 
 /// Tells how long it takes to set the capacity to 0 and back so often, on a table of so many small entries.
 fn tell_capacities(meter: &Meter, alloc: Global, size: usize) -> Result<()> {
+    let stream = capacities(alloc, size)?;
     let mut decoder = with_small_entries(alloc, size)?;
-    let mut stream = Vec::new(alloc);
-    for _ in 0..size {
-        DynamicTableSizeUpdate(0).encode(&mut stream)?;
-        DynamicTableSizeUpdate(CAPACITY).encode(&mut stream)?;
-    }
-    let start = meter.start()?;
-    let received = receive(alloc, &mut decoder, &stream)?;
     let case = Case {
         name: "capacity to 0 and back",
         size,
         calls: size.saturating_mul(2),
         bytes: stream.len(),
     };
-    meter.tell(case, start, received, size as u64)
+    tell_received(meter, alloc, case, &mut decoder, &stream, size as u64)
+}
+
+/// The instructions that set the capacity to 0 and back so often.
+fn capacities(alloc: Global, count: usize) -> Result<Vec<u8>> {
+    let mut stream = Vec::new(alloc);
+    for _ in 0..count {
+        DynamicTableSizeUpdate(0).encode(&mut stream)?;
+        DynamicTableSizeUpdate(CAPACITY).encode(&mut stream)?;
+    }
+    Ok(stream)
 }
 
 /// A decoder that received so many small entries.
 fn with_small_entries(alloc: Global, size: usize) -> Result<Decoder> {
-    let mut decoder = new_decoder(alloc, CAPACITY)?;
     let mut stream = Vec::new(alloc);
     for _ in 0..size {
         write_insertion(b"a", b"b", &mut stream)?;
     }
-    receive(alloc, &mut decoder, &stream)?;
-    Ok(decoder)
+    decoder_of(alloc, CAPACITY, &stream)
 }

@@ -1,5 +1,6 @@
 //! Both ends of a connection, each call in a function of its own that answers a number.
 
+use crate::meter::{Case, Meter};
 use anyhow::Result;
 use h3_qpack::coding::Cursor;
 use h3_qpack::decoder::Decoder;
@@ -12,14 +13,27 @@ use std::alloc::Global;
 /// An empty table of this capacity, where so many blocks may be blocked.
 pub(crate) fn empty_table(alloc: Global, capacity: usize, limit: usize) -> Result<DynamicTable> {
     let mut table = DynamicTable::new(alloc);
+    set_bounds(&mut table, capacity, limit)?;
+    Ok(table)
+}
+
+/// Sets the capacity of a table, and how many blocks may be blocked.
+fn set_bounds(table: &mut DynamicTable, capacity: usize, limit: usize) -> Result<()> {
     table.set_max_size(capacity)?;
     table.set_max_blocked(limit)?;
-    Ok(table)
+    Ok(())
 }
 
 /// A decoder whose table is empty and has this capacity.
 pub(crate) fn new_decoder(alloc: Global, capacity: usize) -> Result<Decoder> {
     Ok(Decoder::from(empty_table(alloc, capacity, 0)?))
+}
+
+/// A decoder of this capacity that took bytes of an encoder stream.
+pub(crate) fn decoder_of(alloc: Global, capacity: usize, stream: &[u8]) -> Result<Decoder> {
+    let mut decoder = new_decoder(alloc, capacity)?;
+    receive(alloc, &mut decoder, stream)?;
+    Ok(decoder)
 }
 
 /// Writes the insertion of a field with its name (RFC 9204, section 4.3.3).
@@ -73,4 +87,43 @@ pub(crate) fn hear(encoder: &mut Encoder, stream: &[u8]) -> Result<u64> {
     let mut cursor = Cursor::new(stream);
     encoder.on_decoder_recv(&mut cursor)?;
     Ok(cursor.position() as u64)
+}
+
+/// Tells how long a decoder takes to receive bytes of an encoder stream, and how many insertions it ever made.
+pub(crate) fn tell_received(
+    meter: &Meter,
+    alloc: Global,
+    case: Case,
+    decoder: &mut Decoder,
+    stream: &[u8],
+    expected: u64,
+) -> Result<()> {
+    let start = meter.start()?;
+    let received = receive(alloc, decoder, stream)?;
+    meter.tell(case, start, received, expected)
+}
+
+/// Tells how long a decoder takes to decode a block, and the sum of its fields' sizes.
+pub(crate) fn tell_decoded(
+    meter: &Meter,
+    case: Case,
+    decoder: &Decoder,
+    block: &[u8],
+    expected: u64,
+) -> Result<()> {
+    let start = meter.start()?;
+    let decoded = decoded_size(decoder, block)?;
+    meter.tell(case, start, decoded, expected)
+}
+
+/// Tells how long an encoder takes over bytes of a decoder stream, of which it takes all.
+pub(crate) fn tell_heard(
+    meter: &Meter,
+    case: Case,
+    encoder: &mut Encoder,
+    stream: &[u8],
+) -> Result<()> {
+    let start = meter.start()?;
+    let heard = hear(encoder, stream)?;
+    meter.tell(case, start, heard, stream.len() as u64)
 }

@@ -1,12 +1,14 @@
 //! Tables of many entries, as both ends find, insert and read them.
 
 use crate::ends::{
-    decoded_size, empty_table, encode_block, hear, new_decoder, prefix_of, receive, write_insertion,
+    empty_table, encode_block, hear, new_decoder, prefix_of, tell_decoded, tell_received,
+    write_insertion,
 };
 use crate::fields::{FIELD_SIZE, Kind};
 use crate::meter::{Case, Meter, case_name};
 use anyhow::Result;
 use h3_qpack::decoder::Decoder;
+use h3_qpack::dynamic::DynamicTable;
 use h3_qpack::encoder::Encoder;
 use h3_qpack::{HeaderField, prefix_int};
 use std::alloc::Global;
@@ -18,60 +20,84 @@ const MOST_CALLS: usize = 100;
 pub(crate) fn tell(meter: &Meter, alloc: Global, kind: Kind, size: usize) -> Result<()> {
     let calls = size.min(MOST_CALLS);
     let fields = kind.fields(alloc, size.saturating_add(calls))?;
-    let known = fields.get(..size).unwrap_or(&fields);
-    let unknown = fields.get(size..).unwrap_or(&fields);
+    tell_fields(meter, alloc, kind, size, &fields)
+}
+
+/// Tells the cases of these fields, of which the first so many are put into tables.
+fn tell_fields(
+    meter: &Meter,
+    alloc: Global,
+    kind: Kind,
+    size: usize,
+    fields: &[HeaderField],
+) -> Result<()> {
+    let known = fields.get(..size).unwrap_or(fields);
+    let unknown = fields.get(size..).unwrap_or(fields);
+    tell_filled(meter, alloc, kind, known, unknown)?;
+    tell_repeated(meter, alloc, kind, known)
+}
+
+/// Tells how long fields take that a table holds, and others.
+fn tell_filled(
+    meter: &Meter,
+    alloc: Global,
+    kind: Kind,
+    known: &[HeaderField],
+    unknown: &[HeaderField],
+) -> Result<()> {
     let mut encoder = filled(alloc, known)?;
-    let sought = known.get(..calls).unwrap_or(known);
-    tell_encoded(
-        meter,
-        alloc,
-        &mut encoder,
-        "encode an entry",
-        kind,
-        size,
-        sought,
-    )?;
-    tell_encoded(
-        meter,
-        alloc,
-        &mut encoder,
-        "encode no entry",
-        kind,
-        size,
-        unknown,
-    )?;
-    tell_received(meter, alloc, kind, known)
+    tell_sought(meter, alloc, kind, &mut encoder, known, unknown)
 }
 
 /// An encoder whose table holds these fields, all received.
 fn filled(alloc: Global, fields: &[HeaderField]) -> Result<Encoder> {
     let mut table = empty_table(alloc, fields.len().saturating_mul(FIELD_SIZE), 16)?;
+    put_all(&mut table, fields)?;
+    Ok(Encoder::from(table))
+}
+
+/// Puts the fields into a table, all of which are received.
+fn put_all(table: &mut DynamicTable, fields: &[HeaderField]) -> Result<()> {
     for field in fields {
         table.put(field.clone()?)?;
     }
     table.update_largest_received(fields.len());
-    Ok(Encoder::from(table))
+    Ok(())
+}
+
+/// Tells how long an encoder takes over fields that its table holds, and over others.
+fn tell_sought(
+    meter: &Meter,
+    alloc: Global,
+    kind: Kind,
+    encoder: &mut Encoder,
+    known: &[HeaderField],
+    unknown: &[HeaderField],
+) -> Result<()> {
+    let size = known.len();
+    let sought = known.get(..unknown.len()).unwrap_or(known);
+    tell_encoded(meter, alloc, "encode an entry", kind, size, encoder, sought)?;
+    tell_encoded(
+        meter,
+        alloc,
+        "encode no entry",
+        kind,
+        size,
+        encoder,
+        unknown,
+    )
 }
 
 /// Tells how long blocks of one field take, each acknowledged, and its insertion reported, before the next.
 fn tell_encoded(
     meter: &Meter,
     alloc: Global,
-    encoder: &mut Encoder,
     what: &str,
     kind: Kind,
     size: usize,
+    encoder: &mut Encoder,
     fields: &[HeaderField],
 ) -> Result<()> {
-    let mut block = Vec::new(alloc);
-    let mut stream = Vec::new(alloc);
-    let mut referenced = 0u64;
-    let start = meter.start()?;
-    for section in fields.chunks(1) {
-        if is_referenced(encoder, section, &mut block, &mut stream)? {
-            referenced = referenced.saturating_add(1);
-        }
-    }
     let name = case_name(alloc, what, kind.label())?;
     let case = Case {
         name: name.as_str(),
@@ -79,7 +105,22 @@ fn tell_encoded(
         calls: fields.len(),
         bytes: 0,
     };
+    let start = meter.start()?;
+    let referenced = encode_each(alloc, encoder, fields)?;
     meter.tell(case, start, referenced, fields.len() as u64)
+}
+
+/// Encodes a block of each field, and has it acknowledged; how many reference an entry.
+fn encode_each(alloc: Global, encoder: &mut Encoder, fields: &[HeaderField]) -> Result<u64> {
+    let mut block = Vec::new(alloc);
+    let mut stream = Vec::new(alloc);
+    let mut referenced = 0u64;
+    for section in fields.chunks(1) {
+        if is_referenced(encoder, section, &mut block, &mut stream)? {
+            referenced = referenced.saturating_add(1);
+        }
+    }
+    Ok(referenced)
 }
 
 /// Encodes a block of the fields, which is acknowledged; whether it references an entry.
@@ -113,47 +154,66 @@ fn write_insertions(fields: &[HeaderField], stream: &mut Vec<u8>) -> Result<()> 
 }
 
 /// Tells how long a decoder takes to receive the fields twice, and to decode a block of all of them.
-fn tell_received(meter: &Meter, alloc: Global, kind: Kind, fields: &[HeaderField]) -> Result<()> {
-    let capacity = fields.len().saturating_mul(FIELD_SIZE);
-    let mut decoder = new_decoder(alloc, capacity)?;
+fn tell_repeated(meter: &Meter, alloc: Global, kind: Kind, fields: &[HeaderField]) -> Result<()> {
+    let stream = repeated(alloc, fields)?;
+    let mut decoder = new_decoder(alloc, fields.len().saturating_mul(FIELD_SIZE))?;
+    tell_stream(meter, alloc, kind, fields.len(), &mut decoder, &stream)
+}
+
+/// The insertions of the fields, twice.
+fn repeated(alloc: Global, fields: &[HeaderField]) -> Result<Vec<u8>> {
     let mut stream = Vec::new(alloc);
     write_insertions(fields, &mut stream)?;
     write_insertions(fields, &mut stream)?;
-    let start = meter.start()?;
-    let received = receive(alloc, &mut decoder, &stream)?;
-    let name = case_name(alloc, "receive", kind.label())?;
-    let insertions = fields.len().saturating_mul(2);
-    let case = Case {
-        name: name.as_str(),
-        size: fields.len(),
-        calls: insertions,
-        bytes: stream.len(),
-    };
-    meter.tell(case, start, received, insertions as u64)?;
-    tell_decoded(meter, alloc, kind, &decoder, fields.len())
+    Ok(stream)
 }
 
-/// Tells how long a decoder takes to decode a block of its newest entries.
-fn tell_decoded(
+/// Tells how long a decoder takes to receive so many entries twice, and to decode a block of them.
+fn tell_stream(
     meter: &Meter,
     alloc: Global,
     kind: Kind,
-    decoder: &Decoder,
-    count: usize,
+    size: usize,
+    decoder: &mut Decoder,
+    stream: &[u8],
 ) -> Result<()> {
-    let mut block = prefix_of(alloc, decoder)?;
-    for index in 0..count {
-        prefix_int::encode(6, 0b10, index as u64, &mut block)?;
-    }
-    let start = meter.start()?;
-    let decoded = decoded_size(decoder, &block)?;
+    let name = case_name(alloc, "receive", kind.label())?;
+    let insertions = size.saturating_mul(2);
+    let case = Case {
+        name: name.as_str(),
+        size,
+        calls: insertions,
+        bytes: stream.len(),
+    };
+    tell_received(meter, alloc, case, decoder, stream, insertions as u64)?;
+    tell_newest(meter, alloc, kind, size, decoder)
+}
+
+/// Tells how long a decoder takes to decode a block of its newest entries, so many.
+fn tell_newest(
+    meter: &Meter,
+    alloc: Global,
+    kind: Kind,
+    size: usize,
+    decoder: &Decoder,
+) -> Result<()> {
+    let block = newest_block(alloc, size, decoder)?;
     let name = case_name(alloc, "decode", kind.label())?;
     let case = Case {
         name: name.as_str(),
-        size: count,
-        calls: count,
+        size,
+        calls: size,
         bytes: block.len(),
     };
-    let size = count.saturating_mul(FIELD_SIZE);
-    meter.tell(case, start, decoded, size as u64)
+    let expected = size.saturating_mul(FIELD_SIZE);
+    tell_decoded(meter, case, decoder, &block, expected as u64)
+}
+
+/// The block of so many of a decoder's newest entries.
+fn newest_block(alloc: Global, size: usize, decoder: &Decoder) -> Result<Vec<u8>> {
+    let mut block = prefix_of(alloc, decoder)?;
+    for index in 0..size {
+        prefix_int::encode(6, 0b10, index as u64, &mut block)?;
+    }
+    Ok(block)
 }

@@ -129,9 +129,19 @@ fn hash_of_name(name: [u8; 16]) -> u32 {
 
 /// So many fields whose names are of letters and digits, and stand in the first bucket of a table of so many entries.
 fn fields_of_letters(alloc: Global, count: usize) -> Result<Vec<HeaderField>> {
+    let mut fields = Vec::new(alloc);
+    push_fields_of_letters(alloc, count, &mut fields)?;
+    Ok(fields)
+}
+
+/// Adds them, of the first numbers that give such names.
+fn push_fields_of_letters(
+    alloc: Global,
+    count: usize,
+    fields: &mut Vec<HeaderField>,
+) -> Result<()> {
     let buckets = (count as u64).max(8).saturating_mul(2);
     let end = ((1u64 << 32) / buckets.max(1)) as u32;
-    let mut fields = Vec::new(alloc);
     for number in 0..MOST_TRIES {
         if fields.len() == count {
             break;
@@ -142,5 +152,5 @@ fn fields_of_letters(alloc: Global, count: usize) -> Result<Vec<HeaderField>> {
         }
     }
     ensure!(fields.len() == count, "too few names were found");
-    Ok(fields)
+    Ok(())
 }

@@ -11,7 +11,7 @@ use h3_qpack::decoder::Decoder;
 use h3_qpack::dynamic::DynamicTable;
 use h3_qpack::prefix_string::Error;
 use h3_qpack::stream::DynamicTableSizeUpdate;
-use h3_qpack::{DecoderError, decode_stateless, dynamic};
+use h3_qpack::{Decoded, DecoderError, decode_stateless, dynamic};
 use std::alloc::Global;
 
 /// Blocks whose last string has some 2^63 bytes, of which none comes: the name of a literal, plain and coded, and a
@@ -62,27 +62,54 @@ fn tell_capacity(
     agreed: Option<usize>,
     expected: usize,
 ) -> Result<()> {
-    let mut decoder = Decoder::from(table_with(alloc, agreed)?);
     let mut stream = Vec::new(alloc);
     DynamicTableSizeUpdate(GREATEST).encode(&mut stream)?;
-    let start = meter.start()?;
-    let answer = decoder.on_encoder_recv(&mut Cursor::new(&stream), &mut Vec::new(alloc));
-    let too_large = DecoderError::DynamicTable(dynamic::Error::MaximumTableSizeTooLarge);
-    ensure!(
-        answer.err() == agreed.map(|_| too_large),
-        "{name}: not answered so"
-    );
     let case = Case {
         name,
         size: GREATEST,
         calls: 1,
         bytes: stream.len(),
     };
-    meter.tell(
+    let mut decoder = Decoder::from(table_with(alloc, agreed)?);
+    let is_refused = agreed.is_some();
+    tell_asked(
+        meter,
+        alloc,
         case,
-        start,
-        decoder.table().max_mem_size() as u64,
-        expected as u64,
+        is_refused,
+        &mut decoder,
+        &stream,
+        expected,
+    )
+}
+
+/// Tells which capacity this decoder has behind that, which is refused or not.
+fn tell_asked(
+    meter: &Meter,
+    alloc: Global,
+    case: Case,
+    is_refused: bool,
+    decoder: &mut Decoder,
+    stream: &[u8],
+    expected: usize,
+) -> Result<()> {
+    let start = meter.start()?;
+    let answer = decoder.on_encoder_recv(&mut Cursor::new(stream), &mut Vec::new(alloc));
+    let is_so = if is_refused {
+        is_too_large(&answer)
+    } else {
+        answer.is_ok()
+    };
+    ensure!(is_so, "{}: not answered so", case.name);
+    let capacity = decoder.table().max_mem_size();
+    meter.tell(case, start, capacity as u64, expected as u64)
+}
+
+/// Whether a capacity was refused as too large.
+fn is_too_large(answer: &Result<usize, DecoderError>) -> bool {
+    matches!(
+        answer,
+        Err(DecoderError::DynamicTable(dynamic::Error::MaximumTableSizeTooLarge))
     )
 }
 
@@ -141,16 +168,28 @@ fn case(name: &str) -> Case<'_> {
 
 /// Whether both calls that read a block tell that a string of it is cut.
 fn is_cut(alloc: Global, block: &[u8]) -> Result<bool> {
-    let cut = Some(DecoderError::InvalidString(Error::UnexpectedEnd));
     let decoder = new_decoder(alloc, CAPACITY)?;
-    let with_table = decoder.decode_header(&mut Cursor::new(block)).err();
-    let alone = decode_stateless(alloc, &mut Cursor::new(block), u64::MAX).err();
-    Ok(with_table == cut && alone == cut)
+    let with_table = decoder.decode_header(&mut Cursor::new(block));
+    let alone = decode_stateless(alloc, &mut Cursor::new(block), u64::MAX);
+    Ok(ends_in_string(&with_table) && ends_in_string(&alone))
+}
+
+/// Whether a block was refused since a string of it is cut.
+fn ends_in_string(answer: &Result<Decoded, DecoderError>) -> bool {
+    matches!(
+        answer,
+        Err(DecoderError::InvalidString(Error::UnexpectedEnd))
+    )
 }
 
 /// Whether the rest of an instruction is waited for.
 fn is_waited_for(alloc: Global, instruction: &[u8]) -> Result<bool> {
     let mut decoder = new_decoder(alloc, CAPACITY)?;
+    waits(alloc, &mut decoder, instruction)
+}
+
+/// Whether a decoder takes nothing of an instruction, and no increment is written.
+fn waits(alloc: Global, decoder: &mut Decoder, instruction: &[u8]) -> Result<bool> {
     let mut written = Vec::new(alloc);
     let mut cursor = Cursor::new(instruction);
     let received = decoder.on_encoder_recv(&mut cursor, &mut written)?;

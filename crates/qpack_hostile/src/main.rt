@@ -45,18 +45,19 @@ fn tell_all(meter: &Meter, alloc: Global, size: usize) -> Result<()> {
     sessions::tell(meter, alloc, size)
 }
 
-fn main(rt: HostRuntime) -> Result<()> {
-    let alloc = rt.alloc();
-    let sizes = sizes_of(&rt, alloc)?;
-    let meter = Meter::new(&rt, !sizes.is_empty());
+/// All cases of these sizes, or of the small ones where there are none.
+fn run(rt: &HostRuntime, alloc: Global, sizes: &[usize]) -> Result<()> {
+    let meter = Meter::new(rt, !sizes.is_empty());
     limits::tell(&meter, alloc)?;
-    if sizes.is_empty() {
-        for size in SMALL {
-            tell_all(&meter, alloc, size)?;
-        }
-    }
-    for size in &sizes {
+    let sizes = if sizes.is_empty() { &SMALL } else { sizes };
+    for size in sizes {
         tell_all(&meter, alloc, *size)?;
     }
     Ok(())
+}
+
+fn main(rt: HostRuntime) -> Result<()> {
+    let alloc = rt.alloc();
+    let sizes = sizes_of(&rt, alloc)?;
+    run(&rt, alloc, &sizes)
 }

@@ -64,15 +64,23 @@ impl Meter<'_> {
         Ok(())
     }
 
-    /// Tells the time of each call, and for each byte, in nanoseconds.
+    /// Tells the time of each call, and for each byte.
     fn tell_time(&self, nanos: u128, calls: usize, bytes: usize) -> Result<()> {
-        let tenths = nanos.saturating_mul(10);
-        let each = tenths / (calls as u128).max(1);
-        println!(self.rt; "    {calls} times, {}.{} ns each", each / 10, each % 10)?;
+        self.tell_rate(nanos, calls, "times", "each")?;
         if bytes > 0 {
-            let byte = tenths / (bytes as u128).max(1);
-            println!(self.rt; "    {bytes} bytes, {}.{} ns a byte", byte / 10, byte % 10)?;
+            self.tell_rate(nanos, bytes, "bytes", "a byte")?;
         }
+        Ok(())
+    }
+
+    /// Tells the time of one of so many, in nanoseconds.
+    fn tell_rate(&self, nanos: u128, count: usize, items: &str, each: &str) -> Result<()> {
+        let tenths = nanos.saturating_mul(10) / (count as u128).max(1);
+        println!(self.rt;
+            "    {count} {items}, {}.{} ns {each}",
+            tenths / 10,
+            tenths % 10
+        )?;
         Ok(())
     }
 }

@@ -3,6 +3,7 @@
 use crate::ends::{new_decoder, receive, write_insertion};
 use crate::meter::{Case, Meter};
 use anyhow::Result;
+use h3_qpack::decoder::Decoder;
 use std::alloc::Global;
 
 /// Tells the cases of instructions of some so many bytes: a long value behind a short name, and a long value behind a
@@ -22,20 +23,31 @@ pub(crate) fn tell(meter: &Meter, alloc: Global, size: usize) -> Result<()> {
 
 /// Tells how long the bytes of an insertion take, each given with all before it.
 fn tell_pieces(meter: &Meter, alloc: Global, case: &str, name: &[u8], value: &[u8]) -> Result<()> {
-    let mut decoder = new_decoder(alloc, 1 << 20)?;
     let mut stream = Vec::new(alloc);
     write_insertion(name, value, &mut stream)?;
-    let start = meter.start()?;
-    let mut received = 0u64;
-    for end in 1..=stream.len() {
-        let offered = stream.get(..end).unwrap_or(&stream);
-        received = receive(alloc, &mut decoder, offered)?;
-    }
     let case = Case {
         name: case,
         size: value.len(),
         calls: stream.len(),
         bytes: stream.len(),
     };
+    let mut decoder = new_decoder(alloc, 1 << 20)?;
+    tell_offered(meter, alloc, case, &mut decoder, &stream)
+}
+
+/// Tells how long the fronts of a stream take, of which the last is the whole, one insertion.
+fn tell_offered(
+    meter: &Meter,
+    alloc: Global,
+    case: Case,
+    decoder: &mut Decoder,
+    stream: &[u8],
+) -> Result<()> {
+    let start = meter.start()?;
+    let mut received = 0u64;
+    for end in 1..=stream.len() {
+        let offered = stream.get(..end).unwrap_or(stream);
+        received = receive(alloc, decoder, offered)?;
+    }
     meter.tell(case, start, received, 1)
 }

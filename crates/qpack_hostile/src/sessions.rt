@@ -9,15 +9,15 @@ use std::alloc::Global;
 /// Tells how long a session takes in which so many streams have a block each, which are acknowledged from the newest
 /// on.
 pub(crate) fn tell(meter: &Meter, alloc: Global, size: usize) -> Result<()> {
-    let mut session = Session::new(alloc, 4096, 100)?;
     let events = events_of(alloc, size)?;
-    let mut answered = 0u64;
+    let mut session = Session::new(alloc, 4096, 100)?;
+    tell_events(meter, size, &mut session, &events)
+}
+
+/// Tells how long these events take.
+fn tell_events(meter: &Meter, size: usize, session: &mut Session, events: &[Event]) -> Result<()> {
     let start = meter.start()?;
-    for event in &events {
-        if is_answered(&mut session, event) {
-            answered = answered.saturating_add(1);
-        }
-    }
+    let answered = give_all(session, events);
     let case = Case {
         name: "a session of many streams",
         size,
@@ -27,18 +27,35 @@ pub(crate) fn tell(meter: &Meter, alloc: Global, size: usize) -> Result<()> {
     meter.tell(case, start, answered, events.len() as u64)
 }
 
+/// Gives the events; how many are neither refused nor skipped.
+fn give_all(session: &mut Session, events: &[Event]) -> u64 {
+    let mut answered = 0u64;
+    for event in events {
+        if is_answered(session, event) {
+            answered = answered.saturating_add(1);
+        }
+    }
+    answered
+}
+
 /// The events: a block of stream 0 whose insertion is received, then all blocks encoded, decoded and acknowledged.
 fn events_of(alloc: Global, size: usize) -> Result<Vec<Event>> {
     let mut events = Vec::new(alloc);
+    push_events(alloc, size, &mut events)?;
+    Ok(events)
+}
+
+/// Adds the events.
+fn push_events(alloc: Global, size: usize, events: &mut Vec<Event>) -> Result<()> {
     events.push(encode_event(alloc, 0)?)?;
     events.push(Event::ToDecoder(usize::MAX))?;
     events.push(Event::ToEncoder(usize::MAX))?;
     for number in 1..size {
         events.push(encode_event(alloc, number as u64)?)?;
     }
-    push_decodes(&mut events, size)?;
+    push_decodes(events, size)?;
     events.push(Event::ToEncoder(usize::MAX))?;
-    Ok(events)
+    Ok(())
 }
 
 /// The blocks are decoded, and then acknowledged from the newest on.

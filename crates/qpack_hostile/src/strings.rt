@@ -1,6 +1,6 @@
 //! Strings: the longest codes and the shortest, coded and plain, in payloads of equal length.
 
-use crate::ends::{new_decoder, receive, stateless_size, write_insertion};
+use crate::ends::{new_decoder, stateless_size, tell_received, write_insertion};
 use crate::meter::{Case, Meter, case_name};
 use anyhow::Result;
 use h3_qpack::block::Literal;
@@ -21,13 +21,24 @@ pub(crate) fn tell(meter: &Meter, alloc: Global, size: usize) -> Result<()> {
     for (label, byte, bits) in CODES {
         let len = size.saturating_mul(8) / bits.max(1);
         let text = Vec::from_elem(alloc, byte, len)?;
-        let mut block = Vec::from_slice(alloc, b"\0\0")?;
-        Literal::write(b"n", &text, &mut block)?;
-        tell_block(meter, alloc, label, size, &block, len)?;
-        tell_stream(meter, alloc, label, size, &text)?;
+        tell_text(meter, alloc, label, size, &text)?;
     }
     let block = plain_block(alloc, size)?;
     tell_block(meter, alloc, "a plain string", size, &block, size)
+}
+
+/// Tells the cases of a text whose payload has so many bytes.
+fn tell_text(meter: &Meter, alloc: Global, label: &str, size: usize, text: &[u8]) -> Result<()> {
+    let block = coded_block(alloc, text)?;
+    tell_block(meter, alloc, label, size, &block, text.len())?;
+    tell_stream(meter, alloc, label, size, text)
+}
+
+/// A block of one field, whose value is coded.
+fn coded_block(alloc: Global, text: &[u8]) -> Result<Vec<u8>> {
+    let mut block = Vec::from_slice(alloc, b"\0\0")?;
+    Literal::write(b"n", text, &mut block)?;
+    Ok(block)
 }
 
 /// A block of one field, whose value is plain and has so many bytes (RFC 9204, section 4.5.6).
@@ -49,11 +60,6 @@ fn tell_block(
     block: &[u8],
     len: usize,
 ) -> Result<()> {
-    let mut read = 0u64;
-    let start = meter.start()?;
-    for _ in 0..ROUNDS {
-        read = read.saturating_add(stateless_size(alloc, block)?);
-    }
     let name = case_name(alloc, "decode_stateless", label)?;
     let case = Case {
         name: name.as_str(),
@@ -62,24 +68,39 @@ fn tell_block(
         bytes: block.len().saturating_mul(ROUNDS),
     };
     let expected = len.saturating_add(33).saturating_mul(ROUNDS);
+    let start = meter.start()?;
+    let read = decode_often(alloc, block)?;
     meter.tell(case, start, read, expected as u64)
+}
+
+/// Decodes a block in each round; the sum of all sizes.
+fn decode_often(alloc: Global, block: &[u8]) -> Result<u64> {
+    let mut read = 0u64;
+    for _ in 0..ROUNDS {
+        read = read.saturating_add(stateless_size(alloc, block)?);
+    }
+    Ok(read)
 }
 
 /// Tells how long insertions take whose value is the text.
 fn tell_stream(meter: &Meter, alloc: Global, label: &str, size: usize, text: &[u8]) -> Result<()> {
-    let mut stream = Vec::new(alloc);
-    for _ in 0..ROUNDS {
-        write_insertion(b"n", text, &mut stream)?;
-    }
-    let mut decoder = new_decoder(alloc, 1 << 20)?;
-    let start = meter.start()?;
-    let received = receive(alloc, &mut decoder, &stream)?;
     let name = case_name(alloc, "receive", label)?;
+    let stream = insertions_of(alloc, text)?;
     let case = Case {
         name: name.as_str(),
         size,
         calls: ROUNDS,
         bytes: stream.len(),
     };
-    meter.tell(case, start, received, ROUNDS as u64)
+    let mut decoder = new_decoder(alloc, 1 << 20)?;
+    tell_received(meter, alloc, case, &mut decoder, &stream, ROUNDS as u64)
+}
+
+/// An insertion for each round, whose value is the text.
+fn insertions_of(alloc: Global, text: &[u8]) -> Result<Vec<u8>> {
+    let mut stream = Vec::new(alloc);
+    for _ in 0..ROUNDS {
+        write_insertion(b"n", text, &mut stream)?;
+    }
+    Ok(stream)
 }

@@ -1,9 +1,10 @@
 //! Blocks that a decoder never acknowledged, and what its instructions then cost the encoder.
 
-use crate::ends::{empty_table, encode_block, hear};
+use crate::ends::{empty_table, encode_block, tell_heard};
 use crate::meter::{Case, Meter};
 use anyhow::Result;
 use h3_qpack::HeaderField;
+use h3_qpack::dynamic::DynamicTable;
 use h3_qpack::encoder::Encoder;
 use h3_qpack::stream::{HeaderAck, InsertCountIncrement, StreamCancel};
 use std::alloc::Global;
@@ -28,6 +29,13 @@ enum Hostile {
 }
 
 impl Hostile {
+    const ALL: [Hostile; 4] = [
+        Hostile::Oldest,
+        Hostile::Newest,
+        Hostile::Unknown,
+        Hostile::Nothing,
+    ];
+
     /// What is printed for the instructions.
     fn label(self) -> &'static str {
         match self {
@@ -61,41 +69,46 @@ pub(crate) fn tell(meter: &Meter, alloc: Global, size: usize) -> Result<()> {
 
 /// Tells how long decoder instructions take, the blocks being of a stream each.
 fn tell_instructions(meter: &Meter, alloc: Global, size: usize) -> Result<()> {
-    let calls = size.min(MOST_CALLS);
-    for instruction in [
-        Hostile::Oldest,
-        Hostile::Newest,
-        Hostile::Unknown,
-        Hostile::Nothing,
-    ] {
-        let mut stream = Vec::new(alloc);
-        for number in 0..calls {
-            instruction.write(size, number, &mut stream)?;
-        }
-        let mut encoder = with_unacknowledged(alloc, size, true)?;
-        tell_heard(
-            meter,
-            &mut encoder,
-            instruction.label(),
-            size,
-            calls,
-            &stream,
-        )?;
+    for instruction in Hostile::ALL {
+        tell_instruction(meter, alloc, size, instruction)?;
     }
     Ok(())
 }
 
+/// Tells how long such an instruction takes.
+fn tell_instruction(meter: &Meter, alloc: Global, size: usize, instruction: Hostile) -> Result<()> {
+    let calls = size.min(MOST_CALLS);
+    let mut stream = Vec::new(alloc);
+    for number in 0..calls {
+        instruction.write(size, number, &mut stream)?;
+    }
+    let case = Case {
+        name: instruction.label(),
+        size,
+        calls,
+        bytes: stream.len(),
+    };
+    let mut encoder = with_unacknowledged(alloc, size, true)?;
+    tell_heard(meter, case, &mut encoder, &stream)
+}
+
 /// An encoder with so many unacknowledged blocks, of the streams from 0 on, or all of stream 0.
 fn with_unacknowledged(alloc: Global, count: usize, has_streams: bool) -> Result<Encoder> {
-    let mut table = empty_table(alloc, 4096, 0)?;
-    table.put(HeaderField::from_pair(alloc, b"foo", b"bar")?)?;
-    table.update_largest_received(1);
-    let mut encoder = Encoder::from(table);
+    let mut encoder = Encoder::from(table_of_one(alloc)?);
     for number in 0..count {
         let stream_id = if has_streams { number as u64 } else { 0 };
         encode_value(alloc, &mut encoder, stream_id, b"bar")?;
     }
     Ok(encoder)
+}
+
+/// A table with one entry, which is received.
+fn table_of_one(alloc: Global) -> Result<DynamicTable> {
+    let field = HeaderField::from_pair(alloc, b"foo", b"bar")?;
+    let mut table = empty_table(alloc, 4096, 0)?;
+    table.put(field)?;
+    table.update_largest_received(1);
+    Ok(table)
 }
 
 /// Encodes a block of one field, whose value this is; its required insert count.
@@ -107,57 +120,36 @@ fn encode_value(
 ) -> Result<usize> {
     let fields = [HeaderField::from_pair(alloc, b"foo", value)?];
     let mut block = Vec::new(alloc);
-    encode_block(
-        encoder,
-        stream_id,
-        &fields,
-        &mut block,
-        &mut Vec::new(alloc),
-    )
-}
-
-/// Tells how long an encoder takes over bytes of a decoder stream, of which it takes all.
-fn tell_heard(
-    meter: &Meter,
-    encoder: &mut Encoder,
-    name: &str,
-    size: usize,
-    calls: usize,
-    stream: &[u8],
-) -> Result<()> {
-    let start = meter.start()?;
-    let heard = hear(encoder, stream)?;
-    let case = Case {
-        name,
-        size,
-        calls,
-        bytes: stream.len(),
-    };
-    meter.tell(case, start, heard, stream.len() as u64)
+    let mut stream = Vec::new(alloc);
+    encode_block(encoder, stream_id, &fields, &mut block, &mut stream)
 }
 
 /// Tells how long it takes to cancel a stream that has all the blocks.
 fn tell_one_stream(meter: &Meter, alloc: Global, size: usize) -> Result<()> {
-    let mut encoder = with_unacknowledged(alloc, size, false)?;
     let mut stream = Vec::new(alloc);
     StreamCancel(0).encode(&mut stream)?;
-    tell_heard(
-        meter,
-        &mut encoder,
-        "cancel the stream of all blocks",
+    let case = Case {
+        name: "cancel the stream of all blocks",
         size,
-        1,
-        &stream,
-    )
+        calls: 1,
+        bytes: stream.len(),
+    };
+    let mut encoder = with_unacknowledged(alloc, size, false)?;
+    tell_heard(meter, case, &mut encoder, &stream)
 }
 
 /// Tells how long a block takes to encode behind so many.
 fn tell_encoded(meter: &Meter, alloc: Global, size: usize) -> Result<()> {
     let mut encoder = with_unacknowledged(alloc, size, true)?;
+    tell_more(meter, alloc, size, &mut encoder)
+}
+
+/// Tells how long more blocks take to encode.
+fn tell_more(meter: &Meter, alloc: Global, size: usize, encoder: &mut Encoder) -> Result<()> {
     let mut required = 0u64;
     let start = meter.start()?;
     for _ in 0..MOST_CALLS {
-        let each = encode_value(alloc, &mut encoder, 0, b"bar")?;
+        let each = encode_value(alloc, encoder, 0, b"bar")?;
         required = required.saturating_add(each as u64);
     }
     let case = Case {
@@ -171,20 +163,26 @@ fn tell_encoded(meter: &Meter, alloc: Global, size: usize) -> Result<()> {
 
 /// Tells how long increments of 1 take, each of which unblocks one block of so many.
 fn tell_blocked(meter: &Meter, alloc: Global, size: usize) -> Result<()> {
-    let table = empty_table(alloc, size.saturating_mul(64), size)?;
-    let mut encoder = Encoder::from(table);
     let mut stream = Vec::new(alloc);
-    for number in 0..size {
-        let value = format!(in alloc; "{number:08}")?;
-        encode_value(alloc, &mut encoder, number as u64, value.as_bytes())?;
+    for _ in 0..size {
         InsertCountIncrement(1).encode(&mut stream)?;
     }
-    tell_heard(
-        meter,
-        &mut encoder,
-        "increments, blocked blocks",
+    let case = Case {
+        name: "increments, blocked blocks",
         size,
-        size,
-        &stream,
-    )
+        calls: size,
+        bytes: stream.len(),
+    };
+    let mut encoder = Encoder::from(empty_table(alloc, size.saturating_mul(64), size)?);
+    block_all(alloc, size, &mut encoder)?;
+    tell_heard(meter, case, &mut encoder, &stream)
+}
+
+/// Encodes so many blocks, each of which inserts a field of its own.
+fn block_all(alloc: Global, count: usize, encoder: &mut Encoder) -> Result<()> {
+    for number in 0..count {
+        let value = format!(in alloc; "{number:08}")?;
+        encode_value(alloc, encoder, number as u64, value.as_bytes())?;
+    }
+    Ok(())
 }
