@@ -1,6 +1,7 @@
 //! Worked cases of an encoder's handle: what it finds and inserts, what is evictable, and which blocks are released
 //! (RFC 9204, section 2.1).
 
+use crate::tables::{find, insert, put, table};
 use qpack_base::field::HeaderField;
 use qpack_table::dynamic::{
     DynamicInsertionResult, DynamicLookupResult, DynamicTable, DynamicTableEncoder, Error,
@@ -9,54 +10,18 @@ use qpack_testing::{field, same};
 use std::alloc::Global;
 use std::test::Fail;
 
-/// An empty table of this capacity, with this limit of blocked blocks.
-fn table(alloc: Global, capacity: usize, limit: usize) -> Result<DynamicTable, Fail> {
-    let mut table = DynamicTable::new(alloc);
-    table.set_max_size(capacity)?;
-    table.set_max_blocked(limit)?;
-    Ok(table)
-}
+/// A name and a value.
+type Pair = (&'static [u8], &'static [u8]);
 
-/// Puts a field, and again after a refusal for memory.
-fn put(alloc: Global, table: &mut DynamicTable, name: &[u8], value: &[u8]) -> Result<(), Fail> {
-    match table.put(field(alloc, name, value)?) {
-        Err(Error::Memory) => Ok(table.put(field(alloc, name, value)?)?),
+const FOO_BAR: Pair = (b"foo", b"bar");
+
+/// A block of a stream that finds or inserts `foo: bar`, the first entry, and ends. After a refusal for memory it
+/// begins again.
+fn block_of_first(alloc: Global, table: &mut DynamicTable, stream_id: u64) -> Result<(), Fail> {
+    let field = field(alloc, b"foo", b"bar")?;
+    match try_block_of(table, stream_id, &field) {
+        Err(Error::Memory) => Ok(try_block_of(table, stream_id, &field)?),
         answer => Ok(answer?),
-    }
-}
-
-/// What a block finds, asked again after a refusal for memory.
-fn find(
-    block: &mut DynamicTableEncoder<'_>,
-    field: &HeaderField,
-) -> Result<DynamicLookupResult, Error> {
-    match block.find(field) {
-        Err(Error::Memory) => block.find(field),
-        answer => answer,
-    }
-}
-
-/// What a block inserts, asked again after a refusal for memory, which changes nothing.
-fn insert(
-    block: &mut DynamicTableEncoder<'_>,
-    field: &HeaderField,
-) -> Result<DynamicInsertionResult, Error> {
-    match block.insert(field) {
-        Err(Error::Memory) => block.insert(field),
-        answer => answer,
-    }
-}
-
-/// A block of a stream that finds or inserts one field, and ends. After a refusal for memory it begins again.
-fn block_of(
-    table: &mut DynamicTable,
-    stream_id: u64,
-    field: &HeaderField,
-    required: usize,
-) -> Result<(), Error> {
-    match try_block_of(table, stream_id, field, required) {
-        Err(Error::Memory) => try_block_of(table, stream_id, field, required),
-        answer => answer,
     }
 }
 
@@ -65,11 +30,10 @@ fn try_block_of(
     table: &mut DynamicTable,
     stream_id: u64,
     field: &HeaderField,
-    required: usize,
 ) -> Result<(), Error> {
     let mut block = table.encoder(stream_id);
     match find_or_insert(&mut block, field) {
-        Ok(()) => block.commit(required),
+        Ok(()) => block.commit(1),
         Err(error) => {
             block.release();
             Err(error)
@@ -87,24 +51,28 @@ fn find_or_insert(block: &mut DynamicTableEncoder<'_>, field: &HeaderField) -> R
 
 /// What a block of its own finds, which is then given up.
 fn finds(
+    alloc: Global,
     table: &mut DynamicTable,
-    field: &HeaderField,
+    (name, value): Pair,
     expected: DynamicLookupResult,
 ) -> Result<(), Fail> {
+    let field = field(alloc, name, value)?;
     let mut block = table.encoder(8);
-    let found = find(&mut block, field);
+    let found = find(&mut block, &field);
     block.release();
     same(found?, expected)
 }
 
 /// What a block of its own inserts, which is then given up.
 fn inserts(
+    alloc: Global,
     table: &mut DynamicTable,
-    field: &HeaderField,
+    (name, value): Pair,
     expected: DynamicInsertionResult,
 ) -> Result<(), Fail> {
+    let field = field(alloc, name, value)?;
     let mut block = table.encoder(8);
-    let inserted = insert(&mut block, field);
+    let inserted = insert(&mut block, &field);
     block.release();
     same(inserted?, expected)
 }
@@ -170,25 +138,45 @@ static INSERTIONS: [Insertion; 4] = [
 fn five_answers(alloc: Global, block: &mut DynamicTableEncoder<'_>) -> Result<(), Fail> {
     same((block.max_size(), block.base()), (4096, 2))?;
     same(block.agreed_max(), 4096)?;
+    finds_the_first(alloc, block)?;
+    for insertion in &INSERTIONS {
+        is_answered(alloc, block, insertion)?;
+    }
+    Ok(())
+}
+
+/// A block finds the first of two entries.
+fn finds_the_first(alloc: Global, block: &mut DynamicTableEncoder<'_>) -> Result<(), Fail> {
+    let first = field(alloc, b"Name-A", b"Value-A")?;
     let found = DynamicLookupResult::Relative {
         index: 1,
         absolute: 1,
     };
-    same(find(block, &field(alloc, b"Name-A", b"Value-A")?)?, found)?;
-    for insertion in &INSERTIONS {
-        let field = field(alloc, insertion.name, insertion.value)?;
-        same(insert(block, &field)?, insertion.answer)?;
-    }
-    Ok(())
+    same(find(block, &first)?, found)
+}
+
+/// An insertion is answered as it says.
+fn is_answered(
+    alloc: Global,
+    block: &mut DynamicTableEncoder<'_>,
+    insertion: &Insertion,
+) -> Result<(), Fail> {
+    let field = field(alloc, insertion.name, insertion.value)?;
+    same(insert(block, &field)?, insertion.answer)
 }
 
 #[test]
 fn a_block_finds_and_inserts(rt: HostRuntime) -> Result<(), Fail> {
     let mut table = table(rt.alloc(), 4096, 100)?;
-    put(rt.alloc(), &mut table, b"Name-A", b"Value-A")?;
-    put(rt.alloc(), &mut table, b"Name-B", b"Value-B")?;
+    answers_in_turn(rt.alloc(), &mut table)
+}
+
+/// One block behind two entries gives the five answers.
+fn answers_in_turn(alloc: Global, table: &mut DynamicTable) -> Result<(), Fail> {
+    put(alloc, table, b"Name-A", b"Value-A")?;
+    put(alloc, table, b"Name-B", b"Value-B")?;
     let mut block = table.encoder(4);
-    let answers = five_answers(rt.alloc(), &mut block);
+    let answers = five_answers(alloc, &mut block);
     let total = block.total_inserted();
     block.release();
     answers?;
@@ -198,89 +186,114 @@ fn a_block_finds_and_inserts(rt: HostRuntime) -> Result<(), Fail> {
 #[test]
 fn a_name_is_that_of_its_newest_entry(rt: HostRuntime) -> Result<(), Fail> {
     let mut table = table(rt.alloc(), 4096, 1)?;
-    put(rt.alloc(), &mut table, b"foo", b"zzz")?;
-    put(rt.alloc(), &mut table, b"foo", b"aaa")?;
+    names_the_newest(rt.alloc(), &mut table)
+}
+
+/// Of two entries of a name the second is named.
+fn names_the_newest(alloc: Global, table: &mut DynamicTable) -> Result<(), Fail> {
+    put(alloc, table, b"foo", b"zzz")?;
+    put(alloc, table, b"foo", b"aaa")?;
     let inserted = DynamicInsertionResult::InsertedWithNameRef {
         postbase: 0,
         relative: 0,
         absolute: 3,
     };
-    inserts(&mut table, &field(rt.alloc(), b"foo", b"mmm")?, inserted)
+    inserts(alloc, table, (b"foo", b"mmm"), inserted)
 }
 
 #[test]
 fn a_sent_entry_stays_until_it_is_received(rt: HostRuntime) -> Result<(), Fail> {
     let mut table = table(rt.alloc(), 64, 100)?;
-    let (first, second) = (
-        field(rt.alloc(), b"foo", b"bar")?,
-        field(rt.alloc(), b"foo2", b"bar")?,
-    );
-    let inserted = DynamicInsertionResult::Inserted {
-        postbase: 0,
-        absolute: 1,
-    };
-    inserts(&mut table, &first, inserted)?;
-    inserts(&mut table, &second, NOTHING)?;
+    goes_when_received(rt.alloc(), &mut table)
+}
+
+/// There is room for one entry at a time: the second goes in once the first is received.
+fn goes_when_received(alloc: Global, table: &mut DynamicTable) -> Result<(), Fail> {
+    inserts(alloc, table, FOO_BAR, inserted_as(1))?;
+    inserts(alloc, table, (b"foo2", b"bar"), NOTHING)?;
     table.update_largest_received(1);
-    let inserted = DynamicInsertionResult::Inserted {
+    inserts(alloc, table, (b"foo2", b"bar"), inserted_as(2))
+}
+
+/// The answer where a field is inserted with its name, the first of its block.
+fn inserted_as(absolute: usize) -> DynamicInsertionResult {
+    DynamicInsertionResult::Inserted {
         postbase: 0,
-        absolute: 2,
-    };
-    inserts(&mut table, &second, inserted)
+        absolute,
+    }
 }
 
 #[test]
 fn at_the_limit_only_received_entries_are_referenced(rt: HostRuntime) -> Result<(), Fail> {
     let mut table = table(rt.alloc(), 4096, 1)?;
-    let field = field(rt.alloc(), b"foo", b"bar")?;
-    block_of(&mut table, 4, &field, 1)?;
-    finds(&mut table, &field, DynamicLookupResult::NotFound)?;
-    inserts(&mut table, &field, NOTHING)?;
+    is_referenced_when_received(rt.alloc(), &mut table)
+}
+
+/// While a block is blocked, the one that may be, its entry is not referenced until it is received.
+fn is_referenced_when_received(alloc: Global, table: &mut DynamicTable) -> Result<(), Fail> {
+    block_of_first(alloc, table, 4)?;
+    finds(alloc, table, FOO_BAR, DynamicLookupResult::NotFound)?;
+    inserts(alloc, table, FOO_BAR, NOTHING)?;
     table.update_largest_received(1);
-    finds(&mut table, &field, FIRST)
+    finds(alloc, table, FOO_BAR, FIRST)
 }
 
 #[test]
 fn what_goes_is_not_duplicated(rt: HostRuntime) -> Result<(), Fail> {
     let mut table = table(rt.alloc(), 76, 100)?;
-    put(rt.alloc(), &mut table, b"foo", b"bar")?;
-    put(rt.alloc(), &mut table, b"baz", b"bar")?;
-    let inserted = DynamicInsertionResult::Inserted {
-        postbase: 0,
-        absolute: 3,
-    };
-    inserts(&mut table, &field(rt.alloc(), b"foo", b"bar")?, inserted)
+    inserts_what_goes(rt.alloc(), &mut table)
+}
+
+/// A field is inserted for which its own entry goes.
+fn inserts_what_goes(alloc: Global, table: &mut DynamicTable) -> Result<(), Fail> {
+    put(alloc, table, b"foo", b"bar")?;
+    put(alloc, table, b"baz", b"bar")?;
+    inserts(alloc, table, FOO_BAR, inserted_as(3))
 }
 
 #[test]
 fn a_static_name_is_found_first(rt: HostRuntime) -> Result<(), Fail> {
     let mut table = table(rt.alloc(), 4096, 1)?;
-    let age = field(rt.alloc(), b"age", b"12")?;
+    names_the_static(rt.alloc(), &mut table)
+}
+
+/// A field with a static name is inserted by that name, and where no block may be blocked only the name is found.
+fn names_the_static(alloc: Global, table: &mut DynamicTable) -> Result<(), Fail> {
+    const AGE: Pair = (b"age", b"12");
     let inserted = DynamicInsertionResult::InsertedWithStaticNameRef {
         postbase: 0,
         index: 2,
         absolute: 1,
     };
-    inserts(&mut table, &age, inserted)?;
+    inserts(alloc, table, AGE, inserted)?;
     table.set_max_blocked(0)?;
     let found = DynamicLookupResult::Static(2);
-    inserts(&mut table, &age, DynamicInsertionResult::NotInserted(found))?;
-    finds(&mut table, &age, DynamicLookupResult::NotFound)
+    inserts(
+        alloc,
+        table,
+        AGE,
+        DynamicInsertionResult::NotInserted(found),
+    )?;
+    finds(alloc, table, AGE, DynamicLookupResult::NotFound)
 }
 
 #[test]
 fn a_block_without_references_waits_for_nothing(rt: HostRuntime) -> Result<(), Fail> {
     let mut table = table(rt.alloc(), 4096, 100)?;
-    same(table.encoder(4).commit(0), Ok(()))?;
-    same(table.untrack_block(4), Err(Error::UnknownStreamId(4)))
+    let answers = (table.encoder(4).commit(0), table.untrack_block(4));
+    same(answers, (Ok(()), Err(Error::UnknownStreamId(4))))
 }
 
 #[test]
 fn an_acknowledgment_releases_one_block(rt: HostRuntime) -> Result<(), Fail> {
     let mut table = table(rt.alloc(), 64, 4)?;
-    let field = field(rt.alloc(), b"foo", b"bar")?;
-    block_of(&mut table, 4, &field, 1)?;
-    block_of(&mut table, 4, &field, 1)?;
+    releases_in_turn(rt.alloc(), &mut table)
+}
+
+/// Two blocks of stream 4 are acknowledged, and then their entry goes.
+fn releases_in_turn(alloc: Global, table: &mut DynamicTable) -> Result<(), Fail> {
+    block_of_first(alloc, table, 4)?;
+    block_of_first(alloc, table, 4)?;
     table.update_largest_received(1);
     same(table.untrack_block(4), Ok(()))?;
     same(table.untrack_block(8), Err(Error::UnknownStreamId(8)))?;
@@ -294,9 +307,13 @@ fn an_acknowledgment_releases_one_block(rt: HostRuntime) -> Result<(), Fail> {
 #[test]
 fn a_cancellation_releases_every_block(rt: HostRuntime) -> Result<(), Fail> {
     let mut table = table(rt.alloc(), 64, 4)?;
-    let field = field(rt.alloc(), b"foo", b"bar")?;
+    releases_at_once(rt.alloc(), &mut table)
+}
+
+/// Three blocks of stream 4 are cancelled.
+fn releases_at_once(alloc: Global, table: &mut DynamicTable) -> Result<(), Fail> {
     for _ in 0..3 {
-        block_of(&mut table, 4, &field, 1)?;
+        block_of_first(alloc, table, 4)?;
     }
     table.untrack_stream(8);
     table.untrack_stream(4);
@@ -309,15 +326,28 @@ fn a_cancellation_releases_every_block(rt: HostRuntime) -> Result<(), Fail> {
 
 #[test]
 fn a_maximum_capacity_bounds_the_capacity(rt: HostRuntime) -> Result<(), Fail> {
-    let present = table(rt.alloc(), 38, 4)?;
-    same(present.agreed_max(), 38)?;
-    let refused = Err(Error::MaximumTableSizeTooLarge);
-    let mut other = DynamicTable::new(rt.alloc());
-    same(other.set_agreed_max(1_073_741_824), refused)?;
     let mut table = DynamicTable::new(rt.alloc());
     table.set_agreed_max(64)?;
+    is_bounded(&mut table)
+}
+
+/// A maximum capacity of 64 was agreed on: a capacity above it is refused.
+fn is_bounded(table: &mut DynamicTable) -> Result<(), Fail> {
     let refused = Err(Error::MaximumTableSizeTooLarge);
     same(table.set_max_size(65), refused)?;
     same(table.set_max_size(38), Ok(()))?;
     same((table.agreed_max(), table.max_mem_size()), (64, 38))
+}
+
+#[test]
+fn a_maximum_capacity_is_below_2_to_the_30(rt: HostRuntime) -> Result<(), Fail> {
+    let mut table = DynamicTable::new(rt.alloc());
+    let refused = Err(Error::MaximumTableSizeTooLarge);
+    same(table.set_agreed_max(1_073_741_824), refused)
+}
+
+#[test]
+fn the_capacity_is_the_maximum_until_one_is_agreed_on(rt: HostRuntime) -> Result<(), Fail> {
+    let table = table(rt.alloc(), 38, 4)?;
+    same(table.agreed_max(), 38)
 }

@@ -14,4 +14,6 @@ mod random;
 #[cfg(test)]
 mod table;
 #[cfg(test)]
+mod tables;
+#[cfg(test)]
 mod texts;

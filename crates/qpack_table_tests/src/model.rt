@@ -1,7 +1,6 @@
 //! A plain second body of the handle: lists that are scanned, and no counts (RFC 9204, sections 2.1 and 3.2).
 
 use qpack_table::dynamic::{DynamicInsertionResult, DynamicLookupResult};
-use qpack_testing::again;
 use std::alloc::{AllocError, Global};
 
 /// The names of the model's fields.
@@ -14,35 +13,35 @@ const STATIC: [Option<usize>; 4] = [None, Some(2), Some(1), None];
 pub const VALUES: [&[u8]; 3] = [b"", b"x", b"some-value"];
 
 /// A field, by its places among names and values.
-#[derive(Debug, Clone, Copy, PartialEq)]
+#[derive(Clone, Copy)]
 pub struct Pair {
     pub name: usize,
     pub value: usize,
 }
 
 /// An entry.
-#[derive(Debug, Clone, Copy, PartialEq)]
+#[derive(Clone, Copy)]
 struct Stored {
     pair: Pair,
     sent: bool,
 }
 
 /// That a block references an entry; the block in progress has no stream.
-#[derive(Debug, Clone, Copy, PartialEq)]
+#[derive(Clone, Copy, PartialEq)]
 struct Reference {
     block: usize,
     absolute: usize,
 }
 
 /// A block that waits for its acknowledgment.
-#[derive(Debug, Clone, Copy, PartialEq)]
+#[derive(Clone, Copy)]
 struct Waiting {
     block: usize,
     stream_id: u64,
 }
 
 /// The table. All that was ever inserted is kept, and `dropped` of it is gone.
-#[derive(Debug, Drop)]
+#[derive(Drop)]
 pub struct Model {
     pub capacity: usize,
     pub limit: usize,
@@ -57,11 +56,26 @@ pub struct Model {
 }
 
 impl Pair {
+    pub fn name(self) -> &'static [u8] {
+        NAMES.get(self.name).copied().unwrap_or(b"")
+    }
+
+    pub fn value(self) -> &'static [u8] {
+        VALUES.get(self.value).copied().unwrap_or(b"")
+    }
+
     /// What it takes of a table.
-    fn size(&self) -> usize {
-        let name = NAMES.get(self.name).map_or(0, |name| name.len());
-        let value = VALUES.get(self.value).map_or(0, |value| value.len());
-        name.saturating_add(value).saturating_add(32)
+    fn size(self) -> usize {
+        let texts = self.name().len().saturating_add(self.value().len());
+        texts.saturating_add(32)
+    }
+}
+
+/// A vector with room for all calls, asked for again after a refusal.
+fn with_room<T: Drop>(alloc: Global) -> Result<Vec<T>, AllocError> {
+    match Vec::with_capacity(alloc, 4096) {
+        Ok(room) => Ok(room),
+        Err(_) => Vec::with_capacity(alloc, 4096),
     }
 }
 
@@ -71,12 +85,12 @@ impl Model {
         Ok(Model {
             capacity,
             limit,
-            inserted: again(|| Vec::with_capacity(alloc, 4096))?,
+            inserted: with_room(alloc)?,
             dropped: 0,
             known: 0,
-            references: again(|| Vec::with_capacity(alloc, 4096))?,
-            waiting: again(|| Vec::with_capacity(alloc, 4096))?,
-            blocked: again(|| Vec::with_capacity(alloc, 4096))?,
+            references: with_room(alloc)?,
+            waiting: with_room(alloc)?,
+            blocked: with_room(alloc)?,
             block: 0,
         })
     }
@@ -164,7 +178,8 @@ impl Model {
                 return Ok(());
             }
         }
-        self.references.push(reference).map_err(|_| AllocError)
+        self.references.push(reference)?;
+        Ok(())
     }
 
     /// An entry under a base, if it may be referenced.
@@ -264,9 +279,8 @@ impl Model {
 
     /// One entry more.
     fn store(&mut self, pair: Pair, sent: bool) -> Result<(), AllocError> {
-        self.inserted
-            .push(Stored { pair, sent })
-            .map_err(|_| AllocError)
+        self.inserted.push(Stored { pair, sent })?;
+        Ok(())
     }
 
     /// Puts a field, if there is room.
@@ -293,13 +307,11 @@ impl Model {
     pub fn commit(&mut self, stream_id: u64) -> Result<(), AllocError> {
         let required = self.required();
         if required > self.known {
-            self.blocked.push(required).map_err(|_| AllocError)?;
+            self.blocked.push(required)?;
         }
         if required > 0 {
             let block = self.block;
-            self.waiting
-                .push(Waiting { block, stream_id })
-                .map_err(|_| AllocError)?;
+            self.waiting.push(Waiting { block, stream_id })?;
         }
         self.block = self.block.wrapping_add(1);
         Ok(())

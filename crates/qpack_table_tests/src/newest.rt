@@ -1,18 +1,20 @@
 //! The newest equal live entry, and how many entries are looked at for it.
 
+use crate::tables::{answer_to_put, put, table};
 use qpack_base::field::HeaderField;
 use qpack_table::dynamic::{DynamicTable, Error, Steps};
 use qpack_testing::{Numbers, field, same};
 use std::alloc::Global;
 use std::test::Fail;
 
-/// Puts a field, and again after a refusal for memory. A field that is larger than the capacity is left out.
-fn put(alloc: Global, table: &mut DynamicTable, name: &[u8], value: &[u8]) -> Result<(), Fail> {
-    let mut answer = table.put(field(alloc, name, value)?);
-    if let Err(Error::Memory) = answer {
-        answer = table.put(field(alloc, name, value)?);
-    }
-    match answer {
+/// Puts a field. One that is larger than the capacity is left out.
+fn put_or_leave(
+    alloc: Global,
+    table: &mut DynamicTable,
+    name: &[u8],
+    value: &[u8],
+) -> Result<(), Fail> {
+    match answer_to_put(alloc, table, name, value)? {
         Ok(()) | Err(Error::MaxTableSizeReached) => Ok(()),
         Err(e) => Err(e.into()),
     }
@@ -44,9 +46,14 @@ fn live_count(table: &DynamicTable) -> usize {
 /// The newest entry with a field is that of a scan, and no more entries were looked at than their number has digits.
 fn finds(alloc: Global, table: &DynamicTable, name: &[u8], value: &[u8]) -> Result<(), Fail> {
     let sought = field(alloc, name, value)?;
+    finds_field(table, &sought)
+}
+
+/// The same of this field.
+fn finds_field(table: &DynamicTable, sought: &HeaderField) -> Result<(), Fail> {
     let mut steps = Steps::new();
-    let found = table.newest_equal(&sought, &mut steps);
-    same(found, scanned(table, &sought))?;
+    let found = table.newest_equal(sought, &mut steps);
+    same(found, scanned(table, sought))?;
     let digits = usize::BITS - live_count(table).leading_zeros();
     same(steps.count() <= u64::from(digits), true)
 }
@@ -58,86 +65,111 @@ fn below(numbers: &mut Numbers, bound: u8) -> u8 {
 
 #[test]
 fn one_of_a_hundred_is_found_in_eight_steps(rt: HostRuntime) -> Result<(), Fail> {
-    let alloc = rt.alloc();
-    let mut table = DynamicTable::new(alloc);
-    table.set_max_size(4096)?;
+    let mut table = table(rt.alloc(), 4096, 0)?;
+    is_found_of_a_hundred(rt.alloc(), &mut table)
+}
+
+/// The 57th of a hundred entries is found in up to eight steps.
+fn is_found_of_a_hundred(alloc: Global, table: &mut DynamicTable) -> Result<(), Fail> {
     for value in 1..=100_u8 {
-        put(alloc, &mut table, b"n", &[value])?;
+        put(alloc, table, b"n", &[value])?;
     }
     let mut steps = Steps::new();
     let found = table.newest_equal(&field(alloc, b"n", &[57])?, &mut steps);
-    same((found, live_count(&table)), (Some(57), 100))?;
+    same((found, live_count(table)), (Some(57), 100))?;
     same((steps.count() > 0, steps.count() <= 8), (true, true))
 }
 
 #[test]
 fn the_newest_of_equal_entries_is_found(rt: HostRuntime) -> Result<(), Fail> {
-    let alloc = rt.alloc();
-    let mut table = DynamicTable::new(alloc);
-    table.set_max_size(4096)?;
+    let mut table = table(rt.alloc(), 4096, 0)?;
+    finds_the_third(rt.alloc(), &mut table)
+}
+
+/// Of three equal entries the third is found, and of another value none.
+fn finds_the_third(alloc: Global, table: &mut DynamicTable) -> Result<(), Fail> {
     for _ in 0..3 {
-        put(alloc, &mut table, b"foo", b"bar")?;
+        put(alloc, table, b"foo", b"bar")?;
     }
     let mut steps = Steps::new();
     let found = table.newest_equal(&field(alloc, b"foo", b"bar")?, &mut steps);
     same(found, Some(3))?;
-    finds(alloc, &table, b"foo", b"ba")
+    finds(alloc, table, b"foo", b"ba")
 }
 
 #[test]
 fn an_empty_table_has_no_equal_entry(rt: HostRuntime) -> Result<(), Fail> {
-    let alloc = rt.alloc();
-    let table = DynamicTable::new(alloc);
+    let sought = field(rt.alloc(), b"foo", b"bar")?;
+    let table = DynamicTable::new(rt.alloc());
     let mut steps = Steps::new();
-    let found = table.newest_equal(&field(alloc, b"foo", b"bar")?, &mut steps);
+    let found = table.newest_equal(&sought, &mut steps);
     same((found, steps.count() <= 1), (None, true))
 }
 
 #[test]
 fn small_tables_find_what_a_scan_finds(rt: HostRuntime) -> Result<(), Fail> {
-    let alloc = rt.alloc();
-    let mut table = DynamicTable::new(alloc);
+    let mut table = DynamicTable::new(rt.alloc());
     let mut numbers = Numbers::new(0x1234_5678_9ABC_DEF1);
+    finds_at_capacities(rt.alloc(), &mut table, &mut numbers)
+}
+
+/// Puts fields and changes the capacity, and finds a field behind each.
+fn finds_at_capacities(
+    alloc: Global,
+    table: &mut DynamicTable,
+    numbers: &mut Numbers,
+) -> Result<(), Fail> {
     for _ in 0..3000 {
         if numbers.below(8) == 0 {
             table.set_max_size(numbers.below(201))?;
         } else {
-            put(
-                alloc,
-                &mut table,
-                &[below(&mut numbers, 2)],
-                &[below(&mut numbers, 3)],
-            )?;
+            put_any(alloc, table, numbers, 2, 3)?;
         }
-        finds(
-            alloc,
-            &table,
-            &[below(&mut numbers, 2)],
-            &[below(&mut numbers, 3)],
-        )?;
+        finds_any(alloc, table, numbers, 2, 3)?;
     }
     Ok(())
 }
 
+/// Puts a field whose name and value are a byte each, below these bounds.
+fn put_any(
+    alloc: Global,
+    table: &mut DynamicTable,
+    numbers: &mut Numbers,
+    names: u8,
+    values: u8,
+) -> Result<(), Fail> {
+    let (name, value) = (below(numbers, names), below(numbers, values));
+    put_or_leave(alloc, table, &[name], &[value])
+}
+
+/// Finds such a field.
+fn finds_any(
+    alloc: Global,
+    table: &DynamicTable,
+    numbers: &mut Numbers,
+    names: u8,
+    values: u8,
+) -> Result<(), Fail> {
+    let (name, value) = (below(numbers, names), below(numbers, values));
+    finds(alloc, table, &[name], &[value])
+}
+
 #[test]
 fn a_large_table_finds_what_a_scan_finds(rt: HostRuntime) -> Result<(), Fail> {
-    let alloc = rt.alloc();
-    let mut table = DynamicTable::new(alloc);
-    table.set_max_size(4096)?;
+    let mut table = table(rt.alloc(), 4096, 0)?;
     let mut numbers = Numbers::new(0x0FED_CBA9_8765_4321);
+    finds_among_many(rt.alloc(), &mut table, &mut numbers)
+}
+
+/// Puts many fields, and finds one behind each.
+fn finds_among_many(
+    alloc: Global,
+    table: &mut DynamicTable,
+    numbers: &mut Numbers,
+) -> Result<(), Fail> {
     for _ in 0..1000 {
-        put(
-            alloc,
-            &mut table,
-            &[below(&mut numbers, 8)],
-            &[below(&mut numbers, 16)],
-        )?;
-        finds(
-            alloc,
-            &table,
-            &[below(&mut numbers, 8)],
-            &[below(&mut numbers, 16)],
-        )?;
+        put_any(alloc, table, numbers, 8, 16)?;
+        finds_any(alloc, table, numbers, 8, 16)?;
     }
-    same(live_count(&table) > 100, true)
+    same(live_count(table) > 100, true)
 }

@@ -1,8 +1,9 @@
 //! Random calls of the handle, each answer held against a plain second body.
 
 use crate::model::{Model, NAMES, Pair, VALUES};
+use crate::tables::{answer_to_put, find, insert, table};
 use qpack_base::field::HeaderField;
-use qpack_table::dynamic::{DynamicTable, DynamicTableEncoder, Error};
+use qpack_table::dynamic::{DynamicTable, DynamicTableEncoder};
 use qpack_testing::{Numbers, field, same};
 use std::alloc::Global;
 use std::test::Fail;
@@ -17,12 +18,10 @@ fn any_pair(numbers: &mut Numbers) -> Pair {
 
 /// The field of a pair.
 fn field_of(alloc: Global, pair: Pair) -> Result<HeaderField, Fail> {
-    let name = NAMES.get(pair.name).copied().unwrap_or(b"");
-    let value = VALUES.get(pair.value).copied().unwrap_or(b"");
-    Ok(field(alloc, name, value)?)
+    Ok(field(alloc, pair.name(), pair.value())?)
 }
 
-/// One find or insertion of a block, at both; what is refused for memory is asked again.
+/// One find or insertion of a block, at both.
 fn ask(
     alloc: Global,
     block: &mut DynamicTableEncoder<'_>,
@@ -32,17 +31,31 @@ fn ask(
     let pair = any_pair(numbers);
     let field = field_of(alloc, pair)?;
     if numbers.below(3) == 0 {
-        let answer = match block.find(&field) {
-            Err(Error::Memory) => block.find(&field),
-            answer => answer,
-        };
-        return same(answer?, model.find(block.base(), pair)?);
+        return finds_alike(block, model, &field, pair);
     }
-    let answer = match block.insert(&field) {
-        Err(Error::Memory) => block.insert(&field),
-        answer => answer,
-    };
-    same(answer?, model.insert(block.base(), pair)?)
+    inserts_alike(block, model, &field, pair)
+}
+
+/// Both find the field of a pair, or neither.
+fn finds_alike(
+    block: &mut DynamicTableEncoder<'_>,
+    model: &mut Model,
+    field: &HeaderField,
+    pair: Pair,
+) -> Result<(), Fail> {
+    let found = find(block, field)?;
+    same(found, model.find(block.base(), pair)?)
+}
+
+/// Both insert the field of a pair, or neither.
+fn inserts_alike(
+    block: &mut DynamicTableEncoder<'_>,
+    model: &mut Model,
+    field: &HeaderField,
+    pair: Pair,
+) -> Result<(), Fail> {
+    let inserted = insert(block, field)?;
+    same(inserted, model.insert(block.base(), pair)?)
 }
 
 /// Some calls of a block.
@@ -83,6 +96,19 @@ fn one_block(
     Ok(())
 }
 
+/// Puts a pair at both. A field that is larger than the capacity is refused, and put nowhere.
+fn put_any(
+    alloc: Global,
+    table: &mut DynamicTable,
+    model: &mut Model,
+    pair: Pair,
+) -> Result<(), Fail> {
+    if answer_to_put(alloc, table, pair.name(), pair.value())?.is_ok() {
+        model.put(pair)?;
+    }
+    Ok(())
+}
+
 /// What a decoder says, or a call of the table itself.
 fn other_call(
     alloc: Global,
@@ -96,17 +122,7 @@ fn other_call(
             let capacity = numbers.below(200);
             same(table.set_max_size(capacity).is_ok(), model.resize(capacity))?;
         }
-        1 => {
-            let pair = any_pair(numbers);
-            let answer = match table.put(field_of(alloc, pair)?) {
-                Err(Error::Memory) => table.put(field_of(alloc, pair)?),
-                answer => answer,
-            };
-            // A field that is larger than the capacity is refused, and put nowhere.
-            if answer.is_ok() {
-                model.put(pair)?;
-            }
-        }
+        1 => put_any(alloc, table, model, any_pair(numbers))?,
         2 => {
             table.untrack_stream(stream_id);
             model.cancel(stream_id);
@@ -126,21 +142,34 @@ fn other_call(
 
 /// Many calls at a capacity and a limit.
 fn run(alloc: Global, capacity: usize, limit: usize, seed: u64) -> Result<(), Fail> {
-    let mut table = DynamicTable::new(alloc);
-    table.set_max_size(capacity)?;
-    table.set_max_blocked(limit)?;
-    let mut model = Model::new(alloc, capacity, limit)?;
     let mut numbers = Numbers::new(seed);
+    let mut model = Model::new(alloc, capacity, limit)?;
+    let mut table = table(alloc, capacity, limit)?;
+    call_often(alloc, &mut table, &mut model, &mut numbers)
+}
+
+/// Many calls, each answered alike.
+fn call_often(
+    alloc: Global,
+    table: &mut DynamicTable,
+    model: &mut Model,
+    numbers: &mut Numbers,
+) -> Result<(), Fail> {
     for _ in 0..400 {
-        one_block(alloc, &mut table, &mut model, &mut numbers)?;
-        other_call(alloc, &mut table, &mut model, &mut numbers)?;
-        same(table.total_inserted(), model.total())?;
-        let live = model.live();
-        same(table.get_relative(live).is_ok(), false)?;
-        let oldest = live.saturating_sub(1);
-        same(table.get_relative(oldest).is_ok(), live > 0)?;
+        one_block(alloc, table, model, numbers)?;
+        other_call(alloc, table, model, numbers)?;
+        are_alike(table, model)?;
     }
     Ok(())
+}
+
+/// Both have as many entries.
+fn are_alike(table: &DynamicTable, model: &Model) -> Result<(), Fail> {
+    same(table.total_inserted(), model.total())?;
+    let live = model.live();
+    same(table.get_relative(live).is_ok(), false)?;
+    let oldest = live.saturating_sub(1);
+    same(table.get_relative(oldest).is_ok(), live > 0)
 }
 
 #[test]

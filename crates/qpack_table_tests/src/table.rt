@@ -1,41 +1,23 @@
 //! The dynamic table as a decoder uses it (RFC 9204, section 3.2).
 
+use crate::tables::{answer_to_put, put, table};
 use qpack_base::field::HeaderField;
 use qpack_table::dynamic::{DynamicTable, Error};
-use qpack_testing::{field, same};
+use qpack_testing::same;
 use std::alloc::Global;
 use std::test::Fail;
 
-/// An empty table of this capacity.
-fn table(alloc: Global, capacity: usize) -> Result<DynamicTable, Fail> {
-    let mut table = DynamicTable::new(alloc);
-    table.set_max_size(capacity)?;
-    Ok(table)
-}
-
-/// Puts a field, and again after a refusal for memory, which must leave the table as it was.
-fn put(
-    alloc: Global,
-    table: &mut DynamicTable,
-    name: &[u8],
-    value: &[u8],
-) -> Result<Result<(), Error>, Fail> {
-    let total = table.total_inserted();
-    match table.put(field(alloc, name, value)?) {
-        Err(Error::Memory) => {
-            same(table.total_inserted(), total)?;
-            Ok(table.put(field(alloc, name, value)?))
-        }
-        answer => Ok(answer),
-    }
-}
-
 /// A table of this capacity in which two fields were put.
 fn table_of_two(alloc: Global, capacity: usize) -> Result<DynamicTable, Fail> {
-    let mut table = table(alloc, capacity)?;
-    put(alloc, &mut table, b"foo", b"bar")??;
-    put(alloc, &mut table, b"baz", b"bar")??;
+    let mut table = table(alloc, capacity, 0)?;
+    put_two(alloc, &mut table)?;
     Ok(table)
+}
+
+/// Puts the two fields.
+fn put_two(alloc: Global, table: &mut DynamicTable) -> Result<(), Fail> {
+    put(alloc, table, b"foo", b"bar")?;
+    put(alloc, table, b"baz", b"bar")
 }
 
 /// What was looked for is the field of two byte strings.
@@ -55,8 +37,13 @@ fn misses(found: Result<&HeaderField, Error>, reason: Error) -> Result<(), Fail>
 #[test]
 fn the_oldest_entries_go_for_the_newest(rt: HostRuntime) -> Result<(), Fail> {
     let mut table = table_of_two(rt.alloc(), 76)?;
+    a_third_goes_in(rt.alloc(), &mut table)
+}
+
+/// A third field is put, for which the oldest goes.
+fn a_third_goes_in(alloc: Global, table: &mut DynamicTable) -> Result<(), Fail> {
     finds(table.get_relative(1), b"foo", b"bar")?;
-    put(rt.alloc(), &mut table, b"foo", b"quxx")??;
+    put(alloc, table, b"foo", b"quxx")?;
     same(table.total_inserted(), 3)?;
     finds(table.get_relative(0), b"foo", b"quxx")?;
     misses(table.get_relative(1), Error::BadRelativeIndex(1))?;
@@ -67,19 +54,29 @@ fn the_oldest_entries_go_for_the_newest(rt: HostRuntime) -> Result<(), Fail> {
 #[test]
 fn a_field_is_put_only_within_the_capacity(rt: HostRuntime) -> Result<(), Fail> {
     let mut table = DynamicTable::new(rt.alloc());
-    same(put(rt.alloc(), &mut table, b"foo", b"bar")?, Ok(()))?;
+    goes_in_at_38(rt.alloc(), &mut table)
+}
+
+/// A field of 38 bytes is passed over at capacity 0, refused at 33, and goes in at 38.
+fn goes_in_at_38(alloc: Global, table: &mut DynamicTable) -> Result<(), Fail> {
+    same(answer_to_put(alloc, table, b"foo", b"bar")?, Ok(()))?;
     table.set_max_size(33)?;
     let refused = Err(Error::MaxTableSizeReached);
-    same(put(rt.alloc(), &mut table, b"foo", b"bar")?, refused)?;
+    same(answer_to_put(alloc, table, b"foo", b"bar")?, refused)?;
     same(table.total_inserted(), 0)?;
     table.set_max_size(38)?;
-    same(put(rt.alloc(), &mut table, b"foo", b"bar")?, Ok(()))?;
+    same(answer_to_put(alloc, table, b"foo", b"bar")?, Ok(()))?;
     same(table.total_inserted(), 1)
 }
 
 #[test]
 fn a_smaller_capacity_drops_the_oldest(rt: HostRuntime) -> Result<(), Fail> {
     let mut table = table_of_two(rt.alloc(), 4096)?;
+    shrinks(&mut table)
+}
+
+/// One of two entries is left, and then none.
+fn shrinks(table: &mut DynamicTable) -> Result<(), Fail> {
     same(table.set_max_size(38), Ok(()))?;
     finds(table.get_relative(0), b"baz", b"bar")?;
     misses(table.get_relative(1), Error::BadRelativeIndex(1))?;
@@ -90,15 +87,23 @@ fn a_smaller_capacity_drops_the_oldest(rt: HostRuntime) -> Result<(), Fail> {
 
 #[test]
 fn the_greatest_capacity_is_below_2_to_the_30(rt: HostRuntime) -> Result<(), Fail> {
-    let mut table = table(rt.alloc(), 1_073_741_823)?;
-    let refused = Err(Error::MaximumTableSizeTooLarge);
-    same(table.set_max_size(1_073_741_824), refused)?;
-    same(table.max_mem_size(), 1_073_741_823)
+    let mut table = table(rt.alloc(), 1_073_741_823, 0)?;
+    let answer = table.set_max_size(1_073_741_824);
+    let capacity = table.max_mem_size();
+    same(
+        (answer, capacity),
+        (Err(Error::MaximumTableSizeTooLarge), 1_073_741_823),
+    )
 }
 
 #[test]
 fn lines_name_entries_under_a_base(rt: HostRuntime) -> Result<(), Fail> {
     let table = table_of_two(rt.alloc(), 4096)?;
+    names_both(&table)
+}
+
+/// Each of two entries is named under a base that stands between them, and past both.
+fn names_both(table: &DynamicTable) -> Result<(), Fail> {
     let under = table.decoder(1);
     finds(under.get_relative(0), b"foo", b"bar")?;
     finds(under.get_postbase(0), b"baz", b"bar")?;
@@ -112,7 +117,6 @@ fn lines_name_entries_under_a_base(rt: HostRuntime) -> Result<(), Fail> {
 #[test]
 fn the_limit_of_blocked_blocks_is_bounded(rt: HostRuntime) -> Result<(), Fail> {
     let mut table = DynamicTable::new(rt.alloc());
-    same(table.set_max_blocked(65_534), Ok(()))?;
-    let refused = Err(Error::MaxBlockedStreamsTooLarge);
-    same(table.set_max_blocked(65_535), refused)
+    let answers = (table.set_max_blocked(65_534), table.set_max_blocked(65_535));
+    same(answers, (Ok(()), Err(Error::MaxBlockedStreamsTooLarge)))
 }
