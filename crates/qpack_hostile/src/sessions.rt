@@ -5,6 +5,7 @@ use anyhow::Result;
 use h3_qpack::HeaderField;
 use h3_qpack::session::{Event, Outcome, Session};
 use std::alloc::Global;
+use std::ops::Range;
 
 /// Tells how long a session takes in which so many streams have a block each, which are acknowledged from the newest
 /// on.
@@ -47,14 +48,20 @@ fn events_of(alloc: Global, size: usize) -> Result<Vec<Event>> {
 
 /// Adds the events.
 fn push_events(alloc: Global, size: usize, events: &mut Vec<Event>) -> Result<()> {
-    events.push(encode_event(alloc, 0)?)?;
+    push_encodes(alloc, 0..1, events)?;
     events.push(Event::ToDecoder(usize::MAX))?;
     events.push(Event::ToEncoder(usize::MAX))?;
-    for number in 1..size {
-        events.push(encode_event(alloc, number as u64)?)?;
-    }
+    push_encodes(alloc, 1..size, events)?;
     push_decodes(events, size)?;
     events.push(Event::ToEncoder(usize::MAX))?;
+    Ok(())
+}
+
+/// A block of each of these streams is encoded.
+fn push_encodes(alloc: Global, streams: Range<usize>, events: &mut Vec<Event>) -> Result<()> {
+    for number in streams {
+        events.push(encode_event(alloc, number as u64)?)?;
+    }
     Ok(())
 }
 

@@ -163,26 +163,38 @@ fn tell_more(meter: &Meter, alloc: Global, size: usize, encoder: &mut Encoder) -
 
 /// Tells how long increments of 1 take, each of which unblocks one block of so many.
 fn tell_blocked(meter: &Meter, alloc: Global, size: usize) -> Result<()> {
-    let mut stream = Vec::new(alloc);
-    for _ in 0..size {
-        InsertCountIncrement(1).encode(&mut stream)?;
-    }
+    let stream = increments(alloc, size)?;
+    let mut encoder = with_blocked(alloc, size)?;
     let case = Case {
         name: "increments, blocked blocks",
         size,
         calls: size,
         bytes: stream.len(),
     };
-    let mut encoder = Encoder::from(empty_table(alloc, size.saturating_mul(64), size)?);
-    block_all(alloc, size, &mut encoder)?;
     tell_heard(meter, case, &mut encoder, &stream)
 }
 
-/// Encodes so many blocks, each of which inserts a field of its own.
-fn block_all(alloc: Global, count: usize, encoder: &mut Encoder) -> Result<()> {
-    for number in 0..count {
-        let value = format!(in alloc; "{number:08}")?;
-        encode_value(alloc, encoder, number as u64, value.as_bytes())?;
+/// So many increments of 1.
+fn increments(alloc: Global, count: usize) -> Result<Vec<u8>> {
+    let mut stream = Vec::new(alloc);
+    for _ in 0..count {
+        InsertCountIncrement(1).encode(&mut stream)?;
     }
+    Ok(stream)
+}
+
+/// An encoder with so many blocked blocks, each of which inserts a field of its own.
+fn with_blocked(alloc: Global, count: usize) -> Result<Encoder> {
+    let mut encoder = Encoder::from(empty_table(alloc, count.saturating_mul(64), count)?);
+    for number in 0..count {
+        encode_number(alloc, &mut encoder, number as u64)?;
+    }
+    Ok(encoder)
+}
+
+/// Encodes a block of one field on the stream of a number, whose value are its digits.
+fn encode_number(alloc: Global, encoder: &mut Encoder, number: u64) -> Result<()> {
+    let value = format!(in alloc; "{number:08}")?;
+    encode_value(alloc, encoder, number, value.as_bytes())?;
     Ok(())
 }
