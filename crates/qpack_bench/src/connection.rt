@@ -37,7 +37,7 @@ impl Clock {
 }
 
 /// How many bytes were written, and how many blocks decoded as the fields that were encoded.
-#[derive(Debug, Clone, Copy, PartialEq)]
+#[derive(Clone, Copy)]
 struct Counts {
     blocks: usize,
     encoder_stream: usize,
@@ -58,20 +58,27 @@ struct Connection {
 /// An empty table of this capacity.
 fn table(alloc: Global, capacity: usize) -> Result<DynamicTable> {
     let mut table = DynamicTable::new(alloc);
-    table.set_max_size(capacity)?;
-    table.set_max_blocked(BLOCKED)?;
+    set_bounds(&mut table, capacity)?;
     Ok(table)
 }
 
+/// Sets the capacity of a table, and how many blocks may be blocked.
+fn set_bounds(table: &mut DynamicTable, capacity: usize) -> Result<()> {
+    table.set_max_size(capacity)?;
+    table.set_max_blocked(BLOCKED)?;
+    Ok(())
+}
+
 impl Connection {
-    fn new(alloc: Global, capacity: usize) -> Result<Connection> {
-        Ok(Connection {
-            encoder: Encoder::from(table(alloc, capacity)?),
-            decoder: Decoder::from(table(alloc, capacity)?),
+    /// Two ends with these tables.
+    fn new(alloc: Global, sending: DynamicTable, receiving: DynamicTable) -> Connection {
+        Connection {
+            encoder: Encoder::from(sending),
+            decoder: Decoder::from(receiving),
             block: Vec::new(alloc),
             encoder_stream: Vec::new(alloc),
             decoder_stream: Vec::new(alloc),
-        })
+        }
     }
 
     /// All phases of one list; whether it was decoded as it was encoded.
@@ -82,6 +89,20 @@ impl Connection {
         list: &Vec<HeaderField>,
         clock: &mut Clock,
     ) -> Result<bool> {
+        self.send(rt, stream_id, list, clock)?;
+        let decoded = self.decoder.decode_header(&mut Cursor::new(&self.block))?;
+        self.answer(rt, stream_id, decoded.dyn_ref, clock)?;
+        Ok(decoded.fields == *list)
+    }
+
+    /// The phases before a block is decoded.
+    fn send(
+        &mut self,
+        rt: &HostRuntime,
+        stream_id: u64,
+        list: &[HeaderField],
+        clock: &mut Clock,
+    ) -> Result<()> {
         self.block.clear();
         self.encoder_stream.clear();
         self.decoder_stream.clear();
@@ -97,21 +118,29 @@ impl Connection {
             &mut Cursor::new(&self.encoder_stream),
             &mut self.decoder_stream,
         )?;
-        clock.lap(rt, 1)?;
-        let decoded = self.decoder.decode_header(&mut Cursor::new(&self.block))?;
+        clock.lap(rt, 1)
+    }
+
+    /// The phases behind that, of a block that references the table or does not.
+    fn answer(
+        &mut self,
+        rt: &HostRuntime,
+        stream_id: u64,
+        is_dynamic: bool,
+        clock: &mut Clock,
+    ) -> Result<()> {
         clock.lap(rt, 2)?;
-        if decoded.dyn_ref {
+        if is_dynamic {
             ack_header(stream_id, &mut self.decoder_stream)?;
         }
         clock.lap(rt, 3)?;
         self.encoder
             .on_decoder_recv(&mut Cursor::new(&self.decoder_stream))?;
-        clock.lap(rt, 4)?;
-        Ok(decoded.fields == *list)
+        clock.lap(rt, 4)
     }
 }
 
-/// One connection over all lists, each on a stream of its own.
+/// One connection over all lists.
 fn connect(
     rt: &HostRuntime,
     alloc: Global,
@@ -119,7 +148,19 @@ fn connect(
     capacity: usize,
     clock: &mut Clock,
 ) -> Result<Counts> {
-    let mut connection = Connection::new(alloc, capacity)?;
+    let sending = table(alloc, capacity)?;
+    let receiving = table(alloc, capacity)?;
+    let mut connection = Connection::new(alloc, sending, receiving);
+    exchange_all(rt, &mut connection, lists, clock)
+}
+
+/// All lists, each on a stream of its own.
+fn exchange_all(
+    rt: &HostRuntime,
+    connection: &mut Connection,
+    lists: &[Vec<HeaderField>],
+    clock: &mut Clock,
+) -> Result<Counts> {
     let mut counts = Counts {
         blocks: 0,
         encoder_stream: 0,
@@ -131,7 +172,7 @@ fn connect(
         if connection.exchange(rt, stream_id, list, clock)? {
             counts.decoded = counts.decoded.saturating_add(1);
         }
-        counts.add(&connection);
+        counts.add(connection);
         stream_id = stream_id.wrapping_add(4);
     }
     Ok(counts)

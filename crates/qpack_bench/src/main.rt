@@ -48,45 +48,53 @@ fn words_of(rt: &HostRuntime) -> Result<Words> {
     Ok(Words { rounds, entries })
 }
 
-/// Reads the corpus, tells what it counted, and times the rounds.
+/// Reads the corpus, and tells what is counted and timed of it.
 fn run(rt: &HostRuntime, alloc: Global) -> Result<()> {
-    let lists = corpus::read_lists(alloc, fs::read_to_string(rt, "corpus.qif")?.as_str())?;
-    let of_h3 = fs::read_to_string(rt, "stateless_h3.tsv")?;
-    let of_h3 = corpus::read_blocks(alloc, of_h3.as_str(), true)?;
-    let of_nghttp3 = fs::read_to_string(rt, "nghttp3_0_0_ack.txt")?;
-    let of_nghttp3 = corpus::read_blocks(alloc, of_nghttp3.as_str(), false)?;
-    let fields = corpus::fields_len(&lists);
-    let text = corpus::text_len(&lists);
-    println!(rt;
-        "{} lists, {fields} fields, {text} bytes of names and values",
-        lists.len()
-    )?;
-    let written = comparing::written_alike(alloc, &lists, &of_h3)?;
-    println!(rt; "{written} blocks of h3 written alike, with their sizes")?;
-    let read = comparing::read_alike(alloc, &lists, &of_h3)?;
-    println!(rt; "{read} blocks of h3 read as their fields, with their sizes")?;
-    let read = comparing::read_alike(alloc, &lists, &of_nghttp3)?;
-    println!(rt; "{read} blocks of nghttp3 read as their fields")?;
     let words = words_of(rt)?;
+    let lists = corpus::read_lists(rt, alloc, "corpus.qif")?;
+    tell(rt, alloc, &lists, words)
+}
+
+/// Tells what is counted of the lists, and times the rounds.
+fn tell(rt: &HostRuntime, alloc: Global, lists: &[Vec<HeaderField>], words: Words) -> Result<()> {
+    tell_lists(rt, lists)?;
+    comparing::tell_of_h3(rt, alloc, lists)?;
+    comparing::tell_of_nghttp3(rt, alloc, lists)?;
     if words.rounds > 0 {
-        timing::time(rt, alloc, &lists, words.rounds)?;
+        timing::time(rt, alloc, lists, words.rounds)?;
     }
     for (file, max_capacity) in RECORDINGS {
-        tell_replayed(rt, alloc, &lists, file, max_capacity)?;
+        tell_recording(rt, alloc, lists, file, max_capacity)?;
     }
     for capacity in [4096, 65536] {
-        connection::tell(rt, alloc, &lists, capacity, words.rounds)?;
+        connection::tell(rt, alloc, lists, capacity, words.rounds)?;
     }
     if words.entries > 0 {
-        let found = table::drive(alloc, words.entries)?;
-        println!(rt; "{found} entries of the table found")?;
+        tell_table(rt, alloc, words.entries)?;
     }
     Ok(())
 }
 
-/// Tells how many blocks of a recorded connection are read as their fields, the encoder stream delivered in pieces, and
-/// how many are inspected as them.
-fn tell_replayed(
+/// Tells how many lists there are, fields, and bytes of text.
+fn tell_lists(rt: &HostRuntime, lists: &[Vec<HeaderField>]) -> Result<()> {
+    let fields = corpus::fields_len(lists);
+    let text = corpus::text_len(lists);
+    println!(rt;
+        "{} lists, {fields} fields, {text} bytes of names and values",
+        lists.len()
+    )?;
+    Ok(())
+}
+
+/// Drives a table of so many entries, and tells how many were found.
+fn tell_table(rt: &HostRuntime, alloc: Global, entries: usize) -> Result<()> {
+    let found = table::drive(alloc, entries)?;
+    println!(rt; "{found} entries of the table found")?;
+    Ok(())
+}
+
+/// Tells what is counted of a recorded connection, and of its mutations.
+fn tell_recording(
     rt: &HostRuntime,
     alloc: Global,
     lists: &[Vec<HeaderField>],
@@ -94,15 +102,28 @@ fn tell_replayed(
     max_capacity: usize,
 ) -> Result<()> {
     let text = fs::read_to_string(rt, file)?;
+    tell_text(rt, alloc, lists, file, text.as_str(), max_capacity)
+}
+
+/// Tells how many blocks of a recorded connection are read as their fields, the encoder stream delivered in pieces, and
+/// how many are inspected as them.
+fn tell_text(
+    rt: &HostRuntime,
+    alloc: Global,
+    lists: &[Vec<HeaderField>],
+    file: &str,
+    text: &str,
+    max_capacity: usize,
+) -> Result<()> {
     for piece in [1, 7, 65536] {
-        let read = replay::replay(alloc, lists, text.as_str(), max_capacity, piece)?;
+        let read = replay::replay(alloc, lists, text, max_capacity, piece)?;
         println!(rt; "{file}: {read} blocks read as their fields, in pieces of {piece} bytes")?;
     }
-    let inspected = inspected::inspect_all(alloc, lists, file, text.as_str(), max_capacity)?;
+    let inspected = inspected::inspect_all(alloc, lists, file, text, max_capacity)?;
     println!(rt;
         "{file}: {inspected} blocks inspected, each with the count and the size of its fields"
     )?;
-    tell_mutated(rt, alloc, file, text.as_str(), max_capacity)
+    tell_mutated(rt, alloc, file, text, max_capacity)
 }
 
 /// Tells how many lines of a recorded connection with mutations were answered, and how often by a refusal.

@@ -10,7 +10,7 @@ use qpack_testing::Numbers;
 use std::alloc::Global;
 
 /// How many lines were answered, and how many of the answers were refusals.
-#[derive(Debug, Clone, Copy, PartialEq)]
+#[derive(Clone, Copy)]
 pub(crate) struct Answers {
     pub(crate) given: usize,
     pub(crate) refused: usize,
@@ -36,6 +36,18 @@ fn mutate(alloc: Global, numbers: &mut Numbers, bytes: &[u8]) -> Result<Vec<u8>>
     let from = numbers.below(bytes.len().max(1));
     let to = from.saturating_add(numbers.below(8));
     let mut mutated = Vec::from_slice(alloc, bytes.get(..from).unwrap_or(bytes))?;
+    push_end(numbers, bytes, from, to, &mut mutated)?;
+    Ok(mutated)
+}
+
+/// Writes what is left, behind its first bytes, of bytes in which the part from `from` to `to` is hit.
+fn push_end(
+    numbers: &mut Numbers,
+    bytes: &[u8],
+    from: usize,
+    to: usize,
+    mutated: &mut Vec<u8>,
+) -> Result<()> {
     let behind = bytes.get(from..).unwrap_or(b"");
     match numbers.below(4) {
         0 => {
@@ -51,7 +63,7 @@ fn mutate(alloc: Global, numbers: &mut Numbers, bytes: &[u8]) -> Result<Vec<u8>>
             mutated.extend_from_slice(behind)?;
         }
     }
-    Ok(mutated)
+    Ok(())
 }
 
 /// Whether two tables are alike in what a decoder sees of them.
@@ -84,23 +96,57 @@ pub(crate) fn try_once(
     answers: &mut Answers,
 ) -> Result<()> {
     let mut receiver = Receiver::new(alloc, max_capacity)?;
+    give_all(alloc, numbers, text, &mut receiver, answers)?;
+    expect_same(alloc, &receiver, max_capacity)
+}
+
+/// Gives the lines to a decoder, up to a refusal of the encoder stream.
+fn give_all(
+    alloc: Global,
+    numbers: &mut Numbers,
+    text: &str,
+    receiver: &mut Receiver,
+    answers: &mut Answers,
+) -> Result<()> {
     for line in text.lines() {
-        let (is_section, _, digits) = parts_of(line)?;
-        let mut bytes = hex::decode(alloc, digits)?;
-        if numbers.below(8) == 0 {
-            bytes = mutate(alloc, numbers, &bytes)?;
-        }
-        if is_section {
-            answers.count(receiver.decode(&bytes).err())?;
-            continue;
-        }
-        let refused = receiver.deliver(&bytes, 7)?;
-        let ends = refused.is_some();
-        answers.count(refused)?;
-        if ends {
+        if give(alloc, numbers, line, receiver, answers)? {
             break;
         }
     }
+    Ok(())
+}
+
+/// Gives a line, mutated or not; whether the connection ends.
+fn give(
+    alloc: Global,
+    numbers: &mut Numbers,
+    line: &str,
+    receiver: &mut Receiver,
+    answers: &mut Answers,
+) -> Result<bool> {
+    let (is_section, _, digits) = parts_of(line)?;
+    let bytes = bytes_of(alloc, numbers, digits)?;
+    if is_section {
+        answers.count(receiver.decode(&bytes).err())?;
+        return Ok(false);
+    }
+    let refused = receiver.deliver(&bytes, 7)?;
+    let ends = refused.is_some();
+    answers.count(refused)?;
+    Ok(ends)
+}
+
+/// The bytes of a line, of which one in eight is mutated.
+fn bytes_of(alloc: Global, numbers: &mut Numbers, digits: &str) -> Result<Vec<u8>> {
+    let bytes = hex::decode(alloc, digits)?;
+    if numbers.below(8) > 0 {
+        return Ok(bytes);
+    }
+    mutate(alloc, numbers, &bytes)
+}
+
+/// Fails where the table is not the one that a decoder makes of the bytes that were taken, given at once.
+fn expect_same(alloc: Global, receiver: &Receiver, max_capacity: usize) -> Result<()> {
     let again = receiver.of_what_was_taken(alloc, max_capacity)?;
     ensure!(
         are_alike(receiver.table(), again.table()),

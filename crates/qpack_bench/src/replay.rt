@@ -24,12 +24,17 @@ impl Receiver {
     pub(crate) fn new(alloc: Global, max_capacity: usize) -> Result<Receiver> {
         let mut table = DynamicTable::new(alloc);
         table.set_agreed_max(max_capacity)?;
-        Ok(Receiver {
+        Ok(Receiver::with_table(alloc, table))
+    }
+
+    /// A decoder with this table, which took nothing.
+    fn with_table(alloc: Global, table: DynamicTable) -> Receiver {
+        Receiver {
             decoder: Decoder::from(table),
             encoder_stream: Vec::new(alloc),
             taken: 0,
             decoder_stream: Vec::new(alloc),
-        })
+        }
     }
 
     /// Delivers bytes of the encoder stream, a piece at a time, up to a refusal, which is answered.
@@ -52,6 +57,12 @@ impl Receiver {
     /// Decodes a block.
     pub(crate) fn decode(&self, block: &[u8]) -> Result<Decoded, DecoderError> {
         self.decoder.decode_header(&mut Cursor::new(block))
+    }
+
+    /// Whether a block is read as the fields of a list, with the sum of their sizes.
+    fn is_block_of(&self, list: &Vec<HeaderField>, block: &[u8]) -> Result<bool> {
+        let decoded = self.decode(block)?;
+        Ok(decoded.fields == *list && decoded.mem_size == fields_size(list))
     }
 
     /// The decoder's table.
@@ -94,18 +105,20 @@ pub(crate) fn replay(
     piece: usize,
 ) -> Result<usize> {
     let mut receiver = Receiver::new(alloc, max_capacity)?;
+    replay_to(alloc, lists, text, piece, &mut receiver)
+}
+
+/// The same, to this receiver.
+fn replay_to(
+    alloc: Global,
+    lists: &[Vec<HeaderField>],
+    text: &str,
+    piece: usize,
+    receiver: &mut Receiver,
+) -> Result<usize> {
     let mut alike = 0usize;
     for line in text.lines() {
-        let (is_section, stream_id, digits) = parts_of(line)?;
-        let bytes = hex::decode(alloc, digits)?;
-        if !is_section {
-            let refused = receiver.deliver(&bytes, piece)?;
-            ensure!(refused.is_none(), "an instruction was refused");
-            continue;
-        }
-        let list = lists.get(stream_id / 4).context(UNREADABLE)?;
-        let decoded = receiver.decode(&bytes)?;
-        if decoded.fields == *list && decoded.mem_size == fields_size(list) {
+        if is_read_alike(alloc, lists, line, piece, receiver)? {
             alike = alike.saturating_add(1);
         }
     }
@@ -114,4 +127,23 @@ pub(crate) fn replay(
         "the increments are not those of the insertions"
     );
     Ok(alike)
+}
+
+/// Receives a line; whether it is a block that is read as the fields of its list.
+fn is_read_alike(
+    alloc: Global,
+    lists: &[Vec<HeaderField>],
+    line: &str,
+    piece: usize,
+    receiver: &mut Receiver,
+) -> Result<bool> {
+    let (is_section, stream_id, digits) = parts_of(line)?;
+    let bytes = hex::decode(alloc, digits)?;
+    if is_section {
+        let list = lists.get(stream_id / 4).context(UNREADABLE)?;
+        return receiver.is_block_of(list, &bytes);
+    }
+    let refused = receiver.deliver(&bytes, piece)?;
+    ensure!(refused.is_none(), "an instruction was refused");
+    Ok(false)
 }

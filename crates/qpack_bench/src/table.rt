@@ -14,22 +14,39 @@ const ENTRY: usize = 44;
 /// insertion reported. Answers how many entries were found.
 pub(crate) fn drive(alloc: Global, live: usize) -> Result<usize> {
     let mut table = DynamicTable::new(alloc);
+    fill(alloc, &mut table, live)?;
+    encode_all(alloc, &mut table, live)
+}
+
+/// Fills a table with so many entries, all received.
+fn fill(alloc: Global, table: &mut DynamicTable, live: usize) -> Result<()> {
     table.set_max_size(live.saturating_mul(ENTRY))?;
     table.set_max_blocked(1)?;
     for n in 0..live {
         table.put(field_of(alloc, n)?)?;
     }
     table.update_largest_received(live);
+    Ok(())
+}
+
+/// Encodes as many blocks as there are entries; how many found one.
+fn encode_all(alloc: Global, table: &mut DynamicTable, live: usize) -> Result<usize> {
     let mut found = 0usize;
     for n in live..live.saturating_mul(2) {
-        let known = field_of(alloc, n.saturating_sub(live / 2))?;
-        if encode(&mut table, &known, &field_of(alloc, n)?)? {
+        if encode_two(alloc, table, n.saturating_sub(live / 2), n)? {
             found = found.saturating_add(1);
         }
         table.update_largest_received(1);
-        acknowledge(&mut table)?;
+        acknowledge(table)?;
     }
     Ok(found)
+}
+
+/// Encodes a block of the fields of two numbers; answers whether the first was found.
+fn encode_two(alloc: Global, table: &mut DynamicTable, known: usize, new: usize) -> Result<bool> {
+    let known = field_of(alloc, known)?;
+    let new = field_of(alloc, new)?;
+    Ok(encode(table, &known, &new)?)
 }
 
 /// The field of a number.

@@ -29,71 +29,122 @@ pub(crate) fn time(
     let start = Instant::now(rt)?;
     let written = encode_rounds(alloc, lists, rounds)?;
     tell(rt, "encode", fields, start, written)?;
-    let blocks = blocks_of(alloc, lists)?;
-    let start = Instant::now(rt)?;
-    let read = decode_rounds(alloc, &blocks, rounds)?;
-    tell(rt, "decode", fields, start, read)?;
-    time_huffman(rt, alloc, lists, rounds)
+    time_blocks(rt, alloc, lists, fields, rounds)?;
+    let texts = texts_of(alloc, lists)?;
+    time_texts(rt, alloc, &texts, fields.bytes, rounds)
 }
 
-/// Times the Huffman code alone, over all names and values.
-fn time_huffman(
+/// Times blocks read.
+fn time_blocks(
     rt: &HostRuntime,
     alloc: Global,
     lists: &[Vec<HeaderField>],
+    work: Work,
     rounds: u64,
 ) -> Result<()> {
-    let texts = texts_of(alloc, lists)?;
-    let work = Work {
-        items: (texts.len() as u64).saturating_mul(rounds),
-        bytes: text_len(lists).saturating_mul(rounds),
-    };
+    let blocks = blocks_of(alloc, lists)?;
     let start = Instant::now(rt)?;
-    let mut written = 0u64;
-    for _ in 0..rounds {
-        for text in &texts {
-            written = written.saturating_add(text.hpack_encode()?.len() as u64);
-        }
-    }
-    tell(rt, "code", work, start, written)?;
-    let mut payloads = Vec::new(alloc);
-    for text in &texts {
-        payloads.push(text.hpack_encode()?)?;
-    }
-    let start = Instant::now(rt)?;
-    let mut read = 0u64;
-    for _ in 0..rounds {
-        for payload in &payloads {
-            for byte in payload.hpack_decode() {
-                read = read.saturating_add(u64::from(byte.unwrap_or(0)));
-            }
-        }
-    }
-    tell(rt, "decode of the code", work, start, read)?;
-    time_strings(rt, alloc, &texts, work, rounds)
+    let read = decode_rounds(alloc, &blocks, rounds)?;
+    tell(rt, "decode", work, start, read)
 }
 
-/// Times string literals read, each into a vector of its own.
-fn time_strings(
+/// Times the Huffman code alone, over all names and values, and string literals. In all rounds they have so many bytes.
+fn time_texts(
+    rt: &HostRuntime,
+    alloc: Global,
+    texts: &[Vec<u8>],
+    bytes: u64,
+    rounds: u64,
+) -> Result<()> {
+    let items = (texts.len() as u64).saturating_mul(rounds);
+    let work = Work { items, bytes };
+    let start = Instant::now(rt)?;
+    let written = code_rounds(texts, rounds)?;
+    tell(rt, "code", work, start, written)?;
+    time_payloads(rt, alloc, texts, work, rounds)?;
+    time_literals(rt, alloc, texts, work, rounds)
+}
+
+/// Times the code of the texts read.
+fn time_payloads(
     rt: &HostRuntime,
     alloc: Global,
     texts: &[Vec<u8>],
     work: Work,
     rounds: u64,
 ) -> Result<()> {
-    let mut literals = Vec::new(alloc);
-    for text in texts {
-        literals.push(literal_of(alloc, text.as_slice())?)?;
-    }
+    let payloads = payloads_of(alloc, texts)?;
     let start = Instant::now(rt)?;
+    let read = read_rounds(&payloads, rounds);
+    tell(rt, "decode of the code", work, start, read)
+}
+
+/// Times string literals read, each into a vector of its own.
+fn time_literals(
+    rt: &HostRuntime,
+    alloc: Global,
+    texts: &[Vec<u8>],
+    work: Work,
+    rounds: u64,
+) -> Result<()> {
+    let literals = literals_of(alloc, texts)?;
+    let start = Instant::now(rt)?;
+    let read = string_rounds(alloc, &literals, rounds)?;
+    tell(rt, "decode of strings", work, start, read)
+}
+
+/// Writes the texts in the code again and again; how many bytes were written.
+fn code_rounds(texts: &[Vec<u8>], rounds: u64) -> Result<u64> {
+    let mut written = 0u64;
+    for _ in 0..rounds {
+        for text in texts {
+            written = written.saturating_add(text.hpack_encode()?.len() as u64);
+        }
+    }
+    Ok(written)
+}
+
+/// Reads the payloads again and again; the sum of all bytes.
+fn read_rounds(payloads: &[Vec<u8>], rounds: u64) -> u64 {
     let mut read = 0u64;
     for _ in 0..rounds {
-        for literal in &literals {
+        for payload in payloads {
+            for byte in payload.hpack_decode() {
+                read = read.saturating_add(u64::from(byte.unwrap_or(0)));
+            }
+        }
+    }
+    read
+}
+
+/// Reads the literals again and again; how many bytes were read.
+fn string_rounds(alloc: Global, literals: &[Vec<u8>], rounds: u64) -> Result<u64> {
+    let mut read = 0u64;
+    for _ in 0..rounds {
+        for literal in literals {
             let text = prefix_string::decode(alloc, 8, &mut Cursor::new(literal))?;
             read = read.saturating_add(text.len() as u64);
         }
     }
-    tell(rt, "decode of strings", work, start, read)
+    Ok(read)
+}
+
+/// The texts in the code.
+fn payloads_of(alloc: Global, texts: &[Vec<u8>]) -> Result<Vec<Vec<u8>>> {
+    let mut payloads = Vec::new(alloc);
+    for text in texts {
+        payloads.push(text.hpack_encode()?)?;
+    }
+    Ok(payloads)
+}
+
+/// The string literals of the texts.
+fn literals_of(alloc: Global, texts: &[Vec<u8>]) -> Result<Vec<Vec<u8>>> {
+    let mut literals = Vec::new(alloc);
+    for text in texts {
+        literals.push(literal_of(alloc, text.as_slice())?)?;
+    }
+    Ok(literals)
 }
 
 /// The string literal of a text, with a prefix of eight bits.
