@@ -60,34 +60,24 @@ fn written_alike(
 ) -> Result<u64> {
     let mut alike = 0u64;
     for (list, block) in lists.iter().zip(blocks) {
-        if is_written_alike(alloc, list, block)? {
+        let mut bytes = Vec::new(alloc);
+        let size = encode_stateless(&mut bytes, list.iter())?;
+        if bytes == block.bytes && block.size == Some(size) {
             alike = alike.saturating_add(1);
         }
     }
     Ok(alike)
-}
-
-/// Whether a list is written as a block, and tells the same sum of sizes.
-fn is_written_alike(alloc: Global, list: &[HeaderField], block: &ForeignBlock) -> Result<bool> {
-    let mut bytes = Vec::new(alloc);
-    let size = encode_stateless(&mut bytes, list.iter())?;
-    Ok(bytes == block.bytes && block.size == Some(size))
 }
 
 /// How many blocks are read as the fields of their lists, with the sum of sizes that is told.
 fn read_alike(alloc: Global, lists: &[Vec<HeaderField>], blocks: &[ForeignBlock]) -> Result<u64> {
     let mut alike = 0u64;
     for (list, block) in lists.iter().zip(blocks) {
-        if is_read_alike(alloc, list, block)? {
+        let decoded = decode_stateless(alloc, &mut Cursor::new(&block.bytes), u64::MAX)?;
+        let size = block.size.unwrap_or(decoded.mem_size);
+        if decoded.fields == *list && decoded.mem_size == size {
             alike = alike.saturating_add(1);
         }
     }
     Ok(alike)
-}
-
-/// Whether a block is read as the fields of a list, with the sum of sizes that is told.
-fn is_read_alike(alloc: Global, list: &Vec<HeaderField>, block: &ForeignBlock) -> Result<bool> {
-    let decoded = decode_stateless(alloc, &mut Cursor::new(&block.bytes), u64::MAX)?;
-    let size = block.size.unwrap_or(decoded.mem_size);
-    Ok(decoded.fields == *list && decoded.mem_size == size)
 }
