@@ -19,7 +19,7 @@ use Rattle.h3_qpack.specs.declared.decoder.DecoderError.{DecoderError}
 use Rattle.h3_qpack.specs.declared.decoder.DecoderError.TheVariants.{Memory}
 use Rattle.qpack_wire.specs.Memory.{HoldsLine}
 use Rattle.qpack_wire.proofs.Asking.{HasBegun}
-use Rattle.h3_qpack.specs.Sections.{FailsWith, GivesLineField, ReadsField, field_at}
+use Rattle.h3_qpack.specs.Sections.{FailsWith, GivesLineField, ReadsField, line_field_at}
 
 -- a fault of a part is the whole's
 fails_on : {A B : Type 0} (e : DecoderError) (read : Result A Fault) (whole : Result B Fault) → FailsWith e read
@@ -40,7 +40,7 @@ record TakesLine (bytes rest : List ℕ) : Type 0 where
   pub line : Line
   pub takes : TakesSpelling Line line_form bytes line rest
 
-field_takes : (w : Window) (base : ℕ) (bytes : List ℕ) (f : Field) (rest : List ℕ) → field_at w base bytes
+field_takes : (w : Window) (base : ℕ) (bytes : List ℕ) (f : Field) (rest : List ℕ) → line_field_at w base bytes
     ≡ Ok (f, rest)
     → TakesLine bytes rest
 field_takes w base bytes f rest e =
@@ -58,7 +58,7 @@ field_takes w base bytes f rest e =
     bytes_ok (Ok x) r e = let s = ok_is x r e in ap (λ (y : Line × List ℕ). Ok y) s
     bytes_ok (Err x) r e = absurd cc
 
-field_line : (w : Window) (base : ℕ) (bytes : List ℕ) (f : Field) (rest : List ℕ) → field_at w base bytes
+field_line : (w : Window) (base : ℕ) (bytes : List ℕ) (f : Field) (rest : List ℕ) → line_field_at w base bytes
     ≡ Ok (f, rest)
     → Begins HoldsLine bytes
 field_line w base bytes f rest e =
@@ -66,7 +66,7 @@ field_line w base bytes f rest e =
     record { encoding = t.takes.encoding; rest = rest; parts = t.takes.parts; holds = (t.line, t.takes.spells) }
 
 -- a line takes a byte at least
-field_shortens : (w : Window) (base : ℕ) (bytes : List ℕ) (f : Field) (rest : List ℕ) → field_at w base bytes
+field_shortens : (w : Window) (base : ℕ) (bytes : List ℕ) (f : Field) (rest : List ℕ) → line_field_at w base bytes
     ≡ Ok (f, rest)
     → length rest < length bytes
 field_shortens w base bytes f rest e =
@@ -76,7 +76,7 @@ field_shortens w base bytes f rest e =
 
 -- a line was read, so that the first was
 pub line_begun : (w : Window) (base : ℕ) (all rest : List ℕ) (f : Field) (more : List ℕ) → HasBegun all rest
-    → field_at w base rest ≡ Ok (f, more)
+    → line_field_at w base rest ≡ Ok (f, more)
     → Begins HoldsLine all
 line_begun w base all rest f more (inl e) read = subst (Begins HoldsLine) e (field_line w base rest f more read)
 line_begun w base all rest f more (inr h) read = h
@@ -100,7 +100,7 @@ behind k w base r = fields_at k w base r.1 >>= λ fs. Ok (r.0 ∷ fs)
 
 -- with lines left, the one at the front decides
 turn : (k : ℕ) (w : Window) (base : ℕ) (bytes : List ℕ) → 0 < k → 0 < length bytes
-    → fields_at k w base bytes ≡ (field_at w base bytes >>= behind (k - 1) w base)
+    → fields_at k w base bytes ≡ (line_field_at w base bytes >>= behind (k - 1) w base)
 unfolding fields_at
 turn zero w base bytes h more = absurd (omega (arith, h))
 turn (suc k) w base [] h more = absurd (omega (arith, more))
@@ -125,7 +125,7 @@ front_more front f (Err e) = refl
 -- what the whole is, by the line at the front
 by_line : (k : ℕ) (w : Window) (base : ℕ) (rest : List ℕ) (front : List Field) (whole : Result (List Field) Fault)
     → length rest ≤ k → with_front front (fields_at k w base rest) ≡ whole → 0 < length rest
-    → with_front front (field_at w base rest >>= behind (k - 1) w base) ≡ whole
+    → with_front front (line_field_at w base rest >>= behind (k - 1) w base) ≡ whole
 by_line k w base rest front whole fits is some =
     ap (with_front front) (sym (turn k w base rest (omega (arith, fits, some)) some)) ∙ is
 
@@ -134,9 +134,9 @@ by_line k w base rest front whole fits is some =
 pub turn_bad : (k : ℕ) (w : Window) (base : ℕ) (rest : List ℕ) (front : List Field) (whole : Result (List Field) Fault)
     (e : DecoderError)
     → length rest ≤ k → with_front front (fields_at k w base rest) ≡ whole → 0 < length rest
-    → FailsWith e (field_at w base rest) → FailsWith e whole
+    → FailsWith e (line_field_at w base rest) → FailsWith e whole
 turn_bad k w base rest front whole e fits is some bad =
-    fails_on e (field_at w base rest) whole bad
+    fails_on e (line_field_at w base rest) whole bad
     (λ x r. sym (by_line k w base rest front whole fits is some)
     ∙ ap (λ q. with_front front (q >>= behind (k - 1) w base)) r)
 
@@ -149,7 +149,7 @@ pub record Goes (w : Window) (base : ℕ) (rest : List ℕ) (front : List Field)
 pub turn_good : (k : ℕ) (w : Window) (base : ℕ) (rest : List ℕ) (front : List Field) (whole : Result (List Field) Fault)
     (f : Field) (more : List ℕ)
     → length rest ≤ k → with_front front (fields_at k w base rest) ≡ whole → 0 < length rest
-    → field_at w base rest ≡ Ok (f, more) → Goes w base rest front whole f more
+    → line_field_at w base rest ≡ Ok (f, more) → Goes w base rest front whole f more
 turn_good k w base rest front whole f more fits is some read =
     let short = field_shortens w base rest f more read in
     record {
@@ -171,18 +171,18 @@ form_ok (Err x) r e = absurd cc
 
 pub line_then_field : (w : Window) (base : ℕ) (old new : CursorView) (l : Line) (r : Result HeaderField DecoderError)
     → line_at old.rest ≡ Ok (l, new.rest) → new.total ≡ old.total → GivesLineField r (line_field w base l)
-    → ReadsField old new r (field_at w base old.rest)
+    → ReadsField old new r (line_field_at w base old.rest)
 line_then_field w base old new l r at same gives = by_answer r gives
   where
-    read : field_at w base old.rest ≡ (line_field w base l >>= λ f. Ok (f, new.rest))
+    read : line_field_at w base old.rest ≡ (line_field w base l >>= λ f. Ok (f, new.rest))
     read = ap (λ (q : Result (Line × List ℕ) FormFault). or_bad_form q >>= λ r. line_field w base r.0 >>= λ f. Ok
         (f, r.1)) (form_ok (form_at line_form old.rest) (l, new.rest) at)
 
     by_answer : (r : Result HeaderField DecoderError) → GivesLineField r (line_field w base l)
-        → ReadsField old new r (field_at w base old.rest)
+        → ReadsField old new r (line_field_at w base old.rest)
     by_answer (Ok f) gives = (
       read ∙ ap (λ (q : Result Field Fault). q >>= λ f. Ok (f, new.rest)) gives,
       same,
     )
-    by_answer (Err e) gives = fails_on e (line_field w base l) (field_at w base old.rest) gives
+    by_answer (Err e) gives = fails_on e (line_field w base l) (line_field_at w base old.rest) gives
         (λ x is. read ∙ ap (λ (q : Result Field Fault). q >>= λ f. Ok (f, new.rest)) is)

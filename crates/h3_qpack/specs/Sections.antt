@@ -79,8 +79,8 @@ GivesLineField (Ok f) read = read ≡ Ok (field_of f)
 GivesLineField (Err e) read = FailsWith e read
 
 -- the field of the line at the front of the bytes, and the bytes behind it
-abbrev pub field_at : Window → ℕ → List ℕ → Result (Field × List ℕ) Fault
-field_at w base bytes = or_bad_form (form_at line_form bytes) >>= λ r. line_field w base r.0 >>= λ f. Ok (f, r.1)
+abbrev pub line_field_at : Window → ℕ → List ℕ → Result (Field × List ℕ) Fault
+line_field_at w base bytes = or_bad_form (form_at line_form bytes) >>= λ r. line_field w base r.0 >>= λ f. Ok (f, r.1)
 
 -- a line that was read, and where the cursor stands
 abbrev pub ReadsField : CursorView → CursorView → Result HeaderField DecoderError → Result (Field × List ℕ) Fault

@@ -6,13 +6,9 @@ use Rattle.std.proofs.lemmas.List.Concat.{flat_map-cons}
 use Rattle.std.proofs.lemmas.Grind.{flat_map-append}
 use Rattle.std.proofs.lemmas.Nat.{pow_pos}
 use Rattle.qpack_spec.specs.Huffman.{bits_of, bits_of_bytes, AreBytes}
-use Rattle.qpack_spec.proofs.Bits.{bits_append, bits_push, bits_cut, ones_number}
+use Rattle.qpack_spec.proofs.Bits.{bits_append, bits_push, bits_cut, ones_number, no_bits}
 use Rattle.qpack_base.specs.WrittenPayloads.{AddsBits, AddsLastBits, HasAdded}
 use Rattle.qpack_base.proofs.LoadedBits.{IsFour, load_four}
-
-no_bits : (n : ℕ) → bits_of 0 n ≡ []
-unfolding bits_of
-no_bits n = refl
 
 pub nothing_added : (old : List ℕ) → HasAdded [] 0 0 old old
 nothing_added old = record { bytes = []; are = tt; items = sym (append-nil old); bits = no_bits 0 }

@@ -5,13 +5,13 @@ use Rattle.std.proofs.Common.{List, [], ◌∷◌, ◌++◌, length, refl, ap, s
 use Rattle.std.proofs.Common.{inl, inr}
 use Rattle.std.proofs.lemmas.List.{length-append}
 use Rattle.std.proofs.lemmas.List.Concat.{flat_map-cons}
-use Rattle.std.proofs.lemmas.Bool.{cases_eq, cond_both, leb-true}
+use Rattle.std.proofs.lemmas.Bool.{cases_eq, cond_both, leb-true, and_parts}
 use Rattle.std.specs.Prelude.{◌&&◌, ◌==◌, nat_le, nat_lt, not}
 use Rattle.std.specs.List.{position_or_len, list_any, count_by}
 use Rattle.qpack_spec.specs.Huffman.{bits_of, bytes_by_length, bytes_of_length, first_code, code_length, code_of}
 use Rattle.qpack_spec.specs.Huffman.{bits_of_text, payload_of}
 use Rattle.qpack_spec.proofs.Bits.{bits_length}
-use Rattle.qpack_spec.proofs.Codes.{both}
+use Rattle.qpack_spec.proofs.CodeTable.{thirty_rows}
 use Rattle.qpack_spec.proofs.WrittenPayloads.{payload_length}
 use Rattle.qpack_base.specs.Payloads.{BeginsCode}
 
@@ -27,7 +27,7 @@ all_codes_long = refl
 long_each : (k b c : ℕ) → all_long k b ≡ true → b ≤ c → c < b + k → 5 ≤ length (code_of c)
 long_each zero b c e l u = absurd (omega arith)
 long_each (suc k) b c e l u =
-    let h = both (nat_le 5 (length (code_of b))) (all_long k (suc b)) e in
+    let h = and_parts (nat_le 5 (length (code_of b))) (all_long k (suc b)) e in
     elim (cases_eq b c) [
       | inl q ↦ subst (λ (d : ℕ). 5 ≤ length (code_of d)) q (leb-true _ _ h.0)
       | inr n ↦ long_each k (suc b) c h.1 (omega arith) (omega arith)
@@ -78,14 +78,10 @@ position_most p (x ∷ xs) =
     cond_both (not (p x)) (1 + position_or_len p xs) 0 (λ n. n ≤ suc (length xs))
     (λ t. let i = position_most p xs in omega (arith, i)) (λ f. omega arith)
 
-rows : length bytes_by_length ≡ 30
-unfolding bytes_by_length
-rows = refl
-
 code_length_most : (b : ℕ) → code_length b ≤ 31
 unfolding code_length
 code_length_most b =
-    let p = position_most (λ bytes. list_any (λ c. c == b) bytes) bytes_by_length in omega (arith, p, rows)
+    let p = position_most (λ bytes. list_any (λ c. c == b) bytes) bytes_by_length in omega (arith, p, thirty_rows)
 
 -- a code has 31 bits at most, one that stands for no byte too
 code_most : (b : ℕ) → length (code_of b) ≤ 31

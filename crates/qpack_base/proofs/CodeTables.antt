@@ -3,15 +3,10 @@ use Rattle.std.proofs.Common.{◌≡◌, ℕ, zero, suc, ◌+◌, ◌-◌, ◌/�
 use Rattle.std.proofs.Common.{refl, subst, arith, inl, inr}
 use Rattle.std.specs.Prelude.{nat_lt, nat_le, slice_index_or}
 use Rattle.std.specs.Str.{bytes_eq}
-use Rattle.std.proofs.lemmas.Bool.{ltb-true, leb-true, cases_eq}
+use Rattle.std.proofs.lemmas.Bool.{ltb-true, leb-true, cases_eq, and_parts}
 use Rattle.std.proofs.lemmas.Slice.Eq.{bytes_eq-Decides}
 use Rattle.qpack_spec.specs.Huffman.{bits_of, code_of}
 use Rattle.qpack_base.specs.HuffmanTables.{BeginsWithCode, IsCodeOf, AreShortCodes, AreCodes}
-
-both : (a b : Bool) → (a && b) ≡ true → (a ≡ true) × (b ≡ true)
-both true true e = (refl, refl)
-both true false e = absurd cc
-both false b e = absurd cc
 
 -- whether each of the k entries from place i on passes the test of its place
 abbrev passes_from : (ℕ → ℕ × ℕ → Bool) → ℕ → ℕ → List (ℕ × ℕ) → Bool
@@ -24,11 +19,11 @@ passes_at : (test : ℕ → ℕ × ℕ → Bool) (k i j : ℕ) (es : List (ℕ �
 passes_at test zero i j es p h = absurd (omega arith)
 passes_at test (suc k) i j [] p h = absurd cc
 passes_at test (suc k) i zero (e ∷ es) p h = let z : i ≡ i + 0 = omega arith in
-    subst (λ (n : ℕ). test n e ≡ true) z (both (test i e) (passes_from test k (suc i) es) p).0
+    subst (λ (n : ℕ). test n e ≡ true) z (and_parts (test i e) (passes_from test k (suc i) es) p).0
 passes_at test (suc k) i (suc j) (e ∷ es) p h =
     let z : suc i + j ≡ i + suc j = omega arith in
     subst (λ (n : ℕ). test n (slice_index_or es j (0, 0)) ≡ true) z
-    (passes_at test k (suc i) j es (both (test i e) (passes_from test k (suc i) es) p).1 (omega arith))
+    (passes_at test k (suc i) j es (and_parts (test i e) (passes_from test k (suc i) es) p).1 (omega arith))
 
 abbrev short_test : ℕ → ℕ × ℕ → Bool
 short_test window e =
@@ -41,9 +36,9 @@ short_code es p window h =
     let z : 0 + window ≡ window = omega arith in
     let code = bytes_eq (code_of e.0) (bits_of e.1 (window / 2 ^ (8 - e.1))) in
     let t = subst (λ (n : ℕ). short_test n e ≡ true) z (passes_at short_test 254 0 window es p h) in
-    let a = both (nat_lt e.0 256) (nat_le 1 e.1 && (nat_le e.1 8 && code)) t in
-    let b = both (nat_le 1 e.1) (nat_le e.1 8 && code) a.1 in
-    let c = both (nat_le e.1 8) code b.1 in
+    let a = and_parts (nat_lt e.0 256) (nat_le 1 e.1 && (nat_le e.1 8 && code)) t in
+    let b = and_parts (nat_le 1 e.1) (nat_le e.1 8 && code) a.1 in
+    let c = and_parts (nat_le e.1 8) code b.1 in
     record {
       byte = ltb-true _ _ a.0;
       least = leb-true _ _ b.0;
@@ -77,9 +72,9 @@ code_at_position es p byte h =
     let z : 0 + byte ≡ byte = omega arith in
     let code = bytes_eq (code_of byte) (bits_of e.0 e.1) in
     let t = subst (λ (n : ℕ). code_test n e ≡ true) z (passes_at code_test 256 0 byte es p h) in
-    let a = both (nat_le 1 e.0) (nat_le e.0 30 && (nat_lt e.1 (2 ^ e.0) && code)) t in
-    let b = both (nat_le e.0 30) (nat_lt e.1 (2 ^ e.0) && code) a.1 in
-    let c = both (nat_lt e.1 (2 ^ e.0)) code b.1 in
+    let a = and_parts (nat_le 1 e.0) (nat_le e.0 30 && (nat_lt e.1 (2 ^ e.0) && code)) t in
+    let b = and_parts (nat_le e.0 30) (nat_lt e.1 (2 ^ e.0) && code) a.1 in
+    let c = and_parts (nat_lt e.1 (2 ^ e.0)) code b.1 in
     record {
       least = leb-true _ _ a.0;
       most = leb-true _ _ b.0;

@@ -11,7 +11,7 @@ use Rattle.std.proofs.Math.Pow.{shr_lt}
 use Rattle.std.proofs.lemmas.List.{get_or-map, length-map, drop_all}
 use Rattle.qpack_spec.specs.Huffman.{HuffmanFault, MissingBits, Unhandled, bits_of, bytes_by_length, bytes_of_length}
 use Rattle.qpack_spec.specs.Huffman.{first_code, code_at}
-use Rattle.qpack_spec.proofs.Bits.{bits_append}
+use Rattle.qpack_spec.proofs.Bits.{bits_append, no_bits}
 use Rattle.qpack_base.specs.HuffmanTables.{rows_at, long_rows}
 
 -- a length, its first code, and the bytes whose codes have it
@@ -98,10 +98,6 @@ next_number loaded m =
 next_bit : (m loaded : ℕ) → bits_of (suc m) loaded ≡ (loaded / 2 ^ m % 2) ∷ bits_of m loaded
 unfolding bits_of
 next_bit m loaded = refl
-
-no_bits : (loaded : ℕ) → bits_of 0 loaded ≡ []
-unfolding bits_of
-no_bits loaded = refl
 
 -- reading a further bit, where its row has or has not the code
 turn : (row : List ℕ) (rows : List (List ℕ)) (n next number bit : ℕ) (bits : List ℕ) → 2 * number + bit ≡ n

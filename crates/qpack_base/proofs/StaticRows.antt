@@ -9,7 +9,8 @@ use Rattle.std.specs.Borrow.{Bor}
 use Rattle.qpack_spec.specs.Field.{Field}
 use Rattle.qpack_spec.specs.StaticTable.{static_table, static_index, static_name_index}
 use Rattle.qpack_spec.proofs.Lists.{get_drop}
-use Rattle.qpack_base.specs.StaticFields.{field_at, fields_at, match_of}
+use Rattle.qpack_spec.proofs.StaticIndexes.{has_99}
+use Rattle.qpack_base.specs.StaticFields.{field_of_row, fields_at, match_of}
 use Rattle.qpack_base.specs.declared.static_.StaticMatch.TheVariants as found
 
 get_take : {X : Type 0} (n : ℕ) (xs : List X) (i : ℕ) → i < n → slice_get (take n xs) i ≡ slice_get xs i
@@ -18,29 +19,25 @@ get_take (suc n) [] i h = refl
 get_take (suc n) (x ∷ xs) zero h = refl
 get_take (suc n) (x ∷ xs) (suc i) h = get_take n xs i (omega arith)
 
-static-length : length static_table ≡ 99
-unfolding static_table
-static-length = refl
-
 -- a row of the part of so many rows from `first` on
 pub row_there : (rows : List (Bor (List ℕ) × Bor (List ℕ))) (n first at index : ℕ) (d : Bor (List ℕ) × Bor (List ℕ))
     → fields_at rows ≡ take n (drop first static_table) → first + at ≡ index → at < n → first + n ≤ 99
-    → Some (field_at (get_or rows at d)) ≡ slice_get static_table index
+    → Some (field_of_row (get_or rows at d)) ≡ slice_get static_table index
 row_there rows n first at index d are is within fits =
-    let some : n ≤ length (drop first static_table) = omega (arith, static-length, length-drop first static_table) in
+    let some : n ≤ length (drop first static_table) = omega (arith, has_99, length-drop first static_table) in
     let all : length rows ≡ n =
-    sym (length-map rows field_at) ∙ ap (λ (l : List Field). length l) are
+    sym (length-map rows field_of_row) ∙ ap (λ (l : List Field). length l) are
     ∙ length-take-le n (drop first static_table) some in
     let there : slice_get rows at ≡ Some (get_or rows at d) =
     slice_get-get_or rows at d (omega (arith, all)) in
-    sym (slice_get-map field_at rows at ∙ ap (option_map field_at) there)
+    sym (slice_get-map field_of_row rows at ∙ ap (option_map field_of_row) there)
     ∙ ap (λ (l : List Field). slice_get l at) are
     ∙ get_take n (drop first static_table) at within
     ∙ get_drop first static_table at
     ∙ ap (slice_get static_table) is
 
 pub no_row : (index : ℕ) → 99 ≤ index → None ≡ slice_get static_table index
-no_row index past = sym (slice_get_past static_table index (omega (arith, static-length)))
+no_row index past = sym (slice_get_past static_table index (omega (arith, has_99)))
 
 -- ---- what a look for a field finds
 

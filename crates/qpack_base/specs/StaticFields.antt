@@ -10,12 +10,12 @@ use Rattle.qpack_base.specs.declared.static_.StaticMatch.TheVariants as found
 use Rattle.qpack_spec.specs.StaticTable.{static_table, IsStaticAt}
 
 -- the field of a pair of byte slices (RFC 9204, Appendix A)
-abbrev pub field_at : Bor (List ℕ) × Bor (List ℕ) → Field
-field_at f = record { name = f.0.now; value = f.1.now }
+abbrev pub field_of_row : Bor (List ℕ) × Bor (List ℕ) → Field
+field_of_row f = record { name = f.0.now; value = f.1.now }
 
 -- the fields of pairs of byte slices
 abbrev pub fields_at : List (Bor (List ℕ) × Bor (List ℕ)) → List Field
-fields_at fs = map field_at fs
+fields_at fs = map field_of_row fs
 
 -- all positions of the static table with the name, rising
 unfoldable pub indexes_with_name : List ℕ → List ℕ

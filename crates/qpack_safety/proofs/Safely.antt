@@ -20,7 +20,7 @@ use Rattle.qpack_spec.proofs.Windows.{kept_received}
 use Rattle.qpack_spec.proofs.Readings.{fields_kept, fields_plain, below_greatest, greatest_has}
 use Rattle.qpack_spec.proofs.Prefixes.{InReach, ReadsAs, reads_written, maximum_of, reading_missing, reading_fields}
 use Rattle.qpack_spec.proofs.Prefixes.{reading_plain}
-use Rattle.qpack_spec.proofs.Positions.{every_tracked, tracked_none}
+use Rattle.qpack_spec.proofs.Positions.{every_number, numbers_none}
 use Rattle.qpack_spec.proofs.Drafts.{IsLive, count_inserted}
 use Rattle.qpack_safety.specs.AbstractSafety.{DecodesExactly, Safe}
 use Rattle.qpack_safety.proofs.OpenBlocks.{open_of, every_open}
@@ -172,7 +172,7 @@ decodes_exactly capacity limit w k s b live there = pick (cases_lt 0 (greatest_o
               b.referenced held (below_greatest b.referenced) in
               let means : fields_of w.decoder ok.base b.block.lines ≡ Ok b.fields =
               fields_kept (whole_window k.made) w.decoder ok.base b.block.lines b.fields
-              (every_tracked (Kept (whole_window k.made) w.decoder) (references_of ok.base b.block.lines) []
+              (every_number (Kept (whole_window k.made) w.decoder) (references_of ok.base b.block.lines) []
               (subst (AllByRecursion (Kept (whole_window k.made) w.decoder)) (sym ok.references) kept)).1 ok.means in
               reading_fields w.decoder b.block (greatest_of b.referenced) ok.base b.fields p le positive means
               ∙ ap (Fields b.fields) (sym (lt-ltb 0 (greatest_of b.referenced) positive));
@@ -184,7 +184,7 @@ decodes_exactly capacity limit w k s b live there = pick (cases_lt 0 (greatest_o
         rw zero_count at (reads (λ r. absurd (omega arith))) in
         let means : fields_of w.decoder 0 b.block.lines ≡ Ok b.fields =
         sym (fields_plain (whole_window k.made) w.decoder ok.base 0 b.block.lines
-        (tracked_none (references_of ok.base b.block.lines) (ok.references ∙ ok.plain zero_count))) ∙ ok.means in
+        (numbers_none (references_of ok.base b.block.lines) (ok.references ∙ ok.plain zero_count))) ∙ ok.means in
         record {
           missing = λ lt. absurd (omega arith);
           exact = λ le. reading_plain w.decoder b.block ok.base b.fields p means

@@ -31,7 +31,7 @@ use Rattle.qpack_spec.specs.Prefix.{Prefix, read_base}
 use Rattle.qpack_spec.proofs.Lists.{every_get}
 use Rattle.qpack_spec.proofs.Windows.{Agreed, agreed_start, leads_agreed, leads_append, leads_unique}
 use Rattle.qpack_spec.proofs.Readings.{fields_plain}
-use Rattle.qpack_spec.proofs.Positions.{tracked_none}
+use Rattle.qpack_spec.proofs.Positions.{numbers_none}
 use Rattle.qpack_spec.proofs.Prefixes.{base_written}
 use Rattle.qpack_safety.specs.AbstractSafety.{DecodesExactly}
 use Rattle.qpack_safety.specs.SessionSafety.{Extends}
@@ -243,7 +243,7 @@ base_known capacity made encoder_stream b ok = pick (cases_lt 0 (required_count 
         let zero_count : required_count b ≡ 0 = omega arith in
         let is : nat_eq (required_count b) 0 ≡ true = eq-eqb (required_count b) 0 zero_count in
         let plain : references_of ok.base b.block.lines ≡ [] =
-        tracked_none (references_of ok.base b.block.lines) (ok.references ∙ ok.plain zero_count) in (
+        numbers_none (references_of ok.base b.block.lines) (ok.references ∙ ok.plain zero_count) in (
           0,
           rw is refl,
           sym (fields_plain (whole_window made) (whole_window made) ok.base 0 b.block.lines plain)

@@ -299,3 +299,8 @@ packed_is bytes bits padding ok are few e =
     let pad : 8 * length bytes - length bits ≡ padding = omega arith in
     rw k (bytes_same bytes (bytes_of_bits (length bytes) bits) ok (packed_bytes (length bytes) bits are)
     (e ∙ ap (λ (j : ℕ). bits ++ ones j) (sym pad) ∙ sym (packed_bits (length bytes) bits are (omega arith))))
+
+-- no bits of a number
+pub no_bits : (n : ℕ) → bits_of 0 n ≡ []
+unfolding bits_of
+no_bits n = refl

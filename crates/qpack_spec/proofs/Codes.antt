@@ -2,18 +2,13 @@
 use Rattle.std.proofs.Common.{◌≡◌, ℕ, zero, suc, ◌+◌, ◌-◌, ◌*◌, ◌<◌, ◌≤◌, Bool, true, false, List, [], ◌∷◌, ◌++◌}
 use Rattle.std.proofs.Common.{length, Result, Ok, Err, refl, sym, ap, subst, ◌∙◌, arith, append_assoc, inl, inr}
 use Rattle.std.specs.Prelude.{nat_lt, slice_index, ◌==◌, ◌&&◌}
-use Rattle.std.proofs.lemmas.Bool.{ltb-true, ltb-false, eqb-true, cases_eq}
+use Rattle.std.proofs.lemmas.Bool.{ltb-true, ltb-false, eqb-true, cases_eq, and_parts}
 use Rattle.std.proofs.lemmas.Slice.Eq.{bytes_eq-Decides}
 use Rattle.std.specs.Str.{bytes_eq}
 use Rattle.qpack_spec.specs.Huffman.{HuffmanFault, bytes_by_length, code_of, code_at, bits_of}
 use Rattle.qpack_spec.proofs.Results.{chosen, ok_pair}
 use Rattle.qpack_spec.proofs.Bits.{AreBits, bits_next}
 use Rattle.qpack_spec.proofs.CodeTable.{gives, all_give, row_good, rows_good, all_codes, all_rows}
-
-pub both : (a b : Bool) → (a && b) ≡ true → (a ≡ true) × (b ≡ true)
-both true true e = (refl, refl)
-both true false e = absurd cc
-both false b e = absurd cc
 
 -- ---- the codes that are computed
 
@@ -23,7 +18,7 @@ no_bits (b ∷ bits) e = absurd (let h = eqb-true _ _ e in omega arith)
 
 given : (b : ℕ) (r : Result (ℕ × List ℕ) HuffmanFault) → gives b r ≡ true → r ≡ Ok (b, [])
 given b (Ok x) e =
-    let h = both (x.0 == b) (length x.1 == 0) e in
+    let h = and_parts (x.0 == b) (length x.1 == 0) e in
     let p = eqb-true _ _ h.0 in
     let q = no_bits x.1 h.1 in
     ap (λ (c : ℕ). Ok (c, x.1)) p ∙ ap (λ (l : List ℕ). Ok (b, l)) q
@@ -32,7 +27,7 @@ given b (Err fault) e = absurd cc
 each : (k b c : ℕ) → all_give k b ≡ true → b ≤ c → c < b + k → gives c (code_at bytes_by_length 0 0 (code_of c)) ≡ true
 each zero b c e l u = absurd (omega arith)
 each (suc k) b c e l u =
-    let h = both (gives b (code_at bytes_by_length 0 0 (code_of b))) (all_give k (suc b)) e in
+    let h = and_parts (gives b (code_at bytes_by_length 0 0 (code_of b))) (all_give k (suc b)) e in
     elim (cases_eq b c) [
       | inl q ↦ subst (λ (d : ℕ). gives d (code_at bytes_by_length 0 0 (code_of d)) ≡ true) q h.0
       | inr n ↦ each k (suc b) c h.1 (omega arith) (omega arith)
@@ -76,13 +71,13 @@ row_at : (n first : ℕ) (row : List ℕ) (k : ℕ) → row_good n first row ≡
     → (slice_index row k < 256) × (code_of (slice_index row k) ≡ bits_of n (first + k))
 row_at n first [] k e h = absurd (omega arith)
 row_at n first (b ∷ row) zero e h =
-    let g = both (nat_lt b 256) (bytes_eq (code_of b) (bits_of n first) && row_good n (suc first) row) e in
-    let w = both (bytes_eq (code_of b) (bits_of n first)) (row_good n (suc first) row) g.1 in
+    let g = and_parts (nat_lt b 256) (bytes_eq (code_of b) (bits_of n first) && row_good n (suc first) row) e in
+    let w = and_parts (bytes_eq (code_of b) (bits_of n first)) (row_good n (suc first) row) g.1 in
     let f : first ≡ first + 0 = omega arith in
     (ltb-true _ _ g.0, (bytes_eq-Decides (code_of b) (bits_of n first)).0 w.0 ∙ ap (bits_of n) f)
 row_at n first (b ∷ row) (suc k) e h =
-    let g = both (nat_lt b 256) (bytes_eq (code_of b) (bits_of n first) && row_good n (suc first) row) e in
-    let w = both (bytes_eq (code_of b) (bits_of n first)) (row_good n (suc first) row) g.1 in
+    let g = and_parts (nat_lt b 256) (bytes_eq (code_of b) (bits_of n first) && row_good n (suc first) row) e in
+    let w = and_parts (bytes_eq (code_of b) (bits_of n first)) (row_good n (suc first) row) g.1 in
     let r = row_at n (suc first) row k w.1 (omega arith) in
     let f : suc first + k ≡ first + suc k = omega arith in
     (r.0, r.1 ∙ ap (bits_of n) f)
@@ -94,7 +89,7 @@ unfolding code_at
 code_takes [] n number next bits b rest good ok le e = absurd cc
 code_takes (r ∷ rs) n number next [] b rest good ok le e = absurd cc
 code_takes (r ∷ rs) n number next (bit ∷ bits) b rest good ok le e =
-    let g = both (row_good (suc n) (2 * next) r) (rows_good (suc n) (2 * next + length r) rs) good in
+    let g = and_parts (row_good (suc n) (2 * next) r) (rows_good (suc n) (2 * next + length r) rs) good in
     let one = bits_next n number bit ok.0 in
     elim (chosen (nat_lt (2 * number + bit) (2 * next + length r))
     (Ok (slice_index r (2 * number + bit - 2 * next), bits))

@@ -33,17 +33,17 @@ NamesAbove base t = (a : ℕ) → base < a → a ≤ insert_count t → has_numb
 
 -- ---- numbers that are kept
 
-kept_tracked : (referenced : List ℕ) (x a : ℕ) → has_number a referenced ≡ true
+kept_number : (referenced : List ℕ) (x a : ℕ) → has_number a referenced ≡ true
     → has_number a (with_number referenced x) ≡ true
 unfolding with_number
-kept_tracked referenced x a h =
+kept_number referenced x a h =
     cond_both (has_number x referenced) referenced (referenced ++ x ∷ []) (λ l. has_number a l ≡ true) (λ _. h)
     (λ _. list_any-append (λ y. nat_eq y a) referenced (x ∷ [])
     ∙ or_left (has_number a referenced) (has_number a (x ∷ [])) h)
 
-new_tracked : (referenced : List ℕ) (x : ℕ) → has_number x (with_number referenced x) ≡ true
+new_number : (referenced : List ℕ) (x : ℕ) → has_number x (with_number referenced x) ≡ true
 unfolding with_number
-new_tracked referenced x =
+new_number referenced x =
     cond_both (has_number x referenced) referenced (referenced ++ x ∷ []) (λ l. has_number x l ≡ true) (λ t. t)
     (λ _. list_any-append (λ y. nat_eq y x) referenced (x ∷ [])
     ∙ or_right (has_number x referenced) (has_number x (x ∷ [])) (or_left (nat_eq x x) false (eq-eqb x x refl)))
@@ -59,7 +59,7 @@ named_now t a = refl
 
 above_naming : (base : ℕ) (t : Table) (x : ℕ) → NamesAbove base t → NamesAbove base (with_reference t x)
 above_naming base t x k a low high =
-    ap (has_number a) (named_now t x) ∙ kept_tracked t.referenced x a (k a low (omega (arith, high, count_naming t x)))
+    ap (has_number a) (named_now t x) ∙ kept_number t.referenced x a (k a low (omega (arith, high, count_naming t x)))
 
 same_named : (t : Table) (f : Field) → (with_entry t (sent_entry f)).referenced ≡ t.referenced
 unfolding with_entry
@@ -82,8 +82,8 @@ above_inserted base t f r k a low high =
     pick (inl lt) many = let same : insert_count t + 1 ≡ a =
         omega (arith, high, many, lt) in subst
         (λ (x : ℕ). has_number x (with_number t.referenced (insert_count t + 1)) ≡ true) same
-        (new_tracked t.referenced (insert_count t + 1))
-    pick (inr le) many = kept_tracked t.referenced (insert_count t + 1) a (k a low le)
+        (new_number t.referenced (insert_count t + 1))
+    pick (inr le) many = kept_number t.referenced (insert_count t + 1) a (k a low le)
 
 -- ---- one field
 

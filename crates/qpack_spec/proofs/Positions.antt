@@ -250,18 +250,18 @@ every_untrack P referenced a =
     (λ t h. (h, every_has P referenced a t h))
     (λ _ h. (every_left P referenced (a ∷ []) h, (every_right P referenced (a ∷ []) h).0))
 
-pub every_tracked : (P : ℕ → Type 0) (xs referenced : List ℕ) → AllByRecursion P (with_numbers referenced xs)
+pub every_number : (P : ℕ → Type 0) (xs referenced : List ℕ) → AllByRecursion P (with_numbers referenced xs)
     → AllByRecursion P referenced × AllByRecursion P xs
-every_tracked P [] referenced h = (h, tt)
-every_tracked P (x ∷ xs) referenced h =
-    let r = every_tracked P xs (with_number referenced x) h in
+every_number P [] referenced h = (h, tt)
+every_number P (x ∷ xs) referenced h =
+    let r = every_number P xs (with_number referenced x) h in
     let q = every_untrack P referenced x r.0 in
     (q.0, (q.1, r.1))
 
-pub tracked_append : (referenced xs ys : List ℕ) → with_numbers referenced (xs ++ ys)
+pub numbers_append : (referenced xs ys : List ℕ) → with_numbers referenced (xs ++ ys)
     ≡ with_numbers (with_numbers referenced xs) ys
-tracked_append referenced [] ys = refl
-tracked_append referenced (x ∷ xs) ys = tracked_append (with_number referenced x) xs ys
+numbers_append referenced [] ys = refl
+numbers_append referenced (x ∷ xs) ys = numbers_append (with_number referenced x) xs ys
 
 track_some : (referenced : List ℕ) (a : ℕ) → 0 < length (with_number referenced a)
 unfolding with_number
@@ -277,14 +277,14 @@ track_longer referenced a =
     (λ _. omega arith)
     (λ _. omega (arith, length-append referenced (a ∷ [])))
 
-tracked_longer : (xs referenced : List ℕ) → length referenced ≤ length (with_numbers referenced xs)
-tracked_longer [] referenced = omega arith
-tracked_longer (x ∷ xs) referenced = omega
-    (arith, track_longer referenced x, tracked_longer xs (with_number referenced x))
+numbers_longer : (xs referenced : List ℕ) → length referenced ≤ length (with_numbers referenced xs)
+numbers_longer [] referenced = omega arith
+numbers_longer (x ∷ xs) referenced = omega
+    (arith, track_longer referenced x, numbers_longer xs (with_number referenced x))
 
-pub tracked_none : (xs : List ℕ) → with_numbers [] xs ≡ [] → xs ≡ []
-tracked_none [] e = refl
-tracked_none (x ∷ xs) e = absurd (omega (arith, track_some [] x, tracked_longer xs (with_number [] x), ap length e))
+pub numbers_none : (xs : List ℕ) → with_numbers [] xs ≡ [] → xs ≡ []
+numbers_none [] e = refl
+numbers_none (x ∷ xs) e = absurd (omega (arith, track_some [] x, numbers_longer xs (with_number [] x), ap length e))
 
 -- numbers that stood above d stand above d + k where none between is among them
 pub above_dropped : (d n k : ℕ) (xs : List ℕ) → ((x : ℕ) → d < x → x ≤ d + k → has_number x xs ≡ false)

@@ -18,9 +18,9 @@ use Rattle.qpack_spec.specs.Rule.{literal_by_entry, literal}
 use Rattle.qpack_spec.specs.Rule.{insertion_or_literal, by_entry, by_static, rule_field, rule_fields, empty_draft, rule}
 use Rattle.qpack_spec.specs.BlockLaws.{BlocksRequireReferences}
 use Rattle.qpack_spec.proofs.Readings.{references_push}
-use Rattle.qpack_spec.proofs.Positions.{tracked_append}
+use Rattle.qpack_spec.proofs.Positions.{numbers_append}
 
--- ---- the greatest of what is tracked
+-- ---- the greatest of what is referenced
 
 pub greatest_append : (xs : List ℕ) (a : ℕ) → greatest_of (xs ++ a ∷ []) ≡ max (greatest_of xs) a
 unfolding greatest_of
@@ -43,16 +43,16 @@ greatest_track xs a =
     cond_both (has_number a xs) xs (xs ++ a ∷ []) (λ l. greatest_of l ≡ max (greatest_of xs) a)
     (λ t. omega (arith, greatest_above xs a t)) (λ _. greatest_append xs a)
 
-greatest_tracked : (xs referenced : List ℕ) → greatest_of (with_numbers referenced xs)
+greatest_numbers : (xs referenced : List ℕ) → greatest_of (with_numbers referenced xs)
     ≡ max (greatest_of referenced) (greatest_of xs)
 unfolding greatest_of
-greatest_tracked [] referenced = omega arith
-greatest_tracked (x ∷ xs) referenced = omega
-    (arith, greatest_tracked xs (with_number referenced x), greatest_track referenced x)
+greatest_numbers [] referenced = omega arith
+greatest_numbers (x ∷ xs) referenced = omega
+    (arith, greatest_numbers xs (with_number referenced x), greatest_track referenced x)
 
 -- ---- the rule
 
--- the block in progress has what its lines reference, and nothing else that is tracked changed
+-- the block in progress has what its lines reference, and nothing else that is referenced changed
 pub record KeepsReferences (t0 : Table) (d : Draft) : Type 0 where
   pub known_received_count : d.table.known_received_count ≡ t0.known_received_count
   pub limit : d.table.limit ≡ t0.limit
@@ -84,7 +84,7 @@ pushed : (t0 : Table) (d : Draft) (a : ℕ) (l : Line) → references_of_line (i
 pushed t0 d a l is k =
     ap (with_numbers []) (references_push (insert_count t0) d.lines l
     ∙ ap (λ r. references_of (insert_count t0) d.lines ++ r) is)
-    ∙ tracked_append [] (references_of (insert_count t0) d.lines) (a ∷ []) ∙ ap (λ r. with_number r a) k.refs
+    ∙ numbers_append [] (references_of (insert_count t0) d.lines) (a ∷ []) ∙ ap (λ r. with_number r a) k.refs
 
 pub refers_named : (t0 : Table) (d : Draft) (a : ℕ) (l : Line) → references_of_line (insert_count t0) l ≡ a ∷ []
     → KeepsReferences t0 d
@@ -246,7 +246,7 @@ unfolding greatest_of
 blocks_require t stream fields =
     let d = rule t fields in
     let k = rule_references t fields in (
-      sym (ap greatest_of k.refs) ∙ omega (arith, greatest_tracked (references_of (insert_count t) d.lines) []),
+      sym (ap greatest_of k.refs) ∙ omega (arith, greatest_numbers (references_of (insert_count t) d.lines) []),
       committed_opened d.table stream (greatest_of d.table.referenced)
           ∙ ap (λ bs. with_unacknowledged bs stream d.table.referenced) k.unacknowledged
           ∙ ap (with_unacknowledged t.unacknowledged stream) (sym k.refs),

@@ -143,3 +143,8 @@ differ_places (g ∷ fs) d (suc i) (suc j) f p q = ap (λ (n : ℕ). suc n) (dif
 
 pub fields_differ : StaticFieldsDiffer
 fields_differ i j f p q = differ_places static_table table_differs i j f p q
+
+-- the table has 99 fields
+pub has_99 : length static_table ≡ 99
+unfolding static_table
+has_99 = refl

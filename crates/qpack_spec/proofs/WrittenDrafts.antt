@@ -28,6 +28,7 @@ use Rattle.qpack_spec.specs.Rule.{insertion_or_literal}
 use Rattle.qpack_spec.specs.Rule.{by_entry, by_static, rule_field, rule_fields, empty_draft, rule}
 use Rattle.qpack_spec.specs.WrittenLaws.{IsSmall, IsWritableValue, IsByteField, IsByteLine, IsByteEncoderInstruction}
 use Rattle.qpack_spec.specs.WrittenLaws.{IsWritableLine, IsWritableEncoderInstruction}
+use Rattle.qpack_spec.proofs.StaticIndexes.{has_99}
 use Rattle.qpack_spec.proofs.Lists.{every_append}
 use Rattle.qpack_spec.proofs.Positions.{newest_found, static_found, static_name_found}
 use Rattle.qpack_spec.proofs.Drafts.{Room, room, count_after, evicted_bound}
@@ -37,10 +38,6 @@ pub record WrittenDraft (d : Draft) : Type 0 where
   pub few : insert_count d.table ≤ 2 ^ 62
   pub lines : AllByRecursion IsByteLine d.lines
   pub instructions : AllByRecursion IsByteEncoderInstruction d.instructions
-
-has_99 : length static_table ≡ 99
-unfolding static_table
-has_99 = refl
 
 pub static_small : (i : ℕ) (f : Field) → slice_get static_table i ≡ Some f → IsSmall i
 static_small i f e = omega (arith, slice_get_within static_table i f e, has_99)

@@ -69,7 +69,7 @@ fields_in es = map (λ e. e.field) es
 unfoldable pub window : Table → Window
 window t = record { capacity = t.capacity; agreed_max = t.agreed_max; dropped = t.dropped; live = fields_in t.live }
 
--- the table of a decoder at a window: every entry was put, and nothing is tracked
+-- the table of a decoder at a window: every entry was put, and nothing is referenced
 unfoldable pub table_of : Window → Table
 table_of w =
     record {

@@ -10,7 +10,7 @@ use Rattle.qpack_spec.specs.Table.{has_number, with_number, with_unacknowledged,
 use Rattle.qpack_spec.specs.Table.{commit}
 use Rattle.qpack_table.specs.Positions.{Positions}
 use Rattle.qpack_table.specs.Tables.{times, references_in, uses_of, flags_of, NoneTwice, AreUsed, AreFlagged}
-use Rattle.qpack_table.specs.Tables.{AreCounted, IsTracked, IsLeast, entry_of, entries_of}
+use Rattle.qpack_table.specs.Tables.{AreCounted, CountsReferences, IsLeast, entry_of, entries_of}
 use Rattle.qpack_table.proofs.EvictableEntries.{item_there}
 use Rattle.qpack_table.proofs.Tracking.{least_with}
 use Rattle.qpack_table.specs.declared.dynamic.entry.Entry.{Entry}
@@ -26,21 +26,21 @@ used_same dropped es now references same h = λ position e at.
 
 pub counted_in_progress : (v : Positions) (es cleared : List Entry) (referenced : List ℕ)
     (unacknowledged : List table.UnacknowledgedBlock) (references : List ℕ) (dropped : ℕ)
-    → IsTracked v es referenced unacknowledged → uses_of cleared ≡ uses_of es → references ≡ referenced
+    → CountsReferences v es referenced unacknowledged → uses_of cleared ≡ uses_of es → references ≡ referenced
     → dropped ≡ v.dropped → AreCounted dropped cleared references
 counted_in_progress v es cleared referenced unacknowledged references dropped kept same is at =
     rw (at, is) (used_counted v.dropped cleared referenced (referenced ++ references_in unacknowledged)
     (λ a. omega (arith, times_append a referenced (references_in unacknowledged)))
     (used_same v.dropped es cleared (referenced ++ references_in unacknowledged) same kept.used))
 
-pub tracked_given_up : (v : Positions) (es cleared now : List Entry) (referenced : List ℕ)
+pub references_given_up : (v : Positions) (es cleared now : List Entry) (referenced : List ℕ)
     (unacknowledged : List table.UnacknowledgedBlock) (first second : List ℕ) (dropped : ℕ)
-    → IsTracked v es referenced unacknowledged → dropped ≡ v.dropped → first ≡ referenced → second ≡ referenced
+    → CountsReferences v es referenced unacknowledged → dropped ≡ v.dropped → first ≡ referenced → second ≡ referenced
     → uses_of cleared ≡ uses_of es
     → (AreFlagged dropped es first → AreFlagged dropped cleared []) → flags_of now ≡ flags_of cleared
     → ((rest : List ℕ) → AreUsed dropped cleared (second ++ rest) → AreUsed dropped now rest)
-    → IsTracked v now [] unacknowledged
-tracked_given_up v es cleared now referenced unacknowledged first second dropped kept at one two uses clear flags
+    → CountsReferences v now [] unacknowledged
+references_given_up v es cleared now referenced unacknowledged first second dropped kept at one two uses clear flags
     lower =
     record {
       flagged = flagged_as v.dropped cleared now [] flags
@@ -90,12 +90,12 @@ each_opened s bs (x ∷ more) once h =
     every_append (λ (b : table.UnacknowledgedBlock). NoneTwice b.entries) bs
     (record { stream = s; entries = x ∷ more } ∷ []) h (once, tt)
 
-pub tracked_opened : (v : Positions) (es now : List Entry) (referenced left : List ℕ)
+pub references_opened : (v : Positions) (es now : List Entry) (referenced left : List ℕ)
     (unacknowledged opened : List table.UnacknowledgedBlock) (s dropped : ℕ)
-    → IsTracked v es referenced unacknowledged → dropped ≡ v.dropped → uses_of now ≡ uses_of es
+    → CountsReferences v es referenced unacknowledged → dropped ≡ v.dropped → uses_of now ≡ uses_of es
     → (AreFlagged dropped es referenced → AreFlagged dropped now []) → left ≡ []
-    → opened ≡ with_unacknowledged unacknowledged s referenced → IsTracked v now left opened
-tracked_opened v es now referenced left unacknowledged opened s dropped kept at uses clear none is = rw (none, is)
+    → opened ≡ with_unacknowledged unacknowledged s referenced → CountsReferences v now left opened
+references_opened v es now referenced left unacknowledged opened s dropped kept at uses clear none is = rw (none, is)
     (record {
       flagged = subst (λ (d : ℕ). AreFlagged d es referenced → AreFlagged d now []) at clear kept.flagged;
       used = used_as v.dropped now (referenced ++ references_in unacknowledged)
@@ -155,13 +155,14 @@ once_with a b xs none once = elim (cases_eq a b) [
   | inr other ↦ omega (arith, times_last a b xs other, once b)
 ]
 
-pub tracked_referenced : (v : Positions) (es now : List Entry) (referenced left : List ℕ)
+pub references_of_block : (v : Positions) (es now : List Entry) (referenced left : List ℕ)
     (unacknowledged : List table.UnacknowledgedBlock) (a position : ℕ) (old new : Entry)
-    → IsTracked v es referenced unacknowledged → a ≡ v.dropped + position + 1 → a ≤ v.total
+    → CountsReferences v es referenced unacknowledged → a ≡ v.dropped + position + 1 → a ≤ v.total
     → slice_get es position ≡ Some old → old.referenced ≡ false
     → new ≡ record old { referenced = true; uses = old.uses + 1 } → now ≡ slice_set es position new
-    → left ≡ referenced ++ a ∷ [] → IsTracked v now left unacknowledged
-tracked_referenced v es now referenced left unacknowledged a position old new kept is inserted at unflagged marked items
+    → left ≡ referenced ++ a ∷ [] → CountsReferences v now left unacknowledged
+references_of_block v es now referenced left unacknowledged a position old new kept is inserted at unflagged marked
+    items
     more = rw (items, more) (record {
       flagged = λ p e there. elim (written es position new p e there) [
         | There here it ↦
@@ -239,7 +240,7 @@ committed t s required live referenced opened blocked is_blocked same none is te
 
 -- a live entry that is not referenced yet can be counted once more
 pub uses_fit : (v : Positions) (es : List Entry) (referenced : List ℕ) (unacknowledged : List table.UnacknowledgedBlock)
-    (position : ℕ) (e : Entry) → IsTracked v es referenced unacknowledged → slice_get es position ≡ Some e
+    (position : ℕ) (e : Entry) → CountsReferences v es referenced unacknowledged → slice_get es position ≡ Some e
     → e.referenced ≡ false → e.uses ≤ length unacknowledged
 uses_fit v es referenced unacknowledged position e kept at unflagged =
     let a = v.dropped + position + 1 in
@@ -264,7 +265,7 @@ referenced_now t a live referenced e same is = rw (with_new a t.referenced e, sa
 -- what an entry says of itself
 pub flag_tells : (v : Positions) (es : List Entry) (referenced : List ℕ)
     (unacknowledged : List table.UnacknowledgedBlock) (a position : ℕ) (e : Entry) (b : Bool)
-    → IsTracked v es referenced unacknowledged → a ≡ v.dropped + position + 1 → position < length es
+    → CountsReferences v es referenced unacknowledged → a ≡ v.dropped + position + 1 → position < length es
     → e ≡ get_or es position e → e.referenced ≡ b → has_number a referenced ≡ b
 flag_tells v es referenced unacknowledged a position e b kept is within at flag =
     ap (λ (n : ℕ). has_number n referenced) is ∙ sym (kept.flagged position e (item_there es position e within at))

@@ -11,12 +11,12 @@ use Rattle.qpack_spec.specs.Window.{eviction_count}
 use Rattle.qpack_table.specs.Positions.{Positions}
 use Rattle.qpack_table.specs.Tables.{entry_of, entries_of, flags_of, references_in, times, AreUsed, AreCounted}
 use Rattle.qpack_table.specs.Tables.{NoneTwice}
-use Rattle.qpack_table.specs.Tables.{IsKept, IsSized, IsTracked, live_fields}
+use Rattle.qpack_table.specs.Tables.{IsKept, IsSized, CountsReferences, live_fields}
 use Rattle.qpack_table.specs.Indexes.{IsIndexOf}
 use Rattle.qpack_table.specs.declared.dynamic.entry.Entry.{Entry}
 use Rattle.qpack_table.specs.declared.dynamic.index.Index.{Index}
 use Rattle.qpack_table.proofs.Evictions.{sized_inserted, sized_resized, evicted_within}
-use Rattle.qpack_table.proofs.References.{times_append, tracked_less, tracked_put, tracked_released}
+use Rattle.qpack_table.proofs.References.{times_append, references_less, references_put, references_released}
 use Rattle.qpack_table.proofs.Marks.{used_counted}
 
 -- with fewer entries and another capacity
@@ -33,7 +33,7 @@ kept_resized v w es now size left capacity most referenced unacknowledged least 
     rest is dropped total indexed = record {
       sized = sized_resized v w es now size left capacity most k freed kept.sized evicted small items rest is dropped
           total;
-      tracked = tracked_less v w es now referenced unacknowledged k kept.tracked items dropped total;
+      references = references_less v w es now referenced unacknowledged k kept.references items dropped total;
       least = kept.least;
       indexed = indexed;
     }
@@ -59,8 +59,8 @@ kept_put v w es now size left capacity referenced unacknowledged least blocked e
     omega (arith, kept.sized.counted, few, length-drop k es) in
     record {
       sized = sized_inserted v w es now size left capacity e k kept.sized room evicted items sum dropped total;
-      tracked = tracked_put m w (drop k es) now e referenced unacknowledged
-          (tracked_less v m es (drop k es) referenced unacknowledged k kept.tracked refl refl refl) counted items
+      references = references_put m w (drop k es) now e referenced unacknowledged
+          (references_less v m es (drop k es) referenced unacknowledged k kept.references refl refl refl) counted items
           unflagged unused dropped total;
       least = kept.least;
       indexed = indexed;
@@ -103,7 +103,7 @@ pub kept_released : {index : Index} (v : Positions) (es now : List Entry) (size 
 kept_released v es now size capacity referenced unacknowledged left least blocked gone dropped kept is live flags
     lowered parted once = record {
       sized = sized_as v es now size capacity live kept.sized;
-      tracked = tracked_released v es now referenced unacknowledged left gone kept.tracked flags
+      references = references_released v es now referenced unacknowledged left gone kept.references flags
           (subst (λ (d : ℕ). (rest : List ℕ) → AreUsed d es (gone ++ rest)
           → AreUsed d now rest) is lowered) parted once;
       least = kept.least;
@@ -113,7 +113,7 @@ kept_released v es now size capacity referenced unacknowledged left least blocke
 -- what some blocks reference is counted
 pub counted_released : (v : Positions) (es : List Entry) (referenced : List ℕ)
     (unacknowledged left : List table.UnacknowledgedBlock) (gone : List ℕ)
-    → IsTracked v es referenced unacknowledged
+    → CountsReferences v es referenced unacknowledged
     → ((a : ℕ) → times a (references_in unacknowledged) ≡ times a gone + times a (references_in left))
     → AreCounted v.dropped es gone
 counted_released v es referenced unacknowledged left gone kept parted =

@@ -8,7 +8,7 @@ use Rattle.qpack_spec.proofs.Lists.{get_drop, get_append_within}
 use Rattle.qpack_spec.specs.Table as table
 use Rattle.qpack_spec.specs.Table.{has_number}
 use Rattle.qpack_table.specs.Positions.{Positions}
-use Rattle.qpack_table.specs.Tables.{times, references_in, flags_of, NoneTwice, AreUsed, AreFlagged, IsTracked}
+use Rattle.qpack_table.specs.Tables.{times, references_in, flags_of, NoneTwice, AreUsed, AreFlagged, CountsReferences}
 use Rattle.qpack_table.specs.declared.dynamic.entry.Entry.{Entry}
 
 -- ---- how often a number is among some
@@ -79,10 +79,10 @@ flagged_as dropped es now referenced same h = λ position e at.
 -- ---- entries that go and come
 
 -- what a table keeps of its references, with fewer entries
-pub tracked_less : (v w : Positions) (es now : List Entry) (referenced : List ℕ)
-    (unacknowledged : List table.UnacknowledgedBlock) (k : ℕ) → IsTracked v es referenced unacknowledged
-    → now ≡ drop k es → w.dropped ≡ v.dropped + k → w.total ≡ v.total → IsTracked w now referenced unacknowledged
-tracked_less v w es now referenced unacknowledged k kept items dropped total = record {
+pub references_less : (v w : Positions) (es now : List Entry) (referenced : List ℕ)
+    (unacknowledged : List table.UnacknowledgedBlock) (k : ℕ) → CountsReferences v es referenced unacknowledged
+    → now ≡ drop k es → w.dropped ≡ v.dropped + k → w.total ≡ v.total → CountsReferences w now referenced unacknowledged
+references_less v w es now referenced unacknowledged k kept items dropped total = record {
   flagged = λ position e at.
       kept.flagged (k + position) e (there position e at)
       ∙ ap (λ (a : ℕ). has_number a referenced) (sym (absolute position));
@@ -124,11 +124,11 @@ joined xs e x position at =
     ]
 
 -- what a table keeps of its references, with one entry more that nothing references
-pub tracked_put : (v w : Positions) (es now : List Entry) (e : Entry) (referenced : List ℕ)
-    (unacknowledged : List table.UnacknowledgedBlock) → IsTracked v es referenced unacknowledged
+pub references_put : (v w : Positions) (es now : List Entry) (e : Entry) (referenced : List ℕ)
+    (unacknowledged : List table.UnacknowledgedBlock) → CountsReferences v es referenced unacknowledged
     → v.total ≡ v.dropped + length es → now ≡ es ++ e ∷ [] → e.referenced ≡ false → e.uses ≡ 0
-    → w.dropped ≡ v.dropped → w.total ≡ v.total + 1 → IsTracked w now referenced unacknowledged
-tracked_put v w es now e referenced unacknowledged kept counted items unflagged unused dropped total = record {
+    → w.dropped ≡ v.dropped → w.total ≡ v.total + 1 → CountsReferences w now referenced unacknowledged
+references_put v w es now e referenced unacknowledged kept counted items unflagged unused dropped total = record {
   flagged = λ position x at. elim (at_either position x at) [
     | Before old within ↦ kept.flagged position x old
         ∙ ap (λ (a : ℕ). has_number (a + position + 1) referenced) (sym dropped)
@@ -159,13 +159,13 @@ tracked_put v w es now e referenced unacknowledged kept counted items unflagged 
 -- ---- blocks that are released
 
 -- what a table keeps of its references, where some are given up
-pub tracked_released : (v : Positions) (es now : List Entry) (referenced : List ℕ)
+pub references_released : (v : Positions) (es now : List Entry) (referenced : List ℕ)
     (unacknowledged left : List table.UnacknowledgedBlock) (gone : List ℕ)
-    → IsTracked v es referenced unacknowledged → flags_of now ≡ flags_of es
+    → CountsReferences v es referenced unacknowledged → flags_of now ≡ flags_of es
     → ((rest : List ℕ) → AreUsed v.dropped es (gone ++ rest) → AreUsed v.dropped now rest)
     → ((a : ℕ) → times a (references_in unacknowledged) ≡ times a gone + times a (references_in left))
-    → AllByRecursion (λ b. NoneTwice b.entries) left → IsTracked v now referenced left
-tracked_released v es now referenced unacknowledged left gone kept flags lowered parted once = record {
+    → AllByRecursion (λ b. NoneTwice b.entries) left → CountsReferences v now referenced left
+references_released v es now referenced unacknowledged left gone kept flags lowered parted once = record {
   flagged = flagged_as v.dropped es now referenced flags kept.flagged;
   used = lowered (referenced ++ references_in left) (used_as v.dropped es (referenced ++ references_in unacknowledged)
       (gone ++ (referenced ++ references_in left)) (λ a. omega (

@@ -14,7 +14,7 @@ use Rattle.qpack_spec.specs.Table.{eviction_count_for, can_evict, has_room, belo
 use Rattle.qpack_spec.specs.Window.{eviction_count}
 use Rattle.qpack_spec.proofs.Lists.{get_append_end}
 use Rattle.qpack_table.specs.Positions.{Positions}
-use Rattle.qpack_table.specs.Tables.{entries_of, references_in, IsKept, IsTracked, live_fields}
+use Rattle.qpack_table.specs.Tables.{entries_of, references_in, IsKept, CountsReferences, live_fields}
 use Rattle.qpack_table.specs.Indexes.{IsIndexOf}
 use Rattle.qpack_table.specs.declared.dynamic.index.Index.{Index}
 use Rattle.qpack_table.specs.declared.dynamic.entry.Entry.{Entry}
@@ -22,7 +22,7 @@ use Rattle.qpack_table.proofs.Changes.{entered}
 use Rattle.qpack_table.proofs.Evictions.{evicted_within, joined_entries}
 use Rattle.qpack_table.proofs.References.{times_append, not_among}
 use Rattle.qpack_table.proofs.Kept.{kept_put, sized_as, indexed_as}
-use Rattle.qpack_table.proofs.InProgress.{tracked_referenced, with_new}
+use Rattle.qpack_table.proofs.InProgress.{references_of_block, with_new}
 
 -- an entry that is sent and referenced, and as if it were neither referenced nor used yet
 abbrev pub sent_now : HeaderField → Entry
@@ -55,8 +55,8 @@ kept_sent {index} {shown} v w es now size left capacity referenced more unacknow
     items ∙ sym (set-append_seam (drop k es) (sent_before f) [] (sent_now f)) in
     record {
       sized = sized_as w mid now left capacity same put.sized;
-      tracked = tracked_referenced w mid now referenced more unacknowledged n (length (drop k es)) (sent_before f)
-          (sent_now f) put.tracked
+      references = references_of_block w mid now referenced more unacknowledged n (length (drop k es)) (sent_before f)
+          (sent_now f) put.references
           (omega (arith, new, total, dropped, kept.sized.counted, few, length-drop k es)) (omega (arith, new))
           (get_append_end (drop k es) (sent_before f)) refl refl set last;
       least = put.least;
@@ -65,7 +65,8 @@ kept_sent {index} {shown} v w es now size left capacity referenced more unacknow
 
 -- a number that is to come is not referenced yet
 pub not_referenced : (v : Positions) (es : List Entry) (referenced : List ℕ)
-    (unacknowledged : List table.UnacknowledgedBlock) (a : ℕ) → IsTracked v es referenced unacknowledged → v.total < a
+    (unacknowledged : List table.UnacknowledgedBlock) (a : ℕ) → CountsReferences v es referenced unacknowledged
+    → v.total < a
     → has_number a referenced ≡ false
 not_referenced v es referenced unacknowledged a kept above = not_among a referenced (omega (
   arith,

@@ -79,7 +79,7 @@ AreCounted dropped live references =
 
 -- what the table keeps of its references: each entry says whether the block in progress references it, and counts its
 -- uses by that block and the unacknowledged ones; a block references an entry once, and none that was never inserted
-pub record IsTracked (positions : Positions) (live : List Entry) (referenced : List ℕ)
+pub record CountsReferences (positions : Positions) (live : List Entry) (referenced : List ℕ)
     (unacknowledged : List table.UnacknowledgedBlock) : Type 0 where
   pub flagged : AreFlagged positions.dropped live referenced
   pub used : AreUsed positions.dropped live (referenced ++ references_in unacknowledged)
@@ -105,7 +105,7 @@ pub record IsKept (positions : Positions) (live : List Entry) (size capacity : �
     (unacknowledged : List table.UnacknowledgedBlock) (least_blocked : ℕ) (blocked : List ℕ) (index : Index) : Type 0
   where
     pub sized : IsSized positions live size capacity
-    pub tracked : IsTracked positions live referenced unacknowledged
+    pub references : CountsReferences positions live referenced unacknowledged
     pub least : IsLeast least_blocked blocked
     pub indexed : IsIndexOf positions.dropped (live_fields live) (length live) index
 

@@ -8,7 +8,7 @@ ghost use Rattle.qpack_spec.specs.Table.{window};
 ghost use Rattle.qpack_wire.specs.BlockLines.{line_of};
 ghost use Rattle.qpack_wire.specs.Lines.{line_of_indexed, line_of_literal_with_name_ref};
 ghost use Rattle.qpack_wire.specs.Memory.{AsksLine, AsksSectionForMemory};
-ghost use Rattle.h3_qpack.specs.Sections.{DecodesSection, GivesLineField, ReadsField, ReadsFields, field_at};
+ghost use Rattle.h3_qpack.specs.Sections.{DecodesSection, GivesLineField, ReadsField, ReadsFields, line_field_at};
 ghost use Rattle.h3_qpack.specs.Stateless.{IsFinished};
 ghost use Rattle.h3_qpack.specs.declared.decoder.DecoderError.TheVariants.{Memory};
 
@@ -77,7 +77,7 @@ fn read_field(
     buf: &mut Cursor,
 ) -> Result<HeaderField, DecoderError>
     ensures exact { ReadsField buf.old buf.new result
-        (field_at (window table.now.table.now) table.now.base buf.old.rest) }
+        (line_field_at (window table.now.table.now) table.now.base buf.old.rest) }
     ensures memory { result ≡ Err Memory → Begins AsksLine buf.old.rest }
 {
     let line = BlockLine::decode(alloc, buf)?;

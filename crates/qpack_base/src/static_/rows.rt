@@ -4,14 +4,14 @@
 ghost use Rattle.std.specs.Prelude.{◌≡◌, take, drop, slice_get};
 ghost use Rattle.std.specs.Option.{option_map};
 ghost use Rattle.qpack_spec.specs.StaticTable.{static_table};
-ghost use Rattle.qpack_base.specs.StaticFields.{field_at, fields_at};
+ghost use Rattle.qpack_base.specs.StaticFields.{field_of_row, fields_at};
 
 /// A name and a value.
 pub(super) type Row = (&'static [u8], &'static [u8]);
 
 /// The row at an index.
 pub(super) fn row(index: usize) -> Option<Row>
-    ensures { option_map field_at result ≡ slice_get static_table index }
+    ensures { option_map field_of_row result ≡ slice_get static_table index }
 {
     if index < 25 {
         return Some(rows_from_0()[index]);

@@ -8,7 +8,7 @@ use Rattle.qpack_table.proofs.dynamic.table.DynamicTable.greatest_reference.Goal
 pub returns-clause-inserted : goal.returns-clause-inserted
 returns-clause-inserted c =
     let within = greatest_within c.self.inside.vas.total c.self.inside.referenced.items
-    (references_in (blocks_of c.self.inside.unacknowledged.items)) c.self.invariant.tracked.behind in
+    (references_in (blocks_of c.self.inside.unacknowledged.items)) c.self.invariant.references.behind in
     rw (← c.self.view_is) (omega (
       arith,
       within,

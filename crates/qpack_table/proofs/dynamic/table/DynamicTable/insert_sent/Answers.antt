@@ -45,7 +45,7 @@ returns-clause-ok c =
       c.self.invariant.sized.counted,
       length-map c.self.inside.entries.items entry_of,
     ))
-    (not_referenced c.self.inside.vas _ _ _ _ c.self.invariant.tracked (omega (
+    (not_referenced c.self.inside.vas _ _ _ _ c.self.invariant.references (omega (
       arith,
       c.total_inserted.ensures.total,
       c.in_ok-replace_oldest.ensures.inserted,

@@ -15,7 +15,7 @@ returns-then-entry-gt0 c =
       ap (λ (t : Table). length t.live) c.self.view_is,
       length-map c.self.inside.entries.items entry_of,
     ) in
-    let used = c.self.invariant.tracked.used c.args.position c.index-entry.result.now
+    let used = c.self.invariant.references.used c.args.position c.index-entry.result.now
     (item_there _ _ _ within c.index-entry.ensures) in
     rw (← c.self.view_is)
     (evictable_at _ c.self.inside.entries.items c.args.position c.index-entry.result.now _ refl within
@@ -30,7 +30,7 @@ returns-then-not-entry c =
       ap (λ (t : Table). length t.live) c.self.view_is,
       length-map c.self.inside.entries.items entry_of,
     ) in
-    let used = c.self.invariant.tracked.used c.args.position c.index-entry.result.now
+    let used = c.self.invariant.references.used c.args.position c.index-entry.result.now
     (item_there _ _ _ within c.index-entry.ensures) in
     rw (← c.self.view_is)
     (evictable_at _ c.self.inside.entries.items c.args.position c.index-entry.result.now _ refl within
@@ -47,7 +47,7 @@ returns-else-not-entry c =
       ap (λ (t : Table). length t.live) c.self.view_is,
       length-map c.self.inside.entries.items entry_of,
     ) in
-    let used = c.self.invariant.tracked.used c.args.position c.index-entry.result.now
+    let used = c.self.invariant.references.used c.args.position c.index-entry.result.now
     (item_there _ _ _ within c.index-entry.ensures) in
     let position : c.total_inserted.result - c.len.result + c.args.position
     ≡ c.self.inside.vas.dropped + c.args.position =

@@ -5,7 +5,7 @@ use Rattle.qpack_table.specs.Tables.{entry_of, block_of}
 use Rattle.qpack_table.specs.declared.dynamic.entry.Entry.{Entry}
 use Rattle.qpack_table.proofs.EvictableEntries.{item_there, read_twice}
 use Rattle.qpack_table.proofs.Kept.{sized_as, indexed_as}
-use Rattle.qpack_table.proofs.InProgress.{referenced_before, referenced_now, uses_fit, tracked_referenced, flag_tells}
+use Rattle.qpack_table.proofs.InProgress.{referenced_before, referenced_now, uses_fit, references_of_block, flag_tells}
 use Rattle.qpack_table.proofs.InProgress.{same_live}
 use Rattle.qpack_table.proofs.dynamic.table.DynamicTable.reference.Goals as goal
 
@@ -27,7 +27,7 @@ returns-then-index-clause-ok c =
       position,
     ) in
     rw (← c.self.view_is) (referenced_before _ c.args.absolute
-    (flag_tells _ _ _ _ _ _ c.index.result.now _ c.self.invariant.tracked position within c.index.ensures
+    (flag_tells _ _ _ _ _ _ c.index.result.now _ c.self.invariant.references position within c.index.ensures
     c.if-index.true))
 
 pub overflow_add-entry : goal.overflow_add-entry
@@ -51,7 +51,8 @@ overflow_add-entry c =
     let unflagged = ap (λ (e : Entry). e.referenced) same ∙ c.if-index.false in
     omega (
       arith,
-      uses_fit _ _ _ _ _ _ c.self.invariant.tracked (item_there _ _ _ within c.index_mut-entry.ensures.value) unflagged,
+      uses_fit _ _ _ _ _ _ c.self.invariant.references (item_there _ _ _ within c.index_mut-entry.ensures.value)
+          unflagged,
       length-map c.self.inside.unacknowledged.items block_of,
       c.self.inside.unacknowledged.small,
       c.self.inside.unacknowledged.ok,
@@ -80,8 +81,8 @@ invariant_of-self-2 c =
       sized = sized_as c.self.inside.vas c.self.inside.entries.items _ _ _
           (same_live _ _ c.index_mut-entry.result.now _ within c.index_mut-entry.ensures.value refl)
           c.self.invariant.sized;
-      tracked = tracked_referenced c.self.inside.vas c.self.inside.entries.items _ _ _ _ c.args.absolute
-          (c.args.absolute - c.total_dropped.result - 1) c.index_mut-entry.result.now _ c.self.invariant.tracked
+      references = references_of_block c.self.inside.vas c.self.inside.entries.items _ _ _ _ c.args.absolute
+          (c.args.absolute - c.total_dropped.result - 1) c.index_mut-entry.result.now _ c.self.invariant.references
           position
           (omega (arith, position, within, c.self.invariant.sized.counted))
           (item_there _ _ _ within c.index_mut-entry.ensures.value) unflagged refl refl c.in_ok-push.ensures.items;
@@ -109,7 +110,7 @@ returns-clause-ok c =
       position,
     ) in
     rw (← c.self.view_is) (referenced_now _ c.args.absolute _ _
-    (flag_tells _ _ _ _ _ _ c.index.result.now _ c.self.invariant.tracked position within c.index.ensures
+    (flag_tells _ _ _ _ _ _ c.index.result.now _ c.self.invariant.references position within c.index.ensures
     c.if-index.false)
     (same_live _ _ c.index_mut-entry.result.now _ within c.index_mut-entry.ensures.value refl)
     c.in_ok-push.ensures.items)

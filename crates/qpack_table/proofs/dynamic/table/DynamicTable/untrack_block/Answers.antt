@@ -14,7 +14,7 @@ returns-in_default c = (
 
 pub lower_uses-requires : goal.lower_uses-requires
 lower_uses-requires c = rw c.total_dropped.ensures.exact (counted_released c.self.inside.vas _ _ _
-    (blocks_of c.take_oldest.new.blocks.items) _ c.self.invariant.tracked
+    (blocks_of c.take_oldest.new.blocks.items) _ c.self.invariant.references
     (taken_parted c.args.stream_id (block_of c.in-Some.block) _ _ _ c.in-Some.ensures.taken c.deref.ensures.value))
 
 pub invariant_of-self-2 : goal.invariant_of-self-2
@@ -23,7 +23,7 @@ invariant_of-self-2 c = kept_released c.self.inside.vas _ _ _ _ _ _ _ _ _ _ _ c.
     c.lower_uses.ensures.live c.lower_uses.ensures.flags c.lower_uses.ensures.lowered
     (taken_parted c.args.stream_id (block_of c.in-Some.block) _ _ _ c.in-Some.ensures.taken c.deref.ensures.value)
     (every_left_of (λ (b : table.UnacknowledgedBlock). NoneTwice b.entries) c.args.stream_id _ _
-    c.in-Some.ensures.taken.left c.self.invariant.tracked.each_once)
+    c.in-Some.ensures.taken.left c.self.invariant.references.each_once)
 
 pub returns : goal.returns
 returns c = rw (← c.self.view_is) (acknowledged _ c.args.stream_id _ _ c.in-Some.ensures.taken.left

@@ -10,7 +10,7 @@ use Rattle.qpack_table.proofs.dynamic.table.DynamicTable.untrack_stream.Goals as
 pub release_stream-requires : goal.release_stream-requires
 release_stream-requires c = rw c.total_dropped-dropped.ensures.exact (counted_released c.self.inside.vas _ _ _
     (blocks_of (filter (λ b. not (nat_eq b.stream_id c.args.stream_id)) c.self.inside.unacknowledged.items)) _
-    c.self.invariant.tracked (stream_parted c.args.stream_id c.self.inside.unacknowledged.items _ refl))
+    c.self.invariant.references (stream_parted c.args.stream_id c.self.inside.unacknowledged.items _ refl))
 
 pub invariant_of-self : goal.invariant_of-self
 invariant_of-self c = kept_released c.self.inside.vas _ _ _ _ _ _ _ _ _ _ _ c.self.invariant
@@ -19,7 +19,7 @@ invariant_of-self c = kept_released c.self.inside.vas _ _ _ _ _ _ _ _ _ _ _ c.se
     (stream_parted c.args.stream_id c.self.inside.unacknowledged.items _ c.drop_stream.ensures)
     (rw (stream_left c.args.stream_id c.self.inside.unacknowledged.items _ c.drop_stream.ensures)
     (every_other (λ (b : table.UnacknowledgedBlock). NoneTwice b.entries) c.args.stream_id _
-    c.self.invariant.tracked.each_once))
+    c.self.invariant.references.each_once))
 
 pub returns : goal.returns
 returns c = rw (← c.self.view_is) (cancelled _ c.args.stream_id _ _
