@@ -1,12 +1,13 @@
 //! Worked cases of an encoder: the decoder instructions that it takes, and the capacity that it sets (RFC 9204,
 //! sections 3.2.3, 4.3.1 and 4.4).
 
+use crate::memory::{heap, room};
 use h3_qpack::coding::Cursor;
 use h3_qpack::dynamic::{self, DynamicLookupResult, DynamicTable, DynamicTableEncoder};
 use h3_qpack::encoder::{Encoder, EncoderError, set_dynamic_table_size};
 use h3_qpack::{HeaderField, prefix_int};
 use linked_list_allocator::LocalHeap;
-use qpack_testing::{again, field, same};
+use qpack_testing::{field, same};
 use std::alloc::Global;
 use std::test::Fail;
 
@@ -33,41 +34,69 @@ fn open_block(table: &mut DynamicTable, field: &HeaderField) -> Result<(), dynam
     }
 }
 
+/// The entry that a block on stream 4 references is `foo: bar`.
+fn open_block_of_foo(alloc: Global, table: &mut DynamicTable) -> Result<(), dynamic::Error> {
+    let foo = field(alloc, b"foo", b"bar")?;
+    open_block(table, &foo)
+}
+
 /// Sets capacity 4096, and inserts an entry that a block on stream 4 references.
-fn open_only_block(alloc: Global, table: &mut DynamicTable) -> Result<(), Fail> {
+fn open_only_block(alloc: Global, table: &mut DynamicTable) -> Result<(), dynamic::Error> {
     table.set_max_size(4096)?;
     table.set_max_blocked(100)?;
-    let foo = field(alloc, b"foo", b"bar")?;
-    Ok(match open_block(table, &foo) {
-        Ok(()) => (),
-        Err(_) => open_block(table, &foo)?,
-    })
+    match open_block_of_foo(alloc, table) {
+        Ok(()) => Ok(()),
+        Err(_) => open_block_of_foo(alloc, table),
+    }
 }
 
 /// An encoder of capacity 4096 whose only entry is referenced by a block on stream 4.
-fn encoder_of_a_block(alloc: Global) -> Result<Encoder, Fail> {
+fn encoder_of_a_block(alloc: Global) -> Result<Encoder, dynamic::Error> {
     let mut table = DynamicTable::new(alloc);
     open_only_block(alloc, &mut table)?;
     Ok(Encoder::from(table))
 }
 
-/// Bytes of a decoder stream, what they are answered, and how many of them are passed.
-type Piece = (&'static [u8], Result<(), EncoderError>, usize);
+/// What an encoder is given, and what it answers.
+enum Step {
+    /// Bytes of a decoder stream, what they are answered, and how many of them are passed.
+    Hears(&'static [u8], Result<(), EncoderError>, usize),
+    /// A capacity, what it is answered, and then the capacity that stands and all that is written.
+    Sets(usize, Result<(), EncoderError>, usize, &'static [u8]),
+}
 
-/// An encoder hears these pieces so.
-fn hears_each(encoder: &mut Encoder, pieces: &[Piece]) -> Result<(), Fail> {
-    for (bytes, answer, passed) in pieces {
-        let mut buf = Cursor::new(bytes);
-        same(&encoder.on_decoder_recv(&mut buf), answer)?;
-        same(buf.position(), *passed)?;
+/// An encoder takes this step so.
+fn takes(encoder: &mut Encoder, written: &mut Vec<u8>, step: &Step) -> Result<(), Fail> {
+    match step {
+        Step::Hears(bytes, answer, passed) => {
+            let mut buf = Cursor::new(bytes);
+            let heard = encoder.on_decoder_recv(&mut buf);
+            same((&heard, buf.position()), (answer, *passed))
+        }
+        Step::Sets(capacity, answer, stands, all) => {
+            let set = encoder.set_capacity(*capacity, written);
+            let capacity = encoder.table().max_mem_size();
+            same(
+                (&set, capacity, written.as_slice()),
+                (answer, *stands, *all),
+            )
+        }
+    }
+}
+
+/// An encoder takes these steps so.
+fn takes_each(encoder: &mut Encoder, written: &mut Vec<u8>, steps: &[Step]) -> Result<(), Fail> {
+    for step in steps {
+        takes(encoder, written, step)?;
     }
     Ok(())
 }
 
-/// An encoder whose only entry a block references hears these pieces so.
-fn hear_all(alloc: Global, pieces: &[Piece]) -> Result<(), Fail> {
+/// An encoder whose only entry a block references takes these steps so.
+fn take_all(alloc: Global, steps: &[Step]) -> Result<(), Fail> {
+    let mut written = room(alloc, 11)?;
     let mut encoder = encoder_of_a_block(alloc)?;
-    hears_each(&mut encoder, pieces)
+    takes_each(&mut encoder, &mut written, steps)
 }
 
 /// No block of this stream waits for an acknowledgment.
@@ -75,39 +104,35 @@ const UNKNOWN: Result<(), EncoderError> = Err(EncoderError::Insertion(
     dynamic::Error::UnknownStreamId(4),
 ));
 
-/// The capacity of an encoder's table is not set to 37 bytes, in which its entry does not fit.
-fn keeps_its_entry(encoder: &mut Encoder, written: &mut Vec<u8>) -> Result<(), Fail> {
-    same(
-        encoder.set_capacity(37, written),
-        Err(EncoderError::Insertion(dynamic::Error::MaxTableSizeReached)),
-    )?;
-    same((encoder.table().max_mem_size(), written.len()), (4096, 0))
-}
-
-/// The entry goes once it is acknowledged and received.
-fn lets_its_entry_go(alloc: Global, encoder: &mut Encoder) -> Result<(), Fail> {
-    let mut written = again(|| Vec::with_capacity(alloc, 11))?;
-    keeps_its_entry(encoder, &mut written)?;
-    hears_each(encoder, &[(b"\x84", Ok(()), 1)])?;
-    keeps_its_entry(encoder, &mut written)?;
-    hears_each(encoder, &[(b"\x01", Ok(()), 1)])?;
-    same(encoder.set_capacity(37, &mut written), Ok(()))?;
-    same(written.as_slice(), b"\x3f\x06".as_slice())?;
-    same(encoder.table().max_mem_size(), 37)
-}
+/// Its entry does not fit in the capacity.
+const NO_ROOM: Result<(), EncoderError> = Err(EncoderError::Insertion(
+    dynamic::Error::MaxTableSizeReached,
+));
 
 #[test]
 fn an_entry_goes_once_it_is_acknowledged_and_received(rt: HostRuntime) -> Result<(), Fail> {
-    let mut encoder = encoder_of_a_block(rt.alloc())?;
-    lets_its_entry_go(rt.alloc(), &mut encoder)
+    const STEPS: &[Step] = &[
+        Step::Sets(37, NO_ROOM, 4096, b""),
+        Step::Hears(b"\x84", Ok(()), 1),
+        Step::Sets(37, NO_ROOM, 4096, b""),
+        Step::Hears(b"\x01", Ok(()), 1),
+        Step::Sets(37, Ok(()), 37, b"\x3f\x06"),
+    ];
+    take_all(rt.alloc(), STEPS)
 }
 
 #[test]
 fn an_acknowledgment_behind_a_cancellation_is_refused(rt: HostRuntime) -> Result<(), Fail> {
-    const CANCELLED: &[Piece] = &[(b"\x44\x84\x84", UNKNOWN, 2), (b"\x84", UNKNOWN, 1)];
-    hear_all(rt.alloc(), CANCELLED)?;
-    const ACKNOWLEDGED: &[Piece] = &[(b"\x3f\x02\x84\xff", Ok(()), 3), (b"\x84", UNKNOWN, 1)];
-    hear_all(rt.alloc(), ACKNOWLEDGED)
+    const CANCELLED: &[Step] = &[
+        Step::Hears(b"\x44\x84\x84", UNKNOWN, 2),
+        Step::Hears(b"\x84", UNKNOWN, 1),
+    ];
+    take_all(rt.alloc(), CANCELLED)?;
+    const ACKNOWLEDGED: &[Step] = &[
+        Step::Hears(b"\x3f\x02\x84\xff", Ok(()), 3),
+        Step::Hears(b"\x84", UNKNOWN, 1),
+    ];
+    take_all(rt.alloc(), ACKNOWLEDGED)
 }
 
 /// Overflow of an integer.
@@ -123,51 +148,72 @@ const UNKNOWN_GREATEST: Result<(), EncoderError> = Err(EncoderError::Insertion(
 #[test]
 fn numbers_are_read_to_their_greatest(rt: HostRuntime) -> Result<(), Fail> {
     // An acknowledgment, a cancellation and an increment.
-    const PIECES: &[Piece] = &[
-        (
+    const STEPS: &[Step] = &[
+        Step::Hears(
             b"\xff\xff\xff\xff\xff\xff\xff\xff\xff\x7f",
             UNKNOWN_GREATEST,
             10,
         ),
-        (b"\x7f\xff\xff\xff\xff\xff\xff\xff\xff\x7f", Ok(()), 10),
-        (b"\x3f\xff\xff\xff\xff\xff\xff\xff\xff\xff", OVERFLOW, 0),
+        Step::Hears(b"\x7f\xff\xff\xff\xff\xff\xff\xff\xff\x7f", Ok(()), 10),
+        Step::Hears(b"\x3f\xff\xff\xff\xff\xff\xff\xff\xff\xff", OVERFLOW, 0),
     ];
-    let mut encoder = Encoder::new(rt.alloc());
-    hears_each(&mut encoder, PIECES)
+    takes_each(
+        &mut Encoder::new(rt.alloc()),
+        &mut Vec::new(rt.alloc()),
+        STEPS,
+    )
 }
+
+/// That a capacity is too large.
+const TOO_LARGE: Result<(), EncoderError> = Err(EncoderError::Insertion(
+    dynamic::Error::MaximumTableSizeTooLarge,
+));
 
 /// A capacity is set and written; one that is too large is neither.
 fn is_set_and_written(table: &mut DynamicTable, written: &mut Vec<u8>) -> Result<(), Fail> {
-    same(set_dynamic_table_size(table, written, 4096), Ok(()))?;
+    let set = set_dynamic_table_size(table, written, 4096);
+    let refused = set_dynamic_table_size(table, written, 1 << 30);
+    same((set, refused), (Ok(()), TOO_LARGE))?;
     same(
-        set_dynamic_table_size(table, written, 1 << 30),
-        Err(EncoderError::Insertion(dynamic::Error::MaximumTableSizeTooLarge)),
-    )?;
-    same(written.as_slice(), b"\x3f\xe1\x1f".as_slice())?;
-    same(table.max_mem_size(), 4096)
+        (written.as_slice(), table.max_mem_size()),
+        (b"\x3f\xe1\x1f".as_slice(), 4096),
+    )
 }
 
 #[test]
 fn a_capacity_is_written(rt: HostRuntime) -> Result<(), Fail> {
-    let mut written = again(|| Vec::with_capacity(rt.alloc(), 32))?;
-    let mut table = DynamicTable::new(rt.alloc());
-    is_set_and_written(&mut table, &mut written)
+    let mut written = room(rt.alloc(), 32)?;
+    is_set_and_written(&mut DynamicTable::new(rt.alloc()), &mut written)
+}
+
+/// A capacity is set and written, or it is neither; answers whether it is.
+fn is_set_where_written(
+    encoder: &mut Encoder,
+    written: &mut Vec<u8, &LocalHeap>,
+    size: usize,
+) -> Result<bool, Fail> {
+    let before = (encoder.table().max_mem_size(), written.len());
+    let answer = encoder.set_capacity(size, written);
+    let stands = (encoder.table().max_mem_size(), written.len());
+    let is_set = answer != Err(EncoderError::Memory);
+    if is_set {
+        same((answer, stands.0), (Ok(()), size))?;
+    } else {
+        same(stands, before)?;
+    }
+    Ok(is_set)
 }
 
 /// Capacities are set in turn, and written to a vector over a heap that is too small for them: one that is not written
 /// is not set.
-fn sets_what_is_written(encoder: &mut Encoder, heap: &LocalHeap) -> Result<(), Fail> {
-    let mut written = Vec::new(heap);
+fn sets_what_is_written(
+    encoder: &mut Encoder,
+    written: &mut Vec<u8, &LocalHeap>,
+) -> Result<(), Fail> {
     let mut refusals = 0u32;
     for size in 1..100usize {
-        let before = (encoder.table().max_mem_size(), written.len());
-        let answer = encoder.set_capacity(size, &mut written);
-        let stands = (encoder.table().max_mem_size(), written.len());
-        if answer == Err(EncoderError::Memory) {
+        if !is_set_where_written(encoder, written, size)? {
             refusals = refusals.saturating_add(1);
-            same(stands, before)?;
-        } else {
-            same((answer, stands.0), (Ok(()), size))?;
         }
     }
     same((refusals > 0, refusals < 99), (true, true))
@@ -175,7 +221,6 @@ fn sets_what_is_written(encoder: &mut Encoder, heap: &LocalHeap) -> Result<(), F
 
 #[test]
 fn a_capacity_that_cannot_be_written_is_not_set(rt: HostRuntime) -> Result<(), Fail> {
-    let heap = again(|| LocalHeap::new(rt.alloc(), 128))?;
-    let mut encoder = Encoder::new(rt.alloc());
-    sets_what_is_written(&mut encoder, &heap)
+    let heap = heap(rt.alloc(), 128)?;
+    sets_what_is_written(&mut Encoder::new(rt.alloc()), &mut Vec::new(&heap))
 }

@@ -6,14 +6,12 @@ use h3_qpack::coding::Cursor;
 use h3_qpack::dynamic::{DynamicTable, Error};
 use h3_qpack::encoder::{Encoder, EncoderError};
 use linked_list_allocator::LocalHeap;
-use qpack_testing::{Pairs, again, bytes, field, fields, same};
+use qpack_testing::{Pairs, bytes, field, fields, same};
 use std::alloc::Global;
+use std::slice;
 use std::test::Fail;
 
-/// What a section is written as: its required insert count, its block and its instructions.
-type Written = (usize, Vec<u8>, Vec<u8>);
-
-/// The same, with the bytes in hexadecimal.
+/// What a section is written as: its required insert count, and in hexadecimal its block and its instructions.
 type InHex = (usize, &'static [u8], &'static [u8]);
 
 /// What an encoder hears, then the stream and the fields of a section, and what it is written as.
@@ -25,57 +23,90 @@ const BAZ_BAR: (&[u8], &[u8]) = (b"baz", b"bar");
 
 const FOO_QUXX: (&[u8], &[u8]) = (b"foo", b"quxx");
 
-/// An encoder of this capacity, and so many blocks that may be blocked.
-fn encoder(alloc: Global, capacity: usize, limit: usize) -> Result<Encoder, EncoderError> {
-    let mut table = DynamicTable::new(alloc);
-    set(&mut table, capacity, limit)?;
-    Ok(Encoder::from(table))
-}
-
 /// Sets the capacity and the limit.
-fn set(table: &mut DynamicTable, capacity: usize, limit: usize) -> Result<(), Error> {
+fn set(table: &mut DynamicTable, (capacity, limit): (usize, usize)) -> Result<(), Error> {
     table.set_max_size(capacity)?;
     table.set_max_blocked(limit)
 }
 
-/// What an encoder writes a section as.
-fn written(
-    alloc: Global,
-    encoder: &mut Encoder,
-    stream_id: u64,
-    fields: &[HeaderField],
-) -> Result<Written, EncoderError> {
-    let mut block = Vec::new(alloc);
-    let mut told = Vec::new(alloc);
-    let required = encoder.encode(stream_id, &mut block, &mut told, fields.iter())?;
-    Ok((required, block, told))
+/// An encoder of this capacity, and so many blocks that may be blocked.
+fn encoder(alloc: Global, bounds: (usize, usize)) -> Result<Encoder, Error> {
+    let mut table = DynamicTable::new(alloc);
+    set(&mut table, bounds)?;
+    Ok(Encoder::from(table))
 }
 
-/// A section is written so.
-fn is_written(alloc: Global, written: Written, (required, block, told): InHex) -> Result<(), Fail> {
-    same(
-        written,
-        (required, bytes(alloc, block)?, bytes(alloc, told)?),
-    )
+/// The block of a section, and the instructions that it is sent behind.
+#[derive(Drop)]
+struct Sent {
+    block: Vec<u8>,
+    told: Vec<u8>,
 }
 
-/// An encoder hears what is said, and writes its section so; or it is refused memory, and then this answers false.
-fn writes_one(alloc: Global, encoder: &mut Encoder, section: &Section) -> Result<bool, Fail> {
-    let (hears, stream_id, pairs, to) = *section;
-    encoder.on_decoder_recv(&mut Cursor::new(hears))?;
-    match written(alloc, encoder, stream_id, &fields(alloc, pairs)?) {
-        Err(EncoderError::Memory) => Ok(false),
-        written => {
-            is_written(alloc, written?, to)?;
-            Ok(true)
+impl Sent {
+    fn new(alloc: Global) -> Sent {
+        Sent {
+            block: Vec::new(alloc),
+            told: Vec::new(alloc),
         }
+    }
+
+    /// Whether both are these, in hexadecimal.
+    fn is(&self, alloc: Global, block: &[u8], told: &[u8]) -> Result<bool, Fail> {
+        Ok(self.block == bytes(alloc, block)? && self.told == bytes(alloc, told)?)
     }
 }
 
+/// Forgets what was sent, and encodes a section; answers its required insert count.
+fn encode(
+    alloc: Global,
+    encoder: &mut Encoder,
+    sent: &mut Sent,
+    (stream_id, pairs): (u64, Pairs),
+) -> Result<usize, EncoderError> {
+    sent.block.clear();
+    sent.told.clear();
+    let fields = fields(alloc, pairs)?;
+    encoder.encode(stream_id, &mut sent.block, &mut sent.told, fields.iter())
+}
+
+/// A section is sent so; or memory was refused, and then this answers false.
+fn is_sent(
+    alloc: Global,
+    answer: Result<usize, EncoderError>,
+    sent: &Sent,
+    (required, block, told): InHex,
+) -> Result<bool, Fail> {
+    if answer == Err(EncoderError::Memory) {
+        return Ok(false);
+    }
+    let is_so = sent.is(alloc, block, told)?;
+    same((answer, is_so), (Ok(required), true))?;
+    Ok(true)
+}
+
+/// An encoder hears what is said, and writes its section so; or it is refused memory, and then this answers false.
+fn writes_one(
+    alloc: Global,
+    encoder: &mut Encoder,
+    sent: &mut Sent,
+    section: &Section,
+) -> Result<bool, Fail> {
+    let (hears, stream_id, pairs, to) = *section;
+    encoder.on_decoder_recv(&mut Cursor::new(hears))?;
+    let answer = encode(alloc, encoder, sent, (stream_id, pairs));
+    is_sent(alloc, answer, sent, to)
+}
+
 /// An encoder writes these sections so; or it is refused memory, and then this answers false.
-fn writes_each(alloc: Global, encoder: &mut Encoder, sections: &[Section]) -> Result<bool, Fail> {
+fn writes_each(
+    alloc: Global,
+    encoder: &mut Encoder,
+    sent: &mut Sent,
+    sections: &[Section],
+) -> Result<bool, Fail> {
     for section in sections {
-        if !writes_one(alloc, encoder, section)? {
+        if !writes_one(alloc, encoder, sent, section)? {
             return Ok(false);
         }
     }
@@ -83,13 +114,9 @@ fn writes_each(alloc: Global, encoder: &mut Encoder, sections: &[Section]) -> Re
 }
 
 /// The same, of an encoder of this capacity and limit.
-fn writes_once(
-    alloc: Global,
-    (capacity, limit): (usize, usize),
-    sections: &[Section],
-) -> Result<bool, Fail> {
-    let mut encoder = encoder(alloc, capacity, limit)?;
-    writes_each(alloc, &mut encoder, sections)
+fn writes_once(alloc: Global, bounds: (usize, usize), sections: &[Section]) -> Result<bool, Fail> {
+    let mut encoder = encoder(alloc, bounds)?;
+    writes_each(alloc, &mut encoder, &mut Sent::new(alloc), sections)
 }
 
 /// One encoder of this capacity and limit writes these sections so; another does, if memory was refused.
@@ -200,88 +227,88 @@ impl<'a> Iterator for Repeated<'a> {
     }
 }
 
-/// What is written of a field twice, given by a chain of two slices.
-fn written_of_chain(
-    alloc: Global,
+/// Encodes a field twice, given by a chain of two slices, or by an iterator of our own.
+fn encode_twice(
     encoder: &mut Encoder,
-    one: &[HeaderField],
-) -> Result<Written, EncoderError> {
-    let mut block = Vec::new(alloc);
-    let mut told = Vec::new(alloc);
-    let required = encoder.encode(4, &mut block, &mut told, one.iter().chain(one.iter()))?;
-    Ok((required, block, told))
-}
-
-/// What is written of the same section, given by an iterator of our own.
-fn written_of_repeated(
-    alloc: Global,
-    encoder: &mut Encoder,
+    sent: &mut Sent,
     field: &HeaderField,
-) -> Result<Written, EncoderError> {
-    let mut block = Vec::new(alloc);
-    let mut told = Vec::new(alloc);
-    let twice = Repeated { field, left: 2 };
-    let required = encoder.encode(4, &mut block, &mut told, twice)?;
-    Ok((required, block, told))
+    is_chain: bool,
+) -> Result<usize, EncoderError> {
+    if is_chain {
+        let one = slice::from_ref(field);
+        let twice = one.iter().chain(one.iter());
+        encoder.encode(4, &mut sent.block, &mut sent.told, twice)
+    } else {
+        let twice = Repeated { field, left: 2 };
+        encoder.encode(4, &mut sent.block, &mut sent.told, twice)
+    }
 }
 
-/// What is written by the one or the other.
-fn written_of_twice(alloc: Global, is_chain: bool) -> Result<Written, EncoderError> {
-    let one = [field(alloc, b"foo", b"bar")?];
-    let mut encoder = encoder(alloc, 4096, 1)?;
-    if is_chain {
-        written_of_chain(alloc, &mut encoder, &one)
-    } else {
-        written_of_repeated(alloc, &mut encoder, &one[0])
-    }
+/// What is sent of the field twice, and its required insert count.
+fn sent_twice(alloc: Global, sent: &mut Sent, is_chain: bool) -> Result<usize, EncoderError> {
+    let field = field(alloc, b"foo", b"bar")?;
+    let mut encoder = encoder(alloc, (4096, 1))?;
+    encode_twice(&mut encoder, sent, &field, is_chain)
+}
+
+/// A field twice is written as it is by a slice of two; or memory is refused, and then this answers false.
+fn writes_twice(alloc: Global, is_chain: bool) -> Result<bool, Fail> {
+    let mut sent = Sent::new(alloc);
+    let answer = sent_twice(alloc, &mut sent, is_chain);
+    is_sent(alloc, answer, &sent, (2, b"03811011", b"6294e7838c767f00"))
 }
 
 #[test]
 fn any_iterator_that_ends_gives_the_fields(rt: HostRuntime) -> Result<(), Fail> {
-    const TWICE: InHex = (2, b"03811011", b"6294e7838c767f00");
-    let alloc = rt.alloc();
     for is_chain in [true, false] {
-        let written = again(|| written_of_twice(alloc, is_chain))?;
-        is_written(alloc, written, TWICE)?;
+        let is_so = writes_twice(rt.alloc(), is_chain)? || writes_twice(rt.alloc(), is_chain)?;
+        same(is_so, true)?;
     }
     Ok(())
 }
 
-/// What three fields are written as by two calls, of which the first has only the heap for its instructions, and so
-/// much room; and whether that was refused.
-fn written_by_two_calls(
-    alloc: Global,
+/// Three fields are encoded by two calls, of which the first has only the heap for its instructions, and so much room:
+/// whether that was refused, and the required insert count of the second.
+fn encode_in_two_calls(
     encoder: &mut Encoder,
-    heap: &LocalHeap,
-    room: usize,
-) -> Result<(bool, Written), EncoderError> {
-    let fields = fields(alloc, &[FOO_BAR, BAZ_BAR, FOO_QUXX])?;
-    let mut block = Vec::new(alloc);
-    let mut small = Vec::with_capacity(heap, room)?;
-    let first = encoder.encode(4, &mut block, &mut small, fields.iter());
-    let mut told = Vec::from_slice(alloc, &small)?;
-    let required = encoder.encode(4, &mut block, &mut told, fields.iter())?;
-    Ok((first.is_err(), (required, block, told)))
+    sent: &mut Sent,
+    small: &mut Vec<u8, &LocalHeap>,
+    fields: &[HeaderField],
+) -> Result<(bool, usize), EncoderError> {
+    let first = encoder.encode(4, &mut sent.block, small, fields.iter());
+    sent.told.extend_from_slice(small)?;
+    let required = encoder.encode(4, &mut sent.block, &mut sent.told, fields.iter())?;
+    Ok((first.is_err(), required))
 }
 
-/// The same, of a new encoder and a heap of so many bytes.
-fn written_over_heap(
+/// The same, of a new encoder.
+fn sent_in_two_calls(
     alloc: Global,
+    sent: &mut Sent,
+    small: &mut Vec<u8, &LocalHeap>,
+) -> Result<(bool, usize), EncoderError> {
+    let fields = fields(alloc, &[FOO_BAR, BAZ_BAR, FOO_QUXX])?;
+    let mut encoder = encoder(alloc, (76, 4))?;
+    encode_in_two_calls(&mut encoder, sent, small, &fields)
+}
+
+/// The same, over a heap of so many bytes.
+fn sent_over_heap(
+    alloc: Global,
+    sent: &mut Sent,
     (memory, room): (usize, usize),
-) -> Result<(bool, Written), EncoderError> {
+) -> Result<(bool, usize), EncoderError> {
     let heap = LocalHeap::new(alloc, memory)?;
-    let mut encoder = encoder(alloc, 76, 4)?;
-    written_by_two_calls(alloc, &mut encoder, &heap, room)
+    let mut small = Vec::with_capacity(&heap, room)?;
+    sent_in_two_calls(alloc, sent, &mut small)
 }
 
 /// A section whose first call finds so little memory is written so by both.
 fn is_so_by_two_calls(alloc: Global, memory: (usize, usize), block: &[u8]) -> Result<bool, Fail> {
-    let block = bytes(alloc, block)?;
-    let told = bytes(alloc, b"6294e7838c767f638c7eff838c767f")?;
-    match written_over_heap(alloc, memory) {
-        Ok(written) => Ok(written == (true, (2, block, told))),
-        Err(_) => Ok(false),
-    }
+    let mut sent = Sent::new(alloc);
+    let answer = sent_over_heap(alloc, &mut sent, memory);
+    let is_so = sent.is(alloc, block, b"6294e7838c767f638c7eff838c767f")?;
+    Ok(is_so && answer == Ok((true, 2)))
 }
 
 /// How much memory the first call finds, how much of it is room, and the block that both write.
@@ -304,30 +331,33 @@ fn a_refused_section_is_written_by_the_next_call(rt: HostRuntime) -> Result<(), 
     Ok(())
 }
 
-/// Puts four entries.
-fn put_four(alloc: Global, table: &mut DynamicTable) -> Result<(), Error> {
-    const PUT: Pairs = &[
-        (b"foo1", b"bar1"),
-        (b"foo2", b"bar2"),
-        (b"foo3", b"bar3"),
-        (b"foo4", b"bar4"),
-    ];
-    set(table, 4096, 100)?;
+/// The entries that are put.
+const PUT: Pairs = &[
+    (b"foo1", b"bar1"),
+    (b"foo2", b"bar2"),
+    (b"foo3", b"bar3"),
+    (b"foo4", b"bar4"),
+];
+
+/// Puts them.
+fn put_each(alloc: Global, table: &mut DynamicTable) -> Result<(), Error> {
+    set(table, (4096, 100))?;
     for (name, value) in PUT {
         table.put(field(alloc, name, value)?)?;
     }
     Ok(())
 }
 
-/// An encoder of four entries that were put.
-fn encoder_of_four(alloc: Global) -> Result<Encoder, EncoderError> {
+/// An encoder of the entries that are put.
+fn encoder_of_four(alloc: Global) -> Result<Encoder, Error> {
     let mut table = DynamicTable::new(alloc);
-    put_four(alloc, &mut table)?;
+    put_each(alloc, &mut table)?;
     Ok(Encoder::from(table))
 }
 
-/// What a section is written as that has a line of each kind but a literal.
-fn written_of_each_line(alloc: Global) -> Result<Written, EncoderError> {
+/// Encodes a section that has a line of each kind but a literal, and keeps of its instructions the first, which names
+/// an entry.
+fn encode_each_line(alloc: Global, sent: &mut Sent) -> Result<usize, EncoderError> {
     const FIELDS: Pairs = &[
         (b":method", b"GET"),
         (b"foo1", b"bar1"),
@@ -335,21 +365,26 @@ fn written_of_each_line(alloc: Global) -> Result<Written, EncoderError> {
         (b":method", b"staticnameref"),
         (b"newfoo", b"newbar"),
     ];
-    let fields = fields(alloc, FIELDS)?;
     let mut encoder = encoder_of_four(alloc)?;
-    written(alloc, &mut encoder, 1, &fields)
+    let answer = encode(alloc, &mut encoder, sent, (1, FIELDS));
+    sent.told.truncate(8);
+    answer
+}
+
+/// The section is written so; or memory is refused, and then this answers false.
+fn writes_each_line(alloc: Global) -> Result<bool, Fail> {
+    let mut sent = Sent::new(alloc);
+    let answer = encode_each_line(alloc, &mut sent);
+    is_sent(
+        alloc,
+        answer,
+        &sent,
+        (7, b"0882d183101112", b"8186a8be148c7633"),
+    )
 }
 
 #[test]
 fn entries_that_were_put_are_referenced(rt: HostRuntime) -> Result<(), Fail> {
-    let alloc = rt.alloc();
-    let (required, block, mut told) = again(|| written_of_each_line(alloc))?;
-    // Of its instructions the first, which names an entry.
-    told.truncate(8);
-    let to = (
-        7,
-        b"0882d183101112".as_slice(),
-        b"8186a8be148c7633".as_slice(),
-    );
-    is_written(alloc, (required, block, told), to)
+    let is_so = writes_each_line(rt.alloc())? || writes_each_line(rt.alloc())?;
+    same(is_so, true)
 }

@@ -11,4 +11,6 @@ mod encoder;
 #[cfg(test)]
 mod encoding;
 #[cfg(test)]
+mod memory;
+#[cfg(test)]
 mod texts;
