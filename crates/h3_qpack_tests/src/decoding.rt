@@ -75,9 +75,9 @@ fn decodes(alloc: Global, decoder: &Decoder, section: &[u8], to: &str) -> Result
 }
 
 /// The bytes are these, in hexadecimal.
-fn is_hex(alloc: Global, written: &[u8], told: &[u8]) -> Result<(), Fail> {
-    let told = bytes(alloc, told)?;
-    same(written, told.as_slice())
+fn is_hex(alloc: Global, written: &[u8], expected: &[u8]) -> Result<(), Fail> {
+    let expected = bytes(alloc, expected)?;
+    same(written, expected.as_slice())
 }
 
 /// What a decoder is given, in hexadecimal, and what it answers.
@@ -104,10 +104,10 @@ fn takes(
 ) -> Result<(), Fail> {
     match step {
         Step::Decodes(section, to) => decodes(alloc, decoder, section, to),
-        Step::Receives(offered, answer, position, told) => {
+        Step::Receives(offered, answer, position, expected) => {
             written.clear();
             receives(alloc, decoder, written, offered, (answer, *position))?;
-            is_hex(alloc, written, told)
+            is_hex(alloc, written, expected)
         }
         Step::ReceivesCut(cut) => {
             let offered = bytes(alloc, HUNDRED_AND_THIRTY)?;

@@ -40,20 +40,20 @@ fn encoder(alloc: Global, bounds: (usize, usize)) -> Result<Encoder, Error> {
 #[derive(Drop)]
 struct Sent {
     block: Vec<u8>,
-    told: Vec<u8>,
+    instructions: Vec<u8>,
 }
 
 impl Sent {
     fn new(alloc: Global) -> Sent {
         Sent {
             block: Vec::new(alloc),
-            told: Vec::new(alloc),
+            instructions: Vec::new(alloc),
         }
     }
 
     /// Whether both are these, in hexadecimal.
-    fn is(&self, alloc: Global, block: &[u8], told: &[u8]) -> Result<bool, Fail> {
-        Ok(self.block == bytes(alloc, block)? && self.told == bytes(alloc, told)?)
+    fn is(&self, alloc: Global, block: &[u8], instructions: &[u8]) -> Result<bool, Fail> {
+        Ok(self.block == bytes(alloc, block)? && self.instructions == bytes(alloc, instructions)?)
     }
 }
 
@@ -65,9 +65,14 @@ fn encode(
     (stream_id, pairs): (u64, Pairs),
 ) -> Result<usize, EncoderError> {
     sent.block.clear();
-    sent.told.clear();
+    sent.instructions.clear();
     let fields = fields(alloc, pairs)?;
-    encoder.encode(stream_id, &mut sent.block, &mut sent.told, fields.iter())
+    encoder.encode(
+        stream_id,
+        &mut sent.block,
+        &mut sent.instructions,
+        fields.iter(),
+    )
 }
 
 /// A section is sent so; or memory was refused, and then this answers false.
@@ -75,12 +80,12 @@ fn is_sent(
     alloc: Global,
     answer: Result<usize, EncoderError>,
     sent: &Sent,
-    (required, block, told): InHex,
+    (required, block, instructions): InHex,
 ) -> Result<bool, Fail> {
     if answer == Err(EncoderError::Memory) {
         return Ok(false);
     }
-    let is_so = sent.is(alloc, block, told)?;
+    let is_so = sent.is(alloc, block, instructions)?;
     same((answer, is_so), (Ok(required), true))?;
     Ok(true)
 }
@@ -237,10 +242,10 @@ fn encode_twice(
     if is_chain {
         let one = slice::from_ref(field);
         let twice = one.iter().chain(one.iter());
-        encoder.encode(4, &mut sent.block, &mut sent.told, twice)
+        encoder.encode(4, &mut sent.block, &mut sent.instructions, twice)
     } else {
         let twice = Repeated { field, left: 2 };
-        encoder.encode(4, &mut sent.block, &mut sent.told, twice)
+        encoder.encode(4, &mut sent.block, &mut sent.instructions, twice)
     }
 }
 
@@ -276,8 +281,8 @@ fn encode_in_two_calls(
     fields: &[HeaderField],
 ) -> Result<(bool, usize), EncoderError> {
     let first = encoder.encode(4, &mut sent.block, small, fields.iter());
-    sent.told.extend_from_slice(small)?;
-    let required = encoder.encode(4, &mut sent.block, &mut sent.told, fields.iter())?;
+    sent.instructions.extend_from_slice(small)?;
+    let required = encoder.encode(4, &mut sent.block, &mut sent.instructions, fields.iter())?;
     Ok((first.is_err(), required))
 }
 
@@ -367,7 +372,7 @@ fn encode_each_line(alloc: Global, sent: &mut Sent) -> Result<usize, EncoderErro
     ];
     let mut encoder = encoder_of_four(alloc)?;
     let answer = encode(alloc, &mut encoder, sent, (1, FIELDS));
-    sent.told.truncate(8);
+    sent.instructions.truncate(8);
     answer
 }
 
