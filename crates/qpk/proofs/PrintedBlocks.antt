@@ -1,5 +1,5 @@
 -- A block that was decoded, and its printed lines.
-use Rattle.std.proofs.Common.{◌≡◌, ℕ, List, ◌++◌, length, Result, Ok, Err, sym, ap, ◌∙◌}
+use Rattle.std.proofs.Common.{◌≡◌, ℕ, List, ◌++◌, length, Result, Ok, Err, sym, ap, ◌∙◌, append_assoc}
 use Rattle.std.proofs.lemmas.List.{length-map}
 use Rattle.std.specs.Prelude.{codes}
 use Rattle.std.specs.List.{flat_map}
@@ -21,14 +21,18 @@ prefix_read (Ok y) required base e = let s = sym e in cc
 prefix_read (Err f) required base e = absurd cc
 
 pub printed : (prefix : ℕ × ℕ) (lines : List Line) (fs : List HeaderField) (count size : ℕ)
-    (first second last a b : List ℕ)
+    (before first second last : List ℕ)
     → count ≡ length fs → size ≡ saturated_size (total_size (fields_in fs))
-    → first ≡ prefix_text prefix → a ≡ flat_map line_text lines → b ≡ numbers_text (codes "fields") count size
-    → second ≡ first ++ a → last ≡ second ++ b
-    → last ≡ prefix_text prefix ++ flat_map line_text lines ++ fields_text (fields_in fs)
-printed prefix lines fs count size first second last a b n m p q r s t =
+    → first ≡ before ++ prefix_text prefix → second ≡ first ++ flat_map line_text lines
+    → last ≡ second ++ numbers_text (codes "fields") count size
+    → last ≡ before ++ (prefix_text prefix ++ flat_map line_text lines ++ fields_text (fields_in fs))
+printed prefix lines fs count size before first second last n m p q r =
     let k : count ≡ length (fields_in fs) = n ∙ sym (length-map fs field_of) in
-    t ∙ ap (λ (x : List ℕ). x ++ b) (s ∙ ap (λ (x : List ℕ). x ++ a) p ∙ ap (λ (x : List ℕ). prefix_text prefix ++ x) q)
-    ∙ ap (λ (x : List ℕ). prefix_text prefix ++ flat_map line_text lines ++ x)
-    (r ∙ ap (λ (x : ℕ). numbers_text (codes "fields") x size) k
-    ∙ ap (λ (x : ℕ). numbers_text (codes "fields") (length (fields_in fs)) x) m)
+    let s : last ≡ second ++ fields_text (fields_in fs) =
+    r ∙ ap (λ (x : ℕ). second ++ numbers_text (codes "fields") x size) k
+    ∙ ap (λ (x : ℕ). second ++ numbers_text (codes "fields") (length (fields_in fs)) x) m in
+    let t : second ≡ before ++ (prefix_text prefix ++ flat_map line_text lines) =
+    q ∙ ap (λ (x : List ℕ). x ++ flat_map line_text lines) p
+    ∙ append_assoc before (prefix_text prefix) (flat_map line_text lines) in
+    s ∙ ap (λ (x : List ℕ). x ++ fields_text (fields_in fs)) t
+    ∙ append_assoc before (prefix_text prefix ++ flat_map line_text lines) (fields_text (fields_in fs))

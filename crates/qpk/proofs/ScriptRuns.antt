@@ -5,7 +5,7 @@ use Rattle.std.proofs.Common.{Err, refl, sym, ap, subst, ◌∙◌, append_assoc
 use Rattle.std.proofs.Common.{drop_of_length-le}
 use Rattle.std.proofs.lemmas.List.{take_rest}
 use Rattle.std.specs.Borrow.{Bor}
-use Rattle.std.specs.Prelude.{unwrap_or}
+use Rattle.std.specs.Prelude.{unwrap_or, ⊤, Result}
 use Rattle.qpack_spec.specs.Session as spec
 use Rattle.qpack_spec.specs.Session.{Session, KeptBlock, stream_at, begin_session}
 use Rattle.qpack_spec.specs.Prefix.{OutOfRange, BelowZero}
@@ -22,7 +22,8 @@ use Rattle.h3_qpack.specs.declared.session.Outcome.TheVariants as outcome
 use Rattle.qpk.specs.Outcomes.{undecoded_text, printed_outcome, PrintsText, PrintsOutcome}
 use Rattle.qpk.specs.Runs.{printed_answer, written_stream, bytes_of_block, newest_bytes, made_block, PrintsEvent}
 use Rattle.qpk.specs.Runs.{PrintsEvents, PrintsOne, PrintsAll, stored_stream_bytes, bytes_of_stored, newest_stored}
-use Rattle.qpk.specs.Runs.{stored_block_bytes, PrintsRun}
+use Rattle.qpk.specs.Runs.{stored_block_bytes, PrintsRun, RunsEvents, RunsSession}
+use Rattle.qpk.specs.declared.text.Fault.{Fault as CodeFault}
 use Rattle.qpk.specs.Scripts.{events_in, script_events}
 
 -- ---- the bytes of a session that is shown
@@ -188,19 +189,26 @@ pub run_all : (old new : SessionView) (events : List ReadEvent) (i : ℕ) (out :
 run_all old new events i out le all =
     subst (λ (es : List ReadEvent). PrintsAll old new (events_in es) out) (take_all i events le) all
 
-pub script_runs : (capacity limit : ℕ) (text out : List ℕ) (read events : List ReadEvent) (first last : SessionView)
-    → script_events text ≡ Ok (events_in read)
-    → (v : Session) × (begin_session capacity limit ≡ Ok v) × Shows first v → events ≡ read
-    → PrintsAll first last (events_in events) out → PrintsRun capacity limit text out
-script_runs capacity limit text out read events first last are (v, begins, shows) same all =
-    let m = all v shows in
+-- all events, from where their session begins
+pub session_runs : (capacity limit : ℕ) (events : List spec.Event) (before after : List ℕ) (first last : SessionView)
+    (r : Result ⊤ CodeFault)
+    → (v : Session) × (begin_session capacity limit ≡ Ok v) × Shows first v
+    → RunsEvents first last events before after r → RunsSession capacity limit events before after r
+session_runs capacity limit events before after first last (Ok done) (v, begins, shows) (out, all, is) =
+    let m = all v shows in (v, begins, m.last, out, m.prints, is)
+session_runs capacity limit events before after first last (Err fault) begins refused = rw refused tt
+
+pub script_runs : (capacity limit : ℕ) (text out : List ℕ) (read events : List ReadEvent)
+    → script_events text ≡ Ok (events_in read) → events ≡ read
+    → RunsSession capacity limit (events_in events) [] out (Ok tt) → PrintsRun capacity limit text out
+script_runs capacity limit text out read events are same (first, begins, last, printed, prints, is) =
     record {
       events = events_in events;
       are_events = rw same are;
-      first = v;
+      first = first;
       begins = begins;
-      last = m.last;
-      prints = m.prints;
+      last = last;
+      prints = rw is prints;
     }
 
 -- ---- what was added to a stream

@@ -1,11 +1,11 @@
 -- What the calls of an inspection answer.
-use Rattle.std.specs.Prelude.{◌≡◌, ◌≢◌, ℕ, ◌^◌, ◌≤◌, ⊤, Bool, true, false, List, [], ◌++◌, length, drop, map, Option}
-use Rattle.std.specs.Prelude.{None, Some, Result, Ok, Err, string_bytes, String, IsOk}
-use Rattle.std.specs.Global.{Vec, Global}
+use Rattle.std.specs.Prelude.{◌≡◌, ◌≢◌, ℕ, ◌^◌, ◌<◌, ◌≤◌, ⊤, Bool, true, false, List, [], ◌++◌, length, drop, map}
+use Rattle.std.specs.Prelude.{Option, None, Some, Result, Ok, Err, string_bytes, IsOk}
+use Rattle.std.specs.Global.{Vec}
 use Rattle.qpack_spec.specs.Field.{Field}
 use Rattle.qpack_spec.specs.Form.{Truncates}
 use Rattle.qpack_spec.specs.Instruction.{EncoderInstruction, encoder_instruction_form, SpellsEncoderInstruction}
-use Rattle.qpack_spec.specs.Table.{Table, apply_encoder_instruction}
+use Rattle.qpack_spec.specs.Table.{Table, apply_encoder_instruction, empty_table}
 use Rattle.qpack_wire.specs.StreamLines.{encoder_instruction_of}
 use Rattle.qpack_wire.specs.declared.stream.encoder_stream.EncoderLine.{EncoderLine}
 use Rattle.h3_qpack.specs.Receiving.{Stops, TakesOne}
@@ -117,10 +117,11 @@ abbrev pub InspectsBlock : Table → List ℕ → List ℕ → List ℕ → Resu
 InspectsBlock t bytes before after (Ok done) = (out : List ℕ) × PrintsBlock t bytes out × (after ≡ before ++ out)
 InspectsBlock t bytes before after (Err fault) = fault ≡ Memory
 
--- the lines of a block that was decoded to these fields
-abbrev pub PrintsSection : Table → List ℕ → List Field → Result (String Global) Fault → Type 0
-PrintsSection t bytes fs (Ok text) = PrintsLines t bytes fs (string_bytes text)
-PrintsSection t bytes fs (Err fault) = fault ≡ Memory
+-- the lines of a block that was decoded to these fields are written behind what was, or memory was refused
+abbrev pub PrintsSection : Table → List ℕ → List Field → List ℕ → List ℕ → Result ⊤ Fault → Type 0
+PrintsSection t bytes fs before after (Ok done) =
+    (out : List ℕ) × PrintsLines t bytes fs out × (after ≡ before ++ out)
+PrintsSection t bytes fs before after (Err fault) = fault ≡ Memory
 
 -- ---- all events
 
@@ -134,6 +135,12 @@ abbrev pub InspectsEvents : Table → List Event → List ℕ → List ℕ → R
 InspectsEvents t events before after (Ok done) =
     (out : List ℕ) × Inspects t [] events out None × (after ≡ before ++ out)
 InspectsEvents t events before after (Err fault) = FailsInspecting t events before after fault
+
+-- the same by a decoder that begins empty, with this capacity, which is the agreed maximum too; or that is refused
+abbrev pub InspectsFromEmpty : ℕ → List Event → List ℕ → List ℕ → Result ⊤ Fault → Type 0
+InspectsFromEmpty capacity events before after (Err Capacity) = 2 ^ 30 ≤ capacity
+InspectsFromEmpty capacity events before after r =
+    (capacity < 2 ^ 30) × InspectsEvents (empty_table capacity (Some capacity) 0) events before after r
 
 -- why an input is not inspected: a line is no event, or none is but the capacity is refused; or memory is
 abbrev pub FailsInspection : ℕ → List ℕ → Fault → Type 0

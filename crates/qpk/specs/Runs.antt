@@ -1,5 +1,5 @@
 -- What a run of a script prints: a session of the definitions, event by event (RFC 9204, section 2).
-use Rattle.std.specs.Prelude.{◌≡◌, ℕ, ◌-◌, List, [], ◌∷◌, ◌++◌, length, drop, codes, Option, None, Some}
+use Rattle.std.specs.Prelude.{◌≡◌, ℕ, ◌-◌, ⊤, List, [], ◌∷◌, ◌++◌, length, drop, codes, Option, None, Some}
 use Rattle.std.specs.Prelude.{Result, Ok, Err, slice_get, String, string_bytes}
 use Rattle.qpack_spec.specs.Session as spec
 use Rattle.qpack_spec.specs.Session.{Session, KeptBlock, stream_at, Passes, begin_session, CapacityTooLarge}
@@ -110,6 +110,12 @@ pub record PrintsMore (new : SessionView) (v : Session) (events : List spec.Even
 abbrev pub PrintsAll : SessionView → SessionView → List spec.Event → List ℕ → Type 0
 PrintsAll old new events out = (v : Session) → Shows old v → PrintsMore new v events out
 
+-- what events print stands behind what was printed, or memory was refused
+abbrev pub RunsEvents : SessionView → SessionView → List spec.Event → List ℕ → List ℕ → Result ⊤ Fault → Type 0
+RunsEvents old new events before after (Ok done) =
+    (out : List ℕ) × PrintsAll old new events out × (after ≡ before ++ out)
+RunsEvents old new events before after (Err fault) = fault ≡ Memory
+
 -- a session begins as the definition says, or is refused as it says, or for memory
 abbrev pub FailsToBegin : Fault → ℕ → ℕ → Type 0
 FailsToBegin Capacity capacity limit = begin_session capacity limit ≡ Err CapacityTooLarge
@@ -120,6 +126,13 @@ FailsToBegin fault capacity limit = ⊥
 abbrev pub BeginsRun : Result SessionView Fault → ℕ → ℕ → Type 0
 BeginsRun (Ok s) capacity limit = (v : Session) × (begin_session capacity limit ≡ Ok v) × Shows s v
 BeginsRun (Err fault) capacity limit = FailsToBegin fault capacity limit
+
+-- a session begins, and what events print stands behind what was printed; or it does not begin, or memory was refused
+abbrev pub RunsSession : ℕ → ℕ → List spec.Event → List ℕ → List ℕ → Result ⊤ Fault → Type 0
+RunsSession capacity limit events before after (Ok done) =
+    (first : Session) × (begin_session capacity limit ≡ Ok first) × (last : Session) × (out : List ℕ)
+    × PrintsEvents first events last out × (after ≡ before ++ out)
+RunsSession capacity limit events before after (Err fault) = FailsToBegin fault capacity limit
 
 -- the stream that an event adds bytes to, and the bytes of the newest block of the stream that is encoded for, in the
 -- session of the code

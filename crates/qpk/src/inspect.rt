@@ -3,7 +3,7 @@
 
 ghost use Rattle.qpack_spec.specs.Table.{empty_table};
 ghost use Rattle.std.specs.Prelude.{◌≡◌, ◌^◌, ◌<◌, ◌≤◌, Some, MatchResult, string_bytes};
-ghost use Rattle.qpk.specs.Inspections.{InspectsEvents, InspectsInput, events_in};
+ghost use Rattle.qpk.specs.Inspections.{InspectsEvents, InspectsFromEmpty, InspectsInput, events_in};
 ghost use Rattle.qpk.specs.declared.text.Fault.TheVariants.{Capacity};
 
 use crate::text::Fault;
@@ -35,9 +35,8 @@ pub fn inspect(alloc: Global, capacity: usize, input: &[u8]) -> Result<Inspectio
     ensures { InspectsInput capacity input.now result }
 {
     let events = read_events(alloc, input)?;
-    let mut decoder = new_decoder(alloc, capacity)?;
     let mut text = String::new(alloc);
-    match inspect_events(alloc, &mut decoder, &events, &mut text) {
+    match inspect_from_empty(alloc, capacity, &events, &mut text) {
         Ok(()) => Ok(Inspection {
             text,
             refused: None,
@@ -48,6 +47,20 @@ pub fn inspect(alloc: Global, capacity: usize, input: &[u8]) -> Result<Inspectio
         }),
         Err(fault) => Err(fault),
     }
+}
+
+/// Inspects events in turn by a decoder that begins empty, with this capacity in bytes, which is its agreed maximum
+/// too; appends what is printed of them.
+fn inspect_from_empty(
+    alloc: Global,
+    capacity: usize,
+    events: &[Event],
+    text: &mut String,
+) -> Result<(), Fault>
+    ensures { InspectsFromEmpty capacity (events_in events.now) (string_bytes text.old) (string_bytes text.new) result }
+{
+    let mut decoder = new_decoder(alloc, capacity)?;
+    inspect_events(alloc, &mut decoder, events, text)
 }
 
 /// An empty decoder with this capacity in bytes, which is its agreed maximum too.
@@ -92,7 +105,7 @@ fn inspect_events(
                 stream.extend_from_slice(bytes)?;
                 taken += inspect_instructions(alloc, decoder, &stream[taken..], text)?;
             }
-            Event::Section(block) => inspect_block(alloc, decoder, block, text)?,
+            Event::Section(block) => inspect_block(decoder, block, text)?,
         }
     }
     Ok(())

@@ -1,88 +1,91 @@
 //! The lines that an event of a script prints.
 
-ghost use Rattle.std.specs.Prelude.{◌≡◌, IfOk, string_bytes};
+ghost use Rattle.std.specs.Prelude.{◌≡◌, ◌++◌, List, ℕ, OnOk, string_bytes};
 ghost use Rattle.h3_qpack.specs.Stateless.{fields_in};
 ghost use Rattle.qpk.specs.Outcomes.{added_text, encoded_text, decoded_text, received_text, PrintsOutcome};
 
-use crate::printing::{hexadecimal, index_line, refused_line, text_of_fields};
-use h3_qpack::coding::NoMemory;
+use crate::printing::{push_fields, push_hexadecimal, push_index_line, push_refused_line};
 use h3_qpack::session::Outcome;
 use h3_qpack::{Decoded, DecoderError};
-use std::alloc::Global;
+use std::alloc::AllocError;
 
-/// What an event prints: its outcome, with the bytes of the block that it made, if it made one, and those that it
-/// added to a stream, in lower-case hexadecimal, a minus for none. Where it is refused, this is told in the words of
+/// Appends what an event prints: its outcome, with the bytes of the block that it made, if it made one, and those that
+/// it added to a stream, in lower-case hexadecimal, a minus for none. Where it is refused, this is told in the words of
 /// the encoder or the decoder.
-pub fn outcome_lines(
-    alloc: Global,
+pub fn push_outcome_lines(
+    text: &mut String,
     outcome: &Outcome,
     block: &[u8],
     added: &[u8],
-) -> Result<String, NoMemory>
-    ensures { IfOk result (λ text. PrintsOutcome outcome.now block.now added.now (string_bytes text)) }
+) -> Result<(), AllocError>
+    ensures { OnOk result ((out : List ℕ) × PrintsOutcome outcome.now block.now added.now out
+        × (string_bytes text.new ≡ string_bytes text.old ++ out)) }
 {
     match outcome {
-        Outcome::Encoded(Ok(required)) => encoded_line(alloc, *required, block, added),
-        Outcome::Encoded(Err(e)) => refused_line(alloc, e),
-        Outcome::Decoded(Ok(decoded)) => decoded_lines(alloc, decoded),
+        Outcome::Encoded(Ok(required)) => push_encoded_line(text, *required, block, added),
+        Outcome::Encoded(Err(e)) => push_refused_line(text, e),
+        Outcome::Decoded(Ok(decoded)) => push_decoded_lines(text, decoded),
         Outcome::Decoded(Err(DecoderError::MissingRefs(required))) => {
-            Ok(index_line(alloc, "missing", *required)?)
+            push_index_line(text, "missing", *required)
         }
-        Outcome::Decoded(Err(e)) => refused_line(alloc, e),
-        Outcome::Delivered(Ok(total)) => received_line(alloc, *total, added),
-        Outcome::Delivered(Err(e)) => refused_line(alloc, e),
-        Outcome::Heard(Ok(())) => Ok(String::from_str(alloc, "heard\n")?),
-        Outcome::Heard(Err(e)) => refused_line(alloc, e),
-        Outcome::Acknowledged(Ok(())) => added_line(alloc, "acked", added),
-        Outcome::Acknowledged(Err(e)) => refused_line(alloc, e),
-        Outcome::Cancelled(Ok(())) => added_line(alloc, "cancelled", added),
-        Outcome::Cancelled(Err(e)) => refused_line(alloc, e),
-        Outcome::CapacitySet(Ok(())) => added_line(alloc, "capacity", added),
-        Outcome::CapacitySet(Err(e)) => refused_line(alloc, e),
-        Outcome::Skipped(reason) => Ok(index_line(alloc, "skipped", usize::from(*reason))?),
+        Outcome::Decoded(Err(e)) => push_refused_line(text, e),
+        Outcome::Delivered(Ok(total)) => push_received_line(text, *total, added),
+        Outcome::Delivered(Err(e)) => push_refused_line(text, e),
+        Outcome::Heard(Ok(())) => text.push_str("heard\n"),
+        Outcome::Heard(Err(e)) => push_refused_line(text, e),
+        Outcome::Acknowledged(Ok(())) => push_added_line(text, "acked", added),
+        Outcome::Acknowledged(Err(e)) => push_refused_line(text, e),
+        Outcome::Cancelled(Ok(())) => push_added_line(text, "cancelled", added),
+        Outcome::Cancelled(Err(e)) => push_refused_line(text, e),
+        Outcome::CapacitySet(Ok(())) => push_added_line(text, "capacity", added),
+        Outcome::CapacitySet(Err(e)) => push_refused_line(text, e),
+        Outcome::Skipped(reason) => push_index_line(text, "skipped", usize::from(*reason)),
     }
 }
 
-/// The line of a block that was made: its required insert count, its bytes, and those of its instructions.
-fn encoded_line(
-    alloc: Global,
+/// Appends the line of a block that was made: its required insert count, its bytes, and those of its instructions.
+fn push_encoded_line(
+    text: &mut String,
     required: usize,
     block: &[u8],
     added: &[u8],
-) -> Result<String, NoMemory>
-    ensures { IfOk result (λ text. string_bytes text ≡ encoded_text required block.now added.now) }
+) -> Result<(), AllocError>
+    ensures { OnOk result (string_bytes text.new ≡ string_bytes text.old ++ encoded_text required block.now added.now) }
 {
-    let block = hexadecimal(alloc, block)?;
-    let added = hexadecimal(alloc, added)?;
-    Ok(format!(in alloc; "encoded {required} {block} {added}\n")?)
+    write!(text, "encoded {required} ")?;
+    push_hexadecimal(text, block)?;
+    text.push(' ')?;
+    push_hexadecimal(text, added)?;
+    text.push('\n')
 }
 
-/// The line of a block that was decoded, with the sum of its fields' sizes and their number; and the fields, a line
-/// each.
-fn decoded_lines(alloc: Global, decoded: &Decoded) -> Result<String, NoMemory>
-    ensures { IfOk result (λ text. string_bytes text
-        ≡ decoded_text decoded.now.mem_size (fields_in decoded.now.fields.items)) }
+/// Appends the line of a block that was decoded, with the sum of its fields' sizes and their number; and the fields, a
+/// line each.
+fn push_decoded_lines(text: &mut String, decoded: &Decoded) -> Result<(), AllocError>
+    ensures { OnOk result (string_bytes text.new
+        ≡ string_bytes text.old ++ decoded_text decoded.now.mem_size (fields_in decoded.now.fields.items)) }
 {
     let size = decoded.mem_size;
     let count = decoded.fields.len();
-    let mut text = format!(in alloc; "decoded {size} {count}\n")?;
-    text.push_str(text_of_fields(alloc, &decoded.fields)?.as_str())?;
-    Ok(text)
+    write!(text, "decoded {size} {count}\n")?;
+    push_fields(text, &decoded.fields)
 }
 
-/// The line of instructions that came to the decoder: how many insertions it ever received, and the bytes of the
-/// increments that report them.
-fn received_line(alloc: Global, total: usize, added: &[u8]) -> Result<String, NoMemory>
-    ensures { IfOk result (λ text. string_bytes text ≡ received_text total added.now) }
+/// Appends the line of instructions that came to the decoder: how many insertions it ever received, and the bytes of
+/// the increments that report them.
+fn push_received_line(text: &mut String, total: usize, added: &[u8]) -> Result<(), AllocError>
+    ensures { OnOk result (string_bytes text.new ≡ string_bytes text.old ++ received_text total added.now) }
 {
-    let added = hexadecimal(alloc, added)?;
-    Ok(format!(in alloc; "received {total} {added}\n")?)
+    write!(text, "received {total} ")?;
+    push_hexadecimal(text, added)?;
+    text.push('\n')
 }
 
-/// A word and the bytes that were added to a stream.
-fn added_line(alloc: Global, word: &str, added: &[u8]) -> Result<String, NoMemory>
-    ensures { IfOk result (λ text. string_bytes text ≡ added_text word.now added.now) }
+/// Appends a word and the bytes that were added to a stream.
+fn push_added_line(text: &mut String, word: &str, added: &[u8]) -> Result<(), AllocError>
+    ensures { OnOk result (string_bytes text.new ≡ string_bytes text.old ++ added_text word.now added.now) }
 {
-    let added = hexadecimal(alloc, added)?;
-    Ok(format!(in alloc; "{word} {added}\n")?)
+    write!(text, "{word} ")?;
+    push_hexadecimal(text, added)?;
+    text.push('\n')
 }

@@ -1,7 +1,8 @@
-//! The lines that are printed, by whichever command.
+//! The lines that are printed, by whichever command: each is appended to a text that is lent.
 
-ghost use Rattle.std.specs.Prelude.{◌≡◌, ◌++◌, List, ℕ, IfOk, codes, string_bytes};
+ghost use Rattle.std.specs.Prelude.{◌≡◌, ◌++◌, List, ℕ, OnOk, codes, string_bytes};
 ghost use Rattle.qpack_wire.specs.BlockLines.{line_of};
+ghost use Rattle.qpack_wire.specs.Instructions.{encoder_instruction_of_insert_with_name_ref};
 ghost use Rattle.qpack_wire.specs.StreamLines.{encoder_instruction_of};
 ghost use Rattle.h3_qpack.specs.Stateless.{fields_in};
 ghost use Rattle.qpk.specs.FieldText.{text_of_fields};
@@ -13,143 +14,160 @@ use h3_qpack::block::{
     BlockLine, Indexed, IndexedWithPostBase, Literal, LiteralWithNameRef,
     LiteralWithPostBaseNameRef,
 };
-use h3_qpack::coding::NoMemory;
 use h3_qpack::stream::{
     Duplicate, DynamicTableSizeUpdate, EncoderLine, InsertWithNameRef, InsertWithoutNameRef,
 };
-use std::alloc::{AllocError, Global};
+use std::alloc::AllocError;
 use std::fmt::Display;
 
-/// Bytes in lower-case hexadecimal, a minus for none.
-pub fn hexadecimal(alloc: Global, bytes: &[u8]) -> Result<String, AllocError>
-    ensures { IfOk result (λ text. string_bytes text ≡ hexadecimal bytes.now) }
+/// Appends bytes in lower-case hexadecimal, a minus for none.
+pub fn push_hexadecimal(text: &mut String, bytes: &[u8]) -> Result<(), AllocError>
+    ensures { OnOk result (string_bytes text.new ≡ string_bytes text.old ++ hexadecimal bytes.now) }
 {
     if bytes.is_empty() {
-        return String::from_str(alloc, "-");
+        return text.push('-');
     }
-    hex::encode(alloc, bytes)
+    let digits = hex::encode(*text.allocator(), bytes)?;
+    text.push_str(digits.as_str())
 }
 
-/// Fields, a line each.
-pub fn text_of_fields(alloc: Global, fields: &[HeaderField]) -> Result<String, NoMemory>
-    ensures { IfOk result (λ text. string_bytes text ≡ text_of_fields (fields_in fields.now)) }
+/// Appends fields, a line each.
+pub fn push_fields(text: &mut String, fields: &[HeaderField]) -> Result<(), AllocError>
+    ensures { OnOk result (string_bytes text.new ≡ string_bytes text.old ++ text_of_fields (fields_in fields.now)) }
 {
-    let mut text = String::new(alloc);
     for field in fields {
-        text.push_str(field.to_text(alloc)?.as_str())?;
-        text.push('\n')?;
+        let Ok(line) = field.to_text(*text.allocator()) else {
+            return Err(AllocError);
+        };
+        writeln!(text, "{line}")?;
     }
-    Ok(text)
+    Ok(())
 }
 
-/// The line of what was refused, in the words of its error.
-pub fn refused_line<E: Display>(alloc: Global, e: &E) -> Result<String, NoMemory>
-    ensures { IfOk result (λ text. (words : List ℕ) × (string_bytes text ≡ codes "refused " ++ words ++ codes "\n")) }
+/// Appends the line of what was refused, in the words of its error.
+pub fn push_refused_line<E: Display>(text: &mut String, e: &E) -> Result<(), AllocError>
+    ensures { OnOk result ((words : List ℕ)
+        × (string_bytes text.new ≡ string_bytes text.old ++ (codes "refused " ++ words ++ codes "\n"))) }
 {
-    let words = e.to_string(alloc)?;
-    Ok(format!(in alloc; "refused {words}\n")?)
+    let words = e.to_string(*text.allocator())?;
+    write!(text, "refused {words}\n")
 }
 
-/// Words and an index.
-pub fn index_line(alloc: Global, words: &str, index: usize) -> Result<String, AllocError>
-    ensures { IfOk result (λ text. string_bytes text ≡ index_text words.now index) }
+/// Appends words and an index.
+pub fn push_index_line(text: &mut String, words: &str, index: usize) -> Result<(), AllocError>
+    ensures { OnOk result (string_bytes text.new ≡ string_bytes text.old ++ index_text words.now index) }
 {
-    let mut text = String::from_str(alloc, words)?;
-    text.push_str(format!(in alloc; " {index}\n")?.as_str())?;
-    Ok(text)
+    write!(text, "{words} {index}\n")
 }
 
-/// Words and two numbers.
-pub fn numbers_line(
-    alloc: Global,
+/// Appends words and two numbers.
+pub fn push_numbers_line(
+    text: &mut String,
     words: &str,
     first: usize,
     second: u64,
-) -> Result<String, AllocError>
-    ensures { IfOk result (λ text. string_bytes text ≡ numbers_text words.now first second) }
+) -> Result<(), AllocError>
+    ensures { OnOk result (string_bytes text.new ≡ string_bytes text.old ++ numbers_text words.now first second) }
 {
-    let mut text = String::from_str(alloc, words)?;
-    text.push_str(format!(in alloc; " {first}")?.as_str())?;
-    text.push_str(format!(in alloc; " {second}\n")?.as_str())?;
-    Ok(text)
+    write!(text, "{words} {first} {second}\n")
 }
 
-/// Words, an index and a value.
-fn index_value_line(
-    alloc: Global,
+/// Appends words, an index and a value.
+fn push_index_value_line(
+    text: &mut String,
     words: &str,
     index: usize,
     value: &[u8],
-) -> Result<String, AllocError>
-    ensures { IfOk result (λ text. string_bytes text ≡ index_value_text words.now index value.now) }
+) -> Result<(), AllocError>
+    ensures { OnOk result (string_bytes text.new
+        ≡ string_bytes text.old ++ index_value_text words.now index value.now) }
 {
-    let mut text = String::from_str(alloc, words)?;
-    text.push_str(format!(in alloc; " {index} ")?.as_str())?;
-    text.push_str(hexadecimal(alloc, value)?.as_str())?;
-    text.push('\n')?;
-    Ok(text)
+    write!(text, "{words} {index} ")?;
+    push_hexadecimal(text, value)?;
+    text.push('\n')
 }
 
-/// Words, a name and a value.
-fn name_value_line(
-    alloc: Global,
+/// Appends words, a name and a value.
+fn push_name_value_line(
+    text: &mut String,
     words: &str,
     name: &[u8],
     value: &[u8],
-) -> Result<String, AllocError>
-    ensures { IfOk result (λ text. string_bytes text ≡ name_value_text words.now name.now value.now) }
+) -> Result<(), AllocError>
+    ensures { OnOk result (string_bytes text.new
+        ≡ string_bytes text.old ++ name_value_text words.now name.now value.now) }
 {
-    let mut text = String::from_str(alloc, words)?;
+    write!(text, "{words} ")?;
+    push_hexadecimal(text, name)?;
     text.push(' ')?;
-    text.push_str(hexadecimal(alloc, name)?.as_str())?;
-    text.push(' ')?;
-    text.push_str(hexadecimal(alloc, value)?.as_str())?;
-    text.push('\n')?;
-    Ok(text)
+    push_hexadecimal(text, value)?;
+    text.push('\n')
 }
 
-/// The line of an encoder instruction (RFC 9204, section 4.3).
-pub fn instruction_line(alloc: Global, line: &EncoderLine) -> Result<String, AllocError>
-    ensures { IfOk result (λ text. string_bytes text ≡ instruction_text (encoder_instruction_of line.now)) }
+/// Appends the line of an encoder instruction (RFC 9204, section 4.3).
+pub fn push_instruction_line(text: &mut String, line: &EncoderLine) -> Result<(), AllocError>
+    ensures { OnOk result (string_bytes text.new
+        ≡ string_bytes text.old ++ instruction_text (encoder_instruction_of line.now)) }
 {
     match line {
-        EncoderLine::InsertWithNameRef(InsertWithNameRef::Static { index, value }) => {
-            index_value_line(alloc, "insert static", *index, value)
-        }
-        EncoderLine::InsertWithNameRef(InsertWithNameRef::Dynamic { index, value }) => {
-            index_value_line(alloc, "insert dynamic", *index, value)
-        }
+        EncoderLine::InsertWithNameRef(insert) => push_insert_with_name_ref_line(text, insert),
         EncoderLine::InsertWithoutNameRef(InsertWithoutNameRef { name, value }) => {
-            name_value_line(alloc, "insert literal", name, value)
+            push_name_value_line(text, "insert literal", name, value)
         }
-        EncoderLine::Duplicate(Duplicate(index)) => index_line(alloc, "duplicate", *index),
+        EncoderLine::Duplicate(Duplicate(index)) => push_index_line(text, "duplicate", *index),
         EncoderLine::DynamicTableSizeUpdate(DynamicTableSizeUpdate(size)) => {
-            index_line(alloc, "capacity", *size)
+            push_index_line(text, "capacity", *size)
         }
     }
 }
 
-/// The line of a field line (RFC 9204, sections 4.5.2 to 4.5.6).
-pub fn block_line(alloc: Global, line: &BlockLine) -> Result<String, AllocError>
-    ensures { IfOk result (λ text. string_bytes text ≡ line_text (line_of line.now)) }
+/// Appends the line of an insertion with the name of an entry (RFC 9204, section 4.3.2).
+fn push_insert_with_name_ref_line(
+    text: &mut String,
+    insert: &InsertWithNameRef,
+) -> Result<(), AllocError>
+    ensures { OnOk result (string_bytes text.new
+        ≡ string_bytes text.old ++ instruction_text (encoder_instruction_of_insert_with_name_ref insert.now)) }
+{
+    match insert {
+        InsertWithNameRef::Static { index, value } => {
+            push_index_value_line(text, "insert static", *index, value)
+        }
+        InsertWithNameRef::Dynamic { index, value } => {
+            push_index_value_line(text, "insert dynamic", *index, value)
+        }
+    }
+}
+
+/// Appends the line of a field line (RFC 9204, sections 4.5.2 to 4.5.6).
+pub fn push_block_line(text: &mut String, line: &BlockLine) -> Result<(), AllocError>
+    ensures { OnOk result (string_bytes text.new ≡ string_bytes text.old ++ line_text (line_of line.now)) }
 {
     match line {
-        BlockLine::Indexed(Indexed::Static(index)) => index_line(alloc, "indexed static", *index),
-        BlockLine::Indexed(Indexed::Dynamic(index)) => index_line(alloc, "indexed dynamic", *index),
+        BlockLine::Indexed(Indexed::Static(index)) => push_index_line(
+            text,
+            "indexed static",
+            *index,
+        ),
+        BlockLine::Indexed(Indexed::Dynamic(index)) => push_index_line(
+            text,
+            "indexed dynamic",
+            *index,
+        ),
         BlockLine::IndexedWithPostBase(IndexedWithPostBase(index)) => {
-            index_line(alloc, "postbase", *index)
+            push_index_line(text, "postbase", *index)
         }
         BlockLine::LiteralWithNameRef(LiteralWithNameRef::Static { index, value }) => {
-            index_value_line(alloc, "nameref static", *index, value)
+            push_index_value_line(text, "nameref static", *index, value)
         }
         BlockLine::LiteralWithNameRef(LiteralWithNameRef::Dynamic { index, value }) => {
-            index_value_line(alloc, "nameref dynamic", *index, value)
+            push_index_value_line(text, "nameref dynamic", *index, value)
         }
         BlockLine::LiteralWithPostBaseNameRef(LiteralWithPostBaseNameRef { index, value }) => {
-            index_value_line(alloc, "postbase nameref", *index, value)
+            push_index_value_line(text, "postbase nameref", *index, value)
         }
         BlockLine::Literal(Literal { name, value }) => {
-            name_value_line(alloc, "literal", name, value)
+            push_name_value_line(text, "literal", name, value)
         }
     }
 }

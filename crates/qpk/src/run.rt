@@ -1,18 +1,18 @@
 //! A script run on a session, and what is printed of it.
 
-ghost use Rattle.std.specs.Prelude.{◌≡◌, ◌-◌, List, ℕ, IfOk, length, drop, slice_get, string_bytes};
+ghost use Rattle.std.specs.Prelude.{◌≡◌, ◌-◌, ◌++◌, List, ℕ, OnOk, length, drop, slice_get, string_bytes};
 ghost use Rattle.qpack_spec.specs.Session.{stream_at};
 ghost use Rattle.h3_qpack.specs.Sessions.{event_of};
 ghost use Rattle.qpk.specs.Scripts.{events_in};
-ghost use Rattle.qpk.specs.Runs.{RunsScript, BeginsRun, PrintsAll, PrintsOne, stored_stream_bytes, stored_block_bytes};
+ghost use Rattle.qpk.specs.Runs.{RunsScript, RunsSession, BeginsRun, RunsEvents, PrintsOne};
+ghost use Rattle.qpk.specs.Runs.{stored_stream_bytes, stored_block_bytes};
 
-use crate::outcomes::outcome_lines;
+use crate::outcomes::push_outcome_lines;
 use crate::script::read_script;
 use crate::text::Fault;
-use h3_qpack::coding::NoMemory;
 use h3_qpack::dynamic;
 use h3_qpack::session::{Event, Session};
-use std::alloc::Global;
+use std::alloc::{AllocError, Global};
 
 /// Runs the events of a script, a line each, on a session with this capacity in bytes and this limit of blocked blocks;
 /// answers what they print. The script is read whole before the session begins.
@@ -25,8 +25,23 @@ pub fn run_script(
     ensures { RunsScript capacity limit text.now result }
 {
     let events = read_script(alloc, text)?;
+    let mut out = String::new(alloc);
+    run_session(alloc, capacity, limit, &events, &mut out)?;
+    Ok(out)
+}
+
+/// Runs events on a session with this capacity in bytes and this limit of blocked blocks, and appends what they print.
+fn run_session(
+    alloc: Global,
+    capacity: usize,
+    limit: usize,
+    events: &[Event],
+    text: &mut String,
+) -> Result<(), Fault>
+    ensures { RunsSession capacity limit (events_in events.now) (string_bytes text.old) (string_bytes text.new) result }
+{
     let mut session = begin(alloc, capacity, limit)?;
-    Ok(run_events(alloc, &mut session, &events)?)
+    run_events(&mut session, events, text)
 }
 
 /// A session with this capacity in bytes and this limit of blocked blocks.
@@ -41,26 +56,26 @@ fn begin(alloc: Global, capacity: usize, limit: usize) -> Result<Session, Fault>
     }
 }
 
-/// Gives a session the events in turn; answers what they print.
-fn run_events(alloc: Global, session: &mut Session, events: &[Event]) -> Result<String, NoMemory>
-    ensures { IfOk result (λ text.
-        PrintsAll session.old session.new (events_in events.now) (string_bytes text)) }
+/// Gives a session the events in turn, and appends what they print.
+fn run_events(session: &mut Session, events: &[Event], text: &mut String) -> Result<(), Fault>
+    ensures { RunsEvents session.old session.new (events_in events.now) (string_bytes text.old) (string_bytes text.new)
+        result }
 {
-    let mut text = String::new(alloc);
     for event in events {
-        text.push_str(run_event(alloc, session, event)?.as_str())?;
+        run_event(session, event, text)?;
     }
-    Ok(text)
+    Ok(())
 }
 
-/// Gives a session an event; answers what it prints.
-fn run_event(alloc: Global, session: &mut Session, event: &Event) -> Result<String, NoMemory>
-    ensures { IfOk result (λ text. PrintsOne session.old session.new (event_of event.now) (string_bytes text)) }
+/// Gives a session an event, and appends what it prints.
+fn run_event(session: &mut Session, event: &Event, text: &mut String) -> Result<(), AllocError>
+    ensures { OnOk result ((out : List ℕ) × PrintsOne session.old session.new (event_of event.now) out
+        × (string_bytes text.new ≡ string_bytes text.old ++ out)) }
 {
     let before = written_stream(session, event).len();
     let outcome = session.step(event);
     let added = written_stream(session, event).get(before..).unwrap_or(&[]);
-    outcome_lines(alloc, &outcome, made_block(session, event), added)
+    push_outcome_lines(text, &outcome, made_block(session, event), added)
 }
 
 /// The stream that an event adds bytes to, if it adds any.

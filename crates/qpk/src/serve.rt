@@ -11,7 +11,7 @@ ghost use Rattle.qpk.specs.Serving.{AsksFor, AsksForNothing, Answers, AnswersInp
 ghost use Rattle.qpk.specs.Serving.{printed_fields};
 
 use crate::inspect::{Inspection, inspect};
-use crate::printing::text_of_fields;
+use crate::printing::push_fields;
 use crate::refusal::Refusal;
 use crate::run::run_script;
 use crate::text::{Fault, decode_text, encode_text};
@@ -180,7 +180,8 @@ fn show(alloc: Global, decoded: &Decoded) -> Result<String, NoMemory>
     requires { decoded.now.mem_size ≡ saturated_size (total_size (fields_in decoded.now.fields.items)) }
     ensures { IfOk result (λ text. string_bytes text ≡ printed_fields (fields_in decoded.now.fields.items)) }
 {
-    let mut text = text_of_fields(alloc, &decoded.fields)?;
-    text.push_str(format!(in alloc; "size {}\n", decoded.mem_size)?.as_str())?;
+    let mut text = String::new(alloc);
+    push_fields(&mut text, &decoded.fields)?;
+    write!(text, "size {}\n", decoded.mem_size)?;
     Ok(text)
 }

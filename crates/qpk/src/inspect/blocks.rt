@@ -1,6 +1,6 @@
 //! A block of a recorded connection (RFC 9204, section 4.5).
 
-ghost use Rattle.std.specs.Prelude.{◌≡◌, IfOk, map, string_bytes};
+ghost use Rattle.std.specs.Prelude.{◌≡◌, ◌++◌, OnOk, map, string_bytes};
 ghost use Rattle.std.specs.List.{flat_map};
 ghost use Rattle.qpack_wire.specs.BlockLines.{line_of};
 ghost use Rattle.qpk.specs.Inspecting.{line_text};
@@ -9,65 +9,59 @@ ghost use Rattle.qpack_spec.specs.Stateless.{saturated_size};
 ghost use Rattle.h3_qpack.specs.Stateless.{fields_in};
 ghost use Rattle.qpk.specs.Inspections.{InspectsBlock, PrintsSection};
 
-use crate::printing::{block_line, index_line, numbers_line, refused_line};
+use crate::printing::{push_block_line, push_index_line, push_numbers_line, push_refused_line};
 use crate::text::Fault;
 use h3_qpack::block::{BlockLine, read_block};
 use h3_qpack::coding::Cursor;
 use h3_qpack::decoder::Decoder;
 use h3_qpack::{Decoded, DecoderError};
-use std::alloc::{AllocError, Global};
+use std::alloc::AllocError;
 
 /// Appends what is printed of a block: which insert count it waits for, or why it is refused; or its prefix, its lines,
 /// and how many fields it has of which size.
-pub fn inspect_block(
-    alloc: Global,
-    decoder: &Decoder,
-    block: &[u8],
-    text: &mut String,
-) -> Result<(), Fault>
+pub fn inspect_block(decoder: &Decoder, block: &[u8], text: &mut String) -> Result<(), Fault>
     ensures { InspectsBlock decoder.now.table block.now (string_bytes text.old) (string_bytes text.new) result }
 {
-    let line = match decoder.decode_header(&mut Cursor::new(block)) {
-        Ok(decoded) => section_lines(alloc, decoder, block, &decoded)?,
-        Err(DecoderError::MissingRefs(required)) => index_line(alloc, "missing", required)?,
-        Err(DecoderError::Memory) => return Err(Fault::Memory),
-        Err(e) => refused_line(alloc, &e)?,
-    };
-    Ok(text.push_str(line.as_str())?)
+    match decoder.decode_header(&mut Cursor::new(block)) {
+        Ok(decoded) => push_section_lines(text, decoder, block, &decoded),
+        Err(DecoderError::MissingRefs(required)) => Ok(push_index_line(text, "missing", required)?),
+        Err(DecoderError::Memory) => Err(Fault::Memory),
+        Err(e) => Ok(push_refused_line(text, &e)?),
+    }
 }
 
-/// The lines of a block that was decoded.
-fn section_lines(
-    alloc: Global,
+/// Appends the lines of a block that was decoded.
+fn push_section_lines(
+    text: &mut String,
     decoder: &Decoder,
     block: &[u8],
     decoded: &Decoded,
-) -> Result<String, Fault>
+) -> Result<(), Fault>
     requires { decoded.now.mem_size ≡ saturated_size (total_size (fields_in decoded.now.fields.items)) }
-    ensures { PrintsSection decoder.now.table block.now (fields_in decoded.now.fields.items) result }
+    ensures { PrintsSection decoder.now.table block.now (fields_in decoded.now.fields.items) (string_bytes text.old)
+        (string_bytes text.new) result }
 {
     // Both are refused for memory alone: the decoder read these bytes.
-    let Ok((prefix, lines)) = read_block(alloc, block) else {
+    let Ok((prefix, lines)) = read_block(*text.allocator(), block) else {
         return Err(Fault::Memory);
     };
     let table = decoder.table();
     let Ok((required, base)) = prefix.get(table.total_inserted(), table.agreed_max()) else {
         return Err(Fault::Memory);
     };
-    let mut text = numbers_line(alloc, "prefix", required, base as u64)?;
-    text.push_str(field_lines(alloc, &lines)?.as_str())?;
+    push_numbers_line(text, "prefix", required, base as u64)?;
+    push_field_lines(text, &lines)?;
     let count = decoded.fields.as_slice().len();
-    text.push_str(numbers_line(alloc, "fields", count, decoded.mem_size)?.as_str())?;
-    Ok(text)
+    Ok(push_numbers_line(text, "fields", count, decoded.mem_size)?)
 }
 
-/// The lines of field lines.
-fn field_lines(alloc: Global, lines: &[BlockLine]) -> Result<String, AllocError>
-    ensures { IfOk result (λ text. string_bytes text ≡ flat_map line_text (map line_of lines.now)) }
+/// Appends the lines of field lines.
+fn push_field_lines(text: &mut String, lines: &[BlockLine]) -> Result<(), AllocError>
+    ensures { OnOk result (string_bytes text.new
+        ≡ string_bytes text.old ++ flat_map line_text (map line_of lines.now)) }
 {
-    let mut text = String::new(alloc);
     for line in lines {
-        text.push_str(block_line(alloc, line)?.as_str())?;
+        push_block_line(text, line)?;
     }
-    Ok(text)
+    Ok(())
 }

@@ -4,7 +4,7 @@ ghost use Rattle.std.specs.Prelude.{◌≡◌, string_bytes};
 ghost use Rattle.qpack_spec.specs.Instruction.{EncoderInstruction, SpellsEncoderInstruction};
 ghost use Rattle.qpk.specs.Inspections.{InspectsInstructions, InspectsNext, ReadsNext, AppliesWhole};
 
-use crate::printing::{index_line, instruction_line};
+use crate::printing::{push_index_line, push_instruction_line};
 use crate::text::Fault;
 use h3_qpack::DecoderError;
 use h3_qpack::coding::Cursor;
@@ -27,7 +27,7 @@ pub fn inspect_instructions(
     let mut buf = Cursor::new(bytes);
     while inspect_next(alloc, decoder, &mut buf, text)? {}
     let total = decoder.table().total_inserted();
-    text.push_str(index_line(alloc, "received", total)?.as_str())?;
+    push_index_line(text, "received", total)?;
     Ok(buf.position())
 }
 
@@ -49,7 +49,7 @@ fn inspect_next(
     };
     let instruction = &bytes[..bytes.len() - buf.remaining()];
     apply(alloc, decoder, instruction)?;
-    text.push_str(instruction_line(alloc, &line)?.as_str())?;
+    push_instruction_line(text, &line)?;
     Ok(true)
 }
 

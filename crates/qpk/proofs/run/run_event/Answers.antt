@@ -1,5 +1,5 @@
 use Rattle.std.proofs.Common.{ℕ, List, length, drop, refl, ap, ◌∙◌}
-use Rattle.std.proofs.lemmas.Result.{IfOk-weaker}
+use Rattle.std.proofs.lemmas.Result.{on_ok_weaker}
 use Rattle.h3_qpack.specs.Sessions.{event_of}
 use Rattle.qpk.specs.Runs.{stored_stream_bytes}
 use Rattle.qpk.proofs.ScriptRuns.{added_is, event_prints}
@@ -13,8 +13,11 @@ returns c =
     c.unwrap_or-added.result c.get.ensures.lookup.0 refl c.unwrap_or-added.ensures
     ∙ ap (λ (xs : List ℕ). drop (length xs) c.written_stream.result.now) c.written_stream-before.ensures
     ∙ ap (λ (xs : List ℕ). drop (length (stored_stream_bytes e c.args.session.now)) xs) c.written_stream.ensures in
-    IfOk-weaker c.outcome_lines.result _ _
-    (λ text prints. event_prints c.args.session.now c.step-outcome.new.self e c.step-outcome.result
-    c.made_block.result.now c.unwrap_or-added.result.now _ c.step-outcome.ensures.goes c.made_block.ensures added
-    prints)
-    c.outcome_lines.ensures
+    on_ok_weaker c.push_outcome_lines.result
+    (λ lines. (
+      lines.0,
+      event_prints c.args.session.now c.step-outcome.new.self e c.step-outcome.result c.made_block.result.now
+          c.unwrap_or-added.result.now _ c.step-outcome.ensures.goes c.made_block.ensures added lines.1,
+      lines.2,
+    ))
+    c.push_outcome_lines.ensures

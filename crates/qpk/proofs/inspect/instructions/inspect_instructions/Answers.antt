@@ -1,4 +1,4 @@
-use Rattle.std.proofs.Common.{◌++◌, ℕ, List, ap, ◌∙◌}
+use Rattle.std.proofs.Common.{◌++◌, ℕ, ap, ◌∙◌}
 use Rattle.std.specs.Prelude.{string_bytes, codes}
 use Rattle.std.proofs.lemmas.Result.{err_from_is_err_and}
 use Rattle.qpack_spec.specs.Table.{Table, insert_count}
@@ -32,10 +32,8 @@ returns c =
     let total = c.total_inserted-total.ensures ∙ ap (λ (t : Table). insert_count t) c.table.ensures in
     inspected_all c.args.decoder.now.table c.loop.decoder.table c.inspect_next.new.decoder.table c.args.bytes.now
     c.loop.buf.rest c.inspect_next.new.buf.rest (string_bytes c.args.text.now) (string_bytes c.loop.text)
-    (string_bytes c.inspect_next.new.text) (string_bytes c.push_str.new.self) c.in_ok-inspect_next.field-0
+    (string_bytes c.inspect_next.new.text) (string_bytes c.push_index_line.new.text) c.in_ok-inspect_next.field-0
     c.position.result c.loop.invariant.inspected c.in_ok-inspect_next.ensures.inspects c.if-branch.false
-    (c.in_ok-push_str.ensures.bytes
-    ∙ ap (λ (x : List ℕ). string_bytes c.inspect_next.new.text ++ x)
-    (c.as_str.ensures.value ∙ c.in_ok-index_line.ensures
-    ∙ ap (λ (n : ℕ). index_text (codes "received") n) total))
+    (c.in_ok-push_index_line.ensures
+    ∙ ap (λ (n : ℕ). string_bytes c.inspect_next.new.text ++ index_text (codes "received") n) total)
     (c.position.ensures ∙ c.in_ok-inspect_next.ensures.total ∙ c.loop.invariant.total)

@@ -1,4 +1,4 @@
-use Rattle.std.proofs.Common.{◌++◌, ℕ, List, ap, subst, sym, ◌∙◌}
+use Rattle.std.proofs.Common.{ℕ, List, subst, sym}
 use Rattle.std.specs.Prelude.{string_bytes}
 use Rattle.std.proofs.lemmas.Result.{err_from_is_err_and}
 use Rattle.qpack_spec.specs.Instruction.{SpellsEncoderInstruction}
@@ -44,7 +44,5 @@ returns-clause-inspects c =
         applies = c.in_ok-apply.ensures i
             (subst (λ (b : List ℕ). SpellsEncoderInstruction b i) (sym slice) at.2);
       };
-      text = c.in_ok-push_str.ensures.bytes
-          ∙ ap (λ (x : List ℕ). string_bytes c.args.text.now ++ x)
-          (c.as_str.ensures.value ∙ c.in_ok-instruction_line.ensures);
+      text = c.in_ok-push_instruction_line.ensures;
     }
