@@ -67,7 +67,7 @@ fn push_decoded_lines(text: &mut String, decoded: &Decoded) -> Result<(), AllocE
 {
     let size = decoded.mem_size;
     let count = decoded.fields.len();
-    write!(text, "decoded {size} {count}\n")?;
+    writeln!(text, "decoded {size} {count}")?;
     push_fields(text, &decoded.fields)
 }
 

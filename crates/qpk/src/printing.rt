@@ -50,14 +50,14 @@ pub fn push_refused_line<E: Display>(text: &mut String, e: &E) -> Result<(), All
         × (string_bytes text.new ≡ string_bytes text.old ++ (codes "refused " ++ words ++ codes "\n"))) }
 {
     let words = e.to_string(*text.allocator())?;
-    write!(text, "refused {words}\n")
+    writeln!(text, "refused {words}")
 }
 
 /// Appends words and an index.
 pub fn push_index_line(text: &mut String, words: &str, index: usize) -> Result<(), AllocError>
     ensures { OnOk result (string_bytes text.new ≡ string_bytes text.old ++ index_text words.now index) }
 {
-    write!(text, "{words} {index}\n")
+    writeln!(text, "{words} {index}")
 }
 
 /// Appends words and two numbers.
@@ -69,7 +69,7 @@ pub fn push_numbers_line(
 ) -> Result<(), AllocError>
     ensures { OnOk result (string_bytes text.new ≡ string_bytes text.old ++ numbers_text words.now first second) }
 {
-    write!(text, "{words} {first} {second}\n")
+    writeln!(text, "{words} {first} {second}")
 }
 
 /// Appends words, an index and a value.

@@ -182,6 +182,6 @@ fn show(alloc: Global, decoded: &Decoded) -> Result<String, NoMemory>
 {
     let mut text = String::new(alloc);
     push_fields(&mut text, &decoded.fields)?;
-    write!(text, "size {}\n", decoded.mem_size)?;
+    writeln!(text, "size {}", decoded.mem_size)?;
     Ok(text)
 }

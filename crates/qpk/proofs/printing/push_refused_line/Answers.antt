@@ -4,4 +4,4 @@ use Rattle.qpk.proofs.printing.push_refused_line.Goals as goal
 
 pub returns : goal.returns
 returns g c =
-    on_ok_weaker c.write.result (λ appended. (string_bytes c.in_ok-words.words, appended)) c.write.ensures.bytes
+    on_ok_weaker c.writeln.result (λ appended. (string_bytes c.in_ok-words.words, appended)) c.writeln.ensures.bytes
