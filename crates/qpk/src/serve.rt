@@ -23,7 +23,7 @@ use std::borrow::CowStr;
 use std::io::{ErrorKind, Read, Write};
 
 /// What the words ask for.
-#[derive(Debug, Clone, Copy, PartialEq)]
+#[derive(Clone, Copy)]
 pub enum Command {
     /// Encode the fields of the input's lines.
     Encode,
