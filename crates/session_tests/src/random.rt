@@ -3,7 +3,7 @@
 use crate::events::unlawful;
 use h3_qpack::HeaderField;
 use h3_qpack::coding::NoMemory;
-use h3_qpack::decoder::DecoderError;
+use h3_qpack::decoder::{Decoded, DecoderError};
 use h3_qpack::encoder::EncoderError;
 use h3_qpack::session::{Event, Outcome, Session};
 use qpack_testing::{Numbers, again, field, same};
@@ -79,18 +79,20 @@ fn encodes(
 /// A block of a stream is decoded: to what was handed, or it waits or is skipped.
 fn decodes(alloc: Global, session: &mut Session, handed: &mut Handed) -> Result<(), Fail> {
     match session.step(&Event::Decode(handed.stream)) {
-        Outcome::Decoded(Ok(decoded)) => {
-            let places = handed.blocks.get(handed.decoded).copied();
-            let fields = fields_at(alloc, places.unwrap_or([PAIRS.len(); 3]))?;
-            same((places.is_some(), decoded.fields == fields), (true, true))?;
-            handed.decoded = handed.decoded.saturating_add(1);
-            handed.dynamic = handed.dynamic.saturating_add(usize::from(decoded.dyn_ref));
-            Ok(())
-        }
+        Outcome::Decoded(Ok(decoded)) => is_handed(alloc, handed, &decoded),
         Outcome::Decoded(Err(DecoderError::MissingRefs(_) | DecoderError::Memory))
         | Outcome::Skipped(_) => Ok(()),
         outcome => Err(unlawful(&outcome)),
     }
+}
+
+/// The next block of a stream is decoded to what was handed, and that is noted.
+fn is_handed(alloc: Global, handed: &mut Handed, decoded: &Decoded) -> Result<(), Fail> {
+    let places = handed.blocks.get(handed.decoded).copied();
+    handed.decoded = handed.decoded.saturating_add(1);
+    handed.dynamic = handed.dynamic.saturating_add(usize::from(decoded.dyn_ref));
+    let fields = fields_at(alloc, places.unwrap_or([PAIRS.len(); 3]))?;
+    same((places.is_some(), decoded.fields == fields), (true, true))
 }
 
 /// Any other event: no stream is refused.

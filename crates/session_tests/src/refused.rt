@@ -11,7 +11,7 @@ use std::alloc::Global;
 use std::test::Fail;
 
 /// The lists of one field that are encoded in turn.
-const IN_TURN: [Pairs; 8] = [
+const IN_TURN: &[Pairs] = &[
     &[(b"n", b"1")],
     &[(b"n", b"2")],
     &[(b"n", b"3")],
@@ -68,24 +68,34 @@ impl Played {
 
     /// Gives an event, and again where memory was refused to it, which wrote no instruction and kept no block. Bytes
     /// that were delivered are offered again by a delivery of none.
-    fn give(&mut self, alloc: Global, given: Given) -> Result<Outcome, Fail> {
-        let event = event_of(alloc, given)?;
+    fn step(&mut self, event: &Event) -> Result<Outcome, Fail> {
         let before = kept(&self.session);
-        let outcome = self.session.step(&event);
+        let outcome = self.session.step(event);
         if !wants_memory(&outcome) {
             return Ok(outcome);
         }
         same(kept(&self.session), before)?;
         match event {
             Event::ToDecoder(_) => Ok(self.session.step(&Event::ToDecoder(0))),
-            event => Ok(self.session.step(&event)),
+            event => Ok(self.session.step(event)),
         }
+    }
+
+    /// The same, of an event of a script.
+    fn give(&mut self, alloc: Global, given: Given) -> Result<Outcome, Fail> {
+        let event = event_of(alloc, given)?;
+        self.step(&event)
     }
 
     /// An event, given again where it was refused memory, is answered by no refusal of a stream, and a decode exactly.
     fn play(&mut self, alloc: Global, given: Given) -> Result<(), Fail> {
         let outcome = self.give(alloc, given)?;
-        match (given, &outcome) {
+        self.is_lawful(alloc, given, &outcome)
+    }
+
+    /// The event may be answered so.
+    fn is_lawful(&mut self, alloc: Global, given: Given, outcome: &Outcome) -> Result<(), Fail> {
+        match (given, outcome) {
             (Given::Encode(stream, list), Outcome::Encoded(Ok(_))) => Ok(
                 self.handed.push(Handed {
                     stream,
@@ -160,15 +170,30 @@ impl Played {
     }
 }
 
-/// All events of a script, each given again where it was refused memory: so many blocks are decoded.
-fn play_all(
-    alloc: Global,
-    (capacity, limit): (usize, usize),
-    script: &[Given],
-    decoded: usize,
-) -> Result<(), Fail> {
+/// What is played in a session.
+#[derive(Clone, Copy)]
+enum Script {
+    /// Events, each given again where it was refused memory: so many blocks are decoded.
+    Events(&'static [Given], usize),
+    /// Lists that are encoded, delivered, decoded, acknowledged and heard of in turn.
+    InTurn(&'static [Pairs]),
+    /// A decode behind a delivery that may be refused memory, and a delivery of none.
+    RefusedDelivery,
+}
+
+/// Plays a script in a session of this capacity and limit.
+fn play_all(alloc: Global, (capacity, limit): (usize, usize), script: Script) -> Result<(), Fail> {
     let mut played = Played::new(alloc, capacity, limit)?;
-    played.play_each(alloc, script, decoded)
+    play_script(alloc, &mut played, script)
+}
+
+/// Plays a script.
+fn play_script(alloc: Global, played: &mut Played, script: Script) -> Result<(), Fail> {
+    match script {
+        Script::Events(events, decoded) => played.play_each(alloc, events, decoded),
+        Script::InTurn(lists) => play_in_turn(alloc, played, lists),
+        Script::RefusedDelivery => deliver_and_decode(alloc, played),
+    }
 }
 
 #[test]
@@ -185,7 +210,7 @@ fn a_block_that_waits_is_decoded(rt: HostRuntime) -> Result<(), Fail> {
         Given::Ack(4),
         Given::ToEncoder(ALL),
     ];
-    play_all(rt.alloc(), (4096, 1), SCRIPT, 1)
+    play_all(rt.alloc(), (4096, 1), Script::Events(SCRIPT, 1))
 }
 
 #[test]
@@ -197,7 +222,7 @@ fn a_duplicate_is_decoded(rt: HostRuntime) -> Result<(), Fail> {
         Given::Ack(4),
         Given::ToEncoder(ALL),
     ];
-    play_all(rt.alloc(), (4096, 1), SCRIPT, 1)
+    play_all(rt.alloc(), (4096, 1), Script::Events(SCRIPT, 1))
 }
 
 #[test]
@@ -215,7 +240,7 @@ fn what_was_cancelled_is_skipped(rt: HostRuntime) -> Result<(), Fail> {
         Given::Decode(8),
         Given::Decode(12),
     ];
-    play_all(rt.alloc(), (64, 4), SCRIPT, 2)
+    play_all(rt.alloc(), (64, 4), Script::Events(SCRIPT, 2))
 }
 
 #[test]
@@ -234,7 +259,7 @@ fn blocks_around_new_capacities_are_decoded(rt: HostRuntime) -> Result<(), Fail>
         Given::Decode(8),
         Given::Decode(12),
     ];
-    play_all(rt.alloc(), (4096, 1), SCRIPT, 3)
+    play_all(rt.alloc(), (4096, 1), Script::Events(SCRIPT, 3))
 }
 
 /// Lists that are encoded, delivered, decoded, acknowledged and heard of in turn.
@@ -256,8 +281,7 @@ fn play_in_turn(alloc: Global, played: &mut Played, lists: &[Pairs]) -> Result<(
 
 #[test]
 fn eight_blocks_in_turn_are_decoded(rt: HostRuntime) -> Result<(), Fail> {
-    let mut played = Played::new(rt.alloc(), 64, 1)?;
-    play_in_turn(rt.alloc(), &mut played, &IN_TURN)
+    play_all(rt.alloc(), (64, 1), Script::InTurn(IN_TURN))
 }
 
 /// An insertion is delivered by a call that may be refused memory: the decode behind it waits or is exact, and a
@@ -274,6 +298,5 @@ fn deliver_and_decode(alloc: Global, played: &mut Played) -> Result<(), Fail> {
 /// A delivery that is refused memory has delivered its bytes.
 #[test]
 fn a_refused_delivery_is_taken_by_one_of_none(rt: HostRuntime) -> Result<(), Fail> {
-    let mut played = Played::new(rt.alloc(), 4096, 1)?;
-    deliver_and_decode(rt.alloc(), &mut played)
+    play_all(rt.alloc(), (4096, 1), Script::RefusedDelivery)
 }

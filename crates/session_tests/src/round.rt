@@ -42,33 +42,6 @@ fn is_answered(outcome: &Outcome, n: usize, list: &Vec<HeaderField>) -> bool {
     }
 }
 
-/// A list is encoded on stream 0, delivered whole, decoded, acknowledged and all heard; or memory was refused, and then
-/// this answers false.
-fn goes_round(
-    alloc: Global,
-    session: &mut Session,
-    n: usize,
-    list: &Vec<HeaderField>,
-) -> Result<bool, Fail> {
-    let events = [
-        Event::Encode(0, numbered(alloc, n)?),
-        Event::ToDecoder(ALL),
-        Event::Decode(0),
-        Event::Ack(0),
-        Event::ToEncoder(ALL),
-    ];
-    for event in &events {
-        let outcome = session.step(event);
-        if wants_memory(&outcome) {
-            return Ok(false);
-        }
-        if !is_answered(&outcome, n, list) {
-            return Err(unlawful(&outcome));
-        }
-    }
-    Ok(true)
-}
-
 /// The last block is that of this list, and the decoder itself decodes it to that.
 fn is_block(session: &Session, n: usize, list: &Vec<HeaderField>) -> Result<(), Fail> {
     let last = session.blocks(0).saturating_sub(1);
@@ -77,14 +50,46 @@ fn is_block(session: &Session, n: usize, list: &Vec<HeaderField>) -> Result<(), 
     same(is_list(&decode_block(session, block)?, list), true)
 }
 
+/// The events of a round answer what they do for this list, which the last block is that of; or memory was refused, and
+/// then this answers false.
+fn is_round(
+    session: &mut Session,
+    events: &[Event],
+    n: usize,
+    list: &Vec<HeaderField>,
+) -> Result<bool, Fail> {
+    for event in events {
+        let outcome = session.step(event);
+        if wants_memory(&outcome) {
+            return Ok(false);
+        }
+        if !is_answered(&outcome, n, list) {
+            return Err(unlawful(&outcome));
+        }
+    }
+    is_block(session, n, list)?;
+    Ok(true)
+}
+
+/// A list is encoded on stream 0, delivered whole, decoded, acknowledged and all heard.
+fn goes_round(alloc: Global, session: &mut Session, n: usize) -> Result<bool, Fail> {
+    let list = numbered(alloc, n)?;
+    let events = [
+        Event::Encode(0, numbered(alloc, n)?),
+        Event::ToDecoder(ALL),
+        Event::Decode(0),
+        Event::Ack(0),
+        Event::ToEncoder(ALL),
+    ];
+    is_round(session, &events, n, &list)
+}
+
 /// So many fields go round, in blocks that come again and again; or memory was refused, and then this answers false.
 fn all_go_round(alloc: Global, session: &mut Session, count: usize) -> Result<bool, Fail> {
     for n in 1..=count {
-        let list = numbered(alloc, n)?;
-        if !goes_round(alloc, session, n, &list)? {
+        if !goes_round(alloc, session, n)? {
             return Ok(false);
         }
-        is_block(session, n, &list)?;
     }
     Ok(true)
 }
