@@ -68,7 +68,7 @@ impl Played {
         let foreseen = self.foresee(stream);
         let outcome = self.session.step(&Event::Decode(stream));
         self.is_foreseen(stream, foreseen.as_ref(), &outcome)?;
-        is_told(alloc, &outcome, answer)
+        is_shown(alloc, &outcome, answer)
     }
 
     /// The event answers this; or it is refused memory, and then this answers false.
@@ -77,7 +77,7 @@ impl Played {
             Given::Decode(stream) => self.decodes(alloc, stream, answer),
             given => {
                 let event = event_of(alloc, given)?;
-                is_told(alloc, &self.session.step(&event), answer)
+                is_shown(alloc, &self.session.step(&event), answer)
             }
         }
     }
@@ -138,9 +138,9 @@ impl Played {
 /// What an event answers, as it is printed here. Of a block of one field it is that field, its size, and whether an
 /// entry is required.
 #[derive(Drop)]
-struct Told<'a>(&'a Outcome);
+struct Shown<'a>(&'a Outcome);
 
-impl<'a> Display for Told<'a> {
+impl<'a> Display for Shown<'a> {
     fn fmt<W: Write>(&self, f: &mut Formatter<W>) -> Result<(), fmt::Error> {
         let Outcome::Decoded(Ok(decoded)) = self.0 else {
             return write!(f, "{:?}", self.0);
@@ -153,11 +153,11 @@ impl<'a> Display for Told<'a> {
 }
 
 /// What was answered is this; or memory was refused, and then this answers false.
-fn is_told(alloc: Global, outcome: &Outcome, answer: &str) -> Result<bool, Fail> {
+fn is_shown(alloc: Global, outcome: &Outcome, answer: &str) -> Result<bool, Fail> {
     if wants_memory(outcome) {
         return Ok(false);
     }
-    prints(alloc, &Told(outcome), answer)?;
+    prints(alloc, &Shown(outcome), answer)?;
     Ok(true)
 }
 
@@ -382,20 +382,20 @@ fn ends(
     outcomes: &[Outcome],
     last: &str,
 ) -> Result<(usize, bool), dynamic::Error> {
-    let told = told_last(alloc, outcomes)?;
+    let shown = shown_last(alloc, outcomes)?;
     let capacity = session.encoder().table().max_mem_size();
-    Ok((capacity, told.as_str() == last))
+    Ok((capacity, shown.as_str() == last))
 }
 
-/// What the last of these answers is told as, where none was refused memory.
-fn told_last(alloc: Global, outcomes: &[Outcome]) -> Result<String, NoMemory> {
+/// What the last of these answers is printed as, where none was refused memory.
+fn shown_last(alloc: Global, outcomes: &[Outcome]) -> Result<String, NoMemory> {
     for outcome in outcomes {
         if wants_memory(outcome) {
             return Err(NoMemory);
         }
     }
     match outcomes.last() {
-        Some(outcome) => Ok(format!(in alloc; "{}", Told(outcome))?),
+        Some(outcome) => Ok(format!(in alloc; "{}", Shown(outcome))?),
         None => Ok(String::new(alloc)),
     }
 }
