@@ -195,20 +195,21 @@ pub session_runs : (capacity limit : ℕ) (events : List spec.Event) (before aft
     → (v : Session) × (begin_session capacity limit ≡ Ok v) × Shows first v
     → RunsEvents first last events before after r → RunsSession capacity limit events before after r
 session_runs capacity limit events before after first last (Ok done) (v, begins, shows) (out, all, is) =
-    let m = all v shows in (v, begins, m.last, out, m.prints, is)
+    let m = all v shows in
+    (out, record { first = v; begins = begins; last = m.last; prints = m.prints }, is)
 session_runs capacity limit events before after first last (Err fault) begins refused = rw refused tt
 
 pub script_runs : (capacity limit : ℕ) (text out : List ℕ) (read events : List ReadEvent)
     → script_events text ≡ Ok (events_in read) → events ≡ read
     → RunsSession capacity limit (events_in events) [] out (Ok tt) → PrintsRun capacity limit text out
-script_runs capacity limit text out read events are same (first, begins, last, printed, prints, is) =
+script_runs capacity limit text out read events are same (printed, ran, is) =
     record {
       events = events_in events;
       are_events = rw same are;
-      first = first;
-      begins = begins;
-      last = last;
-      prints = rw is prints;
+      first = ran.first;
+      begins = ran.begins;
+      last = ran.last;
+      prints = rw is ran.prints;
     }
 
 -- ---- what was added to a stream

@@ -127,11 +127,17 @@ abbrev pub BeginsRun : Result SessionView Fault → ℕ → ℕ → Type 0
 BeginsRun (Ok s) capacity limit = (v : Session) × (begin_session capacity limit ≡ Ok v) × Shows s v
 BeginsRun (Err fault) capacity limit = FailsToBegin fault capacity limit
 
+-- a session begins, and the events print this in it
+pub record PrintsSession (capacity limit : ℕ) (events : List spec.Event) (out : List ℕ) : Type 0 where
+  pub first : Session
+  pub begins : begin_session capacity limit ≡ Ok first
+  pub last : Session
+  pub prints : PrintsEvents first events last out
+
 -- a session begins, and what events print stands behind what was printed; or it does not begin, or memory was refused
 abbrev pub RunsSession : ℕ → ℕ → List spec.Event → List ℕ → List ℕ → Result ⊤ Fault → Type 0
 RunsSession capacity limit events before after (Ok done) =
-    (first : Session) × (begin_session capacity limit ≡ Ok first) × (last : Session) × (out : List ℕ)
-    × PrintsEvents first events last out × (after ≡ before ++ out)
+    (out : List ℕ) × PrintsSession capacity limit events out × (after ≡ before ++ out)
 RunsSession capacity limit events before after (Err fault) = FailsToBegin fault capacity limit
 
 -- the stream that an event adds bytes to, and the bytes of the newest block of the stream that is encoded for, in the
