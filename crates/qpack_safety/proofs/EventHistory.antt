@@ -16,7 +16,7 @@ use Rattle.qpack_spec.specs.Session.{Skipped, decode_outcome, with_block, with_d
 use Rattle.qpack_spec.specs.Session.{takes_all, no_memory, bad_bytes, bad_instruction, EndsAtEncoder}
 use Rattle.qpack_spec.specs.Session.{takes_all_at_encoder, bad_bytes_at_encoder, bad_decoder_instruction, LawfulStep}
 use Rattle.qpack_spec.specs.Session.{Step, Run}
-use Rattle.qpack_safety.specs.SessionSafety.{AnsweredEncode, encode_of, decode_of, encodes_on, decodes_on}
+use Rattle.qpack_safety.specs.Headline.{AnsweredEncode, encode_of, decode_of, encodes_on, decodes_on}
 use Rattle.qpack_safety.specs.SessionSafety.{encode_behind}
 
 -- ---- one stream changed

@@ -25,7 +25,8 @@ use Rattle.qpack_spec.proofs.PutTables.{window_put, count_put}
 use Rattle.qpack_spec.proofs.References.{blocks_require}
 use Rattle.qpack_safety.specs.AbstractSafety.{Safe}
 use Rattle.qpack_safety.specs.SessionSafety.{WritesBlock, Lockstep, Accounts, IsOrdered, RunsByTheRule}
-use Rattle.qpack_safety.specs.SessionSafety.{RefusesNothing, AnsweredEncode, encodes_on, decodes_on, next_encode}
+use Rattle.qpack_safety.specs.Headline.{AnsweredEncode, encodes_on, decodes_on, next_encode}
+use Rattle.qpack_safety.specs.SessionSafety.{RefusesNothing}
 use Rattle.qpack_safety.specs.SessionSafety.{encode_behind, AnswersFields, DecodesWhatWasHanded, DecodeAnswer}
 use Rattle.qpack_safety.specs.SessionSafety.{is_skipped, wants_memory, gives_fields, waits_for, WaitsOnlyForInsertions}
 use Rattle.qpack_safety.specs.SessionSafety.{SessionsAreSafe}

@@ -18,6 +18,7 @@ use Rattle.qpack_spec.specs.Session.{Outcome, Encoded, Decoded, MissingReference
 use Rattle.qpack_spec.specs.Session.{Skipped, StreamFault, initial_session, next_block, increment_sum, blocked_blocks}
 use Rattle.qpack_spec.specs.Session.{unreadable_blocks, skip_reason, Step, Run}
 use Rattle.qpack_spec.specs.Stateless.{saturated_size}
+use Rattle.qpack_safety.specs.Headline.{AnsweredEncode, encodes_on, decodes_on, next_encode}
 
 -- ---- (a) the run
 
@@ -120,36 +121,6 @@ pub record RefusesNothing (v : Session) : Type 0 where
   pub hears : (n : ℕ) (o : Outcome) (v' : Session) → Step v (ToEncoder n) o v' → o ≡ Heard
 
 -- ---- (c) the fields
-
--- an encode that was answered: the fields that were handed to it, and the required insert count that it answered
-pub record AnsweredEncode : Type 0 where
-  pub fields : List Field
-  pub required : ℕ
-
--- the encode of an event on this stream, if it is one that was answered
-abbrev pub encode_of : ℕ → Event → Outcome → List AnsweredEncode
-encode_of s (Encode stream fields) (Encoded required) =
-    if nat_eq stream s then record { fields = fields; required = required } ∷ [] else []
-encode_of s e o = []
-
--- 1 if the event is a decode on this stream that answered fields
-abbrev pub decode_of : ℕ → Event → Outcome → ℕ
-decode_of s (Decode stream) (Decoded fields size is_dynamic) = if nat_eq stream s then 1 else 0
-decode_of s e o = 0
-
--- the encodes of a stream that were answered, in order: each wrote the next block of the stream
-abbrev pub encodes_on : ℕ → List (Event × Outcome) → List AnsweredEncode
-encodes_on s [] = []
-encodes_on s (p ∷ ps) = encode_of s p.0 p.1 ++ encodes_on s ps
-
--- how many decodes of a stream answered fields: each read the next block of the stream
-abbrev pub decodes_on : ℕ → List (Event × Outcome) → ℕ
-decodes_on s [] = 0
-decodes_on s (p ∷ ps) = decode_of s p.0 p.1 + decodes_on s ps
-
--- the encode that wrote the next block to be decoded on a stream
-abbrev pub next_encode : ℕ → List (Event × Outcome) → Option AnsweredEncode
-next_encode s events = slice_get (encodes_on s events) (decodes_on s events)
 
 -- an answer with fields: those that were handed to the encode that wrote the stream's next block, the sum of their
 -- sizes, held at 2^64 - 1, and whether any entry is required

@@ -41,5 +41,7 @@ pub mod Sizes
 pub mod Handles
 pub mod HandleRows
 pub mod SessionAnswers
+pub mod SkippedEvents
 pub mod SessionRows
+pub mod EventRows
 pub mod StringRows
