@@ -82,7 +82,8 @@ pub record Advances (v v' : Session) : Type 0 where
   pub blocks : (s : ℕ) → Extends (stream_at v.streams s).blocks (stream_at v'.streams s).blocks
 
 -- (a) The outcomes and the state are a run of the session. Each block and the encoder stream are the rule's. Both
--- tables are those that the instructions make of an empty one, and within their capacity of the moment (section 3.2.2).
+-- tables are those that the instructions make of an empty one, and within their capacity of the moment (section 3.2.2),
+-- which never exceeds the capacity agreed on (section 3.2.3).
 -- No more blocks are blocked than may be (section 2.1.2): of those kept the ones that require more than the encoder
 -- knows to be received. It is their number that the encoder holds against its limit, and no more are unreadable at the
 -- decoder, which received what is known to be received.
@@ -93,8 +94,10 @@ pub record RunsByTheRule (capacity limit : ℕ) (events : List (Event × Outcome
   pub writes : (s : ℕ) (fields : List Field) (required : ℕ) (v' : Session)
       → Step v (Encode s fields) (Encoded required) v'
       → WritesBlock v s fields required v'
-  -- each table is what its instructions make of an empty one, and within its capacity
+  -- each table is what its instructions make of an empty one, and within its capacity, which is at most the one agreed on
   pub lockstep : Lockstep capacity v
+  pub encoder_capacity : v.encoder.capacity ≤ capacity
+  pub decoder_capacity : v.decoder.capacity ≤ capacity
   pub encoder_fits : total_size (fields_in v.encoder.live) ≤ v.encoder.capacity
   pub decoder_fits : total_size (fields_in v.decoder.live) ≤ v.decoder.capacity
   -- the blocked blocks are within the limit; the encoder counts them so, and blocks one more only below the limit
