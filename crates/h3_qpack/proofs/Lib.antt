@@ -4,6 +4,7 @@ pub mod Meanings
 pub mod Asking
 pub mod ReadSections
 pub mod SectionAnswers
+pub mod LonePrefixes
 pub mod Taking
 pub mod Instructions
 pub mod Increments
