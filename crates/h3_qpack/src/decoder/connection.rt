@@ -82,7 +82,7 @@ impl Decoder {
     /// Takes the bytes of the encoder stream that the cursor has left, and answers how many insertions were ever made
     /// (RFC 9204, sections 4.2 and 4.3). Each instruction that stands whole is applied to the table; a rest that
     /// is truncated is left in the cursor, to be offered again with what follows it. Then the insertions are reported
-    /// in `write`, for the decoder stream, by increments from 1 to 64 (section 4.4.3).
+    /// in `write`, for the decoder stream, by increments of 64 and one of the rest (section 4.4.3).
     ///
     /// An instruction may be refused: its bytes (`InvalidInteger`, `InvalidString`), an index that names nothing
     /// (`InvalidStaticIndex`, `DynamicTable`), a field or a capacity that the table refuses (`DynamicTable`; then,
