@@ -1,7 +1,8 @@
 -- What a decoder does with the bytes of the encoder stream (RFC 9204, sections 4.3 and 4.4.3).
 use Rattle.std.specs.Prelude.{◌≡◌, ℕ, ◌+◌, ◌-◌, ◌<◌, ◌⊎◌, ⊤, Bool, true, false, if◌then◌else◌, List, ◌++◌, Option, None}
 use Rattle.std.specs.Prelude.{Some}
-use Rattle.std.specs.Prelude.{IsSome, slice_get, Result, Ok, Err}
+use Rattle.std.specs.Prelude.{IsSome, slice_get, Result, Ok, Err, ◌≤◌, length, vec_len, vec_capacity}
+use Rattle.std.specs.declared.vec.Vec.{Vec}
 use Rattle.std.specs.Option.{option_map}
 use Rattle.qpack_spec.specs.Bytes.{Begins}
 use Rattle.qpack_spec.specs.Field.{Field}
@@ -122,6 +123,10 @@ to_report d t = d.unreported + (insert_count t - insert_count d.table)
 -- what reports so many insertions: an increment for each of their pieces
 abbrev pub written_report : ℕ → List ℕ
 written_report many = written_decoder_instructions (increments (pieces_of many))
+
+-- a vector has free room for what reports the insertions of a call, and of calls before that were not reported
+abbrev pub HasRoomToReport : {A : Type 0} → DecoderView → Table → Vec ℕ A → Type 0
+HasRoomToReport d t write = vec_len write + length (written_report (to_report d t)) ≤ vec_capacity write
 
 -- how a call ends behind the instructions that it took: all its insertions are reported, and those of calls before that
 -- were not, and the total is answered; or it is refused, writes nothing, and keeps them all to be reported
