@@ -128,7 +128,7 @@ adds_read v t (Faulty f) s = adds_none v v s refl
 
 adds_delivery : (v : Session) (n : ℕ) (t : Table) (front rest : List ℕ) (o : Outcome) (v' : Session) (s : ℕ)
     → EndsAtDecoder v n t front rest o v' → Adds v v' s [] 0
-adds_delivery v n t front rest o v' s (takes_all pieces cut sizes sum is goes) =
+adds_delivery v n t front rest o v' s (takes_all cut is goes) =
     adds_none v v' s (ap (λ (x : Session). stream_at x.streams s) goes)
 adds_delivery v n t front rest o v' s (no_memory is goes) =
     adds_none v v' s (ap (λ (x : Session). stream_at x.streams s) goes)

@@ -252,7 +252,7 @@ delivery_answers capacity limit v n o v' r c = go c.takes.ends
 
     go : EndsAtDecoder v n c.table c.takes.front c.takes.rest o v' → (o ≡ Delivered (insert_count v'.decoder)) ⊎ (o
         ≡ NoMemory)
-    go (takes_all pieces cut sizes sum is goes) =
+    go (takes_all cut is goes) =
         inl (is ∙ ap (λ (x : Session). Delivered (insert_count x.decoder)) (sym goes))
     go (no_memory is goes) = inr is
     go (bad_bytes fault b is goes) = absurd (refused _ is)

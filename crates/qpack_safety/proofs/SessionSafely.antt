@@ -328,7 +328,7 @@ delivers_whole capacity limit v w n received v' sh k c u x su more s position b 
 
     go : Moved capacity limit v w n c.takes.lines c.takes.front c.takes.rest c.table
         → EndsAtDecoder v n c.table c.takes.front c.takes.rest (Delivered received) v' → b.end ≤ v'.encoder_stream_taken
-    go m (takes_all pieces cut sizes sum is goes) =
+    go m (takes_all cut is goes) =
         let within : b.end ≤ min (v.encoder_stream_delivered + n) (length v.encoder_stream) =
         omega (arith, le, ap (λ (y : Session). y.encoder_stream_delivered) goes) in
         omega (arith, whole_window m cut within, ap (λ (y : Session). y.encoder_stream_taken) goes)

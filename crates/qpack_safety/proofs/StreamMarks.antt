@@ -118,7 +118,7 @@ marks_streams v v' w s e same =
 
 marks_delivery : (v : Session) (n : ℕ) (t : Table) (front rest : List ℕ) (o : Outcome) (v' : Session) (s : ℕ)
     → EndsAtDecoder v n t front rest o v' → Marks (stream_at v.streams s) (stream_at v'.streams s) 0 false
-marks_delivery v n t front rest o v' s (takes_all pieces cut sizes sum is goes) = marks_streams v v' _ s goes refl
+marks_delivery v n t front rest o v' s (takes_all cut is goes) = marks_streams v v' _ s goes refl
 marks_delivery v n t front rest o v' s (no_memory is goes) = marks_streams v v' _ s goes refl
 marks_delivery v n t front rest o v' s (bad_bytes fault b is goes) = marks_streams v v' _ s goes refl
 marks_delivery v n t front rest o v' s (bad_instruction encoding more i e cut x bad is goes) =

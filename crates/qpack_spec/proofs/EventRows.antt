@@ -17,7 +17,7 @@ use Rattle.qpack_spec.specs.Session.{KeptBlock, KeptStream, stream_at, Session, 
 use Rattle.qpack_spec.specs.Session.{Cancel, ChangeCapacity, Encoded, Decoded, Delivered, Cancelled, CapacitySet}
 use Rattle.qpack_spec.specs.Session.{NoMemory, Skipped, with_block, with_decoded, with_cancelled, after_refused_encode}
 use Rattle.qpack_spec.specs.Session.{with_decoder_moved, unreadable_blocks, blocked_blocks, skip_reason, takes_all}
-use Rattle.qpack_spec.specs.Session.{LawfulStep, Step, FitsMemory, Run}
+use Rattle.qpack_spec.specs.Session.{pieces_of, LawfulStep, Step, FitsMemory, Run}
 use Rattle.qpack_spec.proofs.SessionRows.{foo_bar, begun, written, delivered, decoded, released, heard_all, rows}
 use Rattle.qpack_spec.proofs.SessionRows.{foo_bar_bytes, heard_fits, cut_none, line_then}
 
@@ -110,7 +110,7 @@ given_up_blocks = refl
 -- ---- a delivery of no bytes
 
 delivers_nothing : Step begun (ToDecoder 0) (Delivered 0) begun
-unfolding rows LawfulStep
+unfolding rows LawfulStep pieces_of
 delivers_nothing =
     inr (
       refl,
@@ -123,7 +123,7 @@ delivers_nothing =
           cut = refl;
           joined = refl;
           applies = refl;
-          ends = takes_all [] cut_none tt refl refl refl;
+          ends = takes_all cut_none refl refl;
         };
       },
     )
@@ -177,7 +177,7 @@ unfolding more_rows
 capacity_read = refl
 
 delivers_0 : Step resized (ToDecoder 1) (Delivered 1) resized_both
-unfolding more_rows LawfulStep
+unfolding more_rows LawfulStep pieces_of
 delivers_0 =
     inr (
       refl,
@@ -190,7 +190,7 @@ delivers_0 =
           cut = refl;
           joined = line_then encoder_instruction_form _ [] (SetCapacity 0) [] capacity_read refl;
           applies = refl;
-          ends = takes_all [] cut_none tt refl refl refl;
+          ends = takes_all cut_none refl refl;
         };
       },
     )

@@ -18,7 +18,8 @@ use Rattle.qpack_spec.specs.Session.{KeptBlock, KeptStream, stream_at, Session, 
 use Rattle.qpack_spec.specs.Session.{Acknowledge, Cancel, Encoded, Decoded, MissingReferences, Delivered, Heard}
 use Rattle.qpack_spec.specs.Session.{Acknowledged, Skipped, NoMemory, initial_session, begin_session, CapacityTooLarge}
 use Rattle.qpack_spec.specs.Session.{LimitTooLarge, with_block, with_decoded, with_kept_stream, blocked_among}
-use Rattle.qpack_spec.specs.Session.{skip_reason, increment_sum, IsPiece, with_decoder_moved, with_encoder_moved}
+use Rattle.qpack_spec.specs.Session.{skip_reason, increment_sum, IsPiece, pieces_of, with_decoder_moved}
+use Rattle.qpack_spec.specs.Session.{with_encoder_moved}
 use Rattle.qpack_spec.specs.Session.{EndsAtDecoder, takes_all, no_memory, bad_bytes, bad_instruction}
 use Rattle.qpack_spec.specs.Session.{takes_all_at_encoder, LawfulStep, Step, FitsMemory, Run}
 use Rattle.qpack_spec.specs.WrittenLaws.{IsByteField}
@@ -155,7 +156,7 @@ piece_0 h = absurd (omega (arith, h.0))
 memory_keeps : (v : Session) (n : ℕ) (t : Table) (front rest : List ℕ) (v' : Session)
     → EndsAtDecoder v n t front rest NoMemory v' → v'.unreported
     ≡ v.unreported + (insert_count t - insert_count v.decoder)
-memory_keeps v n t front rest v' (takes_all pieces cut sizes sum is goes) = absurd cc
+memory_keeps v n t front rest v' (takes_all cut is goes) = absurd cc
 memory_keeps v n t front rest v' (no_memory is goes) = ap (λ (x : Session). x.unreported) goes
 memory_keeps v n t front rest v' (bad_bytes fault b is goes) = absurd cc
 memory_keeps v n t front rest v' (bad_instruction encoding more i e cut s bad is goes) = absurd cc
@@ -315,7 +316,7 @@ unfolding rows LawfulStep
 waits_first = inr (refl, inl (record { block = _; is_next = refl; answers = refl; moves = refl }))
 
 delivers_part : Step written (ToDecoder 6) (Delivered 0) delivered_part
-unfolding rows LawfulStep
+unfolding rows LawfulStep pieces_of
 delivers_part =
     inr (
       refl,
@@ -328,7 +329,7 @@ delivers_part =
           cut = refl;
           joined = refl;
           applies = refl;
-          ends = takes_all [] cut_part tt refl refl refl;
+          ends = takes_all cut_part refl refl;
         };
       },
     )
@@ -338,7 +339,7 @@ unfolding rows LawfulStep
 still_waits = inr (refl, inl (record { block = _; is_next = refl; answers = refl; moves = refl }))
 
 delivers_rest : Step delivered_part (ToDecoder 1) (Delivered 1) delivered
-unfolding rows LawfulStep
+unfolding rows LawfulStep pieces_of
 delivers_rest =
     inr (
       refl,
@@ -352,7 +353,7 @@ delivers_rest =
           joined = line_then encoder_instruction_form _ []
               (InsertLiteralName (codes "foo") (codes "bar")) [] insertion_read refl;
           applies = refl;
-          ends = takes_all (1 ∷ []) cut_none ((lit≤ tt, lit≤ tt), tt) refl refl refl;
+          ends = takes_all cut_none refl refl;
         };
       },
     )

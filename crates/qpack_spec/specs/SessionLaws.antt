@@ -1,8 +1,9 @@
 -- What stands behind a session's definitions, as statements; the crate's law functions promise them.
 use Rattle.std.specs.Prelude.{◌≡◌, ◌<◌, ◌≤◌, ◌^◌, ◌↔◌, ℕ, true, false, length, filter, take, Some}
-use Rattle.qpack_spec.specs.Session.{KeptStream, requires_entry, stream_at, skip_reason}
+use Rattle.qpack_spec.specs.Session.{sum_of, IsPiece, pieces_of, KeptStream, requires_entry, stream_at, skip_reason}
 use Rattle.qpack_spec.specs.Session.{Session, Event, Encode, Decode, ToDecoder, ToEncoder, Acknowledge, Cancel}
 use Rattle.qpack_spec.specs.Session.{ChangeCapacity, Outcome, NoMemory, Step}
+use Rattle.std.specs.List.{AllByRecursion}
 
 -- every event has an answer at every session, without a refusal for memory: so what is promised of all answers is no
 -- empty promise
@@ -43,3 +44,11 @@ IsOutside v (ChangeCapacity n) reason = ⊥
 abbrev pub EventsAreSkippedExactly : Type 0
 EventsAreSkippedExactly =
     (v : Session) (e : Event) (reason : ℕ) → (skip_reason v e ≡ Some reason) ↔ IsOutside v e reason
+
+-- the pieces in which insertions are reported add up to them
+abbrev pub PiecesAddUp : Type 0
+PiecesAddUp = (many : ℕ) → sum_of (pieces_of many) ≡ many
+
+-- each of them is an increment from 1 to 64
+abbrev pub PiecesAreSmall : Type 0
+PiecesAreSmall = (many : ℕ) → AllByRecursion IsPiece (pieces_of many)
