@@ -14,3 +14,5 @@ mod encoding;
 mod memory;
 #[cfg(test)]
 mod texts;
+#[cfg(test)]
+mod vectors;

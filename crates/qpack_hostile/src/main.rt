@@ -1,5 +1,5 @@
 //! The calls that take bytes or fields of a peer, each on the worst input that is known for it: what they answer, and,
-//! where the words name sizes, how long they take.
+//! where the words name sizes, how long they take. Where they name none, also on every list of at most two bytes.
 #![tactic(auto)]
 
 mod copies;
@@ -10,6 +10,7 @@ mod limits;
 mod meter;
 mod pieces;
 mod sessions;
+mod short_lists;
 mod strings;
 mod unacknowledged;
 
@@ -45,10 +46,13 @@ fn tell_all(meter: &Meter, alloc: Global, size: usize) -> Result<()> {
     sessions::tell(meter, alloc, size)
 }
 
-/// All cases of these sizes, or of the small ones where there are none.
+/// All cases of these sizes, or, where there are none, of the small ones, and the short lists.
 fn run(rt: &HostRuntime, alloc: Global, sizes: &[usize]) -> Result<()> {
     let meter = Meter::new(rt, !sizes.is_empty());
     limits::tell(&meter, alloc)?;
+    if sizes.is_empty() {
+        short_lists::tell(rt)?;
+    }
     let sizes = if sizes.is_empty() { &SMALL } else { sizes };
     for size in sizes {
         tell_all(&meter, alloc, *size)?;

@@ -1,7 +1,7 @@
 //! A plain reading of at most two bytes. The table is empty, so that no dynamic reference means anything, and a string
 //! has at most one byte.
 
-use crate::answer::{Answer, Outcome};
+use super::answer::{Answer, Outcome};
 use h3_qpack::static_::StaticTable;
 
 /// An integer with a prefix of so many ones at most, behind its first byte: its value and how many bytes it has, or

@@ -1,6 +1,6 @@
 //! The calls, each with a table of its own.
 
-use crate::answer::{Answer, Outcome};
+use super::answer::{Answer, Outcome};
 use anyhow::Result;
 use h3_qpack::coding::Cursor;
 use h3_qpack::decoder::Decoder;

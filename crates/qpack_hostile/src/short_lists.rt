@@ -1,6 +1,5 @@
 //! Every list of at most two bytes, given to each call that reads bytes of a peer, at five capacities: each answer is
 //! held against a plain reading of RFC 9204.
-#![tactic(auto)]
 
 mod answer;
 mod calls;
@@ -70,7 +69,8 @@ fn try_all(alloc: Global, capacity: usize) -> Result<(usize, usize)> {
     Ok((lists, taken))
 }
 
-fn main(rt: HostRuntime) -> Result<()> {
+/// All lists at each capacity.
+pub(crate) fn tell(rt: &HostRuntime) -> Result<()> {
     for capacity in CAPACITIES {
         let (lists, taken) = try_all(rt.alloc(), capacity)?;
         println!(rt;
