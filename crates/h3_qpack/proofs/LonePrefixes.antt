@@ -1,10 +1,8 @@
 -- What a section without a table is read as, by its prefix.
 use Rattle.std.proofs.Common.{◌≡◌, ℕ, Bool, true, false, List, length, Result, Ok, Err, refl, sym, ap, ◌∙◌, subst}
 use Rattle.std.specs.Prelude.{ℤ}
-use Rattle.qpack_spec.specs.Field.{Field}
-use Rattle.qpack_spec.specs.Prefix.{Prefix, PrefixFault, BelowZero, base_behind, read_required, read_prefix, prefix_at}
-use Rattle.qpack_spec.specs.Reading.{BadPrefix}
-use Rattle.qpack_spec.specs.Stateless.{StatelessFault, BadSection, stateless_at, stateless_reading}
+use Rattle.qpack_spec.specs.Prefix.{Prefix, BelowZero, base_behind, read_required, read_prefix, prefix_at}
+use Rattle.qpack_spec.specs.Stateless.{stateless_at, stateless_reading}
 use Rattle.qpack_spec.proofs.Prefixes.{base_plain, base_signed}
 use Rattle.qpack_spec.proofs.StatelessMeanings.{behind_prefix, section_is, prefix_ok, prefix_below}
 use Rattle.qpack_base.specs.declared.parse_error.ParseError.{ParseError}

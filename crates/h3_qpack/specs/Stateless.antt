@@ -22,7 +22,8 @@ use Rattle.qpack_wire.specs.Answers.{ReadAs}
 use Rattle.h3_qpack.specs.declared.decoder.Decoded.{Decoded}
 use Rattle.h3_qpack.specs.declared.decoder.DecoderError.{DecoderError}
 use Rattle.h3_qpack.specs.declared.decoder.DecoderError.TheVariants.{MissingRefs, HeaderTooLong, InvalidInteger}
-use Rattle.h3_qpack.specs.declared.decoder.DecoderError.TheVariants.{BadBaseIndex, InvalidString, InvalidStaticIndex, Memory}
+use Rattle.h3_qpack.specs.declared.decoder.DecoderError.TheVariants.{BadBaseIndex, InvalidString, InvalidStaticIndex}
+use Rattle.h3_qpack.specs.declared.decoder.DecoderError.TheVariants.{Memory}
 
 -- the fields that were decoded
 abbrev pub fields_in : List HeaderField → List Field

@@ -253,10 +253,10 @@ pub fn run(
 ) -> Result<(Session, Vec<Outcome>), dynamic::Error>
     // Refused, the session does not begin, or memory is wanted.
     ensures err { IfErr result (λ e. RefusesRun e (begin_session capacity limit)) }
-    // The headline, by events and answers alone. Each answer is of its event's kind. On each stream the fields that were
-    // decoded are the first of those that were encoded, in order. No stream is refused, what is skipped is skipped for
-    // its reason, and a decode that answers no fields wants memory or tells the required insert count that its block's
-    // encode answered.
+    // The headline, by events and answers alone. Each answer is of its event's kind. On each stream the fields that
+    // were decoded are the first of those that were encoded, in order. No stream is refused, what is skipped is skipped
+    // for its reason, and a decode that answers no fields wants memory or tells the required insert count that its
+    // block's encode answered.
     ensures headline { IfOk result (λ p. AnswerWhatWasHanded events.now p.1.items) }
     // No instruction is refused but for memory.
     ensures unrefused { IfOk result (λ p. AllByRecursion IsUnrefused p.1.items) }

@@ -1,9 +1,9 @@
 -- What a session answers, by its events and answers alone.
-use Rattle.std.proofs.Common.{ℕ, suc, ◌≤◌, ◌<◌, ◌^◌, ◌≡◌, Bool, true, false, not, List, [], ◌∷◌, ◌++◌, length, map, take}
-use Rattle.std.proofs.Common.{cond, filter, None, Some, refl, sym, ap, ◌∙◌, subst, inl, inr, ◌⊎◌, arith, append_assoc}
+use Rattle.std.proofs.Common.{ℕ, suc, ◌≤◌, ◌<◌, ◌≡◌, Bool, true, false, not, List, [], ◌∷◌, ◌++◌, length, map, take}
+use Rattle.std.proofs.Common.{cond, filter, Some, refl, sym, ap, ◌∙◌, subst, inl, inr, ◌⊎◌, arith, append_assoc}
 use Rattle.std.specs.List.{slice_get}
 use Rattle.std.specs.Option.{option_map}
-use Rattle.std.specs.Prelude.{nat_lt, nat_eq}
+use Rattle.std.specs.Prelude.{nat_eq}
 use Rattle.std.proofs.lemmas.Bool.{cases_eq, eq-eqb, ne_eqb}
 use Rattle.std.proofs.lemmas.List.{append-nil, length-append, length-map, map-append, take-map}
 use Rattle.std.proofs.lemmas.Option.{slice_get-map}
@@ -12,7 +12,7 @@ use Rattle.qpack_spec.specs.Stateless.{saturated_size}
 use Rattle.qpack_spec.specs.Table.{insert_count}
 use Rattle.qpack_spec.specs.Session.{KeptBlock, stream_at, requires_entry, Session, Event, Encode, Decode, ToDecoder}
 use Rattle.qpack_spec.specs.Session.{ToEncoder, Acknowledge, Cancel, ChangeCapacity, Outcome, Encoded, Decoded}
-use Rattle.qpack_spec.specs.Session.{MissingReferences, Delivered, NoMemory, Skipped, skip_reason, Step, Skips, LawfulStep, Run}
+use Rattle.qpack_spec.specs.Session.{Delivered, NoMemory, Skipped, Step, Skips, LawfulStep, Run}
 use Rattle.qpack_spec.specs.Session.{initial_session}
 use Rattle.qpack_spec.specs.SessionLaws.{IsOutsideOn, number_too_great, was_cancelled, is_not_there, IsOutside}
 use Rattle.qpack_spec.proofs.SkippedEvents.{skipped_exactly}
@@ -20,7 +20,7 @@ use Rattle.qpack_safety.specs.Headline.{AnsweredEncode, encode_of, encodes_on, f
 use Rattle.qpack_safety.specs.Headline.{decode_of, decodes_on, next_encode, acknowledgments_on, to_acknowledge_on}
 use Rattle.qpack_safety.specs.Headline.{is_cancelled, IsSkippedRightly, great_number, stream_cancelled, IsRightDecode}
 use Rattle.qpack_safety.specs.Headline.{fields_handed, count_missing, decode_wants_memory, nothing_to_decode}
-use Rattle.qpack_safety.specs.Headline.{decode_skipped, IsRight, AnswersWhatWasHanded, SessionsAnswerWhatWasHanded}
+use Rattle.qpack_safety.specs.Headline.{decode_skipped, IsRight, SessionsAnswerWhatWasHanded}
 use Rattle.qpack_safety.specs.SessionSafety.{IsSafe, AnswersFields, encode_behind, DecodeAnswer, is_skipped}
 use Rattle.qpack_safety.specs.SessionSafety.{wants_memory, gives_fields, waits_for}
 use Rattle.qpack_safety.proofs.FourParts.{sessions_safe}
@@ -73,8 +73,12 @@ module _ (capacity limit : ℕ) (before : List (Event × Outcome)) (v : Session)
   all_decoded s none =
       let k = stream_at v.streams s in
       let most : length k.blocks ≤ k.decoded = not_less k.decoded (length k.blocks) none in
-      omega (arith, most, safe.decodes.decoded_are s,
-      sym (length-map k.blocks (λ b. encode_behind b)) ∙ ap length (safe.decodes.blocks_are s))
+      omega (
+        arith,
+        most,
+        safe.decodes.decoded_are s,
+        sym (length-map k.blocks (λ b. encode_behind b)) ∙ ap length (safe.decodes.blocks_are s),
+      )
     where
       not_less : (a b : ℕ) → (a < b → ⊥) → b ≤ a
       not_less a b n = omega (arith, n)
@@ -85,7 +89,8 @@ module _ (capacity limit : ℕ) (before : List (Event × Outcome)) (v : Session)
       → to_acknowledge_on s before ≤ acknowledgments_on s before
   all_acknowledged s none =
       let k = stream_at v.streams s in
-      let same : map (λ b. encode_behind b) (take k.decoded k.blocks) ≡ take (decodes_on s before) (encodes_on s before) =
+      let same : map (λ b. encode_behind b) (take k.decoded k.blocks)
+      ≡ take (decodes_on s before) (encodes_on s before) =
       sym (take-map (λ b. encode_behind b) k.decoded k.blocks)
       ∙ ap (take k.decoded) (safe.decodes.blocks_are s)
       ∙ ap (λ (n : ℕ). take n (encodes_on s before)) (safe.decodes.decoded_are s) in
@@ -107,7 +112,8 @@ module _ (capacity limit : ℕ) (before : List (Event × Outcome)) (v : Session)
   decode_skips : (s reason : ℕ) (o : Outcome) → o ≡ Skipped reason → IsOutside v (Decode s) reason
       → IsRightDecode before s o
   decode_skips s reason o is out =
-      pick (skipped_rightly s ((stream_at v.streams s).decoded < length (stream_at v.streams s).blocks) 2 reason o is out)
+      let k = stream_at v.streams s in
+      pick (skipped_rightly s (k.decoded < length k.blocks) 2 reason o is out)
     where
       pick : IsSkippedRightly before s o
           ⊎ (((stream_at v.streams s).decoded < length (stream_at v.streams s).blocks → ⊥) × (o ≡ Skipped 2))
@@ -212,8 +218,12 @@ decoded_append s (p ∷ xs) ys =
 decodes_count : (s : ℕ) (events : List (Event × Outcome)) → length (fields_decoded_on s events) ≡ decodes_on s events
 decodes_count s [] = refl
 decodes_count s (p ∷ events) =
-    omega (arith, length-append (fields_decoded_of s p.0 p.1) (fields_decoded_on s events), one p.0 p.1,
-    decodes_count s events)
+    omega (
+      arith,
+      length-append (fields_decoded_of s p.0 p.1) (fields_decoded_on s events),
+      one p.0 p.1,
+      decodes_count s events,
+    )
   where
     by : (b : Bool) (fields : List Field) → length (cond b (fields ∷ []) []) ≡ cond b 1 0
     by true fields = refl
@@ -255,7 +265,8 @@ module _ (s : ℕ) (done : List (Event × Outcome)) (front : IsFront s done) whe
       → (more : List (List Field)) × (map (λ (encode : AnsweredEncode). encode.fields) (encodes_on s done ++ [])
       ≡ (fields_decoded_on s done ++ encode.fields ∷ []) ++ more)
   next_decoded encode next =
-      let at : slice_get (fields_decoded_on s done ++ front.0) (length (fields_decoded_on s done)) ≡ Some encode.fields =
+      let at : slice_get (fields_decoded_on s done ++ front.0) (length (fields_decoded_on s done))
+      ≡ Some encode.fields =
       ap (λ (l : List (List Field)). slice_get l (length (fields_decoded_on s done))) (sym front.1)
       ∙ ap (slice_get (fields_encoded_on s done)) (decodes_count s done)
       ∙ slice_get-map (λ (x : AnsweredEncode). x.fields) (encodes_on s done) (decodes_on s done)

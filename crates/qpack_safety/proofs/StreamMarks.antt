@@ -1,16 +1,16 @@
 -- What the events with their answers tell of a stream's acknowledgments, and of whether it is cancelled.
-use Rattle.std.proofs.Common.{ℕ, ◌+◌, ◌≡◌, Bool, true, false, cond, List, [], ◌∷◌, refl, sym, ap, ◌∙◌, subst, inl, inr, ◌⊎◌}
+use Rattle.std.proofs.Common.{ℕ, ◌+◌, ◌≡◌, Bool, true, false, cond, List, [], ◌∷◌, refl, sym, ap, ◌∙◌, subst, inl, inr}
+use Rattle.std.proofs.Common.{◌⊎◌}
 use Rattle.std.proofs.Common.{arith, Some}
 use Rattle.std.specs.Prelude.{nat_eq, ◌||◌}
 use Rattle.std.proofs.Math.Bool.{or-false, or_assoc}
 use Rattle.std.proofs.lemmas.Bool.{cases_eq, eq-eqb, ne_eqb}
-use Rattle.qpack_spec.specs.Field.{Field}
 use Rattle.qpack_spec.specs.Table.{Table, window}
 use Rattle.qpack_spec.specs.Reading.{Reading, Fields, Missing, Faulty}
 use Rattle.qpack_spec.specs.BlockReading.{reading_of_bytes}
 use Rattle.qpack_spec.specs.Session.{KeptStream, stream_at, Session, Event, Encode, Decode, ToDecoder}
-use Rattle.qpack_spec.specs.Session.{ToEncoder, Acknowledge, Cancel, ChangeCapacity, Outcome, Acknowledged, Cancelled}
-use Rattle.qpack_spec.specs.Session.{NoMemory, Skipped, with_block, with_decoded, is_read, EndsAtDecoder}
+use Rattle.qpack_spec.specs.Session.{ToEncoder, Acknowledge, Cancel, ChangeCapacity, Outcome}
+use Rattle.qpack_spec.specs.Session.{NoMemory, Skipped, with_decoded, is_read, EndsAtDecoder}
 use Rattle.qpack_spec.specs.Session.{takes_all, no_memory, bad_bytes, bad_instruction, EndsAtEncoder}
 use Rattle.qpack_spec.specs.Session.{takes_all_at_encoder, bad_bytes_at_encoder, bad_decoder_instruction, LawfulStep}
 use Rattle.qpack_spec.specs.Session.{Step, Run}

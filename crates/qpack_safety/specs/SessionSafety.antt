@@ -1,8 +1,8 @@
 -- The session theorem, in four parts (RFC 9204, section 2): what holds of every session in bytes at every moment,
 -- behind any events with their answers, and of whatever event comes next. An event that is refused memory is an event
 -- like the others.
-use Rattle.std.specs.Prelude.{◌≡◌, ℕ, ◌+◌, ◌<◌, ◌≤◌, ◌⊎◌, Bool, false, if◌then◌else◌, nat_lt, nat_eq, List, [], ◌∷◌}
-use Rattle.std.specs.Prelude.{◌++◌, length, map, Option, Some, Ok, slice_get}
+use Rattle.std.specs.Prelude.{◌≡◌, ℕ, ◌+◌, ◌<◌, ◌≤◌, ◌⊎◌, Bool, false, nat_lt, List, [], ◌∷◌}
+use Rattle.std.specs.Prelude.{◌++◌, length, map, Some, Ok, slice_get}
 use Rattle.qpack_spec.specs.Field.{Field, total_size}
 use Rattle.qpack_spec.specs.Instruction.{EncoderInstruction, DecoderInstruction, SpellsEncoderInstruction}
 use Rattle.qpack_spec.specs.Instruction.{SpellsDecoderInstruction, written_encoder_instructions}
@@ -94,7 +94,7 @@ pub record RunsByTheRule (capacity limit : ℕ) (events : List (Event × Outcome
   pub writes : (s : ℕ) (fields : List Field) (required : ℕ) (v' : Session)
       → Step v (Encode s fields) (Encoded required) v'
       → WritesBlock v s fields required v'
-  -- each table is what its instructions make of an empty one, and within its capacity, which is at most the one agreed on
+  -- each table is what its instructions make of an empty one, and within its capacity; that is at most the agreed one
   pub lockstep : Lockstep capacity v
   pub encoder_capacity : v.encoder.capacity ≤ capacity
   pub decoder_capacity : v.decoder.capacity ≤ capacity

@@ -11,8 +11,8 @@ pub fn sessions_are_safe()
     ensures { SessionsAreSafe }
 {}
 
-/// The headline, over events and answers alone: on each stream the fields that were decoded are the first of those that were
-/// encoded, in order, and each answer is right behind those before it.
+/// The headline, over events and answers alone: on each stream the fields that were decoded are the first of those that
+/// were encoded, in order, and each answer is right behind those before it.
 pub fn sessions_answer_what_was_handed()
     ensures { SessionsAnswerWhatWasHanded }
 {}

@@ -1,5 +1,6 @@
 -- Worked rows of single events of a session, and of one that goes on at another capacity.
-use Rattle.std.proofs.Common.{ℕ, ◌<◌, ◌-◌, ◌^◌, ◌≡◌, true, false, List, [], ◌∷◌, ◌++◌, length, map, None, Some, Ok, inl, inr, refl}
+use Rattle.std.proofs.Common.{ℕ, ◌<◌, ◌-◌, ◌^◌, ◌≡◌, false, List, [], ◌∷◌, ◌++◌, length, map, None, Some, Ok, inl, inr}
+use Rattle.std.proofs.Common.{refl}
 use Rattle.std.proofs.Common.{lit≤}
 use Rattle.std.specs.Prelude.{codes, nat_eq}
 use Rattle.std.specs.List.{AllByRecursion}
@@ -15,10 +16,10 @@ use Rattle.qpack_spec.specs.Reading.{references_of_line, references_of}
 use Rattle.qpack_spec.specs.Table.{Table}
 use Rattle.qpack_spec.specs.Session.{KeptBlock, KeptStream, stream_at, Session, Encode, Decode, ToDecoder, Acknowledge}
 use Rattle.qpack_spec.specs.Session.{Cancel, ChangeCapacity, Encoded, Decoded, Delivered, Cancelled, CapacitySet}
-use Rattle.qpack_spec.specs.Session.{NoMemory, Skipped, with_block, with_decoded, with_cancelled, after_refused_encode}
+use Rattle.qpack_spec.specs.Session.{NoMemory, with_block, with_decoded, with_cancelled, after_refused_encode}
 use Rattle.qpack_spec.specs.Session.{with_decoder_moved, unreadable_blocks, blocked_blocks, skip_reason, takes_all}
 use Rattle.qpack_spec.specs.Session.{pieces_of, LawfulStep, Step, FitsMemory, Run}
-use Rattle.qpack_spec.proofs.SessionRows.{foo_bar, begun, written, delivered, decoded, released, heard_all, rows}
+use Rattle.qpack_spec.proofs.SessionRows.{foo_bar, begun, written, delivered, released, heard_all, rows}
 use Rattle.qpack_spec.proofs.SessionRows.{foo_bar_bytes, heard_fits, cut_none, line_then}
 
 -- ---- what is skipped

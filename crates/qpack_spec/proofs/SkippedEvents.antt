@@ -3,9 +3,9 @@ use Rattle.std.proofs.Common.{ℕ, ◌<◌, ◌≤◌, ◌^◌, ◌≡◌, Bool,
 use Rattle.std.proofs.Common.{arith, length, filter, take}
 use Rattle.std.specs.Prelude.{nat_lt, nat_le, ◌↔◌}
 use Rattle.std.proofs.lemmas.Bool.{leb-true, leb-false, ltb-true, ltb-false}
-use Rattle.qpack_spec.specs.Session.{stream_at, requires_entry, skip_reason, Session, Event, Encode, Decode, ToDecoder}
+use Rattle.qpack_spec.specs.Session.{stream_at, requires_entry, skip_reason, Session, Encode, Decode, ToDecoder}
 use Rattle.qpack_spec.specs.Session.{ToEncoder, Acknowledge, Cancel, ChangeCapacity}
-use Rattle.qpack_spec.specs.SessionLaws.{IsOutsideOn, number_too_great, was_cancelled, is_not_there, IsOutside}
+use Rattle.qpack_spec.specs.SessionLaws.{IsOutsideOn, number_too_great, was_cancelled, is_not_there}
 use Rattle.qpack_spec.specs.SessionLaws.{EventsAreSkippedExactly}
 
 -- the number of a reason

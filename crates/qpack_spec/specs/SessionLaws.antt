@@ -30,7 +30,8 @@ abbrev pub HasUnacknowledged : KeptStream → Type 0
 HasUnacknowledged k = k.acknowledged < length (filter requires_entry (take k.decoded k.blocks))
 
 -- an event is outside a lawful session, for this reason: 1, its stream number is too great; 2, nothing is to be decoded
--- on its stream; 3, its stream is cancelled; 4, nothing is to be acknowledged on it. A delivery and a capacity never are
+-- on its stream; 3, its stream is cancelled; 4, nothing is to be acknowledged on it. A delivery and a capacity never
+-- are
 abbrev pub IsOutside : Session → Event → ℕ → Type 0
 IsOutside v (Encode s fields) reason = (2 ^ 62 ≤ s) × (reason ≡ 1)
 IsOutside v (Decode s) reason = IsOutsideOn v s (HasUndecoded (stream_at v.streams s)) 2 reason

@@ -17,8 +17,8 @@ use Rattle.qpack_spec.specs.Stateless.{stateless_reading, up_to_limit}
 abbrev pub SpellsStatelessField : List ℕ → Field → Type 0
 SpellsStatelessField encoding f = (l : Line) × SpellsLine encoding l × (stateless_field l ≡ Ok f)
 
--- the bytes are a prefix, whatever count it says, whose base is not below 0, and lines that mean the fields, whose sizes
--- sum to at most the limit
+-- the bytes are a prefix, whatever count it says, whose base is not below 0, and lines that mean the fields, whose
+-- sizes sum to at most the limit
 pub record MeansStateless (limit : ℕ) (bytes : List ℕ) (fields : List Field) : Type 0 where
   pub head : List ℕ
   pub lines : List ℕ
