@@ -153,7 +153,7 @@ with_last : {H : Type 0} (field : H → Field) (xs : List H) (x : H)
 with_last field [] x = refl
 with_last field (y ∷ xs) x = ap (λ (fs : List Field). field y ∷ fs) (with_last field xs x)
 
-front_of : {H : Type 0} (field : H → Field) (xs : List H) (i : ℕ) (d : H) → i < length xs
+pub front_of : {H : Type 0} (field : H → Field) (xs : List H) (i : ℕ) (d : H) → i < length xs
     → map field (take (i + 1) xs) ≡ map field (take i xs) ++ field (get_or xs i d) ∷ []
 front_of field xs i d within = rw (add-one, take-suc xs i d within) (with_last field (take i xs) (get_or xs i d))
 

@@ -4,6 +4,7 @@ pub mod Meanings
 pub mod Asking
 pub mod ReadSections
 pub mod SectionAnswers
+pub mod LonePrefixes
 pub mod Taking
 pub mod Instructions
 pub mod Increments
@@ -13,6 +14,7 @@ pub mod Additions
 pub mod Rooms
 pub mod Stills
 pub mod AddedFields
+pub mod InstructionsRoom
 pub mod ReferencedRoom
 pub mod DraftedBlocks
 pub mod Streams

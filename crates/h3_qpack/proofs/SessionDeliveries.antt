@@ -5,19 +5,19 @@ use Rattle.std.proofs.Common.{Bool, true, false, Result, Ok, Err, if◌then◌el
 use Rattle.std.proofs.Common.{refl, sym, ap, subst, ◌∙◌, arith}
 use Rattle.std.proofs.lemmas.List.{take_min}
 use Rattle.std.specs.Prelude.{⊤}
-use Rattle.qpack_spec.specs.Instruction.{written_decoder_instructions}
 use Rattle.qpack_spec.specs.Session as spec
 use Rattle.qpack_spec.specs.Session.{Session, LawfulStep, skip_reason, EndsAtDecoder, EndsAtEncoder, takes_all}
 use Rattle.qpack_spec.specs.Session.{no_memory, bad_bytes, bad_instruction, takes_all_at_encoder}
 use Rattle.qpack_spec.specs.Session.{bad_bytes_at_encoder, bad_decoder_instruction, DeliversToDecoder}
 use Rattle.qpack_spec.specs.Session.{DeliversToEncoder}
-use Rattle.qpack_spec.specs.Session.{with_decoder_moved, with_encoder_moved, unreported_after, increments, is_consumed}
+use Rattle.qpack_spec.specs.Session.{with_decoder_moved, with_encoder_moved, unreported_after, is_consumed}
 use Rattle.qpack_spec.specs.Session.{apply_encoder_instructions, apply_decoder_instructions}
 use Rattle.qpack_spec.specs.Table.{Table, insert_count}
 use Rattle.h3_qpack.proofs.Sessions.{fits_reached, lawful}
 use Rattle.h3_qpack.specs.Hearing as hearing
 use Rattle.h3_qpack.specs.Receiving as receiving
 use Rattle.h3_qpack.specs.Receiving.{DecoderView, Receives, EndsReceiving, EndsTaking, Stops, to_report}
+use Rattle.h3_qpack.specs.Receiving.{written_report}
 use Rattle.h3_qpack.specs.Hearing.{Hears, EndsHearing, StopsHearing}
 use Rattle.h3_qpack.specs.Sections.{form_fault_of}
 use Rattle.h3_qpack.specs.Sessions.{SessionView, Shows, IsReached, Follows, Goes, Answers, TellsStreamFault}
@@ -184,17 +184,18 @@ module _ (s : SessionView) (new : DecoderView) (count delivered taken position :
       → bytes ≡ front ++ rest → EndsTaking new.table rest left taking
       → EndsReceiving s.decoder new taking s.decoder_stream written r → Ends front rest r
   delivery_ends front rest (Ok done) (Ok total) cut takes ends =
+      let same : unreported_after v new.table ≡ to_report s.decoder new.table = reported_same s v new.table m.shows in
       record {
         answer = spec.Delivered total;
         next = with_decoder_moved v count new.table (length front) 0
-            (v.decoder_stream ++ written_decoder_instructions (increments ends.2.pieces));
+            (v.decoder_stream ++ written_report (unreported_after v new.table));
         answers = refl;
         shown = moved_shown s new count delivered taken position written v _ _ _ m (sym ends.1)
             (front_consumed bytes front rest left position cut takes.1 counts)
-            (ap (λ (l : List ℕ). l ++ written_decoder_instructions (increments ends.2.pieces)) m.shows.decoder_stream
-            ∙ sym ends.2.written);
-        ends = takes_all ends.2.pieces takes.0 ends.2.are_pieces
-            (ends.2.sum ∙ sym (reported_same s v new.table m.shows)) (ap (λ (n : ℕ). spec.Delivered n) ends.0) refl;
+            (ap (λ (l : List ℕ). l ++ written_report (unreported_after v new.table)) m.shows.decoder_stream
+            ∙ ap (λ (n : ℕ). s.decoder_stream ++ written_report n) same
+            ∙ sym ends.2);
+        ends = takes_all takes.0 (ap (λ (n : ℕ). spec.Delivered n) ends.0) refl;
       }
   delivery_ends front rest (Ok done) (Err e) cut takes ends =
       subst (λ (x : DecoderError). Ends front rest (Err x)) (sym ends.0)

@@ -250,7 +250,7 @@ pub sets_capacity : (s : SessionView) (encoder : Table) (written : List ℕ) (ca
 sets_capacity s encoder written capacity (Ok done) at small h v shows = sets s encoder written capacity v at small
     shows h
 sets_capacity s encoder written capacity (Err Memory) at small h v shows =
-    wants_memory s encoder written capacity v at shows h
+    wants_memory s encoder written capacity v at shows (h.1, h.2)
 sets_capacity s encoder written capacity (Err e) at small h v shows =
     refuses_capacity s encoder written capacity e v (λ refusal told_so. (refusal, refl, told_so)) at shows h
 

@@ -1,8 +1,9 @@
 -- What an encoder writes for fields, one by one (RFC 9204, section 2.1).
-use Rattle.std.specs.Prelude.{◌≡◌, ℕ, ◌⊎◌, List, [], ◌++◌, take, map, Option}
+use Rattle.std.specs.Prelude.{◌≡◌, ℕ, ◌+◌, ◌*◌, ◌≤◌, ◌⊎◌, List, [], ◌++◌, take, map, Option, vec_len, vec_capacity}
+use Rattle.std.specs.declared.vec.Vec.{Vec}
 use Rattle.std.specs.Borrow.{Bor}
 use Rattle.std.specs.Iterator.{Drains}
-use Rattle.qpack_spec.specs.Field.{Field}
+use Rattle.qpack_spec.specs.Field.{Field, total_size}
 use Rattle.qpack_spec.specs.Instruction.{InsertStaticName, InsertDynamicName, InsertLiteralName, Duplicate}
 use Rattle.qpack_spec.specs.Instruction.{written_encoder_instruction, written_encoder_instructions}
 use Rattle.qpack_spec.specs.Line.{written_lines}
@@ -28,6 +29,32 @@ written_insertion f (InsertedWithName relative post_base absolute) =
     written_encoder_instruction (InsertDynamicName relative f.value)
 written_insertion f (Inserted post_base absolute) = written_encoder_instruction (InsertLiteralName f.name f.value)
 written_insertion f (NotInserted lookup) = []
+
+-- ---- room for instructions
+
+-- as much room as the instructions of some fields take at most: four bytes for each byte of the fields' sizes
+abbrev pub instructions_room : List Field → ℕ
+instructions_room fs = 4 * total_size fs
+
+-- what was appended to a vector takes so many bytes at most, and with free room for these the vector was not grown
+pub record GrowsWithin {A : Type 0} (room : ℕ) (old new : Vec ℕ A) : Type 0 where
+  pub longer : vec_len new ≤ vec_len old + room
+  pub still : vec_len old + room ≤ vec_capacity old → vec_capacity new ≡ vec_capacity old
+  pub capacity : vec_capacity old ≤ vec_capacity new
+
+-- nothing was appended, and the vector was not grown; or that is so within the room of the fields that the iterator
+-- gives
+abbrev pub GrowsForFieldsOf : {S H A : Type 0} → (H → Field) → (S → Option H → S → Type 0) → S → Vec ℕ A → Vec ℕ A
+    → Type 0
+GrowsForFieldsOf field steps it old new =
+    GrowsWithin 0 old new ⊎ DrainsFieldsOf field steps it (λ fs. GrowsWithin (instructions_room fs) old new)
+
+-- the same of references to fields
+abbrev pub GrowsForFields : {S A : Type 0} → (S → Option (Bor HeaderField) → S → Type 0) → S → Vec ℕ A → Vec ℕ A
+    → Type 0
+GrowsForFields steps it old new = GrowsForFieldsOf (λ field. field_of field.now) steps it old new
+
+-- ---- one field
 
 -- a block in progress at a table, of which nothing is written yet
 abbrev pub draft_at : Table → Draft

@@ -1,6 +1,6 @@
 -- What an encoder does with the bytes of the decoder stream (RFC 9204, section 4.4), and with a capacity
 -- (section 3.2.3).
-use Rattle.std.specs.Prelude.{◌≡◌, ℕ, ⊤, Bool, List, ◌++◌, Option, None, Some, Result, Ok, Err}
+use Rattle.std.specs.Prelude.{◌≡◌, ℕ, ⊤, Bool, List, ◌++◌, Option, None, Some, Result, Ok, Err, IsOk}
 use Rattle.qpack_spec.specs.Bytes.{Begins}
 use Rattle.qpack_spec.specs.Form.{FormFault, BadInteger}
 use Rattle.qpack_spec.specs.Instruction.{DecoderInstruction, decoder_instruction_form, SpellsDecoderInstruction}
@@ -61,11 +61,12 @@ Hears old new bytes left r =
 
 -- ---- a capacity
 
--- the capacity is set and its instruction written; or it is refused, by the table as the definition refuses it or for
--- memory, and then nothing changes and nothing is written
+-- the capacity is set and its instruction written; or it is refused, by the table as the definition refuses it, or for
+-- memory where the definition takes it, and then nothing changes and nothing is written
 abbrev pub SetsCapacity : ℕ → Table → Table → List ℕ → List ℕ → Result ⊤ EncoderError → Type 0
 SetsCapacity size old new written_old written_new (Ok done) =
     (with_capacity old size ≡ Ok new) × (written_new ≡ written_old ++ written_encoder_instruction (SetCapacity size))
-SetsCapacity size old new written_old written_new (Err Memory) = (new ≡ old) × (written_new ≡ written_old)
+SetsCapacity size old new written_old written_new (Err Memory) =
+    IsOk (with_capacity old size) × (new ≡ old) × (written_new ≡ written_old)
 SetsCapacity size old new written_old written_new (Err e) =
     IsRefusedFor (with_capacity old size) (refusal_of e) × (new ≡ old) × (written_new ≡ written_old)

@@ -1,9 +1,9 @@
 -- What a decoder does with the bytes of the encoder stream (RFC 9204, sections 4.3 and 4.4.3).
 use Rattle.std.specs.Prelude.{◌≡◌, ℕ, ◌+◌, ◌-◌, ◌<◌, ◌⊎◌, ⊤, Bool, true, false, if◌then◌else◌, List, ◌++◌, Option, None}
 use Rattle.std.specs.Prelude.{Some}
-use Rattle.std.specs.Prelude.{IsSome, slice_get, Result, Ok, Err}
+use Rattle.std.specs.Prelude.{IsSome, slice_get, Result, Ok, Err, ◌≤◌, length, vec_len, vec_capacity}
+use Rattle.std.specs.declared.vec.Vec.{Vec}
 use Rattle.std.specs.Option.{option_map}
-use Rattle.std.specs.List.{AllByRecursion}
 use Rattle.qpack_spec.specs.Bytes.{Begins}
 use Rattle.qpack_spec.specs.Field.{Field}
 use Rattle.qpack_spec.specs.Form.{FormFault}
@@ -11,7 +11,7 @@ use Rattle.qpack_spec.specs.Instruction.{EncoderInstruction, InsertStaticName, I
 use Rattle.qpack_spec.specs.Instruction.{Duplicate, SetCapacity, encoder_instruction_form, SpellsEncoderInstruction}
 use Rattle.qpack_spec.specs.Instruction.{RefusesEncoderInstruction, written_decoder_instructions}
 use Rattle.qpack_spec.specs.StaticTable.{static_table}
-use Rattle.qpack_spec.specs.Session.{is_consumed, increments, sum_of, IsPiece}
+use Rattle.qpack_spec.specs.Session.{is_consumed, increments, pieces_of}
 use Rattle.qpack_spec.specs.Table.{Table, window, insert_count, apply_encoder_instruction, put}
 use Rattle.qpack_spec.specs.Window.{TableRefusal, NoEntry, NoStaticField, DoesNotFit, AboveMaximum, UnknownStream}
 use Rattle.qpack_spec.specs.Window.{relative_entry, with_value}
@@ -120,19 +120,21 @@ TakesInstructions old new bytes left r =
 abbrev pub to_report : DecoderView → Table → ℕ
 to_report d t = d.unreported + (insert_count t - insert_count d.table)
 
--- so many insertions are reported: increments, each from 1 to 64, are written behind what was written
-pub record Reports (many : ℕ) (old new : List ℕ) : Type 0 where
-  pub pieces : List ℕ
-  pub are_pieces : AllByRecursion IsPiece pieces
-  pub sum : sum_of pieces ≡ many
-  pub written : new ≡ old ++ written_decoder_instructions (increments pieces)
+-- what reports so many insertions: an increment for each of their pieces
+abbrev pub written_report : ℕ → List ℕ
+written_report many = written_decoder_instructions (increments (pieces_of many))
+
+-- a vector has free room for what reports the insertions of a call, and of calls before that were not reported
+abbrev pub HasRoomToReport : {A : Type 0} → DecoderView → Table → Vec ℕ A → Type 0
+HasRoomToReport d t write = vec_len write + length (written_report (to_report d t)) ≤ vec_capacity write
 
 -- how a call ends behind the instructions that it took: all its insertions are reported, and those of calls before that
 -- were not, and the total is answered; or it is refused, writes nothing, and keeps them all to be reported
 abbrev pub EndsReceiving : DecoderView → DecoderView → Result ⊤ DecoderError → List ℕ → List ℕ → Result ℕ DecoderError
     → Type 0
 EndsReceiving old new (Ok done) written_old written_new (Ok total) =
-    (total ≡ insert_count new.table) × (new.unreported ≡ 0) × Reports (to_report old new.table) written_old written_new
+    (total ≡ insert_count new.table) × (new.unreported ≡ 0)
+    × (written_new ≡ written_old ++ written_report (to_report old new.table))
 EndsReceiving old new (Ok done) written_old written_new (Err e) =
     (e ≡ Memory) × (0 < to_report old new.table) × (new.unreported ≡ to_report old new.table)
     × (written_new ≡ written_old)

@@ -3,7 +3,8 @@ use Rattle.std.specs.Prelude.{◌≡◌, ◌<◌, ℕ, List, [], ◌∷◌, ◌+
 use Rattle.qpack_spec.specs.Session as spec
 use Rattle.qpack_spec.specs.Session.{Session, Run, initial_session}
 use Rattle.qpack_spec.specs.Table.{insert_count}
-use Rattle.qpack_safety.specs.SessionSafety.{AnsweredEncode, AnswersFields, next_encode}
+use Rattle.qpack_safety.specs.Headline.{AnsweredEncode, next_encode}
+use Rattle.qpack_safety.specs.SessionSafety.{AnswersFields}
 use Rattle.h3_qpack.specs.Sessions.{SessionView, Reaches}
 use Rattle.h3_qpack.specs.Stateless.{fields_in}
 use Rattle.h3_qpack.specs.declared.decoder.DecoderError.{DecoderError}

@@ -1,7 +1,8 @@
 -- Where an event of a session asks for memory.
-use Rattle.std.specs.Prelude.{◌<◌, ℕ, ◌⊎◌, List, take, drop, Err}
+use Rattle.std.specs.Prelude.{◌<◌, ℕ, ◌⊎◌, List, take, drop, Err, IsOk}
 use Rattle.qpack_spec.specs.Session as spec
 use Rattle.qpack_spec.specs.Session.{stream_at, oldest_undecoded}
+use Rattle.qpack_spec.specs.Table.{with_capacity}
 use Rattle.qpack_wire.specs.Memory.{AsksSectionForMemory}
 use Rattle.h3_qpack.specs.Receiving.{AsksToTake}
 use Rattle.h3_qpack.specs.Sessions.{SessionView, HasBytes}
@@ -24,10 +25,13 @@ AsksAtDecoder s =
     (0 < s.decoder.unreported)
     ⊎ AsksToTake s.decoder.table (drop s.encoder_stream_taken (take s.encoder_stream_delivered s.encoder_stream))
 
--- want of memory is answered only where memory is asked for: by these two, never by a delivery to the encoder, and by
--- any other event that is not skipped, since each of them writes bytes
+-- want of memory is answered only where memory is asked for: by these two, by a capacity that the encoder's table
+-- takes, never by a delivery to the encoder, and by any other event that is not skipped, since each of them writes
+-- bytes
 abbrev pub IsAskedFor : SessionView → SessionView → spec.Event → Outcome → Type 0
 IsAskedFor old new (spec.Decode number) (outcome.Decoded (Err decoder.Memory)) = AsksToDecode old number
 IsAskedFor old new event (outcome.Delivered (Err decoder.Memory)) = AsksAtDecoder new
 IsAskedFor old new event (outcome.Heard (Err encoder.Memory)) = ⊥
+IsAskedFor old new (spec.ChangeCapacity capacity) (outcome.CapacitySet (Err encoder.Memory)) =
+    IsOk (with_capacity old.encoder capacity)
 IsAskedFor old new event result = Unit {0}

@@ -3,6 +3,7 @@ use Rattle.std.specs.Prelude.{◌≡◌, ℕ, ◌⊎◌, List, [], ◌∷◌, �
 use Rattle.qpack_base.specs.Refusals.{IsRefusedFor}
 use Rattle.qpack_spec.specs.Session as spec
 use Rattle.qpack_spec.specs.Session.{Session, StartRefusal}
+use Rattle.qpack_safety.specs.Headline.{AnswersWhatWasHanded}
 use Rattle.qpack_table.specs.declared.dynamic.Error.{Error}
 use Rattle.qpack_table.specs.declared.dynamic.Error.TheVariants.{Memory}
 use Rattle.h3_qpack.specs.Sessions.{SessionView, Shows, Reaches, Answers, IsAnswerTo, event_of}
@@ -16,6 +17,11 @@ AreAnswered [] [] [] = Unit {0}
 AreAnswered (e ∷ es) (o ∷ os) (step ∷ steps) =
     (step.0 ≡ event_of e) × IsAnswerTo (event_of e) o × Answers o step.1 × AreAnswered es os steps
 AreAnswered es os steps = ⊥
+
+-- the headline: what the events answered, each in its kind, is what was handed
+abbrev pub AnswerWhatWasHanded : List Event → List Outcome → Type 0
+AnswerWhatWasHanded events outcomes =
+    (steps : List (spec.Event × spec.Outcome)) × AreAnswered events outcomes steps × AnswersWhatWasHanded steps
 
 -- events, each with its answer, lead from the beginning to a session that is shown, and P holds of it
 pub record Runs (capacity limit : ℕ) (events : List Event) (outcomes : List Outcome) (s : SessionView)

@@ -6,7 +6,8 @@ use Rattle.qpack_spec.specs.Field.{Field, total_size}
 use Rattle.qpack_spec.specs.Text.{EndsEarly, LengthOverflows, BadHuffman}
 use Rattle.qpack_spec.specs.Form.{BadInteger, BadString, form_at}
 use Rattle.qpack_spec.specs.Line.{line_form}
-use Rattle.qpack_spec.specs.Reading.{BadForm, NotStatic}
+use Rattle.qpack_spec.specs.Prefix.{BelowZero}
+use Rattle.qpack_spec.specs.Reading.{BadForm, BadPrefix, NotStatic}
 use Rattle.qpack_spec.specs.Stateless.{StatelessFault, BadSection, NamesEntry, TooLong, saturated_size, stateless_field}
 use Rattle.qpack_spec.specs.Stateless.{or_bad_bytes}
 use Rattle.qpack_spec.specs.StatelessMeaning.{MeansStateless, StopsStateless}
@@ -21,7 +22,8 @@ use Rattle.qpack_wire.specs.Answers.{ReadAs}
 use Rattle.h3_qpack.specs.declared.decoder.Decoded.{Decoded}
 use Rattle.h3_qpack.specs.declared.decoder.DecoderError.{DecoderError}
 use Rattle.h3_qpack.specs.declared.decoder.DecoderError.TheVariants.{MissingRefs, HeaderTooLong, InvalidInteger}
-use Rattle.h3_qpack.specs.declared.decoder.DecoderError.TheVariants.{InvalidString, InvalidStaticIndex, Memory}
+use Rattle.h3_qpack.specs.declared.decoder.DecoderError.TheVariants.{BadBaseIndex, InvalidString, InvalidStaticIndex}
+use Rattle.h3_qpack.specs.declared.decoder.DecoderError.TheVariants.{Memory}
 
 -- the fields that were decoded
 abbrev pub fields_in : List HeaderField → List Field
@@ -36,6 +38,7 @@ fault_of (InvalidString string.UnexpectedEnd) = Some (BadSection (BadForm (BadSt
 fault_of (InvalidString (string.Integer integer.Overflow)) = Some (BadSection (BadForm (BadString LengthOverflows)))
 fault_of (InvalidString (string.HuffmanDecoding e)) =
     Some (BadSection (BadForm (BadString (BadHuffman (huffman_fault_of e)))))
+fault_of (BadBaseIndex base) = Some (BadSection (BadPrefix (BelowZero base)))
 fault_of (InvalidStaticIndex index) = Some (BadSection (NotStatic index))
 fault_of e = None
 

@@ -177,7 +177,7 @@ impl<T: Drop> From<AllocFailed<T>> for DecoderError {
 }
 
 /// Decodes the block that the cursor has left without a dynamic table, up to a sum of sizes. The
-/// block's prefix is read, and means nothing here.
+/// required insert count of its prefix is read, and means nothing here; a base below 0 is refused (`BadBaseIndex`).
 pub fn decode_stateless(
     alloc: Global,
     buf: &mut Cursor,
@@ -207,7 +207,8 @@ fn read_block(alloc: Global, buf: &mut Cursor, max_size: u64) -> Result<Decoded,
     ensures finished { OnOk result (IsFinished buf.old buf.new) }
     ensures memory { result ≡ Err Memory → AsksSectionForMemory buf.old.rest }
 {
-    let _prefix = HeaderPrefix::decode(buf)?;
+    let prefix = HeaderPrefix::decode(buf)?;
+    prefix.get(0, 0)?;
     read_lines(alloc, buf, max_size)
 }
 

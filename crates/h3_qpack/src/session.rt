@@ -10,7 +10,7 @@ ghost use Rattle.qpack_safety.specs.SessionSafety.{WaitsOnlyForInsertions};
 ghost use Rattle.qpack_table.specs.declared.dynamic.Error.TheVariants.{MaximumTableSizeTooLarge};
 ghost use Rattle.h3_qpack.specs.Sessions.{Follows, Keeps, Reaches, IsReached, event_of};
 ghost use Rattle.h3_qpack.specs.SessionStarts.{Begins, IsBlock};
-ghost use Rattle.h3_qpack.specs.SessionRuns.{Runs, RefusesRun};
+ghost use Rattle.h3_qpack.specs.SessionRuns.{AnswerWhatWasHanded, Runs, RefusesRun};
 ghost use Rattle.h3_qpack.specs.SessionMemory.{IsAskedFor};
 ghost use Rattle.h3_qpack.specs.SessionAnswers.{IsUnrefused, IsExactBehind, AreExact};
 
@@ -253,6 +253,11 @@ pub fn run(
 ) -> Result<(Session, Vec<Outcome>), dynamic::Error>
     // Refused, the session does not begin, or memory is wanted.
     ensures err { IfErr result (λ e. RefusesRun e (begin_session capacity limit)) }
+    // The headline, by events and answers alone. Each answer is of its event's kind. On each stream the fields that
+    // were decoded are the first of those that were encoded, in order. No stream is refused, what is skipped is skipped
+    // for its reason, and a decode that answers no fields wants memory or tells the required insert count that its
+    // block's encode answered.
+    ensures headline { IfOk result (λ p. AnswerWhatWasHanded events.now p.1.items) }
     // No instruction is refused but for memory.
     ensures unrefused { IfOk result (λ p. AllByRecursion IsUnrefused p.1.items) }
     // Each decode answers exactly the fields that were handed to the encode of its block, or it wants memory, or tells

@@ -74,7 +74,7 @@ counted_resized v n t e c = pick (resized_cases v.encoder n)
 
 counted_delivery : (v : Session) (n : ℕ) (t : Table) (front rest : List ℕ) (o : Outcome) (v' : Session)
     → EndsAtDecoder v n t front rest o v' → CountsItsBlocks v → CountsItsBlocks v'
-counted_delivery v n t front rest o v' (takes_all pieces cut sizes sum is goes) c = subst CountsItsBlocks (sym goes) c
+counted_delivery v n t front rest o v' (takes_all cut is goes) c = subst CountsItsBlocks (sym goes) c
 counted_delivery v n t front rest o v' (no_memory is goes) c = subst CountsItsBlocks (sym goes) c
 counted_delivery v n t front rest o v' (bad_bytes fault b is goes) c = subst CountsItsBlocks (sym goes) c
 counted_delivery v n t front rest o v' (bad_instruction encoding more i e cut s bad is goes) c =

@@ -19,8 +19,9 @@ use Rattle.qpack_spec.specs.Session.{with_encoder_moved, unreported_after, EndsA
 use Rattle.qpack_spec.specs.Session.{bad_bytes}
 use Rattle.qpack_spec.specs.Session.{bad_instruction, DeliversToDecoder, EndsAtEncoder, takes_all_at_encoder}
 use Rattle.qpack_spec.specs.Session.{bad_bytes_at_encoder, bad_decoder_instruction}
-use Rattle.qpack_spec.specs.Session.{DeliversToEncoder, increments}
+use Rattle.qpack_spec.specs.Session.{DeliversToEncoder, increments, pieces_of}
 use Rattle.qpack_spec.proofs.Results.{ok_is}
+use Rattle.qpack_spec.proofs.Pieces.{pieces_add_up, pieces_small}
 use Rattle.qpack_spec.proofs.PutTables.{applied_put, count_put}
 use Rattle.qpack_safety.specs.Refines.{Refines}
 use Rattle.qpack_safety.proofs.Invariant.{Invariant}
@@ -165,7 +166,9 @@ lands_delivered capacity limit v w n o v' sh k c = go (moved capacity limit v w 
     go : Moved capacity limit v w n c.takes.lines c.takes.front c.takes.rest c.table
         → EndsAtDecoder v n c.table c.takes.front c.takes.rest o v'
         → RefinesSome capacity limit v'
-    go m (takes_all pieces cut sizes sum is goes) =
+    go m (takes_all cut is goes) =
+        let pieces = pieces_of (unreported_after v c.table) in
+        let small = pieces_small (unreported_after v c.table) in
         let shown = moved_shown capacity limit v w n c.takes.lines c.takes.front c.takes.rest c.table sh m in
         let w1 = after_steps (taking_all c.takes.lines) w in
         at (with_decoder_moved v n c.table (length c.takes.front) 0
@@ -182,11 +185,12 @@ lands_delivered capacity limit v w n o v' sh k c = go (moved capacity limit v w 
                 carried_more SpellsDecoderInstruction v.decoder_stream
                 (written_decoder_instructions (increments pieces)) v.decoder_stream_taken shown.decoder_taken
                 w1.decoder_in_flight (increments pieces) shown.decoder_stream
-                (decoder_instructions_joined (increments pieces) (increments_writable pieces sizes));
+                (decoder_instructions_joined (increments pieces) (increments_writable pieces small));
             decoder_stream_order = shown.decoder_stream_order;
             streams_are = shown.streams_are;
           };
-          keeps = inv_reported capacity limit w1 pieces (sum ∙ m.unreported_is) m.keeps;
+          keeps = inv_reported capacity limit w1 pieces (pieces_add_up (unreported_after v c.table) ∙ m.unreported_is)
+              m.keeps;
         })
     go m (no_memory is goes) =
         at (with_decoder_moved v n c.table (length c.takes.front) (unreported_after v c.table) v.decoder_stream) goes
@@ -208,7 +212,7 @@ delivered_lawful capacity limit v w n fault v' sh k c = go (moved capacity limit
   where
     go : Moved capacity limit v w n c.takes.lines c.takes.front c.takes.rest c.table
         → EndsAtDecoder v n c.table c.takes.front c.takes.rest (Refused fault) v' → ⊥
-    go m (takes_all pieces cut sizes sum is goes) = absurd cc
+    go m (takes_all cut is goes) = absurd cc
     go m (no_memory is goes) = absurd cc
     go m (bad_bytes f b is goes) = no_bad_bytes capacity limit v w n c.takes.lines c.takes.front c.takes.rest c.table f
         m b

@@ -16,7 +16,7 @@ use Rattle.qpack_spec.specs.Session.{Skipped, decode_outcome, with_block, with_d
 use Rattle.qpack_spec.specs.Session.{takes_all, no_memory, bad_bytes, bad_instruction, EndsAtEncoder}
 use Rattle.qpack_spec.specs.Session.{takes_all_at_encoder, bad_bytes_at_encoder, bad_decoder_instruction, LawfulStep}
 use Rattle.qpack_spec.specs.Session.{Step, Run}
-use Rattle.qpack_safety.specs.SessionSafety.{AnsweredEncode, encode_of, decode_of, encodes_on, decodes_on}
+use Rattle.qpack_safety.specs.Headline.{AnsweredEncode, encode_of, decode_of, encodes_on, decodes_on}
 use Rattle.qpack_safety.specs.SessionSafety.{encode_behind}
 
 -- ---- one stream changed
@@ -128,7 +128,7 @@ adds_read v t (Faulty f) s = adds_none v v s refl
 
 adds_delivery : (v : Session) (n : ℕ) (t : Table) (front rest : List ℕ) (o : Outcome) (v' : Session) (s : ℕ)
     → EndsAtDecoder v n t front rest o v' → Adds v v' s [] 0
-adds_delivery v n t front rest o v' s (takes_all pieces cut sizes sum is goes) =
+adds_delivery v n t front rest o v' s (takes_all cut is goes) =
     adds_none v v' s (ap (λ (x : Session). stream_at x.streams s) goes)
 adds_delivery v n t front rest o v' s (no_memory is goes) =
     adds_none v v' s (ap (λ (x : Session). stream_at x.streams s) goes)

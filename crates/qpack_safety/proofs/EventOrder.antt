@@ -131,7 +131,7 @@ delivery_moves : (v : Session) (n : ℕ) (t : Table) (front rest : List ℕ) (o 
     → v.encoder_stream_taken + length front + length rest
     ≡ min (v.encoder_stream_delivered + n) (length v.encoder_stream)
     → EndsAtDecoder v n t front rest o v' → Moves v v'
-delivery_moves v n t front rest o v' d position (takes_all pieces cut sizes sum is goes) =
+delivery_moves v n t front rest o v' d position (takes_all cut is goes) =
     subst (Moves v) (sym goes) (delivers_moves v n t (length front) 0 _ d (omega (arith, position)))
 delivery_moves v n t front rest o v' d position (no_memory is goes) =
     subst (Moves v) (sym goes) (delivery_quiet v n t (length front) _ d (omega (arith, position)))

@@ -21,15 +21,18 @@ use Rattle.qpack_spec.specs.Session.{bad_bytes, bad_instruction, DeliversToDecod
 use Rattle.qpack_spec.specs.Session.{bad_bytes_at_encoder}
 use Rattle.qpack_spec.specs.Session.{bad_decoder_instruction, DeliversToEncoder, LawfulStep, Step, IsByteEvent}
 use Rattle.qpack_spec.specs.Session.{FitsMemory, Run}
+use Rattle.qpack_spec.specs.History.{History, window_of}
 use Rattle.qpack_spec.proofs.PutTables.{window_put, count_put}
+use Rattle.qpack_spec.proofs.Windows.{Agreed}
 use Rattle.qpack_spec.proofs.References.{blocks_require}
 use Rattle.qpack_safety.specs.AbstractSafety.{Safe}
 use Rattle.qpack_safety.specs.SessionSafety.{WritesBlock, Lockstep, Accounts, IsOrdered, RunsByTheRule}
-use Rattle.qpack_safety.specs.SessionSafety.{RefusesNothing, AnsweredEncode, encodes_on, decodes_on, next_encode}
+use Rattle.qpack_safety.specs.Headline.{AnsweredEncode, encodes_on, decodes_on, next_encode}
+use Rattle.qpack_safety.specs.SessionSafety.{RefusesNothing}
 use Rattle.qpack_safety.specs.SessionSafety.{encode_behind, AnswersFields, DecodesWhatWasHanded, DecodeAnswer}
 use Rattle.qpack_safety.specs.SessionSafety.{is_skipped, wants_memory, gives_fields, waits_for, WaitsOnlyForInsertions}
 use Rattle.qpack_safety.specs.SessionSafety.{SessionsAreSafe}
-use Rattle.qpack_safety.proofs.Invariant.{sound_received, total_window}
+use Rattle.qpack_safety.proofs.Invariant.{sound_received, agreed_made, agreed_received, total_window}
 use Rattle.qpack_safety.proofs.Safely.{inv_safe}
 use Rattle.qpack_safety.proofs.WritingEvents.{RefinesSome, lawful_on}
 use Rattle.qpack_safety.proofs.DeliveryEvents.{delivered_lawful, heard_lawful, lands_delivered}
@@ -146,6 +149,15 @@ in_lockstep capacity limit v r =
       encoder_is = ap window r.refines.encoder_is ∙ k.encoder.shares;
     }
 
+-- the capacities are at most the one agreed on
+encoder_within : (t : Table) (h : History) (most : ℕ) → window t ≡ window_of h → Agreed most h → t.capacity ≤ most
+unfolding window window_of
+encoder_within t h most e a = omega (arith, ap (λ (w : Window). w.capacity) e, a.within)
+
+decoder_within : (t : Table) (h : History) (most : ℕ) → t ≡ table_of (window_of h) → Agreed most h → t.capacity ≤ most
+unfolding table_of window_of
+decoder_within t h most e a = omega (arith, ap (λ (x : Table). x.capacity) e, a.within)
+
 in_accounts : (capacity limit : ℕ) (v : Session) → RefinesSome capacity limit v → Accounts v
 in_accounts capacity limit v r =
     let w = r.abstract in
@@ -172,6 +184,7 @@ in_accounts capacity limit v r =
 by_the_rule : (capacity limit : ℕ) (events : List (Event × Outcome)) (v : Session)
     → Run (initial_session capacity limit) events v → SessionInvariant capacity limit v
     → RunsByTheRule capacity limit events v
+unfolding in_lockstep
 by_the_rule capacity limit events v run r =
     let w = r.some.abstract in
     let sh = r.some.refines in
@@ -181,11 +194,17 @@ by_the_rule capacity limit events v run r =
     let known_received_count : v.encoder.known_received_count ≤ insert_count v.decoder =
     omega (arith, safe.received, many, ap (λ (t : Table). t.known_received_count) sh.encoder_is) in
     let counted : length v.encoder.blocked ≡ blocked_blocks v = counts_all v.encoder v.streams r.counted in
+    let step = in_lockstep capacity limit v r.some in
     let limit_is : v.encoder.limit ≡ limit = ap (λ (t : Table). t.limit) sh.encoder_is ∙ r.some.keeps.same_limit in
     record {
       run = run;
       writes = encode_writes v;
-      lockstep = in_lockstep capacity limit v r.some;
+      lockstep = step;
+      encoder_capacity =
+          encoder_within v.encoder step.made capacity step.encoder_is (agreed_made capacity limit w r.some.keeps);
+      decoder_capacity =
+          decoder_within v.decoder step.received capacity step.decoder_is
+          (agreed_received capacity limit w r.some.keeps);
       encoder_fits =
           subst (λ (t : Table). total_size (fields_in t.live) ≤ t.capacity) (sym sh.encoder_is) safe.encoder_fits;
       decoder_fits =
@@ -233,7 +252,7 @@ delivery_answers capacity limit v n o v' r c = go c.takes.ends
 
     go : EndsAtDecoder v n c.table c.takes.front c.takes.rest o v' → (o ≡ Delivered (insert_count v'.decoder)) ⊎ (o
         ≡ NoMemory)
-    go (takes_all pieces cut sizes sum is goes) =
+    go (takes_all cut is goes) =
         inl (is ∙ ap (λ (x : Session). Delivered (insert_count x.decoder)) (sym goes))
     go (no_memory is goes) = inr is
     go (bad_bytes fault b is goes) = absurd (refused _ is)

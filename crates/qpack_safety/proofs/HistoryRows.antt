@@ -4,7 +4,7 @@ use Rattle.std.specs.Prelude.{codes}
 use Rattle.qpack_spec.specs.Field.{Field}
 use Rattle.qpack_spec.specs.StaticTable.{field}
 use Rattle.qpack_spec.specs.Session.{Event, Encode, Decode, Outcome, Encoded, Decoded, MissingReferences, NoMemory}
-use Rattle.qpack_safety.specs.SessionSafety.{encodes_on, decodes_on, next_encode}
+use Rattle.qpack_safety.specs.Headline.{encodes_on, decodes_on, next_encode}
 
 fields_of : List ℕ → List Field
 fields_of name = field name (codes "bar") ∷ []

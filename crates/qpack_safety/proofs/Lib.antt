@@ -20,4 +20,6 @@ pub mod CountedEvents
 pub mod EventHistory
 pub mod EventOrder
 pub mod FourParts
+pub mod StreamMarks
+pub mod Headline
 pub mod HistoryRows

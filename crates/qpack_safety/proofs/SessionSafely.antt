@@ -4,7 +4,7 @@ use Rattle.std.proofs.Common.{None, Some, Result, Ok, refl, sym, ap, ◌∙◌, 
 use Rattle.std.proofs.Common.{length-append}
 use Rattle.std.specs.List.{slice_get}
 use Rattle.std.specs.Prelude.{nat_lt, nat_eq}
-use Rattle.std.proofs.lemmas.Bool.{cases_lt, eq-eqb, ne_eqb}
+use Rattle.std.proofs.lemmas.Bool.{cases_lt, ne_eqb}
 use Rattle.std.proofs.lemmas.List.{append_assoc, append_cancel_left}
 use Rattle.qpack_spec.specs.Field.{Field}
 use Rattle.qpack_spec.specs.Form.{Truncates}
@@ -13,7 +13,7 @@ use Rattle.qpack_spec.specs.Stream.{SpellsAll, IsCutOff}
 use Rattle.qpack_spec.specs.Window.{Window, window_insert_count}
 use Rattle.qpack_spec.specs.Reading.{Fault, Reading, Faulty, Fields, Missing, reading, fields_of, references_of}
 use Rattle.qpack_spec.specs.History.{History, whole_window, initial_history, Leads}
-use Rattle.qpack_spec.specs.BlockReading.{reading_of_bytes, base_behind, meaning_over_all, written_block}
+use Rattle.qpack_spec.specs.BlockReading.{reading_of_bytes, meaning_over_all, written_block}
 use Rattle.qpack_spec.specs.Table.{Table, window, insert_count}
 use Rattle.qpack_safety.specs.AbstractSession.{AbstractBlock, required_count, AbstractSession, abstract_start}
 use Rattle.qpack_spec.specs.Session.{KeptBlock, stream_at, Session, Event, Encode, Decode, ToDecoder, ToEncoder}
@@ -27,12 +27,12 @@ use Rattle.qpack_spec.specs.WrittenLaws.{IsByteField}
 use Rattle.qpack_spec.proofs.Positions.{every_take}
 use Rattle.qpack_spec.proofs.BlockReadings.{written_read, written_means}
 use Rattle.qpack_spec.proofs.PutTables.{window_put, count_put}
-use Rattle.qpack_spec.specs.Prefix.{Prefix, read_base}
+use Rattle.qpack_spec.specs.Prefix.{Prefix, prefix_for, base_behind, read_base}
 use Rattle.qpack_spec.proofs.Lists.{every_get}
 use Rattle.qpack_spec.proofs.Windows.{Agreed, agreed_start, leads_agreed, leads_append, leads_unique}
 use Rattle.qpack_spec.proofs.Readings.{fields_plain}
 use Rattle.qpack_spec.proofs.Positions.{numbers_none}
-use Rattle.qpack_spec.proofs.Prefixes.{base_written}
+use Rattle.qpack_spec.proofs.Prefixes.{base_written, base_plain, written_not_below}
 use Rattle.qpack_safety.specs.AbstractSafety.{DecodesExactly}
 use Rattle.qpack_safety.specs.SessionSafety.{Extends}
 use Rattle.qpack_safety.specs.Refines.{EndsAt, RefinesBlock, Refines}
@@ -241,11 +241,12 @@ base_known capacity made encoder_stream b ok = pick (cases_lt 0 (required_count 
         (ok.base, rw apart read, ok.means)
     pick (inr none) =
         let zero_count : required_count b ≡ 0 = omega arith in
-        let is : nat_eq (required_count b) 0 ≡ true = eq-eqb (required_count b) 0 zero_count in
         let plain : references_of ok.base b.block.lines ≡ [] =
         numbers_none (references_of ok.base b.block.lines) (ok.references ∙ ok.plain zero_count) in (
           0,
-          rw is refl,
+          base_plain b.block.prefix (required_count b) zero_count
+              (ap (λ (p : Prefix). p.sign) (ok.written ∙ ap (λ (n : ℕ). prefix_for capacity n ok.base) zero_count)
+              ∙ written_not_below capacity ok.base),
           sym (fields_plain (whole_window made) (whole_window made) ok.base 0 b.block.lines plain)
               ∙ ok.means,
         )
@@ -327,7 +328,7 @@ delivers_whole capacity limit v w n received v' sh k c u x su more s position b 
 
     go : Moved capacity limit v w n c.takes.lines c.takes.front c.takes.rest c.table
         → EndsAtDecoder v n c.table c.takes.front c.takes.rest (Delivered received) v' → b.end ≤ v'.encoder_stream_taken
-    go m (takes_all pieces cut sizes sum is goes) =
+    go m (takes_all cut is goes) =
         let within : b.end ≤ min (v.encoder_stream_delivered + n) (length v.encoder_stream) =
         omega (arith, le, ap (λ (y : Session). y.encoder_stream_delivered) goes) in
         omega (arith, whole_window m cut within, ap (λ (y : Session). y.encoder_stream_taken) goes)

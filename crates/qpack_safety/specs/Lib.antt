@@ -1,4 +1,5 @@
 pub mod AbstractSession
 pub mod AbstractSafety
 pub mod Refines
+pub mod Headline
 pub mod SessionSafety

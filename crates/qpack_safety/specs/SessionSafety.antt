@@ -1,8 +1,8 @@
 -- The session theorem, in four parts (RFC 9204, section 2): what holds of every session in bytes at every moment,
 -- behind any events with their answers, and of whatever event comes next. An event that is refused memory is an event
 -- like the others.
-use Rattle.std.specs.Prelude.{◌≡◌, ℕ, ◌+◌, ◌<◌, ◌≤◌, ◌⊎◌, Bool, false, if◌then◌else◌, nat_lt, nat_eq, List, [], ◌∷◌}
-use Rattle.std.specs.Prelude.{◌++◌, length, map, Option, Some, Ok, slice_get}
+use Rattle.std.specs.Prelude.{◌≡◌, ℕ, ◌+◌, ◌<◌, ◌≤◌, ◌⊎◌, Bool, false, nat_lt, List, [], ◌∷◌}
+use Rattle.std.specs.Prelude.{◌++◌, length, map, Some, Ok, slice_get}
 use Rattle.qpack_spec.specs.Field.{Field, total_size}
 use Rattle.qpack_spec.specs.Instruction.{EncoderInstruction, DecoderInstruction, SpellsEncoderInstruction}
 use Rattle.qpack_spec.specs.Instruction.{SpellsDecoderInstruction, written_encoder_instructions}
@@ -18,6 +18,7 @@ use Rattle.qpack_spec.specs.Session.{Outcome, Encoded, Decoded, MissingReference
 use Rattle.qpack_spec.specs.Session.{Skipped, StreamFault, initial_session, next_block, increment_sum, blocked_blocks}
 use Rattle.qpack_spec.specs.Session.{unreadable_blocks, skip_reason, Step, Run}
 use Rattle.qpack_spec.specs.Stateless.{saturated_size}
+use Rattle.qpack_safety.specs.Headline.{AnsweredEncode, encodes_on, decodes_on, next_encode}
 
 -- ---- (a) the run
 
@@ -81,7 +82,8 @@ pub record Advances (v v' : Session) : Type 0 where
   pub blocks : (s : ℕ) → Extends (stream_at v.streams s).blocks (stream_at v'.streams s).blocks
 
 -- (a) The outcomes and the state are a run of the session. Each block and the encoder stream are the rule's. Both
--- tables are those that the instructions make of an empty one, and within their capacity of the moment (section 3.2.2).
+-- tables are those that the instructions make of an empty one, and within their capacity of the moment (section 3.2.2),
+-- which never exceeds the capacity agreed on (section 3.2.3).
 -- No more blocks are blocked than may be (section 2.1.2): of those kept the ones that require more than the encoder
 -- knows to be received. It is their number that the encoder holds against its limit, and no more are unreadable at the
 -- decoder, which received what is known to be received.
@@ -92,8 +94,10 @@ pub record RunsByTheRule (capacity limit : ℕ) (events : List (Event × Outcome
   pub writes : (s : ℕ) (fields : List Field) (required : ℕ) (v' : Session)
       → Step v (Encode s fields) (Encoded required) v'
       → WritesBlock v s fields required v'
-  -- each table is what its instructions make of an empty one, and within its capacity
+  -- each table is what its instructions make of an empty one, and within its capacity; that is at most the agreed one
   pub lockstep : Lockstep capacity v
+  pub encoder_capacity : v.encoder.capacity ≤ capacity
+  pub decoder_capacity : v.decoder.capacity ≤ capacity
   pub encoder_fits : total_size (fields_in v.encoder.live) ≤ v.encoder.capacity
   pub decoder_fits : total_size (fields_in v.decoder.live) ≤ v.decoder.capacity
   -- the blocked blocks are within the limit; the encoder counts them so, and blocks one more only below the limit
@@ -120,36 +124,6 @@ pub record RefusesNothing (v : Session) : Type 0 where
   pub hears : (n : ℕ) (o : Outcome) (v' : Session) → Step v (ToEncoder n) o v' → o ≡ Heard
 
 -- ---- (c) the fields
-
--- an encode that was answered: the fields that were handed to it, and the required insert count that it answered
-pub record AnsweredEncode : Type 0 where
-  pub fields : List Field
-  pub required : ℕ
-
--- the encode of an event on this stream, if it is one that was answered
-abbrev pub encode_of : ℕ → Event → Outcome → List AnsweredEncode
-encode_of s (Encode stream fields) (Encoded required) =
-    if nat_eq stream s then record { fields = fields; required = required } ∷ [] else []
-encode_of s e o = []
-
--- 1 if the event is a decode on this stream that answered fields
-abbrev pub decode_of : ℕ → Event → Outcome → ℕ
-decode_of s (Decode stream) (Decoded fields size is_dynamic) = if nat_eq stream s then 1 else 0
-decode_of s e o = 0
-
--- the encodes of a stream that were answered, in order: each wrote the next block of the stream
-abbrev pub encodes_on : ℕ → List (Event × Outcome) → List AnsweredEncode
-encodes_on s [] = []
-encodes_on s (p ∷ ps) = encode_of s p.0 p.1 ++ encodes_on s ps
-
--- how many decodes of a stream answered fields: each read the next block of the stream
-abbrev pub decodes_on : ℕ → List (Event × Outcome) → ℕ
-decodes_on s [] = 0
-decodes_on s (p ∷ ps) = decode_of s p.0 p.1 + decodes_on s ps
-
--- the encode that wrote the next block to be decoded on a stream
-abbrev pub next_encode : ℕ → List (Event × Outcome) → Option AnsweredEncode
-next_encode s events = slice_get (encodes_on s events) (decodes_on s events)
 
 -- an answer with fields: those that were handed to the encode that wrote the stream's next block, the sum of their
 -- sizes, held at 2^64 - 1, and whether any entry is required

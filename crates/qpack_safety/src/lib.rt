@@ -3,9 +3,16 @@
 //! still under way. Each function here is a law: it does nothing, and its contract is the statement.
 #![tactic(auto)]
 
+ghost use Rattle.qpack_safety.specs.Headline.{SessionsAnswerWhatWasHanded};
 ghost use Rattle.qpack_safety.specs.SessionSafety.{SessionsAreSafe};
 
 /// The theorem: at every moment of every session in bytes, whatever its events were, and wherever memory was refused.
 pub fn sessions_are_safe()
     ensures { SessionsAreSafe }
+{}
+
+/// The headline, over events and answers alone: on each stream the fields that were decoded are the first of those that
+/// were encoded, in order, and each answer is right behind those before it.
+pub fn sessions_answer_what_was_handed()
+    ensures { SessionsAnswerWhatWasHanded }
 {}

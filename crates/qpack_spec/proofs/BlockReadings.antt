@@ -11,12 +11,13 @@ use Rattle.qpack_spec.specs.Form.{FormFault, or_bad_integer, form_at}
 use Rattle.qpack_spec.specs.Line.{Line, line_form, SpellsLine, written_line, written_lines}
 use Rattle.qpack_spec.specs.WrittenLaws.{IsWritableLine, IsWritablePrefix, IsWritableBlock}
 use Rattle.qpack_spec.specs.Stream.{SpellsAll}
-use Rattle.qpack_spec.specs.Prefix.{Prefix, PrefixFault, SpellsPrefix, sign_bit, written_prefix, prefix_at, read_prefix}
+use Rattle.qpack_spec.specs.Prefix.{base_behind, Prefix, PrefixFault, SpellsPrefix, sign_bit, written_prefix, prefix_at}
+use Rattle.qpack_spec.specs.Prefix.{read_prefix}
 use Rattle.qpack_spec.specs.Window.{Window, maximum_capacity, window_insert_count}
 use Rattle.qpack_spec.specs.History.{History, whole_window}
 use Rattle.qpack_spec.specs.Reading.{Fault, BadForm, line_field, prepend_field, fields_of, Block, reading_behind}
 use Rattle.qpack_spec.specs.Reading.{reading}
-use Rattle.qpack_spec.specs.BlockReading.{base_behind, meaning_over_all, StopsAt, in_bytes, in_line, ReadsSome, ReadsTo}
+use Rattle.qpack_spec.specs.BlockReading.{meaning_over_all, StopsAt, in_bytes, in_line, ReadsSome, ReadsTo}
 use Rattle.qpack_spec.specs.BlockReading.{or_bad_form, fields_at, fields_in_bytes, bytes_behind, reading_of_bytes}
 use Rattle.qpack_spec.specs.BlockReading.{written_block}
 use Rattle.qpack_spec.proofs.Results.{bind_ok, ok_pair}

@@ -266,7 +266,22 @@ count_6 : (read_prefix 0 32 (prefix_of 2 0)) ≡ Ok (1, 1)
 unfolding rows
 count_6 = refl
 
--- capacity 0: whatever was read
+-- a base below 0, though nothing is required (section 4.5.1.2)
+prefix_sign_of_none : (read_prefix 0 4096 (record { count = 0; sign = true; delta = 0 })) ≡ Err (BelowZero (negsuc 0))
+unfolding rows
+prefix_sign_of_none = refl
+
+-- at capacity 0 too
+prefix_sign_at_0 : (read_prefix 7 0 (record { count = 3; sign = true; delta = 2 })) ≡ Err (BelowZero (negsuc 2))
+unfolding rows
+prefix_sign_at_0 = refl
+
+-- without the sign a delta means nothing there
+prefix_delta_of_none : (read_prefix 0 4096 (record { count = 0; sign = false; delta = 5 })) ≡ Ok (0, 0)
+unfolding rows
+prefix_delta_of_none = refl
+
+-- capacity 0: whatever count was read
 prefix_capacity_0 : (read_prefix 7 0 (prefix_of 3 0)) ≡ Ok (0, 0)
 unfolding rows
 prefix_capacity_0 = refl

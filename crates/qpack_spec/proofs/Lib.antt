@@ -40,6 +40,9 @@ pub mod StatelessRows
 pub mod Sizes
 pub mod Handles
 pub mod HandleRows
+pub mod Pieces
 pub mod SessionAnswers
+pub mod SkippedEvents
 pub mod SessionRows
+pub mod EventRows
 pub mod StringRows

@@ -1,12 +1,13 @@
 -- What a prefix is read as: a required insert count has one reading, and a written prefix is read back.
-use Rattle.std.proofs.Common.{ℕ, zero, suc, ◌+◌, ◌-◌, ◌*◌, ◌/◌, ◌%◌, ◌^◌, ◌<◌, ◌≤◌, ◌≡◌, true, false, List, Result, Ok}
-use Rattle.std.proofs.Common.{refl, ap, ◌∙◌, subst, inl, inr, ◌⊎◌, arith}
-use Rattle.std.specs.Prelude.{nat_lt, nat_le, nat_eq, ◌||◌}
+use Rattle.std.proofs.Common.{ℕ, zero, suc, ◌+◌, ◌-◌, ◌*◌, ◌/◌, ◌%◌, ◌^◌, ◌<◌, ◌≤◌, ◌≡◌, Bool, true, false, min, List}
+use Rattle.std.proofs.Common.{Result, Ok}
+use Rattle.std.proofs.Common.{Err, refl, sym, ap, ◌∙◌, subst, inl, inr, ◌⊎◌, arith}
+use Rattle.std.specs.Prelude.{nat_lt, nat_le, nat_eq, ◌||◌, ℤ, negsuc}
 use Rattle.std.proofs.Math.Nat.{mod-lt, div-add-mod, add-mul-mod_self_left, mod-eq_of_lt}
-use Rattle.std.proofs.lemmas.Bool.{lt-ltb, le-ltb, le-leb, lt-leb, ne_eqb, or_right, or_from, cases_lt}
+use Rattle.std.proofs.lemmas.Bool.{lt-ltb, le-ltb, le-leb, lt-leb, eq-eqb, ne_eqb, or_right, or_from, cases_lt}
 use Rattle.qpack_spec.specs.Field.{Field}
 use Rattle.qpack_spec.specs.Prefix.{Prefix, PrefixFault, prefix_for, IsRequired, required_at, read_required, read_base}
-use Rattle.qpack_spec.specs.Prefix.{read_prefix}
+use Rattle.qpack_spec.specs.Prefix.{BelowZero, base_behind, read_prefix}
 use Rattle.qpack_spec.specs.Window.{Window, maximum_capacity, window_insert_count}
 use Rattle.qpack_spec.specs.Reading.{fields_of, Block, Fields, Missing, reading}
 
@@ -114,6 +115,7 @@ reads_above required base lt =
 pub record ReadsAs (received maximum required base : ℕ) (p : Prefix) : Type 0 where
   pub reads_count : read_required received maximum p.count ≡ Ok required
   pub reads_base : 0 < required → read_base p.sign required p.delta ≡ Ok base
+  pub not_below : required ≡ 0 → p.sign ≡ false
 
 reads_none : (received maximum : ℕ) → read_required received maximum 0 ≡ Ok 0
 unfolding read_required
@@ -126,6 +128,7 @@ reads_written received maximum zero base small reach =
     rw (written_none maximum base) (record {
       reads_count = reads_none received maximum;
       reads_base = λ z. absurd (omega arith);
+      not_below = λ _. refl;
     })
 reads_written received maximum (suc r) base small reach =
     let in_reach : InReach received maximum (suc r) = reach (omega arith) in
@@ -139,12 +142,14 @@ reads_written received maximum (suc r) base small reach =
         (record {
           reads_count = reads_required received maximum (suc r) (omega arith) in_reach;
           reads_base = λ _. reads_above (suc r) base lt;
+          not_below = λ z. absurd (omega arith);
         })
     pick in_reach positive (inr le) =
         rw (written_below maximum (suc r) base (omega arith) positive le)
         (record {
           reads_count = reads_required received maximum (suc r) (omega arith) in_reach;
           reads_base = λ _. reads_below (suc r) base le small;
+          not_below = λ z. absurd (omega arith);
         })
 
 -- the base of a written prefix, behind its required insert count
@@ -157,6 +162,35 @@ base_written maximum required base r m small = pick (cases_lt base required)
     pick (inl lt) = rw (written_above maximum required base r m lt) (reads_above required base lt)
     pick (inr le) = rw (written_below maximum required base r m le) (reads_below required base le small)
 
+-- ---- the base where nothing is required
+
+-- it is 0
+pub base_plain : (p : Prefix) (required : ℕ) → required ≡ 0 → p.sign ≡ false → base_behind p required ≡ Ok 0
+base_plain p required zero_count sign = rw (eq-eqb required 0 zero_count, sign) refl
+
+-- unless the sign bit puts it below 0
+pub base_signed : (p : Prefix) → p.sign ≡ true → (base : ℤ) × (base_behind p 0 ≡ Err (BelowZero base))
+unfolding read_base
+base_signed p sign = (
+  negsuc (min (p.delta - 0) (2 ^ 63 - 1)),
+  rw (sign, le-ltb p.delta 0 (omega arith)) refl,
+)
+
+-- so one that is read is not below 0
+pub base_is_plain : (p : Prefix) (base : ℕ) → base_behind p 0 ≡ Ok base → p.sign ≡ false
+base_is_plain p base e = pick p.sign refl
+  where
+    two : (r : Result ℕ PrefixFault) (base : ℕ) (fault : PrefixFault) → r ≡ Ok base → r ≡ Err fault → ⊥
+    two r base fault a b = absurd (let q = sym a ∙ b in cc)
+
+    pick : (sign : Bool) → p.sign ≡ sign → p.sign ≡ false
+    pick false q = q
+    pick true q = let s = base_signed p q in absurd (two (base_behind p 0) base (BelowZero s.0) e s.1)
+
+-- of a block that requires nothing no sign is written
+pub written_not_below : (maximum base : ℕ) → (prefix_for maximum 0 base).sign ≡ false
+written_not_below maximum base = ap (λ (p : Prefix). p.sign) (written_none maximum base)
+
 -- the whole prefix
 prefix_dynamic : (received maximum required base : ℕ) (p : Prefix) → ReadsAs received maximum required base p
     → 0 < required → read_prefix received maximum p ≡ Ok (required, base)
@@ -167,7 +201,7 @@ prefix_dynamic received maximum required base p a positive =
 prefix_plain : (received maximum base : ℕ) (p : Prefix) → ReadsAs received maximum 0 base p
     → read_prefix received maximum p ≡ Ok (0, 0)
 unfolding read_prefix
-prefix_plain received maximum base p a = rw a.reads_count refl
+prefix_plain received maximum base p a = rw (a.reads_count, a.not_below refl) refl
 
 -- ---- blocks
 

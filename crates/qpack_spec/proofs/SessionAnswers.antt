@@ -2,7 +2,6 @@
 use Rattle.std.proofs.Common.{ℕ, zero, suc, ◌+◌, ◌^◌, ◌≤◌, ◌≡◌, Bool, true, false, cond, List, [], ◌∷◌, ◌++◌}
 use Rattle.std.proofs.Common.{length, take, drop, Option, None, Some, Result, Ok, Err, refl, sym, ap, ◌∙◌, arith, inl}
 use Rattle.std.proofs.Common.{inr, length-append, append_assoc}
-use Rattle.std.specs.List.{AllByRecursion}
 use Rattle.std.specs.Prelude.{nat_lt, nat_le}
 use Rattle.std.proofs.lemmas.Bool.{ltb-true}
 use Rattle.qpack_spec.specs.Bytes.{Begins, ◌>>=◌}
@@ -11,9 +10,8 @@ use Rattle.qpack_spec.specs.Instruction.{EncoderInstruction, DecoderInstruction,
 use Rattle.qpack_spec.specs.Instruction.{decoder_instruction_form}
 use Rattle.qpack_spec.specs.Window.{TableRefusal}
 use Rattle.qpack_spec.specs.Table.{Table, window, apply_encoder_instruction, apply_decoder_instruction, with_capacity}
-use Rattle.qpack_spec.specs.Session.{sum_of, stream_at, Session, Event, Encode, Decode, ToDecoder, ToEncoder}
-use Rattle.qpack_spec.specs.Session.{Acknowledge, Cancel, ChangeCapacity, Outcome, decode_outcome, NoMemory, IsPiece}
-use Rattle.qpack_spec.specs.Session.{unreported_after}
+use Rattle.qpack_spec.specs.Session.{stream_at, Session, Event, Encode, Decode, ToDecoder, ToEncoder}
+use Rattle.qpack_spec.specs.Session.{Acknowledge, Cancel, ChangeCapacity, Outcome, decode_outcome, NoMemory}
 use Rattle.qpack_spec.specs.Session.{EndsAtDecoder, takes_all, bad_bytes}
 use Rattle.qpack_spec.specs.Session.{bad_instruction, DeliversToDecoder, EndsAtEncoder, takes_all_at_encoder}
 use Rattle.qpack_spec.specs.Session.{bad_bytes_at_encoder, bad_decoder_instruction}
@@ -98,21 +96,6 @@ reads_on {L} form_of step (suc steps) t bytes h =
     go more (Ok x) q = let k = form_takes form_of bytes x.0 x.1 q in
         line more k.encoding x.1 x.0 k.parts k.spells (step t x.0) refl
 
--- increments of one each
-ones : ℕ → List ℕ
-ones zero = []
-ones (suc n) = 1 ∷ ones n
-
-ones_pieces : (n : ℕ) → AllByRecursion IsPiece (ones n)
-unfolding ones
-ones_pieces zero = tt
-ones_pieces (suc n) = ((omega arith, omega arith), ones_pieces n)
-
-ones_sum : (n : ℕ) → sum_of (ones n) ≡ n
-unfolding ones
-ones_sum zero = refl
-ones_sum (suc n) = omega (arith, ones_sum n)
-
 -- an answer that is no refusal for memory
 abbrev Answers : Session → Event → Type 0
 Answers v e = (o : Outcome) × (v' : Session) × LawfulStep v e o v' × (o ≡ NoMemory → ⊥)
@@ -143,8 +126,7 @@ to_decoder v n =
         ends (truncated c) = (
           _,
           _,
-          delivers _ _ (takes_all (ones (unreported_after v r.table)) c (ones_pieces (unreported_after v r.table))
-              (ones_sum (unreported_after v r.table)) refl refl),
+          delivers _ _ (takes_all c refl refl),
           λ h. absurd cc,
         )
         ends (refused_bytes fault c) = (_, _, delivers _ _ (bad_bytes fault c refl refl), λ h. absurd cc)

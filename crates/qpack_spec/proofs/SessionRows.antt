@@ -18,7 +18,8 @@ use Rattle.qpack_spec.specs.Session.{KeptBlock, KeptStream, stream_at, Session, 
 use Rattle.qpack_spec.specs.Session.{Acknowledge, Cancel, Encoded, Decoded, MissingReferences, Delivered, Heard}
 use Rattle.qpack_spec.specs.Session.{Acknowledged, Skipped, NoMemory, initial_session, begin_session, CapacityTooLarge}
 use Rattle.qpack_spec.specs.Session.{LimitTooLarge, with_block, with_decoded, with_kept_stream, blocked_among}
-use Rattle.qpack_spec.specs.Session.{skip_reason, increment_sum, IsPiece, with_decoder_moved, with_encoder_moved}
+use Rattle.qpack_spec.specs.Session.{skip_reason, increment_sum, IsPiece, pieces_of, with_decoder_moved}
+use Rattle.qpack_spec.specs.Session.{with_encoder_moved}
 use Rattle.qpack_spec.specs.Session.{EndsAtDecoder, takes_all, no_memory, bad_bytes, bad_instruction}
 use Rattle.qpack_spec.specs.Session.{takes_all_at_encoder, LawfulStep, Step, FitsMemory, Run}
 use Rattle.qpack_spec.specs.WrittenLaws.{IsByteField}
@@ -29,20 +30,20 @@ use Rattle.qpack_spec.proofs.Computing.{computed}
 -- the
 -- block decoded; acknowledged; both decoder instructions taken
 
-foo_bar : Field
+unfoldable pub foo_bar : Field
 foo_bar = field (codes "foo") (codes "bar")
 
-begun : Session
+unfoldable pub begun : Session
 begun = initial_session 4096 1
 
-written : Session
+unfoldable pub written : Session
 written = with_block begun 4 (foo_bar ∷ [])
 
-delivered_part : Session
+unfoldable pub delivered_part : Session
 delivered_part = with_decoder_moved written 6 written.decoder 0 0 []
 
 -- the decoder's table behind the instruction
-filled : Table
+unfoldable pub filled : Table
 filled = let w : Window = record {
   capacity = 4096;
   agreed_max = Some 4096;
@@ -50,26 +51,26 @@ filled = let w : Window = record {
   live = foo_bar ∷ [];
 } in table_of w
 
-delivered : Session
+unfoldable pub delivered : Session
 delivered = with_decoder_moved delivered_part 1 filled 7 0 (1 ∷ [])
 
-decoded : Session
+unfoldable pub decoded : Session
 decoded = with_decoded delivered 4
 
-acknowledged : Session
+unfoldable pub acknowledged : Session
 acknowledged =
     record (with_kept_stream decoded 4
     (record (stream_at decoded.streams 4) { acknowledged = 1 })) { decoder_stream = 1 ∷ 132 ∷ [] }
 
 -- the encoder's table behind both decoder instructions
-released : Table
+unfoldable pub released : Table
 released = record acknowledged.encoder { known_received_count = 1; unacknowledged = []; blocked = [] }
 
-heard_all : Session
+unfoldable pub heard_all : Session
 heard_all = with_encoder_moved acknowledged 2 released 2
 
 -- all that has to unfold
-rows : ℕ
+unfoldable pub rows : ℕ
 unfolding computed table_of increment_sum foo_bar filled released begun written delivered_part delivered decoded
     acknowledged heard_all skip_reason
 rows = 0
@@ -155,7 +156,7 @@ piece_0 h = absurd (omega (arith, h.0))
 memory_keeps : (v : Session) (n : ℕ) (t : Table) (front rest : List ℕ) (v' : Session)
     → EndsAtDecoder v n t front rest NoMemory v' → v'.unreported
     ≡ v.unreported + (insert_count t - insert_count v.decoder)
-memory_keeps v n t front rest v' (takes_all pieces cut sizes sum is goes) = absurd cc
+memory_keeps v n t front rest v' (takes_all cut is goes) = absurd cc
 memory_keeps v n t front rest v' (no_memory is goes) = ap (λ (x : Session). x.unreported) goes
 memory_keeps v n t front rest v' (bad_bytes fault b is goes) = absurd cc
 memory_keeps v n t front rest v' (bad_instruction encoding more i e cut s bad is goes) = absurd cc
@@ -204,7 +205,7 @@ cut_part =
     (reads_form_truncation encoder_instruction_form (98 ∷ 148 ∷ 231 ∷ 131 ∷ 140 ∷ 118 ∷ [])).0
     (BadString EndsEarly, refl, refl)
 
-cut_none : Truncates encoder_instruction_form []
+pub cut_none : Truncates encoder_instruction_form []
 unfolding rows
 cut_none = (reads_form_truncation encoder_instruction_form []).0 (BadInteger UnexpectedEnd, refl, refl)
 
@@ -227,7 +228,7 @@ unfolding rows
 acknowledgment_read = refl
 
 -- one line at the front, and those behind it
-line_then : {L : Type 0} (form_of : ℕ → Option (Form L)) (bytes rest : List ℕ) (l : L) (ls : List L)
+pub line_then : {L : Type 0} (form_of : ℕ → Option (Form L)) (bytes rest : List ℕ) (l : L) (ls : List L)
     → form_at form_of bytes ≡ Ok (l, rest)
     → SpellsAll (λ t x. Spells L form_of t x) rest ls → SpellsAll (λ t x. Spells L form_of t x) bytes (l ∷ ls)
 line_then form_of bytes rest l ls e j = let k =
@@ -293,7 +294,7 @@ acknowledged_fits =
           (one_fits s (stream_at written.streams 4) [] (lit≤ tt, tt) tt));
     }
 
-heard_fits : FitsMemory heard_all
+pub heard_fits : FitsMemory heard_all
 unfolding rows
 heard_fits = record {
   encoder_stream_fits = acknowledged_fits.encoder_stream_fits;
@@ -301,7 +302,7 @@ heard_fits = record {
       acknowledged_fits.blocks_fit;
 }
 
-foo_bar_bytes : AllByRecursion IsByteField (foo_bar ∷ [])
+pub foo_bar_bytes : AllByRecursion IsByteField (foo_bar ∷ [])
 unfolding rows
 foo_bar_bytes = (((lit≤ tt, (lit≤ tt, (lit≤ tt, tt))), (lit≤ tt, (lit≤ tt, (lit≤ tt, tt)))), tt)
 
@@ -315,7 +316,7 @@ unfolding rows LawfulStep
 waits_first = inr (refl, inl (record { block = _; is_next = refl; answers = refl; moves = refl }))
 
 delivers_part : Step written (ToDecoder 6) (Delivered 0) delivered_part
-unfolding rows LawfulStep
+unfolding rows LawfulStep pieces_of
 delivers_part =
     inr (
       refl,
@@ -328,7 +329,7 @@ delivers_part =
           cut = refl;
           joined = refl;
           applies = refl;
-          ends = takes_all [] cut_part tt refl refl refl;
+          ends = takes_all cut_part refl refl;
         };
       },
     )
@@ -338,7 +339,7 @@ unfolding rows LawfulStep
 still_waits = inr (refl, inl (record { block = _; is_next = refl; answers = refl; moves = refl }))
 
 delivers_rest : Step delivered_part (ToDecoder 1) (Delivered 1) delivered
-unfolding rows LawfulStep
+unfolding rows LawfulStep pieces_of
 delivers_rest =
     inr (
       refl,
@@ -352,7 +353,7 @@ delivers_rest =
           joined = line_then encoder_instruction_form _ []
               (InsertLiteralName (codes "foo") (codes "bar")) [] insertion_read refl;
           applies = refl;
-          ends = takes_all (1 ∷ []) cut_none ((lit≤ tt, lit≤ tt), tt) refl refl refl;
+          ends = takes_all cut_none refl refl;
         };
       },
     )

@@ -1,13 +1,13 @@
 -- What the bytes of a field section mean under a window (RFC 9204, sections 2.2.1 and 4.5): in reading order, the first
 -- fault decides.
-use Rattle.std.specs.Prelude.{◌≡◌, ℕ, zero, suc, if◌then◌else◌, nat_lt, nat_eq, List, [], ◌∷◌, ◌++◌, length, Result, Ok}
+use Rattle.std.specs.Prelude.{◌≡◌, ℕ, zero, suc, if◌then◌else◌, nat_lt, List, [], ◌∷◌, ◌++◌, length, Result, Ok}
 use Rattle.std.specs.Prelude.{Err}
 use Rattle.qpack_spec.specs.Bytes.{◌>>=◌}
 use Rattle.qpack_spec.specs.Field.{Field}
 use Rattle.qpack_spec.specs.Form.{FormFault, form_at}
 use Rattle.qpack_spec.specs.Line.{Line, line_form, SpellsLine, written_lines}
 use Rattle.qpack_spec.specs.Stream.{SpellsAll}
-use Rattle.qpack_spec.specs.Prefix.{Prefix, PrefixFault, read_base, read_prefix, written_prefix, prefix_at}
+use Rattle.qpack_spec.specs.Prefix.{Prefix, PrefixFault, base_behind, read_prefix, written_prefix, prefix_at}
 use Rattle.qpack_spec.specs.Window.{Window, maximum_capacity, window_insert_count}
 use Rattle.qpack_spec.specs.History.{History, whole_window}
 use Rattle.qpack_spec.specs.Reading.{Fault, BadForm, BadPrefix, line_field, fields_of, Block, Reading, Missing, Faulty}
@@ -78,10 +78,6 @@ section_behind w (Ok p) = bytes_behind w p.1
 -- what the bytes of a field section mean under a window (section 2.2.1)
 unfoldable pub reading_of_bytes : Window → List ℕ → Reading
 reading_of_bytes w bytes = section_behind w (prefix_at bytes)
-
--- the base behind a required insert count that is known; nothing counts from it where nothing is required
-abbrev pub base_behind : Prefix → ℕ → Result ℕ PrefixFault
-base_behind p required = if nat_eq required 0 then Ok 0 else read_base p.sign required p.delta
 
 -- a prefix's fault as a section's
 abbrev pub or_bad_prefix : {A : Type 0} → Result A PrefixFault → Result A Fault

@@ -1,6 +1,6 @@
 -- The prefix of an encoded field section: the required insert count and the base (RFC 9204, section 4.5.1).
 use Rattle.std.specs.Prelude.{◌≡◌, ℕ, List, ◌++◌, ◌+◌, ◌-◌, ◌*◌, ◌/◌, ◌%◌, ◌^◌, ◌<◌, ◌≤◌, ℤ, negsuc, min, Bool, true}
-use Rattle.std.specs.Prelude.{false, if◌then◌else◌, ◌||◌, nat_lt, nat_le, nat_eq, Result, Ok, Err}
+use Rattle.std.specs.Prelude.{false, if◌then◌else◌, not, ◌&&◌, ◌||◌, nat_lt, nat_le, nat_eq, Result, Ok, Err}
 use Rattle.qpack_spec.specs.Bytes.{◌>>=◌}
 use Rattle.qpack_spec.specs.Integer.{SpellsInteger, integer_at, written_integer}
 use Rattle.qpack_spec.specs.Form.{FormFault, HoldsIndex, or_bad_integer}
@@ -61,11 +61,15 @@ read_base true required delta =
     if nat_lt delta required then Ok (required - delta - 1) else Err
     (BelowZero (negsuc (min (delta - required) (2 ^ 63 - 1))))
 
--- the required insert count with its base, which is 0 where nothing is required
+-- the base behind a required insert count that is known: where nothing is required nothing counts from it, and it is 0,
+-- unless the sign bit puts it below 0 (section 4.5.1.2)
+abbrev pub base_behind : Prefix → ℕ → Result ℕ PrefixFault
+base_behind p required = if nat_eq required 0 && not p.sign then Ok 0 else read_base p.sign required p.delta
+
+-- the required insert count with its base
 abbrev pub with_base : Prefix → Result ℕ PrefixFault → Result (ℕ × ℕ) PrefixFault
 with_base p (Err e) = Err e
-with_base p (Ok required) =
-    if nat_eq required 0 then Ok (0, 0) else and_base required (read_base p.sign required p.delta)
+with_base p (Ok required) = and_base required (base_behind p required)
   where
     and_base : ℕ → Result ℕ PrefixFault → Result (ℕ × ℕ) PrefixFault
     and_base required (Err e) = Err e

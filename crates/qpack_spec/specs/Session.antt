@@ -2,7 +2,7 @@
 -- makes of it (RFC 9204, section 2).
 use Rattle.std.specs.Prelude.{◌≡◌, ◌<◌, ℕ, ◌+◌, ◌-◌, ◌^◌, ◌≤◌, ◌⊎◌, min, Bool, true, false, if◌then◌else◌, not, nat_lt}
 use Rattle.std.specs.Prelude.{nat_le, nat_eq, List, [], ◌∷◌, ◌++◌, length, take, drop, Option, None, Some, slice_get}
-use Rattle.std.specs.Prelude.{Result, Ok, Err}
+use Rattle.std.specs.Prelude.{Result, Ok, Err, replicate, ◌/◌, ◌%◌}
 use Rattle.std.specs.List.{AllByRecursion, filter}
 use Rattle.qpack_spec.specs.Bytes.{Begins}
 use Rattle.qpack_spec.specs.Field.{Field, total_size}
@@ -268,6 +268,11 @@ increment_sum (Increment n ∷ rs) = n + increment_sum rs
 abbrev pub IsPiece : ℕ → Type 0
 IsPiece n = (1 ≤ n) × (n ≤ 64)
 
+-- the pieces in which so many insertions are reported (section 4.4.3): as many of 64 as there can be, and then the
+-- rest, if there is one
+unfoldable pub pieces_of : ℕ → List ℕ
+pieces_of many = replicate (many / 64) 64 ++ (if nat_eq (many % 64) 0 then [] else many % 64 ∷ [])
+
 -- a table's refusal that consumes its instruction: what it asks for is known, and only the table refuses it
 abbrev pub is_consumed : TableRefusal → Bool
 is_consumed (NoEntry relative) = false
@@ -293,10 +298,9 @@ unreported_after v t = v.unreported + (insert_count t - insert_count v.decoder)
 -- reported; it is refused memory; the next bytes are refused; or the next instruction is. Refused, it reports nothing
 pub data EndsAtDecoder (v : Session) (n : ℕ) (t : Table) (front rest : List ℕ) (o : Outcome) (v' : Session) : Type 0
   where
-    takes_all : (pieces : List ℕ) → Truncates encoder_instruction_form rest → AllByRecursion IsPiece pieces
-        → sum_of pieces ≡ unreported_after v t
+    takes_all : Truncates encoder_instruction_form rest
         → o ≡ Delivered (insert_count t) → v' ≡ with_decoder_moved v n t (length front) 0
-        (v.decoder_stream ++ written_decoder_instructions (increments pieces))
+        (v.decoder_stream ++ written_decoder_instructions (increments (pieces_of (unreported_after v t))))
         → EndsAtDecoder v n t front rest o v'
     no_memory : o ≡ NoMemory → v' ≡ with_decoder_moved v n t (length front) (unreported_after v t) v.decoder_stream
         → EndsAtDecoder v n t front rest o v'

@@ -1,7 +1,7 @@
 -- What is put, and what a capacity changes, by cases.
 use Rattle.std.proofs.Common.{◌≡◌, ℕ, ◌+◌, ◌^◌, ◌<◌, ◌≤◌, Bool, true, false, List, [], ◌∷◌, ◌++◌, length, drop, Ok}
 use Rattle.std.proofs.Common.{Err, refl, sym, ap, ◌∙◌, arith}
-use Rattle.std.specs.Prelude.{nat_eq}
+use Rattle.std.specs.Prelude.{nat_eq, IsOk}
 use Rattle.std.proofs.lemmas.Bool.{lt-ltb, le-ltb, lt-leb, le-leb, ne_eqb}
 use Rattle.std.proofs.lemmas.List.{drop-append-le, length-map}
 use Rattle.qpack_spec.specs.Field.{Field, field_size}
@@ -86,6 +86,10 @@ pub resized_to : (t : Table) (n dropped : ℕ) (live : List Entry) → n ≤ gre
     → with_capacity t n ≡ Ok (record t { capacity = n; dropped = dropped; live = live })
 unfolding with_capacity
 resized_to t n dropped live most free d l = rw (le-leb n (greatest_capacity t.agreed_max) most, free, d, l) refl
+
+pub is_resized : (t : Table) (n : ℕ) → n ≤ greatest_capacity t.agreed_max
+    → can_evict t (eviction_count n (fields_in t.live)) ≡ true → IsOk (with_capacity t n)
+is_resized t n most free = rw (resized_to t n _ _ most free refl refl) refl
 
 -- one entry more, where those that have to go are evicted
 pub entered : (t : Table) (e : Entry) (dropped : ℕ) (live : List Entry) → field_size e.field ≤ t.capacity

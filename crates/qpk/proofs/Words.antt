@@ -2,7 +2,7 @@
 use Rattle.std.proofs.Common.{◌≡◌, ℕ, ◌<◌, ◌≤◌, List, [], ◌∷◌, length, map, get_or, refl, sym, ap, subst, ◌∙◌, arith}
 use Rattle.std.specs.Prelude.{String, string_bytes, Option, None, MatchOption, codes}
 use Rattle.qpk.specs.Serving.{AsksForNothing, AsksWith, SaysNumber}
-use Rattle.qpk.specs.declared.serve.Command.TheVariants.{Encode, Decode, Inspect, Run}
+use Rattle.qpk.specs.declared.serve.Command.TheVariants.{Help, Encode, Decode, Inspect, Run}
 
 pub one_word : {Z : Type 0} (ws : List (String Z)) (w : String Z) → 1 ≤ length ws → length ws < 2 → w ≡ get_or ws 0 w
     → map string_bytes ws ≡ string_bytes w ∷ []
@@ -31,6 +31,7 @@ no_number {Z} ws first second two none = none_asked
         none n (subst (λ (t : List ℕ). SaysNumber t n) (sym s) asked.2)
 
     none_asked : AsksForNothing ws
+    none_asked Help asked = let e = sym two ∙ asked in absurd cc
     none_asked Encode asked = let e = sym two ∙ asked in absurd cc
     none_asked (Decode limit) asked = no_such (codes "decode") limit asked
     none_asked (Inspect capacity) asked = no_such (codes "inspect") capacity asked
@@ -55,6 +56,7 @@ words_are ws x y z name first second three e f g = rw (three, e, f, g) refl
 pub no_two_numbers : {Z : Type 0} (ws : List (String Z)) (name first second : List ℕ)
     → map string_bytes ws ≡ name ∷ first ∷ second ∷ []
     → ((m n : ℕ) → SaysNumber first m → SaysNumber second n → ⊥) → AsksForNothing ws
+no_two_numbers ws name first second three none Help asked = let e = sym three ∙ asked in absurd cc
 no_two_numbers ws name first second three none Encode asked = let e = sym three ∙ asked in absurd cc
 no_two_numbers ws name first second three none (Decode limit) asked = let e = sym three ∙ asked.1 in absurd cc
 no_two_numbers ws name first second three none (Inspect capacity) asked = let e = sym three ∙ asked.1 in absurd cc

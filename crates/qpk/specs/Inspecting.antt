@@ -21,6 +21,8 @@ use Rattle.qpack_wire.specs.Blocks.{SpellsBlock}
 use Rattle.h3_qpack.specs.Receiving.{TakesInstructions}
 use Rattle.h3_qpack.specs.declared.decoder.DecoderError.{DecoderError}
 use Rattle.h3_qpack.specs.declared.decoder.DecoderError.TheVariants.{Memory}
+use Rattle.h3_qpack.specs.Sections.{Tells}
+use Rattle.qpk.specs.ErrorWords.{decoder_words, refused_text}
 use Rattle.qpk.specs.FieldText.{lines_of, field_of_line, with_item}
 
 -- ---- the input: a line an event
@@ -139,11 +141,12 @@ pub record PrintsLines (t : Table) (bytes : List ℕ) (fs : List Field) (out : L
   pub reads : read_prefix (insert_count t) (maximum_capacity t.agreed_max t.capacity) block.prefix ≡ Ok prefix
   pub text : out ≡ prefix_text prefix ++ flat_map line_text block.lines ++ fields_text fs
 
--- what is printed of a block, as the table has it: which insert count it waits for, or that it is refused, in the
--- decoder's words, or all of it
+-- what is printed of a block, as the table has it: which insert count it waits for, or that it is refused, in the words
+-- of an error that tells its fault, or all of it
 abbrev pub PrintsReading : Table → List ℕ → Reading → List ℕ → Type 0
 PrintsReading t bytes (Missing required) out = out ≡ index_text (codes "missing") required
-PrintsReading t bytes (Faulty fault) out = (words : List ℕ) × (out ≡ codes "refused " ++ words ++ codes "\n")
+PrintsReading t bytes (Faulty fault) out =
+    (e : DecoderError) × Tells e fault × (out ≡ refused_text (decoder_words e))
 PrintsReading t bytes (Fields fs is_dynamic) out = PrintsLines t bytes fs out
 
 abbrev pub PrintsBlock : Table → List ℕ → List ℕ → Type 0

@@ -1,5 +1,7 @@
 pub mod FieldText
 pub mod Answers
+pub mod Usage
+pub mod ErrorWords
 pub mod Refusals
 pub mod Inspecting
 pub mod Inspections

@@ -1,5 +1,5 @@
 -- What an event of a script prints.
-use Rattle.std.specs.Prelude.{◌≡◌, ℕ, List, ◌++◌, length, codes, Option, None, Some, Ok, Err}
+use Rattle.std.specs.Prelude.{ℕ, List, ◌++◌, length, codes, Ok, Err}
 use Rattle.std.specs.Fmt.{decimal}
 use Rattle.qpack_spec.specs.Field.{Field}
 use Rattle.h3_qpack.specs.Stateless.{fields_in}
@@ -8,6 +8,7 @@ use Rattle.h3_qpack.specs.declared.decoder.DecoderError.TheVariants.{MissingRefs
 use Rattle.h3_qpack.specs.declared.session.Outcome.{Outcome}
 use Rattle.h3_qpack.specs.declared.session.Outcome.TheVariants.{Encoded, Decoded, Delivered, Heard, Acknowledged}
 use Rattle.h3_qpack.specs.declared.session.Outcome.TheVariants.{Cancelled, CapacitySet, Skipped}
+use Rattle.qpk.specs.ErrorWords.{decoder_words, encoder_words, memory_words, refused_text}
 use Rattle.qpk.specs.FieldText.{text_of_fields}
 use Rattle.qpk.specs.Inspecting.{hexadecimal, index_text}
 
@@ -30,30 +31,26 @@ decoded_text size fs =
 abbrev pub received_text : ℕ → List ℕ → List ℕ
 received_text total added = codes "received " ++ decimal total ++ codes " " ++ hexadecimal added ++ codes "\n"
 
--- what is printed of a block that was not decoded: how many insertions it waits for, if it is not refused
-abbrev pub undecoded_text : DecoderError → Option (List ℕ)
-undecoded_text (MissingRefs required) = Some (index_text (codes "missing") required)
-undecoded_text e = None
+-- what is printed of a block that was not decoded: how many insertions it waits for, or that it is refused
+abbrev pub undecoded_text : DecoderError → List ℕ
+undecoded_text (MissingRefs required) = index_text (codes "missing") required
+undecoded_text e = refused_text (decoder_words e)
 
--- what is printed of an event that is not refused, by its outcome, the bytes of the block that it made, if it made one,
--- and the bytes that it added to a stream
-abbrev pub printed_outcome : Outcome → List ℕ → List ℕ → Option (List ℕ)
-printed_outcome (Encoded (Ok required)) block added = Some (encoded_text required block added)
-printed_outcome (Decoded (Ok d)) block added = Some (decoded_text d.mem_size (fields_in d.fields.items))
+-- what is printed of an event, by its outcome, the bytes of the block that it made, if it made one, and the bytes that
+-- it added to a stream; where it is refused, the words of its error
+abbrev pub printed_outcome : Outcome → List ℕ → List ℕ → List ℕ
+printed_outcome (Encoded (Ok required)) block added = encoded_text required block added
+printed_outcome (Encoded (Err e)) block added = refused_text (encoder_words e)
+printed_outcome (Decoded (Ok d)) block added = decoded_text d.mem_size (fields_in d.fields.items)
 printed_outcome (Decoded (Err e)) block added = undecoded_text e
-printed_outcome (Delivered (Ok total)) block added = Some (received_text total added)
-printed_outcome (Heard (Ok done)) block added = Some (codes "heard\n")
-printed_outcome (Acknowledged (Ok done)) block added = Some (added_text (codes "acked") added)
-printed_outcome (Cancelled (Ok done)) block added = Some (added_text (codes "cancelled") added)
-printed_outcome (CapacitySet (Ok done)) block added = Some (added_text (codes "capacity") added)
-printed_outcome (Skipped reason) block added = Some (index_text (codes "skipped") reason)
-printed_outcome outcome block added = None
-
--- this is printed, or that the event is refused, in the words of the encoder or the decoder
-abbrev pub PrintsText : Option (List ℕ) → List ℕ → Type 0
-PrintsText (Some text) out = out ≡ text
-PrintsText None out = (words : List ℕ) × (out ≡ codes "refused " ++ words ++ codes "\n")
-
--- the lines of an outcome
-abbrev pub PrintsOutcome : Outcome → List ℕ → List ℕ → List ℕ → Type 0
-PrintsOutcome outcome block added out = PrintsText (printed_outcome outcome block added) out
+printed_outcome (Delivered (Ok total)) block added = received_text total added
+printed_outcome (Delivered (Err e)) block added = refused_text (decoder_words e)
+printed_outcome (Heard (Ok done)) block added = codes "heard\n"
+printed_outcome (Heard (Err e)) block added = refused_text (encoder_words e)
+printed_outcome (Acknowledged (Ok done)) block added = added_text (codes "acked") added
+printed_outcome (Acknowledged (Err e)) block added = refused_text memory_words
+printed_outcome (Cancelled (Ok done)) block added = added_text (codes "cancelled") added
+printed_outcome (Cancelled (Err e)) block added = refused_text memory_words
+printed_outcome (CapacitySet (Ok done)) block added = added_text (codes "capacity") added
+printed_outcome (CapacitySet (Err e)) block added = refused_text (encoder_words e)
+printed_outcome (Skipped reason) block added = index_text (codes "skipped") reason

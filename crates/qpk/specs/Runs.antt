@@ -1,18 +1,33 @@
 -- What a run of a script prints: a session of the definitions, event by event (RFC 9204, section 2).
-use Rattle.std.specs.Prelude.{◌≡◌, ℕ, ◌-◌, ⊤, List, [], ◌∷◌, ◌++◌, length, drop, codes, Option, None, Some}
-use Rattle.std.specs.Prelude.{Result, Ok, Err, slice_get, String, string_bytes}
+use Rattle.std.specs.Prelude.{◌≡◌, ◌<◌, ◌⊎◌, ℕ, ◌-◌, ⊤, List, [], ◌∷◌, ◌++◌, length, take, drop, codes, Option}
+use Rattle.std.specs.Prelude.{None, Some, Result, Ok, Err, slice_get, String, string_bytes}
+use Rattle.std.specs.Option.{option_map}
 use Rattle.qpack_spec.specs.Session as spec
-use Rattle.qpack_spec.specs.Session.{Session, KeptBlock, stream_at, Passes, begin_session, CapacityTooLarge}
-use Rattle.qpack_spec.specs.Session.{LimitTooLarge}
-use Rattle.h3_qpack.specs.Sessions.{SessionView, StoredBlock, Shows}
+use Rattle.qpack_spec.specs.Session.{Session, KeptBlock, stream_at, next_block, Passes, begin_session}
+use Rattle.qpack_spec.specs.Session.{CapacityTooLarge, LimitTooLarge}
+use Rattle.qpack_spec.specs.Window.{TableRefusal, DoesNotFit, AboveMaximum, UnknownStream}
+use Rattle.qpack_wire.specs.Memory.{AsksSectionForMemory}
+use Rattle.h3_qpack.below.qpack_table.specs.declared.dynamic.Error.{Error as TableError}
+use Rattle.h3_qpack.below.qpack_table.specs.declared.dynamic.Error.TheVariants as table
+use Rattle.h3_qpack.specs.Receiving.{AsksToTake}
+use Rattle.h3_qpack.specs.Sessions.{SessionView, StoredBlock, Reaches}
+use Rattle.h3_qpack.specs.declared.encoder.EncoderError.TheVariants.{Insertion}
+use Rattle.qpk.specs.ErrorWords.{encoder_words, memory_words, refused_text}
 use Rattle.qpk.specs.Inspecting.{index_text}
-use Rattle.qpk.specs.Outcomes.{added_text, encoded_text, decoded_text, received_text, PrintsText}
+use Rattle.qpk.specs.Outcomes.{added_text, encoded_text, decoded_text, received_text}
 use Rattle.qpk.specs.Scripts.{script_events}
 use Rattle.qpk.specs.declared.text.Fault.{Fault}
 use Rattle.qpk.specs.declared.text.Fault.TheVariants.{BadEvent, Capacity, Limit, Memory}
 
--- what is printed of an event that is not refused, by its answer, the bytes of the block that it made, if it made one,
--- and the bytes that it added to a stream
+-- the error of the dynamic table that tells a refusal which needs no entry
+abbrev pub error_of_refusal : TableRefusal → Option TableError
+error_of_refusal DoesNotFit = Some table.MaxTableSizeReached
+error_of_refusal AboveMaximum = Some table.MaximumTableSizeTooLarge
+error_of_refusal (UnknownStream stream) = Some (table.UnknownStreamId stream)
+error_of_refusal refusal = None
+
+-- what is printed of an event, by its answer, the bytes of the block that it made, if it made one, and the bytes that
+-- it added to a stream; nothing is of a bad block and a refused stream, since no session answers these
 abbrev pub printed_answer : spec.Outcome → List ℕ → List ℕ → Option (List ℕ)
 printed_answer (spec.Encoded required) block added = Some (encoded_text required block added)
 printed_answer (spec.Decoded fs size is_dynamic) block added = Some (decoded_text size fs)
@@ -23,7 +38,11 @@ printed_answer spec.Acknowledged block added = Some (added_text (codes "acked") 
 printed_answer spec.Cancelled block added = Some (added_text (codes "cancelled") added)
 printed_answer spec.CapacitySet block added = Some (added_text (codes "capacity") added)
 printed_answer (spec.Skipped reason) block added = Some (index_text (codes "skipped") reason)
-printed_answer answer block added = None
+printed_answer (spec.CapacityRefused refusal) block added = option_map (λ e. refused_text (encoder_words (Insertion e)))
+    (error_of_refusal refusal)
+printed_answer spec.NoMemory block added = Some (refused_text memory_words)
+printed_answer (spec.BadBlock fault) block added = None
+printed_answer (spec.Refused fault) block added = None
 
 -- the stream that an event adds bytes to, if it adds any: an encode and a capacity are told to the decoder, all else
 -- to the encoder
@@ -50,12 +69,26 @@ abbrev pub made_block : spec.Event → Session → List ℕ
 made_block (spec.Encode stream fs) v = newest_bytes (stream_at v.streams stream).blocks
 made_block e v = []
 
--- an event has an answer and leads to another session, and this is printed of it: its lines, or that it is refused, in
--- the words of the encoder or the decoder
+-- an event that leads from a session to another asks for memory: a decode, where in the stream's oldest undecoded block
+-- a line, or a string whose payload is not empty, stands whole behind a prefix; a delivery to the decoder, where behind
+-- it insertions are still to be reported, or the next instruction that was delivered asks for memory; a delivery to the
+-- encoder never; any other event may, since it writes bytes
+abbrev pub MayWantMemory : spec.Event → Session → Session → Type 0
+MayWantMemory (spec.Decode stream) v next = AsksSectionForMemory (bytes_of_block (next_block v stream))
+MayWantMemory (spec.ToDecoder bytes) v next =
+    (0 < next.unreported)
+    ⊎ AsksToTake next.decoder
+    (drop next.encoder_stream_taken (take next.encoder_stream_delivered next.encoder_stream))
+MayWantMemory (spec.ToEncoder bytes) v next = ⊥
+MayWantMemory e v next = ⊤
+
+-- an event has an answer and leads to another session, and this is printed of it; it wants memory only where it asks
+-- for some
 pub record PrintsEvent (v : Session) (e : spec.Event) (next : Session) (out : List ℕ) : Type 0 where
   pub answer : spec.Outcome
   pub passes : Passes v e answer next
-  pub prints : PrintsText (printed_answer answer (made_block e next) (added_bytes e v next)) out
+  pub prints : printed_answer answer (made_block e next) (added_bytes e v next) ≡ Some out
+  pub asks : answer ≡ spec.NoMemory → MayWantMemory e v next
 
 -- events in turn lead from a session to another, and this is printed of them
 abbrev pub PrintsEvents : Session → List spec.Event → Session → List ℕ → Type 0
@@ -92,23 +125,28 @@ RunsScript capacity limit text (Err fault) = HasRunFault capacity limit text fau
 
 -- ---- what the session of the code does
 
+-- it shows a session that events lead to from its beginning
+abbrev pub ShowsReached : SessionView → Session → Type 0
+ShowsReached s v =
+    (capacity : ℕ) × (limit : ℕ) × (events : List (spec.Event × spec.Outcome)) × Reaches s capacity limit events v
+
 -- one event, from whichever session is shown before it
 pub record Prints (new : SessionView) (v : Session) (e : spec.Event) (out : List ℕ) : Type 0 where
   pub next : Session
-  pub shows : Shows new next
+  pub shows : ShowsReached new next
   pub prints : PrintsEvent v e next out
 
 abbrev pub PrintsOne : SessionView → SessionView → spec.Event → List ℕ → Type 0
-PrintsOne old new e out = (v : Session) → Shows old v → Prints new v e out
+PrintsOne old new e out = (v : Session) → ShowsReached old v → Prints new v e out
 
 -- events in turn, from whichever session is shown before them
 pub record PrintsMore (new : SessionView) (v : Session) (events : List spec.Event) (out : List ℕ) : Type 0 where
   pub last : Session
-  pub shows : Shows new last
+  pub shows : ShowsReached new last
   pub prints : PrintsEvents v events last out
 
 abbrev pub PrintsAll : SessionView → SessionView → List spec.Event → List ℕ → Type 0
-PrintsAll old new events out = (v : Session) → Shows old v → PrintsMore new v events out
+PrintsAll old new events out = (v : Session) → ShowsReached old v → PrintsMore new v events out
 
 -- what events print stands behind what was printed, or memory was refused
 abbrev pub RunsEvents : SessionView → SessionView → List spec.Event → List ℕ → List ℕ → Result ⊤ Fault → Type 0
@@ -124,7 +162,7 @@ FailsToBegin Memory capacity limit = Unit {0}
 FailsToBegin fault capacity limit = ⊥
 
 abbrev pub BeginsRun : Result SessionView Fault → ℕ → ℕ → Type 0
-BeginsRun (Ok s) capacity limit = (v : Session) × (begin_session capacity limit ≡ Ok v) × Shows s v
+BeginsRun (Ok s) capacity limit = (v : Session) × (begin_session capacity limit ≡ Ok v) × ShowsReached s v
 BeginsRun (Err fault) capacity limit = FailsToBegin fault capacity limit
 
 -- a session begins, and the events print this in it

@@ -10,8 +10,9 @@ use Rattle.qpack_spec.specs.Stateless.{saturated_size, stateless_reading}
 use Rattle.qpk.specs.FieldText.{text_of_fields}
 use Rattle.qpk.specs.Answers.{encode_answer, without_feed, FailsText, FailsHexadecimal}
 use Rattle.qpk.specs.declared.serve.Command.{Command}
-use Rattle.qpk.specs.declared.serve.Command.TheVariants.{Encode, Decode, Inspect, Run}
-use Rattle.qpk.specs.Refusals.{AppendsFront}
+use Rattle.qpk.specs.declared.serve.Command.TheVariants.{Help, Encode, Decode, Inspect, Run}
+use Rattle.qpk.specs.Refusals.{AppendsPart}
+use Rattle.qpk.specs.Usage.{usage_text}
 use Rattle.qpk.specs.declared.refusal.Refusal.{Refusal}
 use Rattle.qpk.specs.declared.refusal.Refusal.TheVariants as refusal
 use Rattle.qpk.specs.declared.text.Fault.{Fault}
@@ -41,6 +42,7 @@ AsksWithTwo words name m n =
 
 -- the words ask for the command
 abbrev pub AsksFor : {Z : Type 0} → List (String Z) → Command → Type 0
+AsksFor words Help = map string_bytes words ≡ codes "--help" ∷ []
 AsksFor words Encode = map string_bytes words ≡ codes "encode" ∷ []
 AsksFor words (Decode limit) = AsksWith words (codes "decode") limit
 AsksFor words (Inspect capacity) = AsksWith words (codes "inspect") capacity
@@ -54,8 +56,19 @@ AsksForNothing words = (command : Command) → AsksFor words command → ⊥
 abbrev pub printed_fields : List Field → List ℕ
 printed_fields fs = text_of_fields fs ++ codes "size " ++ decimal (saturated_size (total_size fs)) ++ 10 ∷ []
 
+-- the input that a command answers, where it is known: help answers none
+abbrev pub input_of : Command → Option (List ℕ) → Option (List ℕ)
+input_of Help input = Some []
+input_of command input = input
+
+-- an input can't be read, or there is no memory for it; help reads none
+abbrev pub FailsToRead : Command → Refusal → Type 0
+FailsToRead Help r = ⊥
+FailsToRead command r = (r ≡ refusal.Input) ⊎ (r ≡ refusal.Fault Memory)
+
 -- the output that answers a command's input
 abbrev pub Answers : Command → List ℕ → List ℕ → Type 0
+Answers Help input out = out ≡ usage_text
 Answers Encode input out = (text : List ℕ) × (encode_answer input ≡ Ok text) × (out ≡ text ++ 10 ∷ [])
 Answers (Decode limit) input out =
     (block : List ℕ) × (fs : List Field) × (decode_of (without_feed input) ≡ Ok block)
@@ -80,6 +93,7 @@ Prints command input out (Some e) = Stops command input out e
 
 -- the fault that stands in a command's input, or want of memory
 abbrev pub HasFault : Command → List ℕ → Fault → Type 0
+HasFault Help input fault = fault ≡ Memory
 HasFault Encode input fault = FailsText fault (encode_answer input)
 HasFault (Decode limit) input fault = FailsHexadecimal fault limit (decode_of (without_feed input))
 HasFault (Inspect capacity) input fault = FailsInspection capacity input fault
@@ -96,18 +110,19 @@ TellsRefusal fault e = (fault ≡ Refused e) ⊎ (fault ≡ Memory)
 
 -- why a run ended: other words, or the input could not be read, or it has a fault, and then nothing was written; or it
 -- was refused further on, and then what stands before that was written; or what it asks for could not be written, but
--- for a front of it. The input is what the reader gives, where that is known, and the output what the writer held
+-- for a part of it. The input is what the reader gives, where that is known, and the output what the writer held
 -- before and after
 abbrev pub EndsFor : {Z : Type 0} → List (String Z) → Option (List ℕ) → Option (List ℕ) → Option (List ℕ) → Refusal
     → Type 0
 EndsFor words input old new refusal.Usage = AsksForNothing words × (new ≡ old)
-EndsFor words input old new refusal.Input = (command : Command) × AsksFor words command × (new ≡ old)
+EndsFor words input old new refusal.Input =
+    (command : Command) × AsksFor words command × FailsToRead command refusal.Input × (new ≡ old)
 EndsFor words input old new refusal.Output =
     (command : Command) × AsksFor words command
-    × IfSome input (λ bytes. (out : List ℕ) × (refused : Option DecoderError) × Prints command bytes out refused
-    × AppendsFront old new out)
+    × IfSome (input_of command input) (λ bytes. (out : List ℕ) × (refused : Option DecoderError)
+    × Prints command bytes out refused × AppendsPart old new out)
 EndsFor words input old new (refusal.Fault fault) =
     (command : Command) × AsksFor words command
-    × ((IfSome input (λ bytes. HasFault command bytes fault) × (new ≡ old))
+    × ((IfSome (input_of command input) (λ bytes. HasFault command bytes fault) × (new ≡ old))
     ⊎ (IsInspection command × (e : DecoderError) × TellsRefusal fault e × (out : List ℕ) × Appends old new out
     × IfSome input (λ bytes. Stops command bytes out e)))

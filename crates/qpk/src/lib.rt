@@ -2,6 +2,7 @@
 //! the program `qpk` over any words, reader and writers.
 #![tactic(auto)]
 
+pub mod error_words;
 mod inspect;
 mod lines;
 mod outcomes;
@@ -11,4 +12,5 @@ mod run;
 mod script;
 pub mod serve;
 pub mod text;
+mod usage;
 mod writing;

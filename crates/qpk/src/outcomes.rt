@@ -1,9 +1,10 @@
 //! The lines that an event of a script prints.
 
-ghost use Rattle.std.specs.Prelude.{◌≡◌, ◌++◌, List, ℕ, OnOk, string_bytes};
+ghost use Rattle.std.specs.Prelude.{◌≡◌, ◌++◌, OnOk, string_bytes};
 ghost use Rattle.h3_qpack.specs.Stateless.{fields_in};
-ghost use Rattle.qpk.specs.Outcomes.{added_text, encoded_text, decoded_text, received_text, PrintsOutcome};
+ghost use Rattle.qpk.specs.Outcomes.{added_text, encoded_text, decoded_text, received_text, printed_outcome};
 
+use crate::error_words::{DecoderWords, EncoderWords, MEMORY};
 use crate::printing::{push_fields, push_hexadecimal, push_index_line, push_refused_line};
 use h3_qpack::session::Outcome;
 use h3_qpack::{Decoded, DecoderError};
@@ -11,34 +12,34 @@ use std::alloc::AllocError;
 
 /// Appends what an event prints: its outcome, with the bytes of the block that it made, if it made one, and those that
 /// it added to a stream, in lower-case hexadecimal, a minus for none. Where it is refused, this is told in the words of
-/// the encoder or the decoder.
+/// its error.
 pub fn push_outcome_lines(
     text: &mut String,
     outcome: &Outcome,
     block: &[u8],
     added: &[u8],
 ) -> Result<(), AllocError>
-    ensures { OnOk result ((out : List ℕ) × PrintsOutcome outcome.now block.now added.now out
-        × (string_bytes text.new ≡ string_bytes text.old ++ out)) }
+    ensures { OnOk result (string_bytes text.new
+        ≡ string_bytes text.old ++ printed_outcome outcome.now block.now added.now) }
 {
     match outcome {
         Outcome::Encoded(Ok(required)) => push_encoded_line(text, *required, block, added),
-        Outcome::Encoded(Err(e)) => push_refused_line(text, e),
+        Outcome::Encoded(Err(e)) => push_refused_line(text, EncoderWords(e)),
         Outcome::Decoded(Ok(decoded)) => push_decoded_lines(text, decoded),
         Outcome::Decoded(Err(DecoderError::MissingRefs(required))) => {
             push_index_line(text, "missing", *required)
         }
-        Outcome::Decoded(Err(e)) => push_refused_line(text, e),
+        Outcome::Decoded(Err(e)) => push_refused_line(text, DecoderWords(e)),
         Outcome::Delivered(Ok(total)) => push_received_line(text, *total, added),
-        Outcome::Delivered(Err(e)) => push_refused_line(text, e),
+        Outcome::Delivered(Err(e)) => push_refused_line(text, DecoderWords(e)),
         Outcome::Heard(Ok(())) => text.push_str("heard\n"),
-        Outcome::Heard(Err(e)) => push_refused_line(text, e),
+        Outcome::Heard(Err(e)) => push_refused_line(text, EncoderWords(e)),
         Outcome::Acknowledged(Ok(())) => push_added_line(text, "acked", added),
-        Outcome::Acknowledged(Err(e)) => push_refused_line(text, e),
+        Outcome::Acknowledged(Err(_)) => push_refused_line(text, MEMORY),
         Outcome::Cancelled(Ok(())) => push_added_line(text, "cancelled", added),
-        Outcome::Cancelled(Err(e)) => push_refused_line(text, e),
+        Outcome::Cancelled(Err(_)) => push_refused_line(text, MEMORY),
         Outcome::CapacitySet(Ok(())) => push_added_line(text, "capacity", added),
-        Outcome::CapacitySet(Err(e)) => push_refused_line(text, e),
+        Outcome::CapacitySet(Err(e)) => push_refused_line(text, EncoderWords(e)),
         Outcome::Skipped(reason) => push_index_line(text, "skipped", usize::from(*reason)),
     }
 }

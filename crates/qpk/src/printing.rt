@@ -1,10 +1,11 @@
 //! The lines that are printed, by whichever command: each is appended to a text that is lent.
 
-ghost use Rattle.std.specs.Prelude.{◌≡◌, ◌++◌, List, ℕ, OnOk, codes, string_bytes};
+ghost use Rattle.std.specs.Prelude.{◌≡◌, ◌++◌, IfSome, OnOk, string_bytes};
 ghost use Rattle.qpack_wire.specs.BlockLines.{line_of};
 ghost use Rattle.qpack_wire.specs.Instructions.{encoder_instruction_of_insert_with_name_ref};
 ghost use Rattle.qpack_wire.specs.StreamLines.{encoder_instruction_of};
 ghost use Rattle.h3_qpack.specs.Stateless.{fields_in};
+ghost use Rattle.qpk.specs.ErrorWords.{refused_text};
 ghost use Rattle.qpk.specs.FieldText.{text_of_fields};
 ghost use Rattle.qpk.specs.Inspecting.{hexadecimal, index_text, index_value_text, name_value_text};
 ghost use Rattle.qpk.specs.Inspecting.{numbers_text, instruction_text, line_text};
@@ -44,12 +45,11 @@ pub fn push_fields(text: &mut String, fields: &[HeaderField]) -> Result<(), Allo
     Ok(())
 }
 
-/// Appends the line of what was refused, in the words of its error.
-pub fn push_refused_line<E: Display>(text: &mut String, e: &E) -> Result<(), AllocError>
-    ensures { OnOk result ((words : List ℕ)
-        × (string_bytes text.new ≡ string_bytes text.old ++ (codes "refused " ++ words ++ codes "\n"))) }
+/// Appends the line of what was refused, in these words.
+pub fn push_refused_line<E: Display + Drop>(text: &mut String, words: E) -> Result<(), AllocError>
+    ensures { OnOk result (IfSome (E.output words)
+        (λ words. string_bytes text.new ≡ string_bytes text.old ++ refused_text words)) }
 {
-    let words = e.to_string(*text.allocator())?;
     writeln!(text, "refused {words}")
 }
 

@@ -2,10 +2,11 @@
 
 ghost use Rattle.std.specs.Prelude.{◌≡◌, IfOk, OnErr};
 ghost use Rattle.std.specs.Cow.{cow_str_bytes};
-ghost use Rattle.qpk.specs.Refusals.{IsFault, IsFaultLine, IsLineOf};
+ghost use Rattle.qpk.specs.Refusals.{IsFault, fault_line, refusal_line};
 ghost use Rattle.qpk.specs.declared.refusal.Refusal.TheVariants.{Fault as Refused};
 
 use crate::text::Fault;
+use crate::usage::usage;
 use std::alloc::{AllocError, Global};
 use std::borrow::CowStr;
 
@@ -31,15 +32,14 @@ impl From<Fault> for Refusal {
 }
 
 impl Refusal {
-    /// The line that tells it. Memory is asked for only to tell the number of a line, or a refusal of the decoder.
+    /// The line that tells it, or the usage. Memory is asked for only to tell the number of a line, or a refusal of the
+    /// decoder.
     pub fn line(&self, alloc: Global) -> Result<CowStr<'static, Global>, AllocError>
-        ensures line { IfOk result (λ line. IsLineOf self.now (cow_str_bytes line)) }
+        ensures line { IfOk result (λ line. cow_str_bytes line ≡ refusal_line self.now) }
         ensures memory { OnErr result (IsFault self.now) }
     {
         match self {
-            Refusal::Usage => Ok(CowStr::Borrowed(
-                "usage: qpk encode | qpk decode LIMIT | qpk run CAPACITY LIMIT | qpk inspect CAPACITY\n",
-            )),
+            Refusal::Usage => Ok(CowStr::Borrowed(usage())),
             Refusal::Input => Ok(CowStr::Borrowed("qpk: refused: input\n")),
             Refusal::Output => Ok(CowStr::Borrowed("qpk: refused: output\n")),
             Refusal::Fault(fault) => fault_line(alloc, fault),
@@ -49,17 +49,13 @@ impl Refusal {
 
 /// The line that tells a fault.
 fn fault_line(alloc: Global, fault: &Fault) -> Result<CowStr<'static, Global>, AllocError>
-    ensures { IfOk result (λ line. IsFaultLine fault.now (cow_str_bytes line)) }
+    ensures { IfOk result (λ line. cow_str_bytes line ≡ fault_line fault.now) }
 {
     match fault {
-        Fault::NoTab(_) | Fault::BadEvent(_) => {
+        Fault::NoTab(_) | Fault::BadEvent(_) | Fault::Refused(_) => {
             Ok(CowStr::Owned(format!(in alloc; "qpk: {fault}\n")?))
         }
         Fault::NotHexadecimal => Ok(CowStr::Borrowed("qpk: not hexadecimal\n")),
-        Fault::Refused(e) => {
-            let words = e.to_string(alloc)?;
-            Ok(CowStr::Owned(format!(in alloc; "qpk: refused: {words}\n")?))
-        }
         Fault::Capacity => Ok(CowStr::Borrowed("qpk: refused: capacity\n")),
         Fault::Limit => Ok(CowStr::Borrowed("qpk: refused: limit\n")),
         Fault::Memory => Ok(CowStr::Borrowed("qpk: refused: memory\n")),

@@ -1,30 +1,34 @@
 //! The program over any reader and writers.
 
-ghost use Rattle.std.specs.Prelude.{◌≡◌, ◌≢◌, ◌++◌, ◌∷◌, [], List, ℕ, None, IfOk, IfErr, IfSome, MatchOption};
-ghost use Rattle.std.specs.Prelude.{string_bytes};
+ghost use Rattle.std.specs.Prelude.{◌≡◌, ◌≢◌, ◌⊎◌, ◌++◌, ◌∷◌, [], List, ℕ, None, IfOk, IfErr, IfSome, OnOk, OnErr};
+ghost use Rattle.std.specs.Prelude.{MatchOption, string_bytes};
 ghost use Rattle.std.specs.Io.KnownBytes.{Appends};
 ghost use Rattle.qpack_spec.specs.Field.{total_size};
 ghost use Rattle.qpack_spec.specs.Stateless.{saturated_size};
 ghost use Rattle.h3_qpack.specs.Stateless.{fields_in};
-ghost use Rattle.qpk.specs.Refusals.{AppendsFront, IsLineOf, TellsInPlace};
-ghost use Rattle.qpk.specs.Serving.{AsksFor, AsksForNothing, Answers, AnswersInput, EndsFor, SaysNumber};
-ghost use Rattle.qpk.specs.Serving.{printed_fields};
+ghost use Rattle.qpk.specs.Refusals.{AppendsAtStatus, AppendsPart, TellsBy, refusal_line};
+ghost use Rattle.qpk.specs.Serving.{AsksFor, AsksForNothing, Answers, AnswersInput, EndsFor, FailsToRead, SaysNumber};
+ghost use Rattle.qpk.specs.Serving.{input_of, printed_fields};
+ghost use Rattle.qpk.specs.declared.serve.Command.TheVariants.{Help};
 
 use crate::inspect::{Inspection, inspect};
 use crate::printing::push_fields;
 use crate::refusal::Refusal;
 use crate::run::run_script;
 use crate::text::{Fault, decode_text, encode_text};
+use crate::usage::usage;
 use crate::writing::write_bytes;
 use h3_qpack::Decoded;
 use h3_qpack::coding::NoMemory;
 use std::alloc::Global;
 use std::borrow::CowStr;
-use std::io::{ErrorKind, Read, Write};
+use std::io::{self, ErrorKind, Read, Write};
 
 /// What the words ask for.
 #[derive(Clone, Copy)]
 pub enum Command {
+    /// Tell the usage; no input is read.
+    Help,
     /// Encode the fields of the input's lines.
     Encode,
     /// Decode the block of the input, up to a sum of sizes in bytes.
@@ -36,7 +40,8 @@ pub enum Command {
 }
 
 /// Runs the program on its words, without its name, and its three streams, and gives the exit status:
-/// 0 where the answer was written to the output, or 1 with one line written to the faults.
+/// 0 where the answer was written to the output, 1 where the line of a refusal was written to the faults, or 2 where
+/// only a part of that line was, since a write failed.
 pub fn serve<R: Read, W: Write, E: Write>(
     alloc: Global,
     words: &[String],
@@ -46,15 +51,17 @@ pub fn serve<R: Read, W: Write, E: Write>(
 ) -> u8
     // At status 0 the answer to the input was written, and nothing else.
     ensures answered { result ≡ 0 → (command : Command) × AsksFor words.now command
-        × IfSome (R.remaining input.old) (λ bytes.
+        × IfSome (input_of command (R.remaining input.old)) (λ bytes.
         (out : List ℕ) × Answers command bytes out × Appends (W.contents output.old) (W.contents output.new) out) }
     ensures quiet { result ≡ 0 → E.contents faults.new ≡ E.contents faults.old }
     // Else why: other words, an input that can't be read or has a fault, a refusal further on, before which all is
-    // written, or an output that can't be written, which then has a front of what is asked for. The line of it is
-    // written to the faults, as far as they take it.
-    ensures refused { result ≢ 0 → (result ≡ 1) × (refusal : Refusal)
+    // written, or an output that can't be written, which then has a part of what is asked for. The line of it is
+    // written to the faults: at status 1 all of it, at status 2 a part. There is no other status.
+    ensures refused { result ≢ 0 → (refusal : Refusal)
         × EndsFor words.now (R.remaining input.old) (W.contents output.old) (W.contents output.new) refusal
-        × (line : List ℕ) × IsLineOf refusal line × AppendsFront (E.contents faults.old) (E.contents faults.new) line }
+        × AppendsAtStatus result (E.contents faults.old) (E.contents faults.new) (refusal_line refusal) }
+    // Help reads no input, nor do words that ask for nothing.
+    ensures unread { AsksFor words.now Help ⊎ AsksForNothing words.now → input.new ≡ input.old }
 {
     match run(alloc, words, input, output) {
         Ok(()) => 0,
@@ -62,25 +69,27 @@ pub fn serve<R: Read, W: Write, E: Write>(
     }
 }
 
-/// Ends with status 1 for a refusal, whose line is written to the faults.
+/// Writes the line of a refusal to the faults, and gives the exit status: 1, or 2 where only a part of the line was
+/// written, since a write failed.
 pub fn refuse<E: Write>(alloc: Global, refusal: &Refusal, faults: &mut E) -> u8
-    ensures status { result ≡ 1 }
-    ensures told { TellsInPlace refusal.now (E.contents faults.old) (E.contents faults.new) }
+    ensures { TellsBy refusal.now (AppendsAtStatus result (E.contents faults.old) (E.contents faults.new)) }
 {
-    tell(alloc, refusal, faults);
-    1
+    match tell(alloc, refusal, faults) {
+        Ok(()) => 1,
+        Err(_) => 2,
+    }
 }
 
-/// Writes the line of a refusal, or that of want of memory where none is left to make it. What the writer refuses is
-/// passed over.
-fn tell<E: Write>(alloc: Global, refusal: &Refusal, faults: &mut E)
-    ensures { TellsInPlace refusal.now (E.contents faults.old) (E.contents faults.new) }
+/// Writes the line of a refusal, or that of want of memory where none is left to make it.
+fn tell<E: Write>(alloc: Global, refusal: &Refusal, faults: &mut E) -> io::Result<()>
+    ensures all { OnOk result (TellsBy refusal.now (Appends (E.contents faults.old) (E.contents faults.new))) }
+    ensures part { OnErr result (TellsBy refusal.now (AppendsPart (E.contents faults.old) (E.contents faults.new))) }
 {
     let line = match refusal.line(alloc) {
         Ok(line) => line,
         Err(_) => CowStr::Borrowed("qpk: refused: memory\n"),
     };
-    let _ = write_bytes(faults, line.as_str().as_bytes());
+    write_bytes(faults, line.as_str().as_bytes())
 }
 
 /// Answers the words and the input at the output.
@@ -92,21 +101,17 @@ fn run<R: Read, W: Write>(
     output: &mut W,
 ) -> Result<(), Refusal>
     ensures answered { IfOk result
-        (λ _. (command : Command) × AsksFor words.now command × IfSome (R.remaining input.old) (λ bytes.
+        (λ _. (command : Command) × AsksFor words.now command
+        × IfSome (input_of command (R.remaining input.old)) (λ bytes.
         (out : List ℕ) × Answers command bytes out × Appends (W.contents output.old) (W.contents output.new) out)) }
     ensures refused { IfErr result
         (EndsFor words.now (R.remaining input.old) (W.contents output.old) (W.contents output.new)) }
+    ensures unread { AsksFor words.now Help ⊎ AsksForNothing words.now → input.new ≡ input.old }
 {
     let Some(command) = read_command(words) else {
         return Err(Refusal::Usage);
     };
-    let mut bytes = Vec::new(alloc);
-    if let Err(e) = input.read_to_end(&mut bytes) {
-        return Err(match e.kind() {
-            ErrorKind::OutOfMemory => Refusal::Fault(Fault::Memory),
-            _ => Refusal::Input,
-        });
-    }
+    let bytes = read_input(alloc, command, input)?;
     let answer = answer(alloc, command, &bytes)?;
     write_bytes(output, answer.text.as_bytes()).map_err(|_| Refusal::Output)?;
     match answer.refused {
@@ -120,6 +125,7 @@ fn read_command(words: &[String]) -> Option<Command>
     ensures { MatchOption result (AsksForNothing words.now) (AsksFor words.now) }
 {
     match words {
+        [word] if word.as_str() == "--help" => Some(Command::Help),
         [word] if word.as_str() == "encode" => Some(Command::Encode),
         [word, limit] if word.as_str() == "decode" => {
             let limit = read_number(limit.as_str())?;
@@ -145,11 +151,30 @@ fn read_number(word: &str) -> Option<u64>
     word.parse().ok()
 }
 
+/// The input that a command answers: all of it, and none for help.
+fn read_input<R: Read>(alloc: Global, command: Command, input: &mut R) -> Result<Vec<u8>, Refusal>
+    ensures read { IfOk result (λ bytes.
+        IfSome (input_of command (R.remaining input.old)) (λ all. bytes.items ≡ all)) }
+    ensures refused { IfErr result (FailsToRead command) }
+    ensures unread { command ≡ Help → input.new ≡ input.old }
+{
+    let mut bytes = Vec::new(alloc);
+    if let Command::Help = command {
+        return Ok(bytes);
+    }
+    match input.read_to_end(&mut bytes) {
+        Ok(_) => Ok(bytes),
+        Err(e) if e.kind() == ErrorKind::OutOfMemory => Err(Refusal::Fault(Fault::Memory)),
+        Err(_) => Err(Refusal::Input),
+    }
+}
+
 /// What is written for an input, and the refusal that ends it.
 fn answer(alloc: Global, command: Command, input: &[u8]) -> Result<Inspection, Fault>
     ensures { AnswersInput command input.now result }
 {
     match command {
+        Command::Help => Ok(whole(String::from_str(alloc, usage())?)),
         Command::Encode => {
             let mut text = encode_text(alloc, input)?;
             text.push('\n')?;

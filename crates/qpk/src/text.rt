@@ -1,6 +1,6 @@
 //! The text calls: lines of fields to hexadecimal, and hexadecimal to fields.
 
-ghost use Rattle.std.specs.Prelude.{◌≡◌};
+ghost use Rattle.std.specs.Prelude.{◌≡◌, Some};
 ghost use Rattle.hex.specs.Hex.{decode_of};
 ghost use Rattle.qpk.specs.FieldText.{lines_of, fields_from};
 ghost use Rattle.qpk.specs.Answers.{encode_answer, EncodesText, ReadsFields, without_feed, DecodesText};
@@ -8,6 +8,7 @@ ghost use Rattle.qpk.specs.Answers.{fault_of_decoder};
 ghost use Rattle.qpk.specs.Refusals.{fault_text};
 ghost use Rattle.qpk.specs.declared.text.Fault.TheVariants.{Memory};
 
+use crate::error_words::DecoderWords;
 use crate::lines::{split_field, split_line};
 use h3_qpack::coding::{Cursor, NoMemory};
 use h3_qpack::{Decoded, DecoderError, HeaderField, decode_stateless, encode_stateless};
@@ -36,14 +37,14 @@ pub enum Fault {
 }
 
 impl fmt::Display for Fault {
-    ghost output = { fault_text };
+    ghost output = { λ fault. Some (fault_text fault) };
 
     fn fmt<W: fmt::Write>(&self, f: &mut fmt::Formatter<W>) -> fmt::Result {
         match self {
             Fault::NoTab(number) => write!(f, "line {number}: no tab"),
             Fault::BadEvent(number) => write!(f, "line {number}: bad event"),
             Fault::NotHexadecimal => f.write_str("not hexadecimal"),
-            Fault::Refused(e) => write!(f, "refused: {e}"),
+            Fault::Refused(e) => write!(f, "refused: {}", DecoderWords(e)),
             Fault::Capacity => f.write_str("refused: capacity"),
             Fault::Limit => f.write_str("refused: limit"),
             Fault::Memory => f.write_str("refused: memory"),

@@ -152,10 +152,51 @@ fn bad_blocks_are_refused(rt: HostRuntime) -> Result<(), Fail> {
     )
 }
 
+// The examples of the usage.
+const HELPED: [Case; 5] = [
+    Case {
+        words: "--help",
+        input: "",
+        output: USAGE,
+        fault: "",
+    },
+    Case {
+        words: "encode",
+        input: ":method\tGET\n",
+        output: "0000d1\n",
+        fault: "",
+    },
+    Case {
+        words: "decode 42",
+        input: "0000d1\n",
+        output: ":method\tGET\nsize 42\n",
+        fault: "",
+    },
+    Case {
+        words: "inspect 4096",
+        input: "b\t0000d1\n",
+        output: "prefix 0 0\nindexed static 17\nfields 1 42\n",
+        fault: "",
+    },
+    Case {
+        words: "run 4096 1",
+        input: "encode\t4\tfoo\tbar\n",
+        output: "encoded 1 028010 6294e7838c767f\n",
+        fault: "",
+    },
+];
+
+#[test]
+fn the_usage_is_told_and_its_examples_hold(rt: HostRuntime) -> Result<(), Fail> {
+    hold(&rt, rt.alloc(), &HELPED)
+}
+
 #[test]
 fn other_words_are_refused(rt: HostRuntime) -> Result<(), Fail> {
     let words = [
         ("", ""),
+        ("help", ""),
+        ("--help encode", ""),
         ("encode 1", ""),
         ("decode", "0000"),
         ("decode ten", "0000"),

@@ -12,8 +12,27 @@ pub const REFUSED_MEMORY: &str = "qpk: refused: memory\n";
 
 pub const REFUSED_OUTPUT: &str = "qpk: refused: output\n";
 
-pub const USAGE: &str =
-    "usage: qpk encode | qpk decode LIMIT | qpk run CAPACITY LIMIT | qpk inspect CAPACITY\n";
+pub const USAGE: &str = "\
+usage: qpk encode | decode LIMIT | inspect CAPACITY | run CAPACITY LIMIT
+QPACK (RFC 9204) by lines: a command reads its input, and prints the answer.
+
+encode   fields, NAME TAB VALUE each, to a block in hexadecimal
+  printf ':method\\tGET\\n' | ./qpk encode
+  0000d1
+decode   a block to its fields, whose sizes may sum to LIMIT bytes
+  printf '0000d1\\n' | ./qpk decode 42
+  :method\tGET
+  size 42
+inspect  a recorded connection: e TAB HEX, its encoder stream; b TAB HEX, blocks
+  printf 'b\\t0000d1\\n' | ./qpk inspect 4096
+  prefix 0 0
+  indexed static 17
+  fields 1 42
+run      a script of events on two ends, where LIMIT blocks may be blocked
+  printf 'encode\\t4\\tfoo\\tbar\\n' | ./qpk run 4096 1
+  encoded 1 028010 6294e7838c767f
+--help   this text; no input is read
+";
 
 /// The words that the program is given, its input, and what it writes to its output and its faults.
 #[derive(Clone, Copy)]
@@ -72,7 +91,7 @@ fn run_once(alloc: Global, words: &[String], input: &[u8]) -> Answer {
 /// Whether memory was refused to a run or to one of its events. A run must leave the output as it was, or with what
 /// stands before the refusal that ends an inspection, if its line had no memory.
 fn was_refused(rt: &impl Abort, answer: &Answer, before: &str) -> bool {
-    if answer.status == 1 && wants_memory(&answer.faults) {
+    if answer.status != 0 && wants_memory(&answer.faults) {
         let output = answer.output.as_slice();
         assert!(rt; output.is_empty() || output == before.as_bytes());
         return true;

@@ -102,18 +102,40 @@ fn a_writer_that_fails_is_told(rt: HostRuntime) -> Result<(), Fail> {
     Ok(())
 }
 
+const NOT_HEXADECIMAL: &str = "qpk: not hexadecimal\n";
+
 #[test]
-fn a_writer_of_faults_that_fails_is_passed_over(rt: HostRuntime) -> Result<(), Fail> {
+fn a_writer_of_faults_that_fails_is_told_by_the_status(rt: HostRuntime) -> Result<(), Fail> {
     let alloc = rt.alloc();
-    let words = words(alloc, "decode")?;
+    let words = words(alloc, "decode 42")?;
     let mut out = Vec::new(alloc);
-    let mut input = Cursor::new(b"0000d1".as_slice());
     for room in 0..64 {
         let mut faults = NarrowWriter::new(room);
+        let mut input = Cursor::new(b"zz".as_slice());
         let status = serve(alloc, &words, &mut input, &mut out, &mut faults);
-        assert_eq!(rt; status, 1);
+        if faults.taken().starts_with(b"qpk: refused") {
+            continue;
+        }
+        assert_eq!(rt; status, if room < NOT_HEXADECIMAL.len() { 2 } else { 1 });
         assert_eq!(rt; out.len(), 0);
-        assert_eq!(rt; faults.taken(), &USAGE.as_bytes()[..room.min(USAGE.len())]);
+        let written = room.min(NOT_HEXADECIMAL.len());
+        assert_eq!(rt; faults.taken(), &NOT_HEXADECIMAL.as_bytes()[..written]);
+    }
+    Ok(())
+}
+
+#[test]
+fn help_reads_no_input(rt: HostRuntime) -> Result<(), Fail> {
+    let alloc = rt.alloc();
+    let words = words(alloc, "--help")?;
+    let mut out = Vec::new(alloc);
+    let mut faults = NarrowWriter::new(64);
+    let mut input = BrokenReader(b"");
+    let status = serve(alloc, &words, &mut input, &mut out, &mut faults);
+    if status == 0 {
+        assert_eq!(rt; out.as_slice(), USAGE.as_bytes());
+    } else {
+        assert!(rt; wants_memory(faults.taken()));
     }
     Ok(())
 }

@@ -1,12 +1,12 @@
 //! The decoder of a connection: its table, and what it has still to report (RFC 9204, section 2.2).
 
-ghost use Rattle.std.specs.Prelude.{◌≡◌, Err, OnOk};
+ghost use Rattle.std.specs.Prelude.{◌≡◌, ◌≤◌, Err, OnOk, vec_capacity};
 ghost use Rattle.qpack_spec.specs.BlockReading.{reading_of_bytes};
 ghost use Rattle.qpack_spec.specs.Instruction.{Acknowledgment, Cancellation, written_decoder_instruction};
 ghost use Rattle.qpack_spec.specs.Table.{window};
 ghost use Rattle.qpack_base.specs.Writes.{Writes};
 ghost use Rattle.qpack_wire.specs.Memory.{AsksSectionForMemory};
-ghost use Rattle.h3_qpack.specs.Receiving.{Receives};
+ghost use Rattle.h3_qpack.specs.Receiving.{AsksToTake, HasRoomToReport, Receives};
 ghost use Rattle.h3_qpack.specs.Sections.{DecodesSection};
 ghost use Rattle.h3_qpack.specs.Stateless.{IsFinished};
 ghost use Rattle.h3_qpack.specs.declared.decoder.DecoderError.TheVariants.{Memory};
@@ -82,12 +82,13 @@ impl Decoder {
     /// Takes the bytes of the encoder stream that the cursor has left, and answers how many insertions were ever made
     /// (RFC 9204, sections 4.2 and 4.3). Each instruction that stands whole is applied to the table; a rest that
     /// is truncated is left in the cursor, to be offered again with what follows it. Then the insertions are reported
-    /// in `write`, for the decoder stream, by increments from 1 to 64 (section 4.4.3).
+    /// in `write`, for the decoder stream, by increments of 64 and one of the rest (section 4.4.3).
     ///
     /// An instruction may be refused: its bytes (`InvalidInteger`, `InvalidString`), an index that names nothing
     /// (`InvalidStaticIndex`, `DynamicTable`), a field or a capacity that the table refuses (`DynamicTable`; then,
     /// and only then, the cursor is moved past it), or its memory. Those before it stay applied, nothing is
-    /// written, and the next call that is not refused reports their insertions.
+    /// written, and the next call that is not refused reports their insertions. With free room for the increments no
+    /// memory is taken for them, and the vector is not grown.
     pub fn on_encoder_recv<A: Allocator>(
         &mut self,
         buf: &mut Cursor,
@@ -95,6 +96,12 @@ impl Decoder {
     ) -> Result<usize, DecoderError>
         ensures receives { Receives self.old self.new buf.old.rest buf.new.rest write.old.items write.new.items result }
         ensures total { buf.new.total ≡ buf.old.total }
+        // With free room for the increments, memory is refused only for an instruction, and the vector is not grown.
+        ensures memory { HasRoomToReport self.old self.new.table write.old → result ≡ Err Memory
+            → AsksToTake self.new.table buf.new.rest }
+        ensures still { HasRoomToReport self.old self.new.table write.old
+            → vec_capacity write.new ≡ vec_capacity write.old }
+        ensures capacity { vec_capacity write.old ≤ vec_capacity write.new }
     {
         let before = self.table.total_inserted();
         let taken = take_instructions(&mut self.table, buf);

@@ -4,10 +4,11 @@ ghost use Rattle.std.specs.Prelude.{◌≡◌, ◌<◌, Err, IsSome, IsTrue, OnO
 ghost use Rattle.qpack_spec.specs.Instruction.{Duplicate as DuplicateOf, written_decoder_instructions};
 ghost use Rattle.qpack_spec.specs.Table.{apply_encoder_instruction, put, with_capacity};
 ghost use Rattle.qpack_base.specs.HeaderFields.{field_of};
+ghost use Rattle.qpack_base.specs.Writes.{Writes};
 ghost use Rattle.qpack_wire.specs.Instructions.{encoder_instruction_of_insert_with_name_ref};
 ghost use Rattle.qpack_wire.specs.StreamLines.{encoder_instruction_of};
-ghost use Rattle.h3_qpack.specs.Receiving.{Applies, field_to_insert, FindsField, TakesNext, TakesInstructions, Reports};
-ghost use Rattle.h3_qpack.specs.Receiving.{is_passed};
+ghost use Rattle.h3_qpack.specs.Receiving.{Applies, field_to_insert, FindsField, TakesNext, TakesInstructions};
+ghost use Rattle.h3_qpack.specs.Receiving.{is_passed, written_report};
 ghost use Rattle.h3_qpack.specs.declared.decoder.DecoderError.TheVariants.{Memory};
 ghost use Rattle.h3_qpack.specs.declared.decoder.DecoderError.TheVariants.{DynamicTable as DynamicTableError};
 
@@ -141,13 +142,13 @@ fn set_capacity(table: &mut DynamicTable, size: usize) -> Result<(), DecoderErro
     Ok(table.set_max_size(size)?)
 }
 
-/// Appends increments for so many insertions, all or none (RFC 9204, section 4.4.3).
+/// Appends increments for so many insertions: as many of 64 as there can be, and then one of the rest (RFC 9204,
+/// section 4.4.3). Refused, the vector is as before; with free room for them all it succeeds and takes no memory.
 pub(super) fn write_increments<A: Allocator>(
     insertions: usize,
     buf: &mut Vec<u8, A>,
 ) -> Result<(), NoMemory>
-    ensures ok { OnOk result (Reports insertions buf.old.items buf.new.items) }
-    ensures err { OnErr result (buf.new.items ≡ buf.old.items) }
+    ensures writes { Writes (written_report insertions) buf.old buf.new result }
     ensures memory { OnErr result (0 < insertions) }
 {
     let len = buf.len();

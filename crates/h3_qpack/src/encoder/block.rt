@@ -7,7 +7,7 @@ ghost use Rattle.qpack_spec.specs.Prefix.{written_prefix};
 ghost use Rattle.qpack_spec.specs.Table.{insert_count, without_references};
 ghost use Rattle.qpack_wire.specs.Prefixes.{prefix_of};
 ghost use Rattle.h3_qpack.specs.Encoding.{Adds, StopsAmong, draft_of_fields, DraftsBlock};
-ghost use Rattle.h3_qpack.specs.Encoding.{GivesUpBlock};
+ghost use Rattle.h3_qpack.specs.Encoding.{GivesUpBlock, GrowsWithin, instructions_room};
 ghost use Rattle.h3_qpack.specs.declared.encoder.EncoderError.TheVariants.{Memory};
 
 use crate::encoder::EncoderError;
@@ -40,6 +40,7 @@ pub(super) fn append_block<A: Allocator, B: Allocator, H: AsField>(
     ensures capacity { vec_capacity block.old ≤ vec_capacity block.new }
     ensures still { OnOk result
         (vec_len block.new ≤ vec_capacity block.old → vec_capacity block.new ≡ vec_capacity block.old) }
+    ensures instructions { GrowsWithin (instructions_room (map H.field fields.now)) encoder_buf.old encoder_buf.new }
 {
     let max = handle.agreed_max();
     let len = block.len();
@@ -70,6 +71,7 @@ fn append_fields<A: Allocator, B: Allocator, H: AsField>(
     ensures capacity { vec_capacity lines.old ≤ vec_capacity lines.new }
     ensures still { OnOk result
         (vec_len lines.new ≤ vec_capacity lines.old → vec_capacity lines.new ≡ vec_capacity lines.old) }
+    ensures instructions { GrowsWithin (instructions_room (map H.field fields.now)) encoder_buf.old encoder_buf.new }
 {
     for field in fields {
         append_field(handle, field.as_field(), lines, encoder_buf)?;

@@ -14,11 +14,12 @@ use std::alloc::Allocator;
 const GREATEST_NUMBER: usize = 11;
 
 /// Sets the capacity of an encoder's table in bytes, and appends the instruction that tells the decoder (RFC 9204,
-/// sections 3.2.3 and 4.3.1). Room for the instruction is made first.
+/// sections 3.2.3 and 4.3.1). Whether the table takes it is asked first, and then room for the instruction is made.
 ///
 /// A capacity above the maximum capacity, or of 2^30 or more, is refused (`Insertion(MaximumTableSizeTooLarge)`), and
-/// one for which an entry that is not evictable would have to go (`Insertion(MaxTableSizeReached)`). Refused, which
-/// it also is for memory, nothing changes and nothing is written. With eleven bytes of free room it takes no memory.
+/// one for which an entry that is not evictable would have to go (`Insertion(MaxTableSizeReached)`); any other may be
+/// refused for memory. Refused, nothing changes and nothing is written. With eleven bytes of free room it takes no
+/// memory.
 pub fn set_dynamic_table_size<A: Allocator>(
     table: &mut DynamicTable,
     encoder_buf: &mut Vec<u8, A>,
@@ -30,6 +31,7 @@ pub fn set_dynamic_table_size<A: Allocator>(
         → vec_capacity encoder_buf.new ≡ vec_capacity encoder_buf.old }
     ensures capacity { vec_capacity encoder_buf.old ≤ vec_capacity encoder_buf.new }
 {
+    table.check_max_size(size)?;
     make_room(encoder_buf, GREATEST_NUMBER)?;
     table.set_max_size(size)?;
     Ok(DynamicTableSizeUpdate(size).encode(encoder_buf)?)

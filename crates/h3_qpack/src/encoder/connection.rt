@@ -4,7 +4,7 @@ ghost use Rattle.std.specs.Prelude.{◌≡◌, ◌+◌, ◌≤◌, Err, None, If
 ghost use Rattle.std.specs.Iterator.{IsFinite};
 ghost use Rattle.qpack_spec.specs.Table.{empty_table};
 ghost use Rattle.qpack_base.specs.HeaderFields.{DrainsFields};
-ghost use Rattle.h3_qpack.specs.Encoding.{EncodesBlock, StopsEncoding};
+ghost use Rattle.h3_qpack.specs.Encoding.{EncodesBlock, GrowsForFields, StopsEncoding};
 ghost use Rattle.h3_qpack.specs.Hearing.{Hears, SetsCapacity};
 ghost use Rattle.h3_qpack.specs.declared.encoder.EncoderError.TheVariants.{Memory};
 
@@ -99,7 +99,8 @@ impl<D: WritesSections> Encoder<D> {
     ///
     /// Refused, which is for memory alone, the block is as before. The insertions that were made stand, their
     /// instructions are written, and nothing more is referenced: the call can be made again. A block's vector with free
-    /// room for it is not grown.
+    /// room for it is not grown, nor is that of the instructions with four bytes of free room for each byte of the
+    /// fields' sizes.
     pub fn encode<'a, A: Allocator, B: Allocator, T: Iterator<Item = &'a HeaderField> + Drop>(
         &mut self,
         stream_id: u64,
@@ -119,6 +120,9 @@ impl<D: WritesSections> Encoder<D> {
         ensures capacity { vec_capacity block.old ≤ vec_capacity block.new }
         ensures still { OnOk result
             (vec_len block.new ≤ vec_capacity block.old → vec_capacity block.new ≡ vec_capacity block.old) }
+        // The instructions' vector is longer by four bytes for each byte of the fields' sizes at most, and with so much
+        // free room it is not grown.
+        ensures instructions { GrowsForFields T.next_gives fields encoder_buf.old encoder_buf.new }
     {
         encode_items(&mut self.table, stream_id, block, encoder_buf, fields)
     }

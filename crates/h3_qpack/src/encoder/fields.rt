@@ -1,7 +1,8 @@
 //! The fields of a block, one by one: a line for each, and an instruction for each that is inserted (RFC 9204, section
 //! 2.1).
 
-ghost use Rattle.std.specs.Prelude.{◌≡◌, ◌≤◌, length, take, IfErr, OnOk, OnErr, vec_len, vec_capacity};
+ghost use Rattle.std.specs.Prelude.{◌≡◌, ◌*◌, ◌≤◌, length, take, IfErr, OnOk, OnErr, vec_len, vec_capacity};
+ghost use Rattle.qpack_spec.specs.Field.{field_size};
 ghost use Rattle.qpack_spec.specs.Handle.{insert_field, with_insertion, with_found, find_field};
 ghost use Rattle.qpack_spec.specs.Handle.{line_of as line_of_insertion, literal_at};
 ghost use Rattle.qpack_spec.specs.Line.{written_line};
@@ -9,7 +10,7 @@ ghost use Rattle.qpack_base.specs.HeaderFields.{field_of};
 ghost use Rattle.qpack_base.specs.Writes.{Writes};
 ghost use Rattle.qpack_base.specs.declared.prefix_string.Error.TheVariants.{Memory as NoRoom};
 ghost use Rattle.qpack_table.specs.Handles.{insertion_of, lookup_of};
-ghost use Rattle.h3_qpack.specs.Encoding.{written_insertion, draft_at, draft_of_field, Adds, StopsAdding};
+ghost use Rattle.h3_qpack.specs.Encoding.{written_insertion, draft_at, draft_of_field, Adds, GrowsWithin, StopsAdding};
 ghost use Rattle.h3_qpack.specs.declared.encoder.EncoderError.TheVariants.{Memory};
 
 use crate::encoder::EncoderError;
@@ -45,6 +46,7 @@ pub(super) fn append_field<A: Allocator, B: Allocator>(
     ensures capacity { vec_capacity lines.old ≤ vec_capacity lines.new }
     ensures still { OnOk result
         (vec_len lines.new ≤ vec_capacity lines.old → vec_capacity lines.new ≡ vec_capacity lines.old) }
+    ensures instructions { GrowsWithin (4 * field_size (field_of field.now)) encoder_buf.old encoder_buf.new }
 {
     if let Some(index) = StaticTable::find(field) {
         return Ok(Indexed::Static(index).encode(lines)?);
@@ -76,6 +78,7 @@ fn append_insertion<A: Allocator, B: Allocator>(
     ensures capacity { vec_capacity lines.old ≤ vec_capacity lines.new }
     ensures still { OnOk result
         (vec_len lines.new ≤ vec_capacity lines.old → vec_capacity lines.new ≡ vec_capacity lines.old) }
+    ensures instructions { GrowsWithin (4 * field_size (field_of field.now)) encoder_buf.old encoder_buf.new }
 {
     make_room(encoder_buf, instruction_room(block, field))?;
     let insertion = block.insert(field)?;
@@ -86,8 +89,9 @@ fn append_insertion<A: Allocator, B: Allocator>(
 /// As many bytes as the instruction of this field takes, if it is inserted: four for each byte of the entry's size hold
 /// its numbers and its coded strings.
 fn instruction_room(block: &DynamicTableEncoder<'_>, field: &HeaderField) -> usize
-    ensures { length (written_insertion (field_of field.now)
+    ensures enough { length (written_insertion (field_of field.now)
         (insert_field block.now.table.now block.now.base (field_of field.now)).insertion) ≤ result }
+    ensures most { result ≤ 4 * field_size (field_of field.now) }
 {
     let size = field.mem_size();
     if size > block.max_size() {

@@ -4,6 +4,7 @@ ghost use Rattle.std.specs.Prelude.{◌≡◌, ◌≤◌, map, Ok, IfOk, IfErr, 
 ghost use Rattle.std.specs.Iterator.{IsFinite, Drains};
 ghost use Rattle.qpack_spec.specs.Table.{Table, commit, without_references};
 ghost use Rattle.h3_qpack.specs.Encoding.{DrainsFieldsOf, EncodesBlock, GivesUpBlock, StopsEncodingOf};
+ghost use Rattle.h3_qpack.specs.Encoding.{GrowsForFieldsOf, GrowsWithin, instructions_room};
 ghost use Rattle.h3_qpack.specs.declared.encoder.EncoderError.TheVariants.{Memory};
 
 use crate::encoder::EncoderError;
@@ -38,7 +39,9 @@ pub trait WritesSections {
         ensures memory { IfErr result (λ e. e ≡ Memory) }
         ensures capacity { vec_capacity block.old ≤ vec_capacity block.new }
         ensures still { OnOk result
-            (vec_len block.new ≤ vec_capacity block.old → vec_capacity block.new ≡ vec_capacity block.old) };
+            (vec_len block.new ≤ vec_capacity block.old → vec_capacity block.new ≡ vec_capacity block.old) }
+        ensures instructions { GrowsWithin (instructions_room (map H.field fields.now)) encoder_buf.old
+            encoder_buf.new };
 
     /// Gives the block in progress up: what it references is referenced no more.
     fn give_up(&mut self)
@@ -130,6 +133,7 @@ pub(super) fn encode_items<
     ensures capacity { vec_capacity block.old ≤ vec_capacity block.new }
     ensures still { OnOk result
         (vec_len block.new ≤ vec_capacity block.old → vec_capacity block.new ≡ vec_capacity block.old) }
+    ensures instructions { GrowsForFieldsOf H.field T.next_gives fields encoder_buf.old encoder_buf.new }
 {
     match gather(table.memory(), fields) {
         Ok(gathered) => table.write_section(stream_id, block, encoder_buf, &gathered),

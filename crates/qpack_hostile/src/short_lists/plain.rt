@@ -166,23 +166,30 @@ fn section(capacity: usize, bytes: &[u8]) -> Answer {
         return Answer::Ends;
     };
     if capacity == 0 || count == 0 {
-        return Answer::Taken(0);
+        return behind_base(0, is_below, delta, Answer::Taken(0));
     }
     let required = count.saturating_sub(1);
     if required == 0 || required > capacity / 32 {
         return Answer::Overflow;
     }
+    behind_base(required, is_below, delta, Answer::Missing(required))
+}
+
+/// An answer, unless the base is below 0 (RFC 9204, section 4.5.1.2).
+fn behind_base(required: usize, is_below: bool, delta: usize, answer: Answer) -> Answer {
     if is_below && delta >= required {
         let below = delta.saturating_sub(required).saturating_add(1);
         return Answer::BadBase(0isize.saturating_sub_unsigned(below));
     }
-    Answer::Missing(required)
+    answer
 }
 
 /// A field section without a table, which holds nothing but a prefix.
 pub(crate) fn decode_stateless(bytes: &[u8]) -> Outcome {
     match prefix(bytes) {
-        Some(_) => Outcome::only(Answer::Taken(0)),
+        Some((_, is_below, delta)) => {
+            Outcome::only(behind_base(0, is_below, delta, Answer::Taken(0)))
+        }
         None => Outcome::only(Answer::Ends),
     }
 }

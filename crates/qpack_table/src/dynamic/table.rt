@@ -1,9 +1,10 @@
 //! The table: what it holds, its lookups, what is put into it and its capacity (RFC 9204, section 3.2).
 
 ghost use Rattle.std.specs.Prelude.{◌≡◌, ◌+◌, ◌-◌, ◌^◌, ◌<◌, ◌≤◌, Some, None, IfOk, IfErr, IfSome, IfNone, true};
-ghost use Rattle.std.specs.Prelude.{false, OnOk, OnErr, length};
+ghost use Rattle.std.specs.Prelude.{false, IsOk, OnOk, OnErr, length};
 ghost use Rattle.std.specs.Prelude.{slice_get};
 ghost use Rattle.qpack_base.specs.HeaderFields.{field_of};
+ghost use Rattle.qpack_base.specs.Refusals.{IsRefusedFor};
 ghost use Rattle.qpack_spec.specs.Field.{Field, field_size, total_size};
 ghost use Rattle.qpack_spec.specs.Table.{empty_table, insert_count, window, fields_in, can_evict, eviction_count_for};
 ghost use Rattle.qpack_spec.specs.Table.{with_entry, with_reference, sent_entry};
@@ -12,6 +13,7 @@ ghost use Rattle.qpack_spec.specs.Reading.{relative_field, post_base_field};
 ghost use Rattle.qpack_spec.specs.Window.{eviction_count, relative_entry, greatest_capacity, maximum_capacity};
 ghost use Rattle.qpack_table.specs.Positions.{positions_of};
 ghost use Rattle.qpack_table.specs.Tables.{IsEvictableAt, LooksUp, IsInserted, entries_of, Changes, ChangesWithMemory};
+ghost use Rattle.qpack_table.specs.Tables.{refusal_of};
 ghost use Rattle.qpack_table.specs.declared.dynamic.Error.TheVariants.{BadRelativeIndex, BadIndex};
 ghost use Rattle.qpack_table.specs.declared.dynamic.Error.TheVariants.{MaxBlockedStreamsTooLarge};
 ghost use Rattle.qpack_table.specs.declared.dynamic.Error.TheVariants.{MaximumTableSizeTooLarge};
@@ -355,16 +357,34 @@ impl DynamicTable {
     pub fn set_max_size(&mut self, size: usize) -> Result<(), Error>
         ensures { Changes result (with_capacity self.old size) self.old self.new }
     {
-        if size > self.greatest_capacity() {
-            return Err(Error::MaximumTableSizeTooLarge);
-        }
-        let Some(evicted) = self.evictable_count(size) else {
-            return Err(Error::MaxTableSizeReached);
-        };
+        let evicted = self.evicted_for_capacity(size)?;
         let freed = drop_oldest(&mut self.entries, &mut self.index, &mut self.vas, evicted);
         self.mem_size -= freed;
         self.capacities.set(size);
         Ok(())
+    }
+
+    /// Tells whether `set_max_size` sets this capacity, or why it refuses it. Nothing changes.
+    pub fn check_max_size(&self, size: usize) -> Result<(), Error>
+        ensures ok { OnOk result (IsOk (with_capacity self.now size)) }
+        ensures err { IfErr result (λ e. IsRefusedFor (with_capacity self.now size) (refusal_of e)) }
+    {
+        self.evicted_for_capacity(size)?;
+        Ok(())
+    }
+
+    /// How many of the oldest entries go before a capacity of so many bytes is set, or why it is refused.
+    fn evicted_for_capacity(&self, size: usize) -> Result<usize, Error>
+        ensures within { OnOk result (size ≤ greatest_capacity self.now.agreed_max) }
+        ensures small { OnOk result (size < 2 ^ 30) }
+        ensures least { IfOk result (λ evicted. evicted ≡ eviction_count size (fields_in self.now.live)) }
+        ensures evictable { IfOk result (λ evicted. can_evict self.now evicted ≡ true) }
+        ensures err { IfErr result (λ e. IsRefusedFor (with_capacity self.now size) (refusal_of e)) }
+    {
+        if size > self.greatest_capacity() {
+            return Err(Error::MaximumTableSizeTooLarge);
+        }
+        self.evictable_count(size).ok_or(Error::MaxTableSizeReached)
     }
 }
 

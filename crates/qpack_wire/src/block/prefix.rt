@@ -111,7 +111,7 @@ impl HeaderPrefix {
     }
 
     /// The required insert count and the base that the prefix stands for, where the table has this
-    /// capacity and so many entries were inserted.
+    /// capacity and so many entries were inserted. A base below 0 is refused, also where nothing is required.
     #[tactic(auto, unfolding(qpack_spec::specs::Prefix::read_prefix))]
     pub fn get(
         self,
@@ -121,7 +121,7 @@ impl HeaderPrefix {
         ensures { result ≡ or_prefix_error (read_prefix total_inserted max_table_size (prefix_of self)) }
     {
         let required = required_count(self.encoded_insert_count, total_inserted, max_table_size)?;
-        if required == 0 {
+        if required == 0 && !self.sign_negative {
             return Ok((0, 0));
         }
         let base = base_behind(self.sign_negative, required, self.delta_base)?;

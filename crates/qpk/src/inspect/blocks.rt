@@ -9,6 +9,7 @@ ghost use Rattle.qpack_spec.specs.Stateless.{saturated_size};
 ghost use Rattle.h3_qpack.specs.Stateless.{fields_in};
 ghost use Rattle.qpk.specs.Inspections.{InspectsBlock, PrintsSection};
 
+use crate::error_words::DecoderWords;
 use crate::printing::{push_block_line, push_index_line, push_numbers_line, push_refused_line};
 use crate::text::Fault;
 use h3_qpack::block::{BlockLine, read_block};
@@ -26,7 +27,7 @@ pub fn inspect_block(decoder: &Decoder, block: &[u8], text: &mut String) -> Resu
         Ok(decoded) => push_section_lines(text, decoder, block, &decoded),
         Err(DecoderError::MissingRefs(required)) => Ok(push_index_line(text, "missing", required)?),
         Err(DecoderError::Memory) => Err(Fault::Memory),
-        Err(e) => Ok(push_refused_line(text, &e)?),
+        Err(e) => Ok(push_refused_line(text, DecoderWords(&e))?),
     }
 }
 

@@ -1,8 +1,19 @@
+use Rattle.qpack_safety.proofs.Headline.{answers_handed}
 use Rattle.qpack_safety.specs.SessionSafety.{RunsByTheRule, RefusesNothing, DecodesWhatWasHanded}
 use Rattle.qpack_safety.specs.SessionSafety.{WaitsOnlyForInsertions}
 use Rattle.h3_qpack.proofs.SessionAnswers.{run_unrefused, run_exact}
 use Rattle.h3_qpack.proofs.SessionRuns.{runs, runs_so}
 use Rattle.h3_qpack.proofs.session.run.Goals as goal
+
+pub returns-clause-headline : goal.returns-clause-headline
+returns-clause-headline c =
+    let ran = runs_so c.args.capacity c.args.limit c.in_ok-session.session
+    c.perform_all.new.self c.args.events.now c.in_ok-outcomes.outcomes.items c.perform_all.new.outcomes.items
+    c.in_ok-session.ensures.reaches c.in_ok-outcomes.ensures.items c.perform_all.ensures in (
+      ran.steps,
+      ran.answered,
+      answers_handed c.args.capacity c.args.limit ran.steps ran.session ran.reaches.run,
+    )
 
 pub returns-clause-follows : goal.returns-clause-follows
 returns-clause-follows c =

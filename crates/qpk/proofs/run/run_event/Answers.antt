@@ -13,11 +13,12 @@ returns c =
     c.unwrap_or-added.result c.get.ensures.lookup.0 refl c.unwrap_or-added.ensures
     ∙ ap (λ (xs : List ℕ). drop (length xs) c.written_stream.result.now) c.written_stream-before.ensures
     ∙ ap (λ (xs : List ℕ). drop (length (stored_stream_bytes e c.args.session.now)) xs) c.written_stream.ensures in
+    let step = c.step-outcome.ensures in
     on_ok_weaker c.push_outcome_lines.result
-    (λ lines. (
-      lines.0,
+    (λ appended. (
+      _,
       event_prints c.args.session.now c.step-outcome.new.self e c.step-outcome.result c.made_block.result.now
-          c.unwrap_or-added.result.now _ c.step-outcome.ensures.goes c.made_block.ensures added lines.1,
-      lines.2,
+          c.unwrap_or-added.result.now step.goes step.unrefused step.exact step.asks c.made_block.ensures added,
+      appended,
     ))
     c.push_outcome_lines.ensures

@@ -12,11 +12,18 @@ returns-in-len1 c =
     let s = (slice_eq-Decides Decides-eqb _ _ _ c.eq.ensures).0 c.if-eq.true in
     m ∙ ap (λ (b : List ℕ). b ∷ []) (sym c.as_str.ensures.value ∙ s)
 
+pub returns-in-len1-2 : goal.returns-in-len1-2
+returns-in-len1-2 c =
+    let m = one_word c.args.words.now c.word-item-then-words-lt2.result c.in-len1.len_at_least c.in-len1.len_below
+    c.word-item-then-words-lt2.is in
+    let s = (slice_eq-Decides Decides-eqb _ _ _ c.eq-then-words-lt2.ensures).0 c.if-eq-2.true in
+    m ∙ ap (λ (b : List ℕ). b ∷ []) (sym c.as_str-then-words-lt2.ensures.value ∙ s)
+
 pub returns-in_ok-limit-in-len2 : goal.returns-in_ok-limit-in-len2
 returns-in_ok-limit-in-len2 c =
     let m = two_words c.args.words.now c.word-item-then-words-lt3.result c.limit-item.result c.in-len2.len_at_least
     c.in-len2.len_below c.word-item-then-words-lt3.is c.limit-item.is in
-    let s = (slice_eq-Decides Decides-eqb _ _ _ c.eq-then-words-lt3.ensures).0 c.if-eq-2.true in
+    let s = (slice_eq-Decides Decides-eqb _ _ _ c.eq-then-words-lt3.ensures).0 c.if-eq-3.true in
     let limit = c.as_str-in-len2.ensures.value in (
       c.as_str-in-len2.result.now,
       m ∙ ap (λ (b : List ℕ). b ∷ string_bytes c.limit-item.result ∷ [])
@@ -38,7 +45,7 @@ pub returns-in_ok-capacity-in-len2-2 : goal.returns-in_ok-capacity-in-len2-2
 returns-in_ok-capacity-in-len2-2 c =
     let m = two_words c.args.words.now c.word-item-then-words-lt3-2.result c.capacity-item.result
     c.in-len2.len_at_least c.in-len2.len_below c.word-item-then-words-lt3-2.is c.capacity-item.is in
-    let s = (slice_eq-Decides Decides-eqb _ _ _ c.eq-then-words-lt3-2.ensures).0 c.if-eq-3.true in
+    let s = (slice_eq-Decides Decides-eqb _ _ _ c.eq-then-words-lt3-2.ensures).0 c.if-eq-4.true in
     let capacity = c.as_str-in-len2-2.ensures.value in (
       c.as_str-in-len2-2.result.now,
       m ∙ ap (λ (b : List ℕ). b ∷ string_bytes c.capacity-item.result ∷ [])
@@ -62,7 +69,7 @@ returns-in_ok-limit-in-len3 c =
     let m = three_words c.args.words.now c.word-item-then-words-lt4.result c.capacity-item-then-words-lt4.result
     c.limit-item-then-words-lt4.result c.in-len3.len_at_least c.in-len3.len_below c.word-item-then-words-lt4.is
     c.capacity-item-then-words-lt4.is c.limit-item-then-words-lt4.is in
-    let s = (slice_eq-Decides Decides-eqb _ _ _ c.eq-then-words-lt4.ensures).0 c.if-eq-4.true in (
+    let s = (slice_eq-Decides Decides-eqb _ _ _ c.eq-then-words-lt4.ensures).0 c.if-eq-5.true in (
       c.as_str-in-len3.result.now,
       c.as_str-in-len3-2.result.now,
       words_are c.args.words.now _ _ _ (codes "run") c.as_str-in-len3.result.now c.as_str-in-len3-2.result.now m

@@ -1,7 +1,9 @@
+use Rattle.qpk.specs.Refusals.{AppendsAtStatus}
 use Rattle.qpk.proofs.Tellings.{ends_told}
 use Rattle.qpk.proofs.serve.serve.Goals as goal
 
 pub returns-in-Err-clause-refused : goal.returns-in-Err-clause-refused
 returns-in-Err-clause-refused g c = λ _.
-    let told = ends_told _ _ _ _ _ _ c.in-Err.refusal c.in-Err.ensures.refused c.refuse.ensures.told in
-    (c.refuse.ensures.status, told.0, told.1, told.2, told.3, told.4)
+    ends_told _ _ _ _ c.in-Err.refusal
+    (AppendsAtStatus c.refuse.result (g.E.Write.contents c.args.faults.now) (g.E.Write.contents c.refuse.new.faults))
+    c.in-Err.ensures.refused c.refuse.ensures

@@ -1,9 +1,10 @@
-use Rattle.std.proofs.Common.{[], ◌∙◌, refl, sym, arith, append-nil}
+use Rattle.std.proofs.Common.{[], ◌+◌, ◌∙◌, refl, sym, arith, append-nil}
 use Rattle.std.proofs.lemmas.Result.{err_from_is_err_and}
 use Rattle.qpack_base.specs.HeaderFields.{field_of}
 use Rattle.h3_qpack.proofs.AddedFields.{adds_none, adds_next, stops_next}
 use Rattle.h3_qpack.proofs.WrittenBlocks.{take-append_front}
 use Rattle.h3_qpack.proofs.Stills.{still_next, longer_written}
+use Rattle.h3_qpack.proofs.InstructionsRoom.{grows_none, grows_next, grows_front}
 use Rattle.h3_qpack.proofs.encoder.block.append_fields.Goals as goal
 
 pub loop-field-init : goal.loop-field-init
@@ -17,6 +18,7 @@ loop-field-init g c =
       front = take-append_front lines [] lines lines _ (sym c.args.lines.now.ok.0) refl (sym (append-nil lines));
       capacity = omega arith;
       still = λ fits. refl;
+      room = grows_none _ c.args.encoder_buf.now;
     }
 
 pub returns-in_err-append_field-clause-err : goal.returns-in_err-append_field-clause-err
@@ -49,4 +51,17 @@ loop-field-preserved g c =
       still = still_next c.args.lines.now c.loop-field.lines c.append_field.new.lines
           (longer_written _ c.loop-field.lines c.append_field.new.lines c.in_ok-append_field.ensures.ok.lines)
           c.loop-field.invariant.still c.in_ok-append_field.ensures.still;
+      room = grows_next g.H.AsField.field c.args.fields.now c.loop-field.field-index c.field-item.result
+          (field_of c.as_field.result.now) c.args.encoder_buf.now c.loop-field.encoder_buf
+          c.append_field.new.encoder_buf (omega arith) c.field-item.is c.as_field.ensures c.loop-field.invariant.room
+          c.append_field.ensures.instructions;
     }
+
+pub returns-in_err-append_field-clause-instructions : goal.returns-in_err-append_field-clause-instructions
+returns-in_err-append_field-clause-instructions g c =
+    grows_front g.H.AsField.field c.args.fields.now (c.loop-field.field-index + 1) c.args.encoder_buf.now
+    c.append_field.new.encoder_buf
+    (grows_next g.H.AsField.field c.args.fields.now c.loop-field.field-index c.field-item.result
+    (field_of c.as_field.result.now) c.args.encoder_buf.now c.loop-field.encoder_buf
+    c.append_field.new.encoder_buf (omega arith) c.field-item.is c.as_field.ensures c.loop-field.invariant.room
+    c.append_field.ensures.instructions)

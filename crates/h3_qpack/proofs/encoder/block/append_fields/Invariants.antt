@@ -1,6 +1,6 @@
 use Rattle.std.proofs.Common.{◌≡◌, ◌≤◌, map, take, vec_capacity}
 use Rattle.std.specs.Prelude.{vec_len}
-use Rattle.h3_qpack.specs.Encoding.{Adds, draft_of_fields}
+use Rattle.h3_qpack.specs.Encoding.{Adds, draft_of_fields, GrowsWithin, instructions_room}
 use Rattle.h3_qpack.proofs.encoder.block.append_fields.Given as goal
 
 abbrev pub invariant-loop-field : goal.invariant-loop-field
@@ -14,4 +14,6 @@ invariant-loop-field g l = record {
   front : take (vec_len l.fn.lines) l.lines.items ≡ l.fn.lines.items;
   capacity : vec_capacity l.fn.lines ≤ vec_capacity l.lines;
   still : vec_len l.lines ≤ vec_capacity l.fn.lines → vec_capacity l.lines ≡ vec_capacity l.fn.lines;
+  room : GrowsWithin (instructions_room (map g.H.AsField.field (take l.field-index l.fields))) l.fn.encoder_buf
+      l.encoder_buf;
 }

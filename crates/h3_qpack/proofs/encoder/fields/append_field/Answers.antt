@@ -56,6 +56,7 @@ returns g c =
       memory = c.append_insertion.ensures.memory;
       capacity = c.append_insertion.ensures.capacity;
       still = c.append_insertion.ensures.still;
+      instructions = c.append_insertion.ensures.instructions;
     }
 
 pub returns-in-Some-clause-still : goal.returns-in-Some-clause-still

@@ -6,6 +6,7 @@ use Rattle.qpack_table.specs.Handles.{insertion_of}
 use Rattle.h3_qpack.specs.Encoding.{written_insertion}
 use Rattle.h3_qpack.proofs.Additions.{adds_insertion, stops_inserted}
 use Rattle.h3_qpack.proofs.Stills.{still_written}
+use Rattle.h3_qpack.proofs.InstructionsRoom.{grows_made, grows_written, inserted_fits}
 use Rattle.h3_qpack.proofs.encoder.fields.append_insertion.Goals as goal
 
 pub returns-in_err-append_inserted-clause-err : goal.returns-in_err-append_inserted-clause-err
@@ -37,3 +38,45 @@ pub returns-clause-still : goal.returns-clause-still
 returns-clause-still g c =
     still_written _ c.args.lines.now c.append_inserted.new.buf c.in_ok-append_inserted.ensures.writes.ok
     c.in_ok-append_inserted.ensures.writes.still
+
+pub returns-in_err-make_room-clause-instructions : goal.returns-in_err-make_room-clause-instructions
+returns-in_err-make_room-clause-instructions g c =
+    let room = c.make_room.ensures in
+    grows_made c.instruction_room.result _ c.args.encoder_buf.now c.make_room.new.buf c.instruction_room.ensures.most
+    room.len room.still room.capacity
+
+pub returns-in_err-insertion-clause-instructions : goal.returns-in_err-insertion-clause-instructions
+returns-in_err-insertion-clause-instructions g c =
+    let room = c.make_room.ensures in
+    grows_made c.instruction_room.result _ c.args.encoder_buf.now c.make_room.new.buf c.instruction_room.ensures.most
+    room.len room.still room.capacity
+
+pub returns-in_err-write_instruction-clause-instructions : goal.returns-in_err-write_instruction-clause-instructions
+returns-in_err-write_instruction-clause-instructions g c =
+    let room = c.make_room.ensures in
+    grows_written c.instruction_room.result _ _ c.args.encoder_buf.now c.make_room.new.buf c.write_instruction.new.buf
+    c.write_instruction.result c.instruction_room.ensures.most room.len room.still room.capacity
+    c.in_ok-make_room.ensures.ok
+    (inserted_fits c.instruction_room.result (field_of c.args.field.now) _ _ _ c.in_ok-insertion.ensures.inserted
+    c.instruction_room.ensures.enough)
+    c.write_instruction.ensures.writes
+
+pub returns-in_err-append_inserted-clause-instructions : goal.returns-in_err-append_inserted-clause-instructions
+returns-in_err-append_inserted-clause-instructions g c =
+    let room = c.make_room.ensures in
+    grows_written c.instruction_room.result _ _ c.args.encoder_buf.now c.make_room.new.buf c.write_instruction.new.buf
+    c.write_instruction.result c.instruction_room.ensures.most room.len room.still room.capacity
+    c.in_ok-make_room.ensures.ok
+    (inserted_fits c.instruction_room.result (field_of c.args.field.now) _ _ _ c.in_ok-insertion.ensures.inserted
+    c.instruction_room.ensures.enough)
+    c.write_instruction.ensures.writes
+
+pub returns-clause-instructions : goal.returns-clause-instructions
+returns-clause-instructions g c =
+    let room = c.make_room.ensures in
+    grows_written c.instruction_room.result _ _ c.args.encoder_buf.now c.make_room.new.buf c.write_instruction.new.buf
+    c.write_instruction.result c.instruction_room.ensures.most room.len room.still room.capacity
+    c.in_ok-make_room.ensures.ok
+    (inserted_fits c.instruction_room.result (field_of c.args.field.now) _ _ _ c.in_ok-insertion.ensures.inserted
+    c.instruction_room.ensures.enough)
+    c.write_instruction.ensures.writes

@@ -5,15 +5,18 @@ use Rattle.qpack_base.specs.HeaderFields.{field_of}
 use Rattle.h3_qpack.proofs.Rooms.{insertion_most, large_writes_none}
 use Rattle.h3_qpack.proofs.encoder.fields.instruction_room.Goals as goal
 
-pub returns-then-size-max_size : goal.returns-then-size-max_size
-returns-then-size-max_size c =
+pub returns-then-size-max_size-clause-enough : goal.returns-then-size-max_size-clause-enough
+returns-then-size-max_size-clause-enough c =
     large_writes_none c.args.block.now.table.now c.args.block.now.base (field_of c.args.field.now)
     (omega (arith, c.mem_size-size.ensures, c.max_size.ensures.exact, c.if-size-max_size.true))
 
-pub returns : goal.returns
-returns c =
+pub returns-clause-enough : goal.returns-clause-enough
+returns-clause-enough c =
     let most = insertion_most (field_of c.args.field.now)
     (insert_field c.args.block.now.table.now c.args.block.now.base (field_of c.args.field.now)).insertion in
     let size : c.mem_size-size.result ≡ field_size (field_of c.args.field.now) =
     omega (arith, c.mem_size-size.ensures, c.max_size.ensures.most, c.if-size-max_size.false) in
     omega (arith, most, size)
+
+pub returns-clause-most : goal.returns-clause-most
+returns-clause-most c = omega (arith, c.mem_size-size.ensures)

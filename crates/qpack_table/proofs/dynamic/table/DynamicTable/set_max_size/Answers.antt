@@ -7,27 +7,16 @@ use Rattle.qpack_spec.proofs.Windows.{eviction_count_bound}
 use Rattle.qpack_table.specs.Capacities.{Agreement}
 use Rattle.qpack_table.specs.Positions.{Positions}
 use Rattle.qpack_table.specs.Tables.{entry_of, entries_of}
-use Rattle.qpack_table.proofs.Changes.{resized_above, resized_against_held, resized_to}
+use Rattle.qpack_table.proofs.Changes.{resized_to}
 use Rattle.qpack_table.proofs.Evictions.{live_less}
 use Rattle.qpack_table.proofs.Kept.{kept_resized}
 use Rattle.qpack_table.proofs.dynamic.table.DynamicTable.set_max_size.Goals as goal
-
-pub returns-then-size-greatest_capacity : goal.returns-then-size-greatest_capacity
-returns-then-size-greatest_capacity c =
-    (resized_above c.args.self.now c.args.size (omega (arith, c.greatest_capacity.ensures.agreed_max)), refl)
-
-pub returns-in_default : goal.returns-in_default
-returns-in_default c = (
-  resized_against_held c.args.self.now c.args.size (omega (arith, c.greatest_capacity.ensures.agreed_max))
-      c.in_default.ensures.held,
-  refl,
-)
 
 pub drop_oldest-freed-requires-clause-there : goal.drop_oldest-freed-requires-clause-there
 drop_oldest-freed-requires-clause-there c =
     omega (
       arith,
-      c.in-Some.ensures.least,
+      c.in_ok-evicted.ensures.least,
       eviction_count_bound c.args.size (fields_in c.args.self.now.live),
       length-map c.args.self.now.live (λ (e : table.Entry). e.field),
       ap (λ (t : Table). length t.live) c.self.view_is,
@@ -36,36 +25,37 @@ drop_oldest-freed-requires-clause-there c =
 
 pub invariant_of-self : goal.invariant_of-self
 invariant_of-self c =
-    let evicted : c.in-Some.evicted
+    let evicted : c.in_ok-evicted.evicted
     ≡ eviction_count c.args.size (fields_in (entries_of c.self.inside.entries.items)) =
-    c.in-Some.ensures.least
+    c.in_ok-evicted.ensures.least
     ∙ ap (λ (t : Table). eviction_count c.args.size (fields_in t.live)) (sym c.self.view_is) in
     rw (ap (λ (a : Agreement). a.capacity) c.set.ensures)
     (kept_resized c.self.inside.vas c.drop_oldest-freed.new.vas c.self.inside.entries.items
-    c.drop_oldest-freed.new.entries.items _ _ _ c.args.size _ _ _ _ c.in-Some.evicted
+    c.drop_oldest-freed.new.entries.items _ _ _ c.args.size _ _ _ _ c.in_ok-evicted.evicted
     c.drop_oldest-freed.result
     c.self.invariant
-    evicted (omega (arith, c.greatest_capacity.ensures.most)) c.drop_oldest-freed.ensures.left
+    evicted (omega (arith, c.in_ok-evicted.ensures.small)) c.drop_oldest-freed.ensures.left
     c.drop_oldest-freed.ensures.freed refl
     (ap (λ (p : Positions). p.dropped) c.drop_oldest-freed.ensures.dropped)
     (ap (λ (p : Positions). p.total) c.drop_oldest-freed.ensures.dropped) c.drop_oldest-freed.ensures.index)
 
 pub returns : goal.returns
 returns c =
-    let evicted : c.in-Some.evicted
+    let evicted : c.in_ok-evicted.evicted
     ≡ eviction_count c.args.size (fields_in (entries_of c.self.inside.entries.items)) =
-    c.in-Some.ensures.least
+    c.in_ok-evicted.ensures.least
     ∙ ap (λ (t : Table). eviction_count c.args.size (fields_in t.live)) (sym c.self.view_is) in
     rw (← c.self.view_is, c.set.ensures) (resized_to _ c.args.size c.drop_oldest-freed.new.vas.dropped
     (entries_of c.drop_oldest-freed.new.entries.items)
     (omega (
       arith,
-      c.greatest_capacity.ensures.agreed_max,
+      c.in_ok-evicted.ensures.within,
       ap
           (λ (t : Table). greatest_capacity t.agreed_max) c.self.view_is,
     ))
     (ap (λ (t : Table). can_evict t (eviction_count c.args.size (fields_in t.live))) c.self.view_is
-    ∙ ap (λ (n : ℕ). can_evict c.args.self.now n) (sym c.in-Some.ensures.least) ∙ c.in-Some.ensures.evictable)
+    ∙ ap (λ (n : ℕ). can_evict c.args.self.now n) (sym c.in_ok-evicted.ensures.least)
+    ∙ c.in_ok-evicted.ensures.evictable)
     (omega (arith, evicted, ap (λ (p : Positions). p.dropped) c.drop_oldest-freed.ensures.dropped))
-    (live_less c.self.inside.entries.items c.drop_oldest-freed.new.entries.items c.in-Some.evicted
+    (live_less c.self.inside.entries.items c.drop_oldest-freed.new.entries.items c.in_ok-evicted.evicted
     c.drop_oldest-freed.ensures.left ∙ ap (λ (n : ℕ). drop n (entries_of c.self.inside.entries.items)) evicted))

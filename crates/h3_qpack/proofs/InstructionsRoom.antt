@@ -1,0 +1,104 @@
+-- Vectors of instructions, which are grown only where they have no room for the fields.
+use Rattle.std.proofs.Common.{◌≡◌, ◌+◌, ◌*◌, ◌<◌, ◌≤◌, ◌++◌, ℕ, zero, suc, List, [], ◌∷◌, length}
+use Rattle.std.proofs.Common.{get_or, map, take, vec_len, vec_capacity}
+use Rattle.std.proofs.Common.{Result, Ok, Err, refl, ap, ◌∙◌, sym, arith, length-append}
+use Rattle.std.specs.declared.vec.Vec.{Vec}
+use Rattle.qpack_spec.specs.Field.{Field, field_size, total_size}
+use Rattle.qpack_spec.specs.Handle.{Insertable, Insertion}
+use Rattle.qpack_spec.specs.Table.{Table}
+use Rattle.qpack_spec.proofs.Sizes.{total_first, total_last}
+use Rattle.qpack_base.specs.Writes.{Writes}
+use Rattle.h3_qpack.specs.Encoding.{written_insertion, GrowsWithin, instructions_room}
+use Rattle.h3_qpack.proofs.AddedFields.{front_of}
+
+-- nothing was appended
+pub grows_none : {A : Type 0} (room : ℕ) (v : Vec ℕ A) → GrowsWithin room v v
+grows_none room v = record { longer = omega arith; still = λ h. refl; capacity = omega arith }
+
+-- room was made
+pub grows_made : {A : Type 0} (least room : ℕ) (old made : Vec ℕ A) → least ≤ room → vec_len made ≡ vec_len old
+    → (vec_len old + least ≤ vec_capacity old → vec_capacity made ≡ vec_capacity old)
+    → vec_capacity old ≤ vec_capacity made → GrowsWithin room old made
+grows_made least room old made within len still capacity =
+    record {
+      longer = omega (arith, len);
+      still = λ fits. still (omega (arith, fits, within));
+      capacity = capacity;
+    }
+
+-- what is written is as long as it is, or not there
+wrote_longer : {A E : Type 0} (encoding : List ℕ) (old new : Vec ℕ A) (r : Result (Unit {0}) E)
+    → Writes encoding old new r → vec_len new ≤ vec_len old + length encoding
+wrote_longer encoding old new (Ok done) w =
+    omega (arith, ap (λ (l : List ℕ). length l) w.ok, length-append old.items encoding, old.ok.0, new.ok.0)
+wrote_longer encoding old new (Err e) w =
+    omega (arith, ap (λ (l : List ℕ). length l) w.err, old.ok.0, new.ok.0)
+
+-- room was made, and an instruction written into it
+pub grows_written : {A E : Type 0} (least room : ℕ) (encoding : List ℕ) (old made new : Vec ℕ A)
+    (r : Result (Unit {0}) E) → least ≤ room → vec_len made ≡ vec_len old
+    → (vec_len old + least ≤ vec_capacity old → vec_capacity made ≡ vec_capacity old)
+    → vec_capacity old ≤ vec_capacity made → vec_len made + least ≤ vec_capacity made → length encoding ≤ least
+    → Writes encoding made new r → GrowsWithin room old new
+grows_written least room encoding old made new r within len still capacity free small wrote =
+    let k = grows_made least room old made within len still capacity in
+    record {
+      longer = omega (arith, wrote_longer encoding made new r wrote, len, small, within);
+      still = λ fits. wrote.still (omega (arith, free, small)) ∙ k.still fits;
+      capacity = omega (arith, k.capacity, wrote.capacity);
+    }
+
+-- the instruction of what was inserted fits
+pub inserted_fits : (room : ℕ) (f : Field) (i : Insertable) (insertion : Insertion) (new : Table)
+    → i ≡ record { insertion = insertion; table = new } → length (written_insertion f i.insertion) ≤ room
+    → length (written_insertion f insertion) ≤ room
+inserted_fits room f i insertion new is enough =
+    omega (arith, enough, ap (λ (x : Insertable). length (written_insertion f x.insertion)) is)
+
+-- one behind the other
+grows_on : {A : Type 0} (first second both : ℕ) (old mid new : Vec ℕ A) → GrowsWithin first old mid
+    → GrowsWithin second mid new → first + second ≤ both → GrowsWithin both old new
+grows_on first second both old mid new a b within =
+    record {
+      longer = omega (arith, a.longer, b.longer, within);
+      still = λ fits. let same = a.still (omega (arith, fits, within)) in
+          b.still (omega (arith, same, a.longer, fits, within)) ∙ same;
+      capacity = omega (arith, a.capacity, b.capacity);
+    }
+
+front_smaller : {H : Type 0} (field : H → Field) (xs : List H) (i : ℕ)
+    → total_size (map field (take i xs)) ≤ total_size (map field xs)
+front_smaller field xs zero = omega arith
+front_smaller field [] (suc i) = omega arith
+front_smaller field (x ∷ xs) (suc i) =
+    omega (
+      arith,
+      front_smaller field xs i,
+      total_first (field x) (map field (take i xs)),
+      total_first (field x) (map field xs),
+    )
+
+-- a field more
+pub grows_next : {H A : Type 0} (field : H → Field) (xs : List H) (i : ℕ) (x : H) (f : Field) (old mid new : Vec ℕ A)
+    → i < length xs → x ≡ get_or xs i x → f ≡ field x
+    → GrowsWithin (instructions_room (map field (take i xs))) old mid → GrowsWithin (4 * field_size f) mid new
+    → GrowsWithin (instructions_room (map field (take (i + 1) xs))) old new
+grows_next {H = H} field xs i x f old mid new within is lent so_far more =
+    let front : map field (take (i + 1) xs) ≡ map field (take i xs) ++ field x ∷ [] =
+    front_of field xs i x within ∙ ap (λ (y : H). map field (take i xs) ++ field y ∷ []) (sym is) in
+    grows_on (instructions_room (map field (take i xs))) (4 * field_size f)
+    (instructions_room (map field (take (i + 1) xs))) old mid new so_far more
+    (omega (
+      arith,
+      ap (λ (fs : List Field). total_size fs) front,
+      total_last (map field (take i xs)) (field x),
+      ap (λ (g : Field). field_size g) lent,
+    ))
+
+-- some of the fields take no more than all
+pub grows_front : {H A : Type 0} (field : H → Field) (xs : List H) (i : ℕ) (old new : Vec ℕ A)
+    → GrowsWithin (instructions_room (map field (take i xs))) old new
+    → GrowsWithin (instructions_room (map field xs)) old new
+grows_front field xs i old new so_far =
+    grows_on (instructions_room (map field (take i xs))) 0 (instructions_room (map field xs)) old new new so_far
+    (grows_none 0 new) (omega (arith, front_smaller field xs i))

@@ -1,0 +1,25 @@
+-- How the program is called.
+use Rattle.std.specs.Prelude.{ℕ, List, ◌++◌, codes}
+
+-- the commands, each with an example and what it prints
+unfoldable pub usage_text : List ℕ
+usage_text =
+    codes "usage: qpk encode | decode LIMIT | inspect CAPACITY | run CAPACITY LIMIT\n"
+    ++ codes "QPACK (RFC 9204) by lines: a command reads its input, and prints the answer.\n"
+    ++ codes "\n"
+    ++ codes "encode   fields, NAME TAB VALUE each, to a block in hexadecimal\n"
+    ++ codes "  printf ':method\\tGET\\n' | ./qpk encode\n"
+    ++ codes "  0000d1\n"
+    ++ codes "decode   a block to its fields, whose sizes may sum to LIMIT bytes\n"
+    ++ codes "  printf '0000d1\\n' | ./qpk decode 42\n"
+    ++ codes "  :method\tGET\n"
+    ++ codes "  size 42\n"
+    ++ codes "inspect  a recorded connection: e TAB HEX, its encoder stream; b TAB HEX, blocks\n"
+    ++ codes "  printf 'b\\t0000d1\\n' | ./qpk inspect 4096\n"
+    ++ codes "  prefix 0 0\n"
+    ++ codes "  indexed static 17\n"
+    ++ codes "  fields 1 42\n"
+    ++ codes "run      a script of events on two ends, where LIMIT blocks may be blocked\n"
+    ++ codes "  printf 'encode\\t4\\tfoo\\tbar\\n' | ./qpk run 4096 1\n"
+    ++ codes "  encoded 1 028010 6294e7838c767f\n"
+    ++ codes "--help   this text; no input is read\n"

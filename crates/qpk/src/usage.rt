@@ -1,0 +1,32 @@
+//! How the program is called.
+
+ghost use Rattle.std.specs.Prelude.{◌≡◌};
+ghost use Rattle.qpk.specs.Usage.{usage_text};
+
+/// The commands, each with an example and what it prints.
+#[tactic(auto, unfolding(crate::specs::Usage::usage_text))]
+pub fn usage() -> &'static str
+    ensures { result.now ≡ usage_text }
+{
+    "\
+usage: qpk encode | decode LIMIT | inspect CAPACITY | run CAPACITY LIMIT
+QPACK (RFC 9204) by lines: a command reads its input, and prints the answer.
+
+encode   fields, NAME TAB VALUE each, to a block in hexadecimal
+  printf ':method\\tGET\\n' | ./qpk encode
+  0000d1
+decode   a block to its fields, whose sizes may sum to LIMIT bytes
+  printf '0000d1\\n' | ./qpk decode 42
+  :method\tGET
+  size 42
+inspect  a recorded connection: e TAB HEX, its encoder stream; b TAB HEX, blocks
+  printf 'b\\t0000d1\\n' | ./qpk inspect 4096
+  prefix 0 0
+  indexed static 17
+  fields 1 42
+run      a script of events on two ends, where LIMIT blocks may be blocked
+  printf 'encode\\t4\\tfoo\\tbar\\n' | ./qpk run 4096 1
+  encoded 1 028010 6294e7838c767f
+--help   this text; no input is read
+"
+}
