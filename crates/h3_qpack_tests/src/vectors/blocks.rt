@@ -1,6 +1,6 @@
 //! Blocks without a dynamic table (RFC 9204, section 4.5).
 
-use h3_qpack::coding::Cursor;
+use h3_qpack::coding::{Cursor, NoMemory};
 use h3_qpack::prefix_int::Error;
 use h3_qpack::prefix_string::Error as StringError;
 use h3_qpack::{
@@ -65,14 +65,27 @@ fn put(fields: &Vec<HeaderField>, block: &mut Vec<u8>) -> Result<u64, Fail> {
     }
 }
 
-/// The fields are written as this block with this size, and read from it.
-fn agree(alloc: Global, fields: &Vec<HeaderField>, block: &[u8], size: u64) -> Result<(), Fail> {
-    let mut written = Vec::new(alloc);
-    same(put(fields, &mut written)?, size)?;
-    same(written.as_slice(), block)?;
-    let decoded = decode(alloc, block, size)?;
+/// The fields are written as this block, with this size.
+fn is_written(
+    fields: &Vec<HeaderField>,
+    block: &[u8],
+    size: u64,
+    to: &mut Vec<u8>,
+) -> Result<(), Fail> {
+    same(put(fields, to)?, size)?;
+    same(to.as_slice(), block)
+}
+
+/// These fields were read, with this size.
+fn is_read(decoded: &Decoded, fields: &Vec<HeaderField>, size: u64) -> Result<(), Fail> {
     same(decoded.fields == *fields, true)?;
     same((decoded.mem_size, decoded.dyn_ref), (size, false))
+}
+
+/// The fields are written as this block with this size, and read from it.
+fn agree(alloc: Global, fields: &Vec<HeaderField>, block: &[u8], size: u64) -> Result<(), Fail> {
+    is_written(fields, block, size, &mut Vec::new(alloc))?;
+    is_read(&decode(alloc, block, size)?, fields, size)
 }
 
 #[test]
@@ -85,28 +98,44 @@ fn fields_and_blocks(rt: HostRuntime) -> Result<(), Fail> {
 }
 
 #[test]
-fn no_field_and_four(rt: HostRuntime) -> Result<(), Fail> {
-    let none = Vec::new(rt.alloc());
-    agree(rt.alloc(), &none, b"\x00\x00", 0)?;
-    let mut all = again(|| Vec::with_capacity(rt.alloc(), 4))?;
+fn no_field(rt: HostRuntime) -> Result<(), Fail> {
+    agree(rt.alloc(), &Vec::new(rt.alloc()), b"\x00\x00", 0)
+}
+
+/// The fields of all rows.
+fn all_fields(alloc: Global) -> Result<Vec<HeaderField>, NoMemory> {
+    let mut all = again(|| Vec::with_capacity(alloc, ROWS.len()))?;
     for row in &ROWS {
-        all.push(field(rt.alloc(), row.name, row.value)?)?;
+        all.push(field(alloc, row.name, row.value)?)?;
     }
+    Ok(all)
+}
+
+#[test]
+fn four_fields(rt: HostRuntime) -> Result<(), Fail> {
     let block = b"\x00\x00\xd1\x52\x81\x0f\x5f\x09\x82\x10\x03\x2a\x94\xe7\x83\x8c\x76\x7f";
-    agree(rt.alloc(), &all, block, 158)
+    agree(rt.alloc(), &all_fields(rt.alloc())?, block, 158)
+}
+
+/// A block is refused under a limit, at a field where the sum of sizes is this.
+fn is_too_long(alloc: Global, block: &[u8], limit: u64, sum: u64) -> Result<(), Fail> {
+    let refused = decode(alloc, block, limit).err();
+    same(refused, Some(DecoderError::HeaderTooLong(sum)))
+}
+
+/// Fields of 90 bytes are written, and refused under lower limits.
+fn is_limited(alloc: Global, fields: &Vec<HeaderField>, block: &mut Vec<u8>) -> Result<(), Fail> {
+    same(put(fields, block)?, 90)?;
+    is_too_long(alloc, block, 2, 44)?;
+    is_too_long(alloc, block, 89, 90)?;
+    agree(alloc, fields, block, 90)
 }
 
 #[test]
 fn the_sum_of_sizes_is_limited(rt: HostRuntime) -> Result<(), Fail> {
     let pairs: [(&[u8], &[u8]); 2] = [(b"trailer", b"value"), (b"trailer2", b"value2")];
     let fields = fields(rt.alloc(), &pairs)?;
-    let mut block = Vec::new(rt.alloc());
-    same(put(&fields, &mut block)?, 90)?;
-    for (limit, size) in [(2, 44), (89, 90)] {
-        let refused = decode(rt.alloc(), &block, limit).err();
-        same(refused, Some(DecoderError::HeaderTooLong(size)))?;
-    }
-    agree(rt.alloc(), &fields, &block, 90)
+    is_limited(rt.alloc(), &fields, &mut Vec::new(rt.alloc()))
 }
 
 #[test]

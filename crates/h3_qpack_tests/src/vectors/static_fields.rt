@@ -1,7 +1,9 @@
 //! The static table (RFC 9204, Appendix A).
 
+use h3_qpack::HeaderField;
 use h3_qpack::static_::{Error, StaticTable};
 use qpack_testing::{field, same};
+use std::alloc::Global;
 use std::test::Fail;
 
 /// Fields of the table and their indexes.
@@ -14,12 +16,16 @@ static ROWS: [(usize, &[u8], &[u8]); 6] = [
     (97, b"x-frame-options", b"deny"),
 ];
 
+/// A field is at an index, and is found there.
+fn stands_at(index: usize, field: &HeaderField) -> Result<(), Fail> {
+    same(StaticTable::get(index)? == *field, true)?;
+    same(StaticTable::find(field), Some(index))
+}
+
 #[test]
 fn fields_stand_at_their_indexes(rt: HostRuntime) -> Result<(), Fail> {
     for (index, name, value) in &ROWS {
-        let field = field(rt.alloc(), name, value)?;
-        same(StaticTable::get(*index)? == field, true)?;
-        same(StaticTable::find(&field), Some(*index))?;
+        stands_at(*index, &field(rt.alloc(), name, value)?)?;
     }
     let past = StaticTable::get(usize::MAX).err();
     same(past, Some(Error::Unknown(usize::MAX)))
@@ -44,10 +50,14 @@ fn names_are_found_at_their_least_index(_rt: HostRuntime) -> Result<(), Fail> {
     Ok(())
 }
 
+/// A field is not found.
+fn is_not_found(alloc: Global, name: &[u8], value: &[u8]) -> Result<(), Fail> {
+    let field = field(alloc, name, value)?;
+    same(StaticTable::find(&field), None)
+}
+
 #[test]
 fn other_fields_are_not_found(rt: HostRuntime) -> Result<(), Fail> {
-    let lowercase = field(rt.alloc(), b":method", b"get")?;
-    same(StaticTable::find(&lowercase), None)?;
-    let empty = field(rt.alloc(), b"", b"")?;
-    same(StaticTable::find(&empty), None)
+    is_not_found(rt.alloc(), b":method", b"get")?;
+    is_not_found(rt.alloc(), b"", b"")
 }

@@ -30,6 +30,11 @@ fn is_one_character(byte: u8) -> bool {
     }
 }
 
+/// The length of the name at an index of the static table.
+fn static_name_len(index: usize) -> Option<usize> {
+    Some(StaticTable::get(index).ok()?.name.len())
+}
+
 /// A whole instruction of the encoder stream, and how many bytes it has.
 enum Instruction {
     Insert(usize, usize),
@@ -46,8 +51,8 @@ fn first_instruction(bytes: &[u8]) -> Option<Instruction> {
     let has_empty_value = matches!(second, Some(0x00 | 0x80));
     match first {
         0xc0.. if first < 0xff && has_empty_value => {
-            let name = StaticTable::get(usize::from(first & 0x3f)).ok()?.name;
-            Some(Instruction::Insert(name.len().saturating_add(32), 2))
+            let len = static_name_len(usize::from(first & 0x3f))?;
+            Some(Instruction::Insert(len.saturating_add(32), 2))
         }
         0x80..=0xbe if has_empty_value => Some(Instruction::NoEntry(usize::from(first & 0x3f))),
         0x40 | 0x60 if has_empty_value => Some(Instruction::Insert(32, 2)),
