@@ -45,4 +45,5 @@ pub mod SessionAnswers
 pub mod SkippedEvents
 pub mod SessionRows
 pub mod EventRows
+pub mod SectionLengths
 pub mod StringRows

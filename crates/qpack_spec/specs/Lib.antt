@@ -31,3 +31,4 @@ pub mod HuffmanLaws
 pub mod TextLaws
 pub mod Stateless
 pub mod StatelessMeaning
+pub mod LengthLaws

@@ -1,6 +1,7 @@
 //! Laws of encoded field sections (RFC 9204, section 4.5).
 
 ghost use Rattle.qpack_spec.specs.BlockLaws.{ReadingFindsPrefixes, CountsHaveOneReading, CountsAreRead};
+ghost use Rattle.qpack_spec.specs.LengthLaws.{ReadSectionsAreShort, StatelessSectionsAreShort};
 ghost use Rattle.qpack_spec.specs.BlockLaws.{ReadingLinesFindsFields};
 ghost use Rattle.qpack_spec.specs.WrittenLaws.{WrittenPrefixesAreSpellings, WrittenBlocksAreRead};
 
@@ -24,4 +25,11 @@ pub fn reading_lines_finds_fields()
 /// What is written of a block is read as the block.
 pub fn written_blocks_are_read()
     ensures { WrittenBlocksAreRead }
+{}
+
+/// A section is at most four times as long as the sizes of its fields, and twenty bytes more: so a reader with a limit on
+/// these need not look at a longer one.
+pub fn sections_are_short()
+    ensures read { ReadSectionsAreShort }
+    ensures alone { StatelessSectionsAreShort }
 {}
