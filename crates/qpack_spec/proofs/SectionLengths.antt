@@ -9,7 +9,8 @@ use Rattle.qpack_spec.specs.Huffman.{bytes_by_length, bytes_of_length, first_cod
 use Rattle.qpack_spec.specs.Huffman.{ones, PayloadMeans}
 use Rattle.qpack_spec.specs.Text.{SpellsString}
 use Rattle.qpack_spec.specs.Field.{Field, field_size, total_size}
-use Rattle.qpack_spec.specs.Form.{FormFault, Form, Index, IndexAndValue, NameAndValue, HoldsIndex, HoldsText, SpellsForm}
+use Rattle.qpack_spec.specs.Form.{FormFault, Form, Index, IndexAndValue, NameAndValue, HoldsIndex, HoldsText}
+use Rattle.qpack_spec.specs.Form.{SpellsForm}
 use Rattle.qpack_spec.specs.Line.{Line, IndexedStatic, IndexedDynamic, IndexedPostBase, NamedStatic, NamedDynamic}
 use Rattle.qpack_spec.specs.Line.{NamedPostBase, Literal, line_form, SpellsLine}
 use Rattle.qpack_spec.specs.Prefix.{Prefix, PrefixFault, SpellsPrefix, read_prefix, prefix_at}

@@ -27,8 +27,8 @@ pub fn written_blocks_are_read()
     ensures { WrittenBlocksAreRead }
 {}
 
-/// A section is at most four times as long as the sizes of its fields, and twenty bytes more: so a reader with a limit on
-/// these need not look at a longer one.
+/// A section is at most four times as long as the sizes of its fields, and twenty bytes more: so a reader with a limit
+/// on these need not look at a longer one.
 pub fn sections_are_short()
     ensures read { ReadSectionsAreShort }
     ensures alone { StatelessSectionsAreShort }

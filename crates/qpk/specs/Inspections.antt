@@ -132,7 +132,8 @@ block_of_lines prefix lines = record { prefix = prefix_of prefix; lines = map li
 -- the lines of a block that was read, and decoded to these fields, are written behind what was, or memory was refused
 abbrev pub PrintsRead : Table → Block → List Field → List ℕ → List ℕ → Result ⊤ Fault → Type 0
 PrintsRead t block fs before after (Ok done) =
-    (prefix : ℕ × ℕ) × (read_prefix (insert_count t) (maximum_capacity t.agreed_max t.capacity) block.prefix ≡ Ok prefix)
+    (prefix : ℕ × ℕ)
+    × (read_prefix (insert_count t) (maximum_capacity t.agreed_max t.capacity) block.prefix ≡ Ok prefix)
     × (after ≡ before ++ (prefix_text prefix ++ flat_map line_text block.lines ++ fields_text fs))
 PrintsRead t block fs before after (Err fault) = fault ≡ Memory
 

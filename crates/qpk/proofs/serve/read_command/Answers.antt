@@ -5,7 +5,8 @@ use Rattle.qpk.proofs.serve.read_command.Goals as goal
 
 pub returns-in-len1 : goal.returns-in-len1
 returns-in-len1 c =
-    let words = one_word c.args.words.now c.word-item.result c.in-len1.len_at_least c.in-len1.len_below c.word-item.is in
+    let words =
+    one_word c.args.words.now c.word-item.result c.in-len1.len_at_least c.in-len1.len_below c.word-item.is in
     asks_of c.lone_command.result (map string_bytes c.args.words.now) (c.as_str.result.now ∷ [])
     (words ∙ ap (λ (b : List _). b ∷ []) (sym c.as_str.ensures.value)) c.lone_command.ensures
 
