@@ -182,6 +182,7 @@ fn sections_are_refused_at_their_base_or_an_index(rt: HostRuntime) -> Result<(),
     const STEPS: &[Step] = &[
         Step::Decodes(b"0280", "0 true"),
         Step::Decodes(b"0281", "BadBaseIndex(-1)"),
+        Step::Decodes(b"0080d1", "BadBaseIndex(-1)"),
         Step::Decodes(
             b"02ffffffffffffffffff7f",
             "BadBaseIndex(-9223372036854775808)",

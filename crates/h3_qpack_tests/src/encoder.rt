@@ -205,7 +205,7 @@ fn is_set_where_written(
 }
 
 /// Capacities are set in turn, and written to a vector over a heap that is too small for them: one that is not written
-/// is not set.
+/// is not set, and one that is too large is told there too.
 fn sets_what_is_written(
     encoder: &mut Encoder,
     written: &mut Vec<u8, &LocalHeap>,
@@ -216,7 +216,8 @@ fn sets_what_is_written(
             refusals = refusals.saturating_add(1);
         }
     }
-    same((refusals > 0, refusals < 99), (true, true))
+    same((refusals > 0, refusals < 99), (true, true))?;
+    same(encoder.set_capacity(1 << 30, written), TOO_LARGE)
 }
 
 #[test]

@@ -33,7 +33,7 @@ static ROWS: [(&[u8], (usize, usize), (usize, usize)); 7] = [
     (b"\x0b\x84", (13, 3332), (10, 5)),
     (b"\xff\x01\x00", (200, 4096), (255, 255)),
     (b"\x00\x00", (0, 31), (0, 0)),
-    (b"\x07\xff\x05", (9, 0), (0, 0)),
+    (b"\x07\x7f\x05", (9, 0), (0, 0)),
     (b"\x02\x00", (0, 32), (1, 1)),
     (
         b"\x02\x7f\xff\xff\xff\xff\xff\xff\xff\xff\x7f",
@@ -85,4 +85,19 @@ fn prefixes_below_every_base_are_refused(_rt: HostRuntime) -> Result<(), Fail> {
     same(got(far, 1, 4096), least)?;
     let cut = Err(ParseError::Integer(prefix_int::Error::UnexpectedEnd));
     same(got(b"\x02", 1, 4096), cut)
+}
+
+#[test]
+fn prefixes_of_no_count_are_below_every_base_with_the_sign(_rt: HostRuntime) -> Result<(), Fail> {
+    for (bytes, capacity, base) in &[
+        (b"\x00\x80".as_slice(), 4096, -1),
+        (b"\x00\x80".as_slice(), 0, -1),
+        (b"\x07\xff\x05".as_slice(), 0, -133),
+    ] {
+        same(
+            got(bytes, 9, *capacity),
+            Err(ParseError::InvalidBase(*base)),
+        )?;
+    }
+    Ok(())
 }

@@ -2,10 +2,18 @@
 use Rattle.std.specs.Prelude.{◌≡◌, ◌≢◌, ℕ, ◌^◌, ◌<◌, ◌≤◌, ⊤, Bool, true, false, List, [], ◌++◌, length, drop, map}
 use Rattle.std.specs.Prelude.{Option, None, Some, Result, Ok, Err, string_bytes, IsOk}
 use Rattle.std.specs.Global.{Vec}
+use Rattle.std.specs.List.{flat_map}
 use Rattle.qpack_spec.specs.Field.{Field}
 use Rattle.qpack_spec.specs.Form.{Truncates}
 use Rattle.qpack_spec.specs.Instruction.{EncoderInstruction, encoder_instruction_form, SpellsEncoderInstruction}
-use Rattle.qpack_spec.specs.Table.{Table, apply_encoder_instruction, empty_table}
+use Rattle.qpack_spec.specs.Prefix.{read_prefix}
+use Rattle.qpack_spec.specs.Reading.{Block}
+use Rattle.qpack_spec.specs.Table.{Table, apply_encoder_instruction, empty_table, insert_count}
+use Rattle.qpack_spec.specs.Window.{maximum_capacity}
+use Rattle.qpack_wire.specs.BlockLines.{line_of}
+use Rattle.qpack_wire.specs.Prefixes.{prefix_of}
+use Rattle.qpack_wire.specs.declared.block.line.BlockLine.{BlockLine}
+use Rattle.qpack_wire.specs.declared.block.prefix.HeaderPrefix.{HeaderPrefix}
 use Rattle.qpack_wire.specs.StreamLines.{encoder_instruction_of}
 use Rattle.qpack_wire.specs.declared.stream.encoder_stream.EncoderLine.{EncoderLine}
 use Rattle.h3_qpack.specs.Receiving.{Stops, TakesOne}
@@ -14,7 +22,7 @@ use Rattle.h3_qpack.specs.declared.decoder.DecoderError.TheVariants as decoder
 use Rattle.qpk.specs.Answers.{FailsEvents}
 use Rattle.qpk.specs.Inspecting.{Event, Piece, Section, events_of, instruction_text, InspectsAll, InspectsUntil}
 use Rattle.qpk.specs.Inspecting.{PrintsBlock}
-use Rattle.qpk.specs.Inspecting.{PrintsLines}
+use Rattle.qpk.specs.Inspecting.{PrintsLines, prefix_text, line_text, fields_text}
 use Rattle.qpk.specs.Inspecting.{Inspects, PrintsInspection}
 use Rattle.qpk.specs.declared.inspect.events.Event.{Event as ReadEvent}
 use Rattle.qpk.specs.declared.inspect.events.Event.TheVariants as read_event
@@ -116,6 +124,17 @@ InspectsInstructions old new bytes before after (Err fault) = FailsInstructions 
 abbrev pub InspectsBlock : Table → List ℕ → List ℕ → List ℕ → Result ⊤ Fault → Type 0
 InspectsBlock t bytes before after (Ok done) = (out : List ℕ) × PrintsBlock t bytes out × (after ≡ before ++ out)
 InspectsBlock t bytes before after (Err fault) = fault ≡ Memory
+
+-- a block that was read of this prefix and these lines
+abbrev pub block_of_lines : HeaderPrefix → List BlockLine → Block
+block_of_lines prefix lines = record { prefix = prefix_of prefix; lines = map line_of lines }
+
+-- the lines of a block that was read, and decoded to these fields, are written behind what was, or memory was refused
+abbrev pub PrintsRead : Table → Block → List Field → List ℕ → List ℕ → Result ⊤ Fault → Type 0
+PrintsRead t block fs before after (Ok done) =
+    (prefix : ℕ × ℕ) × (read_prefix (insert_count t) (maximum_capacity t.agreed_max t.capacity) block.prefix ≡ Ok prefix)
+    × (after ≡ before ++ (prefix_text prefix ++ flat_map line_text block.lines ++ fields_text fs))
+PrintsRead t block fs before after (Err fault) = fault ≡ Memory
 
 -- the lines of a block that was decoded to these fields are written behind what was, or memory was refused
 abbrev pub PrintsSection : Table → List ℕ → List Field → List ℕ → List ℕ → Result ⊤ Fault → Type 0

@@ -30,23 +30,25 @@ pub record SaysNumber (text : List ℕ) (n : ℕ) : Type 0 where
   pub value : n ≡ digits_value 10 (without_leading_plus text)
   pub small : n < 2 ^ 64
 
--- the words are a name and a number
-abbrev pub AsksWith : {Z : Type 0} → List (String Z) → List ℕ → ℕ → Type 0
-AsksWith words name n = (text : List ℕ) × (map string_bytes words ≡ name ∷ text ∷ []) × SaysNumber text n
+-- the texts ask for the command: by its name, and a number or two behind it
+abbrev pub AreFor : List (List ℕ) → Command → Type 0
+AreFor texts Help = texts ≡ codes "--help" ∷ []
+AreFor texts Encode = texts ≡ codes "encode" ∷ []
+AreFor texts (Decode limit) = (number : List ℕ) × (texts ≡ codes "decode" ∷ number ∷ []) × SaysNumber number limit
+AreFor texts (Inspect capacity) =
+    (number : List ℕ) × (texts ≡ codes "inspect" ∷ number ∷ []) × SaysNumber number capacity
+AreFor texts (Run capacity limit) =
+    (first : List ℕ) × (second : List ℕ) × (texts ≡ codes "run" ∷ first ∷ second ∷ []) × SaysNumber first capacity
+    × SaysNumber second limit
 
--- the words are a name and two numbers
-abbrev pub AsksWithTwo : {Z : Type 0} → List (String Z) → List ℕ → ℕ → ℕ → Type 0
-AsksWithTwo words name m n =
-    (first : List ℕ) × (second : List ℕ) × (map string_bytes words ≡ name ∷ first ∷ second ∷ []) × SaysNumber first m
-    × SaysNumber second n
+-- the command that they ask for, or they ask for none
+abbrev pub GivesCommand : Option Command → List (List ℕ) → Type 0
+GivesCommand None texts = (command : Command) → AreFor texts command → ⊥
+GivesCommand (Some command) texts = AreFor texts command
 
 -- the words ask for the command
 abbrev pub AsksFor : {Z : Type 0} → List (String Z) → Command → Type 0
-AsksFor words Help = map string_bytes words ≡ codes "--help" ∷ []
-AsksFor words Encode = map string_bytes words ≡ codes "encode" ∷ []
-AsksFor words (Decode limit) = AsksWith words (codes "decode") limit
-AsksFor words (Inspect capacity) = AsksWith words (codes "inspect") capacity
-AsksFor words (Run capacity limit) = AsksWithTwo words (codes "run") capacity limit
+AsksFor words command = AreFor (map string_bytes words) command
 
 -- no command is asked for
 abbrev pub AsksForNothing : {Z : Type 0} → List (String Z) → Type 0

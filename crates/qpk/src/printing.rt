@@ -3,6 +3,7 @@
 ghost use Rattle.std.specs.Prelude.{◌≡◌, ◌++◌, IfSome, OnOk, string_bytes};
 ghost use Rattle.qpack_wire.specs.BlockLines.{line_of};
 ghost use Rattle.qpack_wire.specs.Instructions.{encoder_instruction_of_insert_with_name_ref};
+ghost use Rattle.qpack_wire.specs.Lines.{line_of_indexed, line_of_literal_with_name_ref};
 ghost use Rattle.qpack_wire.specs.StreamLines.{encoder_instruction_of};
 ghost use Rattle.h3_qpack.specs.Stateless.{fields_in};
 ghost use Rattle.qpk.specs.ErrorWords.{refused_text};
@@ -144,30 +145,44 @@ pub fn push_block_line(text: &mut String, line: &BlockLine) -> Result<(), AllocE
     ensures { OnOk result (string_bytes text.new ≡ string_bytes text.old ++ line_text (line_of line.now)) }
 {
     match line {
-        BlockLine::Indexed(Indexed::Static(index)) => push_index_line(
-            text,
-            "indexed static",
-            *index,
-        ),
-        BlockLine::Indexed(Indexed::Dynamic(index)) => push_index_line(
-            text,
-            "indexed dynamic",
-            *index,
-        ),
+        BlockLine::Indexed(line) => push_indexed_line(text, line),
         BlockLine::IndexedWithPostBase(IndexedWithPostBase(index)) => {
             push_index_line(text, "postbase", *index)
         }
-        BlockLine::LiteralWithNameRef(LiteralWithNameRef::Static { index, value }) => {
-            push_index_value_line(text, "nameref static", *index, value)
-        }
-        BlockLine::LiteralWithNameRef(LiteralWithNameRef::Dynamic { index, value }) => {
-            push_index_value_line(text, "nameref dynamic", *index, value)
-        }
+        BlockLine::LiteralWithNameRef(line) => push_literal_with_name_ref_line(text, line),
         BlockLine::LiteralWithPostBaseNameRef(LiteralWithPostBaseNameRef { index, value }) => {
             push_index_value_line(text, "postbase nameref", *index, value)
         }
         BlockLine::Literal(Literal { name, value }) => {
             push_name_value_line(text, "literal", name, value)
+        }
+    }
+}
+
+/// Appends the line of an indexed field line (RFC 9204, section 4.5.2).
+fn push_indexed_line(text: &mut String, line: &Indexed) -> Result<(), AllocError>
+    ensures { OnOk result (string_bytes text.new ≡ string_bytes text.old ++ line_text (line_of_indexed line.now)) }
+{
+    match line {
+        Indexed::Static(index) => push_index_line(text, "indexed static", *index),
+        Indexed::Dynamic(index) => push_index_line(text, "indexed dynamic", *index),
+    }
+}
+
+/// Appends the line of a literal with the name of an entry (RFC 9204, section 4.5.4).
+fn push_literal_with_name_ref_line(
+    text: &mut String,
+    line: &LiteralWithNameRef,
+) -> Result<(), AllocError>
+    ensures { OnOk result (string_bytes text.new
+        ≡ string_bytes text.old ++ line_text (line_of_literal_with_name_ref line.now)) }
+{
+    match line {
+        LiteralWithNameRef::Static { index, value } => {
+            push_index_value_line(text, "nameref static", *index, value)
+        }
+        LiteralWithNameRef::Dynamic { index, value } => {
+            push_index_value_line(text, "nameref dynamic", *index, value)
         }
     }
 }

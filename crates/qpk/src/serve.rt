@@ -8,7 +8,7 @@ ghost use Rattle.qpack_spec.specs.Stateless.{saturated_size};
 ghost use Rattle.h3_qpack.specs.Stateless.{fields_in};
 ghost use Rattle.qpk.specs.Refusals.{AppendsAtStatus, AppendsPart, TellsBy, refusal_line};
 ghost use Rattle.qpk.specs.Serving.{AsksFor, AsksForNothing, Answers, AnswersInput, EndsFor, FailsToRead, SaysNumber};
-ghost use Rattle.qpk.specs.Serving.{input_of, printed_fields};
+ghost use Rattle.qpk.specs.Serving.{GivesCommand, input_of, printed_fields};
 ghost use Rattle.qpk.specs.declared.serve.Command.TheVariants.{Help};
 
 use crate::inspect::{Inspection, inspect};
@@ -125,23 +125,50 @@ fn read_command(words: &[String]) -> Option<Command>
     ensures { MatchOption result (AsksForNothing words.now) (AsksFor words.now) }
 {
     match words {
-        [word] if word.as_str() == "--help" => Some(Command::Help),
-        [word] if word.as_str() == "encode" => Some(Command::Encode),
-        [word, limit] if word.as_str() == "decode" => {
-            let limit = read_number(limit.as_str())?;
-            Some(Command::Decode(limit))
-        }
-        [word, capacity] if word.as_str() == "inspect" => {
-            let capacity = read_number(capacity.as_str())?;
-            Some(Command::Inspect(capacity as usize))
-        }
-        [word, capacity, limit] if word.as_str() == "run" => {
-            let capacity = read_number(capacity.as_str())?;
-            let limit = read_number(limit.as_str())?;
-            Some(Command::Run(capacity as usize, limit as usize))
-        }
+        [word] => lone_command(word.as_str()),
+        [word, number] => command_with(word.as_str(), number.as_str()),
+        [word, first, second] => command_with_two(word.as_str(), first.as_str(), second.as_str()),
         _ => None,
     }
+}
+
+/// What a word alone asks for.
+fn lone_command(word: &str) -> Option<Command>
+    ensures { GivesCommand result (word.now ∷ []) }
+{
+    if word == "--help" {
+        return Some(Command::Help);
+    }
+    if word == "encode" {
+        return Some(Command::Encode);
+    }
+    None
+}
+
+/// What a word and a number ask for.
+fn command_with(word: &str, number: &str) -> Option<Command>
+    ensures { GivesCommand result (word.now ∷ number.now ∷ []) }
+{
+    let number = read_number(number)?;
+    if word == "decode" {
+        return Some(Command::Decode(number));
+    }
+    if word == "inspect" {
+        return Some(Command::Inspect(number as usize));
+    }
+    None
+}
+
+/// What a word and two numbers ask for.
+fn command_with_two(word: &str, first: &str, second: &str) -> Option<Command>
+    ensures { GivesCommand result (word.now ∷ first.now ∷ second.now ∷ []) }
+{
+    let capacity = read_number(first)?;
+    let limit = read_number(second)?;
+    if word == "run" {
+        return Some(Command::Run(capacity as usize, limit as usize));
+    }
+    None
 }
 
 /// The number that a word says.

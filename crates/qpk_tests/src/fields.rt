@@ -91,7 +91,7 @@ fn blocks_are_decoded(rt: HostRuntime) -> Result<(), Fail> {
     hold(&rt, rt.alloc(), &DECODED)
 }
 
-const BAD: [Case; 5] = [
+const BAD: [Case; 6] = [
     Case {
         words: "decode 9",
         input: "0000ff24",
@@ -103,6 +103,12 @@ const BAD: [Case; 5] = [
         input: "0000ffffffffffffffffffffff",
         output: "",
         fault: "qpk: refused: invalid integer: value overflow\n",
+    },
+    Case {
+        words: "decode 42",
+        input: "0080d1",
+        output: "",
+        fault: "qpk: refused: out of bounds base index: -1\n",
     },
     Case {
         words: "decode 9",

@@ -113,13 +113,15 @@ fn a_writer_of_faults_that_fails_is_told_by_the_status(rt: HostRuntime) -> Resul
         let mut faults = NarrowWriter::new(room);
         let mut input = Cursor::new(b"zz".as_slice());
         let status = serve(alloc, &words, &mut input, &mut out, &mut faults);
-        if faults.taken().starts_with(b"qpk: refused") {
-            continue;
-        }
-        assert_eq!(rt; status, if room < NOT_HEXADECIMAL.len() { 2 } else { 1 });
-        assert_eq!(rt; out.len(), 0);
-        let written = room.min(NOT_HEXADECIMAL.len());
-        assert_eq!(rt; faults.taken(), &NOT_HEXADECIMAL.as_bytes()[..written]);
+        // The line of want of memory is as long.
+        let status_of_room = if room < NOT_HEXADECIMAL.len() { 2 } else { 1 };
+        assert_eq!(rt; status, status_of_room);
+        assert_eq!(rt; faults.taken().len(), room.min(NOT_HEXADECIMAL.len()));
+        let told = faults.taken();
+        assert!(rt;
+            NOT_HEXADECIMAL.as_bytes().starts_with(told)
+                || REFUSED_MEMORY.as_bytes().starts_with(told)
+        );
     }
     Ok(())
 }

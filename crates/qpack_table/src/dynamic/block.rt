@@ -13,7 +13,6 @@ use crate::dynamic::entry::{Entry, UnacknowledgedBlock, clear_references, lower_
 use crate::dynamic::table::DynamicTable;
 use std::alloc::AllocError;
 use std::collections::VecDeque;
-use std::mem;
 
 impl DynamicTable {
     /// The block in progress references a live entry too. Refused, which is for memory alone, nothing changes.
@@ -111,8 +110,9 @@ fn open_block(
         return Ok(());
     }
     unacknowledged.reserve(1)?;
-    let references = mem::try_take(referenced)?;
+    let references = Vec::from_slice(*referenced.allocator(), referenced)?;
     clear_references(entries, dropped, &references);
+    referenced.clear();
     unacknowledged.push_back_reserved(UnacknowledgedBlock {
         stream_id,
         entries: references,

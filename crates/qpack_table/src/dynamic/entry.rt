@@ -1,7 +1,7 @@
 //! The live entries of a table, and the blocks that reference them.
 
 ghost use Rattle.std.specs.Prelude.{◌≡◌, ℕ, ◌+◌, ◌^◌, ◌<◌, ◌≤◌, List, [], ◌∷◌, ◌++◌, length, drop, IfSome, IfNone};
-ghost use Rattle.std.specs.Prelude.{OnOk, OnErr};
+ghost use Rattle.std.specs.Prelude.{IsOk, OnOk, OnErr};
 ghost use Rattle.std.specs.VecDeque.{deque_capacity};
 ghost use Rattle.qpack_base.specs.HeaderFields.{field_of};
 ghost use Rattle.qpack_spec.specs.Field.{field_size, total_size};
@@ -115,8 +115,22 @@ pub(super) fn drop_oldest(
     freed
 }
 
+/// Makes room for an entry. Where it is free already, nothing changes and no memory is taken.
+fn make_room(entries: &mut VecDeque<Entry>) -> Result<(), AllocError>
+    ensures items { entries.new.items ≡ entries.old.items }
+    ensures ok { OnOk result (length entries.new.items + 1 ≤ deque_capacity entries.new) }
+    ensures succeeds { length entries.old.items + 1 ≤ deque_capacity entries.old → IsOk result }
+    ensures still { length entries.old.items + 1 ≤ deque_capacity entries.old
+        → deque_capacity entries.new ≡ deque_capacity entries.old }
+{
+    if entries.len() < entries.capacity() {
+        return Ok(());
+    }
+    entries.reserve(1)
+}
+
 /// The oldest entries go, and another comes in behind the newest; the sum of their sizes is counted along. Refused,
-/// which is for memory alone, none goes and none comes in.
+/// which is for memory alone, none goes and none comes in. With free room for it the list is not grown.
 pub(super) fn replace_oldest(
     entries: &mut VecDeque<Entry>,
     index: &mut Index,
@@ -141,10 +155,12 @@ pub(super) fn replace_oldest(
     ensures same_entries { OnErr result (entries.new.items ≡ entries.old.items) }
     ensures same_space { OnErr result (vas.new ≡ vas.old) }
     ensures index { IsIndexOf vas.new.dropped (live_fields entries.new.items) (length entries.new.items) index.new }
+    ensures still { length entries.old.items + 1 ≤ deque_capacity entries.old
+        → deque_capacity entries.new ≡ deque_capacity entries.old }
 {
     let hashes = Hashes::of(&entry.field);
     let size = entry.field.mem_size();
-    entries.reserve(1)?;
+    make_room(entries)?;
     index.reserve(entries, vas.total_dropped(), hashes)?;
     let freed = drop_oldest(entries, index, vas, evicted);
     *mem_size = *mem_size - freed + size;

@@ -7,12 +7,12 @@ ghost use Rattle.qpk.specs.Inspecting.{line_text};
 ghost use Rattle.qpack_spec.specs.Field.{total_size};
 ghost use Rattle.qpack_spec.specs.Stateless.{saturated_size};
 ghost use Rattle.h3_qpack.specs.Stateless.{fields_in};
-ghost use Rattle.qpk.specs.Inspections.{InspectsBlock, PrintsSection};
+ghost use Rattle.qpk.specs.Inspections.{InspectsBlock, PrintsRead, PrintsSection, block_of_lines};
 
 use crate::error_words::DecoderWords;
 use crate::printing::{push_block_line, push_index_line, push_numbers_line, push_refused_line};
 use crate::text::Fault;
-use h3_qpack::block::{BlockLine, read_block};
+use h3_qpack::block::{BlockLine, HeaderPrefix, read_block};
 use h3_qpack::coding::Cursor;
 use h3_qpack::decoder::Decoder;
 use h3_qpack::{Decoded, DecoderError};
@@ -42,16 +42,32 @@ fn push_section_lines(
     ensures { PrintsSection decoder.now.table block.now (fields_in decoded.now.fields.items) (string_bytes text.old)
         (string_bytes text.new) result }
 {
-    // Both are refused for memory alone: the decoder read these bytes.
+    // It is refused for memory alone: the decoder read these bytes.
     let Ok((prefix, lines)) = read_block(*text.allocator(), block) else {
         return Err(Fault::Memory);
     };
+    push_read_lines(text, decoder, prefix, &lines, decoded)
+}
+
+/// Appends the lines of a block that was read of this prefix and these lines, and decoded.
+fn push_read_lines(
+    text: &mut String,
+    decoder: &Decoder,
+    prefix: HeaderPrefix,
+    lines: &[BlockLine],
+    decoded: &Decoded,
+) -> Result<(), Fault>
+    requires { decoded.now.mem_size ≡ saturated_size (total_size (fields_in decoded.now.fields.items)) }
+    ensures { PrintsRead decoder.now.table (block_of_lines prefix lines.now) (fields_in decoded.now.fields.items)
+        (string_bytes text.old) (string_bytes text.new) result }
+{
     let table = decoder.table();
+    // It is never refused: the decoder read this prefix.
     let Ok((required, base)) = prefix.get(table.total_inserted(), table.agreed_max()) else {
         return Err(Fault::Memory);
     };
     push_numbers_line(text, "prefix", required, base as u64)?;
-    push_field_lines(text, &lines)?;
+    push_field_lines(text, lines)?;
     let count = decoded.fields.as_slice().len();
     Ok(push_numbers_line(text, "fields", count, decoded.mem_size)?)
 }

@@ -141,6 +141,24 @@ impl Row {
         ensures capacity { vec_capacity self.new.indexes ≡ vec_capacity self.old.indexes }
         ensures shorter { vec_len self.new.indexes ≤ vec_len self.old.indexes }
     {
+        if self.indexes.len() == 1 {
+            self.indexes.clear();
+            return;
+        }
+        self.leave_among(entries, dropped, index);
+    }
+
+    /// The same, out of any row.
+    #[inline(never)]
+    fn leave_among(&mut self, entries: &VecDeque<Entry>, dropped: usize, index: usize)
+        requires row { IsRow dropped (live_fields entries.now.items) self.old.indexes.items }
+        requires there { Contains self.old.indexes.items index }
+        ensures row { IsRow dropped (live_fields entries.now.items) self.new.indexes.items }
+        ensures indexes { IsPermutation self.old.indexes.items (index ∷ self.new.indexes.items) }
+        ensures gone { ¬ Contains self.new.indexes.items index }
+        ensures capacity { vec_capacity self.new.indexes ≡ vec_capacity self.old.indexes }
+        ensures shorter { vec_len self.new.indexes ≤ vec_len self.old.indexes }
+    {
         let mut steps = Steps::new();
         let entry = &entries[index - dropped - 1];
         let found = self.search(entries, dropped, &entry.field, index, &mut steps);
