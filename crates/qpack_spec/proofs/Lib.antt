@@ -46,4 +46,5 @@ pub mod SkippedEvents
 pub mod SessionRows
 pub mod EventRows
 pub mod SectionLengths
+pub mod StrictSections
 pub mod StringRows

@@ -32,3 +32,4 @@ pub mod TextLaws
 pub mod Stateless
 pub mod StatelessMeaning
 pub mod LengthLaws
+pub mod StrictLaws

@@ -2,6 +2,7 @@
 
 ghost use Rattle.qpack_spec.specs.BlockLaws.{BlocksRequireReferences};
 ghost use Rattle.qpack_spec.specs.Handle.{HandleIsTheRule};
+ghost use Rattle.qpack_spec.specs.StrictLaws.{WrittenSectionsAreStrict};
 
 /// Asking the table field by field, to find an entry and else to insert one, is the rule.
 pub fn handle_is_the_rule()
@@ -11,4 +12,10 @@ pub fn handle_is_the_rule()
 /// What a block requires, and what is kept of it until it is acknowledged, is what its lines reference.
 pub fn blocks_require_what_they_reference()
     ensures { BlocksRequireReferences }
+{}
+
+/// What the rule writes is nothing that a strict decoder refuses: no line references an entry past the required insert
+/// count, no count is encoded where the maximum capacity is 0, and no base is below 0 where nothing is required.
+pub fn written_sections_are_strict()
+    ensures { WrittenSectionsAreStrict }
 {}
