@@ -1,5 +1,5 @@
--- What a strict decoder refuses of a field section besides, and that the rule writes nothing of it.
-use Rattle.std.specs.Prelude.{◌≡◌, ◌≤◌, ℕ, false, List}
+-- What a strict decoder refuses besides, and that the rule writes nothing of it.
+use Rattle.std.specs.Prelude.{◌≡◌, ◌≤◌, ℕ, false, List, []}
 use Rattle.std.specs.List.{AllByRecursion}
 use Rattle.qpack_spec.specs.Field.{Field}
 use Rattle.qpack_spec.specs.Line.{Line}
@@ -26,3 +26,7 @@ WrittenSectionsAreStrict =
     (t : Table) (fields : List Field)
     → (let d = rule t fields in
     IsStrict (maximum_capacity t.agreed_max t.capacity) (required_insert_count d) (insert_count t) (block_of t d))
+
+-- and at capacity 0 the rule inserts nothing (section 3.2.2)
+abbrev pub NothingIsInsertedAtZero : Type 0
+NothingIsInsertedAtZero = (t : Table) (fields : List Field) → t.capacity ≡ 0 → (rule t fields).instructions ≡ []

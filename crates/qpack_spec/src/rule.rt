@@ -2,7 +2,7 @@
 
 ghost use Rattle.qpack_spec.specs.BlockLaws.{BlocksRequireReferences};
 ghost use Rattle.qpack_spec.specs.Handle.{HandleIsTheRule};
-ghost use Rattle.qpack_spec.specs.StrictLaws.{WrittenSectionsAreStrict};
+ghost use Rattle.qpack_spec.specs.StrictLaws.{NothingIsInsertedAtZero, WrittenSectionsAreStrict};
 
 /// Asking the table field by field, to find an entry and else to insert one, is the rule.
 pub fn handle_is_the_rule()
@@ -15,7 +15,9 @@ pub fn blocks_require_what_they_reference()
 {}
 
 /// What the rule writes is nothing that a strict decoder refuses: no line references an entry past the required insert
-/// count, no count is encoded where the maximum capacity is 0, and no base is below 0 where nothing is required.
+/// count, no count is encoded where the maximum capacity is 0, and no base is below 0 where nothing is required; and at
+/// capacity 0 nothing is inserted.
 pub fn written_sections_are_strict()
-    ensures { WrittenSectionsAreStrict }
+    ensures sections { WrittenSectionsAreStrict }
+    ensures insertions { NothingIsInsertedAtZero }
 {}
