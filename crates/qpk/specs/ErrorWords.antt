@@ -1,5 +1,5 @@
 -- The words of errors, as they are printed.
-use Rattle.std.specs.Prelude.{ℕ, List, ◌++◌, codes}
+use Rattle.std.specs.Prelude.{◌≡◌, ℕ, List, ◌++◌, codes, Option, None, Some}
 use Rattle.std.specs.Fmt.{decimal, signed_decimal}
 use Rattle.qpack_base.specs.declared.prefix_int.Error.{Error as IntegerError}
 use Rattle.qpack_base.specs.declared.prefix_int.Error.TheVariants as integer
@@ -105,3 +105,19 @@ encoder_words (encoder.InvalidString e) = codes "could not parse string: " ++ st
 encoder_words (encoder.InvalidInteger e) = codes "could not parse integer: " ++ integer_words e
 encoder_words (encoder.UnknownDecoderInstruction bits) = codes "got unkown decoder instruction: " ++ decimal bits
 encoder_words encoder.Memory = memory_words
+
+-- ---- what their parts answer
+
+-- words, and behind them a number and more, if there is one
+abbrev pub counted_words : List ℕ → Option ℕ → List ℕ → List ℕ
+counted_words front None back = front
+counted_words front (Some number) back = front ++ decimal number ++ back
+
+-- the words of a refusal that tells of no other error, nor of a base
+abbrev pub TellsAlone : DecoderError → List ℕ → Type 0
+TellsAlone (decoder.InvalidInteger e) words = Unit {0}
+TellsAlone (decoder.InvalidString e) words = Unit {0}
+TellsAlone (decoder.InvalidIndex e) words = Unit {0}
+TellsAlone (decoder.DynamicTable e) words = Unit {0}
+TellsAlone (decoder.BadBaseIndex base) words = Unit {0}
+TellsAlone e words = words ≡ decoder_words e

@@ -1,8 +1,10 @@
 //! The words of errors, as they are printed: those of their own `Display`, which promises no text.
 
-ghost use Rattle.std.specs.Prelude.{◌≡◌, Some};
+ghost use Rattle.std.specs.Prelude.{◌≡◌, ◌++◌, Some};
+ghost use Rattle.std.specs.Fmt.{decimal};
 ghost use Rattle.qpk.specs.ErrorWords.{decoder_words, encoder_words, integer_words, integer_name, string_words};
 ghost use Rattle.qpk.specs.ErrorWords.{string_name, huffman_name, window_name, table_name, address_name};
+ghost use Rattle.qpk.specs.ErrorWords.{counted_words, TellsAlone};
 
 use h3_qpack::prefix_string::{BitWindow, HuffmanDecodingError};
 use h3_qpack::{DecoderError, EncoderError, dynamic, prefix_int, prefix_string, vas};
@@ -22,19 +24,36 @@ impl fmt::Display for DecoderWords<'_> {
         match self.0 {
             DecoderError::InvalidInteger(e) => write!(f, "invalid integer: {}", integer_words(e)),
             DecoderError::InvalidString(e) => write!(f, "invalid string: {}", StringName(e)),
-            DecoderError::InvalidIndex(e) => write!(f, "invalid dynamic index: {}", AddressName(e)),
-            DecoderError::DynamicTable(e) => write!(f, "dynamic table error: {}", TableName(e)),
-            DecoderError::InvalidStaticIndex(index) => write!(f, "unknown static index: {index}"),
-            DecoderError::UnknownPrefix(bits) => write!(f, "unknown instruction code: 0x{bits}"),
-            DecoderError::MissingRefs(required) => {
-                write!(f, "missing {required} refs to decode bloc")
-            }
+            DecoderError::InvalidIndex(e) => write!(
+                f,
+                "invalid dynamic index: {}",
+                address_name(e)
+            ),
+            DecoderError::DynamicTable(e) => write!(f, "dynamic table error: {}", table_name(e)),
             DecoderError::BadBaseIndex(base) => write!(f, "out of bounds base index: {base}"),
-            DecoderError::UnexpectedEnd => f.write_str("unexpected end"),
-            DecoderError::HeaderTooLong(_) => f.write_str("header too long"),
-            DecoderError::BufSize => f.write_str("number in buffer wrong size"),
-            DecoderError::Memory => f.write_str(MEMORY),
+            _ => write!(f, "{}", lone_words(self.0)),
         }
+    }
+}
+
+/// The same where it tells of no other error, nor of a base.
+fn lone_words(e: &DecoderError) -> Words
+    ensures { TellsAlone e.now (counted_words result.front.now result.number result.back.now) }
+{
+    match e {
+        DecoderError::InvalidStaticIndex(index) => {
+            counted("unknown static index: ", *index as u64, "")
+        }
+        DecoderError::UnknownPrefix(bits) => {
+            counted("unknown instruction code: 0x", *bits as u64, "")
+        }
+        DecoderError::MissingRefs(required) => {
+            counted("missing ", *required as u64, " refs to decode bloc")
+        }
+        DecoderError::UnexpectedEnd => plain("unexpected end"),
+        DecoderError::HeaderTooLong(_) => plain("header too long"),
+        DecoderError::BufSize => plain("number in buffer wrong size"),
+        _ => plain(MEMORY),
     }
 }
 
@@ -47,7 +66,7 @@ impl fmt::Display for EncoderWords<'_> {
 
     fn fmt<W: fmt::Write>(&self, f: &mut fmt::Formatter<W>) -> fmt::Result {
         match self.0 {
-            EncoderError::Insertion(e) => write!(f, "dynamic table insertion: {}", TableName(e)),
+            EncoderError::Insertion(e) => write!(f, "dynamic table insertion: {}", table_name(e)),
             EncoderError::InvalidString(e) => write!(
                 f,
                 "could not parse string: {}",
@@ -167,41 +186,72 @@ impl fmt::Display for WindowName<'_> {
     }
 }
 
-/// What the dynamic table refused.
-#[derive(Clone, Copy)]
-struct TableName<'a>(&'a dynamic::Error);
+/// What the dynamic table refused, by its name.
+fn table_name(e: &dynamic::Error) -> Words
+    ensures { counted_words result.front.now result.number result.back.now ≡ table_name e.now }
+{
+    match e {
+        dynamic::Error::BadRelativeIndex(index) => counted("BadRelativeIndex(", *index as u64, ")"),
+        dynamic::Error::BadPostbaseIndex(index) => counted("BadPostbaseIndex(", *index as u64, ")"),
+        dynamic::Error::BadIndex(position) => counted("BadIndex(", *position as u64, ")"),
+        dynamic::Error::MaxTableSizeReached => plain("MaxTableSizeReached"),
+        dynamic::Error::MaximumTableSizeTooLarge => plain("MaximumTableSizeTooLarge"),
+        dynamic::Error::MaxBlockedStreamsTooLarge => plain("MaxBlockedStreamsTooLarge"),
+        dynamic::Error::UnknownStreamId(stream) => counted("UnknownStreamId(", *stream, ")"),
+        dynamic::Error::NoTrackingData => plain("NoTrackingData"),
+        dynamic::Error::InvalidTrackingCount => plain("InvalidTrackingCount"),
+        dynamic::Error::Memory => plain("Memory"),
+    }
+}
 
-impl fmt::Display for TableName<'_> {
-    ghost output = { λ name. Some (table_name name.0.now) };
+/// An index of no live entry, by the name of its kind.
+fn address_name(e: &vas::Error) -> Words
+    ensures { counted_words result.front.now result.number result.back.now ≡ address_name e.now }
+{
+    match e {
+        vas::Error::RelativeIndex(index) => counted("RelativeIndex(", *index as u64, ")"),
+        vas::Error::PostbaseIndex(index) => counted("PostbaseIndex(", *index as u64, ")"),
+        vas::Error::Index(position) => counted("Index(", *position as u64, ")"),
+    }
+}
+
+/// Words, and behind them a number and more, if there is one.
+#[derive(Clone, Copy)]
+struct Words {
+    front: &'static str,
+    number: Option<u64>,
+    back: &'static str,
+}
+
+impl fmt::Display for Words {
+    ghost output = { λ words. Some (counted_words words.front.now words.number words.back.now) };
 
     fn fmt<W: fmt::Write>(&self, f: &mut fmt::Formatter<W>) -> fmt::Result {
-        match self.0 {
-            dynamic::Error::BadRelativeIndex(index) => write!(f, "BadRelativeIndex({index})"),
-            dynamic::Error::BadPostbaseIndex(index) => write!(f, "BadPostbaseIndex({index})"),
-            dynamic::Error::BadIndex(position) => write!(f, "BadIndex({position})"),
-            dynamic::Error::MaxTableSizeReached => f.write_str("MaxTableSizeReached"),
-            dynamic::Error::MaximumTableSizeTooLarge => f.write_str("MaximumTableSizeTooLarge"),
-            dynamic::Error::MaxBlockedStreamsTooLarge => f.write_str("MaxBlockedStreamsTooLarge"),
-            dynamic::Error::UnknownStreamId(stream) => write!(f, "UnknownStreamId({stream})"),
-            dynamic::Error::NoTrackingData => f.write_str("NoTrackingData"),
-            dynamic::Error::InvalidTrackingCount => f.write_str("InvalidTrackingCount"),
-            dynamic::Error::Memory => f.write_str("Memory"),
+        match self.number {
+            Some(number) => write!(f, "{}{}{}", self.front, number, self.back),
+            None => f.write_str(self.front),
         }
     }
 }
 
-/// An index of no live entry.
-#[derive(Clone, Copy)]
-struct AddressName<'a>(&'a vas::Error);
+/// Words without a number.
+fn plain(words: &'static str) -> Words
+    ensures { counted_words result.front.now result.number result.back.now ≡ words.now }
+{
+    Words {
+        front: words,
+        number: None,
+        back: "",
+    }
+}
 
-impl fmt::Display for AddressName<'_> {
-    ghost output = { λ name. Some (address_name name.0.now) };
-
-    fn fmt<W: fmt::Write>(&self, f: &mut fmt::Formatter<W>) -> fmt::Result {
-        match self.0 {
-            vas::Error::RelativeIndex(index) => write!(f, "RelativeIndex({index})"),
-            vas::Error::PostbaseIndex(index) => write!(f, "PostbaseIndex({index})"),
-            vas::Error::Index(position) => write!(f, "Index({position})"),
-        }
+/// Words with a number.
+fn counted(front: &'static str, number: u64, back: &'static str) -> Words
+    ensures { counted_words result.front.now result.number result.back.now ≡ front.now ++ decimal number ++ back.now }
+{
+    Words {
+        front,
+        number: Some(number),
+        back,
     }
 }
