@@ -190,7 +190,7 @@ err_cases : {A B E : Type 0} (r : Result A E) (f : A → Result B E) (d : E) →
 err_cases (Ok x) f d e = inr (x, refl, e)
 err_cases (Err c) f d e = inl cc
 
-value_whole : {L : Type 0} (make : List ℕ → L) (bytes : List ℕ) (e : FormFault) → value_at make bytes ≡ Err e
+pub value_whole : {L : Type 0} (make : List ℕ → L) (bytes : List ℕ) (e : FormFault) → value_at make bytes ≡ Err e
     → or_bad_string (string_at 8 bytes) ≡ Err e
 value_whole {L} make bytes e h = go (or_bad_string (string_at 8 bytes)) h
   where

@@ -47,4 +47,9 @@ pub mod SessionRows
 pub mod EventRows
 pub mod SectionLengths
 pub mod StrictSections
+pub mod Waiting
+pub mod WaitingFields
+pub mod WaitingBytes
 pub mod StringRows
+pub mod StrictReadings
+pub mod StrictWritten

@@ -50,7 +50,7 @@ codes_short (b ∷ text) =
     omega (arith, length-append (code_of b) (bits_of_text text), code_short b, codes_short text)
 
 -- a coded payload
-payload_short : (payload text : List ℕ) → PayloadMeans payload text → length payload ≤ 4 * length text
+pub payload_short : (payload text : List ℕ) → PayloadMeans payload text → length payload ≤ 4 * length text
 payload_short payload text m =
     omega (
       arith,

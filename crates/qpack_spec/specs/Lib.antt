@@ -33,3 +33,6 @@ pub mod Stateless
 pub mod StatelessMeaning
 pub mod LengthLaws
 pub mod StrictLaws
+pub mod StrictReading
+pub mod Wanted
+pub mod WantedLaws

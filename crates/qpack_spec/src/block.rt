@@ -3,6 +3,8 @@
 ghost use Rattle.qpack_spec.specs.BlockLaws.{ReadingFindsPrefixes, CountsHaveOneReading, CountsAreRead};
 ghost use Rattle.qpack_spec.specs.LengthLaws.{ReadSectionsAreShort, StatelessSectionsAreShort};
 ghost use Rattle.qpack_spec.specs.BlockLaws.{ReadingLinesFindsFields};
+ghost use Rattle.qpack_spec.specs.StrictReading.{StrictReadingsAreReadings, StrictReadingsAreWithin};
+ghost use Rattle.qpack_spec.specs.StrictReading.{StrictSectionsAreRead};
 ghost use Rattle.qpack_spec.specs.WrittenLaws.{WrittenPrefixesAreSpellings, WrittenBlocksAreRead};
 
 /// An encoded count stands for one required insert count at most, and that is the one that is computed.
@@ -32,4 +34,15 @@ pub fn written_blocks_are_read()
 pub fn sections_are_short()
     ensures read { ReadSectionsAreShort }
     ensures alone { StatelessSectionsAreShort }
+{}
+
+/// A strict decoder answers what a section means, or refuses it; and what it answers is within its limit.
+pub fn strict_readings_are_readings()
+    ensures read { StrictReadingsAreReadings }
+    ensures within { StrictReadingsAreWithin }
+{}
+
+/// And it reads every section that is written so, keeps to its required insert count, and is within the limit.
+pub fn strict_sections_are_read()
+    ensures { StrictSectionsAreRead }
 {}

@@ -14,4 +14,5 @@ pub mod static_table;
 pub mod stream;
 pub mod table;
 pub mod text;
+pub mod wanted;
 pub mod window;
