@@ -27,7 +27,7 @@ use Rattle.qpack_wire.proofs.InstructionForms.{coherent_dynamic_table_size_updat
 use Rattle.qpack_wire.proofs.InstructionForms.{coherent_header_ack, coherent_stream_cancel}
 
 -- a byte list that begins with this byte
-abbrev BeginsWith : ℕ → List ℕ → Type 0
+abbrev pub BeginsWith : ℕ → List ℕ → Type 0
 BeginsWith b rest = rest ≡ b ∷ drop 1 rest
 
 -- where the form alone and the stream name the same form, it is read as the stream's
@@ -91,7 +91,7 @@ shares_name b low high =
     ]
 
 -- the first bytes of each encoder instruction
-abbrev IsFirstOfEncoder : ℕ → EncoderKind → Type 0
+abbrev pub IsFirstOfEncoder : ℕ → EncoderKind → Type 0
 IsFirstOfEncoder b encoder.DynamicTableSizeUpdate = (32 ≤ b) × (b < 64)
 IsFirstOfEncoder b encoder.InsertWithNameRef = 128 ≤ b
 IsFirstOfEncoder b encoder.InsertWithoutNameRef = (64 ≤ b) × (b < 128)
@@ -110,7 +110,7 @@ first_of_literal b low high = rw (le-ltb b 32 (omega arith), le-ltb b 64 low, lt
 first_of_name : (b : ℕ) → 128 ≤ b → encoder_instruction_of_first b ≡ encoder.InsertWithNameRef
 first_of_name b low = rw (le-ltb b 32 (omega arith), le-ltb b 64 (omega arith), le-ltb b 128 low) refl
 
-first_of_encoder : (b : ℕ) (i : EncoderKind) → encoder_instruction_of_first b ≡ i → IsFirstOfEncoder b i
+pub first_of_encoder : (b : ℕ) (i : EncoderKind) → encoder_instruction_of_first b ≡ i → IsFirstOfEncoder b i
 first_of_encoder b i e =
     subst (IsFirstOfEncoder b) e
     (elim (cases_lt b 32) as (λ _. IsFirstOfEncoder b (encoder_instruction_of_first b)) [

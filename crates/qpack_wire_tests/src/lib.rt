@@ -16,3 +16,5 @@ mod sections;
 mod streams;
 #[cfg(test)]
 mod texts;
+#[cfg(test)]
+mod waiting;

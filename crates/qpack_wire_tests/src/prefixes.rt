@@ -55,6 +55,12 @@ fn prefixes_are_read(_rt: HostRuntime) -> Result<(), Fail> {
     Ok(())
 }
 
+#[test]
+fn a_prefix_tells_its_encoded_count(_rt: HostRuntime) -> Result<(), Fail> {
+    let prefix = HeaderPrefix::decode(&mut Cursor::new(b"\x0b\x84"))?;
+    same(prefix.encoded_insert_count(), 11)
+}
+
 /// Prefixes of no required insert count, with the insert count and the maximum capacity.
 static TOO_LARGE: [(&[u8], usize, usize); 8] = [
     (b"\xc8\x00", 0, 4096),

@@ -110,6 +110,13 @@ impl HeaderPrefix {
         answer
     }
 
+    /// The encoded required insert count, as it stands in the bytes.
+    pub fn encoded_insert_count(&self) -> usize
+        ensures { result ≡ (prefix_of self.now).count }
+    {
+        self.encoded_insert_count
+    }
+
     /// The required insert count and the base that the prefix stands for, where the table has this
     /// capacity and so many entries were inserted. A base below 0 is refused, also where nothing is required.
     #[tactic(auto, unfolding(qpack_spec::specs::Prefix::read_prefix))]

@@ -1,0 +1,170 @@
+//! What is known of an encoder instruction whose bytes end early: how many bytes there must be before it can end, and
+//! how large a field it inserts at least (RFC 9204, sections 3.2.1, 4.1 and 4.3).
+
+ghost use Rattle.std.specs.Prelude.{◌≡◌, ◌∷◌, ◌-◌, ◌^◌, min, length, drop};
+ghost use Rattle.qpack_spec.specs.Integer.{integer_at};
+ghost use Rattle.qpack_spec.specs.Wanted.{wanted as wanted_of, string_end as string_end_of};
+ghost use Rattle.qpack_spec.specs.Wanted.{value_wanted as value_wanted_of, value_behind_index_wanted};
+ghost use Rattle.qpack_spec.specs.Wanted.{value_behind_name_wanted, least_field_size as least_field_size_of};
+ghost use Rattle.qpack_spec.specs.Wanted.{least_text as least_text_of, least_string as least_string_of};
+ghost use Rattle.qpack_spec.specs.Wanted.{least_value_behind_index, least_name_and_value};
+
+use crate::form::VALUE_SIZE;
+use crate::stream::encoder_stream::EncoderInstruction;
+use crate::stream::inserts::{LITERAL_SIZE, NAMED_SIZE};
+use qpack_base::coding::Cursor;
+use qpack_base::field::ESTIMATED_OVERHEAD_BYTES;
+use qpack_base::prefix_int;
+
+/// How many bytes there must be in all before an encoder instruction can stand there, or be refused, where these are
+/// its first ones and it ends early. Takes no memory. A number past `usize::MAX` is told as that.
+#[tactic(auto, using(crate::proofs::Waiting::wanted_of_nothing))]
+pub fn wanted(bytes: &[u8]) -> usize
+    ensures { result ≡ min (wanted_of bytes.now) (2 ^ 64 - 1) }
+{
+    let Some((first, _)) = bytes.split_first() else {
+        return 1;
+    };
+    wanted_by_first(*first, bytes)
+}
+
+/// The same of bytes that begin with this one.
+#[tactic(auto, using(crate::proofs::Waiting::wanted_by_kind))]
+fn wanted_by_first(first: u8, bytes: &[u8]) -> usize
+    requires { bytes.now ≡ first ∷ drop 1 bytes.now }
+    ensures { result ≡ min (wanted_of bytes.now) (2 ^ 64 - 1) }
+{
+    match EncoderInstruction::decode(first) {
+        EncoderInstruction::InsertWithNameRef => wanted_behind_index(bytes),
+        EncoderInstruction::InsertWithoutNameRef => wanted_behind_name(bytes),
+        EncoderInstruction::Duplicate
+        | EncoderInstruction::DynamicTableSizeUpdate
+        | EncoderInstruction::Unknown => bytes.len() + 1,
+    }
+}
+
+/// The same of an index and a value.
+fn wanted_behind_index(bytes: &[u8]) -> usize
+    ensures { result ≡ min (value_behind_index_wanted (length bytes.now) (integer_at 6 bytes.now)) (2 ^ 64 - 1) }
+{
+    let mut buf = Cursor::new(bytes);
+    match prefix_int::decode(NAMED_SIZE, &mut buf) {
+        Ok(_) => value_wanted(bytes.len(), &mut buf),
+        Err(_) => bytes.len() + 1,
+    }
+}
+
+/// The same of a name and a value. A coded name can be refused where it ends, and a plain one can't.
+fn wanted_behind_name(bytes: &[u8]) -> usize
+    ensures { result ≡ min (value_behind_name_wanted (length bytes.now) (integer_at 5 bytes.now)) (2 ^ 64 - 1) }
+{
+    let mut buf = Cursor::new(bytes);
+    let Ok((flags, len)) = prefix_int::decode(LITERAL_SIZE - 1, &mut buf) else {
+        return bytes.len() + 1;
+    };
+    if len <= buf.remaining() as u64 {
+        buf.advance(len as usize);
+        return value_wanted(bytes.len(), &mut buf);
+    }
+    let end = string_end(len, &buf);
+    if flags % 2 == 0 {
+        end.saturating_add(1)
+    } else {
+        end
+    }
+}
+
+/// The same of a value at the cursor, so many bytes being there in all.
+fn value_wanted(seen: usize, buf: &mut Cursor) -> usize
+    requires { buf.old.total ≡ seen }
+    ensures { result ≡ min (value_wanted_of seen (integer_at 7 buf.old.rest)) (2 ^ 64 - 1) }
+{
+    match prefix_int::decode(VALUE_SIZE - 1, buf) {
+        Ok((_, len)) => string_end(len, buf),
+        Err(_) => seen.saturating_add(1),
+    }
+}
+
+/// How many bytes there are up to the end of a payload of this length that begins at the cursor.
+fn string_end(len: u64, buf: &Cursor) -> usize
+    ensures { result ≡ min (string_end_of buf.now.total len buf.now.rest) (2 ^ 64 - 1) }
+{
+    buf.position().saturating_add(len as usize)
+}
+
+/// How large a field an encoder instruction inserts at least that begins with these bytes and ends early; 0 of one
+/// that inserts none, or a copy. Takes no memory. A size past `usize::MAX` is told as that.
+#[tactic(auto, using(crate::proofs::Waiting::least_of_nothing))]
+pub fn least_field_size(bytes: &[u8]) -> usize
+    ensures { result ≡ min (least_field_size_of bytes.now) (2 ^ 64 - 1) }
+{
+    let Some((first, _)) = bytes.split_first() else {
+        return 0;
+    };
+    least_field_size_by_first(*first, bytes)
+}
+
+/// The same of bytes that begin with this one.
+#[tactic(auto, using(crate::proofs::Waiting::least_by_kind))]
+fn least_field_size_by_first(first: u8, bytes: &[u8]) -> usize
+    requires { bytes.now ≡ first ∷ drop 1 bytes.now }
+    ensures { result ≡ min (least_field_size_of bytes.now) (2 ^ 64 - 1) }
+{
+    let mut buf = Cursor::new(bytes);
+    match EncoderInstruction::decode(first) {
+        EncoderInstruction::InsertWithNameRef => {
+            least_behind_index(&mut buf).saturating_add(ESTIMATED_OVERHEAD_BYTES)
+        }
+        EncoderInstruction::InsertWithoutNameRef => {
+            least_texts(&mut buf).saturating_add(ESTIMATED_OVERHEAD_BYTES)
+        }
+        EncoderInstruction::Duplicate
+        | EncoderInstruction::DynamicTableSizeUpdate
+        | EncoderInstruction::Unknown => 0,
+    }
+}
+
+/// How long the value behind an index is at least.
+fn least_behind_index(buf: &mut Cursor) -> usize
+    ensures { result ≡ least_value_behind_index (integer_at 6 buf.old.rest) }
+{
+    match prefix_int::decode(NAMED_SIZE, buf) {
+        Ok(_) => least_string(buf),
+        Err(_) => 0,
+    }
+}
+
+/// How long a name and the value behind it are at least.
+fn least_texts(buf: &mut Cursor) -> usize
+    ensures { result ≡ min (least_name_and_value (integer_at 5 buf.old.rest)) (2 ^ 64 - 1) }
+{
+    let Ok((flags, len)) = prefix_int::decode(LITERAL_SIZE - 1, buf) else {
+        return 0;
+    };
+    let name = least_text(flags, len);
+    if len > buf.remaining() as u64 {
+        return name;
+    }
+    buf.advance(len as usize);
+    name.saturating_add(least_string(buf))
+}
+
+/// How long the string at the cursor is at least.
+fn least_string(buf: &mut Cursor) -> usize
+    ensures { result ≡ least_string_of (integer_at 7 buf.old.rest) }
+{
+    match prefix_int::decode(VALUE_SIZE - 1, buf) {
+        Ok((flags, len)) => least_text(flags, len),
+        Err(_) => 0,
+    }
+}
+
+/// How long a text is at least whose payload has this length: no code has more than 31 bits.
+fn least_text(flags: u8, len: u64) -> usize
+    ensures { result ≡ least_text_of flags len }
+{
+    if flags % 2 == 0 {
+        return len as usize;
+    }
+    len.div_ceil(4) as usize
+}
