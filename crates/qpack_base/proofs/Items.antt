@@ -1,8 +1,10 @@
 -- What comes next of the bits that are left: a code's byte, a fault, or the end.
-use Rattle.std.proofs.Common.{◌≡◌, ℕ, ◌+◌, ◌-◌, ◌/◌, ◌^◌, ◌<◌, ◌≤◌, Bool, true, false, cond, List, [], ◌∷◌, ◌++◌}
-use Rattle.std.proofs.Common.{length, Option, Some, None, Result, Ok, Err, refl, sym, ap, subst, ◌∙◌, arith}
+use Rattle.std.proofs.Common.{◌≡◌, ℕ, suc, ◌+◌, ◌*◌, ◌-◌, ◌/◌, ◌^◌, ◌<◌, ◌≤◌, Bool, true, false, cond, List, []}
+use Rattle.std.proofs.Common.{◌∷◌, ◌++◌, length, Option, Some, None, Result, Ok, Err, refl, sym, ap, subst, ◌∙◌, arith}
 use Rattle.std.proofs.Common.{append_assoc, inl, inr, ◌⊎◌}
+use Rattle.std.proofs.lemmas.Bool.{ltb-true}
 use Rattle.std.proofs.lemmas.Nat.{shr-shr}
+use Rattle.std.specs.Prelude.{nat_lt}
 use Rattle.std.specs.Iterator.{MakesProgress, at_most}
 use Rattle.std.proofs.lemmas.List.{length-append}
 use Rattle.qpack_spec.specs.Huffman.{HuffmanFault, bits_of, bits_of_bytes, ones, code_of, bytes_by_length, code_at}
@@ -11,6 +13,7 @@ use Rattle.qpack_spec.specs.Huffman as huffman
 use Rattle.qpack_spec.proofs.Bits.{bits_append, bits_cut, bits_length, ones_length}
 use Rattle.qpack_spec.proofs.Codes.{code_again, code_shorter}
 use Rattle.qpack_spec.proofs.Payloads.{code_no_end, end_is}
+use Rattle.qpack_spec.proofs.Results.{chosen}
 use Rattle.qpack_base.specs.declared.prefix_string.decoding.Bits.{Bits}
 use Rattle.qpack_base.specs.declared.prefix_string.decoding.HuffmanDecodingError.{HuffmanDecodingError}
 use Rattle.qpack_base.specs.HuffmanTables.{BeginsWithCode}
@@ -131,6 +134,43 @@ item_shorter bits x e = go (is_padding 8 bits) refl e
         → length (cond p (None, []) (huffman.item_of (code_at bytes_by_length 0 0 bits))).1 < length bits
     go true h s = absurd cc
     go false h s = read_shorter bits (code_at bytes_by_length 0 0 bits) h refl
+
+-- the first four rows have no codes
+skips : (rows : List (List ℕ)) (n b k : ℕ) (bits rest : List ℕ)
+    → ((m : ℕ) (more : List ℕ) → code_at rows m 0 more ≡ Ok (b, rest) → length rest + k ≤ length more)
+    → code_at ([] ∷ rows) n 0 bits ≡ Ok (b, rest) → length rest + suc k ≤ length bits
+unfolding code_at
+skips rows n b k [] rest h e = absurd cc
+skips rows n b k (bit ∷ bits) rest h e =
+    elim (chosen (nat_lt (2 * n + bit) 0) (Ok (0, bits)) (code_at rows (2 * n + bit) 0 bits) (Ok (b, rest)) e) [
+      | inl q ↦ absurd (let l = ltb-true _ _ q.0 in omega arith)
+      | inr q ↦ let s = h (2 * n + bit) bits q.1 in omega (arith, s)
+    ]
+
+-- so that a code has at least five bits
+long_code : (bits rest : List ℕ) (b : ℕ) → code_at bytes_by_length 0 0 bits ≡ Ok (b, rest)
+    → length rest + 5 ≤ length bits
+unfolding bytes_by_length
+long_code bits rest b e = skips _ 0 b 4 bits rest (λ m1 bits1 e1. skips _ m1 b 3 bits1 rest (λ m2 bits2 e2.
+    skips _ m2 b 2 bits2 rest (λ m3 bits3 e3. skips _ m3 b 1 bits3 rest (λ m4 bits4 e4.
+    let s = code_shorter _ m4 0 bits4 rest b e4 in omega (arith, s)) e3) e2) e1) e
+
+read_long : (bits new : List ℕ) (b : ℕ) (r : Result (ℕ × List ℕ) HuffmanFault) → code_at bytes_by_length 0 0 bits ≡ r
+    → (huffman.item_of r).0 ≡ Some (Ok b) → new ≡ (huffman.item_of r).1 → length new + 5 ≤ length bits
+read_long bits new b (Ok x) e s n = let l = long_code bits x.1 x.0 e in omega (arith, l, ap length n)
+read_long bits new b (Err f) e s n = absurd cc
+
+-- and so does the item that it is
+pub byte_long : (old new : List ℕ) (b : ℕ) → GivesItem old (Some (Ok b)) new → length new + 5 ≤ length old
+unfolding item_at
+byte_long old new b g = go (is_padding 8 old) refl (sym g.is) g.left
+  where
+    go : (p : Bool) → is_padding 8 old ≡ p
+        → (cond p (None, []) (huffman.item_of (code_at bytes_by_length 0 0 old))).0 ≡ Some (Ok b)
+        → new ≡ (cond p (None, []) (huffman.item_of (code_at bytes_by_length 0 0 old))).1
+        → length new + 5 ≤ length old
+    go true h s n = absurd cc
+    go false h s n = read_long old new b (code_at bytes_by_length 0 0 old) refl s n
 
 given_shorter : (old new : List ℕ) (r : Result ℕ HuffmanDecodingError) (x : Result ℕ HuffmanFault)
     → item_of (Some r) ≡ Some x → GivesItem old (Some r) new → length new < length old

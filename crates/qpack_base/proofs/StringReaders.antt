@@ -1,14 +1,12 @@
 -- What a reader of strings answers, in terms of literals and of each refusal.
-use Rattle.std.proofs.Common.{◌≡◌, ℕ, ◌-◌, ◌/◌, ◌≤◌, List, ◌++◌, length, take, drop, Result, Ok, Err, refl, sym, ap}
+use Rattle.std.proofs.Common.{◌≡◌, ℕ, List, ◌++◌, Result, Ok, Err, refl, sym, ap}
 use Rattle.std.proofs.Common.{subst, ◌∙◌}
 use Rattle.std.specs.Prelude.{IfOk, ◌↔◌}
 use Rattle.std.specs.Global.{Vec}
-use Rattle.std.proofs.lemmas.Bool.{le-ltb}
 use Rattle.qpack_spec.specs.Bytes.{Begins}
-use Rattle.qpack_spec.specs.Integer.{integer_at}
 use Rattle.qpack_spec.specs.Huffman.{HuffmanFault}
 use Rattle.qpack_spec.specs.Text.{StringFault, EndsEarly, LengthOverflows, BadHuffman, SpellsString, RefusesString}
-use Rattle.qpack_spec.specs.Text.{TruncatesString, payload_at, string_behind, string_at}
+use Rattle.qpack_spec.specs.Text.{TruncatesString, string_at}
 use Rattle.qpack_spec.proofs.Results.{ok_triple}
 use Rattle.qpack_spec.proofs.Texts.{string_takes, string_again, reads_refusals, reads_truncation}
 use Rattle.qpack_base.specs.declared.prefix_int.Error.TheVariants as integer
@@ -17,28 +15,7 @@ use Rattle.qpack_base.specs.declared.prefix_string.Error.TheVariants.{Unexpected
 use Rattle.qpack_base.specs.declared.prefix_string.Error.TheVariants.{Memory}
 use Rattle.qpack_base.specs.Cursor.{CursorView, MovesPast}
 use Rattle.qpack_base.specs.Payloads.{huffman_fault_of}
-use Rattle.qpack_base.specs.Strings.{meaning, IsWhole, FailsString, ReadsString, GivesValue, IsFaulty, GivesFault}
-
-abbrev read_so : ℕ → List ℕ → List ℕ → Result (ℕ × List ℕ × List ℕ) StringFault
-read_so flags value rest = Ok (flags, value, rest)
-
--- where the length was read and its payload was offered, the string is its payload's
-behind_length : (n fl len : ℕ) (bytes rest : List ℕ) → integer_at (n - 1) bytes ≡ Ok (fl, len, rest)
-    → string_at n bytes ≡ payload_at fl len rest
-unfolding string_at
-behind_length n fl len bytes rest e = ap string_behind e
-
--- a whole payload is read
-payload_read : (fl len : ℕ) (rest value : List ℕ) → len ≤ length rest → meaning fl (take len rest) ≡ Ok value
-    → payload_at fl len rest ≡ Ok (fl / 2, value, drop len rest)
-payload_read fl len rest value le m = rw (le-ltb _ _ le, m) refl
-
-pub string_read : (n fl len : ℕ) (old new rest value : List ℕ) → integer_at (n - 1) old ≡ Ok (fl, len, rest)
-    → len ≤ length rest → meaning fl (take len rest) ≡ Ok value → new ≡ drop len rest
-    → string_at n old ≡ Ok (fl / 2, value, new)
-string_read n fl len old new rest value i le m e =
-    behind_length n fl len old rest i ∙ payload_read fl len rest value le m
-    ∙ ap (λ (l : List ℕ). read_so (fl / 2) value l) (sym e)
+use Rattle.qpack_base.specs.Strings.{IsWhole, FailsString, ReadsString, GivesValue, IsFaulty, GivesFault}
 
 -- ---- the clauses of a reader
 

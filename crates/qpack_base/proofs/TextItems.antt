@@ -1,9 +1,10 @@
 -- The text of a payload, item by item.
-use Rattle.std.proofs.Common.{◌≡◌, ℕ, zero, suc, ◌<◌, List, [], ◌∷◌, ◌++◌, length, Option, Some, None, Result, Ok}
+use Rattle.std.proofs.Common.{◌≡◌, ℕ, zero, suc, ◌<◌, List, [], ◌∷◌, ◌++◌, length, take, Option, Some, None, Result, Ok}
 use Rattle.std.proofs.Common.{Err, true, refl, sym, ap, ◌∙◌, arith, append_assoc, append-nil}
 use Rattle.qpack_spec.specs.Huffman.{HuffmanFault, code_of, bits_of_text, AreBytes, is_padding}
 use Rattle.qpack_spec.specs.Huffman.{item_at, with_front, text_after, text_at, text_of_bits}
 use Rattle.qpack_base.specs.declared.prefix_string.decoding.HuffmanDecodingError.{HuffmanDecodingError}
+use Rattle.std.proofs.Math.Seq.{take-append_seam}
 use Rattle.std.proofs.lemmas.List.Concat.{flat_map-cons}
 use Rattle.qpack_base.specs.Payloads.{huffman_fault_of, item_of, GivesItem, PassesCodes}
 use Rattle.qpack_base.proofs.Items.{item_shorter, item_code, item_end}
@@ -46,6 +47,12 @@ pub front_none : (m : Result (List ℕ) HuffmanFault) → with_front [] m ≡ m
 front_none (Ok t) = refl
 front_none (Err f) = refl
 
+-- a fault stands behind a list as it stands alone
+pub front_fault : (a : List ℕ) (m : Result (List ℕ) HuffmanFault) (f : HuffmanFault) → with_front a m ≡ Err f
+    → m ≡ Err f
+front_fault a (Ok t) f e = absurd cc
+front_fault a (Err g) f e = e
+
 pub at_end : (old new out : List ℕ) (whole : Result (List ℕ) HuffmanFault) → GivesItem old None new
     → with_front out (text_of_bits old) ≡ whole → whole ≡ Ok out
 at_end old new out whole g inv = sym inv ∙ ap (with_front out) (text_step old new None g)
@@ -80,8 +87,25 @@ text_passed old new items appended p =
     ∙ sym (ap (with_front items) (codes_passed p.text old new p.are p.bits))
 
 -- all was passed, up to the end
-pub whole_passed : (old new appended : List ℕ) → PassesCodes old new [] appended → is_padding 8 new ≡ true
-    → text_of_bits old ≡ Ok appended
-whole_passed old new appended p e =
-    at_end new [] appended (text_of_bits old) (item_end new [] e refl)
-    (text_passed old new [] appended p ∙ front_none (text_of_bits old))
+pub whole_passed : (old new items appended : List ℕ) → PassesCodes old new items appended → is_padding 8 new ≡ true
+    → with_front items (text_of_bits old) ≡ Ok appended
+whole_passed old new items appended p e =
+    at_end new [] appended (with_front items (text_of_bits old)) (item_end new [] e refl)
+    (text_passed old new items appended p)
+
+-- a fault of the rest is the fault of all
+pub fault_passed : (old new items appended : List ℕ) (f : HuffmanFault) → PassesCodes old new items appended
+    → text_of_bits new ≡ Err f → text_of_bits old ≡ Err f
+fault_passed old new items appended f p e =
+    codes_passed p.text old new p.are p.bits ∙ ap (with_front p.text) e
+
+-- before what was appended stands what was there
+pub items_kept : (start : ℕ) (old new items appended : List ℕ) → PassesCodes old new items appended
+    → start ≡ length items → take start appended ≡ items
+items_kept start old new items appended p e = rw (e, p.append) (take-append_seam items p.text)
+
+-- the text behind a list, by itself
+pub front_is : (a : List ℕ) (m : Result (List ℕ) HuffmanFault) (b : List ℕ) → with_front a m ≡ Ok b
+    → (value : List ℕ) × (m ≡ Ok value) × (b ≡ a ++ value)
+front_is a (Ok t) b e = (t, refl, cc)
+front_is a (Err f) b e = absurd cc

@@ -15,7 +15,7 @@ use Rattle.qpack_spec.proofs.Texts.{string_takes, reads_refusals}
 use Rattle.qpack_base.specs.declared.prefix_string.Error.{Error}
 use Rattle.qpack_base.specs.declared.prefix_string.Error.TheVariants.{Memory}
 use Rattle.qpack_base.specs.Cursor.{CursorView}
-use Rattle.qpack_base.specs.Strings.{IsWhole, TakesMemory, ReadsString, ReadsText, ReadsRest, meaning}
+use Rattle.qpack_base.specs.Strings.{IsWhole, TakesMemory, ReadsString, meaning}
 
 -- no bits mean the empty text
 text_of_no_bits : text_of_bits (bits_of_bytes []) ≡ Ok []
@@ -49,12 +49,6 @@ takes_memory payload some = go (text_of_bits (bits_of_bytes payload)) refl
         let means = text_means (bits_of_bytes payload) encoding (bytes_bits payload) e in
         some (payload_of_no_text payload (subst (PayloadMeans payload) z means))
     go (Err fault) e = tt
-
--- memory is refused only where it may be asked for
-pub reads_whole : (payload : List ℕ) (r : Result (Vec ℕ) Error) → payload ≢ []
-    → ReadsRest r (text_of_bits (bits_of_bytes payload)) → ReadsText r (text_of_bits (bits_of_bytes payload))
-reads_whole payload (Err Memory) some h = takes_memory payload some
-reads_whole payload r some h = h
 
 -- an empty payload means the empty text alone
 no_text : (payload value : List ℕ) → payload ≡ [] → PayloadMeans payload value → value ≡ []

@@ -1,6 +1,8 @@
 -- What readers of string literals answer.
-use Rattle.std.specs.Prelude.{◌≡◌, ◌≢◌, ℕ, ◌%◌, List, [], Option, Some, None, Result, Ok, Err, ◌==◌, if◌then◌else◌}
+use Rattle.std.specs.Prelude.{◌≡◌, ◌≢◌, ℕ, ◌%◌, List, [], ◌++◌, Option, Some, None, Result, Ok, Err, ◌==◌}
+use Rattle.std.specs.Prelude.{if◌then◌else◌}
 use Rattle.std.specs.Global.{Vec}
+use Rattle.std.specs.declared.vec.Vec.{Vec as AnyVec}
 use Rattle.qpack_spec.specs.Huffman.{HuffmanFault, bits_of_bytes, text_of_bits}
 use Rattle.qpack_spec.specs.Text.{StringFault, EndsEarly, LengthOverflows, BadHuffman}
 use Rattle.qpack_base.specs.declared.prefix_int.Error.{Error as IntegerError}
@@ -43,6 +45,14 @@ abbrev pub ReadsString : CursorView → CursorView → Result (Vec ℕ) Error �
 ReadsString old new (Ok v) read = ((flags : ℕ) × (read ≡ Ok (flags, v.items, new.rest))) × (new.total ≡ old.total)
 ReadsString old new (Err e) read = FailsString e read
 
+-- the value that was read, under some flags, is appended, and the cursor stands behind it; or it is the fault, and the
+-- text is as before
+abbrev pub AppendsString : {A : Type 0} → CursorView → CursorView → AnyVec ℕ A → AnyVec ℕ A → Result (Unit {0}) Error
+    → Result (ℕ × List ℕ × List ℕ) StringFault → Type 0
+AppendsString old new text_old text_new (Ok u) read = ((flags : ℕ) × (value : List ℕ)
+    × (read ≡ Ok (flags, value, new.rest)) × (text_new.items ≡ text_old.items ++ value)) × (new.total ≡ old.total)
+AppendsString old new text_old text_new (Err e) read = FailsString e read × (text_new.items ≡ text_old.items)
+
 -- what a payload means, which the lowest flag says to be plain or coded
 abbrev pub meaning : ℕ → List ℕ → Result (List ℕ) HuffmanFault
 meaning flags payload = if flags % 2 == 0 then Ok payload else text_of_bits (bits_of_bytes payload)
@@ -52,17 +62,13 @@ abbrev pub TakesMemory : Result (List ℕ) HuffmanFault → Type 0
 TakesMemory (Ok value) = value ≢ []
 TakesMemory (Err fault) = Unit {0}
 
--- the same of a payload alone
-abbrev pub ReadsText : Result (Vec ℕ) Error → Result (List ℕ) HuffmanFault → Type 0
-ReadsText (Ok v) read = read ≡ Ok v.items
-ReadsText (Err (HuffmanDecoding e)) read = read ≡ Err (huffman_fault_of e)
-ReadsText (Err Memory) read = TakesMemory read
-ReadsText (Err e) read = ⊥
-
--- the same, where memory may be refused
-abbrev pub ReadsRest : Result (Vec ℕ) Error → Result (List ℕ) HuffmanFault → Type 0
-ReadsRest (Err Memory) read = Unit {0}
-ReadsRest r read = ReadsText r read
+-- the same of a payload alone, of which memory may be refused to a text that is not empty
+abbrev pub AppendsText : {A : Type 0} → AnyVec ℕ A → AnyVec ℕ A → Result (Unit {0}) Error → Result (List ℕ) HuffmanFault
+    → Type 0
+AppendsText old new (Ok u) read = (value : List ℕ) × (read ≡ Ok value) × (new.items ≡ old.items ++ value)
+AppendsText old new (Err (HuffmanDecoding e)) read = (read ≡ Err (huffman_fault_of e)) × (new.items ≡ old.items)
+AppendsText old new (Err Memory) read = TakesMemory read × (new.items ≡ old.items)
+AppendsText old new (Err e) read = ⊥
 
 -- ---- the same by cases
 

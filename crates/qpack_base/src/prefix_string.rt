@@ -2,15 +2,16 @@
 //! RFC 9204, section 4.1.2).
 
 ghost use Rattle.std.specs.Prelude.{◌≡◌, ◌≢◌, ℕ, ◌≤◌, ◌-◌, ◌++◌, ◌↔◌, List, [], Err, IfOk, IfErr, OnOk, OnErr, IsOk};
-ghost use Rattle.std.specs.Prelude.{◌+◌, ◌*◌, length, vec_len, vec_capacity, IsTrue, false};
+ghost use Rattle.std.specs.Prelude.{◌+◌, ◌*◌, ◌/◌, ◌<◌, Ok, length, take, vec_len, vec_capacity, IsTrue, false};
 ghost use Rattle.qpack_spec.specs.Bytes.{Begins};
 ghost use Rattle.qpack_spec.specs.Huffman.{HuffmanFault, bits_of_bytes, with_front, text_of_bits};
 ghost use Rattle.qpack_spec.specs.Text.{LengthOverflows, BadHuffman, SpellsString, RefusesString, TruncatesString};
-ghost use Rattle.qpack_spec.specs.Text.{HoldsPayload, string_at, written_string};
+ghost use Rattle.qpack_spec.specs.Text.{HoldsPayload, value_before, string_at, written_string};
 ghost use Rattle.qpack_base.specs.Cursor.{MovesPast};
 ghost use Rattle.qpack_base.specs.Payloads.{huffman_fault_of};
-ghost use Rattle.qpack_base.specs.Strings.{error_of_integer, meaning, ReadsString, ReadsText, ReadsRest};
-ghost use Rattle.qpack_base.specs.Strings.{GivesValue, IsFaulty, GivesFault};
+ghost use Rattle.qpack_base.specs.Refusals.{IsRefusedFor};
+ghost use Rattle.qpack_base.specs.Strings.{error_of_integer, string_fault_of, meaning, ReadsString, AppendsString};
+ghost use Rattle.qpack_base.specs.Strings.{AppendsText, GivesValue, IsFaulty, GivesFault};
 ghost use Rattle.qpack_base.specs.declared.prefix_string.Error.TheVariants.{UnexpectedEnd as Truncated};
 ghost use Rattle.qpack_base.specs.declared.prefix_string.Error.TheVariants.{Integer as BadLength};
 ghost use Rattle.qpack_base.specs.declared.prefix_string.Error.TheVariants.{HuffmanDecoding as BadPayload};
@@ -30,6 +31,7 @@ use crate::prefix_string::ahead::push_codes;
 pub use crate::prefix_string::bitwin::BitWindow;
 pub use crate::prefix_string::decoding::{DecodeIter, HpackStringDecode, HuffmanDecodingError};
 pub use crate::prefix_string::encoding::{HpackStringEncode, HuffmanEncodingError};
+use core::mem::replace_with;
 use std::alloc::{AllocError, AllocFailed, Allocator, Global};
 use thiserror::Error as ThisError;
 
@@ -107,6 +109,13 @@ impl<T: Drop> From<AllocFailed<T>> for Error {
     }
 }
 
+/// The payload of a string, whole, and the flags before its length, of which the lowest says whether it is coded.
+#[derive(Clone, Copy)]
+struct Payload<'a> {
+    flags: u8,
+    bytes: &'a [u8],
+}
+
 /// Reads the string at the cursor, with a prefix of `size` bits, plain or coded. Memory is asked for
 /// only where a payload that is not empty stands whole at the cursor. Where the string is refused,
 /// the cursor's position is unspecified.
@@ -134,6 +143,26 @@ pub fn decode(alloc: Global, size: u8, buf: &mut Cursor) -> Result<Vec<u8>, Erro
     ensures exact { ReadsString buf.old buf.new result (string_at size buf.old.rest) }
 {
     read(alloc, size, buf)
+}
+
+/// Reads the string at the cursor, with a prefix of `size` bits, plain or coded, and appends its value to the text.
+/// Refused, the text is as before, and the cursor's position is unspecified. With free room for the text that any
+/// payload of the bytes that are left could mean it takes no memory.
+pub fn decode_onto<A: Allocator>(
+    size: u8,
+    buf: &mut Cursor,
+    text: &mut Vec<u8, A>,
+) -> Result<(), Error>
+    requires least { 2 ≤ size }
+    requires most { size ≤ 8 }
+    // The value that is read is appended, and the cursor moves past exactly its string.
+    ensures exact { AppendsString buf.old buf.new text.old text.new result (string_at size buf.old.rest) }
+    // Memory is refused only where there was less room than any payload of the bytes that are left may want.
+    ensures memory { result ≡ Err NoRoom →
+        vec_capacity text.old < vec_len text.old + (length buf.old.rest / 5 * 8 + 6) }
+    ensures capacity { vec_capacity text.old ≤ vec_capacity text.new }
+{
+    read_payload(take_payload(size, buf)?, text)
 }
 
 /// Appends the coded literal of the value with a prefix of `size` bits, under the flags, which are cut
@@ -245,55 +274,122 @@ fn append_measured<A: Allocator>(
     Ok(())
 }
 
-#[tactic(auto, unfolding(qpack_spec::specs::Text::string_at))]
+/// The string at the cursor, in a vector of its own.
 fn read(alloc: Global, size: u8, buf: &mut Cursor) -> Result<Vec<u8>, Error>
     requires least { 2 ≤ size }
     requires most { size ≤ 8 }
     ensures { ReadsString buf.old buf.new result (string_at size buf.old.rest) }
+{
+    let payload = take_payload(size, buf)?;
+    let mut value = Vec::new(alloc);
+    read_payload(payload, &mut value)?;
+    Ok(value)
+}
+
+/// Passes the string at the cursor, and answers its payload.
+#[inline(always)]
+#[tactic(auto, unfolding(qpack_spec::specs::Text::string_at))]
+fn take_payload<'a>(size: u8, buf: &mut Cursor<'a>) -> Result<Payload<'a>, Error>
+    requires least { 2 ≤ size }
+    requires most { size ≤ 8 }
+    ensures is { IfOk result (λ p. string_at size buf.old.rest ≡
+        value_before (p.flags / 2) buf.new.rest (meaning p.flags p.bytes.now)) }
+    ensures within { IfOk result (λ p. length p.bytes.now ≤ length buf.old.rest) }
+    ensures total { OnOk result (buf.new.total ≡ buf.old.total) }
+    ensures err { IfErr result (λ e. IsRefusedFor (string_at size buf.old.rest) (string_fault_of e)) }
 {
     let (flags, len) = prefix_int::decode(size - 1, buf)?;
     let len = len as usize;
     if buf.remaining() < len {
         return Err(Error::UnexpectedEnd);
     }
-    let payload = &buf.chunk()[..len];
-    let value = read_payload(alloc, flags, payload)?;
+    let bytes = &buf.chunk()[..len];
     buf.advance(len);
-    Ok(value)
+    Ok(Payload { flags, bytes })
 }
 
-/// The value of a payload, which the lowest flag says to be plain or coded. An empty one takes no memory.
-fn read_payload(alloc: Global, flags: u8, payload: &[u8]) -> Result<Vec<u8>, Error>
-    ensures { ReadsText result (meaning flags payload.now) }
+/// Appends the value of a payload. An empty one takes no memory.
+fn read_payload<A: Allocator>(payload: Payload, text: &mut Vec<u8, A>) -> Result<(), Error>
+    ensures exact { AppendsText text.old text.new result (meaning payload.entry.flags payload.entry.bytes.now) }
+    ensures memory { result ≡ Err NoRoom →
+        vec_capacity text.old < vec_len text.old + (length payload.entry.bytes.now / 5 * 8 + 6) }
+    ensures capacity { vec_capacity text.old ≤ vec_capacity text.new }
 {
-    if payload.is_empty() {
-        return Ok(Vec::new(alloc));
+    if payload.bytes.is_empty() {
+        return Ok(());
     }
-    if flags % 2 == 0 {
-        return Ok(Vec::from_slice(alloc, payload)?);
+    if payload.flags % 2 == 0 {
+        return push_plain(payload.bytes, text);
     }
-    read_text(alloc, payload)
+    read_text(payload.bytes, text)
 }
 
-/// The text that a coded payload means. No code has fewer than five bits, so that is the room that is asked for.
-fn read_text(alloc: Global, payload: &[u8]) -> Result<Vec<u8>, Error>
+/// Appends a plain payload.
+fn push_plain<A: Allocator>(payload: &[u8], text: &mut Vec<u8, A>) -> Result<(), Error>
+    ensures ok { OnOk result (text.new.items ≡ text.old.items ++ payload.now) }
+    ensures err { OnErr result (text.new.items ≡ text.old.items) }
+    ensures memory { IfErr result (λ e. e ≡ NoRoom) }
+    ensures full { OnErr result (vec_capacity text.old < vec_len text.old + length payload.now) }
+    ensures capacity { vec_capacity text.old ≤ vec_capacity text.new }
+{
+    make_text_room(text, payload.len())?;
+    Ok(text.extend_from_slice(payload)?)
+}
+
+/// Makes room for so many more bytes. An empty text, which may be all that its vector is for, is given no more.
+fn make_text_room<A: Allocator>(text: &mut Vec<u8, A>, additional: usize) -> Result<(), NoMemory>
+    ensures items { text.new.items ≡ text.old.items }
+    ensures len { vec_len text.new ≡ vec_len text.old }
+    ensures ok { OnOk result (vec_len text.new + additional ≤ vec_capacity text.new) }
+    ensures full { OnErr result (vec_capacity text.old < vec_len text.old + additional) }
+    ensures capacity { vec_capacity text.old ≤ vec_capacity text.new }
+{
+    if text.is_empty() {
+        return Ok(text.reserve_exact(additional)?);
+    }
+    make_room(text, additional)
+}
+
+/// Appends the text that a coded payload means. No code has fewer than five bits, so that is the room that is asked
+/// for.
+fn read_text<A: Allocator>(payload: &[u8], text: &mut Vec<u8, A>) -> Result<(), Error>
     requires { payload.now ≢ [] }
-    ensures { ReadsText result (text_of_bits (bits_of_bytes payload.now)) }
+    ensures exact { AppendsText text.old text.new result (text_of_bits (bits_of_bytes payload.now)) }
+    ensures memory { result ≡ Err NoRoom →
+        vec_capacity text.old < vec_len text.old + (length payload.now / 5 * 8 + 6) }
+    ensures capacity { vec_capacity text.old ≤ vec_capacity text.new }
 {
-    let text = Vec::with_capacity(alloc, payload.len() / 5 * 8 + 6)?;
-    let (text, rest) = push_codes(text, payload);
+    make_text_room(text, payload.len() / 5 * 8 + 6)?;
+    let start = text.len();
+    let rest = replace_with(text, payload, push_codes);
     if rest.is_end() {
-        return Ok(text);
+        return Ok(());
     }
-    push_rest(text, rest)
+    Ok(push_rest(start, rest, text)?)
 }
 
-/// The text with the rest of a payload behind it.
-fn push_rest(mut text: Vec<u8>, rest: DecodeIter) -> Result<Vec<u8>, Error>
-    ensures { ReadsRest result (with_front text.items (text_of_bits rest.entry)) }
+/// Appends what the rest of a payload means into the free room. Where that is nothing, the text is cut to its first
+/// `start` bytes.
+fn push_rest<A: Allocator>(
+    start: usize,
+    rest: DecodeIter,
+    text: &mut Vec<u8, A>,
+) -> Result<(), HuffmanDecodingError>
+    requires start { start ≤ vec_len text.old }
+    requires room { length rest ≤ 5 * (vec_capacity text.old - vec_len text.old) + 4 }
+    ensures ok { OnOk result (with_front text.old.items (text_of_bits rest.entry) ≡ Ok text.new.items) }
+    ensures fault { IfErr result (λ e. text_of_bits rest.entry ≡ Err (huffman_fault_of e)) }
+    ensures err { OnErr result (text.new.items ≡ take start text.old.items) }
+    ensures capacity { vec_capacity text.new ≡ vec_capacity text.old }
 {
     for byte in rest {
-        text.push(byte?)?;
+        match byte {
+            Ok(byte) => text.push_reserved(byte),
+            Err(e) => {
+                text.truncate(start);
+                return Err(e);
+            }
+        }
     }
-    Ok(text)
+    Ok(())
 }

@@ -37,6 +37,18 @@ fn get(alloc: Global, size: u8, bytes: &[u8]) -> Result<Vec<u8>, Error>
     }
 }
 
+/// Appends the string at the front of the bytes to the text, and again after a refusal, which must leave the text as it
+/// was.
+fn get_onto(size: u8, bytes: &[u8], text: &mut Vec<u8>) -> Result<(), Error>
+    requires least { 2 ≤ size }
+    requires most { size ≤ 8 }
+{
+    match prefix_string::decode_onto(size, &mut Cursor::new(bytes), text) {
+        Err(Error::Memory) => prefix_string::decode_onto(size, &mut Cursor::new(bytes), text),
+        read => read,
+    }
+}
+
 /// Whether the string with a prefix of eight bits is read so.
 fn reads(alloc: Global, bytes: &[u8], value: &[u8]) -> Result<(), Fail> {
     same(get(alloc, 8, bytes)?.as_slice(), value)
@@ -74,6 +86,16 @@ fn strings_are_read(rt: HostRuntime) -> Result<(), Fail> {
     same(get(rt.alloc(), 6, b"\x43bar")?.as_slice(), b"bar")
 }
 
+#[test]
+fn strings_are_read_behind_one_another(rt: HostRuntime) -> Result<(), Fail> {
+    let mut text = Vec::new(rt.alloc());
+    for (literal, _) in &LITERALS {
+        get_onto(8, literal, &mut text)?;
+    }
+    get_onto(6, b"\x43bar", &mut text)?;
+    same(text.as_slice(), b"barfoo0!?\n\x16bar")
+}
+
 /// Payloads that end within a word, or in too many ones.
 static MISSING: [&[u8]; 4] = [b"\x81\xff", b"\x81\xfe", b"\x81\x00", b"\x83\xff\xff\xff"];
 
@@ -105,10 +127,27 @@ fn payloads_that_mean_nothing_are_refused(rt: HostRuntime) -> Result<(), Fail> {
     Ok(())
 }
 
+/// The string is refused, and the text that it would stand behind stays.
+fn stays(alloc: Global, literal: &[u8]) -> Result<(), Fail> {
+    let mut text = again(|| Vec::from_slice(alloc, b"text"))?;
+    let refused = get_onto(8, literal, &mut text).is_err();
+    same((refused, text.as_slice()), (true, b"text".as_slice()))
+}
+
+#[test]
+fn a_refused_string_leaves_the_text(rt: HostRuntime) -> Result<(), Fail> {
+    for literal in MISSING.iter().chain(&WITH_EOS).chain(&CUT) {
+        stays(rt.alloc(), literal)?;
+    }
+    Ok(())
+}
+
+/// Strings that end within the length or the payload.
+static CUT: [&[u8]; 3] = [b"", b"\x03ba", b"\x7f\xff\xff\xff\xff\xff\xff\xff\xff\x7f"];
+
 #[test]
 fn cut_strings_are_refused(rt: HostRuntime) -> Result<(), Fail> {
-    let cut: [&[u8]; 3] = [b"", b"\x03ba", b"\x7f\xff\xff\xff\xff\xff\xff\xff\xff\x7f"];
-    for bytes in cut {
+    for bytes in &CUT {
         same(get(rt.alloc(), 8, bytes).err(), Some(Error::UnexpectedEnd))?;
     }
     let overflow = Error::Integer(prefix_int::Error::Overflow);
@@ -195,5 +234,35 @@ fn free_room_takes_no_memory(rt: HostRuntime) -> Result<(), Fail> {
     same(
         prefix_string::decode(rt.alloc(), 8, &mut empty)?.capacity(),
         0,
+    )
+}
+
+#[test]
+fn a_full_text_refuses_a_string_and_stays(rt: HostRuntime) -> Result<(), Fail> {
+    let heap = again(|| LocalHeap::new(rt.alloc(), 512))?;
+    let mut text = Vec::new(&heap);
+    let mut refusals = 0u32;
+    for _ in 0..200u32 {
+        let len = text.len();
+        let room = text.capacity().saturating_sub(len);
+        match prefix_string::decode_onto(8, &mut Cursor::new(b"\x82\x94\xe7"), &mut text) {
+            Ok(()) => same(text.len(), len.saturating_add(3))?,
+            Err(e) => {
+                refusals = refusals.saturating_add(1);
+                same((e, text.len(), room < 6), (Error::Memory, len, true))?;
+            }
+        }
+    }
+    same((refusals > 0, refusals < 200), (true, true))
+}
+
+#[test]
+fn a_string_is_read_into_free_room(rt: HostRuntime) -> Result<(), Fail> {
+    let mut text = again(|| Vec::with_capacity(rt.alloc(), 10))?;
+    text.extend_from_slice(b"text")?;
+    prefix_string::decode_onto(8, &mut Cursor::new(b"\x82\x94\xe7"), &mut text)?;
+    same(
+        (text.as_slice(), text.capacity()),
+        (b"textfoo".as_slice(), 10),
     )
 }

@@ -8,6 +8,7 @@ ghost use Rattle.qpack_base.specs.Payloads.{bits_ahead, IsAhead, BeginsCode, Pas
 
 use crate::prefix_string::decoding::{DecodeIter, long_code};
 use crate::prefix_string::decoding_tables::short_codes;
+use std::alloc::Allocator;
 
 /// The bits of a payload that are still to be read: the highest `count` bits of `loaded`, and then those of `rest`.
 #[derive(Clone, Copy)]
@@ -128,9 +129,15 @@ impl<'a> Ahead<'a> {
 
 /// Appends the bytes whose codes stand at the front of the payload, up to what is no code. No code has fewer than five
 /// bits, so that there is room for all of them. Answers what is left of the payload, too.
-pub(super) fn push_codes(mut text: Vec<u8>, payload: &[u8]) -> (Vec<u8>, DecodeIter<'_>)
+pub(super) fn push_codes<A: Allocator>(
+    mut text: Vec<u8, A>,
+    payload: &[u8],
+) -> (Vec<u8, A>, DecodeIter<'_>)
     requires room { 8 * length payload.now ≤ 5 * (vec_capacity text - vec_len text) + 4 }
-    ensures { PassesCodes (bits_of_bytes payload.now) result.1 text.items result.0.items }
+    ensures passes { PassesCodes (bits_of_bytes payload.now) result.1 text.items result.0.items }
+    ensures room { length result.1 ≤ 5 * (vec_capacity result.0 - vec_len result.0) + 4 }
+    ensures len { vec_len text ≤ vec_len result.0 }
+    ensures capacity { vec_capacity result.0 ≡ vec_capacity text }
 {
     let mut ahead = Ahead::new(payload);
     loop {

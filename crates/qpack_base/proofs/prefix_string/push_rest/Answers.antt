@@ -1,27 +1,41 @@
-use Rattle.std.proofs.lemmas.Result.{err_from_is_err_and}
+use Rattle.std.proofs.Common.{◌∙◌, arith}
+use Rattle.std.proofs.lemmas.List.{take-append-le}
 use Rattle.qpack_spec.specs.Huffman.{with_front, text_of_bits}
-use Rattle.qpack_base.proofs.TextItems.{at_end, at_fault, at_byte}
+use Rattle.qpack_base.specs.Payloads.{huffman_fault_of}
+use Rattle.qpack_base.proofs.Items.{byte_long}
+use Rattle.qpack_base.proofs.TextItems.{front_fault, at_end, at_fault, at_byte}
 use Rattle.qpack_base.proofs.prefix_string.push_rest.Goals as goal
 
-pub returns-in_err-byte : goal.returns-in_err-byte
-returns-in_err-byte c =
-    let step = rw c.in_err-byte.was at c.in-Some.ensures.steps in
-    let p = err_from_is_err_and c.from_residual.result c.from_residual.ensures.1 in
-    rw (p.1, p.2) (at_fault c.loop-byte.byte-iterator c.next.new.self c.loop-byte.text.items c.in_err-byte.field-0.0
-    (with_front c.args.text.items (text_of_bits c.args.rest)) step c.loop-byte.invariant)
+pub push_reserved-requires : goal.push_reserved-requires
+push_reserved-requires g c =
+    let step = rw c.in-Ok.is at c.in-Some.ensures.steps in
+    omega (arith, byte_long c.loop-byte.byte-iterator c.next.new.self c.in-Ok.byte step, c.loop-byte.invariant.room)
 
 pub loop-byte-preserved : goal.loop-byte-preserved
-loop-byte-preserved c =
-    let step = rw c.in_ok-byte.was at c.in-Some.ensures.steps in
-    rw c.in_ok-push.ensures.items
-    (at_byte c.loop-byte.byte-iterator c.next.new.self c.loop-byte.text.items c.in_ok-byte.field-0
-    (with_front c.args.text.items (text_of_bits c.args.rest)) step c.loop-byte.invariant)
+loop-byte-preserved g c =
+    let loop = c.loop-byte in
+    let push = c.push_reserved in
+    let step = rw c.in-Ok.is at c.in-Some.ensures.steps in
+    let long = byte_long loop.byte-iterator c.next.new.self c.in-Ok.byte step in
+    record {
+      text = rw push.ensures.items
+          (at_byte loop.byte-iterator c.next.new.self loop.text.items c.in-Ok.byte
+          (with_front c.args.text.now.items (text_of_bits c.args.rest)) step loop.invariant.text);
+      room = omega (arith, long, loop.invariant.room, push.ensures.len, push.ensures.capacity);
+      start = omega (arith, push.ensures.len, loop.invariant.start);
+      front = rw push.ensures.items
+          (take-append-le c.args.start loop.text.items _ (omega (arith, loop.invariant.start, loop.text.ok.0))
+          ∙ loop.invariant.front);
+      capacity = push.ensures.capacity ∙ loop.invariant.capacity;
+    }
 
-pub returns : goal.returns
-returns c = at_end c.loop-byte.byte-iterator c.next.new.self c.loop-byte.text.items
-    (with_front c.args.text.items (text_of_bits c.args.rest)) c.in-None.ensures.steps c.loop-byte.invariant
+pub returns-in-Err-clause-fault : goal.returns-in-Err-clause-fault
+returns-in-Err-clause-fault g c =
+    let step = rw c.in-Err.is at c.in-Some.ensures.steps in
+    front_fault c.args.text.now.items (text_of_bits c.args.rest) (huffman_fault_of c.in-Err.e)
+    (at_fault c.loop-byte.byte-iterator c.next.new.self c.loop-byte.text.items c.in-Err.e
+    (with_front c.args.text.now.items (text_of_bits c.args.rest)) step c.loop-byte.invariant.text)
 
-pub returns-in_err-push : goal.returns-in_err-push
-returns-in_err-push c =
-    let p = err_from_is_err_and c.from_residual-in_err-push.result c.from_residual-in_err-push.ensures.1 in
-    rw (p.1, p.2) tt
+pub returns-clause-ok : goal.returns-clause-ok
+returns-clause-ok g c = at_end c.loop-byte.byte-iterator c.next.new.self c.loop-byte.text.items
+    (with_front c.args.text.now.items (text_of_bits c.args.rest)) c.in-None.ensures.steps c.loop-byte.invariant.text

@@ -1,4 +1,4 @@
-use Rattle.std.proofs.Common.{ℕ, ◌-◌, ◌/◌, ◌^◌, List, ◌++◌, length, vec_len, vec_capacity, ap, sym, ◌∙◌}
+use Rattle.std.proofs.Common.{ℕ, ◌-◌, ◌/◌, ◌^◌, List, ◌++◌, length, vec_len, vec_capacity, ap, refl, sym, ◌∙◌}
 use Rattle.std.proofs.Common.{arith}
 use Rattle.qpack_spec.specs.Huffman.{bits_of_bytes}
 use Rattle.qpack_spec.proofs.Bits.{bytes_length}
@@ -9,7 +9,7 @@ use Rattle.qpack_base.proofs.WholeCodes.{short_begins, nothing_passed, one_passe
 use Rattle.qpack_base.proofs.prefix_string.ahead.push_codes.Goals as goal
 
 pub loop-ahead-init : goal.loop-ahead-init
-loop-ahead-init c = record {
+loop-ahead-init g c = record {
   ahead = c.new-ahead.ensures.ahead;
   room = omega (
     arith,
@@ -19,10 +19,12 @@ loop-ahead-init c = record {
   );
   passes = nothing_passed (bits_of_bytes c.args.payload.now) (bits_ahead c.new-ahead.result) c.args.text.items
       c.new-ahead.ensures.left;
+  len = omega arith;
+  capacity = refl;
 }
 
 pub push_reserved-requires : goal.push_reserved-requires
-push_reserved-requires c =
+push_reserved-requires g c =
     let a = c.load-ahead.result in
     let few = c.load-ahead.ensures.ahead.few in
     let high = high_of a.loaded a.count (omega arith) (omega arith) c.load-ahead.ensures.ahead.zeros in
@@ -34,7 +36,7 @@ push_reserved-requires c =
     omega (arith, free)
 
 pub push_reserved-requires-in-loop-ahead : goal.push_reserved-requires-in-loop-ahead
-push_reserved-requires-in-loop-ahead c =
+push_reserved-requires-in-loop-ahead g c =
     let a = c.load-ahead.result in
     let code = c.in-Some.ensures in
     let free = room_for_one a.count (a.loaded / 2 ^ (64 - a.count)) c.in-Some.code.byte c.in-Some.code.bits
@@ -43,7 +45,7 @@ push_reserved-requires-in-loop-ahead c =
     omega (arith, free)
 
 pub loop-ahead-preserved-then-bits-ahead : goal.loop-ahead-preserved-then-bits-ahead
-loop-ahead-preserved-then-bits-ahead c =
+loop-ahead-preserved-then-bits-ahead g c =
     let now = bits_ahead c.loop-ahead.ahead in
     let a = c.load-ahead.result in
     let few = c.load-ahead.ensures.ahead.few in
@@ -66,10 +68,12 @@ loop-ahead-preserved-then-bits-ahead c =
       passes = one_passed (bits_of_bytes c.args.payload.now) now left c.args.text.items c.loop-ahead.text.items
           c.push_reserved.new.self.items _ c.loop-ahead.invariant.passes (code.byte_is c.if-bits-ahead.true) front
           c.push_reserved.ensures.items;
+      len = omega (arith, c.push_reserved.ensures.len, c.loop-ahead.invariant.len);
+      capacity = c.push_reserved.ensures.capacity ∙ c.loop-ahead.invariant.capacity;
     }
 
 pub loop-ahead-preserved : goal.loop-ahead-preserved
-loop-ahead-preserved c =
+loop-ahead-preserved g c =
     let now = bits_ahead c.loop-ahead.ahead in
     let pass = c.pass-ahead-in-loop-ahead in
     let push = c.push_reserved-in-loop-ahead in
@@ -93,4 +97,6 @@ loop-ahead-preserved c =
       passes = one_passed (bits_of_bytes c.args.payload.now) now left c.args.text.items c.loop-ahead.text.items
           push.new.self.items c.in-Some.code.byte c.loop-ahead.invariant.passes (code.1.byte_is code.0) front
           push.ensures.items;
+      len = omega (arith, push.ensures.len, c.loop-ahead.invariant.len);
+      capacity = push.ensures.capacity ∙ c.loop-ahead.invariant.capacity;
     }
