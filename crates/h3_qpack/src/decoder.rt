@@ -31,6 +31,7 @@ mod instructions;
 mod sections;
 
 pub use crate::decoder::connection::{Decoder, ack_header, stream_canceled};
+pub use crate::decoder::instructions::take_instruction;
 
 /// The fields of a block.
 #[derive(Debug, PartialEq, Drop)]

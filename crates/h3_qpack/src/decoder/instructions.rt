@@ -39,8 +39,10 @@ pub(super) fn take_instructions(
     Ok(())
 }
 
-/// Takes the instruction at the cursor and moves past it; answers whether one stood whole.
-fn take_instruction(table: &mut DynamicTable, buf: &mut Cursor) -> Result<bool, DecoderError>
+/// Takes the encoder instruction at the cursor and moves past it (RFC 9204, section 4.3); answers whether one stood
+/// whole. Refused, the table is as before; the cursor moves past the instruction exactly if the table refuses it for
+/// what it asks.
+pub fn take_instruction(table: &mut DynamicTable, buf: &mut Cursor) -> Result<bool, DecoderError>
     ensures takes { TakesNext table.old table.new buf.old.rest buf.new.rest result }
     ensures total { buf.new.total ≡ buf.old.total }
 {
