@@ -1,0 +1,4 @@
+pub mod FieldSections
+pub mod Lines
+pub mod Sections
+pub mod Receiving

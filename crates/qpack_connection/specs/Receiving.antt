@@ -1,0 +1,128 @@
+-- What a strict decoder makes of the bytes of the encoder stream, which are handed in once and cut anywhere (RFC 9204,
+-- section 4.3).
+use Rattle.std.specs.Prelude.{◌≡◌, ◌<◌, ◌≤◌, ℕ, ⊤, ◌⊎◌, Bool, true, false, ◌&&◌, if◌then◌else◌, nat_eq, nat_le}
+use Rattle.std.specs.Prelude.{◌+◌, ◌*◌, List, [], ◌∷◌, ◌++◌, length, Some, Result, Ok, Err}
+use Rattle.qpack_spec.specs.Bytes.{Begins}
+use Rattle.qpack_spec.specs.Form.{FormFault, Truncates}
+use Rattle.qpack_spec.specs.Instruction.{EncoderInstruction, InsertStaticName, InsertDynamicName, InsertLiteralName}
+use Rattle.qpack_spec.specs.Instruction.{encoder_instruction_form, SpellsEncoderInstruction, RefusesEncoderInstruction}
+use Rattle.qpack_spec.specs.Table.{Table, apply_encoder_instruction}
+use Rattle.qpack_spec.specs.Taking.{TakesAllOf}
+use Rattle.qpack_spec.specs.Wanted.{wanted, least_field_size}
+use Rattle.qpack_spec.specs.Window.{TableRefusal, DoesNotFit}
+use Rattle.h3_qpack.specs.Receiving.{refusal_of, AsksToTake}
+use Rattle.h3_qpack.specs.Sections.{form_fault_of}
+use Rattle.h3_qpack.specs.Taking.{TakesNextOf, EndsTakingOf}
+use Rattle.h3_qpack.specs.declared.decoder.DecoderError.{DecoderError}
+use Rattle.h3_qpack.specs.declared.decoder.DecoderError.TheVariants.{Memory}
+
+-- ---- one instruction
+
+-- whether an instruction inserts a field that it spells (sections 4.3.2 and 4.3.3)
+abbrev pub inserts : EncoderInstruction → Bool
+inserts (InsertStaticName index value) = true
+inserts (InsertDynamicName relative value) = true
+inserts (InsertLiteralName name value) = true
+inserts i = false
+
+-- what a strict decoder makes of an instruction: at capacity 0 no insertion is lawful (section 3.2.2)
+unfoldable pub strict_apply : Table → EncoderInstruction → Result Table TableRefusal
+strict_apply t i = if nat_eq t.capacity 0 && inserts i then Err DoesNotFit else apply_encoder_instruction t i
+
+-- the bytes begin such an insertion: their first bits are 01, 10 or 11 (sections 4.3.2 and 4.3.3)
+abbrev pub begins_insertion : List ℕ → Bool
+begins_insertion [] = false
+begins_insertion (b ∷ bytes) = nat_le 64 b
+
+-- the bytes begin an insertion, and none is lawful
+abbrev pub begins_unlawfully : Table → List ℕ → Bool
+begins_unlawfully t bytes = nat_eq t.capacity 0 && begins_insertion bytes
+
+-- ---- why the stream is refused
+
+-- why the stream is refused at these bytes: they are no instruction; the instruction is not to be applied; it begins an
+-- insertion at capacity 0; or it is truncated, and what it grows to is larger than the capacity
+pub data Refuses (t : Table) (rest : List ℕ) (e : DecoderError) : Type 0 where
+  bad_bytes : (fault : FormFault) → Begins (λ encoding. RefusesEncoderInstruction encoding fault) rest
+      → form_fault_of e ≡ Some fault → Refuses t rest e
+  bad_instruction : (i : EncoderInstruction) (refusal : TableRefusal)
+      → Begins (λ encoding. SpellsEncoderInstruction encoding i) rest
+      → strict_apply t i ≡ Err refusal → refusal_of e ≡ Some refusal → Refuses t rest e
+  no_capacity : t.capacity ≡ 0 → begins_insertion rest ≡ true → refusal_of e ≡ Some DoesNotFit → Refuses t rest e
+  too_large : Truncates encoder_instruction_form rest → t.capacity < least_field_size rest
+      → refusal_of e ≡ Some DoesNotFit → Refuses t rest e
+
+-- why an instruction is not taken: memory is refused, and then the bytes are left; or the stream is
+abbrev pub StopsStrictly : Table → List ℕ → List ℕ → DecoderError → Type 0
+StopsStrictly t rest left e = (AsksToTake t rest × (e ≡ Memory) × (left ≡ rest)) ⊎ Refuses t rest e
+
+-- an instruction is taken, or none stands whole, or it is not taken
+abbrev pub TakesNextStrictly : Table → Table → List ℕ → List ℕ → Result Bool DecoderError → Type 0
+TakesNextStrictly old new rest left r =
+    TakesNextOf encoder_instruction_form strict_apply StopsStrictly old new rest left r
+
+-- the instructions at the front of the bytes are taken, until none stands whole or one is not taken
+abbrev pub TakesAllStrictly : Table → Table → List ℕ → List ℕ → Result ⊤ DecoderError → Type 0
+TakesAllStrictly old new bytes left r =
+    TakesAllOf encoder_instruction_form strict_apply old new bytes
+    (λ front rest. EndsTakingOf encoder_instruction_form StopsStrictly new rest left r)
+
+-- ---- what waits
+
+-- what waits of the stream: bytes of an instruction that is not whole and whose field may fit
+pub record MayGrow (t : Table) (pending : List ℕ) : Type 0 where
+  pub cut : Truncates encoder_instruction_form pending
+  pub fits : least_field_size pending ≤ t.capacity
+
+-- what waits is short: fewer than four bytes for each byte of the capacity, and ten more
+abbrev pub IsShort : Table → List ℕ → Type 0
+IsShort t pending = length pending < 4 * t.capacity + 10
+
+-- a stream that is received: the bytes that wait, and how many of them there must be before they are read again; 0
+-- where they are read in any case
+pub record StreamView : Type 0 where
+  pub pending : List ℕ
+  pub wanted : ℕ
+
+-- the number of bytes that are wanted before what waits can be whole, or the refusal of a field that can't fit
+abbrev pub FindsWanted : Table → List ℕ → Result ℕ DecoderError → Type 0
+FindsWanted t pending (Ok many) = MayGrow t pending × (many ≤ wanted pending) × IsShort t pending
+FindsWanted t pending (Err e) = Refuses t pending e
+
+-- all bytes that were handed in so far are instructions that were taken in turn, and behind them these wait
+abbrev pub HasReceived : Table → Table → List ℕ → List ℕ → Type 0
+HasReceived start now bytes pending =
+    TakesAllOf encoder_instruction_form strict_apply start now bytes
+    (λ front rest. (rest ≡ pending) × MayGrow now rest)
+
+-- if a number of bytes is wanted, those that wait may grow, and nothing is whole before that number
+abbrev pub Waits : Table → StreamView → Type 0
+Waits now s = 0 < s.wanted → MayGrow now s.pending × (s.wanted ≤ wanted s.pending)
+
+-- the same of a stream that is to be received further: where memory was refused, what waits may be whole
+abbrev pub Receives : Table → Table → List ℕ → StreamView → Type 0
+Receives start now bytes s =
+    TakesAllOf encoder_instruction_form strict_apply start now bytes
+    (λ front rest. (rest ≡ s.pending) × Waits now s)
+
+-- memory was refused: for the bytes, which are left, and nothing changed; or for the instruction at the front of what
+-- waits, the bytes being taken in
+abbrev pub WantsMemory : Table → Table → Table → List ℕ → List ℕ → List ℕ → StreamView → StreamView → Type 0
+WantsMemory start old new before bytes left s u =
+    ((left ≡ bytes) × (new ≡ old) × (u ≡ s))
+    ⊎ ((left ≡ []) × AsksToTake new u.pending × Receives start new (before ++ bytes) u)
+
+-- the bytes up to an instruction are instructions that were taken, and there the stream is refused
+abbrev pub HasRefused : Table → Table → List ℕ → DecoderError → Type 0
+HasRefused start now bytes e =
+    TakesAllOf encoder_instruction_form strict_apply start now bytes (λ front rest. Refuses now rest e)
+
+-- what a call makes of bytes behind those before them, of which these are left: all are received, and few wait; or
+-- memory is refused; or the stream is
+abbrev pub ReceivesMore : Table → Table → Table → List ℕ → List ℕ → List ℕ → StreamView → StreamView
+    → Result ⊤ DecoderError → Type 0
+ReceivesMore start old new before bytes left s u (Ok done) =
+    (left ≡ []) × HasReceived start new (before ++ bytes) u.pending × Receives start new (before ++ bytes) u
+    × IsShort new u.pending
+ReceivesMore start old new before bytes left s u (Err e) =
+    ((e ≡ Memory) × WantsMemory start old new before bytes left s u) ⊎ HasRefused start new (before ++ bytes) e

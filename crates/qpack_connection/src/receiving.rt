@@ -1,0 +1,149 @@
+//! The encoder stream as a strict decoder receives it: handed in once, cut anywhere (RFC 9204, section 4.3).
+
+ghost use Rattle.std.specs.Prelude.{◌≡◌, ℕ, [], List, length};
+ghost use Rattle.qpack_spec.specs.Form.{Truncates};
+ghost use Rattle.qpack_spec.specs.Instruction.{encoder_instruction_form};
+ghost use Rattle.qpack_spec.specs.Table.{Table};
+ghost use Rattle.qpack_connection.specs.Receiving.{begins_unlawfully, TakesNextStrictly, TakesAllStrictly, FindsWanted};
+ghost use Rattle.qpack_connection.specs.Receiving.{Receives, ReceivesMore};
+ghost use Rattle.qpack_table.specs.declared.dynamic.Error.TheVariants.{MaxTableSizeReached};
+ghost use Rattle.h3_qpack.specs.declared.decoder.DecoderError.TheVariants.{DynamicTable as DynamicTableError};
+
+use h3_qpack::decoder::{DecoderError, take_instruction};
+use qpack_base::coding::Cursor;
+use qpack_table::dynamic::{self, DynamicTable};
+use qpack_wire::stream;
+use std::alloc::Global;
+use std::marker::Model;
+
+/// The least first byte of an instruction that inserts a field that it spells.
+const LEAST_INSERTION: u8 = 64;
+
+/// The encoder stream, as far as it was received: what waits of it, and no table, which each call is lent.
+#[derive(Debug, Drop)]
+pub struct EncoderStream {
+    /// The bytes that were received and not taken: of an instruction that is not whole, or wants memory.
+    pending: Vec<u8>,
+    /// How many bytes there must be before they are read again; 0 where they are read in any case.
+    wanted: usize,
+}
+
+impl Model for EncoderStream {
+    ghost use Rattle.qpack_connection.specs.Receiving.{StreamView};
+
+    ghost Value = { StreamView };
+
+    ghost view = { λ s. record { pending = s.pending.items; wanted = s.wanted } };
+}
+
+impl EncoderStream {
+    /// A stream of which nothing was received. Takes no memory.
+    pub fn new(alloc: Global) -> EncoderStream
+        ensures { (table : Table) → Receives table table [] result }
+    {
+        EncoderStream {
+            pending: Vec::new(alloc),
+            wanted: 0,
+        }
+    }
+
+    /// How many bytes wait: those of an instruction that is not whole, and where memory was refused those behind it
+    /// too.
+    pub fn waiting(&self) -> usize
+        ensures { result ≡ length self.now.pending }
+    {
+        self.pending.len()
+    }
+
+    /// Receives the bytes that the cursor has left, which follow on the stream, and applies each instruction that
+    /// stands whole by now. A rest that is not whole is kept: fewer than four bytes for each byte of the capacity, and
+    /// ten more.
+    ///
+    /// Refused is an instruction whose bytes are (`InvalidInteger`, `InvalidString`), that names nothing
+    /// (`InvalidStaticIndex`, `DynamicTable`), or that the table refuses (`DynamicTable`), where also an insertion at
+    /// capacity 0 is refused, by its first byte, and a truncated one once its field can't fit. Then the table is as
+    /// before that instruction, and what waits is unspecified. Where memory is refused for the bytes, nothing changes,
+    /// and the cursor stays; for an instruction, the bytes are taken in and those before it stay applied. So after want
+    /// of memory what the cursor has left is offered again, be it nothing.
+    pub fn receive(
+        &mut self,
+        table: &mut DynamicTable,
+        buf: &mut Cursor,
+    ) -> Result<(), DecoderError>
+        ensures receives { (start : Table) (before : List ℕ) → Receives start table.old before self.old
+            → ReceivesMore start table.old table.new before buf.old.rest buf.new.rest self.old self.new result }
+        ensures total { buf.new.total ≡ buf.old.total }
+    {
+        let wanted = self.wanted;
+        self.pending.extend_from_slice(buf.chunk())?;
+        buf.advance(buf.remaining());
+        self.wanted = 0;
+        if self.pending.len() >= wanted {
+            take_whole(table, &mut self.pending)?;
+        }
+        self.wanted = find_wanted(table, &self.pending)?;
+        Ok(())
+    }
+}
+
+/// Takes all instructions that stand whole at the front of the bytes, and drops their bytes. At the first one that is
+/// refused it ends; for memory, its bytes are kept.
+fn take_whole(table: &mut DynamicTable, pending: &mut Vec<u8>) -> Result<(), DecoderError>
+    ensures { TakesAllStrictly table.old table.new pending.old.items pending.new.items result }
+{
+    let mut buf = Cursor::new(pending);
+    let taken = take_all_strictly(table, &mut buf);
+    let passed = buf.position();
+    pending.drain(..passed);
+    taken
+}
+
+/// Takes all instructions that stand whole at the cursor, and moves past them. At the first one that is refused it
+/// ends; for memory, the cursor stays before that.
+fn take_all_strictly(table: &mut DynamicTable, buf: &mut Cursor) -> Result<(), DecoderError>
+    ensures takes { TakesAllStrictly table.old table.new buf.old.rest buf.new.rest result }
+    ensures total { buf.new.total ≡ buf.old.total }
+{
+    while take_strictly(table, buf)? {}
+    Ok(())
+}
+
+/// Takes the instruction at the cursor and moves past it; answers whether one stood whole. At capacity 0 an insertion
+/// is refused by its first byte.
+fn take_strictly(table: &mut DynamicTable, buf: &mut Cursor) -> Result<bool, DecoderError>
+    ensures takes { TakesNextStrictly table.old table.new buf.old.rest buf.new.rest result }
+    ensures total { buf.new.total ≡ buf.old.total }
+{
+    if begins_unlawfully(table, buf.chunk()) {
+        return Err(does_not_fit());
+    }
+    take_instruction(table, buf)
+}
+
+/// Whether the bytes begin an insertion at capacity 0 (RFC 9204, section 3.2.2).
+fn begins_unlawfully(table: &DynamicTable, bytes: &[u8]) -> bool
+    ensures { result ≡ begins_unlawfully table.now bytes.now }
+{
+    match bytes.first() {
+        Some(first) => table.max_mem_size() == 0 && *first >= LEAST_INSERTION,
+        None => false,
+    }
+}
+
+/// How many bytes there must be before an instruction can stand there that is truncated yet. Refused if its field can't
+/// fit.
+fn find_wanted(table: &DynamicTable, pending: &[u8]) -> Result<usize, DecoderError>
+    ensures { Truncates encoder_instruction_form pending.now → FindsWanted table.now pending.now result }
+{
+    if stream::least_field_size(pending) > table.max_mem_size() {
+        return Err(does_not_fit());
+    }
+    Ok(stream::wanted(pending))
+}
+
+/// The error that a field does not fit.
+fn does_not_fit() -> DecoderError
+    ensures { result ≡ DynamicTableError MaxTableSizeReached }
+{
+    DecoderError::DynamicTable(dynamic::Error::MaxTableSizeReached)
+}

@@ -1,0 +1,10 @@
+//! What no clause of `qpack_connection` says, through public calls: printed texts, worked cases, and calls where memory
+//! is refused.
+#![tactic(auto)]
+
+#[cfg(test)]
+mod receiving;
+#[cfg(test)]
+mod sections;
+#[cfg(test)]
+mod texts;

@@ -1,0 +1,77 @@
+//! What errors are printed as.
+
+use h3_qpack::{DecoderError, prefix_int};
+use qpack_connection::{DECOMPRESSION_FAILED, LineError, SectionError, longest_section};
+use qpack_testing::{prints, same};
+use std::test::Fail;
+
+#[test]
+fn errors_are_printed(rt: HostRuntime) -> Result<(), Fail> {
+    let alloc = rt.alloc();
+    prints(alloc, &SectionError::TooLong, "field section too long")?;
+    let error = DecoderError::InvalidInteger(prefix_int::Error::Overflow);
+    prints(
+        alloc,
+        &SectionError::Prefix(error),
+        "in the prefix: invalid integer: value overflow",
+    )?;
+    prints(
+        alloc,
+        &SectionError::CountAtZero,
+        "a required insert count at maximum capacity 0",
+    )?;
+    let line = SectionError::Line {
+        number: 3,
+        offset: 17,
+        error: LineError::PastRequired(4),
+    };
+    prints(
+        alloc,
+        &line,
+        "in line 3 at offset 17: reference to entry 4, past the required insert count",
+    )?;
+    let error = DecoderError::InvalidStaticIndex(99);
+    prints(
+        alloc,
+        &LineError::Meaningless(error),
+        "unknown static index: 99",
+    )?;
+    prints(
+        alloc,
+        &LineError::TooLarge(84),
+        "field section of 84 bytes or more",
+    )?;
+    prints(alloc, &LineError::Memory, "out of memory")?;
+    prints(alloc, &SectionError::Memory, "out of memory")
+}
+
+#[test]
+fn the_longest_section_is_told(_rt: HostRuntime) -> Result<(), Fail> {
+    same(longest_section(0), 20)?;
+    same(longest_section(42), 188)?;
+    same(longest_section(u64::MAX / 4), u64::MAX)?;
+    same(longest_section(u64::MAX), u64::MAX)
+}
+
+/// A line's error.
+fn in_line(error: LineError) -> SectionError {
+    SectionError::Line {
+        number: 1,
+        offset: 2,
+        error,
+    }
+}
+
+#[test]
+fn errors_that_end_the_connection_have_its_code(_rt: HostRuntime) -> Result<(), Fail> {
+    same(DECOMPRESSION_FAILED, 0x200)?;
+    same(SectionError::CountAtZero.code(), Some(0x200))?;
+    let error = DecoderError::InvalidInteger(prefix_int::Error::Overflow);
+    same(SectionError::Prefix(error).code(), Some(0x200))?;
+    same(in_line(LineError::PastRequired(1)).code(), Some(0x200))?;
+    let error = DecoderError::InvalidStaticIndex(99);
+    same(in_line(LineError::Meaningless(error)).code(), Some(0x200))?;
+    same(in_line(LineError::TooLarge(84)).code(), None)?;
+    same(SectionError::TooLong.code(), None)?;
+    same(SectionError::Memory.code(), None)
+}
