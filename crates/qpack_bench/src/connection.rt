@@ -1,17 +1,26 @@
-//! Connections with a dynamic table: field sections encoded, their instructions received, the blocks decoded and
-//! acknowledged, and the decoder's instructions taken.
+//! Connections with a dynamic table: field sections encoded, their instructions received, the blocks decoded, read
+//! strictly and acknowledged, and the decoder's instructions taken.
 
+use crate::strict;
 use anyhow::Result;
 use h3_qpack::HeaderField;
 use h3_qpack::coding::Cursor;
 use h3_qpack::decoder::{Decoder, ack_header};
 use h3_qpack::dynamic::DynamicTable;
 use h3_qpack::encoder::Encoder;
+use qpack_connection::FieldSection;
 use std::alloc::Global;
 use std::time::Instant;
 
 /// What is done with each list, in this order.
-const PHASES: [&str; 5] = ["encode", "receive", "decode", "acknowledge", "hear"];
+const PHASES: [&str; 6] = [
+    "encode",
+    "receive",
+    "decode",
+    "strict decode",
+    "acknowledge",
+    "hear",
+];
 
 /// How many blocks may be blocked.
 const BLOCKED: usize = 100;
@@ -20,7 +29,7 @@ const BLOCKED: usize = 100;
 #[derive(Drop)]
 struct Clock {
     last: Instant,
-    nanos: [u128; 5],
+    nanos: [u128; 6],
 }
 
 impl Clock {
@@ -36,7 +45,7 @@ impl Clock {
     }
 }
 
-/// How many bytes were written, and how many blocks decoded as the fields that were encoded.
+/// How many bytes were written, and how many blocks decoded as the fields that were encoded, also strictly.
 #[derive(Clone, Copy)]
 struct Counts {
     blocks: usize,
@@ -53,6 +62,7 @@ struct Connection {
     block: Vec<u8>,
     encoder_stream: Vec<u8>,
     decoder_stream: Vec<u8>,
+    fields: FieldSection,
 }
 
 /// An empty table of this capacity.
@@ -78,10 +88,11 @@ impl Connection {
             block: Vec::new(alloc),
             encoder_stream: Vec::new(alloc),
             decoder_stream: Vec::new(alloc),
+            fields: FieldSection::new(alloc),
         }
     }
 
-    /// All phases of one list; whether it was decoded as it was encoded.
+    /// All phases of one list; whether it was decoded as it was encoded, also strictly.
     fn exchange(
         &mut self,
         rt: &HostRuntime,
@@ -91,8 +102,16 @@ impl Connection {
     ) -> Result<bool> {
         self.send(rt, stream_id, list, clock)?;
         let decoded = self.decoder.decode_header(&mut Cursor::new(&self.block))?;
+        clock.lap(rt, 2)?;
+        self.read(rt, clock)?;
         self.answer(rt, stream_id, decoded.dyn_ref, clock)?;
-        Ok(decoded.fields == *list)
+        Ok(decoded.fields == *list && strict::are_of(&self.fields, list))
+    }
+
+    /// The phase in which a block is read strictly.
+    fn read(&mut self, rt: &HostRuntime, clock: &mut Clock) -> Result<()> {
+        strict::read(self.decoder.table(), &self.block, &mut self.fields)?;
+        clock.lap(rt, 3)
     }
 
     /// The phases before a block is decoded.
@@ -129,14 +148,13 @@ impl Connection {
         is_dynamic: bool,
         clock: &mut Clock,
     ) -> Result<()> {
-        clock.lap(rt, 2)?;
         if is_dynamic {
             ack_header(stream_id, &mut self.decoder_stream)?;
         }
-        clock.lap(rt, 3)?;
+        clock.lap(rt, 4)?;
         self.encoder
             .on_decoder_recv(&mut Cursor::new(&self.decoder_stream))?;
-        clock.lap(rt, 4)
+        clock.lap(rt, 5)
     }
 }
 
@@ -201,14 +219,15 @@ pub(crate) fn tell(
 ) -> Result<()> {
     let mut clock = Clock {
         last: Instant::now(rt)?,
-        nanos: [0; 5],
+        nanos: [0; 6],
     };
     let counts = connect(rt, alloc, lists, capacity, &mut clock)?;
     println!(rt;
-        "capacity {capacity}: {} blocks decoded as encoded; bytes: {} of blocks, {} and {} of both streams",
+        "capacity {capacity}: {} blocks decoded as encoded, also strictly; \
+            bytes: {} of blocks, {} and {} of both streams",
         counts.decoded, counts.blocks, counts.encoder_stream, counts.decoder_stream
     )?;
-    clock.nanos = [0; 5];
+    clock.nanos = [0; 6];
     for _ in 0..rounds {
         connect(rt, alloc, lists, capacity, &mut clock)?;
     }

@@ -8,6 +8,7 @@ mod corpus;
 mod inspected;
 mod mutated;
 mod replay;
+mod strict;
 mod table;
 mod timing;
 

@@ -1,12 +1,14 @@
 //! Connections as another encoder wrote them, received and decoded.
 
 use crate::corpus::{UNREADABLE, fields_size, parts_of};
+use crate::strict;
 use anyhow::{Context, Result, ensure};
 use h3_qpack::coding::Cursor;
 use h3_qpack::decoder::Decoder;
 use h3_qpack::dynamic::DynamicTable;
 use h3_qpack::stream::{DecoderLine, InsertCountIncrement, next_line};
 use h3_qpack::{Decoded, DecoderError, HeaderField};
+use qpack_connection::FieldSection;
 use std::alloc::Global;
 
 /// The receiving end of a recorded connection.
@@ -59,10 +61,18 @@ impl Receiver {
         self.decoder.decode_header(&mut Cursor::new(block))
     }
 
-    /// Whether a block is read as the fields of a list, with the sum of their sizes.
-    fn is_block_of(&self, list: &Vec<HeaderField>, block: &[u8]) -> Result<bool> {
+    /// Whether a block is read as the fields of a list, with the sum of their sizes, and strictly too.
+    fn is_block_of(&self, alloc: Global, list: &Vec<HeaderField>, block: &[u8]) -> Result<bool> {
         let decoded = self.decode(block)?;
-        Ok(decoded.fields == *list && decoded.mem_size == fields_size(list))
+        let is_alike = decoded.fields == *list && decoded.mem_size == fields_size(list);
+        Ok(is_alike && self.is_read_strictly(alloc, list, block)?)
+    }
+
+    /// Whether a block is read strictly as the fields of a list.
+    fn is_read_strictly(&self, alloc: Global, list: &[HeaderField], block: &[u8]) -> Result<bool> {
+        let mut fields = FieldSection::new(alloc);
+        strict::read(self.table(), block, &mut fields)?;
+        Ok(strict::are_of(&fields, list))
     }
 
     /// The decoder's table.
@@ -95,8 +105,8 @@ impl Receiver {
 }
 
 /// Receives a recorded connection, its encoder stream in pieces of so many bytes, and decodes each block as it comes.
-/// Answers how many blocks were read as the fields of their lists, with the sum of their sizes. Fails at a refusal, and
-/// where the increments do not add up to the insertions.
+/// Answers how many blocks were read as the fields of their lists, with the sum of their sizes, and strictly too. Fails
+/// at a refusal, and where the increments do not add up to the insertions.
 pub(crate) fn replay(
     alloc: Global,
     lists: &[Vec<HeaderField>],
@@ -141,7 +151,7 @@ fn is_read_alike(
     let bytes = hex::decode(alloc, digits)?;
     if is_section {
         let list = lists.get(stream_id / 4).context(UNREADABLE)?;
-        return receiver.is_block_of(list, &bytes);
+        return receiver.is_block_of(alloc, list, &bytes);
     }
     let refused = receiver.deliver(&bytes, piece)?;
     ensure!(refused.is_none(), "an instruction was refused");

@@ -1,10 +1,13 @@
 //! Times of many rounds over the lists.
 
 use crate::corpus::{fields_len, text_len};
+use crate::strict;
 use anyhow::Result;
 use h3_qpack::coding::Cursor;
+use h3_qpack::dynamic::DynamicTable;
 use h3_qpack::prefix_string::{self, HpackStringDecode, HpackStringEncode};
 use h3_qpack::{HeaderField, decode_stateless, encode_stateless};
+use qpack_connection::FieldSection;
 use std::alloc::Global;
 use std::time::Instant;
 
@@ -45,7 +48,24 @@ fn time_blocks(
     let blocks = blocks_of(alloc, lists)?;
     let start = Instant::now(rt)?;
     let read = decode_rounds(alloc, &blocks, rounds)?;
-    tell(rt, "decode", work, start, read)
+    tell(rt, "decode", work, start, read)?;
+    let table = DynamicTable::new(alloc);
+    time_sections(rt, alloc, &table, &blocks, work, rounds)
+}
+
+/// Times blocks read strictly, into memory that is kept.
+fn time_sections(
+    rt: &HostRuntime,
+    alloc: Global,
+    table: &DynamicTable,
+    blocks: &[Vec<u8>],
+    work: Work,
+    rounds: u64,
+) -> Result<()> {
+    let mut fields = FieldSection::new(alloc);
+    let start = Instant::now(rt)?;
+    let read = section_rounds(table, blocks, &mut fields, rounds)?;
+    tell(rt, "strict decode", work, start, read)
 }
 
 /// Times the Huffman code alone, over all names and values, and string literals. In all rounds they have so many bytes.
@@ -174,6 +194,23 @@ fn decode_rounds(alloc: Global, blocks: &[Vec<u8>], rounds: u64) -> Result<u64> 
     for _ in 0..rounds {
         for block in blocks {
             read = read.saturating_add(decoded_size(alloc, block.as_slice())?);
+        }
+    }
+    Ok(read)
+}
+
+/// Reads the blocks strictly again and again; how many fields were read.
+fn section_rounds(
+    table: &DynamicTable,
+    blocks: &[Vec<u8>],
+    fields: &mut FieldSection,
+    rounds: u64,
+) -> Result<u64> {
+    let mut read = 0u64;
+    for _ in 0..rounds {
+        for block in blocks {
+            strict::read(table, block.as_slice(), fields)?;
+            read = read.saturating_add(fields.len() as u64);
         }
     }
     Ok(read)

@@ -29,7 +29,7 @@ pub(crate) fn tell(meter: &Meter, alloc: Global, size: usize) -> Result<()> {
 }
 
 /// A decoder with one entry, whose name has so many bytes and whose value is empty.
-fn with_large_entry(alloc: Global, size: usize) -> Result<Decoder> {
+pub(crate) fn with_large_entry(alloc: Global, size: usize) -> Result<Decoder> {
     let name = Vec::from_elem(alloc, b'a', size)?;
     let mut stream = Vec::new(alloc);
     write_insertion(&name, b"", &mut stream)?;
@@ -57,7 +57,7 @@ fn tell_lines_of(meter: &Meter, alloc: Global, size: usize, decoder: &Decoder) -
 }
 
 /// Writes a byte so often.
-fn push_often(byte: u8, count: usize, block: &mut Vec<u8>) -> Result<()> {
+pub(crate) fn push_often(byte: u8, count: usize, block: &mut Vec<u8>) -> Result<()> {
     for _ in 0..count {
         block.push(byte)?;
     }
@@ -164,7 +164,7 @@ fn capacities(alloc: Global, count: usize) -> Result<Vec<u8>> {
 }
 
 /// A decoder that received so many small entries.
-fn with_small_entries(alloc: Global, size: usize) -> Result<Decoder> {
+pub(crate) fn with_small_entries(alloc: Global, size: usize) -> Result<Decoder> {
     let mut stream = Vec::new(alloc);
     for _ in 0..size {
         write_insertion(b"a", b"b", &mut stream)?;

@@ -61,10 +61,19 @@ pub(crate) fn stateless_size(alloc: Global, block: &[u8]) -> Result<u64> {
 
 /// The prefix of a block that requires all that a decoder inserted, which is its base too (RFC 9204, section 4.5.1).
 pub(crate) fn prefix_of(alloc: Global, decoder: &Decoder) -> Result<Vec<u8>> {
-    let table = decoder.table();
-    let entries = (table.agreed_max() / 32) as u64;
-    let required = table.total_inserted() as u64;
-    let rest = required.checked_rem(entries.saturating_mul(2)).unwrap_or(0);
+    prefix_requiring(alloc, decoder, decoder.table().total_inserted())
+}
+
+/// The prefix of a block that requires so much, which is its base too.
+pub(crate) fn prefix_requiring(
+    alloc: Global,
+    decoder: &Decoder,
+    required: usize,
+) -> Result<Vec<u8>> {
+    let entries = (decoder.table().agreed_max() / 32) as u64;
+    let rest = (required as u64)
+        .checked_rem(entries.saturating_mul(2))
+        .unwrap_or(0);
     let mut block = Vec::new(alloc);
     prefix_int::encode(8, 0, rest.saturating_add(1), &mut block)?;
     prefix_int::encode(7, 0, 0, &mut block)?;

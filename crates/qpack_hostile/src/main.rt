@@ -11,6 +11,7 @@ mod meter;
 mod pieces;
 mod sessions;
 mod short_lists;
+mod strict;
 mod strings;
 mod unacknowledged;
 
@@ -43,6 +44,7 @@ fn tell_all(meter: &Meter, alloc: Global, size: usize) -> Result<()> {
     unacknowledged::tell(meter, alloc, size)?;
     copies::tell(meter, alloc, size)?;
     pieces::tell(meter, alloc, size)?;
+    strict::tell(meter, alloc, size)?;
     sessions::tell(meter, alloc, size)
 }
 

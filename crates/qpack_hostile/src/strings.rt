@@ -35,14 +35,14 @@ fn tell_text(meter: &Meter, alloc: Global, label: &str, size: usize, text: &[u8]
 }
 
 /// A block of one field, whose value is coded.
-fn coded_block(alloc: Global, text: &[u8]) -> Result<Vec<u8>> {
+pub(crate) fn coded_block(alloc: Global, text: &[u8]) -> Result<Vec<u8>> {
     let mut block = Vec::from_slice(alloc, b"\0\0")?;
     Literal::write(b"n", text, &mut block)?;
     Ok(block)
 }
 
 /// A block of one field, whose value is plain and has so many bytes (RFC 9204, section 4.5.6).
-fn plain_block(alloc: Global, size: usize) -> Result<Vec<u8>> {
+pub(crate) fn plain_block(alloc: Global, size: usize) -> Result<Vec<u8>> {
     let mut block = Vec::from_slice(alloc, b"\0\0\x21n")?;
     prefix_int::encode(7, 0, size as u64, &mut block)?;
     for _ in 0..size {
