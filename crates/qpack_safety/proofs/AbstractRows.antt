@@ -31,7 +31,7 @@ decoder_instructions_of : AbstractSession → List ℕ
 decoder_instructions_of w = written_decoder_instructions w.decoder_in_flight
 
 session_after : ℕ → ℕ → List SmallStep → AbstractSession
-session_after capacity limit steps = after_steps steps (abstract_start capacity limit)
+session_after capacity limit steps = after_steps steps (abstract_start capacity capacity limit)
 
 -- all that has to unfold
 rows : ℕ
@@ -265,6 +265,12 @@ resize_written : (in_flight_of (session_after 64 4 (Resize 38 ∷ Encode 4 ((fie
     ∷ []))) ≡ 63 ∷ 7 ∷ 98 ∷ 148 ∷ 231 ∷ 131 ∷ 140 ∷ 118 ∷ 127 ∷ []
 unfolding rows
 resize_written = refl
+
+-- where capacity 0 stands first too
+resize_first : (in_flight_of (after_steps (Resize 38 ∷ Encode 4 ((field (codes "foo") (codes "bar")) ∷ []) ∷ [])
+    (abstract_start 0 64 4))) ≡ 63 ∷ 7 ∷ 98 ∷ 148 ∷ 231 ∷ 131 ∷ 140 ∷ 118 ∷ 127 ∷ []
+unfolding rows
+resize_first = refl
 
 -- the count is of the maximum capacity, whatever the capacity is
 resize_block : (block_on (session_after 64 4 (Resize 38 ∷ Encode 4 ((field (codes "foo") (codes "bar")) ∷ []) ∷ [])) 4)

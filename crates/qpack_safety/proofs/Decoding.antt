@@ -19,15 +19,16 @@ use Rattle.qpack_safety.proofs.Fronts.{filter_take, filter_take_more}
 use Rattle.qpack_safety.proofs.Hearing.{increments_cons_ack, increments_cons_cancel}
 use Rattle.qpack_safety.proofs.Invariant.{KeepsStream, Invariant, streams_update}
 
-pub inv_decoded : (capacity limit : ℕ) (w : AbstractSession) (s : ℕ) → Invariant capacity limit w
-    → Invariant capacity limit (record w {
+pub inv_decoded : (capacity maximum limit : ℕ) (w : AbstractSession) (s : ℕ) → Invariant capacity maximum limit w
+    → Invariant capacity maximum limit (record w {
       streams = with_stream w.streams s
           (record (stream_at w.streams s) { decoded = (stream_at w.streams s).decoded + 1 });
     })
-inv_decoded capacity limit w s k =
+inv_decoded capacity maximum limit w s k =
     let st = stream_at w.streams s in
     let old = k.streams s in
     record {
+      within = k.within;
       received = k.received;
       made = k.made;
       taken_leads = k.taken_leads;
@@ -38,7 +39,7 @@ inv_decoded capacity limit w s k =
       known_received_count = k.known_received_count;
       blocked = k.blocked;
       streams =
-          streams_update (λ (q : ℕ) (v : AbstractStream). KeepsStream capacity k.made (w.taken ++ w.in_flight)
+          streams_update (λ (q : ℕ) (v : AbstractStream). KeepsStream capacity maximum k.made (w.taken ++ w.in_flight)
           w.encoder.unacknowledged w.decoder_in_flight q v) w.streams s (record st { decoded = st.decoded + 1 })
           (record {
             acknowledged =
@@ -53,12 +54,12 @@ inv_decoded capacity limit w s k =
     }
 
 -- a stream at which a decoder_instruction of another is added
-decoder_instruction_other : (capacity : ℕ) (h : History) (encoder_stream : List EncoderInstruction)
+decoder_instruction_other : (capacity maximum : ℕ) (h : History) (encoder_stream : List EncoderInstruction)
     (unacknowledged : List UnacknowledgedBlock) (rs : List DecoderInstruction)
     (r : DecoderInstruction) (q : ℕ) (st : AbstractStream) → IsNoAck q r → IsNoCancel q r
-    → KeepsStream capacity h encoder_stream unacknowledged rs q st
-    → KeepsStream capacity h encoder_stream unacknowledged (rs ++ r ∷ []) q st
-decoder_instruction_other capacity h encoder_stream unacknowledged rs r q st a c k =
+    → KeepsStream capacity maximum h encoder_stream unacknowledged rs q st
+    → KeepsStream capacity maximum h encoder_stream unacknowledged (rs ++ r ∷ []) q st
+decoder_instruction_other capacity maximum h encoder_stream unacknowledged rs r q st a c k =
     record {
       acknowledged = k.acknowledged;
       fits = fits_other q rs r (length (open_of q unacknowledged)) a k.fits;
@@ -71,13 +72,13 @@ length_drops : {X Y : Type 0} (xs : List X) (ys : List Y) (n m : ℕ) → length
     → m < length ys → n < length xs
 length_drops xs ys n m e h = omega (arith, length-drop n xs, length-drop m ys)
 
-stream_acked : (capacity : ℕ) (h : History) (encoder_stream : List EncoderInstruction)
+stream_acked : (capacity maximum : ℕ) (h : History) (encoder_stream : List EncoderInstruction)
     (unacknowledged : List UnacknowledgedBlock) (rs : List DecoderInstruction)
     (s : ℕ) (st : AbstractStream) → waits_for_acknowledgment st ≡ true
-    → KeepsStream capacity h encoder_stream unacknowledged rs s st
-    → KeepsStream capacity h encoder_stream unacknowledged (rs ++ Acknowledgment s ∷ []) s
+    → KeepsStream capacity maximum h encoder_stream unacknowledged rs s st
+    → KeepsStream capacity maximum h encoder_stream unacknowledged (rs ++ Acknowledgment s ∷ []) s
     (record st { acknowledged = st.acknowledged + 1 })
-stream_acked capacity h encoder_stream unacknowledged rs s st t k =
+stream_acked capacity maximum h encoder_stream unacknowledged rs s st t k =
     let p = and_parts (not st.cancelled) (nat_lt st.acknowledged
     (length (filter is_dynamic (take st.decoded st.blocks)))) t in
     let live : st.cancelled ≡ false = not_true st.cancelled p.0 in
@@ -106,16 +107,17 @@ stream_acked capacity h encoder_stream unacknowledged rs s st t k =
     not_true true q = absurd (cc)
     not_true false q = refl
 
-pub inv_acked : (capacity limit : ℕ) (w : AbstractSession) (s : ℕ)
-    → waits_for_acknowledgment (stream_at w.streams s) ≡ true → Invariant capacity limit w
-    → Invariant capacity limit (record w {
+pub inv_acked : (capacity maximum limit : ℕ) (w : AbstractSession) (s : ℕ)
+    → waits_for_acknowledgment (stream_at w.streams s) ≡ true → Invariant capacity maximum limit w
+    → Invariant capacity maximum limit (record w {
       decoder_in_flight = w.decoder_in_flight ++ Acknowledgment s ∷ [];
       streams = with_stream w.streams s (record (stream_at w.streams s)
           { acknowledged = (stream_at w.streams s).acknowledged + 1 });
     })
-inv_acked capacity limit w s t k =
+inv_acked capacity maximum limit w s t k =
     let st = stream_at w.streams s in
     record {
+      within = k.within;
       received = k.received;
       made = k.made;
       taken_leads = k.taken_leads;
@@ -132,12 +134,13 @@ inv_acked capacity limit w s t k =
       );
       blocked = k.blocked;
       streams =
-          streams_update (λ (q : ℕ) (v : AbstractStream). KeepsStream capacity k.made (w.taken ++ w.in_flight)
+          streams_update (λ (q : ℕ) (v : AbstractStream). KeepsStream capacity maximum k.made (w.taken ++ w.in_flight)
           w.encoder.unacknowledged (w.decoder_in_flight ++ Acknowledgment s ∷ []) q v) w.streams s
           (record st { acknowledged = st.acknowledged + 1 })
-          (stream_acked capacity k.made (w.taken ++ w.in_flight) w.encoder.unacknowledged w.decoder_in_flight s st t
+          (stream_acked capacity maximum k.made
+          (w.taken ++ w.in_flight) w.encoder.unacknowledged w.decoder_in_flight s st t
           (k.streams s))
-          (λ q d. decoder_instruction_other capacity k.made
+          (λ q d. decoder_instruction_other capacity maximum k.made
           (w.taken ++ w.in_flight) w.encoder.unacknowledged w.decoder_in_flight
           (Acknowledgment s) q (stream_at w.streams q) d tt (k.streams q));
     }
@@ -145,15 +148,16 @@ inv_acked capacity limit w s t k =
     increments_nil : increment_sum [] ≡ 0
     increments_nil = increments_sum []
 
-pub inv_cancelled : (capacity limit : ℕ) (w : AbstractSession) (s : ℕ) → Invariant capacity limit w
-    → Invariant capacity limit (record w {
+pub inv_cancelled : (capacity maximum limit : ℕ) (w : AbstractSession) (s : ℕ) → Invariant capacity maximum limit w
+    → Invariant capacity maximum limit (record w {
       decoder_in_flight = w.decoder_in_flight ++ Cancellation s ∷ [];
       streams = with_stream w.streams s (record (stream_at w.streams s) { cancelled = true });
     })
-inv_cancelled capacity limit w s k =
+inv_cancelled capacity maximum limit w s k =
     let st = stream_at w.streams s in
     let old = k.streams s in
     record {
+      within = k.within;
       received = k.received;
       made = k.made;
       taken_leads = k.taken_leads;
@@ -170,7 +174,7 @@ inv_cancelled capacity limit w s k =
       );
       blocked = k.blocked;
       streams =
-          streams_update (λ (q : ℕ) (v : AbstractStream). KeepsStream capacity k.made (w.taken ++ w.in_flight)
+          streams_update (λ (q : ℕ) (v : AbstractStream). KeepsStream capacity maximum k.made (w.taken ++ w.in_flight)
           w.encoder.unacknowledged (w.decoder_in_flight ++ Cancellation s ∷ []) q v) w.streams s
           (record st { cancelled = true })
           (record {
@@ -181,7 +185,7 @@ inv_cancelled capacity limit w s k =
             quiet = λ c. absurd (cc);
             blocks = old.blocks;
           })
-          (λ q d. decoder_instruction_other capacity k.made
+          (λ q d. decoder_instruction_other capacity maximum k.made
           (w.taken ++ w.in_flight) w.encoder.unacknowledged w.decoder_in_flight
           (Cancellation s) q (stream_at w.streams q) tt d (k.streams q));
     }

@@ -40,9 +40,10 @@ one_applied w next l lines e =
     ap (λ (r : Result Table TableRefusal). r >>= λ u. apply_encoder_instructions u lines) (applied_put w l
     ∙ ap (λ (r : Result Window TableRefusal). r >>= λ x. (let q : Result Table TableRefusal = Ok (table_of x) in q)) e)
 
-pub takes_all : (capacity limit : ℕ) (w : AbstractSession) (lines still : List EncoderInstruction)
-    → Invariant capacity limit w → w.in_flight ≡ lines ++ still → Took w (after_steps (taking_all lines) w) lines still
-takes_all capacity limit w [] still k e =
+pub takes_all : (capacity maximum limit : ℕ) (w : AbstractSession) (lines still : List EncoderInstruction)
+    → Invariant capacity maximum limit w → w.in_flight ≡ lines ++ still
+    → Took w (after_steps (taking_all lines) w) lines still
+takes_all capacity maximum limit w [] still k e =
     record {
       t_taken = sym (append-nil w.taken);
       t_in_flight = e;
@@ -53,16 +54,17 @@ takes_all capacity limit w [] still k e =
       t_decoder_instructions = refl;
       t_streams = refl;
     }
-takes_all capacity limit w (l ∷ lines) still k e =
-    let s : Sound k.received = sound_received capacity limit w k in
+takes_all capacity maximum limit w (l ∷ lines) still k e =
+    let s : Sound k.received = sound_received capacity maximum limit w k in
     let t : Taking k.received k.made w.decoder l (lines ++ still) =
     taking k.received k.made w.decoder l (lines ++ still) s k.decoder
     (subst (λ (x : List EncoderInstruction). Leads k.received x k.made) e k.in_flight_leads) in
     let next : Window = window_of (history_after k.received t.effect_of) in
     let one : take_next w w.in_flight ≡ after_take w l (lines ++ still) (Ok next) =
     ap (take_next w) e ∙ ap (after_take w l (lines ++ still)) t.applies in
-    let k' : Invariant capacity limit (take_next w w.in_flight) = inv_takes capacity limit w w.in_flight refl k in
-    let r = takes_all capacity limit (take_next w w.in_flight) lines still k'
+    let k' : Invariant capacity maximum limit (take_next w w.in_flight) =
+    inv_takes capacity maximum limit w w.in_flight refl k in
+    let r = takes_all capacity maximum limit (take_next w w.in_flight) lines still k'
     (ap (λ (x : AbstractSession). x.in_flight) one) in
     let s' : Sound (history_after k.received t.effect_of) =
     sound_grown k.received t.effect_of s (allowed (window_of k.received) l t.effect_of t.is_effect) in
@@ -113,10 +115,10 @@ pub record Listens (w w' : AbstractSession) (lines still : List DecoderInstructi
   pub l_in_flight : w'.in_flight ≡ w.in_flight
   pub l_streams : w'.streams ≡ w.streams
 
-pub hears_all : (capacity limit : ℕ) (w : AbstractSession) (lines still : List DecoderInstruction)
-    → Invariant capacity limit w
+pub hears_all : (capacity maximum limit : ℕ) (w : AbstractSession) (lines still : List DecoderInstruction)
+    → Invariant capacity maximum limit w
     → w.decoder_in_flight ≡ lines ++ still → Listens w (after_steps (hearing_all lines) w) lines still
-hears_all capacity limit w [] still k e =
+hears_all capacity maximum limit w [] still k e =
     record {
       l_decoder_instructions = e;
       l_encoder = refl;
@@ -126,14 +128,15 @@ hears_all capacity limit w [] still k e =
       l_in_flight = refl;
       l_streams = refl;
     }
-hears_all capacity limit w (r ∷ lines) still k e =
-    let t = ok_of (apply_decoder_instruction w.encoder r) (hears_next capacity limit w k r (lines ++ still) e) in
+hears_all capacity maximum limit w (r ∷ lines) still k e =
+    let t = ok_of (apply_decoder_instruction w.encoder r)
+    (hears_next capacity maximum limit w k r (lines ++ still) e) in
     let one : hear_next w w.decoder_in_flight ≡ after_hear w (lines ++ still) (Ok t.0) =
     ap (hear_next w) e ∙ ap (after_hear w (lines ++ still)) t.1 in
-    let k' : Invariant capacity limit (hear_next w w.decoder_in_flight) =
-    inv_hears capacity limit w w.decoder_in_flight refl k in
+    let k' : Invariant capacity maximum limit (hear_next w w.decoder_in_flight) =
+    inv_hears capacity maximum limit w w.decoder_in_flight refl k in
     let rest =
-    hears_all capacity limit (hear_next w w.decoder_in_flight) lines still k'
+    hears_all capacity maximum limit (hear_next w w.decoder_in_flight) lines still k'
     (ap (λ (x : AbstractSession). x.decoder_in_flight) one) in
     record {
       l_decoder_instructions = rest.l_decoder_instructions;

@@ -43,21 +43,23 @@ piece_ends bytes front rest position most e order within =
 -- ---- to the decoder
 
 -- what a delivery's lines make of the session of values
-pub record Moved (capacity limit : ℕ) (v : Session) (w : AbstractSession) (n : ℕ) (lines : List EncoderInstruction)
+pub record Moved (capacity maximum limit : ℕ) (v : Session) (w : AbstractSession) (n : ℕ)
+    (lines : List EncoderInstruction)
     (front rest : List ℕ) (table : Table) : Type 0 where
   pub on : CarriesOn EncoderInstruction SpellsEncoderInstruction v.encoder_stream v.encoder_stream_taken w.taken
       w.in_flight lines front rest
   pub took : Took w (after_steps (taking_all lines) w) lines on.still
-  pub keeps : Invariant capacity limit (after_steps (taking_all lines) w)
+  pub keeps : Invariant capacity maximum limit (after_steps (taking_all lines) w)
   pub table_is : table ≡ table_of (after_steps (taking_all lines) w).decoder
   pub position : v.encoder_stream_taken + length front + length rest
       ≡ min (v.encoder_stream_delivered + n) (length v.encoder_stream)
   pub unreported_is : unreported_after v table ≡ (after_steps (taking_all lines) w).unreported
 
-pub moved : (capacity limit : ℕ) (v : Session) (w : AbstractSession) (n : ℕ) (o : Outcome) (v' : Session) → Refines v w
-    → Invariant capacity limit w → (c : DeliversToDecoder v n o v')
-    → Moved capacity limit v w n c.takes.lines c.takes.front c.takes.rest c.table
-moved capacity limit v w n o v' sh k c =
+pub moved : (capacity maximum limit : ℕ) (v : Session) (w : AbstractSession) (n : ℕ) (o : Outcome) (v' : Session)
+    → Refines v w
+    → Invariant capacity maximum limit w → (c : DeliversToDecoder v n o v')
+    → Moved capacity maximum limit v w n c.takes.lines c.takes.front c.takes.rest c.table
+moved capacity maximum limit v w n o v' sh k c =
     let on =
     carried_on SpellsEncoderInstruction (wire encoder_instruction_form) v.encoder_stream v.encoder_stream_taken
     (v.encoder_stream_delivered + n) w.taken
@@ -65,7 +67,7 @@ moved capacity limit v w n o v' sh k c =
     c.takes.cut
     c.takes.joined in
     let t : Took w (after_steps (taking_all c.takes.lines) w) c.takes.lines on.still =
-    takes_lines capacity limit w c.takes.lines on.still k on.goes_on in
+    takes_lines capacity maximum limit w c.takes.lines on.still k on.goes_on in
     let table_is : c.table ≡ table_of (after_steps (taking_all c.takes.lines) w).decoder =
     ok_is _ _ (sym c.takes.applies ∙ ap (λ (x : Table). apply_encoder_instructions x c.takes.lines) sh.decoder_is
     ∙ t.t_decoder) in
@@ -76,7 +78,7 @@ moved capacity limit v w n o v' sh k c =
     record {
       on = on;
       took = t;
-      keeps = inv_run capacity limit (taking_all c.takes.lines) w k;
+      keeps = inv_run capacity maximum limit (taking_all c.takes.lines) w k;
       table_is = table_is;
       position = piece_ends v.encoder_stream c.takes.front c.takes.rest v.encoder_stream_taken
           (v.encoder_stream_delivered + n) c.takes.cut
@@ -91,11 +93,11 @@ moved capacity limit v w n o v' sh k c =
     }
 
 -- the session with what was taken, and with what was told behind it
-moved_shown : (capacity limit : ℕ) (v : Session) (w : AbstractSession) (n : ℕ) (lines : List EncoderInstruction)
-    (front rest : List ℕ) (table : Table) → Refines v w → Moved capacity limit v w n lines front rest table
+moved_shown : (capacity maximum limit : ℕ) (v : Session) (w : AbstractSession) (n : ℕ) (lines : List EncoderInstruction)
+    (front rest : List ℕ) (table : Table) → Refines v w → Moved capacity maximum limit v w n lines front rest table
     → Refines (with_decoder_moved v n table (length front) (unreported_after v table) v.decoder_stream)
     (after_steps (taking_all lines) w)
-moved_shown capacity limit v w n lines front rest table sh m =
+moved_shown capacity maximum limit v w n lines front rest table sh m =
     let t = m.took in
     let same : (after_steps (taking_all lines) w).taken ++ (after_steps (taking_all lines) w).in_flight
     ≡ w.taken ++ w.in_flight =
@@ -115,10 +117,12 @@ moved_shown capacity limit v w n lines front rest table sh m =
     }
 
 -- what is left begins with no refusal
-no_bad_bytes : (capacity limit : ℕ) (v : Session) (w : AbstractSession) (n : ℕ) (lines : List EncoderInstruction)
-    (front rest : List ℕ) (table : Table) (fault : FormFault) → Moved capacity limit v w n lines front rest table
+no_bad_bytes : (capacity maximum limit : ℕ) (v : Session) (w : AbstractSession) (n : ℕ)
+    (lines : List EncoderInstruction)
+    (front rest : List ℕ) (table : Table) (fault : FormFault)
+    → Moved capacity maximum limit v w n lines front rest table
     → Begins (λ encoding. RefusesEncoderInstruction encoding fault) rest → ⊥
-no_bad_bytes capacity limit v w n lines front rest table fault m b =
+no_bad_bytes capacity maximum limit v w n lines front rest table fault m b =
     nothing_left SpellsEncoderInstruction (λ encoding. RefusesEncoderInstruction encoding fault)
     (λ encoding r e. (let q = r.begins in absurd cc))
     (λ a b x y l r s e. refusal_apart encoder_instruction_form fault a b x y l r s e)
@@ -143,33 +147,37 @@ ok_not_err : (r : Result Window TableRefusal) (e : TableRefusal) → IsOk r
 ok_not_err (Ok x) e h q = absurd cc
 ok_not_err (Err d) e h q = absurd cc
 
-no_bad_instruction : (capacity limit : ℕ) (v : Session) (w : AbstractSession) (n : ℕ) (lines : List EncoderInstruction)
+no_bad_instruction : (capacity maximum limit : ℕ) (v : Session) (w : AbstractSession) (n : ℕ)
+    (lines : List EncoderInstruction)
     (front rest : List ℕ) (table : Table) (encoding more : List ℕ) (i : EncoderInstruction) (e : TableRefusal)
-    → Moved capacity limit v w n lines front rest table
+    → Moved capacity maximum limit v w n lines front rest table
     → rest ≡ encoding ++ more → SpellsEncoderInstruction encoding i → apply_encoder_instruction table i ≡ Err e → ⊥
-no_bad_instruction capacity limit v w n lines front rest table encoding more i e m cut s bad =
+no_bad_instruction capacity maximum limit v w n lines front rest table encoding more i e m cut s bad =
     let f = first_line encoder_instruction_form m.on.still rest m.on.more encoding more i m.on.left cut s in
     let next =
-    (inv_safe capacity limit (after_steps (taking_all lines) w) m.keeps).takes_next i f.0 (m.took.t_in_flight
+    (inv_safe capacity maximum limit (after_steps (taking_all lines) w) m.keeps).takes_next i f.0 (m.took.t_in_flight
     ∙ f.1) in
     ok_not_err (apply (after_steps (taking_all lines) w).decoder i) e next
     (sym (applied_put (after_steps (taking_all lines) w).decoder i)
     ∙ ap (λ x. apply_encoder_instruction x i) (sym m.table_is) ∙ bad)
 
-pub lands_delivered : (capacity limit : ℕ) (v : Session) (w : AbstractSession) (n : ℕ) (o : Outcome) (v' : Session)
-    → Refines v w → Invariant capacity limit w → DeliversToDecoder v n o v' → RefinesSome capacity limit v'
-lands_delivered capacity limit v w n o v' sh k c = go (moved capacity limit v w n o v' sh k c) c.takes.ends
+pub lands_delivered : (capacity maximum limit : ℕ) (v : Session) (w : AbstractSession) (n : ℕ) (o : Outcome)
+    (v' : Session)
+    → Refines v w → Invariant capacity maximum limit w → DeliversToDecoder v n o v'
+    → RefinesSome capacity maximum limit v'
+lands_delivered capacity maximum limit v w n o v' sh k c =
+    go (moved capacity maximum limit v w n o v' sh k c) c.takes.ends
   where
-    at : (u : Session) → v' ≡ u → RefinesSome capacity limit u → RefinesSome capacity limit v'
-    at u e l = subst (RefinesSome capacity limit) (sym e) l
+    at : (u : Session) → v' ≡ u → RefinesSome capacity maximum limit u → RefinesSome capacity maximum limit v'
+    at u e l = subst (RefinesSome capacity maximum limit) (sym e) l
 
-    go : Moved capacity limit v w n c.takes.lines c.takes.front c.takes.rest c.table
+    go : Moved capacity maximum limit v w n c.takes.lines c.takes.front c.takes.rest c.table
         → EndsAtDecoder v n c.table c.takes.front c.takes.rest o v'
-        → RefinesSome capacity limit v'
+        → RefinesSome capacity maximum limit v'
     go m (takes_all cut is goes) =
         let pieces = pieces_of (unreported_after v c.table) in
         let small = pieces_small (unreported_after v c.table) in
-        let shown = moved_shown capacity limit v w n c.takes.lines c.takes.front c.takes.rest c.table sh m in
+        let shown = moved_shown capacity maximum limit v w n c.takes.lines c.takes.front c.takes.rest c.table sh m in
         let w1 = after_steps (taking_all c.takes.lines) w in
         at (with_decoder_moved v n c.table (length c.takes.front) 0
         (v.decoder_stream ++ written_decoder_instructions (increments pieces))) goes (record {
@@ -189,53 +197,59 @@ lands_delivered capacity limit v w n o v' sh k c = go (moved capacity limit v w 
             decoder_stream_order = shown.decoder_stream_order;
             streams_are = shown.streams_are;
           };
-          keeps = inv_reported capacity limit w1 pieces (pieces_add_up (unreported_after v c.table) ∙ m.unreported_is)
+          keeps = inv_reported capacity maximum limit w1 pieces
+              (pieces_add_up (unreported_after v c.table) ∙ m.unreported_is)
               m.keeps;
         })
     go m (no_memory is goes) =
         at (with_decoder_moved v n c.table (length c.takes.front) (unreported_after v c.table) v.decoder_stream) goes
         (record {
           abstract = after_steps (taking_all c.takes.lines) w;
-          refines = moved_shown capacity limit v w n c.takes.lines c.takes.front c.takes.rest c.table sh m;
+          refines = moved_shown capacity maximum limit v w n c.takes.lines c.takes.front c.takes.rest c.table sh m;
           keeps = m.keeps;
         })
     go m (bad_bytes fault b is goes) =
-        absurd (no_bad_bytes capacity limit v w n c.takes.lines c.takes.front c.takes.rest c.table fault m b)
+        absurd (no_bad_bytes capacity maximum limit v w n c.takes.lines c.takes.front c.takes.rest c.table fault m b)
     go m (bad_instruction encoding more i e cut s bad is goes) =
-        absurd (no_bad_instruction capacity limit v w n c.takes.lines c.takes.front c.takes.rest c.table encoding more i
+        absurd (no_bad_instruction capacity maximum limit v w n c.takes.lines c.takes.front c.takes.rest c.table
+        encoding more i
         e m cut s bad)
 
-pub delivered_lawful : (capacity limit : ℕ) (v : Session) (w : AbstractSession) (n : ℕ) (fault : StreamFault)
-    (v' : Session) → Refines v w → Invariant capacity limit w → DeliversToDecoder v n (Refused fault) v' → ⊥
-delivered_lawful capacity limit v w n fault v' sh k c = go (moved capacity limit v w n (Refused fault) v' sh k c)
+pub delivered_lawful : (capacity maximum limit : ℕ) (v : Session) (w : AbstractSession) (n : ℕ) (fault : StreamFault)
+    (v' : Session) → Refines v w → Invariant capacity maximum limit w → DeliversToDecoder v n (Refused fault) v' → ⊥
+delivered_lawful capacity maximum limit v w n fault v' sh k c =
+    go (moved capacity maximum limit v w n (Refused fault) v' sh k c)
     c.takes.ends
   where
-    go : Moved capacity limit v w n c.takes.lines c.takes.front c.takes.rest c.table
+    go : Moved capacity maximum limit v w n c.takes.lines c.takes.front c.takes.rest c.table
         → EndsAtDecoder v n c.table c.takes.front c.takes.rest (Refused fault) v' → ⊥
     go m (takes_all cut is goes) = absurd cc
     go m (no_memory is goes) = absurd cc
-    go m (bad_bytes f b is goes) = no_bad_bytes capacity limit v w n c.takes.lines c.takes.front c.takes.rest c.table f
+    go m (bad_bytes f b is goes) = no_bad_bytes capacity maximum limit v w n c.takes.lines c.takes.front c.takes.rest
+        c.table f
         m b
     go m (bad_instruction encoding more i e cut s bad is goes) =
-        no_bad_instruction capacity limit v w n c.takes.lines c.takes.front c.takes.rest c.table encoding more i e m cut
+        no_bad_instruction capacity maximum limit v w n c.takes.lines c.takes.front c.takes.rest c.table encoding more i
+        e m cut
         s bad
 
 -- ---- to the encoder
 
-record Reached (capacity limit : ℕ) (v : Session) (w : AbstractSession) (n : ℕ) (lines : List DecoderInstruction)
+record Reached (capacity maximum limit : ℕ) (v : Session) (w : AbstractSession) (n : ℕ)
+    (lines : List DecoderInstruction)
     (front rest : List ℕ) (table : Table) (before : List DecoderInstruction) : Type 0 where
   pub on : CarriesOn DecoderInstruction SpellsDecoderInstruction v.decoder_stream v.decoder_stream_taken before
       w.decoder_in_flight lines front rest
   pub listens : Listens w (after_steps (hearing_all lines) w) lines on.still
-  pub keeps : Invariant capacity limit (after_steps (hearing_all lines) w)
+  pub keeps : Invariant capacity maximum limit (after_steps (hearing_all lines) w)
   pub table_is : table ≡ (after_steps (hearing_all lines) w).encoder
   pub position : v.decoder_stream_taken + length front + length rest
       ≡ min (v.decoder_stream_delivered + n) (length v.decoder_stream)
 
-reached : (capacity limit : ℕ) (v : Session) (w : AbstractSession) (n : ℕ) (o : Outcome) (v' : Session)
-    (sh : Refines v w) → Invariant capacity limit w → (c : DeliversToEncoder v n o v')
-    → Reached capacity limit v w n c.takes.lines c.takes.front c.takes.rest c.table sh.decoder_taken
-reached capacity limit v w n o v' sh k c =
+reached : (capacity maximum limit : ℕ) (v : Session) (w : AbstractSession) (n : ℕ) (o : Outcome) (v' : Session)
+    (sh : Refines v w) → Invariant capacity maximum limit w → (c : DeliversToEncoder v n o v')
+    → Reached capacity maximum limit v w n c.takes.lines c.takes.front c.takes.rest c.table sh.decoder_taken
+reached capacity maximum limit v w n o v' sh k c =
     let on =
     carried_on SpellsDecoderInstruction (wire decoder_instruction_form) v.decoder_stream v.decoder_stream_taken
     (v.decoder_stream_delivered + n) sh.decoder_taken
@@ -244,11 +258,11 @@ reached capacity limit v w n o v' sh k c =
     c.takes.cut c.takes.joined
     in
     let t : Listens w (after_steps (hearing_all c.takes.lines) w) c.takes.lines on.still =
-    hears_lines capacity limit w c.takes.lines on.still k on.goes_on in
+    hears_lines capacity maximum limit w c.takes.lines on.still k on.goes_on in
     record {
       on = on;
       listens = t;
-      keeps = inv_run capacity limit (hearing_all c.takes.lines) w k;
+      keeps = inv_run capacity maximum limit (hearing_all c.takes.lines) w k;
       table_is = ok_is _ _ (sym c.takes.applies ∙ ap (λ (x : Table). apply_decoder_instructions x c.takes.lines)
           sh.encoder_is
           ∙ t.l_encoder);
@@ -263,12 +277,12 @@ reached capacity limit v w n o v' sh k c =
           ));
     }
 
-no_bad_decoder_instruction_bytes : (capacity limit : ℕ) (v : Session) (w : AbstractSession) (n : ℕ)
+no_bad_decoder_instruction_bytes : (capacity maximum limit : ℕ) (v : Session) (w : AbstractSession) (n : ℕ)
     (lines : List DecoderInstruction)
     (front rest : List ℕ) (table : Table) (before : List DecoderInstruction) (fault : FormFault)
-    → Reached capacity limit v w n lines front rest table before
+    → Reached capacity maximum limit v w n lines front rest table before
     → Begins (λ encoding. RefusesDecoderInstruction encoding fault) rest → ⊥
-no_bad_decoder_instruction_bytes capacity limit v w n lines front rest table before fault m b =
+no_bad_decoder_instruction_bytes capacity maximum limit v w n lines front rest table before fault m b =
     nothing_left SpellsDecoderInstruction (λ encoding. RefusesDecoderInstruction encoding fault)
     (λ encoding r e. (let q = r.begins in absurd cc))
     (λ a b x y l r s e. refusal_apart decoder_instruction_form fault a b x y l r s e)
@@ -278,27 +292,29 @@ ok_not_refused : (r : Result Table TableRefusal) (e : TableRefusal) → IsOk r �
 ok_not_refused (Ok x) e h q = absurd cc
 ok_not_refused (Err d) e h q = absurd cc
 
-no_bad_decoder_instruction : (capacity limit : ℕ) (v : Session) (w : AbstractSession) (n : ℕ)
+no_bad_decoder_instruction : (capacity maximum limit : ℕ) (v : Session) (w : AbstractSession) (n : ℕ)
     (lines : List DecoderInstruction)
     (front rest : List ℕ) (table : Table) (before : List DecoderInstruction) (encoding more : List ℕ)
     (r : DecoderInstruction) (e : TableRefusal)
-    → Reached capacity limit v w n lines front rest table before
+    → Reached capacity maximum limit v w n lines front rest table before
     → rest ≡ encoding ++ more → SpellsDecoderInstruction encoding r → apply_decoder_instruction table r ≡ Err e → ⊥
-no_bad_decoder_instruction capacity limit v w n lines front rest table before encoding more r e m cut s bad =
+no_bad_decoder_instruction capacity maximum limit v w n lines front rest table before encoding more r e m cut s bad =
     let f = first_line decoder_instruction_form m.on.still rest m.on.more encoding more r m.on.left cut s in
     let next =
-    (inv_safe capacity limit (after_steps (hearing_all lines) w) m.keeps).hears_next r f.0
+    (inv_safe capacity maximum limit (after_steps (hearing_all lines) w) m.keeps).hears_next r f.0
     (m.listens.l_decoder_instructions
     ∙ f.1) in
     ok_not_refused (apply_decoder_instruction (after_steps (hearing_all lines) w).encoder r) e next
     (ap (λ x. apply_decoder_instruction x r) (sym m.table_is)
     ∙ bad)
 
-pub lands_heard : (capacity limit : ℕ) (v : Session) (w : AbstractSession) (n : ℕ) (o : Outcome) (v' : Session)
-    → Refines v w → Invariant capacity limit w → DeliversToEncoder v n o v' → RefinesSome capacity limit v'
-lands_heard capacity limit v w n o v' sh k c = go (reached capacity limit v w n o v' sh k c) c.takes.ends
+pub lands_heard : (capacity maximum limit : ℕ) (v : Session) (w : AbstractSession) (n : ℕ) (o : Outcome) (v' : Session)
+    → Refines v w → Invariant capacity maximum limit w → DeliversToEncoder v n o v'
+    → RefinesSome capacity maximum limit v'
+lands_heard capacity maximum limit v w n o v' sh k c =
+    go (reached capacity maximum limit v w n o v' sh k c) c.takes.ends
   where
-    shown : Reached capacity limit v w n c.takes.lines c.takes.front c.takes.rest c.table sh.decoder_taken
+    shown : Reached capacity maximum limit v w n c.takes.lines c.takes.front c.takes.rest c.table sh.decoder_taken
         → Refines (with_encoder_moved v n c.table (length c.takes.front)) (after_steps (hearing_all c.takes.lines) w)
     shown m =
         let t = m.listens in
@@ -314,34 +330,36 @@ lands_heard capacity limit v w n o v' sh k c = go (reached capacity limit v w n 
           streams_are = λ s. rw (t.l_taken, t.l_in_flight, t.l_streams) (sh.streams_are s);
         }
 
-    go : Reached capacity limit v w n c.takes.lines c.takes.front c.takes.rest c.table sh.decoder_taken
-        → EndsAtEncoder v n c.table c.takes.front c.takes.rest o v' → RefinesSome capacity limit v'
+    go : Reached capacity maximum limit v w n c.takes.lines c.takes.front c.takes.rest c.table sh.decoder_taken
+        → EndsAtEncoder v n c.table c.takes.front c.takes.rest o v' → RefinesSome capacity maximum limit v'
     go m (takes_all_at_encoder cut is goes) =
-        subst (RefinesSome capacity limit) (sym goes)
+        subst (RefinesSome capacity maximum limit) (sym goes)
         (record { abstract = after_steps (hearing_all c.takes.lines) w; refines = shown m; keeps = m.keeps })
     go m (bad_bytes_at_encoder fault b is goes) =
-        absurd (no_bad_decoder_instruction_bytes capacity limit v w n c.takes.lines c.takes.front c.takes.rest c.table
+        absurd (no_bad_decoder_instruction_bytes capacity maximum limit v w n c.takes.lines c.takes.front c.takes.rest
+        c.table
         sh.decoder_taken
         fault m b)
     go m (bad_decoder_instruction encoding more r e cut s bad is goes) =
-        absurd (no_bad_decoder_instruction capacity limit v w n c.takes.lines c.takes.front c.takes.rest c.table
+        absurd (no_bad_decoder_instruction capacity maximum limit v w n c.takes.lines c.takes.front c.takes.rest c.table
         sh.decoder_taken encoding
         more r e m cut s
         bad)
 
-pub heard_lawful : (capacity limit : ℕ) (v : Session) (w : AbstractSession) (n : ℕ) (fault : StreamFault)
-    (v' : Session) → Refines v w → Invariant capacity limit w → DeliversToEncoder v n (Refused fault) v' → ⊥
-heard_lawful capacity limit v w n fault v' sh k c = go (reached capacity limit v w n (Refused fault) v' sh k c)
+pub heard_lawful : (capacity maximum limit : ℕ) (v : Session) (w : AbstractSession) (n : ℕ) (fault : StreamFault)
+    (v' : Session) → Refines v w → Invariant capacity maximum limit w → DeliversToEncoder v n (Refused fault) v' → ⊥
+heard_lawful capacity maximum limit v w n fault v' sh k c =
+    go (reached capacity maximum limit v w n (Refused fault) v' sh k c)
     c.takes.ends
   where
-    go : Reached capacity limit v w n c.takes.lines c.takes.front c.takes.rest c.table sh.decoder_taken
+    go : Reached capacity maximum limit v w n c.takes.lines c.takes.front c.takes.rest c.table sh.decoder_taken
         → EndsAtEncoder v n c.table c.takes.front c.takes.rest (Refused fault) v' → ⊥
     go m (takes_all_at_encoder cut is goes) = absurd cc
     go m (bad_bytes_at_encoder f b is goes) =
-        no_bad_decoder_instruction_bytes capacity limit v w n c.takes.lines c.takes.front c.takes.rest c.table
+        no_bad_decoder_instruction_bytes capacity maximum limit v w n c.takes.lines c.takes.front c.takes.rest c.table
         sh.decoder_taken f m b
     go m (bad_decoder_instruction encoding more r e cut s bad is goes) =
-        no_bad_decoder_instruction capacity limit v w n c.takes.lines c.takes.front c.takes.rest c.table
+        no_bad_decoder_instruction capacity maximum limit v w n c.takes.lines c.takes.front c.takes.rest c.table
         sh.decoder_taken
         encoding more r e
         m cut s bad

@@ -121,14 +121,15 @@ table_maximum t h most e a =
     ap (λ (x : Option ℕ). maximum_capacity x t.capacity) o
 
 -- the stream that has a block more
-stream_encoded : (capacity : ℕ) (h : History) (encoder_stream : List EncoderInstruction)
+stream_encoded : (capacity maximum : ℕ) (h : History) (encoder_stream : List EncoderInstruction)
     (unacknowledged : List UnacknowledgedBlock)
     (decoder_in_flight : List DecoderInstruction) (s : ℕ) (st : AbstractStream) (b : AbstractBlock)
-    → KeepsStream capacity h encoder_stream unacknowledged decoder_in_flight s st
-    → KeepsBlock capacity h encoder_stream b
-    → KeepsStream capacity h encoder_stream (with_unacknowledged unacknowledged s b.referenced) decoder_in_flight s
+    → KeepsStream capacity maximum h encoder_stream unacknowledged decoder_in_flight s st
+    → KeepsBlock capacity maximum h encoder_stream b
+    → KeepsStream capacity maximum h encoder_stream
+    (with_unacknowledged unacknowledged s b.referenced) decoder_in_flight s
     (record st { blocks = st.blocks ++ b ∷ [] })
-stream_encoded capacity h encoder_stream unacknowledged decoder_in_flight s st b k ok =
+stream_encoded capacity maximum h encoder_stream unacknowledged decoder_in_flight s st b k ok =
     let own : open_of s (with_unacknowledged unacknowledged s b.referenced) ≡ open_of s unacknowledged
     ++ cond (is_dynamic b) (b.referenced ∷ []) [] =
     opens_own s b.referenced unacknowledged ok.plain in
@@ -163,28 +164,29 @@ stream_encoded capacity h encoder_stream unacknowledged decoder_in_flight s st b
           (sym (drop-append-le st.acknowledged (filter is_dynamic st.blocks) (cond (is_dynamic b) (b ∷ []) []) few')
           ∙ ap (drop st.acknowledged) (sym more));
       quiet = k.quiet;
-      blocks = every_append (KeepsBlock capacity h encoder_stream) st.blocks (b ∷ []) k.blocks (ok, tt);
+      blocks = every_append (KeepsBlock capacity maximum h encoder_stream) st.blocks (b ∷ []) k.blocks (ok, tt);
     }
 
 -- the block that was written
-block_kept : (capacity limit : ℕ) (w : AbstractSession) (fs : List Field) (k : Invariant capacity limit w)
+block_kept : (capacity maximum limit : ℕ) (w : AbstractSession) (fs : List Field)
+    (k : Invariant capacity maximum limit w)
     (p : Drafting w.encoder k.made fs (rule w.encoder fs))
     → (let d = rule w.encoder fs in let encoder_stream = w.taken ++ (w.in_flight ++ d.instructions) in
-    KeepsBlock capacity p.history encoder_stream (record {
+    KeepsBlock capacity maximum p.history encoder_stream (record {
       block = block_of w.encoder d;
       referenced = d.table.referenced;
       end = length encoder_stream;
       fields = fs;
     }))
-block_kept capacity limit w fs k p =
+block_kept capacity maximum limit w fs k p =
     let d = rule w.encoder fs in
     let encoder_stream = w.taken ++ (w.in_flight ++ d.instructions) in
-    let sound : Sound k.made = sound_made capacity limit w k in
+    let sound : Sound k.made = sound_made capacity maximum limit w k in
     let sound' : Sound p.history = leads_sound k.made d.instructions p.history p.leads sound in
     let in_flight : Leads k.received (w.in_flight ++ d.instructions) p.history =
     leads_append k.received w.in_flight d.instructions k.made p.history k.in_flight_leads p.leads in
-    let most : maximum_capacity w.encoder.agreed_max w.encoder.capacity ≡ capacity =
-    table_maximum w.encoder k.made capacity k.encoder.shares (agreed_made capacity limit w k) in
+    let most : maximum_capacity w.encoder.agreed_max w.encoder.capacity ≡ maximum =
+    table_maximum w.encoder k.made maximum k.encoder.shares (agreed_made capacity maximum limit w k) in
     record {
       base = insert_count w.encoder;
       few = omega (arith, count_inserted w.encoder k.made k.encoder.shares sound, sound.few);
@@ -197,7 +199,7 @@ block_kept capacity limit w fs k p =
       cut = append-nil encoder_stream;
       ends = refl;
       at_end = p.history;
-      leads = leads_append (initial_history capacity) w.taken
+      leads = leads_append (initial_history capacity maximum) w.taken
           (w.in_flight ++ d.instructions) k.received p.history k.taken_leads
           in_flight;
       within = greatest_bound (length p.history.inserted) d.table.referenced
@@ -206,12 +208,13 @@ block_kept capacity limit w fs k p =
           p.referenced);
     }
 
-pub inv_encoded : (capacity limit : ℕ) (w : AbstractSession) (s : ℕ) (fs : List Field) → Invariant capacity limit w
-    → Invariant capacity limit (after_encode w s fs (rule w.encoder fs))
-inv_encoded capacity limit w s fs k =
+pub inv_encoded : (capacity maximum limit : ℕ) (w : AbstractSession) (s : ℕ) (fs : List Field)
+    → Invariant capacity maximum limit w
+    → Invariant capacity maximum limit (after_encode w s fs (rule w.encoder fs))
+inv_encoded capacity maximum limit w s fs k =
     let d = rule w.encoder fs in
     let p : Drafting w.encoder k.made fs d =
-    rule_drafts w.encoder k.made fs (sound_made capacity limit w k) k.encoder in
+    rule_drafts w.encoder k.made fs (sound_made capacity maximum limit w k) k.encoder in
     let g : Grows k.made p.history = leads_grows k.made d.instructions p.history p.leads in
     let encoder_stream = w.taken ++ (w.in_flight ++ d.instructions) in
     let regroup : (w.taken ++ w.in_flight) ++ d.instructions
@@ -225,16 +228,17 @@ inv_encoded capacity limit w s fs k =
       end = length encoder_stream;
       fields = fs;
     } in
-    let ok : KeepsBlock capacity p.history encoder_stream b = block_kept capacity limit w fs k p in
+    let ok : KeepsBlock capacity maximum p.history encoder_stream b = block_kept capacity maximum limit w fs k p in
     let opened' : (commit d.table s required).unacknowledged
     ≡ with_unacknowledged w.encoder.unacknowledged s d.table.referenced =
     c.c_opened ∙ ap (λ bs. with_unacknowledged bs s d.table.referenced) p.references.unacknowledged in
     let grown_stream =
-    λ (q : ℕ). subst (λ (x : List EncoderInstruction). KeepsStream capacity p.history x w.encoder.unacknowledged
+    λ (q : ℕ). subst (λ (x : List EncoderInstruction). KeepsStream capacity maximum p.history x w.encoder.unacknowledged
     w.decoder_in_flight q (stream_at w.streams q)) regroup
-    (stream_grows capacity k.made p.history (w.taken ++ w.in_flight) d.instructions w.encoder.unacknowledged
+    (stream_grows capacity maximum k.made p.history (w.taken ++ w.in_flight) d.instructions w.encoder.unacknowledged
     w.decoder_in_flight q (stream_at w.streams q) g (k.streams q)) in
     record {
+      within = k.within;
       received = k.received;
       made = p.history;
       taken_leads = k.taken_leads;
@@ -248,12 +252,13 @@ inv_encoded capacity limit w s fs k =
           p.references.blocked p.may
           (rw k.same_limit k.blocked));
       streams =
-          streams_update (λ (q : ℕ) (v : AbstractStream). KeepsStream capacity p.history encoder_stream
+          streams_update (λ (q : ℕ) (v : AbstractStream). KeepsStream capacity maximum p.history encoder_stream
           (commit d.table s required).unacknowledged w.decoder_in_flight q v) w.streams s
           (record (stream_at w.streams s) { blocks = (stream_at w.streams s).blocks ++ b ∷ [] })
-          (rw opened' (stream_encoded capacity p.history encoder_stream w.encoder.unacknowledged w.decoder_in_flight s
+          (rw opened' (stream_encoded capacity maximum p.history encoder_stream w.encoder.unacknowledged
+          w.decoder_in_flight s
           (stream_at w.streams s) b (grown_stream s) ok))
-          (λ q apart. rw opened' (stream_opened capacity p.history encoder_stream w.encoder.unacknowledged
+          (λ q apart. rw opened' (stream_opened capacity maximum p.history encoder_stream w.encoder.unacknowledged
           (with_unacknowledged w.encoder.unacknowledged s d.table.referenced) w.decoder_in_flight q
           (stream_at w.streams q)
           (opens_other s q d.table.referenced w.encoder.unacknowledged apart) (grown_stream q)));
@@ -270,15 +275,17 @@ same_unnamed : (t : Table) → SameUnnamed t (without_references t)
 unfolding without_references
 same_unnamed t = record { u_known = refl; u_limit = refl; u_opened = refl; u_waiting = refl }
 
-pub inv_abandoned : (capacity limit : ℕ) (w : AbstractSession) (fs : List Field) → Invariant capacity limit w
-    → Invariant capacity limit (after_abandon w (rule w.encoder fs))
-inv_abandoned capacity limit w fs k =
+pub inv_abandoned : (capacity maximum limit : ℕ) (w : AbstractSession) (fs : List Field)
+    → Invariant capacity maximum limit w
+    → Invariant capacity maximum limit (after_abandon w (rule w.encoder fs))
+inv_abandoned capacity maximum limit w fs k =
     let d = rule w.encoder fs in
     let p : Drafting w.encoder k.made fs d =
-    rule_drafts w.encoder k.made fs (sound_made capacity limit w k) k.encoder in
+    rule_drafts w.encoder k.made fs (sound_made capacity maximum limit w k) k.encoder in
     let g : Grows k.made p.history = leads_grows k.made d.instructions p.history p.leads in
     let u = same_unnamed d.table in
     record {
+      within = k.within;
       received = k.received;
       made = p.history;
       taken_leads = k.taken_leads;
@@ -290,6 +297,7 @@ inv_abandoned capacity limit w fs k =
       blocked = rw (u.u_waiting, p.references.blocked) k.blocked;
       streams =
           λ q. rw (u.u_opened, p.references.unacknowledged, ← append_assoc)
-          (stream_grows capacity k.made p.history (w.taken ++ w.in_flight) d.instructions w.encoder.unacknowledged
+          (stream_grows capacity maximum k.made p.history
+          (w.taken ++ w.in_flight) d.instructions w.encoder.unacknowledged
           w.decoder_in_flight q (stream_at w.streams q) g (k.streams q));
     }

@@ -46,8 +46,8 @@ use Rattle.qpack_safety.proofs.EventOrder.{goes_moves, goes_advances, extends_bo
 -- ---- what holds at every moment
 
 -- the session refines one of values, its encoder counts the blocked blocks, and both streams are in order
-record SessionInvariant (capacity limit : ℕ) (v : Session) : Type 0 where
-  pub some : RefinesSome capacity limit v
+record SessionInvariant (capacity maximum limit : ℕ) (v : Session) : Type 0 where
+  pub some : RefinesSome capacity maximum limit v
   pub counted : CountsItsBlocks v
   pub ordered : IsOrdered v
 
@@ -56,27 +56,28 @@ goes_counted : (v : Session) (e : Event) (o : Outcome) (v' : Session) → Step v
 goes_counted v e o v' (inl h) c = subst CountsItsBlocks (sym h.stays) c
 goes_counted v e o v' (inr h) c = counted_happens v e o v' h.1 c
 
-goes_invariant : (capacity limit : ℕ) (v : Session) (e : Event) (o : Outcome) (v' : Session)
-    → SessionInvariant capacity limit v
-    → IsByteEvent e → FitsMemory v' → Step v e o v' → SessionInvariant capacity limit v'
-goes_invariant capacity limit v e o v' r bytes fits g =
+goes_invariant : (capacity maximum limit : ℕ) (v : Session) (e : Event) (o : Outcome) (v' : Session)
+    → SessionInvariant capacity maximum limit v
+    → IsByteEvent e → FitsMemory v' → Step v e o v' → SessionInvariant capacity maximum limit v'
+goes_invariant capacity maximum limit v e o v' r bytes fits g =
     record {
-      some = goes_lands capacity limit v r.some.abstract e o v' r.some.refines r.some.keeps bytes fits g;
+      some = goes_lands capacity maximum limit v r.some.abstract e o v' r.some.refines r.some.keeps bytes fits g;
       counted = goes_counted v e o v' g r.counted;
       ordered = (goes_moves v e o v' r.ordered g).ordered;
     }
 
-runs_invariant : (capacity limit : ℕ) (v : Session) (events : List (Event × Outcome)) (v' : Session)
-    → SessionInvariant capacity limit v → Run v events v' → SessionInvariant capacity limit v'
-runs_invariant capacity limit v [] v' r e = subst (SessionInvariant capacity limit) e r
-runs_invariant capacity limit v (p ∷ events) v' r e =
-    runs_invariant capacity limit e.0 events v'
-    (goes_invariant capacity limit v p.0 p.1 e.0 r e.1.has_bytes e.1.fits e.1.goes) e.2
+runs_invariant : (capacity maximum limit : ℕ) (v : Session) (events : List (Event × Outcome)) (v' : Session)
+    → SessionInvariant capacity maximum limit v → Run v events v' → SessionInvariant capacity maximum limit v'
+runs_invariant capacity maximum limit v [] v' r e = subst (SessionInvariant capacity maximum limit) e r
+runs_invariant capacity maximum limit v (p ∷ events) v' r e =
+    runs_invariant capacity maximum limit e.0 events v'
+    (goes_invariant capacity maximum limit v p.0 p.1 e.0 r e.1.has_bytes e.1.fits e.1.goes) e.2
 
-opened_invariant : (capacity limit : ℕ) → SessionInvariant capacity limit (initial_session capacity limit)
-opened_invariant capacity limit =
+opened_invariant : (capacity maximum limit : ℕ) → capacity ≤ maximum
+    → SessionInvariant capacity maximum limit (initial_session capacity maximum limit)
+opened_invariant capacity maximum limit within =
     record {
-      some = opened_lands capacity limit;
+      some = opened_lands capacity maximum limit within;
       counted = record { small = lit≤ tt; above = refl; counts = λ n le. refl };
       ordered =
           record {
@@ -134,8 +135,9 @@ fits_put : (w : Window) → total_size w.live ≤ w.capacity
 unfolding window
 fits_put w h = subst (λ (x : Window). total_size x.live ≤ x.capacity) (sym (window_put w)) h
 
-in_lockstep : (capacity limit : ℕ) (v : Session) → RefinesSome capacity limit v → Lockstep capacity v
-in_lockstep capacity limit v r =
+in_lockstep : (capacity maximum limit : ℕ) (v : Session) → RefinesSome capacity maximum limit v
+    → Lockstep capacity maximum v
+in_lockstep capacity maximum limit v r =
     let k = r.keeps in
     record {
       taken = r.abstract.taken;
@@ -158,8 +160,8 @@ decoder_within : (t : Table) (h : History) (most : ℕ) → t ≡ table_of (wind
 unfolding table_of window_of
 decoder_within t h most e a = omega (arith, ap (λ (x : Table). x.capacity) e, a.within)
 
-in_accounts : (capacity limit : ℕ) (v : Session) → RefinesSome capacity limit v → Accounts v
-in_accounts capacity limit v r =
+in_accounts : (capacity maximum limit : ℕ) (v : Session) → RefinesSome capacity maximum limit v → Accounts v
+in_accounts capacity maximum limit v r =
     let w = r.abstract in
     let k = r.keeps in
     let sh = r.refines in
@@ -174,37 +176,38 @@ in_accounts capacity limit v r =
             arith,
             k.known_received_count,
             ap window_insert_count k.decoder,
-            total_window k.received (sound_received capacity limit w k),
+            total_window k.received (sound_received capacity maximum limit w k),
             many,
             ap (λ (t : Table). t.known_received_count) sh.encoder_is,
             sh.unreported_is,
           );
     }
 
-by_the_rule : (capacity limit : ℕ) (events : List (Event × Outcome)) (v : Session)
-    → Run (initial_session capacity limit) events v → SessionInvariant capacity limit v
-    → RunsByTheRule capacity limit events v
+by_the_rule : (capacity maximum limit : ℕ) (events : List (Event × Outcome)) (v : Session)
+    → Run (initial_session capacity maximum limit) events v → SessionInvariant capacity maximum limit v
+    → RunsByTheRule capacity maximum limit events v
 unfolding in_lockstep
-by_the_rule capacity limit events v run r =
+by_the_rule capacity maximum limit events v run r =
     let w = r.some.abstract in
     let sh = r.some.refines in
-    let safe : Safe capacity limit w = inv_safe capacity limit w r.some.keeps in
+    let safe : Safe capacity maximum limit w = inv_safe capacity maximum limit w r.some.keeps in
     let many : insert_count v.decoder ≡ window_insert_count w.decoder = ap insert_count sh.decoder_is
     ∙ count_put w.decoder in
     let known_received_count : v.encoder.known_received_count ≤ insert_count v.decoder =
     omega (arith, safe.received, many, ap (λ (t : Table). t.known_received_count) sh.encoder_is) in
     let counted : length v.encoder.blocked ≡ blocked_blocks v = counts_all v.encoder v.streams r.counted in
-    let step = in_lockstep capacity limit v r.some in
+    let step = in_lockstep capacity maximum limit v r.some in
     let limit_is : v.encoder.limit ≡ limit = ap (λ (t : Table). t.limit) sh.encoder_is ∙ r.some.keeps.same_limit in
     record {
       run = run;
       writes = encode_writes v;
       lockstep = step;
       encoder_capacity =
-          encoder_within v.encoder step.made capacity step.encoder_is (agreed_made capacity limit w r.some.keeps);
+          encoder_within v.encoder step.made maximum step.encoder_is
+          (agreed_made capacity maximum limit w r.some.keeps);
       decoder_capacity =
-          decoder_within v.decoder step.received capacity step.decoder_is
-          (agreed_received capacity limit w r.some.keeps);
+          decoder_within v.decoder step.received maximum step.decoder_is
+          (agreed_received capacity maximum limit w r.some.keeps);
       encoder_fits =
           subst (λ (t : Table). total_size (fields_in t.live) ≤ t.capacity) (sym sh.encoder_is) safe.encoder_fits;
       decoder_fits =
@@ -217,7 +220,7 @@ by_the_rule capacity limit events v run r =
       may_block_more = rw (counted, limit_is) refl;
       limit_is = limit_is;
       received = known_received_count;
-      accounts = in_accounts capacity limit v r.some;
+      accounts = in_accounts capacity maximum limit v r.some;
       ordered = r.ordered;
       advances = λ e o v' g. goes_advances v e o v' r.ordered g;
     }
@@ -240,14 +243,14 @@ unfolding LawfulStep skip_reason
 hearing_of v n o v' (inl h) = absurd (let e = h.is_reason in cc)
 hearing_of v n o v' (inr h) = h.1
 
-delivery_answers : (capacity limit : ℕ) (v : Session) (n : ℕ) (o : Outcome) (v' : Session)
-    → RefinesSome capacity limit v → DeliversToDecoder v n o v' → (o ≡ Delivered (insert_count v'.decoder))
+delivery_answers : (capacity maximum limit : ℕ) (v : Session) (n : ℕ) (o : Outcome) (v' : Session)
+    → RefinesSome capacity maximum limit v → DeliversToDecoder v n o v' → (o ≡ Delivered (insert_count v'.decoder))
     ⊎ (o ≡ NoMemory)
-delivery_answers capacity limit v n o v' r c = go c.takes.ends
+delivery_answers capacity maximum limit v n o v' r c = go c.takes.ends
   where
     refused : (fault : StreamFault) → o ≡ Refused fault → ⊥
     refused fault is =
-        delivered_lawful capacity limit v r.abstract n fault v' r.refines r.keeps
+        delivered_lawful capacity maximum limit v r.abstract n fault v' r.refines r.keeps
         (subst (λ (x : Outcome). DeliversToDecoder v n x v') is c)
 
     go : EndsAtDecoder v n c.table c.takes.front c.takes.rest o v' → (o ≡ Delivered (insert_count v'.decoder)) ⊎ (o
@@ -258,13 +261,13 @@ delivery_answers capacity limit v n o v' r c = go c.takes.ends
     go (bad_bytes fault b is goes) = absurd (refused _ is)
     go (bad_instruction encoding more i e cut s bad is goes) = absurd (refused _ is)
 
-hearing_answers : (capacity limit : ℕ) (v : Session) (n : ℕ) (o : Outcome) (v' : Session)
-    → RefinesSome capacity limit v → DeliversToEncoder v n o v' → o ≡ Heard
-hearing_answers capacity limit v n o v' r c = go c.takes.ends
+hearing_answers : (capacity maximum limit : ℕ) (v : Session) (n : ℕ) (o : Outcome) (v' : Session)
+    → RefinesSome capacity maximum limit v → DeliversToEncoder v n o v' → o ≡ Heard
+hearing_answers capacity maximum limit v n o v' r c = go c.takes.ends
   where
     refused : (fault : StreamFault) → o ≡ Refused fault → ⊥
     refused fault is =
-        heard_lawful capacity limit v r.abstract n fault v' r.refines r.keeps
+        heard_lawful capacity maximum limit v r.abstract n fault v' r.refines r.keeps
         (subst (λ (x : Outcome). DeliversToEncoder v n x v') is c)
 
     go : EndsAtEncoder v n c.table c.takes.front c.takes.rest o v' → o ≡ Heard
@@ -272,26 +275,26 @@ hearing_answers capacity limit v n o v' r c = go c.takes.ends
     go (bad_bytes_at_encoder fault b is goes) = absurd (refused _ is)
     go (bad_decoder_instruction encoding more x e cut s bad is goes) = absurd (refused _ is)
 
-refuses_nothing : (capacity limit : ℕ) (v : Session) → RefinesSome capacity limit v → RefusesNothing v
-refuses_nothing capacity limit v r =
+refuses_nothing : (capacity maximum limit : ℕ) (v : Session) → RefinesSome capacity maximum limit v → RefusesNothing v
+refuses_nothing capacity maximum limit v r =
     record {
       no_refusal =
-          λ e fault v' g. never_refused capacity limit v r.abstract e fault v' r.refines r.keeps
+          λ e fault v' g. never_refused capacity maximum limit v r.abstract e fault v' r.refines r.keeps
           (refused_of v e fault v' g);
-      delivers = λ n o v' g. delivery_answers capacity limit v n o v' r (delivery_of v n o v' g);
-      hears = λ n o v' g. hearing_answers capacity limit v n o v' r (hearing_of v n o v' g);
+      delivers = λ n o v' g. delivery_answers capacity maximum limit v n o v' r (delivery_of v n o v' g);
+      hears = λ n o v' g. hearing_answers capacity maximum limit v n o v' r (hearing_of v n o v' g);
     }
 
 -- ---- (c) and (d)
 
 -- the next block of a stream was written by the next encode
-next_of : (capacity limit : ℕ) (events : List (Event × Outcome)) (v : Session)
-    → Run (initial_session capacity limit) events v
+next_of : (capacity maximum limit : ℕ) (events : List (Event × Outcome)) (v : Session)
+    → Run (initial_session capacity maximum limit) events v
     → (s : ℕ) (b : KeptBlock) → next_block v s ≡ Some b
     → next_encode s events ≡ Some (encode_behind b)
-next_of capacity limit events v run s b next =
-    let a : Adds (initial_session capacity limit) v s (encodes_on s events) (decodes_on s events) =
-    runs_add (initial_session capacity limit) events v s run in
+next_of capacity maximum limit events v run s b next =
+    let a : Adds (initial_session capacity maximum limit) v s (encodes_on s events) (decodes_on s events) =
+    runs_add (initial_session capacity maximum limit) events v s run in
     let decoded : decodes_on s events ≡ (stream_at v.streams s).decoded = omega (arith, a.decoded) in
     ap (λ (l : List AnsweredEncode). slice_get l (decodes_on s events)) (sym a.written
     ∙ ap (map (λ (x : KeptBlock). encode_behind x)) (sym a.blocks))
@@ -328,66 +331,69 @@ fields_not_missing : (fields : List Field) (size : ℕ) (is_dynamic : Bool) (n :
     → Decoded fields size is_dynamic ≡ MissingReferences n → ⊥
 fields_not_missing fields size is_dynamic n e = absurd cc
 
-reads_next : (capacity limit : ℕ) (v : Session) → RefinesSome capacity limit v → (s : ℕ) (b : KeptBlock)
+reads_next : (capacity maximum limit : ℕ) (v : Session) → RefinesSome capacity maximum limit v → (s : ℕ) (b : KeptBlock)
     → (stream_at v.streams s).cancelled ≡ false → next_block v s ≡ Some b → ReadsExactly v b
-reads_next capacity limit v r s b live next = reads_exactly capacity limit v r.abstract r.refines r.keeps s b live next
+reads_next capacity maximum limit v r s b live next =
+    reads_exactly capacity maximum limit v r.abstract r.refines r.keeps s b live next
 
-decode_gives : (capacity limit : ℕ) (events : List (Event × Outcome)) (v : Session)
-    → Run (initial_session capacity limit) events v → RefinesSome capacity limit v
+decode_gives : (capacity maximum limit : ℕ) (events : List (Event × Outcome)) (v : Session)
+    → Run (initial_session capacity maximum limit) events v → RefinesSome capacity maximum limit v
     → (s : ℕ) (fields : List Field) (size : ℕ) (is_dynamic : Bool) (v' : Session)
     → Step v (Decode s) (Decoded fields size is_dynamic) v'
     → AnswersFields events s fields size is_dynamic
 unfolding LawfulStep
-decode_gives capacity limit events v run r s fields size is_dynamic v' (inl h) = absurd (let e = h.answers in cc)
-decode_gives capacity limit events v run r s fields size is_dynamic v' (inr (none, inr h)) = absurd (let e = h.0 in cc)
-decode_gives capacity limit events v run r s fields size is_dynamic v' (inr (none, inl h)) =
+decode_gives capacity maximum limit events v run r s fields size is_dynamic v' (inl h) =
+    absurd (let e = h.answers in cc)
+decode_gives capacity maximum limit events v run r s fields size is_dynamic v' (inr (none, inr h)) =
+    absurd (let e = h.0 in cc)
+decode_gives capacity maximum limit events v run r s fields size is_dynamic v' (inr (none, inl h)) =
     pick (cases_lt (insert_count v.decoder) b.required)
   where
     b : KeptBlock
     b = h.block
 
     reads : ReadsExactly v b
-    reads = reads_next capacity limit v r s b (decode_live v s none) h.is_next
+    reads = reads_next capacity maximum limit v r s b (decode_live v s none) h.is_next
 
     pick : (insert_count v.decoder < b.required) ⊎ (b.required ≤ insert_count v.decoder)
         → AnswersFields events s fields size is_dynamic
     pick (inl lt) =
         absurd (fields_not_missing fields size is_dynamic b.required (h.answers ∙ answer_missing v b reads lt))
     pick (inr le) =
-        fields_answered events s b fields size is_dynamic (next_of capacity limit events v run s b h.is_next)
+        fields_answered events s b fields size is_dynamic (next_of capacity maximum limit events v run s b h.is_next)
         (h.answers ∙ answer_fields v b reads le)
 
-decodes_handed : (capacity limit : ℕ) (events : List (Event × Outcome)) (v : Session)
-    → Run (initial_session capacity limit) events v → RefinesSome capacity limit v
-    → DecodesWhatWasHanded capacity events v
-decodes_handed capacity limit events v run r =
-    let a = λ (s : ℕ). runs_add (initial_session capacity limit) events v s run in
+decodes_handed : (capacity maximum limit : ℕ) (events : List (Event × Outcome)) (v : Session)
+    → Run (initial_session capacity maximum limit) events v → RefinesSome capacity maximum limit v
+    → DecodesWhatWasHanded capacity maximum events v
+decodes_handed capacity maximum limit events v run r =
+    let a = λ (s : ℕ). runs_add (initial_session capacity maximum limit) events v s run in
     record {
-      answers = decode_gives capacity limit events v run r;
+      answers = decode_gives capacity maximum limit events v run r;
       blocks_are = λ s. ap (map (λ (x : KeptBlock). encode_behind x)) (a s).blocks ∙ (a s).written;
       decoded_are = λ s. omega (arith, (a s).decoded);
-      reads = λ s b live next le. (reads_next capacity limit v r s b live next).exact le;
-      meanings = means_handed capacity limit v r.abstract r.refines r.keeps;
+      reads = λ s b live next le. (reads_next capacity maximum limit v r s b live next).exact le;
+      meanings = means_handed capacity maximum limit v r.abstract r.refines r.keeps;
     }
 
-decode_answers : (capacity limit : ℕ) (events : List (Event × Outcome)) (v : Session)
-    → Run (initial_session capacity limit) events v → RefinesSome capacity limit v
+decode_answers : (capacity maximum limit : ℕ) (events : List (Event × Outcome)) (v : Session)
+    → Run (initial_session capacity maximum limit) events v → RefinesSome capacity maximum limit v
     → (s : ℕ) (o : Outcome) (v' : Session) → Step v (Decode s) o v' → DecodeAnswer events v s o
 unfolding LawfulStep
-decode_answers capacity limit events v run r s o v' (inl h) = is_skipped h.reason h.is_reason h.answers
-decode_answers capacity limit events v run r s o v' (inr (none, inr h)) = wants_memory h.0
-decode_answers capacity limit events v run r s o v' (inr (none, inl h)) = pick
+decode_answers capacity maximum limit events v run r s o v' (inl h) = is_skipped h.reason h.is_reason h.answers
+decode_answers capacity maximum limit events v run r s o v' (inr (none, inr h)) = wants_memory h.0
+decode_answers capacity maximum limit events v run r s o v' (inr (none, inl h)) = pick
     (cases_lt (insert_count v.decoder) b.required)
   where
     b : KeptBlock
     b = h.block
 
     reads : ReadsExactly v b
-    reads = reads_next capacity limit v r s b (decode_live v s none) h.is_next
+    reads = reads_next capacity maximum limit v r s b (decode_live v s none) h.is_next
 
     pick : (insert_count v.decoder < b.required) ⊎ (b.required ≤ insert_count v.decoder) → DecodeAnswer events v s o
     pick (inl lt) =
-        waits_for (encode_behind b) (next_of capacity limit events v run s b h.is_next) lt (h.answers
+        waits_for (encode_behind b) (next_of capacity maximum limit events v run s b h.is_next) lt (h.answers
         ∙ answer_missing v b reads lt)
     pick (inr le) =
         gives_fields b.fields (saturated_size (total_size b.fields)) (nat_lt 0 b.required) (h.answers
@@ -397,80 +403,85 @@ same_some : (b c : KeptBlock) → Some b ≡ Some c → b ≡ c
 same_some b c e = cc
 
 -- where its block's instructions are taken, a decode doesn't answer that anything is missing
-not_missing : (capacity limit : ℕ) (u : Session) → RefinesSome capacity limit u → (s : ℕ) (b : KeptBlock)
+not_missing : (capacity maximum limit : ℕ) (u : Session) → RefinesSome capacity maximum limit u
+    → (s : ℕ) (b : KeptBlock)
     → next_block u s ≡ Some b → b.end ≤ u.encoder_stream_taken
     → (required : ℕ) (u' : Session) → Step u (Decode s) (MissingReferences required) u' → ⊥
 unfolding LawfulStep
-not_missing capacity limit u r s b next taken required u' (inl h) = absurd (let e = h.answers in cc)
-not_missing capacity limit u r s b next taken required u' (inr (none, inr h)) = absurd (let e = h.0 in cc)
-not_missing capacity limit u r s b next taken required u' (inr (none, inl h)) =
+not_missing capacity maximum limit u r s b next taken required u' (inl h) = absurd (let e = h.answers in cc)
+not_missing capacity maximum limit u r s b next taken required u' (inr (none, inr h)) = absurd (let e = h.0 in cc)
+not_missing capacity maximum limit u r s b next taken required u' (inr (none, inl h)) =
     let c : KeptBlock = h.block in
     let same : c ≡ b = same_some c b (sym h.is_next ∙ next) in
-    let reads : ReadsExactly u c = reads_next capacity limit u r s c (decode_live u s none) h.is_next in
+    let reads : ReadsExactly u c = reads_next capacity maximum limit u r s c (decode_live u s none) h.is_next in
     let le : c.required ≤ insert_count u.decoder = reads.in_time
     (omega (arith, taken, ap (λ (x : KeptBlock). x.end) same)) in
     absurd (fields_not_missing c.fields (saturated_size (total_size c.fields)) (nat_lt 0 c.required) required
     (sym (answer_fields u c reads le) ∙ sym h.answers))
 
 -- the session behind a delivery
-delivery_invariant : (capacity limit : ℕ) (v : Session) (n : ℕ) (o : Outcome) (m : Session)
-    → SessionInvariant capacity limit v
-    → Step v (ToDecoder n) o m → SessionInvariant capacity limit m
-delivery_invariant capacity limit v n o m r g =
+delivery_invariant : (capacity maximum limit : ℕ) (v : Session) (n : ℕ) (o : Outcome) (m : Session)
+    → SessionInvariant capacity maximum limit v
+    → Step v (ToDecoder n) o m → SessionInvariant capacity maximum limit m
+delivery_invariant capacity maximum limit v n o m r g =
     record {
-      some = lands_delivered capacity limit v r.some.abstract n o m r.some.refines r.some.keeps (delivery_of v n o m g);
+      some = lands_delivered capacity maximum limit v r.some.abstract n o m r.some.refines r.some.keeps
+          (delivery_of v n o m g);
       counted = goes_counted v (ToDecoder n) o m g r.counted;
       ordered = (goes_moves v (ToDecoder n) o m r.ordered g).ordered;
     }
 
-never_missing : (capacity limit : ℕ) (v : Session) → SessionInvariant capacity limit v → (n received : ℕ) (m : Session)
+never_missing : (capacity maximum limit : ℕ) (v : Session) → SessionInvariant capacity maximum limit v
+    → (n received : ℕ) (m : Session)
     → Step v (ToDecoder n) (Delivered received) m
     → (later : List (Event × Outcome)) (u : Session) → Run m later u → (s : ℕ) (b : KeptBlock)
     → next_block u s ≡ Some b → b.end ≤ m.encoder_stream_delivered
     → (required : ℕ) (u' : Session) → Step u (Decode s) (MissingReferences required) u' → ⊥
-never_missing capacity limit v r n received m g later u run s b next reached required u' miss =
-    let rm = delivery_invariant capacity limit v n (Delivered received) m r g in
-    let ru = runs_invariant capacity limit m later u rm run in
+never_missing capacity maximum limit v r n received m g later u run s b next reached required u' miss =
+    let rm = delivery_invariant capacity maximum limit v n (Delivered received) m r g in
+    let ru = runs_invariant capacity maximum limit m later u rm run in
     let first = goes_moves v (ToDecoder n) (Delivered received) m r.ordered g in
     let since = runs_advance m later u rm.ordered run in
     let taken =
-    delivers_whole capacity limit v r.some.abstract n received m r.some.refines r.some.keeps
+    delivers_whole capacity maximum limit v r.some.abstract n received m r.some.refines r.some.keeps
     (delivery_of v n (Delivered received) m g)
     u ru.some.abstract ru.some.refines
     (extends_both v.encoder_stream m.encoder_stream u.encoder_stream first.encoder_stream since.encoder_stream) s
     (stream_at u.streams s).decoded b next reached in
-    not_missing capacity limit u ru.some s b next (omega (arith, taken, since.encoder_stream_taken)) required u' miss
+    not_missing capacity maximum limit u ru.some s b next
+    (omega (arith, taken, since.encoder_stream_taken)) required u' miss
 
-delivery_takes : (capacity limit : ℕ) (v : Session) → SessionInvariant capacity limit v → (n received : ℕ) (m : Session)
+delivery_takes : (capacity maximum limit : ℕ) (v : Session) → SessionInvariant capacity maximum limit v
+    → (n received : ℕ) (m : Session)
     → Step v (ToDecoder n) (Delivered received) m
     → (s position : ℕ) (b : KeptBlock) → slice_get (stream_at m.streams s).blocks position ≡ Some b
     → b.end ≤ m.encoder_stream_delivered → b.end ≤ m.encoder_stream_taken
-delivery_takes capacity limit v r n received m g =
-    let rm = delivery_invariant capacity limit v n (Delivered received) m r g in
-    delivers_whole capacity limit v r.some.abstract n received m r.some.refines r.some.keeps
+delivery_takes capacity maximum limit v r n received m g =
+    let rm = delivery_invariant capacity maximum limit v n (Delivered received) m r g in
+    delivers_whole capacity maximum limit v r.some.abstract n received m r.some.refines r.some.keeps
     (delivery_of v n (Delivered received) m g)
     m rm.some.abstract rm.some.refines (goes_moves v (ToDecoder n) (Delivered received) m r.ordered g).encoder_stream
 
-waits_only : (capacity limit : ℕ) (events : List (Event × Outcome)) (v : Session)
-    → Run (initial_session capacity limit) events v → SessionInvariant capacity limit v
+waits_only : (capacity maximum limit : ℕ) (events : List (Event × Outcome)) (v : Session)
+    → Run (initial_session capacity maximum limit) events v → SessionInvariant capacity maximum limit v
     → WaitsOnlyForInsertions events v
-waits_only capacity limit events v run r =
+waits_only capacity maximum limit events v run r =
     record {
-      answers = decode_answers capacity limit events v run r.some;
-      never_again = never_missing capacity limit v r;
-      takes = delivery_takes capacity limit v r;
-      in_time = λ s b live next. (reads_next capacity limit v r.some s b live next).in_time;
-      missing = λ s b live next. (reads_next capacity limit v r.some s b live next).missing;
+      answers = decode_answers capacity maximum limit events v run r.some;
+      never_again = never_missing capacity maximum limit v r;
+      takes = delivery_takes capacity maximum limit v r;
+      in_time = λ s b live next. (reads_next capacity maximum limit v r.some s b live next).in_time;
+      missing = λ s b live next. (reads_next capacity maximum limit v r.some s b live next).missing;
     }
 
 -- THE SESSION THEOREM, in bytes
 pub sessions_safe : SessionsAreSafe
-sessions_safe capacity limit events v run =
-    let r = runs_invariant capacity limit (initial_session capacity limit) events v
-    (opened_invariant capacity limit) run in
+sessions_safe capacity maximum limit within events v run =
+    let r = runs_invariant capacity maximum limit (initial_session capacity maximum limit) events v
+    (opened_invariant capacity maximum limit within) run in
     record {
-      follows = by_the_rule capacity limit events v run r;
-      refuses = refuses_nothing capacity limit v r.some;
-      decodes = decodes_handed capacity limit events v run r.some;
-      waits = waits_only capacity limit events v run r;
+      follows = by_the_rule capacity maximum limit events v run r;
+      refuses = refuses_nothing capacity maximum limit v r.some;
+      decodes = decodes_handed capacity maximum limit events v run r.some;
+      waits = waits_only capacity maximum limit events v run r;
     }

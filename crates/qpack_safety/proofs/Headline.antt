@@ -56,14 +56,14 @@ requiring (b ∷ bs) = pick (nat_eq b.required 0) refl (requiring bs)
     pick true q more = rw q more
     pick false q more = rw q (ap suc more)
 
-module _ (capacity limit : ℕ) (before : List (Event × Outcome)) (v : Session)
-    (run : Run (initial_session capacity limit) before v) where
-  safe : IsSafe capacity limit before v
-  safe = sessions_safe capacity limit before v run
+module _ (capacity maximum limit : ℕ) (within : capacity ≤ maximum) (before : List (Event × Outcome)) (v : Session)
+    (run : Run (initial_session capacity maximum limit) before v) where
+  safe : IsSafe capacity maximum limit before v
+  safe = sessions_safe capacity maximum limit within before v run
 
-  marks : (s : ℕ) → Marks (stream_at (initial_session capacity limit).streams s) (stream_at v.streams s)
+  marks : (s : ℕ) → Marks (stream_at (initial_session capacity maximum limit).streams s) (stream_at v.streams s)
       (acknowledgments_on s before) (is_cancelled s before)
-  marks s = runs_mark (initial_session capacity limit) before v s run
+  marks s = runs_mark (initial_session capacity maximum limit) before v s run
 
   cancelled_so : (s : ℕ) → (stream_at v.streams s).cancelled ≡ true → is_cancelled s before ≡ true
   cancelled_so s c = sym (marks s).cancelled_is ∙ c
@@ -336,9 +336,9 @@ front_behind s done (p ∷ rest) front each =
 -- ---- the headline
 
 pub answers_handed : SessionsAnswerWhatWasHanded
-answers_handed capacity limit events v run =
+answers_handed capacity maximum limit within events v run =
     let each : AreRight events = λ before after e o cut.
-    let m = moment_of (initial_session capacity limit) v before after e o
-    (subst (λ (x : List (Event × Outcome)). Run (initial_session capacity limit) x v) cut run) in
-    right capacity limit before m.at m.run e o m.next m.step in
+    let m = moment_of (initial_session capacity maximum limit) v before after e o
+    (subst (λ (x : List (Event × Outcome)). Run (initial_session capacity maximum limit) x v) cut run) in
+    right capacity maximum limit within before m.at m.run e o m.next m.step in
     record { in_order = λ s. front_behind s [] events ([], refl) each; each = each }

@@ -114,14 +114,15 @@ length_one_less : {X : Type 0} (xs ys : List X) → xs ≡ drop 1 ys → length 
 length_one_less xs ys e = ap length e ∙ length-drop 1 ys
 
 -- the streams after an acknowledgement was heard
-ack_heard : (capacity : ℕ) (h : History) (encoder_stream : List EncoderInstruction)
+ack_heard : (capacity maximum : ℕ) (h : History) (encoder_stream : List EncoderInstruction)
     (unacknowledged bs : List UnacknowledgedBlock) (rs : List DecoderInstruction)
     (s : ℕ) → Released s unacknowledged bs
-    → (q : ℕ) (st : AbstractStream) → KeepsStream capacity h encoder_stream unacknowledged (Acknowledgment s ∷ rs) q st
-    → KeepsStream capacity h encoder_stream bs rs q st
-ack_heard capacity h encoder_stream unacknowledged bs rs s r q st k = pick (cases_eq s q)
+    → (q : ℕ) (st : AbstractStream)
+    → KeepsStream capacity maximum h encoder_stream unacknowledged (Acknowledgment s ∷ rs) q st
+    → KeepsStream capacity maximum h encoder_stream bs rs q st
+ack_heard capacity maximum h encoder_stream unacknowledged bs rs s r q st k = pick (cases_eq s q)
   where
-    pick : (s ≡ q) ⊎ (s ≡ q → ⊥) → KeepsStream capacity h encoder_stream bs rs q st
+    pick : (s ≡ q) ⊎ (s ≡ q → ⊥) → KeepsStream capacity maximum h encoder_stream bs rs q st
     pick (inl e) =
         let own : open_of q bs ≡ drop 1 (open_of q unacknowledged) =
         subst (λ (x : ℕ). open_of x bs ≡ drop 1 (open_of x unacknowledged)) e r.own in
@@ -149,14 +150,15 @@ ack_heard capacity h encoder_stream unacknowledged bs rs s r q st k = pick (case
           blocks = k.blocks;
         }
 
-cancel_heard : (capacity : ℕ) (h : History) (encoder_stream : List EncoderInstruction)
+cancel_heard : (capacity maximum : ℕ) (h : History) (encoder_stream : List EncoderInstruction)
     (unacknowledged cs : List UnacknowledgedBlock) (rs : List DecoderInstruction)
     (s : ℕ) → ReleasedAll s unacknowledged cs
-    → (q : ℕ) (st : AbstractStream) → KeepsStream capacity h encoder_stream unacknowledged (Cancellation s ∷ rs) q st
-    → KeepsStream capacity h encoder_stream cs rs q st
-cancel_heard capacity h encoder_stream unacknowledged cs rs s r q st k = pick (cases_eq s q)
+    → (q : ℕ) (st : AbstractStream)
+    → KeepsStream capacity maximum h encoder_stream unacknowledged (Cancellation s ∷ rs) q st
+    → KeepsStream capacity maximum h encoder_stream cs rs q st
+cancel_heard capacity maximum h encoder_stream unacknowledged cs rs s r q st k = pick (cases_eq s q)
   where
-    pick : (s ≡ q) ⊎ (s ≡ q → ⊥) → KeepsStream capacity h encoder_stream cs rs q st
+    pick : (s ≡ q) ⊎ (s ≡ q → ⊥) → KeepsStream capacity maximum h encoder_stream cs rs q st
     pick (inl e) =
         let own : open_of q cs ≡ [] = subst (λ (x : ℕ). open_of x cs ≡ []) e r.none_left in
         let f : AcksFit q (Cancellation q ∷ rs) (length (open_of q unacknowledged)) =
@@ -182,12 +184,12 @@ cancel_heard capacity h encoder_stream unacknowledged cs rs s r q st k = pick (c
           blocks = k.blocks;
         }
 
-increment_heard : (capacity : ℕ) (h : History) (encoder_stream : List EncoderInstruction)
+increment_heard : (capacity maximum : ℕ) (h : History) (encoder_stream : List EncoderInstruction)
     (unacknowledged : List UnacknowledgedBlock) (rs : List DecoderInstruction)
     (n q : ℕ) (st : AbstractStream)
-    → KeepsStream capacity h encoder_stream unacknowledged (Increment n ∷ rs) q st
-    → KeepsStream capacity h encoder_stream unacknowledged rs q st
-increment_heard capacity h encoder_stream unacknowledged rs n q st k =
+    → KeepsStream capacity maximum h encoder_stream unacknowledged (Increment n ∷ rs) q st
+    → KeepsStream capacity maximum h encoder_stream unacknowledged rs q st
+increment_heard capacity maximum h encoder_stream unacknowledged rs n q st k =
     record {
       acknowledged = k.acknowledged;
       fits = fits_increment q n rs (length (open_of q unacknowledged)) k.fits;
@@ -197,12 +199,12 @@ increment_heard capacity h encoder_stream unacknowledged rs n q st k =
     }
 
 -- the first acknowledgement finds an unacknowledged block
-pub ack_finds : (capacity limit : ℕ) (w : AbstractSession) (s : ℕ) (rest : List DecoderInstruction)
-    → Invariant capacity limit w
+pub ack_finds : (capacity maximum limit : ℕ) (w : AbstractSession) (s : ℕ) (rest : List DecoderInstruction)
+    → Invariant capacity maximum limit w
     → w.decoder_in_flight ≡ Acknowledgment s ∷ rest
     → (bs : List UnacknowledgedBlock) × (without_oldest s w.encoder.unacknowledged ≡ Some bs)
     × Released s w.encoder.unacknowledged bs
-ack_finds capacity limit w s rest k e =
+ack_finds capacity maximum limit w s rest k e =
     let f : AcksFit s (Acknowledgment s ∷ rest) (length (open_of s w.encoder.unacknowledged)) =
     subst (λ (l : List DecoderInstruction). AcksFit s l (length (open_of s w.encoder.unacknowledged))) e
     (k.streams s).fits in
@@ -231,16 +233,18 @@ unfolding with_increment window
 kept_raised h t n le k =
     record { shares = k.shares; marked = k.marked; behind = omega (arith, k.behind); held = k.held }
 
-inv_heard : (capacity limit : ℕ) (w : AbstractSession) (r : DecoderInstruction) (rest : List DecoderInstruction)
+inv_heard : (capacity maximum limit : ℕ) (w : AbstractSession) (r : DecoderInstruction) (rest : List DecoderInstruction)
     → w.decoder_in_flight ≡ r ∷ rest
-    → Invariant capacity limit w → Invariant capacity limit (after_hear w rest (apply_decoder_instruction w.encoder r))
+    → Invariant capacity maximum limit w
+    → Invariant capacity maximum limit (after_hear w rest (apply_decoder_instruction w.encoder r))
 unfolding apply_decoder_instruction
-inv_heard capacity limit w (Acknowledgment s) rest e k =
-    let f = ack_finds capacity limit w s rest k e in
-    let next : Invariant capacity limit (record w {
+inv_heard capacity maximum limit w (Acknowledgment s) rest e k =
+    let f = ack_finds capacity maximum limit w s rest k e in
+    let next : Invariant capacity maximum limit (record w {
       encoder = record w.encoder { unacknowledged = f.0 };
       decoder_in_flight = rest;
     }) = record {
+      within = k.within;
       received = k.received;
       made = k.made;
       taken_leads = k.taken_leads;
@@ -251,16 +255,17 @@ inv_heard capacity limit w (Acknowledgment s) rest e k =
       known_received_count = omega (arith, k.known_received_count, ap increment_sum e, increments_cons_ack s rest);
       blocked = k.blocked;
       streams =
-          λ q. ack_heard capacity k.made (w.taken ++ w.in_flight) w.encoder.unacknowledged f.0 rest s f.2 q
+          λ q. ack_heard capacity maximum k.made (w.taken ++ w.in_flight) w.encoder.unacknowledged f.0 rest s f.2 q
           (stream_at w.streams q) (rw (← e) (k.streams q));
     } in
-    subst (λ (o : Option (List UnacknowledgedBlock)). Invariant capacity limit
+    subst (λ (o : Option (List UnacknowledgedBlock)). Invariant capacity maximum limit
     (after_hear w rest (or_refusal o (UnknownStream s) >>= λ bs. Ok (record w.encoder { unacknowledged = bs }))))
     (sym f.1)
     next
-inv_heard capacity limit w (Cancellation s) rest e k =
+inv_heard capacity maximum limit w (Cancellation s) rest e k =
     let all = releases_stream s w.encoder.unacknowledged in
     record {
+      within = k.within;
       received = k.received;
       made = k.made;
       taken_leads = k.taken_leads;
@@ -274,20 +279,21 @@ inv_heard capacity limit w (Cancellation s) rest e k =
       known_received_count = omega (arith, k.known_received_count, ap increment_sum e, increments_cons_cancel s rest);
       blocked = k.blocked;
       streams =
-          λ q. cancel_heard capacity k.made (w.taken ++ w.in_flight) w.encoder.unacknowledged
+          λ q. cancel_heard capacity maximum k.made (w.taken ++ w.in_flight) w.encoder.unacknowledged
           (without_stream s w.encoder.unacknowledged) rest s all q (stream_at w.streams q) (rw (← e) (k.streams q));
     }
-inv_heard capacity limit w (Increment n) rest e k =
+inv_heard capacity maximum limit w (Increment n) rest e k =
     let small : w.encoder.known_received_count + n ≤ 2 ^ 62 =
     omega (
       arith,
       k.known_received_count,
       ap increment_sum e,
       increments_cons n rest,
-      (sound_received capacity limit w k).few,
+      (sound_received capacity maximum limit w k).few,
     ) in
     let same = same_raised w.encoder n small in
     record {
+      within = k.within;
       received = k.received;
       made = k.made;
       taken_leads = k.taken_leads;
@@ -300,11 +306,12 @@ inv_heard capacity limit w (Increment n) rest e k =
       blocked = omega (arith, k.blocked, same.r_waiting);
       streams =
           λ q. rw same.r_opened
-          (increment_heard capacity k.made (w.taken ++ w.in_flight) w.encoder.unacknowledged rest n q
+          (increment_heard capacity maximum k.made (w.taken ++ w.in_flight) w.encoder.unacknowledged rest n q
           (stream_at w.streams q) (rw (← e) (k.streams q)));
     }
 
-pub inv_hears : (capacity limit : ℕ) (w : AbstractSession) (rs : List DecoderInstruction) → w.decoder_in_flight ≡ rs
-    → Invariant capacity limit w → Invariant capacity limit (hear_next w rs)
-inv_hears capacity limit w [] e k = k
-inv_hears capacity limit w (r ∷ rest) e k = inv_heard capacity limit w r rest e k
+pub inv_hears : (capacity maximum limit : ℕ) (w : AbstractSession) (rs : List DecoderInstruction)
+    → w.decoder_in_flight ≡ rs
+    → Invariant capacity maximum limit w → Invariant capacity maximum limit (hear_next w rs)
+inv_hears capacity maximum limit w [] e k = k
+inv_hears capacity maximum limit w (r ∷ rest) e k = inv_heard capacity maximum limit w r rest e k

@@ -23,11 +23,11 @@ use Rattle.qpack_safety.proofs.OpenBlocks.{open_of}
 use Rattle.qpack_safety.proofs.DecoderInstructions.{acks_in, cancels_in, AcksFit}
 
 -- a block: its prefix and lines are written, it means what was handed, and its count is among the insertions by its end
-pub record KeepsBlock (capacity : ℕ) (h : History) (encoder_stream : List EncoderInstruction)
+pub record KeepsBlock (capacity maximum : ℕ) (h : History) (encoder_stream : List EncoderInstruction)
     (b : AbstractBlock) : Type 0 where
   pub base : ℕ
   pub few : base ≤ 2 ^ 62
-  pub written : b.block.prefix ≡ prefix_for capacity (greatest_of b.referenced) base
+  pub written : b.block.prefix ≡ prefix_for maximum (greatest_of b.referenced) base
   pub means : fields_of (whole_window h) base b.block.lines ≡ Ok b.fields
   pub references : with_numbers [] (references_of base b.block.lines) ≡ b.referenced
   pub plain : greatest_of b.referenced ≡ 0 → b.referenced ≡ []
@@ -36,13 +36,14 @@ pub record KeepsBlock (capacity : ℕ) (h : History) (encoder_stream : List Enco
   pub cut : front ++ rest ≡ encoder_stream
   pub ends : length front ≡ b.end
   pub at_end : History
-  pub leads : Leads (initial_history capacity) front at_end
+  pub leads : Leads (initial_history capacity maximum) front at_end
   pub within : greatest_of b.referenced ≤ length at_end.inserted
 
-block_grows : (capacity : ℕ) (h h' : History) (encoder_stream more : List EncoderInstruction) (b : AbstractBlock)
+block_grows : (capacity maximum : ℕ) (h h' : History) (encoder_stream more : List EncoderInstruction)
+    (b : AbstractBlock)
     → Grows h h'
-    → KeepsBlock capacity h encoder_stream b → KeepsBlock capacity h' (encoder_stream ++ more) b
-block_grows capacity h h' encoder_stream more b g k =
+    → KeepsBlock capacity maximum h encoder_stream b → KeepsBlock capacity maximum h' (encoder_stream ++ more) b
+block_grows capacity maximum h h' encoder_stream more b g k =
     record {
       base = k.base;
       few = k.few;
@@ -63,7 +64,7 @@ block_grows capacity h h' encoder_stream more b g k =
     }
 
 -- a stream: acknowledgements never outrun decodes, and what wasn't acknowledged is open
-pub record KeepsStream (capacity : ℕ) (h : History) (encoder_stream : List EncoderInstruction)
+pub record KeepsStream (capacity maximum : ℕ) (h : History) (encoder_stream : List EncoderInstruction)
     (unacknowledged : List UnacknowledgedBlock)
     (decoder_in_flight : List DecoderInstruction) (s : ℕ) (st : AbstractStream) : Type 0 where
   pub acknowledged : st.acknowledged ≤ length (filter is_dynamic (take st.decoded st.blocks))
@@ -71,32 +72,33 @@ pub record KeepsStream (capacity : ℕ) (h : History) (encoder_stream : List Enc
   pub stays_open : st.cancelled ≡ false → drop (acks_in s decoder_in_flight) (open_of s unacknowledged)
       ≡ map (λ (b : AbstractBlock). b.referenced) (drop st.acknowledged (filter is_dynamic st.blocks))
   pub quiet : st.cancelled ≡ false → cancels_in s decoder_in_flight ≡ 0
-  pub blocks : AllByRecursion (KeepsBlock capacity h encoder_stream) st.blocks
+  pub blocks : AllByRecursion (KeepsBlock capacity maximum h encoder_stream) st.blocks
 
-pub stream_grows : (capacity : ℕ) (h h' : History) (encoder_stream more : List EncoderInstruction)
+pub stream_grows : (capacity maximum : ℕ) (h h' : History) (encoder_stream more : List EncoderInstruction)
     (unacknowledged : List UnacknowledgedBlock)
     (decoder_in_flight : List DecoderInstruction) (s : ℕ) (st : AbstractStream)
-    → Grows h h' → KeepsStream capacity h encoder_stream unacknowledged decoder_in_flight s st
-    → KeepsStream capacity h' (encoder_stream ++ more) unacknowledged decoder_in_flight s st
-stream_grows capacity h h' encoder_stream more unacknowledged decoder_in_flight s st g k =
+    → Grows h h' → KeepsStream capacity maximum h encoder_stream unacknowledged decoder_in_flight s st
+    → KeepsStream capacity maximum h' (encoder_stream ++ more) unacknowledged decoder_in_flight s st
+stream_grows capacity maximum h h' encoder_stream more unacknowledged decoder_in_flight s st g k =
     record {
       acknowledged = k.acknowledged;
       fits = k.fits;
       stays_open = k.stays_open;
       quiet = k.quiet;
       blocks =
-          every_weaker (KeepsBlock capacity h encoder_stream) (KeepsBlock capacity h' (encoder_stream ++ more))
-          (λ b. block_grows capacity h h' encoder_stream more b g) st.blocks k.blocks;
+          every_weaker (KeepsBlock capacity maximum h encoder_stream)
+          (KeepsBlock capacity maximum h' (encoder_stream ++ more))
+          (λ b. block_grows capacity maximum h h' encoder_stream more b g) st.blocks k.blocks;
     }
 
 -- the same where the unacknowledged blocks of the stream are the same
-pub stream_opened : (capacity : ℕ) (h : History) (encoder_stream : List EncoderInstruction)
+pub stream_opened : (capacity maximum : ℕ) (h : History) (encoder_stream : List EncoderInstruction)
     (unacknowledged opened' : List UnacknowledgedBlock)
     (decoder_in_flight : List DecoderInstruction) (s : ℕ) (st : AbstractStream)
     → open_of s opened' ≡ open_of s unacknowledged
-    → KeepsStream capacity h encoder_stream unacknowledged decoder_in_flight s st
-    → KeepsStream capacity h encoder_stream opened' decoder_in_flight s st
-stream_opened capacity h encoder_stream unacknowledged opened' decoder_in_flight s st e k =
+    → KeepsStream capacity maximum h encoder_stream unacknowledged decoder_in_flight s st
+    → KeepsStream capacity maximum h encoder_stream opened' decoder_in_flight s st
+stream_opened capacity maximum h encoder_stream unacknowledged opened' decoder_in_flight s st e k =
     record {
       acknowledged = k.acknowledged;
       fits = rw e k.fits;
@@ -105,10 +107,11 @@ stream_opened capacity h encoder_stream unacknowledged opened' decoder_in_flight
       blocks = k.blocks;
     }
 
-pub record Invariant (capacity limit : ℕ) (w : AbstractSession) : Type 0 where
+pub record Invariant (capacity maximum limit : ℕ) (w : AbstractSession) : Type 0 where
+  pub within : capacity ≤ maximum
   pub received : History
   pub made : History
-  pub taken_leads : Leads (initial_history capacity) w.taken received
+  pub taken_leads : Leads (initial_history capacity maximum) w.taken received
   pub in_flight_leads : Leads received w.in_flight made
   pub decoder : w.decoder ≡ window_of received
   pub encoder : KeepsTable made w.encoder
@@ -117,36 +120,43 @@ pub record Invariant (capacity limit : ℕ) (w : AbstractSession) : Type 0 where
       ≡ length received.inserted
   pub blocked : length w.encoder.blocked ≤ limit
   pub streams : (s : ℕ)
-      → KeepsStream capacity made (w.taken ++ w.in_flight) w.encoder.unacknowledged w.decoder_in_flight s
+      → KeepsStream capacity maximum made (w.taken ++ w.in_flight) w.encoder.unacknowledged w.decoder_in_flight s
       (stream_at w.streams s)
 
-pub sound_received : (capacity limit : ℕ) (w : AbstractSession) (k : Invariant capacity limit w) → Sound k.received
-sound_received capacity limit w k = leads_sound (initial_history capacity) w.taken k.received k.taken_leads
-    (sound_start capacity)
+pub sound_received : (capacity maximum limit : ℕ) (w : AbstractSession) (k : Invariant capacity maximum limit w)
+    → Sound k.received
+sound_received capacity maximum limit w k =
+    leads_sound (initial_history capacity maximum) w.taken k.received k.taken_leads
+    (sound_start capacity maximum)
 
-pub sound_made : (capacity limit : ℕ) (w : AbstractSession) (k : Invariant capacity limit w) → Sound k.made
-sound_made capacity limit w k =
-    leads_sound k.received w.in_flight k.made k.in_flight_leads (sound_received capacity limit w k)
+pub sound_made : (capacity maximum limit : ℕ) (w : AbstractSession) (k : Invariant capacity maximum limit w)
+    → Sound k.made
+sound_made capacity maximum limit w k =
+    leads_sound k.received w.in_flight k.made k.in_flight_leads (sound_received capacity maximum limit w k)
 
-pub agreed_received : (capacity limit : ℕ) (w : AbstractSession) (k : Invariant capacity limit w)
-    → Agreed capacity k.received
-agreed_received capacity limit w k =
-    leads_agreed capacity (initial_history capacity) w.taken k.received k.taken_leads (agreed_start capacity)
+pub agreed_received : (capacity maximum limit : ℕ) (w : AbstractSession) (k : Invariant capacity maximum limit w)
+    → Agreed maximum k.received
+agreed_received capacity maximum limit w k =
+    leads_agreed maximum (initial_history capacity maximum) w.taken k.received k.taken_leads
+    (agreed_start capacity maximum k.within)
 
-pub agreed_made : (capacity limit : ℕ) (w : AbstractSession) (k : Invariant capacity limit w) → Agreed capacity k.made
-agreed_made capacity limit w k =
-    leads_agreed capacity k.received w.in_flight k.made k.in_flight_leads (agreed_received capacity limit w k)
+pub agreed_made : (capacity maximum limit : ℕ) (w : AbstractSession) (k : Invariant capacity maximum limit w)
+    → Agreed maximum k.made
+agreed_made capacity maximum limit w k =
+    leads_agreed maximum k.received w.in_flight k.made k.in_flight_leads (agreed_received capacity maximum limit w k)
 
 pub total_window : (h : History) → Sound h → window_insert_count (window_of h) ≡ length h.inserted
 unfolding window_of
 total_window h s = omega (arith, length-drop h.dropped h.inserted, s.in_range)
 
-pub inv_started : (capacity limit : ℕ) → Invariant capacity limit (abstract_start capacity limit)
+pub inv_started : (capacity maximum limit : ℕ) → capacity ≤ maximum
+    → Invariant capacity maximum limit (abstract_start capacity maximum limit)
 unfolding window window_of AcksFit acks_in cancels_in open_of increment_sum
-inv_started capacity limit =
+inv_started capacity maximum limit within =
     record {
-      received = initial_history capacity;
-      made = initial_history capacity;
+      within = within;
+      received = initial_history capacity maximum;
+      made = initial_history capacity maximum;
       taken_leads = refl;
       in_flight_leads = refl;
       decoder = refl;

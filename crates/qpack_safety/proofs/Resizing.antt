@@ -114,17 +114,19 @@ bound_same : (t : Table) (h : History) (n : ℕ) → window t ≡ window_of h �
 unfolding window window_of
 bound_same t h n e le = subst (λ (o : Option ℕ). n ≤ greatest_capacity o) (ap (λ (w : Window). w.agreed_max) e) le
 
-inv_resized : (capacity limit : ℕ) (w : AbstractSession) (n : ℕ) → CanResize w.encoder n → Invariant capacity limit w
-    → Invariant capacity limit (record w {
+inv_resized : (capacity maximum limit : ℕ) (w : AbstractSession) (n : ℕ) → CanResize w.encoder n
+    → Invariant capacity maximum limit w
+    → Invariant capacity maximum limit (record w {
       encoder = resized_table w.encoder n;
       in_flight = w.in_flight ++ SetCapacity n ∷ [];
     })
-inv_resized capacity limit w n c k =
-    let s : Sound k.made = sound_made capacity limit w k in
+inv_resized capacity maximum limit w n c k =
+    let s : Sound k.made = sound_made capacity maximum limit w k in
     let z = same_resized w.encoder n in
     let one : effect (window_of k.made) (SetCapacity n) ≡ Ok (Resizes n) =
     resize_effect (window_of k.made) n (bound_same w.encoder k.made n k.encoder.shares c.within) in
     record {
+      within = k.within;
       received = k.received;
       made = history_after k.made (Resizes n);
       taken_leads = k.taken_leads;
@@ -138,20 +140,21 @@ inv_resized capacity limit w n c k =
       known_received_count = omega (arith, k.known_received_count, z.z_known);
       blocked = rw z.z_waiting k.blocked;
       streams =
-          λ q. rw (z.z_opened, ← append_assoc) (stream_grows capacity k.made (history_after k.made (Resizes n))
+          λ q. rw (z.z_opened, ← append_assoc) (stream_grows capacity maximum k.made (history_after k.made (Resizes n))
           (w.taken ++ w.in_flight) (SetCapacity n ∷ []) w.encoder.unacknowledged w.decoder_in_flight q
           (stream_at w.streams q)
           (grows_one k.made (Resizes n)) (k.streams q));
     }
 
-pub inv_with_resized : (capacity limit : ℕ) (w : AbstractSession) (n : ℕ) → Invariant capacity limit w
-    → Invariant capacity limit (after_resize w n (with_capacity w.encoder n))
-inv_with_resized capacity limit w n k = pick (resized_cases w.encoder n)
+pub inv_with_resized : (capacity maximum limit : ℕ) (w : AbstractSession) (n : ℕ) → Invariant capacity maximum limit w
+    → Invariant capacity maximum limit (after_resize w n (with_capacity w.encoder n))
+inv_with_resized capacity maximum limit w n k = pick (resized_cases w.encoder n)
   where
     pick : (CanResize w.encoder n × (with_capacity w.encoder n ≡ Ok (resized_table w.encoder n)))
         ⊎ ((e : TableRefusal) × (with_capacity w.encoder n ≡ Err e))
-        → Invariant capacity limit (after_resize w n (with_capacity w.encoder n))
+        → Invariant capacity maximum limit (after_resize w n (with_capacity w.encoder n))
     pick (inl p) =
-        subst (λ (r : Result Table TableRefusal). Invariant capacity limit (after_resize w n r)) (sym p.1)
-        (inv_resized capacity limit w n p.0 k)
-    pick (inr e) = subst (λ (r : Result Table TableRefusal). Invariant capacity limit (after_resize w n r)) (sym e.1) k
+        subst (λ (r : Result Table TableRefusal). Invariant capacity maximum limit (after_resize w n r)) (sym p.1)
+        (inv_resized capacity maximum limit w n p.0 k)
+    pick (inr e) = subst (λ (r : Result Table TableRefusal). Invariant capacity maximum limit (after_resize w n r))
+        (sym e.1) k

@@ -33,11 +33,11 @@ use Rattle.qpack_safety.proofs.Taking.{taking, Taking}
 use Rattle.qpack_safety.proofs.Hearing.{ack_finds}
 
 -- the entries of the oldest undecoded block are live at the encoder
-undecoded_live : (capacity limit : ℕ) (w : AbstractSession) (k : Invariant capacity limit w) (s : ℕ)
+undecoded_live : (capacity maximum limit : ℕ) (w : AbstractSession) (k : Invariant capacity maximum limit w) (s : ℕ)
     (b : AbstractBlock) → (stream_at w.streams s).cancelled ≡ false
     → slice_get (stream_at w.streams s).blocks (stream_at w.streams s).decoded ≡ Some b → 0 < greatest_of b.referenced
     → AllByRecursion (IsLive w.encoder) b.referenced
-undecoded_live capacity limit w k s b live there dynamic =
+undecoded_live capacity maximum limit w k s b live there dynamic =
     let st = stream_at w.streams s in
     let ok = k.streams s in
     let held : AllByRecursion (λ (r : List ℕ). AllByRecursion (IsLive w.encoder) r)
@@ -77,14 +77,16 @@ fits_table t h e s =
     rw (l, c) s.fits
 
 -- the count is among the insertions received once the front of its block was taken
-taken_in_time : (capacity : ℕ) (h made : History) (taken in_flight : List EncoderInstruction) (b : AbstractBlock)
-    → Leads (initial_history capacity) taken h → KeepsBlock capacity made (taken ++ in_flight) b → b.end ≤ length taken
+taken_in_time : (capacity maximum : ℕ) (h made : History) (taken in_flight : List EncoderInstruction)
+    (b : AbstractBlock)
+    → Leads (initial_history capacity maximum) taken h → KeepsBlock capacity maximum made (taken ++ in_flight) b
+    → b.end ≤ length taken
     → greatest_of b.referenced ≤ length h.inserted
-taken_in_time capacity h made taken in_flight b l ok le =
+taken_in_time capacity maximum h made taken in_flight b l ok le =
     let f = front_of ok.front ok.rest taken in_flight ok.cut (omega (arith, ok.ends, le)) in
-    let m = leads_split (initial_history capacity) ok.front f.0 h
-    (subst (λ (x : List EncoderInstruction). Leads (initial_history capacity) x h) (sym f.1) l) in
-    let same : m.0 ≡ ok.at_end = leads_unique (initial_history capacity) ok.front m.0 ok.at_end m.1 ok.leads in
+    let m = leads_split (initial_history capacity maximum) ok.front f.0 h
+    (subst (λ (x : List EncoderInstruction). Leads (initial_history capacity maximum) x h) (sym f.1) l) in
+    let same : m.0 ≡ ok.at_end = leads_unique (initial_history capacity maximum) ok.front m.0 ok.at_end m.1 ok.leads in
     let g : Grows m.0 h = leads_grows m.0 f.0 h m.2 in
     omega (
       arith,
@@ -95,20 +97,21 @@ taken_in_time capacity h made taken in_flight b l ok le =
     )
 
 -- the window of counts
-in_reach : (capacity limit : ℕ) (w : AbstractSession) (k : Invariant capacity limit w) (r : ℕ) → IsLive w.encoder r
-    → 0 < r → InReach (window_insert_count w.decoder) capacity r
-in_reach capacity limit w k r live positive =
-    let s : Sound k.made = sound_made capacity limit w k in
+in_reach : (capacity maximum limit : ℕ) (w : AbstractSession) (k : Invariant capacity maximum limit w) (r : ℕ)
+    → IsLive w.encoder r
+    → 0 < r → InReach (window_insert_count w.decoder) maximum r
+in_reach capacity maximum limit w k r live positive =
+    let s : Sound k.made = sound_made capacity maximum limit w k in
     let n : insert_count w.encoder ≡ length k.made.inserted = count_inserted w.encoder k.made k.encoder.shares s in
     let t : window_insert_count w.decoder ≡ length k.received.inserted =
-    ap window_insert_count k.decoder ∙ total_window k.received (sound_received capacity limit w k) in
+    ap window_insert_count k.decoder ∙ total_window k.received (sound_received capacity maximum limit w k) in
     let d : w.encoder.dropped ≡ k.made.dropped = dropped_same w.encoder k.made k.encoder.shares in
-    let a : Agreed capacity k.made = agreed_made capacity limit w k in
+    let a : Agreed maximum k.made = agreed_made capacity maximum limit w k in
     let g : Grows k.received k.made = leads_grows k.received w.in_flight k.made k.in_flight_leads in
     let more : length k.received.inserted ≤ length k.made.inserted =
     omega (arith, ap length g.inserts, length-append k.received.inserted g.more) in
-    let few : 32 * (length k.made.inserted - k.made.dropped) ≤ capacity = omega (arith, sound_few k.made s, a.within) in
-    let room : 32 ≤ capacity = a.roomy (omega (arith, live.1)) in
+    let few : 32 * (length k.made.inserted - k.made.dropped) ≤ maximum = omega (arith, sound_few k.made s, a.within) in
+    let room : 32 ≤ maximum = a.roomy (omega (arith, live.1)) in
     record {
       room = room;
       low = omega (arith, live.0, live.1, k.known_received_count, k.encoder.behind);
@@ -116,50 +119,51 @@ in_reach capacity limit w k r live positive =
       small = omega (arith, live.1, n, s.few);
     }
 
-block_reads : (capacity received agreed_max : ℕ) (made : History) (encoder_stream : List EncoderInstruction)
+block_reads : (capacity maximum received agreed_max : ℕ) (made : History) (encoder_stream : List EncoderInstruction)
     (b : AbstractBlock)
-    (ok : KeepsBlock capacity made encoder_stream b) → agreed_max ≡ capacity
-    → (0 < greatest_of b.referenced → InReach received capacity (greatest_of b.referenced))
+    (ok : KeepsBlock capacity maximum made encoder_stream b) → agreed_max ≡ maximum
+    → (0 < greatest_of b.referenced → InReach received maximum (greatest_of b.referenced))
     → ReadsAs received agreed_max (greatest_of b.referenced) ok.base b.block.prefix
-block_reads capacity received agreed_max made encoder_stream b ok e reach =
+block_reads capacity maximum received agreed_max made encoder_stream b ok e reach =
     subst (λ (p : Prefix). ReadsAs received agreed_max (greatest_of b.referenced) ok.base p) (sym ok.written)
     (subst (λ (a : ℕ). ReadsAs received a (greatest_of b.referenced) ok.base
-    (prefix_for capacity (greatest_of b.referenced) ok.base))
+    (prefix_for maximum (greatest_of b.referenced) ok.base))
     (sym e)
-    (reads_written received capacity (greatest_of b.referenced) ok.base (omega (arith, ok.few)) reach))
+    (reads_written received maximum (greatest_of b.referenced) ok.base (omega (arith, ok.few)) reach))
 
-decodes_exactly : (capacity limit : ℕ) (w : AbstractSession) (k : Invariant capacity limit w) (s : ℕ)
+decodes_exactly : (capacity maximum limit : ℕ) (w : AbstractSession) (k : Invariant capacity maximum limit w) (s : ℕ)
     (b : AbstractBlock) → (stream_at w.streams s).cancelled ≡ false
     → slice_get (stream_at w.streams s).blocks (stream_at w.streams s).decoded ≡ Some b → DecodesExactly w b
-decodes_exactly capacity limit w k s b live there = pick (cases_lt 0 (greatest_of b.referenced))
+decodes_exactly capacity maximum limit w k s b live there = pick (cases_lt 0 (greatest_of b.referenced))
   where
-    ok : KeepsBlock capacity k.made (w.taken ++ w.in_flight) b
-    ok = every_get (KeepsBlock capacity k.made (w.taken ++ w.in_flight)) (stream_at w.streams s).blocks
+    ok : KeepsBlock capacity maximum k.made (w.taken ++ w.in_flight) b
+    ok = every_get (KeepsBlock capacity maximum k.made (w.taken ++ w.in_flight)) (stream_at w.streams s).blocks
         (stream_at w.streams s).decoded b there (k.streams s).blocks
 
     received : window_insert_count w.decoder ≡ length k.received.inserted
-    received = ap window_insert_count k.decoder ∙ total_window k.received (sound_received capacity limit w k)
+    received = ap window_insert_count k.decoder ∙ total_window k.received (sound_received capacity maximum limit w k)
 
-    agreed_max : maximum_of w.decoder ≡ capacity
-    agreed_max = maximum_window w.decoder k.received capacity k.decoder (agreed_received capacity limit w k)
+    agreed_max : maximum_of w.decoder ≡ maximum
+    agreed_max = maximum_window w.decoder k.received maximum k.decoder (agreed_received capacity maximum limit w k)
 
     in_time : b.end ≤ length w.taken → greatest_of b.referenced ≤ window_insert_count w.decoder
-    in_time le = rw received (taken_in_time capacity k.received k.made w.taken w.in_flight b k.taken_leads ok le)
+    in_time le =
+        rw received (taken_in_time capacity maximum k.received k.made w.taken w.in_flight b k.taken_leads ok le)
 
-    reads : (0 < greatest_of b.referenced → InReach (window_insert_count w.decoder) capacity (greatest_of b.referenced))
+    reads : (0 < greatest_of b.referenced → InReach (window_insert_count w.decoder) maximum (greatest_of b.referenced))
         → ReadsAs (window_insert_count w.decoder) (maximum_of w.decoder)
         (greatest_of b.referenced) ok.base b.block.prefix
     reads reach =
-        block_reads capacity (window_insert_count w.decoder) (maximum_of w.decoder) k.made
+        block_reads capacity maximum (window_insert_count w.decoder) (maximum_of w.decoder) k.made
         (w.taken ++ w.in_flight) b ok agreed_max reach
 
     pick : (0 < greatest_of b.referenced) ⊎ (greatest_of b.referenced ≤ 0) → DecodesExactly w b
     pick (inl positive) =
         let held : AllByRecursion (IsLive w.encoder) b.referenced =
-        undecoded_live capacity limit w k s b live there positive in
+        undecoded_live capacity maximum limit w k s b live there positive in
         let top : IsLive w.encoder (greatest_of b.referenced) = greatest_has
         (IsLive w.encoder) b.referenced positive held in
-        let p = reads (λ r. in_reach capacity limit w k (greatest_of b.referenced) top r) in
+        let p = reads (λ r. in_reach capacity maximum limit w k (greatest_of b.referenced) top r) in
         let g : Grows k.received k.made = leads_grows k.received w.in_flight k.made k.in_flight_leads in
         let d : w.encoder.dropped ≡ k.made.dropped = dropped_same w.encoder k.made k.encoder.shares in
         record {
@@ -192,23 +196,26 @@ decodes_exactly capacity limit w k s b live there = pick (cases_lt 0 (greatest_o
           in_time = in_time;
         }
 
-pub hears_next : (capacity limit : ℕ) (w : AbstractSession) (k : Invariant capacity limit w) (r : DecoderInstruction)
+pub hears_next : (capacity maximum limit : ℕ) (w : AbstractSession) (k : Invariant capacity maximum limit w)
+    (r : DecoderInstruction)
     (rest : List DecoderInstruction) → w.decoder_in_flight ≡ r ∷ rest → IsOk (apply_decoder_instruction w.encoder r)
 unfolding apply_decoder_instruction
-hears_next capacity limit w k (Acknowledgment s) rest e = let f = ack_finds capacity limit w s rest k e in rw f.1 refl
-hears_next capacity limit w k (Cancellation s) rest e = refl
-hears_next capacity limit w k (Increment n) rest e = refl
+hears_next capacity maximum limit w k (Acknowledgment s) rest e =
+    let f = ack_finds capacity maximum limit w s rest k e in rw f.1 refl
+hears_next capacity maximum limit w k (Cancellation s) rest e = refl
+hears_next capacity maximum limit w k (Increment n) rest e = refl
 
-pub inv_safe : (capacity limit : ℕ) (w : AbstractSession) → Invariant capacity limit w → Safe capacity limit w
-inv_safe capacity limit w k =
+pub inv_safe : (capacity maximum limit : ℕ) (w : AbstractSession) → Invariant capacity maximum limit w
+    → Safe capacity maximum limit w
+inv_safe capacity maximum limit w k =
     record {
       takes_next = λ i rest e.
           let t : Taking k.received k.made w.decoder i rest =
-          taking k.received k.made w.decoder i rest (sound_received capacity limit w k) k.decoder
+          taking k.received k.made w.decoder i rest (sound_received capacity maximum limit w k) k.decoder
           (subst (λ (l : List EncoderInstruction). Leads k.received l k.made) e k.in_flight_leads) in
           rw t.applies refl;
-      hears_next = hears_next capacity limit w k;
-      decodes = decodes_exactly capacity limit w k;
+      hears_next = hears_next capacity maximum limit w k;
+      decodes = decodes_exactly capacity maximum limit w k;
       blocked = k.blocked;
       received =
           omega (
@@ -216,10 +223,10 @@ inv_safe capacity limit w k =
             k.known_received_count,
             ap window_insert_count k.decoder,
             total_window k.received
-                (sound_received capacity limit w k),
+                (sound_received capacity maximum limit w k),
           );
-      encoder_fits = fits_table w.encoder k.made k.encoder.shares (sound_made capacity limit w k);
-      decoder_fits = fits_window w.decoder k.received k.decoder (sound_received capacity limit w k);
+      encoder_fits = fits_table w.encoder k.made k.encoder.shares (sound_made capacity maximum limit w k);
+      decoder_fits = fits_window w.decoder k.received k.decoder (sound_received capacity maximum limit w k);
       received_history = k.received;
       made_history = k.made;
       taken_lead = k.taken_leads;

@@ -47,63 +47,74 @@ use Rattle.qpack_safety.proofs.DeliveryEvents.{heard_lawful}
 
 -- ---- every event
 
-stays : (capacity limit : ℕ) (v v' : Session) (w : AbstractSession) → Refines v w → Invariant capacity limit w → v' ≡ v
-    → RefinesSome capacity limit v'
-stays capacity limit v v' w sh k e =
-    subst (RefinesSome capacity limit) (sym e) (record { abstract = w; refines = sh; keeps = k })
+stays : (capacity maximum limit : ℕ) (v v' : Session) (w : AbstractSession) → Refines v w
+    → Invariant capacity maximum limit w → v' ≡ v
+    → RefinesSome capacity maximum limit v'
+stays capacity maximum limit v v' w sh k e =
+    subst (RefinesSome capacity maximum limit) (sym e) (record { abstract = w; refines = sh; keeps = k })
 
-moves : (capacity limit : ℕ) (v' u : Session) → v' ≡ u → RefinesSome capacity limit u → RefinesSome capacity limit v'
-moves capacity limit v' u e l = subst (RefinesSome capacity limit) (sym e) l
+moves : (capacity maximum limit : ℕ) (v' u : Session) → v' ≡ u → RefinesSome capacity maximum limit u
+    → RefinesSome capacity maximum limit v'
+moves capacity maximum limit v' u e l = subst (RefinesSome capacity maximum limit) (sym e) l
 
-happens_lands : (capacity limit : ℕ) (v : Session) (w : AbstractSession) (e : Event) (o : Outcome) (v' : Session)
-    → Refines v w → Invariant capacity limit w → IsByteEvent e → FitsMemory v' → skip_reason v e ≡ None
-    → LawfulStep v e o v' → RefinesSome capacity limit v'
+happens_lands : (capacity maximum limit : ℕ) (v : Session) (w : AbstractSession) (e : Event) (o : Outcome)
+    (v' : Session)
+    → Refines v w → Invariant capacity maximum limit w → IsByteEvent e → FitsMemory v' → skip_reason v e ≡ None
+    → LawfulStep v e o v' → RefinesSome capacity maximum limit v'
 unfolding LawfulStep skip_reason
-happens_lands capacity limit v w (Encode s fs) o v' sh k wr fits none (inl h) =
-    moves capacity limit v' (with_block v s fs) h.1
-    (lands_encoded capacity limit v w s fs sh k wr (subst FitsMemory h.1 fits))
-happens_lands capacity limit v w (Encode s fs) o v' sh k wr fits none (inr (inl h)) =
-    moves capacity limit v' (after_refused_encode v (take h.many fs)) h.leads
-    (lands_given_up capacity limit v w (take h.many fs) sh k (every_take IsByteField h.many fs wr)
+happens_lands capacity maximum limit v w (Encode s fs) o v' sh k wr fits none (inl h) =
+    moves capacity maximum limit v' (with_block v s fs) h.1
+    (lands_encoded capacity maximum limit v w s fs sh k wr (subst FitsMemory h.1 fits))
+happens_lands capacity maximum limit v w (Encode s fs) o v' sh k wr fits none (inr (inl h)) =
+    moves capacity maximum limit v' (after_refused_encode v (take h.many fs)) h.leads
+    (lands_given_up capacity maximum limit v w (take h.many fs) sh k (every_take IsByteField h.many fs wr)
     (subst FitsMemory h.leads fits))
-happens_lands capacity limit v w (Encode s fs) o v' sh k wr fits none (inr (inr h)) =
-    stays capacity limit v v' w sh k h.1
-happens_lands capacity limit v w (Decode s) o v' sh k wr fits none (inl h) =
-    moves capacity limit v' _ h.moves (both (is_read (Some (reading_of_bytes (window v.decoder) h.block.bytes))))
+happens_lands capacity maximum limit v w (Encode s fs) o v' sh k wr fits none (inr (inr h)) =
+    stays capacity maximum limit v v' w sh k h.1
+happens_lands capacity maximum limit v w (Decode s) o v' sh k wr fits none (inl h) =
+    moves capacity maximum limit v' _ h.moves
+    (both (is_read (Some (reading_of_bytes (window v.decoder) h.block.bytes))))
   where
-    both : (b : Bool) → RefinesSome capacity limit (cond b (with_decoded v s) v)
-    both true = lands_decoded capacity limit v w s sh k
+    both : (b : Bool) → RefinesSome capacity maximum limit (cond b (with_decoded v s) v)
+    both true = lands_decoded capacity maximum limit v w s sh k
     both false = record { abstract = w; refines = sh; keeps = k }
-happens_lands capacity limit v w (Decode s) o v' sh k wr fits none (inr h) = stays capacity limit v v' w sh k h.1
-happens_lands capacity limit v w (ToDecoder n) o v' sh k wr fits none h =
-    lands_delivered capacity limit v w n o v' sh k h
-happens_lands capacity limit v w (ToEncoder n) o v' sh k wr fits none h = lands_heard capacity limit v w n o v' sh k h
-happens_lands capacity limit v w (Acknowledge s) o v' sh k wr fits none (inl h) =
-    moves capacity limit v' _ h.1 (lands_acknowledged capacity limit v w s sh k
+happens_lands capacity maximum limit v w (Decode s) o v' sh k wr fits none (inr h) =
+    stays capacity maximum limit v v' w sh k h.1
+happens_lands capacity maximum limit v w (ToDecoder n) o v' sh k wr fits none h =
+    lands_delivered capacity maximum limit v w n o v' sh k h
+happens_lands capacity maximum limit v w (ToEncoder n) o v' sh k wr fits none h =
+    lands_heard capacity maximum limit v w n o v' sh k h
+happens_lands capacity maximum limit v w (Acknowledge s) o v' sh k wr fits none (inl h) =
+    moves capacity maximum limit v' _ h.1 (lands_acknowledged capacity maximum limit v w s sh k
     (lawful_on s (stream_at v.streams s) (awaits_acknowledgment requires_entry (stream_at v.streams s)) 4 none))
-happens_lands capacity limit v w (Acknowledge s) o v' sh k wr fits none (inr h) = stays capacity limit v v' w sh k h.1
-happens_lands capacity limit v w (Cancel s) o v' sh k wr fits none (inl h) =
-    moves capacity limit v' _ h.1 (lands_cancelled capacity limit v w s sh k
+happens_lands capacity maximum limit v w (Acknowledge s) o v' sh k wr fits none (inr h) =
+    stays capacity maximum limit v v' w sh k h.1
+happens_lands capacity maximum limit v w (Cancel s) o v' sh k wr fits none (inl h) =
+    moves capacity maximum limit v' _ h.1 (lands_cancelled capacity maximum limit v w s sh k
     (lawful_on s (stream_at v.streams s) true 0 none).small)
-happens_lands capacity limit v w (Cancel s) o v' sh k wr fits none (inr h) = stays capacity limit v v' w sh k h.1
-happens_lands capacity limit v w (ChangeCapacity n) o v' sh k wr fits none (inl h) =
-    moves capacity limit v' _ h.leads (lands_resized capacity limit v w n h.table sh k h.is_set)
-happens_lands capacity limit v w (ChangeCapacity n) o v' sh k wr fits none (inr (inl h)) =
-    stays capacity limit v v' w sh k h.stays
-happens_lands capacity limit v w (ChangeCapacity n) o v' sh k wr fits none (inr (inr h)) =
-    stays capacity limit v v' w sh k h.1
+happens_lands capacity maximum limit v w (Cancel s) o v' sh k wr fits none (inr h) =
+    stays capacity maximum limit v v' w sh k h.1
+happens_lands capacity maximum limit v w (ChangeCapacity n) o v' sh k wr fits none (inl h) =
+    moves capacity maximum limit v' _ h.leads (lands_resized capacity maximum limit v w n h.table sh k h.is_set)
+happens_lands capacity maximum limit v w (ChangeCapacity n) o v' sh k wr fits none (inr (inl h)) =
+    stays capacity maximum limit v v' w sh k h.stays
+happens_lands capacity maximum limit v w (ChangeCapacity n) o v' sh k wr fits none (inr (inr h)) =
+    stays capacity maximum limit v v' w sh k h.1
 
 -- each event leads to a session that refines one of values again
-pub goes_lands : (capacity limit : ℕ) (v : Session) (w : AbstractSession) (e : Event) (o : Outcome) (v' : Session)
-    → Refines v w → Invariant capacity limit w → IsByteEvent e → FitsMemory v' → Step v e o v'
-    → RefinesSome capacity limit v'
-goes_lands capacity limit v w e o v' sh k wr fits (inl h) = stays capacity limit v v' w sh k h.stays
-goes_lands capacity limit v w e o v' sh k wr fits (inr h) = happens_lands capacity limit v w e o v' sh k wr fits h.0 h.1
+pub goes_lands : (capacity maximum limit : ℕ) (v : Session) (w : AbstractSession) (e : Event) (o : Outcome)
+    (v' : Session)
+    → Refines v w → Invariant capacity maximum limit w → IsByteEvent e → FitsMemory v' → Step v e o v'
+    → RefinesSome capacity maximum limit v'
+goes_lands capacity maximum limit v w e o v' sh k wr fits (inl h) = stays capacity maximum limit v v' w sh k h.stays
+goes_lands capacity maximum limit v w e o v' sh k wr fits (inr h) =
+    happens_lands capacity maximum limit v w e o v' sh k wr fits h.0 h.1
 
-pub opened_lands : (capacity limit : ℕ) → RefinesSome capacity limit (initial_session capacity limit)
-opened_lands capacity limit =
+pub opened_lands : (capacity maximum limit : ℕ) → capacity ≤ maximum
+    → RefinesSome capacity maximum limit (initial_session capacity maximum limit)
+opened_lands capacity maximum limit within =
     record {
-      abstract = abstract_start capacity limit;
+      abstract = abstract_start capacity maximum limit;
       refines = record {
         encoder_is = refl;
         decoder_is = refl;
@@ -117,7 +128,7 @@ opened_lands capacity limit =
         decoder_stream_order = lit≤ tt;
         streams_are = λ s. record { blocks_are = tt; decoded_is = refl; acknowledged_is = refl; cancelled_is = refl };
       };
-      keeps = inv_started capacity limit;
+      keeps = inv_started capacity maximum limit within;
     }
 
 -- ---- neither end refuses
@@ -128,24 +139,27 @@ no_refused_reading (Fields fs d) fault e = absurd cc
 no_refused_reading (Missing n) fault e = absurd cc
 no_refused_reading (Faulty f) fault e = absurd cc
 
-pub never_refused : (capacity limit : ℕ) (v : Session) (w : AbstractSession) (e : Event) (fault : StreamFault)
-    (v' : Session) → Refines v w → Invariant capacity limit w → LawfulStep v e (Refused fault) v' → ⊥
+pub never_refused : (capacity maximum limit : ℕ) (v : Session) (w : AbstractSession) (e : Event) (fault : StreamFault)
+    (v' : Session) → Refines v w → Invariant capacity maximum limit w → LawfulStep v e (Refused fault) v' → ⊥
 unfolding LawfulStep
-never_refused capacity limit v w (Encode s fs) fault v' sh k (inl h) = absurd (let e = h.0 in cc)
-never_refused capacity limit v w (Encode s fs) fault v' sh k (inr (inl h)) = absurd (let e = h.answers in cc)
-never_refused capacity limit v w (Encode s fs) fault v' sh k (inr (inr h)) = absurd (let e = h.0 in cc)
-never_refused capacity limit v w (Decode s) fault v' sh k (inl h) =
+never_refused capacity maximum limit v w (Encode s fs) fault v' sh k (inl h) = absurd (let e = h.0 in cc)
+never_refused capacity maximum limit v w (Encode s fs) fault v' sh k (inr (inl h)) = absurd (let e = h.answers in cc)
+never_refused capacity maximum limit v w (Encode s fs) fault v' sh k (inr (inr h)) = absurd (let e = h.0 in cc)
+never_refused capacity maximum limit v w (Decode s) fault v' sh k (inl h) =
     no_refused_reading (reading_of_bytes (window v.decoder) h.block.bytes) fault h.answers
-never_refused capacity limit v w (Decode s) fault v' sh k (inr h) = absurd (let e = h.0 in cc)
-never_refused capacity limit v w (ToDecoder n) fault v' sh k h = delivered_lawful capacity limit v w n fault v' sh k h
-never_refused capacity limit v w (ToEncoder n) fault v' sh k h = heard_lawful capacity limit v w n fault v' sh k h
-never_refused capacity limit v w (Acknowledge s) fault v' sh k (inl h) = absurd (let e = h.0 in cc)
-never_refused capacity limit v w (Acknowledge s) fault v' sh k (inr h) = absurd (let e = h.0 in cc)
-never_refused capacity limit v w (Cancel s) fault v' sh k (inl h) = absurd (let e = h.0 in cc)
-never_refused capacity limit v w (Cancel s) fault v' sh k (inr h) = absurd (let e = h.0 in cc)
-never_refused capacity limit v w (ChangeCapacity n) fault v' sh k (inl h) = absurd (let e = h.answers in cc)
-never_refused capacity limit v w (ChangeCapacity n) fault v' sh k (inr (inl h)) = absurd (let e = h.answers in cc)
-never_refused capacity limit v w (ChangeCapacity n) fault v' sh k (inr (inr h)) = absurd (let e = h.0 in cc)
+never_refused capacity maximum limit v w (Decode s) fault v' sh k (inr h) = absurd (let e = h.0 in cc)
+never_refused capacity maximum limit v w (ToDecoder n) fault v' sh k h =
+    delivered_lawful capacity maximum limit v w n fault v' sh k h
+never_refused capacity maximum limit v w (ToEncoder n) fault v' sh k h =
+    heard_lawful capacity maximum limit v w n fault v' sh k h
+never_refused capacity maximum limit v w (Acknowledge s) fault v' sh k (inl h) = absurd (let e = h.0 in cc)
+never_refused capacity maximum limit v w (Acknowledge s) fault v' sh k (inr h) = absurd (let e = h.0 in cc)
+never_refused capacity maximum limit v w (Cancel s) fault v' sh k (inl h) = absurd (let e = h.0 in cc)
+never_refused capacity maximum limit v w (Cancel s) fault v' sh k (inr h) = absurd (let e = h.0 in cc)
+never_refused capacity maximum limit v w (ChangeCapacity n) fault v' sh k (inl h) = absurd (let e = h.answers in cc)
+never_refused capacity maximum limit v w (ChangeCapacity n) fault v' sh k (inr (inl h)) =
+    absurd (let e = h.answers in cc)
+never_refused capacity maximum limit v w (ChangeCapacity n) fault v' sh k (inr (inr h)) = absurd (let e = h.0 in cc)
 
 -- ---- fronts of what was sent
 
@@ -190,16 +204,18 @@ pub record ReadsExactly (v : Session) (b : KeptBlock) : Type 0 where
       → reading_of_bytes (window v.decoder) b.bytes ≡ Fields b.fields (nat_lt 0 b.required)
   pub in_time : b.end ≤ v.encoder_stream_taken → b.required ≤ insert_count v.decoder
 
-pub reads_exactly : (capacity limit : ℕ) (v : Session) (w : AbstractSession) → Refines v w → Invariant capacity limit w
+pub reads_exactly : (capacity maximum limit : ℕ) (v : Session) (w : AbstractSession) → Refines v w
+    → Invariant capacity maximum limit w
     → (s : ℕ) (b : KeptBlock) → (stream_at v.streams s).cancelled ≡ false → next_block v s ≡ Some b → ReadsExactly v b
-reads_exactly capacity limit v w sh k s b live next =
+reads_exactly capacity maximum limit v w sh k s b live next =
     let old = sh.streams_are s in
     let at =
     agrees_get (RefinesBlock v.encoder_stream (w.taken ++ w.in_flight)) (stream_at v.streams s).blocks
     (stream_at w.streams s).blocks (stream_at v.streams s).decoded b old.blocks_are next in
     let there : slice_get (stream_at w.streams s).blocks (stream_at w.streams s).decoded ≡ Some at.0 =
     ap (slice_get (stream_at w.streams s).blocks) (sym old.decoded_is) ∙ at.1 in
-    let d : DecodesExactly w at.0 = (inv_safe capacity limit w k).decodes s at.0 (sym old.cancelled_is ∙ live) there in
+    let d : DecodesExactly w at.0 =
+    (inv_safe capacity maximum limit w k).decodes s at.0 (sym old.cancelled_is ∙ live) there in
     let shown = at.2 in
     let many : insert_count v.decoder ≡ window_insert_count w.decoder = ap insert_count sh.decoder_is
     ∙ count_put w.decoder in
@@ -221,23 +237,25 @@ reads_exactly capacity limit v w sh k s b live next =
 -- ---- what blocks mean
 
 -- the base of a block that requires an entry is the one that was written; where nothing is required, none counts
-base_known : (capacity : ℕ) (made : History) (encoder_stream : List EncoderInstruction) (b : AbstractBlock)
-    (ok : KeepsBlock capacity made encoder_stream b)
+base_known : (capacity maximum : ℕ) → capacity ≤ maximum
+    → (made : History) (encoder_stream : List EncoderInstruction) (b : AbstractBlock)
+    (ok : KeepsBlock capacity maximum made encoder_stream b)
     → (base : ℕ) × (base_behind b.block.prefix (required_count b) ≡ Ok base)
     × (fields_of (whole_window made) base b.block.lines ≡ Ok b.fields)
-base_known capacity made encoder_stream b ok = pick (cases_lt 0 (required_count b))
+base_known capacity maximum within made encoder_stream b ok = pick (cases_lt 0 (required_count b))
   where
     pick : (0 < required_count b) ⊎ (required_count b ≤ 0)
         → (base : ℕ) × (base_behind b.block.prefix (required_count b) ≡ Ok base)
         × (fields_of (whole_window made) base b.block.lines ≡ Ok b.fields)
     pick (inl positive) =
-        let a : Agreed capacity ok.at_end =
-        leads_agreed capacity (initial_history capacity) ok.front ok.at_end ok.leads (agreed_start capacity) in
-        let room : 32 ≤ capacity = a.roomy (omega (arith, ok.within, positive)) in
+        let a : Agreed maximum ok.at_end =
+        leads_agreed maximum (initial_history capacity maximum) ok.front ok.at_end ok.leads
+        (agreed_start capacity maximum within) in
+        let room : 32 ≤ maximum = a.roomy (omega (arith, ok.within, positive)) in
         let apart : nat_eq (required_count b) 0 ≡ false = ne_eqb (required_count b) 0 (λ e. absurd (omega arith)) in
         let read : read_base b.block.prefix.sign (required_count b) b.block.prefix.delta ≡ Ok ok.base =
         subst (λ (p : Prefix). read_base p.sign (required_count b) p.delta ≡ Ok ok.base) (sym ok.written)
-        (base_written capacity (required_count b) ok.base positive (omega arith) (omega (arith, ok.few))) in
+        (base_written maximum (required_count b) ok.base positive (omega arith) (omega (arith, ok.few))) in
         (ok.base, rw apart read, ok.means)
     pick (inr none) =
         let zero_count : required_count b ≡ 0 = omega arith in
@@ -245,8 +263,8 @@ base_known capacity made encoder_stream b ok = pick (cases_lt 0 (required_count 
         numbers_none (references_of ok.base b.block.lines) (ok.references ∙ ok.plain zero_count) in (
           0,
           base_plain b.block.prefix (required_count b) zero_count
-              (ap (λ (p : Prefix). p.sign) (ok.written ∙ ap (λ (n : ℕ). prefix_for capacity n ok.base) zero_count)
-              ∙ written_not_below capacity ok.base),
+              (ap (λ (p : Prefix). p.sign) (ok.written ∙ ap (λ (n : ℕ). prefix_for maximum n ok.base) zero_count)
+              ∙ written_not_below maximum ok.base),
           sym (fields_plain (whole_window made) (whole_window made) ok.base 0 b.block.lines plain)
               ∙ ok.means,
         )
@@ -259,28 +277,31 @@ lines_same bytes ls ms j k =
     (one_reading SpellsEncoderInstruction W ls ms bytes bytes [] [] j k (nothing_cut_off SpellsEncoderInstruction W)
     (nothing_cut_off SpellsEncoderInstruction W) refl).0
 
-pub means_handed : (capacity limit : ℕ) (v : Session) (w : AbstractSession) → Refines v w → Invariant capacity limit w
+pub means_handed : (capacity maximum limit : ℕ) (v : Session) (w : AbstractSession) → Refines v w
+    → Invariant capacity maximum limit w
     → (instructions : List EncoderInstruction) (all : History)
     → SpellsAll SpellsEncoderInstruction v.encoder_stream instructions
-    → Leads (initial_history capacity) instructions all
+    → Leads (initial_history capacity maximum) instructions all
     → (s position : ℕ) (b : KeptBlock) → slice_get (stream_at v.streams s).blocks position ≡ Some b
     → meaning_over_all all b.bytes b.required ≡ Ok b.fields
-means_handed capacity limit v w sh k instructions all j l s position b there =
+means_handed capacity maximum limit v w sh k instructions all j l s position b there =
     let found =
     agrees_get (RefinesBlock v.encoder_stream (w.taken ++ w.in_flight)) (stream_at v.streams s).blocks
     (stream_at w.streams s).blocks position b (sh.streams_are s).blocks_are there in
-    let ok : KeepsBlock capacity k.made (w.taken ++ w.in_flight) found.0 =
-    every_get (KeepsBlock capacity k.made (w.taken ++ w.in_flight)) (stream_at w.streams s).blocks position found.0
+    let ok : KeepsBlock capacity maximum k.made (w.taken ++ w.in_flight) found.0 =
+    every_get (KeepsBlock capacity maximum k.made (w.taken ++ w.in_flight))
+    (stream_at w.streams s).blocks position found.0
     found.1 (k.streams s).blocks in
     let lines : instructions ≡ w.taken ++ w.in_flight =
     lines_same v.encoder_stream instructions (w.taken ++ w.in_flight) j
     (whole_sent v.encoder_stream v.encoder_stream_taken w.taken w.in_flight sh.encoder_stream) in
-    let made : Leads (initial_history capacity) (w.taken ++ w.in_flight) k.made =
-    leads_append (initial_history capacity) w.taken w.in_flight k.received k.made k.taken_leads k.in_flight_leads in
+    let made : Leads (initial_history capacity maximum) (w.taken ++ w.in_flight) k.made =
+    leads_append (initial_history capacity maximum) w.taken w.in_flight k.received k.made k.taken_leads
+    k.in_flight_leads in
     let same : all ≡ k.made =
-    leads_unique (initial_history capacity) (w.taken ++ w.in_flight) all k.made
-    (subst (λ (x : List EncoderInstruction). Leads (initial_history capacity) x all) lines l) made in
-    let base = base_known capacity k.made (w.taken ++ w.in_flight) found.0 ok in
+    leads_unique (initial_history capacity maximum) (w.taken ++ w.in_flight) all k.made
+    (subst (λ (x : List EncoderInstruction). Leads (initial_history capacity maximum) x all) lines l) made in
+    let base = base_known capacity maximum k.within k.made (w.taken ++ w.in_flight) found.0 ok in
     ap (λ (h : History). meaning_over_all h b.bytes b.required) same
     ∙ ap (λ (x : List ℕ). meaning_over_all k.made x b.required) found.2.bytes_are
     ∙ ap (meaning_over_all k.made (written_block found.0.block)) found.2.required_is
@@ -290,16 +311,16 @@ means_handed capacity limit v w sh k instructions all j l s position b there =
 -- ---- what a delivery takes
 
 -- a delivery that is answered takes the instructions of each block whose end it reached, of those written since too
-pub delivers_whole : (capacity limit : ℕ) (v : Session) (w : AbstractSession) (n received : ℕ) (v' : Session)
-    → Refines v w → Invariant capacity limit w → DeliversToDecoder v n (Delivered received) v'
+pub delivers_whole : (capacity maximum limit : ℕ) (v : Session) (w : AbstractSession) (n received : ℕ) (v' : Session)
+    → Refines v w → Invariant capacity maximum limit w → DeliversToDecoder v n (Delivered received) v'
     → (u : Session) (x : AbstractSession) → Refines u x → Extends v.encoder_stream u.encoder_stream
     → (s position : ℕ) (b : KeptBlock)
     → slice_get (stream_at u.streams s).blocks position ≡ Some b → b.end ≤ v'.encoder_stream_delivered → b.end
     ≤ v'.encoder_stream_taken
-delivers_whole capacity limit v w n received v' sh k c u x su more s position b there le =
-    go (moved capacity limit v w n (Delivered received) v' sh k c) c.takes.ends
+delivers_whole capacity maximum limit v w n received v' sh k c u x su more s position b there le =
+    go (moved capacity maximum limit v w n (Delivered received) v' sh k c) c.takes.ends
   where
-    whole_window : (m : Moved capacity limit v w n c.takes.lines c.takes.front c.takes.rest c.table)
+    whole_window : (m : Moved capacity maximum limit v w n c.takes.lines c.takes.front c.takes.rest c.table)
         → Truncates encoder_instruction_form c.takes.rest
         → b.end ≤ min (v.encoder_stream_delivered + n) (length v.encoder_stream) → b.end
         ≤ v.encoder_stream_taken + length c.takes.front
@@ -326,7 +347,7 @@ delivers_whole capacity limit v w n received v' sh k c u x su more s position b 
         e.rest (c.takes.rest ++ behind) e.joined carried.front_joined same few in
         omega (arith, short, e.position_is, carried.ends)
 
-    go : Moved capacity limit v w n c.takes.lines c.takes.front c.takes.rest c.table
+    go : Moved capacity maximum limit v w n c.takes.lines c.takes.front c.takes.rest c.table
         → EndsAtDecoder v n c.table c.takes.front c.takes.rest (Delivered received) v' → b.end ≤ v'.encoder_stream_taken
     go m (takes_all cut is goes) =
         let within : b.end ≤ min (v.encoder_stream_delivered + n) (length v.encoder_stream) =

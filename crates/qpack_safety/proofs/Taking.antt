@@ -51,9 +51,10 @@ taken_known received e w s s' d k =
     let g : Grows received (history_after received e) = grows_one received e in
     omega (arith, k, length-append received.inserted g.more, ap length g.inserts)
 
-inv_taken : (capacity limit : ℕ) (w : AbstractSession) (k : Invariant capacity limit w) (i : EncoderInstruction)
+inv_taken : (capacity maximum limit : ℕ) (w : AbstractSession) (k : Invariant capacity maximum limit w)
+    (i : EncoderInstruction)
     (rest : List EncoderInstruction) → w.in_flight ≡ i ∷ rest → (t : Taking k.received k.made w.decoder i rest)
-    → Invariant capacity limit (record w {
+    → Invariant capacity maximum limit (record w {
       decoder = window_of (history_after k.received t.effect_of);
       unreported = w.unreported +
           (window_insert_count (window_of (history_after k.received t.effect_of)) - window_insert_count w.decoder);
@@ -61,17 +62,18 @@ inv_taken : (capacity limit : ℕ) (w : AbstractSession) (k : Invariant capacity
           w.taken ++ i ∷ [];
       in_flight = rest;
     })
-inv_taken capacity limit w k i rest e t =
-    let s : Sound k.received = sound_received capacity limit w k in
+inv_taken capacity maximum limit w k i rest e t =
+    let s : Sound k.received = sound_received capacity maximum limit w k in
     let s' : Sound (history_after k.received t.effect_of) =
     sound_grown k.received t.effect_of s (allowed (window_of k.received) i t.effect_of t.is_effect) in
     let regroup : w.taken ++ w.in_flight ≡ (w.taken ++ i ∷ []) ++ rest =
     ap (λ x. w.taken ++ x) e ∙ sym (append_assoc w.taken (i ∷ []) rest) in
     record {
+      within = k.within;
       received = history_after k.received t.effect_of;
       made = k.made;
       taken_leads =
-          leads_append (initial_history capacity) w.taken (i ∷ []) k.received
+          leads_append (initial_history capacity maximum) w.taken (i ∷ []) k.received
           (history_after k.received t.effect_of) k.taken_leads
           (t.effect_of, t.is_effect, refl);
       in_flight_leads = t.rest_leads;
@@ -83,15 +85,15 @@ inv_taken capacity limit w k i rest e t =
       streams = λ q. rw (← regroup) (k.streams q);
     }
 
-pub inv_takes : (capacity limit : ℕ) (w : AbstractSession) (fl : List EncoderInstruction) → w.in_flight ≡ fl
-    → Invariant capacity limit w → Invariant capacity limit (take_next w fl)
-inv_takes capacity limit w [] e k = k
-inv_takes capacity limit w (i ∷ rest) e k =
+pub inv_takes : (capacity maximum limit : ℕ) (w : AbstractSession) (fl : List EncoderInstruction) → w.in_flight ≡ fl
+    → Invariant capacity maximum limit w → Invariant capacity maximum limit (take_next w fl)
+inv_takes capacity maximum limit w [] e k = k
+inv_takes capacity maximum limit w (i ∷ rest) e k =
     let t : Taking k.received k.made w.decoder i rest =
-    taking k.received k.made w.decoder i rest (sound_received capacity limit w k) k.decoder
+    taking k.received k.made w.decoder i rest (sound_received capacity maximum limit w k) k.decoder
     (subst (λ (l : List EncoderInstruction). Leads k.received l k.made) e k.in_flight_leads) in
-    subst (λ (o : Result Window TableRefusal). Invariant capacity limit (after_take w i rest o)) (sym t.applies)
-    (inv_taken capacity limit w k i rest e t)
+    subst (λ (o : Result Window TableRefusal). Invariant capacity maximum limit (after_take w i rest o)) (sym t.applies)
+    (inv_taken capacity maximum limit w k i rest e t)
 
 -- ---- the decoder reports
 
@@ -115,11 +117,12 @@ cancels_increments s (p ∷ ps) rs =
     ap (cancels_in s) (sym (append_assoc rs (Increment p ∷ []) (increments ps)))
     ∙ cancels_increments s ps (rs ++ Increment p ∷ []) ∙ cancels_other s rs (Increment p) tt
 
-pub inv_reported : (capacity limit : ℕ) (w : AbstractSession) (ps : List ℕ) → sum_of ps ≡ w.unreported
-    → Invariant capacity limit w → Invariant capacity limit
+pub inv_reported : (capacity maximum limit : ℕ) (w : AbstractSession) (ps : List ℕ) → sum_of ps ≡ w.unreported
+    → Invariant capacity maximum limit w → Invariant capacity maximum limit
     (record w { decoder_in_flight = w.decoder_in_flight ++ increments ps; unreported = 0 })
-inv_reported capacity limit w ps e k =
+inv_reported capacity maximum limit w ps e k =
     record {
+      within = k.within;
       received = k.received;
       made = k.made;
       taken_leads = k.taken_leads;

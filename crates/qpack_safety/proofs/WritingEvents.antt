@@ -40,15 +40,17 @@ use Rattle.qpack_safety.proofs.Shown.{agrees_push, shows_grow, shows_update, dyn
 use Rattle.qpack_safety.proofs.Shown.{one_joined, prefix_small}
 
 -- a session in bytes refines some session of values, of which the invariant holds
-pub record RefinesSome (capacity limit : ℕ) (v : Session) : Type 0 where
+pub record RefinesSome (capacity maximum limit : ℕ) (v : Session) : Type 0 where
   pub abstract : AbstractSession
   pub refines : Refines v abstract
-  pub keeps : Invariant capacity limit abstract
+  pub keeps : Invariant capacity maximum limit abstract
 
-few_insertions : (capacity limit : ℕ) (w : AbstractSession) → Invariant capacity limit w → insert_count w.encoder
+few_insertions : (capacity maximum limit : ℕ) (w : AbstractSession) → Invariant capacity maximum limit w
+    → insert_count w.encoder
     ≤ 2 ^ 62
-few_insertions capacity limit w k =
-    let s = sound_made capacity limit w k in omega (arith, count_inserted w.encoder k.made k.encoder.shares s, s.few)
+few_insertions capacity maximum limit w k =
+    let s = sound_made capacity maximum limit w k in
+    omega (arith, count_inserted w.encoder k.made k.encoder.shares s, s.few)
 
 -- all that is sent is the instructions written
 pub whole_sent : (encoder_stream : List ℕ) (position : ℕ) (taken in_flight : List EncoderInstruction)
@@ -85,15 +87,16 @@ instructions_short encoder_stream is h = omega
     (arith, h, length-append encoder_stream (written_encoder_instructions is))
 
 -- the block of the rule can be written
-block_writable : (capacity limit : ℕ) (w : AbstractSession) (fs : List Field) → Invariant capacity limit w
+block_writable : (capacity maximum limit : ℕ) (w : AbstractSession) (fs : List Field)
+    → Invariant capacity maximum limit w
     → AllByRecursion IsByteField fs → length (written_block (block_of w.encoder (rule w.encoder fs))) < 2 ^ 63
     → IsWritableBlock (block_of w.encoder (rule w.encoder fs))
-block_writable capacity limit w fs k wr fits =
+block_writable capacity maximum limit w fs k wr fits =
     let d = rule w.encoder fs in
-    let few = few_insertions capacity limit w k in
+    let few = few_insertions capacity maximum limit w k in
     let wd : WrittenDraft d = rule_written w.encoder fs few wr in
     let p : Drafting w.encoder k.made fs d =
-    rule_drafts w.encoder k.made fs (sound_made capacity limit w k) k.encoder in
+    rule_drafts w.encoder k.made fs (sound_made capacity maximum limit w k) k.encoder in
     let required : greatest_of d.table.referenced ≤ insert_count d.table =
     greatest_bound (insert_count d.table) d.table.referenced
     (every_weaker (IsLive d.table) (λ a. a ≤ insert_count d.table) (λ a q. q.1) d.table.referenced p.referenced) in
@@ -155,13 +158,13 @@ block_fits v s fs f =
     own true e h = h
     own false e h = absurd cc
 
-encoded_shown : (capacity limit : ℕ) (v : Session) (w : AbstractSession) (s : ℕ) (fs : List Field) → Refines v w
-    → Invariant capacity limit w → AllByRecursion IsByteField fs
+encoded_shown : (capacity maximum limit : ℕ) (v : Session) (w : AbstractSession) (s : ℕ) (fs : List Field) → Refines v w
+    → Invariant capacity maximum limit w → AllByRecursion IsByteField fs
     → EncodeFits v.encoder_stream w.encoder fs
-    → RefinesSome capacity limit (with_block (record v { encoder = w.encoder }) s fs)
-encoded_shown capacity limit v w s fs sh k wr fits =
+    → RefinesSome capacity maximum limit (with_block (record v { encoder = w.encoder }) s fs)
+encoded_shown capacity maximum limit v w s fs sh k wr fits =
     let d = rule w.encoder fs in
-    let wd : WrittenDraft d = rule_written w.encoder fs (few_insertions capacity limit w k) wr in
+    let wd : WrittenDraft d = rule_written w.encoder fs (few_insertions capacity maximum limit w k) wr in
     let more = written_encoder_instructions d.instructions in
     let encoder_stream = v.encoder_stream ++ more in
     let lines = w.taken ++ (w.in_flight ++ d.instructions) in
@@ -191,7 +194,7 @@ encoded_shown capacity limit v w s fs sh k wr fits =
     record { block = block_of w.encoder d; referenced = d.table.referenced; end = length lines; fields = fs } in
     let shown : RefinesBlock encoder_stream lines b x = record {
       bytes_are = refl;
-      writable = block_writable capacity limit w fs k wr fits.1;
+      writable = block_writable capacity maximum limit w fs k wr fits.1;
       required_is = refl;
       handed_are = refl;
       ends = ends_here encoder_stream lines
@@ -221,27 +224,29 @@ encoded_shown capacity limit v w s fs sh k wr fits =
             (record kept { blocks = kept.blocks ++ b ∷ [] }) (stream_at w.streams q)
             (record st { blocks = st.blocks ++ x ∷ [] }) new (grown q);
       };
-      keeps = inv_encoded capacity limit w s fs k;
+      keeps = inv_encoded capacity maximum limit w s fs k;
     }
 
-pub lands_encoded : (capacity limit : ℕ) (v : Session) (w : AbstractSession) (s : ℕ) (fs : List Field) → Refines v w
-    → Invariant capacity limit w → AllByRecursion IsByteField fs → FitsMemory (with_block v s fs)
-    → RefinesSome capacity limit (with_block v s fs)
-lands_encoded capacity limit v w s fs sh k wr f =
+pub lands_encoded : (capacity maximum limit : ℕ) (v : Session) (w : AbstractSession) (s : ℕ) (fs : List Field)
+    → Refines v w
+    → Invariant capacity maximum limit w → AllByRecursion IsByteField fs → FitsMemory (with_block v s fs)
+    → RefinesSome capacity maximum limit (with_block v s fs)
+lands_encoded capacity maximum limit v w s fs sh k wr f =
     let fits : EncodeFits v.encoder_stream w.encoder fs =
     subst (λ (t : Table). EncodeFits v.encoder_stream t fs) sh.encoder_is (block_fits v s fs f) in
-    subst (λ (t : Table). RefinesSome capacity limit (with_block (record v { encoder = t }) s fs)) (sym sh.encoder_is)
-    (encoded_shown capacity limit v w s fs sh k wr fits)
+    subst (λ (t : Table). RefinesSome capacity maximum limit (with_block (record v { encoder = t }) s fs))
+    (sym sh.encoder_is)
+    (encoded_shown capacity maximum limit v w s fs sh k wr fits)
 
 -- ---- a block is given up
 
-abandoned_shown : (capacity limit : ℕ) (v : Session) (w : AbstractSession) (fs : List Field) → Refines v w
-    → Invariant capacity limit w → AllByRecursion IsByteField fs
+abandoned_shown : (capacity maximum limit : ℕ) (v : Session) (w : AbstractSession) (fs : List Field) → Refines v w
+    → Invariant capacity maximum limit w → AllByRecursion IsByteField fs
     → length (v.encoder_stream ++ written_encoder_instructions (rule w.encoder fs).instructions) < 2 ^ 63
-    → RefinesSome capacity limit (after_refused_encode (record v { encoder = w.encoder }) fs)
-abandoned_shown capacity limit v w fs sh k wr fits =
+    → RefinesSome capacity maximum limit (after_refused_encode (record v { encoder = w.encoder }) fs)
+abandoned_shown capacity maximum limit v w fs sh k wr fits =
     let d = rule w.encoder fs in
-    let wd : WrittenDraft d = rule_written w.encoder fs (few_insertions capacity limit w k) wr in
+    let wd : WrittenDraft d = rule_written w.encoder fs (few_insertions capacity maximum limit w k) wr in
     let more = written_encoder_instructions d.instructions in
     let regroup : (w.taken ++ w.in_flight) ++ d.instructions ≡ w.taken ++ (w.in_flight ++ d.instructions) =
     append_assoc w.taken w.in_flight d.instructions in
@@ -268,20 +273,20 @@ abandoned_shown capacity limit v w fs sh k wr fits =
             (shows_grow v.encoder_stream more (w.taken ++ w.in_flight) d.instructions (stream_at v.streams q)
             (stream_at w.streams q) (sh.streams_are q));
       };
-      keeps = inv_abandoned capacity limit w fs k;
+      keeps = inv_abandoned capacity maximum limit w fs k;
     }
 
-pub lands_given_up : (capacity limit : ℕ) (v : Session) (w : AbstractSession) (fs : List Field) → Refines v w
-    → Invariant capacity limit w → AllByRecursion IsByteField fs → FitsMemory (after_refused_encode v fs)
-    → RefinesSome capacity limit (after_refused_encode v fs)
-lands_given_up capacity limit v w fs sh k wr f =
+pub lands_given_up : (capacity maximum limit : ℕ) (v : Session) (w : AbstractSession) (fs : List Field) → Refines v w
+    → Invariant capacity maximum limit w → AllByRecursion IsByteField fs → FitsMemory (after_refused_encode v fs)
+    → RefinesSome capacity maximum limit (after_refused_encode v fs)
+lands_given_up capacity maximum limit v w fs sh k wr f =
     let fits : length (v.encoder_stream ++ written_encoder_instructions (rule w.encoder fs).instructions) < 2 ^ 63 =
     subst (λ (t : Table). length (v.encoder_stream ++ written_encoder_instructions (rule t fs).instructions)
     < 2 ^ 63) sh.encoder_is
     f.encoder_stream_fits in
-    subst (λ (t : Table). RefinesSome capacity limit (after_refused_encode (record v { encoder = t }) fs))
+    subst (λ (t : Table). RefinesSome capacity maximum limit (after_refused_encode (record v { encoder = t }) fs))
     (sym sh.encoder_is)
-    (abandoned_shown capacity limit v w fs sh k wr fits)
+    (abandoned_shown capacity maximum limit v w fs sh k wr fits)
 
 -- ---- a capacity is set
 
@@ -298,11 +303,11 @@ small_capacity t u n e = pick (resized_cases t n)
     pick (inl p) = omega (arith, p.0.within, bounded t.agreed_max)
     pick (inr p) = absurd (let q = p.1 in cc)
 
-pub lands_resized : (capacity limit : ℕ) (v : Session) (w : AbstractSession) (n : ℕ) (t : Table) → Refines v w
-    → Invariant capacity limit w → with_capacity v.encoder n ≡ Ok t
-    → RefinesSome capacity limit
+pub lands_resized : (capacity maximum limit : ℕ) (v : Session) (w : AbstractSession) (n : ℕ) (t : Table) → Refines v w
+    → Invariant capacity maximum limit w → with_capacity v.encoder n ≡ Ok t
+    → RefinesSome capacity maximum limit
     (record v { encoder = t; encoder_stream = v.encoder_stream ++ written_encoder_instruction (SetCapacity n) })
-lands_resized capacity limit v w n t sh k e =
+lands_resized capacity maximum limit v w n t sh k e =
     let same : with_capacity w.encoder n ≡ Ok t = ap (λ x. with_capacity x n) (sym sh.encoder_is) ∙ e in
     let more = written_encoder_instruction (SetCapacity n) in
     let spelled =
@@ -331,15 +336,15 @@ lands_resized capacity limit v w n t sh k e =
             (shows_grow v.encoder_stream more (w.taken ++ w.in_flight) (SetCapacity n ∷ []) (stream_at v.streams q)
             (stream_at w.streams q) (sh.streams_are q));
       };
-      keeps = subst (λ (r : Result Table TableRefusal). Invariant capacity limit (after_resize w n r)) same
-          (inv_with_resized capacity limit w n k);
+      keeps = subst (λ (r : Result Table TableRefusal). Invariant capacity maximum limit (after_resize w n r)) same
+          (inv_with_resized capacity maximum limit w n k);
     }
 
 -- ---- a block is decoded, acknowledged, a stream cancelled
 
-pub lands_decoded : (capacity limit : ℕ) (v : Session) (w : AbstractSession) (s : ℕ) → Refines v w
-    → Invariant capacity limit w → RefinesSome capacity limit (with_decoded v s)
-lands_decoded capacity limit v w s sh k =
+pub lands_decoded : (capacity maximum limit : ℕ) (v : Session) (w : AbstractSession) (s : ℕ) → Refines v w
+    → Invariant capacity maximum limit w → RefinesSome capacity maximum limit (with_decoded v s)
+lands_decoded capacity maximum limit v w s sh k =
     let kept = stream_at v.streams s in
     let st = stream_at w.streams s in
     let old = sh.streams_are s in
@@ -368,7 +373,7 @@ lands_decoded capacity limit v w s sh k =
             (record kept { decoded = kept.decoded + 1 }) (stream_at w.streams q)
             (record st { decoded = st.decoded + 1 }) new (sh.streams_are q);
       };
-      keeps = inv_decoded capacity limit w s k;
+      keeps = inv_decoded capacity maximum limit w s k;
     }
 
 -- what is lawful on a stream
@@ -405,13 +410,13 @@ waits_same v w s sh live h =
     ∙ ap (nat_lt kept.acknowledged) (sym n) ∙ h in
     rw (c, t) refl
 
-pub lands_acknowledged : (capacity limit : ℕ) (v : Session) (w : AbstractSession) (s : ℕ) → Refines v w
-    → Invariant capacity limit w
+pub lands_acknowledged : (capacity maximum limit : ℕ) (v : Session) (w : AbstractSession) (s : ℕ) → Refines v w
+    → Invariant capacity maximum limit w
     → Lawful s (stream_at v.streams s) (awaits_acknowledgment requires_entry (stream_at v.streams s))
-    → (let k = stream_at v.streams s in RefinesSome capacity limit
+    → (let k = stream_at v.streams s in RefinesSome capacity maximum limit
     (record (with_kept_stream v s (record k { acknowledged = k.acknowledged + 1 }))
     { decoder_stream = v.decoder_stream ++ written_decoder_instruction (Acknowledgment s) }))
-lands_acknowledged capacity limit v w s sh k ok =
+lands_acknowledged capacity maximum limit v w s sh k ok =
     let kept = stream_at v.streams s in
     let st = stream_at w.streams s in
     let old = sh.streams_are s in
@@ -451,17 +456,17 @@ lands_acknowledged capacity limit v w s sh k ok =
             (record kept { acknowledged = kept.acknowledged + 1 }) (stream_at w.streams q)
             (record st { acknowledged = st.acknowledged + 1 }) new (sh.streams_are q);
       };
-      keeps = inv_acked capacity limit w s (waits_same v w s sh ok.live ok.holds) k;
+      keeps = inv_acked capacity maximum limit w s (waits_same v w s sh ok.live ok.holds) k;
     }
 
-pub lands_cancelled : (capacity limit : ℕ) (v : Session) (w : AbstractSession) (s : ℕ) → Refines v w
-    → Invariant capacity limit w → s < 2 ^ 62
-    → (let k = stream_at v.streams s in RefinesSome capacity limit
+pub lands_cancelled : (capacity maximum limit : ℕ) (v : Session) (w : AbstractSession) (s : ℕ) → Refines v w
+    → Invariant capacity maximum limit w → s < 2 ^ 62
+    → (let k = stream_at v.streams s in RefinesSome capacity maximum limit
     (record (with_kept_stream v s (record k { cancelled = true })) {
       decoder_stream = v.decoder_stream
           ++ written_decoder_instruction (Cancellation s);
     }))
-lands_cancelled capacity limit v w s sh k small =
+lands_cancelled capacity maximum limit v w s sh k small =
     let kept = stream_at v.streams s in
     let st = stream_at w.streams s in
     let old = sh.streams_are s in
@@ -500,5 +505,5 @@ lands_cancelled capacity limit v w s sh k small =
             (record kept { cancelled = true }) (stream_at w.streams q) (record st { cancelled = true }) new
             (sh.streams_are q);
       };
-      keeps = inv_cancelled capacity limit w s k;
+      keeps = inv_cancelled capacity maximum limit w s k;
     }

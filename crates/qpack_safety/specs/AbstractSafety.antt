@@ -22,7 +22,7 @@ pub record DecodesExactly (w : AbstractSession) (b : AbstractBlock) : Type 0 whe
   pub in_time : b.end ≤ length w.taken → required_count b ≤ window_insert_count w.decoder
 
 -- what holds at every moment
-pub record Safe (capacity limit : ℕ) (w : AbstractSession) : Type 0 where
+pub record Safe (capacity maximum limit : ℕ) (w : AbstractSession) : Type 0 where
   -- the decoder refuses no instruction
   pub takes_next : (i : EncoderInstruction) (rest : List EncoderInstruction) → w.in_flight ≡ i ∷ rest
       → IsOk (apply w.decoder i)
@@ -42,7 +42,7 @@ pub record Safe (capacity limit : ℕ) (w : AbstractSession) : Type 0 where
   -- lockstep: both windows are what the instructions make of an empty table, the decoder's those that it took
   pub received_history : History
   pub made_history : History
-  pub taken_lead : Leads (initial_history capacity) w.taken received_history
+  pub taken_lead : Leads (initial_history capacity maximum) w.taken received_history
   pub in_flight_lead : Leads received_history w.in_flight made_history
   pub decoder_is : w.decoder ≡ window_of received_history
   pub encoder_is : window w.encoder ≡ window_of made_history

@@ -59,12 +59,12 @@ pub data SmallStep : Type 0 where
   Acknowledge : (stream : ℕ) → SmallStep
   Cancel : (stream : ℕ) → SmallStep
 
--- how a session begins: both tables empty, the maximum capacity agreed
-abbrev pub abstract_start : ℕ → ℕ → AbstractSession
-abstract_start capacity limit =
+-- how a session begins: both tables empty and of this capacity, this maximum capacity agreed
+abbrev pub abstract_start : ℕ → ℕ → ℕ → AbstractSession
+abstract_start capacity maximum limit =
     record {
-      encoder = empty_table capacity (Some capacity) limit;
-      decoder = window_of (initial_history capacity);
+      encoder = empty_table capacity (Some maximum) limit;
+      decoder = window_of (initial_history capacity maximum);
       unreported = 0;
       taken = [];
       in_flight = [];

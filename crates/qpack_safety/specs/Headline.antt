@@ -133,8 +133,8 @@ pub record AnswersWhatWasHanded (events : List (Event × Outcome)) : Type 0 wher
   pub each : (before after : List (Event × Outcome)) (e : Event) (o : Outcome) → events ≡ before ++ (e, o) ∷ after
       → IsRight before e o
 
--- of every session, at every capacity and limit
+-- of every session, at every capacity up to its maximum capacity, and every limit
 abbrev pub SessionsAnswerWhatWasHanded : Type 0
 SessionsAnswerWhatWasHanded =
-    (capacity limit : ℕ) (events : List (Event × Outcome)) (v : Session) → Run (initial_session capacity limit) events v
-    → AnswersWhatWasHanded events
+    (capacity maximum limit : ℕ) → capacity ≤ maximum → (events : List (Event × Outcome)) (v : Session)
+    → Run (initial_session capacity maximum limit) events v → AnswersWhatWasHanded events

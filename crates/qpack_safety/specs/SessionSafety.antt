@@ -40,14 +40,14 @@ pub record WritesBlock (v : Session) (s : ℕ) (fields : List Field) (required :
 
 -- lockstep: the bytes sent are instructions, of which the first are taken; what those make of an empty table is the
 -- decoder's, and what all of them make of it the encoder's
-pub record Lockstep (capacity : ℕ) (v : Session) : Type 0 where
+pub record Lockstep (capacity maximum : ℕ) (v : Session) : Type 0 where
   pub taken : List EncoderInstruction
   pub in_flight : List EncoderInstruction
   pub received : History
   pub made : History
   pub carried : Carries EncoderInstruction SpellsEncoderInstruction v.encoder_stream v.encoder_stream_taken taken
       in_flight
-  pub taken_lead : Leads (initial_history capacity) taken received
+  pub taken_lead : Leads (initial_history capacity maximum) taken received
   pub in_flight_lead : Leads received in_flight made
   pub decoder_is : v.decoder ≡ table_of (window_of received)
   pub encoder_is : window v.encoder ≡ window_of made
@@ -83,21 +83,21 @@ pub record Advances (v v' : Session) : Type 0 where
 
 -- (a) The outcomes and the state are a run of the session. Each block and the encoder stream are the rule's. Both
 -- tables are those that the instructions make of an empty one, and within their capacity of the moment (section 3.2.2),
--- which never exceeds the capacity agreed on (section 3.2.3).
+-- which never exceeds the maximum capacity agreed on (section 3.2.3).
 -- No more blocks are blocked than may be (section 2.1.2): of those kept the ones that require more than the encoder
 -- knows to be received. It is their number that the encoder holds against its limit, and no more are unreadable at the
 -- decoder, which received what is known to be received.
-pub record RunsByTheRule (capacity limit : ℕ) (events : List (Event × Outcome)) (v : Session) : Type 0 where
+pub record RunsByTheRule (capacity maximum limit : ℕ) (events : List (Event × Outcome)) (v : Session) : Type 0 where
   -- the events with their answers lead here
-  pub run : Run (initial_session capacity limit) events v
+  pub run : Run (initial_session capacity maximum limit) events v
   -- what an encode answers next is its block's required insert count, and what it writes is the rule's
   pub writes : (s : ℕ) (fields : List Field) (required : ℕ) (v' : Session)
       → Step v (Encode s fields) (Encoded required) v'
       → WritesBlock v s fields required v'
-  -- each table is what its instructions make of an empty one, and within its capacity; that is at most the agreed one
-  pub lockstep : Lockstep capacity v
-  pub encoder_capacity : v.encoder.capacity ≤ capacity
-  pub decoder_capacity : v.decoder.capacity ≤ capacity
+  -- each table is what its instructions make of an empty one, and within its capacity; that is at most the maximum
+  pub lockstep : Lockstep capacity maximum v
+  pub encoder_capacity : v.encoder.capacity ≤ maximum
+  pub decoder_capacity : v.decoder.capacity ≤ maximum
   pub encoder_fits : total_size (fields_in v.encoder.live) ≤ v.encoder.capacity
   pub decoder_fits : total_size (fields_in v.decoder.live) ≤ v.decoder.capacity
   -- the blocked blocks are within the limit; the encoder counts them so, and blocks one more only below the limit
@@ -143,7 +143,7 @@ encode_behind b = record { fields = b.fields; required = b.required }
 -- order, with the sum of their sizes, and whether any entry is required. So are the bytes of the next block read under
 -- the decoder's table, once it received what the block requires; and so do the lines of every block mean them over all
 -- insertions ever made, those of the bytes sent.
-pub record DecodesWhatWasHanded (capacity : ℕ) (events : List (Event × Outcome)) (v : Session) : Type 0 where
+pub record DecodesWhatWasHanded (capacity maximum : ℕ) (events : List (Event × Outcome)) (v : Session) : Type 0 where
   pub answers : (s : ℕ) (fields : List Field) (size : ℕ) (is_dynamic : Bool) (v' : Session)
       → Step v (Decode s) (Decoded fields size is_dynamic) v'
       → AnswersFields events s fields size is_dynamic
@@ -156,7 +156,7 @@ pub record DecodesWhatWasHanded (capacity : ℕ) (events : List (Event × Outcom
       → reading_of_bytes (window v.decoder) b.bytes ≡ Fields b.fields (nat_lt 0 b.required)
   pub meanings : (instructions : List EncoderInstruction) (all : History)
       → SpellsAll SpellsEncoderInstruction v.encoder_stream instructions
-      → Leads (initial_history capacity) instructions all
+      → Leads (initial_history capacity maximum) instructions all
       → (s position : ℕ) (b : KeptBlock) → slice_get (stream_at v.streams s).blocks position ≡ Some b
       → meaning_over_all all b.bytes b.required ≡ Ok b.fields
 
@@ -197,14 +197,15 @@ pub record WaitsOnlyForInsertions (events : List (Event × Outcome)) (v : Sessio
 -- ---- the theorem
 
 -- a session is safe: all four parts hold
-pub record IsSafe (capacity limit : ℕ) (events : List (Event × Outcome)) (v : Session) : Type 0 where
-  pub follows : RunsByTheRule capacity limit events v
+pub record IsSafe (capacity maximum limit : ℕ) (events : List (Event × Outcome)) (v : Session) : Type 0 where
+  pub follows : RunsByTheRule capacity maximum limit events v
   pub refuses : RefusesNothing v
-  pub decodes : DecodesWhatWasHanded capacity events v
+  pub decodes : DecodesWhatWasHanded capacity maximum events v
   pub waits : WaitsOnlyForInsertions events v
 
--- for every capacity, every limit and every list of events with their answers, events refused for memory among them
+-- for every capacity up to every maximum capacity, every limit and every list of events with their answers, events
+-- refused for memory among them
 abbrev pub SessionsAreSafe : Type 0
 SessionsAreSafe =
-    (capacity limit : ℕ) (events : List (Event × Outcome)) (v : Session) → Run (initial_session capacity limit) events v
-    → IsSafe capacity limit events v
+    (capacity maximum limit : ℕ) → capacity ≤ maximum → (events : List (Event × Outcome)) (v : Session)
+    → Run (initial_session capacity maximum limit) events v → IsSafe capacity maximum limit events v

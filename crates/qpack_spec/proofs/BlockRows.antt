@@ -20,7 +20,7 @@ putting w [] = w
 putting w (f ∷ fs) = putting (window_after w (Inserts f)) fs
 
 window_with : ℕ → List Field → Window
-window_with capacity fs = putting (window_of (initial_history capacity)) fs
+window_with capacity fs = putting (window_of (initial_history capacity capacity)) fs
 
 numbered : ℕ → Field
 numbered n = field (codes "foo" ++ n ∷ []) (codes "bar")
@@ -185,7 +185,13 @@ unfolding rows
 line_bytes_first = refl
 
 -- with a maximum capacity a present capacity of 0 still reads the count
-agreed_maximum_counts : (reading_of_bytes (window_after (window_of (initial_history 4096)) (Resizes 0)) (2 ∷ 0 ∷ []))
+agreed_maximum_counts : (reading_of_bytes (window_after (window_of (initial_history 4096 4096)) (Resizes 0))
+    (2 ∷ 0 ∷ []))
     ≡ Missing 1
 unfolding rows
 agreed_maximum_counts = refl
+
+-- so does a capacity of 0 that the table begins with
+first_maximum_counts : (reading_of_bytes (window_of (initial_history 0 4096)) (2 ∷ 0 ∷ [])) ≡ Missing 1
+unfolding rows
+first_maximum_counts = refl

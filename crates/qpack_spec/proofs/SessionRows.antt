@@ -34,7 +34,7 @@ unfoldable pub foo_bar : Field
 foo_bar = field (codes "foo") (codes "bar")
 
 unfoldable pub begun : Session
-begun = initial_session 4096 1
+begun = initial_session 4096 4096 1
 
 unfoldable pub written : Session
 written = with_block begun 4 (foo_bar ∷ [])
@@ -78,17 +78,27 @@ rows = 0
 -- ---- where a session begins
 
 -- the greatest capacity and the greatest limit
-begins : begin_session 1073741823 65534 ≡ Ok (initial_session 1073741823 65534)
+begins : begin_session 1073741823 1073741823 65534 ≡ Ok (initial_session 1073741823 1073741823 65534)
 unfolding rows
 begins = refl
 
--- a limit above it
-limit_too_large : begin_session 1073741823 65535 ≡ Err LimitTooLarge
+-- capacity 0 under the greatest maximum
+begins_at_none : begin_session 0 1073741823 65534 ≡ Ok (initial_session 0 1073741823 65534)
+unfolding rows
+begins_at_none = refl
+
+-- a limit above the greatest
+limit_too_large : begin_session 1073741823 1073741823 65535 ≡ Err LimitTooLarge
 unfolding rows
 limit_too_large = refl
 
--- a capacity above it, which is told first
-capacity_first : begin_session 1073741824 65535 ≡ Err CapacityTooLarge
+-- a maximum above the greatest, which is told first
+maximum_first : begin_session 1073741824 1073741824 65535 ≡ Err CapacityTooLarge
+unfolding rows
+maximum_first = refl
+
+-- a capacity above the maximum, which is told first too
+capacity_first : begin_session 4097 4096 65535 ≡ Err CapacityTooLarge
 unfolding rows
 capacity_first = refl
 

@@ -22,7 +22,7 @@ alone fs = written_block (stateless_block fs)
 
 -- sessions: a block on stream 4; the same decoded, where its insertion was taken; acknowledged; cancelled
 one_block : Session
-one_block = with_block (initial_session 4096 1) 4 (field (codes "foo") (codes "bar") ∷ [])
+one_block = with_block (initial_session 4096 4096 1) 4 (field (codes "foo") (codes "bar") ∷ [])
 
 decoded_block : Session
 decoded_block = with_decoded one_block 4

@@ -143,7 +143,7 @@ name_few n make bytes cut = go (integer_at (n - 1) bytes) refl
               value_few (make w.text) (length bytes) (drop x.1 x.2) (omega (arith, t.behind, size)) w.value,
             )
 
-lone_index_few : {L : Type 0} (n : ℕ) (make : ℕ → L) (bytes : List ℕ) → IsCut (made_at (Index n make) bytes)
+pub lone_index_few : {L : Type 0} (n : ℕ) (make : ℕ → L) (bytes : List ℕ) → IsCut (made_at (Index n make) bytes)
     → length bytes ≤ 9
 unfolding made_at
 lone_index_few n make bytes cut = go (integer_at n bytes) refl

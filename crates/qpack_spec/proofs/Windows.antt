@@ -146,11 +146,12 @@ window_grown h (Resizes n) r =
 pub sound_begin : (capacity : ℕ) (agreed_max : Option ℕ) → Sound (empty_history capacity agreed_max)
 sound_begin capacity agreed_max = record { in_range = omega arith; fits = omega arith; few = lit≤ tt }
 
-pub sound_start : (capacity : ℕ) → Sound (initial_history capacity)
-sound_start capacity = sound_begin capacity (Some capacity)
+pub sound_start : (capacity maximum : ℕ) → Sound (initial_history capacity maximum)
+sound_start capacity maximum = sound_begin capacity (Some maximum)
 
-pub agreed_start : (capacity : ℕ) → Agreed capacity (initial_history capacity)
-agreed_start capacity = record { is_agreed = refl; within = omega arith; roomy = λ z. absurd (omega arith) }
+pub agreed_start : (capacity maximum : ℕ) → capacity ≤ maximum → Agreed maximum (initial_history capacity maximum)
+agreed_start capacity maximum within =
+    record { is_agreed = refl; within = within; roomy = λ z. absurd (omega arith) }
 
 -- what an effect keeps
 pub sound_grown : (h : History) (e : Effect) → Sound h → Allowed (window_of h) e → Sound (history_after h e)

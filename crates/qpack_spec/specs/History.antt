@@ -43,9 +43,9 @@ history_after h (Resizes n) = record h {
 abbrev pub empty_history : ℕ → Option ℕ → History
 empty_history capacity agreed_max = record { capacity = capacity; agreed_max = agreed_max; dropped = 0; inserted = [] }
 
--- an empty table, its capacity being the maximum capacity
-abbrev pub initial_history : ℕ → History
-initial_history capacity = empty_history capacity (Some capacity)
+-- an empty table of this capacity, where this maximum capacity was agreed (section 3.2.3)
+abbrev pub initial_history : ℕ → ℕ → History
+initial_history capacity maximum = empty_history capacity (Some maximum)
 
 -- each instruction in turn is taken, and they lead from h to h'
 abbrev pub Leads : History → List EncoderInstruction → History → Type 0

@@ -2,7 +2,7 @@
 -- makes of it (RFC 9204, section 2).
 use Rattle.std.specs.Prelude.{◌≡◌, ◌<◌, ℕ, ◌+◌, ◌-◌, ◌^◌, ◌≤◌, ◌⊎◌, min, Bool, true, false, if◌then◌else◌, not, nat_lt}
 use Rattle.std.specs.Prelude.{nat_le, nat_eq, List, [], ◌∷◌, ◌++◌, length, take, drop, Option, None, Some, slice_get}
-use Rattle.std.specs.Prelude.{Result, Ok, Err, replicate, ◌/◌, ◌%◌}
+use Rattle.std.specs.Prelude.{Result, Ok, Err, replicate, ◌/◌, ◌%◌, ◌&&◌}
 use Rattle.std.specs.List.{AllByRecursion, filter}
 use Rattle.qpack_spec.specs.Bytes.{Begins}
 use Rattle.qpack_spec.specs.Field.{Field, total_size}
@@ -109,12 +109,13 @@ with_stream ps s k = (s, k) ∷ ps
 abbrev pub with_kept_stream : Session → ℕ → KeptStream → Session
 with_kept_stream v s k = record v { streams = with_stream v.streams s k }
 
--- how a session begins: both tables empty, the maximum capacity agreed
-abbrev pub initial_session : ℕ → ℕ → Session
-initial_session capacity limit =
+-- how a session begins: both tables empty and of this capacity, this maximum capacity agreed (sections 3.2.2 and
+-- 3.2.3), and so many blocks may be blocked (section 2.1.2)
+abbrev pub initial_session : ℕ → ℕ → ℕ → Session
+initial_session capacity maximum limit =
     record {
-      encoder = empty_table capacity (Some capacity) limit;
-      decoder = table_of (window_of (initial_history capacity));
+      encoder = empty_table capacity (Some maximum) limit;
+      decoder = table_of (window_of (initial_history capacity maximum));
       unreported = 0;
       encoder_stream = [];
       encoder_stream_delivered = 0;
@@ -125,24 +126,25 @@ initial_session capacity limit =
       streams = [];
     }
 
--- the greatest capacity that a session begins with
-abbrev pub greatest_first_capacity : ℕ
-greatest_first_capacity = 2 ^ 30 - 1
+-- the greatest maximum capacity that a session begins with
+abbrev pub greatest_maximum : ℕ
+greatest_maximum = 2 ^ 30 - 1
 
 -- the greatest limit of blocked blocks
 abbrev pub greatest_limit : ℕ
 greatest_limit = 65534
 
--- why a session doesn't begin
+-- why a session doesn't begin: its capacity is above its maximum capacity (section 3.2.3), or that above the greatest
+-- one; or its limit is above the greatest one
 pub data StartRefusal : Type 0 where
   CapacityTooLarge : StartRefusal
   LimitTooLarge : StartRefusal
 
--- a session begins, unless its capacity or its limit is too great; the capacity is tested first
-abbrev pub begin_session : ℕ → ℕ → Result Session StartRefusal
-begin_session capacity limit =
-    if nat_le capacity greatest_first_capacity
-    then (if nat_le limit greatest_limit then Ok (initial_session capacity limit) else Err LimitTooLarge)
+-- a session begins, unless its capacity, its maximum capacity or its limit is too great; the limit is tested last
+abbrev pub begin_session : ℕ → ℕ → ℕ → Result Session StartRefusal
+begin_session capacity maximum limit =
+    if nat_le capacity maximum && nat_le maximum greatest_maximum
+    then (if nat_le limit greatest_limit then Ok (initial_session capacity maximum limit) else Err LimitTooLarge)
     else Err CapacityTooLarge
 
 -- the oldest undecoded block of a request stream
