@@ -10,7 +10,7 @@ use std::alloc::{AllocError, AllocFailed};
 use thiserror::Error;
 
 /// Why a line, a block's prefix or an instruction could not be read.
-#[derive(Debug, PartialEq, Drop, Error)]
+#[derive(Clone, Copy, Debug, PartialEq, Drop, Error)]
 pub enum ParseError {
     /// An integer is too large, or the bytes end within it.
     #[error("could not parse integer: {0}")]

@@ -16,7 +16,7 @@ use std::alloc::Allocator;
 use thiserror::Error as ThisError;
 
 /// Why an integer could not be read.
-#[derive(Debug, PartialEq, Drop, ThisError)]
+#[derive(Clone, Copy, Debug, PartialEq, Drop, ThisError)]
 pub enum Error {
     /// The prefix is full, and nine further bytes have their high bits set: the value may pass what is
     /// read, 2^63 + 2^n - 2 for a prefix of n bits.

@@ -36,7 +36,7 @@ use std::alloc::{AllocError, AllocFailed, Allocator, Global};
 use thiserror::Error as ThisError;
 
 /// Why a string could not be read or written.
-#[derive(Debug, PartialEq, Drop, ThisError)]
+#[derive(Clone, Copy, Debug, PartialEq, Drop, ThisError)]
 pub enum Error {
     /// The bytes end within the string.
     #[error("unexpected end")]

@@ -19,7 +19,7 @@ mod names;
 mod rows;
 
 /// Why the static table has no field to give.
-#[derive(Debug, PartialEq, Drop, ThisError)]
+#[derive(Clone, Copy, Debug, PartialEq, Drop, ThisError)]
 pub enum Error {
     /// No field has this index.
     #[error("unknown static index {0}")]

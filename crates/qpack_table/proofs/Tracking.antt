@@ -5,15 +5,16 @@ use Rattle.std.proofs.Common.{inr, min}
 use Rattle.std.proofs.Common.{add-one, drop-cons, rules}
 use Rattle.std.proofs.Math.Seq.{take-suc}
 use Rattle.std.specs.Prelude.{filter, not, nat_eq, nat_lt, position, IfSome, IfNone}
-use Rattle.std.specs.Option.{OnSome}
+use Rattle.std.specs.Option.{OnSome, option_map}
 use Rattle.std.proofs.lemmas.List.{drop_all}
 use Rattle.std.proofs.lemmas.List.Quantifiers.{position-Some}
-use Rattle.std.specs.List.{remove, position_or_len, AllByRecursion}
+use Rattle.std.specs.List.{remove, position_or_len, AllByRecursion, find}
 use Rattle.std.proofs.lemmas.Bool.{cases_lt, lt-ltb, ne_eqb}
 use Rattle.qpack_spec.specs.Table as table
 use Rattle.qpack_spec.specs.Table.{without_oldest, without_stream}
+use Rattle.qpack_spec.specs.Reading.{greatest_of}
 use Rattle.qpack_table.specs.Tables.{times, references_in, block_of, blocks_of, of_stream, IsTaken, IsLeast}
-use Rattle.qpack_table.specs.Tables.{entries_of, flags_of, AreCounted, AreUsed}
+use Rattle.qpack_table.specs.Tables.{entries_of, flags_of, AreCounted, AreUsed, required_by, oldest_required}
 use Rattle.qpack_table.specs.declared.dynamic.entry.Entry.{Entry}
 use Rattle.qpack_table.proofs.Marks.{Lowered, lowered_by, counted_first, counted_start}
 use Rattle.qpack_table.specs.declared.dynamic.entry.UnacknowledgedBlock.{UnacknowledgedBlock}
@@ -108,6 +109,52 @@ every_left_of P s (b ∷ bs) new e h =
     first false here (Some rest) is more =
         let same = rw (here, is) at e in let it : b ∷ rest ≡ new = cc in
         subst (AllByRecursion P) it (h.0, more rest is h.1)
+
+-- ---- what a stream's oldest block requires
+
+abbrev is_stream : ℕ → table.UnacknowledgedBlock → Bool
+is_stream s b = nat_eq b.stream s
+
+pub none_required : (s : ℕ) (bs : List UnacknowledgedBlock) → position (is_of s) bs ≡ None
+    → oldest_required s (blocks_of bs) ≡ None
+none_required s bs e =
+    ap (option_map required_by) (by_position (elim (cases_lt (position_or_len (is_of s) bs) (length bs)) [
+      | inl h ↦ let some = rw (lt-ltb (position_or_len (is_of s) bs) (length bs) h) at e in absurd cc
+      | inr h ↦ h
+    ]))
+  where
+    by_position : length bs ≤ position_or_len (is_of s) bs → find (is_stream s) (blocks_of bs) ≡ None
+    by_position h = not_found bs h
+      where
+        not_found : (xs : List UnacknowledgedBlock) → length xs ≤ position_or_len (is_of s) xs
+            → find (is_stream s) (blocks_of xs) ≡ None
+        not_found [] most = refl
+        not_found (b ∷ xs) most = first (is_of s b) refl (not_found xs)
+          where
+            first : (t : Bool) → is_of s b ≡ t
+                → (length xs ≤ position_or_len (is_of s) xs → find (is_stream s) (blocks_of xs) ≡ None)
+                → find (is_stream s) (blocks_of (b ∷ xs)) ≡ None
+            first true e rest = let none : suc (length xs) ≤ 0 = rw e at most in absurd (omega (arith, none))
+            first false e rest = let more = rw e at most in rw (e, rest (omega (arith, more))) refl
+
+found : (s : ℕ) (bs : List UnacknowledgedBlock) (i : ℕ) (b : UnacknowledgedBlock) → i < length bs
+    → b ≡ get_or bs i b → is_of s b ≡ true → ((k : ℕ) → k < i → is_of s (get_or bs k b) ≡ false)
+    → find (is_stream s) (blocks_of bs) ≡ Some (block_of b)
+found s [] i b within at here before = absurd (omega (arith, within))
+found s (x ∷ bs) zero b within at here before =
+    let first : is_of s x ≡ true = ap (is_of s) (sym at) ∙ here in
+    rw first (ap (λ (y : UnacknowledgedBlock). Some (block_of y)) (sym at))
+found s (x ∷ bs) (suc i) b within at here before =
+    let other : is_of s x ≡ false = before 0 (omega arith) in
+    rw other (found s bs i b (omega (arith, within)) at here (λ k h. before (suc k) (omega (arith, h))))
+
+pub some_required : (s : ℕ) (bs : List UnacknowledgedBlock) (i required : ℕ) (b : UnacknowledgedBlock)
+    → position (is_of s) bs ≡ Some i → b ≡ get_or bs i b → required ≡ greatest_of b.entries.items
+    → Some required ≡ oldest_required s (blocks_of bs)
+some_required s bs i required b at is exact =
+    let p = position-Some (is_of s) bs i b at in
+    ap (λ (n : ℕ). Some n) exact
+    ∙ sym (ap (option_map required_by) (found s bs i b p.0 is (ap (is_of s) is ∙ p.1) p.2))
 
 -- ---- every block of a stream
 

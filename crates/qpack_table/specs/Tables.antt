@@ -2,7 +2,8 @@
 use Rattle.std.specs.Prelude.{◌≡◌, ℕ, ◌+◌, ◌≤◌, ◌<◌, ◌^◌, ⊤, Bool, IsTrue, nat_eq, if◌then◌else◌}
 use Rattle.std.specs.Prelude.{List, [], ◌∷◌, ◌++◌, map, filter, length}
 use Rattle.std.specs.Prelude.{Option, Some, None, IfSome, slice_get, Result, Ok, Err}
-use Rattle.std.specs.List.{AllByRecursion}
+use Rattle.std.specs.List.{AllByRecursion, find}
+use Rattle.std.specs.Option.{option_map}
 use Rattle.std.specs.Borrow.{Bor}
 use Rattle.qpack_base.specs.HeaderFields.{field_of}
 use Rattle.qpack_base.specs.Refusals.{IsRefusedFor}
@@ -11,7 +12,7 @@ use Rattle.qpack_spec.specs.Field.{Field, total_size}
 use Rattle.qpack_spec.specs.Table as table
 use Rattle.qpack_spec.specs.Table.{has_number, fields_in, is_evictable}
 use Rattle.qpack_spec.specs.Window.{TableRefusal, DoesNotFit, AboveMaximum, UnknownStream}
-use Rattle.qpack_spec.specs.Reading.{Fault, BelowWindow, AboveWindow, BehindBase}
+use Rattle.qpack_spec.specs.Reading.{Fault, BelowWindow, AboveWindow, BehindBase, greatest_of}
 use Rattle.qpack_table.specs.Positions.{Positions}
 use Rattle.qpack_table.specs.declared.dynamic.Error.{Error}
 use Rattle.qpack_table.specs.declared.dynamic.Error.TheVariants.{BadRelativeIndex, BadPostbaseIndex, BadIndex}
@@ -118,6 +119,14 @@ pub record IsTaken (stream : ℕ) (block : table.UnacknowledgedBlock) (old new :
 -- the blocks of a stream
 abbrev pub of_stream : ℕ → List table.UnacknowledgedBlock → List table.UnacknowledgedBlock
 of_stream stream bs = filter (λ b. nat_eq b.stream stream) bs
+
+-- the required insert count of a block: the greatest absolute index that its lines reference (section 2.1.2)
+abbrev pub required_by : table.UnacknowledgedBlock → ℕ
+required_by b = greatest_of b.entries
+
+-- that of the oldest unacknowledged block of a stream
+abbrev pub oldest_required : ℕ → List table.UnacknowledgedBlock → Option ℕ
+oldest_required stream bs = option_map required_by (find (λ b. nat_eq b.stream stream) bs)
 
 -- the answer is whether the live entry at a position is evictable
 abbrev pub IsEvictableAt : table.Table → ℕ → Bool → Type 0

@@ -28,7 +28,7 @@ pub use crate::dynamic::steps::Steps;
 pub use crate::dynamic::table::{DynamicTable, DynamicTableDecoder};
 
 /// Why the dynamic table did not do what it was asked for.
-#[derive(Debug, PartialEq, Drop, ThisError)]
+#[derive(Clone, Copy, Debug, PartialEq, Drop, ThisError)]
 pub enum Error {
     /// No live entry has this relative index: the one that it names is dropped, or before the first one, or nothing
     /// is live (RFC 9204, section 3.2.5).

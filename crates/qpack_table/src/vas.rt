@@ -30,7 +30,7 @@ pub type RelativeIndex = usize;
 pub type AbsoluteIndex = usize;
 
 /// Why an index references no live entry. Each tells the index as it was handed in.
-#[derive(Debug, PartialEq, Drop, ThisError)]
+#[derive(Clone, Copy, Debug, PartialEq, Drop, ThisError)]
 pub enum Error {
     /// The entry of this relative index is dropped, or before the first one, or nothing is live.
     #[error("no entry at relative index {0}")]

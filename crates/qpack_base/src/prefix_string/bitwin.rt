@@ -4,7 +4,7 @@ ghost use Rattle.std.specs.Prelude.{◌≡◌, ◌+◌, ◌-◌, ◌*◌, ◌/�
 ghost use Rattle.qpack_base.specs.BitPositions.{position_of};
 
 /// A position in a payload, the bit `bit` of the byte `byte`, and how many bits from it on are meant.
-#[derive(Clone, Debug, Default, Drop, PartialEq)]
+#[derive(Clone, Copy, Debug, Default, Drop, PartialEq)]
 pub struct BitWindow {
     pub byte: u64,
     pub bit: u64,

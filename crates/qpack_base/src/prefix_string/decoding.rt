@@ -12,7 +12,7 @@ use std::marker::Model;
 use thiserror::Error as ThisError;
 
 /// Why a payload means nothing.
-#[derive(Debug, Drop, PartialEq, ThisError)]
+#[derive(Clone, Copy, Debug, Drop, PartialEq, ThisError)]
 pub enum HuffmanDecodingError {
     /// Behind the last code stand bits that are neither a code nor fewer than eight ones.
     #[error("missing bits")]

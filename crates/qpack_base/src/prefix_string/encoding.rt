@@ -11,7 +11,7 @@ use std::alloc::{AllocError, Allocator};
 use thiserror::Error as ThisError;
 
 /// No memory was left for a payload.
-#[derive(Debug, Drop, PartialEq, ThisError)]
+#[derive(Clone, Copy, Debug, Drop, PartialEq, ThisError)]
 #[error("out of memory")]
 pub struct HuffmanEncodingError;
 

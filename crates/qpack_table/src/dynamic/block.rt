@@ -121,7 +121,7 @@ fn open_block(
 }
 
 /// The greatest of these numbers, 0 if there are none.
-fn greatest_in(numbers: &[usize]) -> usize
+pub(super) fn greatest_in(numbers: &[usize]) -> usize
     ensures { result ≡ greatest_of numbers.now }
 {
     let mut greatest = 0usize;

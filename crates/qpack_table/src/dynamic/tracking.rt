@@ -2,19 +2,51 @@
 //! may be blocked (RFC 9204, section 2.1).
 
 ghost use Rattle.std.specs.Prelude.{◌≡◌, ℕ, ◌+◌, ◌<◌, ◌≤◌, List, [], ◌∷◌, ◌++◌, filter, nat_lt};
-ghost use Rattle.std.specs.Prelude.{nat_eq, not};
+ghost use Rattle.std.specs.Prelude.{nat_eq, not, length};
 ghost use Rattle.std.specs.Prelude.{Ok, Err, None, IfSome, IfNone, position};
 ghost use Rattle.qpack_spec.specs.Instruction.{Acknowledgment, Cancellation, Increment};
 ghost use Rattle.qpack_spec.specs.Table.{apply_decoder_instruction, without_oldest};
 ghost use Rattle.qpack_table.specs.Tables.{Changes, IsLeast, IsTaken, AreCounted, AreUsed, references_in};
-ghost use Rattle.qpack_table.specs.Tables.{entries_of, flags_of, block_of, blocks_of, of_stream};
+ghost use Rattle.qpack_table.specs.Tables.{entries_of, flags_of, block_of, blocks_of, of_stream, oldest_required};
 
 use crate::dynamic::Error;
+use crate::dynamic::block::greatest_in;
 use crate::dynamic::entry::{Entry, UnacknowledgedBlock, clear_references, lower_uses};
 use crate::dynamic::table::DynamicTable;
 use std::collections::VecDeque;
 
 impl DynamicTable {
+    /// The known received count: how many insertions the decoder is known to have received (RFC 9204, section 2.1.4).
+    pub fn known_received_count(&self) -> usize
+        ensures { result ≡ self.now.known_received_count }
+    {
+        self.known_received_count
+    }
+
+    /// How many blocks are not acknowledged yet, of all streams (RFC 9204, section 2.1.1).
+    pub fn unacknowledged_blocks(&self) -> usize
+        ensures { result ≡ length self.now.unacknowledged }
+    {
+        self.unacknowledged.len()
+    }
+
+    /// How many blocks may be blocked: committed ones whose required insert counts are above the known received count
+    /// (RFC 9204, section 2.1.2).
+    pub fn blocked_blocks(&self) -> usize
+        ensures { result ≡ length self.now.blocked }
+    {
+        self.blocked.len()
+    }
+
+    /// The required insert count of the oldest block of a stream that is not acknowledged yet, which an acknowledgment
+    /// releases; none if there is no such block (RFC 9204, sections 2.1.2 and 4.4.1).
+    pub fn oldest_required(&self, stream_id: u64) -> Option<usize>
+        ensures { result ≡ oldest_required stream_id self.now.unacknowledged }
+    {
+        let position = oldest_of(&self.unacknowledged, stream_id)?;
+        Some(greatest_in(&self.unacknowledged[position].entries))
+    }
+
     /// An acknowledgment of a stream releases its oldest block that is not acknowledged yet. It is refused where
     /// there is none, and takes no memory (RFC 9204, section 4.4.1).
     pub fn untrack_block(&mut self, stream_id: u64) -> Result<(), Error>
