@@ -1,5 +1,5 @@
 -- What the session theorem says of the answers of the code.
-use Rattle.std.proofs.Common.{◌≡◌, ℕ, List, [], ◌∷◌, ◌++◌, Ok, Err, refl, subst}
+use Rattle.std.proofs.Common.{◌≤◌, ◌≡◌, ℕ, List, [], ◌∷◌, ◌++◌, Ok, Err, refl, subst}
 use Rattle.std.specs.List.{AllByRecursion}
 use Rattle.qpack_spec.specs.Session as spec
 use Rattle.qpack_spec.specs.Session.{Session, Run, Step, initial_session}
@@ -17,8 +17,8 @@ use Rattle.h3_qpack.specs.declared.session.Event.{Event}
 use Rattle.h3_qpack.specs.declared.session.Outcome.{Outcome}
 use Rattle.h3_qpack.specs.declared.session.Outcome.TheVariants as outcome
 
-module _ (capacity limit : ℕ) (events : List (spec.Event × spec.Outcome)) (v : Session)
-    (safe : IsSafe capacity limit events v) (e : spec.Event) (answer : spec.Outcome) (next : Session)
+module _ (capacity maximum limit : ℕ) (events : List (spec.Event × spec.Outcome)) (v : Session)
+    (safe : IsSafe capacity maximum limit events v) (e : spec.Event) (answer : spec.Outcome) (next : Session)
     (step : Step v e answer next) where
   refused_not : (fault : spec.StreamFault) → answer ≡ spec.Refused fault → ⊥
   refused_not fault is =
@@ -51,24 +51,25 @@ waits_so events v s e answer tells (waits_for encode next exceeds is) =
     }
 
 -- a decode is exact
-exact_decode : (capacity limit : ℕ) (events : List (spec.Event × spec.Outcome)) (v : Session)
-    → IsSafe capacity limit events v → (s : ℕ) (answer : spec.Outcome) (next : Session)
+exact_decode : (capacity maximum limit : ℕ) (events : List (spec.Event × spec.Outcome)) (v : Session)
+    → IsSafe capacity maximum limit events v → (s : ℕ) (answer : spec.Outcome) (next : Session)
     → Step v (spec.Decode s) answer next
     → (r : Outcome) → Answers r answer → IsExact events v (spec.Decode s) r
-exact_decode capacity limit events v safe s answer next step (outcome.Decoded (Ok d)) h =
+exact_decode capacity maximum limit events v safe s answer next step (outcome.Decoded (Ok d)) h =
     safe.decodes.answers s (fields_in d.fields.items) d.mem_size d.dyn_ref next
     (subst (λ (o : spec.Outcome). Step v (spec.Decode s) o next) h step)
-exact_decode capacity limit events v safe s answer next step (outcome.Decoded (Err decoder.Memory)) h = tt
-exact_decode capacity limit events v safe s answer next step (outcome.Decoded (Err e)) h =
+exact_decode capacity maximum limit events v safe s answer next step (outcome.Decoded (Err decoder.Memory)) h = tt
+exact_decode capacity maximum limit events v safe s answer next step (outcome.Decoded (Err e)) h =
     waits_so events v s e answer h (safe.waits.answers s answer next step)
-exact_decode capacity limit events v safe s answer next step r h = tt
+exact_decode capacity maximum limit events v safe s answer next step r h = tt
 
-exact_event : (capacity limit : ℕ) (events : List (spec.Event × spec.Outcome)) (v : Session)
-    → IsSafe capacity limit events v → (e : spec.Event) (answer : spec.Outcome) (next : Session) → Step v e answer next
+exact_event : (capacity maximum limit : ℕ) (events : List (spec.Event × spec.Outcome)) (v : Session)
+    → IsSafe capacity maximum limit events v → (e : spec.Event) (answer : spec.Outcome) (next : Session)
+    → Step v e answer next
     → (r : Outcome) → Answers r answer → IsExact events v e r
-exact_event capacity limit events v safe (spec.Decode s) answer next step r h =
-    exact_decode capacity limit events v safe s answer next step r h
-exact_event capacity limit events v safe e answer next step r h = tt
+exact_event capacity maximum limit events v safe (spec.Decode s) answer next step r h =
+    exact_decode capacity maximum limit events v safe s answer next step r h
+exact_event capacity maximum limit events v safe e answer next step r h = tt
 
 -- ---- of a step
 
@@ -76,27 +77,31 @@ pub unrefused_step : (old new : SessionView) (e : spec.Event) (r : Outcome) → 
     → IsUnrefused r
 unrefused_step old new e r at follows =
     let goes = follows at.session at.reaches.shows in
-    unrefused at.capacity at.limit at.events at.session
-    (sessions_safe at.capacity at.limit at.events at.session at.reaches.run) e goes.answer goes.next goes.passes.goes r
+    unrefused at.capacity at.maximum at.limit at.events at.session
+    (sessions_safe at.capacity at.maximum at.limit at.reaches.within at.events at.session at.reaches.run) e goes.answer
+    goes.next goes.passes.goes r
     goes.answers
 
 pub exact_step : (old new : SessionView) (e : spec.Event) (r : Outcome) → Follows old new e r → IsExactBehind old e r
-exact_step old new e r follows capacity limit events v reaches =
+exact_step old new e r follows capacity maximum limit events v reaches =
     let goes = follows v reaches.shows in
-    exact_event capacity limit events v (sessions_safe capacity limit events v reaches.run) e goes.answer goes.next
+    exact_event capacity maximum limit events v
+    (sessions_safe capacity maximum limit reaches.within events v reaches.run) e goes.answer goes.next
     goes.passes.goes r goes.answers
 
 -- ---- of a run
 
-module _ (capacity limit : ℕ) where
+module _ (capacity maximum limit : ℕ) (within : capacity ≤ maximum) where
   all_unrefused : (done : List (spec.Event × spec.Outcome)) (v w : Session) (events : List Event)
-      (outcomes : List Outcome) (steps : List (spec.Event × spec.Outcome)) → Run (initial_session capacity limit) done v
+      (outcomes : List Outcome) (steps : List (spec.Event × spec.Outcome))
+      → Run (initial_session capacity maximum limit) done v
       → Run v steps w → AreAnswered events outcomes steps → AllByRecursion IsUnrefused outcomes
   all_unrefused done v w [] [] [] start run h = tt
   all_unrefused done v w (e ∷ es) (o ∷ os) (step ∷ steps) start run h = (
-    unrefused capacity limit done v (sessions_safe capacity limit done v start) step.0 step.1 run.0 run.1.goes o h.2,
+    unrefused capacity maximum limit done v
+        (sessions_safe capacity maximum limit within done v start) step.0 step.1 run.0 run.1.goes o h.2,
     all_unrefused (done ++ step ∷ []) run.0 w es os steps
-        (run_more (initial_session capacity limit) v run.0 done step.0 step.1 start run.1) run.2 h.3,
+        (run_more (initial_session capacity maximum limit) v run.0 done step.0 step.1 start run.1) run.2 h.3,
   )
   all_unrefused done v w [] [] (step ∷ steps) start run h = absurd h
   all_unrefused done v w [] (o ∷ os) [] start run h = absurd h
@@ -106,24 +111,26 @@ module _ (capacity limit : ℕ) where
   all_unrefused done v w (e ∷ es) (o ∷ os) [] start run h = absurd h
 
   pub run_unrefused : (w : Session) (events : List Event) (outcomes : List Outcome)
-      (steps : List (spec.Event × spec.Outcome)) → Run (initial_session capacity limit) steps w
+      (steps : List (spec.Event × spec.Outcome)) → Run (initial_session capacity maximum limit) steps w
       → AreAnswered events outcomes steps → AllByRecursion IsUnrefused outcomes
   run_unrefused w events outcomes steps run h =
-      all_unrefused [] (initial_session capacity limit) w events outcomes steps refl run h
+      all_unrefused [] (initial_session capacity maximum limit) w events outcomes steps refl run h
 
   all_exact : (done : List (spec.Event × spec.Outcome)) (v w : Session) (events : List Event)
-      (outcomes : List Outcome) (steps : List (spec.Event × spec.Outcome)) → Run (initial_session capacity limit) done v
-      → Run v steps w → AreAnswered events outcomes steps → AreExact capacity limit done steps outcomes
+      (outcomes : List Outcome) (steps : List (spec.Event × spec.Outcome))
+      → Run (initial_session capacity maximum limit) done v
+      → Run v steps w → AreAnswered events outcomes steps → AreExact capacity maximum limit done steps outcomes
   all_exact done v w [] [] [] start run h = tt
   all_exact done v w (e ∷ es) (o ∷ os) (step ∷ steps) start run h = (
     (
       v,
       start,
-      exact_event capacity limit done v (sessions_safe capacity limit done v start) step.0 step.1 run.0
+      exact_event capacity maximum limit done v
+          (sessions_safe capacity maximum limit within done v start) step.0 step.1 run.0
           run.1.goes o h.2,
     ),
     all_exact (done ++ step ∷ []) run.0 w es os steps
-        (run_more (initial_session capacity limit) v run.0 done step.0 step.1 start run.1) run.2 h.3,
+        (run_more (initial_session capacity maximum limit) v run.0 done step.0 step.1 start run.1) run.2 h.3,
   )
   all_exact done v w [] [] (step ∷ steps) start run h = absurd h
   all_exact done v w [] (o ∷ os) [] start run h = absurd h
@@ -133,7 +140,7 @@ module _ (capacity limit : ℕ) where
   all_exact done v w (e ∷ es) (o ∷ os) [] start run h = absurd h
 
   pub run_exact : (w : Session) (events : List Event) (outcomes : List Outcome)
-      (steps : List (spec.Event × spec.Outcome)) → Run (initial_session capacity limit) steps w
-      → AreAnswered events outcomes steps → AreExact capacity limit [] steps outcomes
+      (steps : List (spec.Event × spec.Outcome)) → Run (initial_session capacity maximum limit) steps w
+      → AreAnswered events outcomes steps → AreExact capacity maximum limit [] steps outcomes
   run_exact w events outcomes steps run h =
-      all_exact [] (initial_session capacity limit) w events outcomes steps refl run h
+      all_exact [] (initial_session capacity maximum limit) w events outcomes steps refl run h

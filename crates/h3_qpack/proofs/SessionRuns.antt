@@ -48,28 +48,28 @@ performs_more old mid new events more e r before answers behind p follows whole 
 )
 
 -- from the beginning, what the session theorem says holds
-pub runs : (P : List (spec.Event × spec.Outcome) → Session → Type 0) (capacity limit : ℕ)
-    → ((steps : List (spec.Event × spec.Outcome)) (v : Session) → IsSafe capacity limit steps v → P steps v)
+pub runs : (P : List (spec.Event × spec.Outcome) → Session → Type 0) (capacity maximum limit : ℕ)
+    → ((steps : List (spec.Event × spec.Outcome)) (v : Session) → IsSafe capacity maximum limit steps v → P steps v)
     → (first s : SessionView) (events : List Event) (none outcomes : List Outcome)
-    → Reaches first capacity limit [] (initial_session capacity limit) → none ≡ []
-    → PerformsAll first s events none outcomes → Runs capacity limit events outcomes s P
-runs P capacity limit part first s events none outcomes reaches empty p =
-    let k = p.2 (initial_session capacity limit) reaches.shows in
+    → Reaches first capacity maximum limit [] (initial_session capacity maximum limit) → none ≡ []
+    → PerformsAll first s events none outcomes → Runs capacity maximum limit events outcomes s P
+runs P capacity maximum limit part first s events none outcomes reaches empty p =
+    let k = p.2 (initial_session capacity maximum limit) reaches.shows in
     let same : outcomes ≡ p.0 = p.1 ∙ ap (λ (l : List Outcome). l ++ p.0) empty in
     record {
       steps = k.steps;
       session = k.session;
       answered = subst (λ (os : List Outcome). AreAnswered events os k.steps) (sym same) k.answered;
-      reaches = record { shows = k.shows; run = k.run };
-      holds = part k.steps k.session (sessions_safe capacity limit k.steps k.session k.run);
+      reaches = record { within = reaches.within; shows = k.shows; run = k.run };
+      holds = part k.steps k.session (sessions_safe capacity maximum limit reaches.within k.steps k.session k.run);
     }
 
 -- the run alone
-pub runs_so : (capacity limit : ℕ) (first s : SessionView) (events : List Event) (none outcomes : List Outcome)
-    → Reaches first capacity limit [] (initial_session capacity limit) → none ≡ []
-    → PerformsAll first s events none outcomes → Runs capacity limit events outcomes s (λ steps v. Unit {0})
-runs_so capacity limit first s events none outcomes reaches empty p =
-    runs (λ steps v. Unit {0}) capacity limit (λ steps v safe. tt) first s events none outcomes reaches empty p
+pub runs_so : (capacity maximum limit : ℕ) (first s : SessionView) (events : List Event) (none outcomes : List Outcome)
+    → Reaches first capacity maximum limit [] (initial_session capacity maximum limit) → none ≡ []
+    → PerformsAll first s events none outcomes → Runs capacity maximum limit events outcomes s (λ steps v. Unit {0})
+runs_so capacity maximum limit first s events none outcomes reaches empty p =
+    runs (λ steps v. Unit {0}) capacity maximum limit (λ steps v safe. tt) first s events none outcomes reaches empty p
 
 -- behind the last event all are done
 pub performs_within : (old new : SessionView) (events : List Event) (many : ℕ) (before behind : List Outcome)

@@ -33,12 +33,14 @@ reached_behind old new e r at follows =
     let goes = follows at.session at.reaches.shows in
     record {
       capacity = at.capacity;
+      maximum = at.maximum;
       limit = at.limit;
       events = at.events ++ (e, goes.answer) ∷ [];
       session = goes.next;
       reaches = record {
+        within = at.reaches.within;
         shows = goes.shows;
-        run = run_more (initial_session at.capacity at.limit) at.session goes.next at.events e goes.answer
+        run = run_more (initial_session at.capacity at.maximum at.limit) at.session goes.next at.events e goes.answer
             at.reaches.run goes.passes;
       };
     }
@@ -93,13 +95,14 @@ run_fits : (v w : Session) (events : List (spec.Event × spec.Outcome)) → Fits
 run_fits v w [] fits r = subst (λ (u : Session). FitsMemory u) r fits
 run_fits v w (p ∷ ps) fits r = run_fits r.0 w ps r.1.fits r.2
 
-initial_fits : (capacity limit : ℕ) → FitsMemory (initial_session capacity limit)
-initial_fits capacity limit = record { encoder_stream_fits = omega arith; blocks_fit = λ number. tt }
+initial_fits : (capacity maximum limit : ℕ) → FitsMemory (initial_session capacity maximum limit)
+initial_fits capacity maximum limit = record { encoder_stream_fits = omega arith; blocks_fit = λ number. tt }
 
 pub fits_reached : (s : SessionView) → IsReached s → Fits s
 fits_reached s at =
     fits_shown s at.session at.reaches.shows
-    (run_fits (initial_session at.capacity at.limit) at.session at.events (initial_fits at.capacity at.limit)
+    (run_fits (initial_session at.capacity at.maximum at.limit) at.session at.events
+    (initial_fits at.capacity at.maximum at.limit)
     at.reaches.run)
 
 -- with one stream changed, if its blocks do
@@ -125,7 +128,8 @@ pub record IsOrderedView (s : SessionView) : Type 0 where
 
 pub ordered_reached : (s : SessionView) → IsReached s → IsOrderedView s
 ordered_reached s at =
-    let o = (sessions_safe at.capacity at.limit at.events at.session at.reaches.run).follows.ordered in
+    let safe = sessions_safe at.capacity at.maximum at.limit at.reaches.within at.events at.session at.reaches.run in
+    let o = safe.follows.ordered in
     let h = at.reaches.shows in
     let e = ap (λ (l : List ℕ). length l) h.encoder_stream in
     let d = ap (λ (l : List ℕ). length l) h.decoder_stream in
@@ -232,18 +236,19 @@ lawful new e r v o v' answers shows kind bytes is step fits =
 -- ---- the headline
 
 -- behind an event that goes, what the session theorem says holds
-pub keeps : (P : ℕ → ℕ → List (spec.Event × spec.Outcome) → Session → Type 0)
-    → ((capacity limit : ℕ) (events : List (spec.Event × spec.Outcome)) (v : Session)
-    → IsSafe capacity limit events v → P capacity limit events v)
+pub keeps : (P : ℕ → ℕ → ℕ → List (spec.Event × spec.Outcome) → Session → Type 0)
+    → ((capacity maximum limit : ℕ) (events : List (spec.Event × spec.Outcome)) (v : Session)
+    → IsSafe capacity maximum limit events v → P capacity maximum limit events v)
     → (old new : SessionView) (e : spec.Event) (r : Outcome) → Follows old new e r → Keeps old new e r P
-keeps P part old new e r follows capacity limit events v reaches =
+keeps P part old new e r follows capacity maximum limit events v reaches =
     let goes = follows v reaches.shows in
-    let run = run_more (initial_session capacity limit) v goes.next events e goes.answer reaches.run goes.passes in
+    let run = run_more (initial_session capacity maximum limit) v goes.next events e goes.answer reaches.run
+    goes.passes in
     record {
       answer = goes.answer;
       next = goes.next;
       answers = goes.answers;
-      reaches = record { shows = goes.shows; run = run };
-      holds = part capacity limit (events ++ (e, goes.answer) ∷ []) goes.next
-          (sessions_safe capacity limit (events ++ (e, goes.answer) ∷ []) goes.next run);
+      reaches = record { within = reaches.within; shows = goes.shows; run = run };
+      holds = part capacity maximum limit (events ++ (e, goes.answer) ∷ []) goes.next
+          (sessions_safe capacity maximum limit reaches.within (events ++ (e, goes.answer) ∷ []) goes.next run);
     }

@@ -38,14 +38,14 @@ IsExact events v e o = Unit {0}
 -- whatever events led to the session before it
 abbrev pub IsExactBehind : SessionView → spec.Event → Outcome → Type 0
 IsExactBehind old e o =
-    (capacity limit : ℕ) (events : List (spec.Event × spec.Outcome)) (v : Session)
-    → Reaches old capacity limit events v → IsExact events v e o
+    (capacity maximum limit : ℕ) (events : List (spec.Event × spec.Outcome)) (v : Session)
+    → Reaches old capacity maximum limit events v → IsExact events v e o
 
 -- each answer of a run is so in the session that those before it led to
-abbrev pub AreExact : ℕ → ℕ → List (spec.Event × spec.Outcome) → List (spec.Event × spec.Outcome) → List Outcome
+abbrev pub AreExact : ℕ → ℕ → ℕ → List (spec.Event × spec.Outcome) → List (spec.Event × spec.Outcome) → List Outcome
     → Type 0
-AreExact capacity limit done [] [] = Unit {0}
-AreExact capacity limit done (step ∷ steps) (o ∷ os) =
-    ((v : Session) × Run (initial_session capacity limit) done v × IsExact done v step.0 o)
-    × AreExact capacity limit (done ++ step ∷ []) steps os
-AreExact capacity limit done steps os = ⊥
+AreExact capacity maximum limit done [] [] = Unit {0}
+AreExact capacity maximum limit done (step ∷ steps) (o ∷ os) =
+    ((v : Session) × Run (initial_session capacity maximum limit) done v × IsExact done v step.0 o)
+    × AreExact capacity maximum limit (done ++ step ∷ []) steps os
+AreExact capacity maximum limit done steps os = ⊥

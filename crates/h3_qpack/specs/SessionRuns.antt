@@ -24,12 +24,12 @@ AnswerWhatWasHanded events outcomes =
     (steps : List (spec.Event × spec.Outcome)) × AreAnswered events outcomes steps × AnswersWhatWasHanded steps
 
 -- events, each with its answer, lead from the beginning to a session that is shown, and P holds of it
-pub record Runs (capacity limit : ℕ) (events : List Event) (outcomes : List Outcome) (s : SessionView)
+pub record Runs (capacity maximum limit : ℕ) (events : List Event) (outcomes : List Outcome) (s : SessionView)
     (P : List (spec.Event × spec.Outcome) → Session → Type 0) : Type 0 where
   pub steps : List (spec.Event × spec.Outcome)
   pub session : Session
   pub answered : AreAnswered events outcomes steps
-  pub reaches : Reaches s capacity limit steps session
+  pub reaches : Reaches s capacity maximum limit steps session
   pub holds : P steps session
 
 -- a run is refused memory, or its session does not begin

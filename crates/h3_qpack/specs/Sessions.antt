@@ -151,19 +151,22 @@ pub record Shows (s : SessionView) (v : Session) : Type 0 where
   pub decoder_stream_taken : v.decoder_stream_taken ≡ s.decoder_stream_taken
   pub streams : (number : ℕ) → stream_at s.streams number ≡ stored_stream (stream_at v.streams number)
 
--- it shows a session that these events with their answers lead to, from the beginning of this capacity and limit
-pub record Reaches (s : SessionView) (capacity limit : ℕ) (events : List (spec.Event × spec.Outcome)) (v : Session)
-    : Type 0 where
+-- it shows a session that these events with their answers lead to, from the beginning of this capacity, which is within
+-- this maximum capacity, and of this limit
+pub record Reaches (s : SessionView) (capacity maximum limit : ℕ) (events : List (spec.Event × spec.Outcome))
+    (v : Session) : Type 0 where
+  pub within : capacity ≤ maximum
   pub shows : Shows s v
-  pub run : Run (initial_session capacity limit) events v
+  pub run : Run (initial_session capacity maximum limit) events v
 
 -- it is one that events lead to
 pub record IsReached (s : SessionView) : Type 0 where
   pub capacity : ℕ
+  pub maximum : ℕ
   pub limit : ℕ
   pub events : List (spec.Event × spec.Outcome)
   pub session : Session
-  pub reaches : Reaches s capacity limit events session
+  pub reaches : Reaches s capacity maximum limit events session
 
 -- ---- events and what they answer
 
@@ -242,17 +245,18 @@ Follows old new event result = (v : Session) → Shows old v → Goes new event 
 -- ---- the headline
 
 -- behind the events so far and this one with its answer, P holds of a session that is shown
-pub record Holds (new : SessionView) (capacity limit : ℕ) (events : List (spec.Event × spec.Outcome))
+pub record Holds (new : SessionView) (capacity maximum limit : ℕ) (events : List (spec.Event × spec.Outcome))
     (event : spec.Event) (result : Outcome) (P : List (spec.Event × spec.Outcome) → Session → Type 0) : Type 0 where
   pub answer : spec.Outcome
   pub next : Session
   pub answers : Answers result answer
-  pub reaches : Reaches new capacity limit (events ++ (event, answer) ∷ []) next
+  pub reaches : Reaches new capacity maximum limit (events ++ (event, answer) ∷ []) next
   pub holds : P (events ++ (event, answer) ∷ []) next
 
--- whatever capacity, limit, events and session reached the session before it
+-- whatever capacities, limit, events and session reached the session before it
 abbrev pub Keeps : SessionView → SessionView → spec.Event → Outcome
-    → (ℕ → ℕ → List (spec.Event × spec.Outcome) → Session → Type 0) → Type 0
+    → (ℕ → ℕ → ℕ → List (spec.Event × spec.Outcome) → Session → Type 0) → Type 0
 Keeps old new event result P =
-    (capacity limit : ℕ) (events : List (spec.Event × spec.Outcome)) (v : Session)
-    → Reaches old capacity limit events v → Holds new capacity limit events event result (P capacity limit)
+    (capacity maximum limit : ℕ) (events : List (spec.Event × spec.Outcome)) (v : Session)
+    → Reaches old capacity maximum limit events v
+    → Holds new capacity maximum limit events event result (P capacity maximum limit)

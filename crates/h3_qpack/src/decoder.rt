@@ -31,7 +31,7 @@ mod instructions;
 mod sections;
 
 pub use crate::decoder::connection::{Decoder, ack_header, stream_canceled};
-pub use crate::decoder::instructions::take_instruction;
+pub use crate::decoder::instructions::{take_instruction, write_increments};
 
 /// The fields of a block.
 #[derive(Debug, PartialEq, Drop)]
@@ -45,7 +45,7 @@ pub struct Decoded {
 }
 
 /// Why a block was not decoded.
-#[derive(Debug, PartialEq, Drop, Error)]
+#[derive(Clone, Copy, Debug, PartialEq, Drop, Error)]
 pub enum DecoderError {
     /// An integer of the prefix or of a line is too large, or the bytes end within it.
     #[error("invalid integer: {0}")]

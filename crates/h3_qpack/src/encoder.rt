@@ -37,7 +37,7 @@ pub use crate::encoder::connection::Encoder;
 pub use crate::encoder::sections::{EncoderTable, WritesSections};
 
 /// Why fields were not encoded, or an instruction of the decoder was not taken.
-#[derive(Debug, PartialEq, Drop, Error)]
+#[derive(Clone, Copy, Debug, PartialEq, Drop, Error)]
 pub enum EncoderError {
     /// The dynamic table refused what it was asked for.
     #[error("dynamic table insertion: {0:?}")]

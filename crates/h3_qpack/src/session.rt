@@ -1,7 +1,7 @@
 //! Two ends of a connection, with both streams between them and the blocks of each request stream (RFC 9204, section
 //! 2). Events are given one by one, and each answers what the end that it goes to answers.
 
-ghost use Rattle.std.specs.Prelude.{◌≡◌, ◌<◌, ◌≤◌, ◌^◌, [], length, slice_get, Some, IfOk, IfErr};
+ghost use Rattle.std.specs.Prelude.{◌≡◌, ◌<◌, ◌≤◌, ◌⊎◌, ◌^◌, [], length, slice_get, Some, IfOk, IfErr};
 ghost use Rattle.std.specs.List.{AllByRecursion};
 ghost use Rattle.qpack_spec.specs.Session.{begin_session, initial_session, stream_at};
 ghost use Rattle.qpack_spec.specs.Table.{empty_table};
@@ -118,17 +118,39 @@ impl Session {
     /// A session of two empty tables of this capacity in bytes, which is the maximum capacity too, where so many blocks
     /// may be blocked (RFC 9204, sections 3.2.3 and 2.1.2). A capacity of 2^30 or more is refused
     /// (`MaximumTableSizeTooLarge`), then a limit of 65,535 or more (`MaxBlockedStreamsTooLarge`). It takes no memory.
+    /// `with_maximum` begins below the maximum capacity.
     pub fn new(alloc: Global, capacity: usize, limit: usize) -> Result<Session, dynamic::Error>
         // It begins as the definition begins, or is refused as that is.
-        ensures begins { Begins result (begin_session capacity limit) }
+        ensures begins { Begins result (begin_session capacity capacity limit) }
         // And no events lead to it.
-        ensures reaches { IfOk result (λ s. Reaches s capacity limit [] (initial_session capacity limit)) }
+        ensures reaches { IfOk result
+            (λ s. Reaches s capacity capacity limit [] (initial_session capacity capacity limit)) }
     {
-        let mut table = empty_table(alloc, capacity)?;
+        Session::with_maximum(alloc, capacity, capacity, limit)
+    }
+
+    /// A session of two empty tables of this capacity in bytes, which `Event::SetCapacity` sets up to this maximum
+    /// capacity in bytes, where so many blocks may be blocked (RFC 9204, sections 3.2.2, 3.2.3 and 2.1.2). A connection
+    /// of HTTP/3 begins at capacity 0, and its maximum comes from the decoder's settings. A maximum of 2^30 or more is
+    /// refused, and a capacity above it (`MaximumTableSizeTooLarge`), then a limit of 65,535 or more
+    /// (`MaxBlockedStreamsTooLarge`). It takes no memory.
+    pub fn with_maximum(
+        alloc: Global,
+        capacity: usize,
+        maximum: usize,
+        limit: usize,
+    ) -> Result<Session, dynamic::Error>
+        // It begins as the definition begins, or is refused as that is.
+        ensures begins { Begins result (begin_session capacity maximum limit) }
+        // And no events lead to it.
+        ensures reaches { IfOk result
+            (λ s. Reaches s capacity maximum limit [] (initial_session capacity maximum limit)) }
+    {
+        let mut table = empty_table(alloc, capacity, maximum)?;
         table.set_max_blocked(limit)?;
         Ok(Session {
             encoder: Encoder::from(table),
-            decoder: Decoder::from(empty_table(alloc, capacity)?),
+            decoder: Decoder::from(empty_table(alloc, capacity, maximum)?),
             encoder_stream: Vec::new(alloc),
             encoder_stream_delivered: 0,
             encoder_stream_taken: 0,
@@ -158,19 +180,19 @@ impl Session {
         // Whatever events led to the session before it, they and this one with its answer lead to one of which the
         // four parts of the session theorem hold. (a) The outcomes and the state are a run of the session. Each block
         // and the encoder stream are the rule's. Both tables are those that the instructions make of an empty one, and
-        // within their capacity. The blocked blocks are within the limit.
+        // within their capacity, which is at most the maximum. The blocked blocks are within the limit.
         ensures follows { Keeps self.old self.new (event_of event.now) result
-            (λ capacity limit events v. RunsByTheRule capacity limit events v) }
+            (λ capacity maximum limit events v. RunsByTheRule capacity maximum limit events v) }
         // (b) No instruction is refused but for memory.
         ensures refuses { Keeps self.old self.new (event_of event.now) result
-            (λ capacity limit events v. RefusesNothing v) }
+            (λ capacity maximum limit events v. RefusesNothing v) }
         // (c) A decode that answers fields answers exactly those that were handed to the encode of its block.
         ensures decodes { Keeps self.old self.new (event_of event.now) result
-            (λ capacity limit events v. DecodesWhatWasHanded capacity events v) }
+            (λ capacity maximum limit events v. DecodesWhatWasHanded capacity maximum events v) }
         // (d) Any other answer of a decode is want of memory, or that its block's required insert count is missing,
         // which exceeds the insertions received; never once the bytes written by the block's end were delivered.
         ensures waits { Keeps self.old self.new (event_of event.now) result
-            (λ capacity limit events v. WaitsOnlyForInsertions events v) }
+            (λ capacity maximum limit events v. WaitsOnlyForInsertions events v) }
     {
         self.is_reached();
         self.perform(event)
@@ -232,13 +254,19 @@ impl Session {
     }
 }
 
-/// An empty table of this capacity, which is the maximum capacity too.
-fn empty_table(alloc: Global, capacity: usize) -> Result<DynamicTable, dynamic::Error>
-    ensures ok { IfOk result (λ t. (capacity < 2 ^ 30) × (t ≡ empty_table capacity (Some capacity) 0)) }
-    ensures err { IfErr result (λ e. (e ≡ MaximumTableSizeTooLarge) × (2 ^ 30 ≤ capacity)) }
+/// An empty table of this capacity, under this maximum capacity.
+fn empty_table(
+    alloc: Global,
+    capacity: usize,
+    maximum: usize,
+) -> Result<DynamicTable, dynamic::Error>
+    ensures ok { IfOk result
+        (λ t. (capacity ≤ maximum) × (maximum < 2 ^ 30) × (t ≡ empty_table capacity (Some maximum) 0)) }
+    ensures err { IfErr result
+        (λ e. (e ≡ MaximumTableSizeTooLarge) × ((maximum < capacity) ⊎ (2 ^ 30 ≤ maximum))) }
 {
     let mut table = DynamicTable::new(alloc);
-    table.set_agreed_max(capacity)?;
+    table.set_agreed_max(maximum)?;
     table.set_max_size(capacity)?;
     Ok(table)
 }
@@ -252,7 +280,7 @@ pub fn run(
     events: &[Event],
 ) -> Result<(Session, Vec<Outcome>), dynamic::Error>
     // Refused, the session does not begin, or memory is wanted.
-    ensures err { IfErr result (λ e. RefusesRun e (begin_session capacity limit)) }
+    ensures err { IfErr result (λ e. RefusesRun e (begin_session capacity capacity limit)) }
     // The headline, by events and answers alone. Each answer is of its event's kind. On each stream the fields that
     // were decoded are the first of those that were encoded, in order. No stream is refused, what is skipped is skipped
     // for its reason, and a decode that answers no fields wants memory or tells the required insert count that its
@@ -262,21 +290,22 @@ pub fn run(
     ensures unrefused { IfOk result (λ p. AllByRecursion IsUnrefused p.1.items) }
     // Each decode answers exactly the fields that were handed to the encode of its block, or it wants memory, or tells
     // the block's required insert count, which exceeds the insertions received by then.
-    ensures exact { IfOk result (λ p. Runs capacity limit events.now p.1.items p.0
-        (λ steps v. AreExact capacity limit [] steps p.1.items)) }
+    ensures exact { IfOk result (λ p. Runs capacity capacity limit events.now p.1.items p.0
+        (λ steps v. AreExact capacity capacity limit [] steps p.1.items)) }
     // The events, each with its answer, lead to the session that is answered, and the four parts of the session theorem
     // hold of it. (a) The outcomes and the state are a run of the session, each block and the encoder stream are the
     // rule's, the tables within their capacity and the blocked blocks within the limit.
-    ensures follows { IfOk result (λ p. Runs capacity limit events.now p.1.items p.0
-        (λ steps v. RunsByTheRule capacity limit steps v)) }
+    ensures follows { IfOk result (λ p. Runs capacity capacity limit events.now p.1.items p.0
+        (λ steps v. RunsByTheRule capacity capacity limit steps v)) }
     // (b) No instruction is refused but for memory.
-    ensures refuses { IfOk result (λ p. Runs capacity limit events.now p.1.items p.0 (λ steps v. RefusesNothing v)) }
+    ensures refuses { IfOk result (λ p. Runs capacity capacity limit events.now p.1.items p.0
+        (λ steps v. RefusesNothing v)) }
     // (c) A decode that answers fields answers exactly those that were handed to the encode of its block.
-    ensures decodes { IfOk result (λ p. Runs capacity limit events.now p.1.items p.0
-        (λ steps v. DecodesWhatWasHanded capacity steps v)) }
+    ensures decodes { IfOk result (λ p. Runs capacity capacity limit events.now p.1.items p.0
+        (λ steps v. DecodesWhatWasHanded capacity capacity steps v)) }
     // (d) Any other answer of a decode is want of memory, or that its block's required insert count is missing, which
     // exceeds the insertions received; never once the bytes written by the block's end were delivered.
-    ensures waits { IfOk result (λ p. Runs capacity limit events.now p.1.items p.0
+    ensures waits { IfOk result (λ p. Runs capacity capacity limit events.now p.1.items p.0
         (λ steps v. WaitsOnlyForInsertions steps v)) }
 {
     let mut session = Session::new(alloc, capacity, limit)?;

@@ -243,9 +243,9 @@ pub event_prints : (old new : SessionView) (e : spec.Event) (r : Outcome) (block
     → block ≡ stored_block_bytes e new
     → added ≡ drop (length (stored_stream_bytes e old)) (stored_stream_bytes e new)
     → PrintsOne old new e (printed_outcome r block added)
-event_prints old new e r block added follows unrefused exact asks made wrote v (capacity, limit, events, reaches) =
+event_prints old new e r block added follows unrefused exact asks made wrote v (capacity, maximum, limit, events, reaches) =
     let g = follows v reaches.shows in
-    let is = faultless events v e r g.kind unrefused (exact capacity limit events v reaches) in
+    let is = faultless events v e r g.kind unrefused (exact capacity maximum limit events v reaches) in
     let made_is : block ≡ made_block e g.next = made ∙ block_shown e new g.next g.shows in
     let wrote_is : added ≡ drop (length (written_stream e v)) (written_stream e g.next) =
     wrote
@@ -255,11 +255,13 @@ event_prints old new e r block added follows unrefused exact asks made wrote v (
       next = g.next;
       shows = (
         capacity,
+        maximum,
         limit,
         events ++ (e, g.answer) ∷ [],
         record {
+          within = reaches.within;
           shows = g.shows;
-          run = run_last (initial_session capacity limit) v g.next events e g.answer reaches.run g.passes;
+          run = run_last (initial_session capacity maximum limit) v g.next events e g.answer reaches.run g.passes;
         },
       );
       prints = record {
@@ -325,7 +327,7 @@ run_all old new events i out le all =
 -- all events, from where their session begins
 pub session_runs : (capacity limit : ℕ) (events : List spec.Event) (before after : List ℕ) (first last : SessionView)
     (r : Result ⊤ CodeFault)
-    → (v : Session) × (begin_session capacity limit ≡ Ok v) × ShowsReached first v
+    → (v : Session) × (begin_session capacity capacity limit ≡ Ok v) × ShowsReached first v
     → RunsEvents first last events before after r → RunsSession capacity limit events before after r
 session_runs capacity limit events before after first last (Ok done) (v, begins, shows) (out, all, is) =
     let m = all v shows in

@@ -97,13 +97,13 @@ PrintsEvents v (e ∷ events) last out =
     (next : Session) × (here : List ℕ) × (more : List ℕ) × PrintsEvent v e next here
     × PrintsEvents next events last more × (out ≡ here ++ more)
 
--- this is printed of a script: its session begins with this capacity and this limit of blocked blocks, and its events
--- lead on from there
+-- this is printed of a script: its session begins with this capacity, which is the maximum too, and this limit of
+-- blocked blocks, and its events lead on from there
 pub record PrintsRun (capacity limit : ℕ) (text out : List ℕ) : Type 0 where
   pub events : List spec.Event
   pub are_events : script_events text ≡ Ok events
   pub first : Session
-  pub begins : begin_session capacity limit ≡ Ok first
+  pub begins : begin_session capacity capacity limit ≡ Ok first
   pub last : Session
   pub prints : PrintsEvents first events last out
 
@@ -112,9 +112,10 @@ abbrev pub HasRunFault : ℕ → ℕ → List ℕ → Fault → Type 0
 HasRunFault capacity limit text (BadEvent n) = script_events text ≡ Err n
 HasRunFault capacity limit text Capacity =
     (events : List spec.Event) × (script_events text ≡ Ok events)
-    × (begin_session capacity limit ≡ Err CapacityTooLarge)
+    × (begin_session capacity capacity limit ≡ Err CapacityTooLarge)
 HasRunFault capacity limit text Limit =
-    (events : List spec.Event) × (script_events text ≡ Ok events) × (begin_session capacity limit ≡ Err LimitTooLarge)
+    (events : List spec.Event) × (script_events text ≡ Ok events)
+    × (begin_session capacity capacity limit ≡ Err LimitTooLarge)
 HasRunFault capacity limit text Memory = Unit {0}
 HasRunFault capacity limit text fault = ⊥
 
@@ -128,7 +129,8 @@ RunsScript capacity limit text (Err fault) = HasRunFault capacity limit text fau
 -- it shows a session that events lead to from its beginning
 abbrev pub ShowsReached : SessionView → Session → Type 0
 ShowsReached s v =
-    (capacity : ℕ) × (limit : ℕ) × (events : List (spec.Event × spec.Outcome)) × Reaches s capacity limit events v
+    (capacity : ℕ) × (maximum : ℕ) × (limit : ℕ) × (events : List (spec.Event × spec.Outcome))
+    × Reaches s capacity maximum limit events v
 
 -- one event, from whichever session is shown before it
 pub record Prints (new : SessionView) (v : Session) (e : spec.Event) (out : List ℕ) : Type 0 where
@@ -156,19 +158,19 @@ RunsEvents old new events before after (Err fault) = fault ≡ Memory
 
 -- a session begins as the definition says, or is refused as it says, or for memory
 abbrev pub FailsToBegin : Fault → ℕ → ℕ → Type 0
-FailsToBegin Capacity capacity limit = begin_session capacity limit ≡ Err CapacityTooLarge
-FailsToBegin Limit capacity limit = begin_session capacity limit ≡ Err LimitTooLarge
+FailsToBegin Capacity capacity limit = begin_session capacity capacity limit ≡ Err CapacityTooLarge
+FailsToBegin Limit capacity limit = begin_session capacity capacity limit ≡ Err LimitTooLarge
 FailsToBegin Memory capacity limit = Unit {0}
 FailsToBegin fault capacity limit = ⊥
 
 abbrev pub BeginsRun : Result SessionView Fault → ℕ → ℕ → Type 0
-BeginsRun (Ok s) capacity limit = (v : Session) × (begin_session capacity limit ≡ Ok v) × ShowsReached s v
+BeginsRun (Ok s) capacity limit = (v : Session) × (begin_session capacity capacity limit ≡ Ok v) × ShowsReached s v
 BeginsRun (Err fault) capacity limit = FailsToBegin fault capacity limit
 
 -- a session begins, and the events print this in it
 pub record PrintsSession (capacity limit : ℕ) (events : List spec.Event) (out : List ℕ) : Type 0 where
   pub first : Session
-  pub begins : begin_session capacity limit ≡ Ok first
+  pub begins : begin_session capacity capacity limit ≡ Ok first
   pub last : Session
   pub prints : PrintsEvents first events last out
 

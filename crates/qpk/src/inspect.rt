@@ -76,7 +76,7 @@ fn new_decoder(alloc: Global, capacity: usize) -> Result<Decoder, Fault>
 }
 
 /// An empty table with this capacity in bytes, which is its agreed maximum too; it is refused from 2^30 on.
-#[tactic(auto, using(h3_qpack::proofs::SessionStarts::empty_resized, crate::proofs::EmptyTables::never_refused))]
+#[tactic(auto, using(crate::proofs::EmptyTables::resized_to_maximum, crate::proofs::EmptyTables::never_refused))]
 fn new_table(alloc: Global, capacity: usize) -> Result<DynamicTable, dynamic::Error>
     ensures { MatchResult result (λ t. (capacity < 2 ^ 30) × (t ≡ empty_table capacity (Some capacity) 0))
         (λ _. 2 ^ 30 ≤ capacity) }

@@ -159,10 +159,11 @@ fn act_often(
 
 /// One script; answers how many decoded blocks referenced the table.
 fn script(alloc: Global, numbers: &mut Numbers) -> Result<usize, Fail> {
-    let capacity = numbers.below(200);
+    let maximum = numbers.below(200);
+    let capacity = numbers.below(200).min(maximum);
     let limit = numbers.below(4);
     let mut streams = again(|| streams(alloc))?;
-    let mut session = Session::new(alloc, capacity, limit)?;
+    let mut session = Session::with_maximum(alloc, capacity, maximum, limit)?;
     let acted = act_often(alloc, numbers, &mut session, &mut streams);
     acted.map(|()| dynamic_in(&streams))
 }

@@ -21,9 +21,8 @@ struct Played {
 }
 
 impl Played {
-    fn new(alloc: Global, capacity: usize, limit: usize) -> Result<Played, Fail> {
+    fn new(alloc: Global, session: Session) -> Result<Played, Fail> {
         let decoded = again(|| Vec::with_capacity(alloc, 16))?;
-        let session = Session::new(alloc, capacity, limit)?;
         Ok(Played { session, decoded })
     }
 
@@ -162,15 +161,34 @@ fn is_shown(alloc: Global, outcome: &Outcome, answer: &str) -> Result<bool, Fail
 }
 
 /// All events answer what stands beside them; or one is refused memory, and then this answers false.
-fn plays_once(alloc: Global, capacity: usize, limit: usize, cases: &[Case]) -> Result<bool, Fail> {
-    let mut played = Played::new(alloc, capacity, limit)?;
+fn plays_once(alloc: Global, session: Session, cases: &[Case]) -> Result<bool, Fail> {
+    let mut played = Played::new(alloc, session)?;
     played.plays_each(alloc, cases)
 }
 
 /// The same; once more from the beginning, if memory was refused.
 fn plays_all(alloc: Global, capacity: usize, limit: usize, cases: &[Case]) -> Result<(), Fail> {
-    let played = plays_once(alloc, capacity, limit, cases)?
-        || plays_once(alloc, capacity, limit, cases)?;
+    let played = plays_once(alloc, Session::new(alloc, capacity, limit)?, cases)?
+        || plays_once(alloc, Session::new(alloc, capacity, limit)?, cases)?;
+    same(played, true)
+}
+
+/// The same, in a session that begins at capacity 0.
+fn plays_all_from_none(
+    alloc: Global,
+    maximum: usize,
+    limit: usize,
+    cases: &[Case],
+) -> Result<(), Fail> {
+    let played = plays_once(
+        alloc,
+        Session::with_maximum(alloc, 0, maximum, limit)?,
+        cases,
+    )? || plays_once(
+        alloc,
+        Session::with_maximum(alloc, 0, maximum, limit)?,
+        cases,
+    )?;
     same(played, true)
 }
 
@@ -347,6 +365,44 @@ fn a_capacity_is_refused_while_an_entry_is_referenced(rt: HostRuntime) -> Result
     plays_all(rt.alloc(), 64, 4, CASES)
 }
 
+/// A connection begins at capacity 0 (RFC 9204, section 3.2.3): the first instruction sets one.
+#[test]
+fn a_session_begins_below_its_maximum(rt: HostRuntime) -> Result<(), Fail> {
+    const TOO_LARGE: &str = "CapacitySet(Err(Insertion(MaximumTableSizeTooLarge)))";
+    const CASES: &[Case] = &[
+        (
+            Given::Encode(4, FOO_BAR),
+            "Encoded(Ok(0))",
+            b"00002a94e7838c767f",
+            b"",
+        ),
+        (Given::SetCapacity(4097), TOO_LARGE, b"", b""),
+        (
+            Given::SetCapacity(4096),
+            "CapacitySet(Ok(()))",
+            b"",
+            b"3fe11f",
+        ),
+        (
+            Given::Encode(4, FOO_BAR),
+            "Encoded(Ok(1))",
+            b"028010",
+            b"6294e7838c767f",
+        ),
+        (Given::Decode(4), "\"foo\": \"bar\", 38 false", b"", b""),
+        (Given::ToDecoder(3), "Delivered(Ok(0))", b"", b""),
+        (Given::Decode(4), "Decoded(Err(MissingRefs(1)))", b"", b""),
+        (Given::ToDecoder(7), "Delivered(Ok(1))", b"", b"01"),
+        (Given::Decode(4), "\"foo\": \"bar\", 38 true", b"", b""),
+        (Given::Ack(4), "Acknowledged(Ok(()))", b"", b"84"),
+        (Given::ToEncoder(2), "Heard(Ok(()))", b"", b""),
+        (Given::SetCapacity(4097), TOO_LARGE, b"", b""),
+        (Given::Encode(8, FOO_BAR), "Encoded(Ok(1))", b"020080", b""),
+        (Given::Decode(8), "\"foo\": \"bar\", 38 true", b"", b""),
+    ];
+    plays_all_from_none(rt.alloc(), 4096, 100, CASES)
+}
+
 #[test]
 fn stream_numbers_are_below_their_limit(rt: HostRuntime) -> Result<(), Fail> {
     const CASES: &[Case] = &[
@@ -415,6 +471,49 @@ fn a_session_is_refused_for_its_capacity_first(rt: HostRuntime) -> Result<(), Fa
     ];
     for (bounds, begins) in CASES {
         same(&ran(rt.alloc(), *bounds, &[], ""), begins)?;
+    }
+    Ok(())
+}
+
+/// The capacity and the maximum capacity of the encoder's table, and of the decoder's.
+type Capacities = ((usize, usize), (usize, usize));
+
+/// The capacities of a new session; or why it is refused.
+fn begun(
+    alloc: Global,
+    (capacity, maximum, limit): (usize, usize, usize),
+) -> Result<Capacities, dynamic::Error> {
+    let session = Session::with_maximum(alloc, capacity, maximum, limit)?;
+    let encoder = session.encoder().table();
+    let decoder = session.decoder().table();
+    Ok((
+        (encoder.max_mem_size(), encoder.agreed_max()),
+        (decoder.max_mem_size(), decoder.agreed_max()),
+    ))
+}
+
+#[test]
+fn a_session_is_refused_above_its_maximum(rt: HostRuntime) -> Result<(), Fail> {
+    const GREATEST: usize = (1 << 30) - 1;
+    const CASES: &[((usize, usize, usize), Result<Capacities, dynamic::Error>)] = &[
+        ((0, 4096, 100), Ok(((0, 4096), (0, 4096)))),
+        ((4096, 4096, 100), Ok(((4096, 4096), (4096, 4096)))),
+        ((0, GREATEST, 65_534), Ok(((0, GREATEST), (0, GREATEST)))),
+        (
+            (4097, 4096, 65_535),
+            Err(dynamic::Error::MaximumTableSizeTooLarge),
+        ),
+        (
+            (0, 1 << 30, 65_535),
+            Err(dynamic::Error::MaximumTableSizeTooLarge),
+        ),
+        (
+            (0, 4096, 65_535),
+            Err(dynamic::Error::MaxBlockedStreamsTooLarge),
+        ),
+    ];
+    for (bounds, begins) in CASES {
+        same(&begun(rt.alloc(), *bounds), begins)?;
     }
     Ok(())
 }

@@ -144,9 +144,10 @@ fn set_capacity(table: &mut DynamicTable, size: usize) -> Result<(), DecoderErro
     Ok(table.set_max_size(size)?)
 }
 
-/// Appends increments for so many insertions: as many of 64 as there can be, and then one of the rest (RFC 9204,
-/// section 4.4.3). Refused, the vector is as before; with free room for them all it succeeds and takes no memory.
-pub(super) fn write_increments<A: Allocator>(
+/// Appends increments for so many insertions, for the decoder stream: as many of 64 as there can be, and then one of
+/// the rest (RFC 9204, section 4.4.3). Refused, the vector is as before; with free room for them all it succeeds and
+/// takes no memory.
+pub fn write_increments<A: Allocator>(
     insertions: usize,
     buf: &mut Vec<u8, A>,
 ) -> Result<(), NoMemory>
