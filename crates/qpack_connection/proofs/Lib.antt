@@ -3,6 +3,11 @@ pub mod LineParts
 pub mod LineReads
 pub mod SectionLines
 pub mod SectionParts
+pub mod PlacedTaking
 pub mod StrictTaking
 pub mod WaitingLengths
+pub mod Decoders
 pub mod ReceivedStreams
+pub mod StrictHearing
+pub mod HeardBytes
+pub mod HeardStreams

@@ -12,7 +12,7 @@ use Rattle.h3_qpack.specs.Receiving.{Stops, no_memory, TakesNext}
 use Rattle.h3_qpack.specs.Receiving as decoder
 use Rattle.h3_qpack.specs.Taking.{EndsTakingOf}
 use Rattle.h3_qpack.specs.declared.decoder.DecoderError.{DecoderError}
-use Rattle.qpack_spec.proofs.Taking.{ends_as}
+use Rattle.qpack_connection.specs.declared.place.Place.{Place}
 use Rattle.qpack_connection.specs.Receiving.{inserts, strict_apply, begins_insertion, begins_unlawfully, bad_bytes}
 use Rattle.qpack_connection.specs.Receiving.{bad_instruction, StopsStrictly, TakesNextStrictly, TakesAllStrictly}
 
@@ -95,14 +95,25 @@ kept_behind front rest left kept bytes passed cut sum is same =
     omega (arith, sum, ap length cut, length-append front rest, ap length same) in
     is ∙ ap (λ (n : ℕ). drop n bytes) many ∙ ap (drop (length front)) cut ∙ drop-append_seam front rest
 
-pub whole_taken : (old new : Table) (bytes left kept : List ℕ) (r : Result ⊤ DecoderError) (passed : ℕ)
-    → TakesAllStrictly old new bytes left r → passed + length left ≡ length bytes → kept ≡ drop passed bytes
-    → TakesAllStrictly old new bytes kept r
-whole_taken old new bytes left kept r passed k sum is = ends_as _ k (go r k.ends)
+pub whole_taken : (old new : Table) (from at : Place) (bytes left kept : List ℕ) (r : Result ⊤ DecoderError)
+    (passed : ℕ) → TakesAllStrictly old new from at bytes left r → passed + length left ≡ length bytes
+    → kept ≡ drop passed bytes → TakesAllStrictly old new from at bytes kept r
+whole_taken old new from at bytes left kept r passed k sum is = (
+  record {
+    lines = k.0.lines;
+    front = k.0.front;
+    rest = k.0.rest;
+    cut = k.0.cut;
+    joined = k.0.joined;
+    applies = k.0.applies;
+    ends = go r k.0.ends;
+  },
+  k.1,
+)
   where
-    go : (r : Result ⊤ DecoderError) → EndsTakingOf encoder_instruction_form StopsStrictly new k.rest left r
-        → EndsTakingOf encoder_instruction_form StopsStrictly new k.rest kept r
-    go (Ok done) ends = (ends.0, kept_behind k.front k.rest left kept bytes passed k.cut sum is ends.1)
+    go : (r : Result ⊤ DecoderError) → EndsTakingOf encoder_instruction_form StopsStrictly new k.0.rest left r
+        → EndsTakingOf encoder_instruction_form StopsStrictly new k.0.rest kept r
+    go (Ok done) ends = (ends.0, kept_behind k.0.front k.0.rest left kept bytes passed k.0.cut sum is ends.1)
     go (Err e) (inl stops) =
-        inl (stops.0, stops.1, kept_behind k.front k.rest left kept bytes passed k.cut sum is stops.2)
+        inl (stops.0, stops.1, kept_behind k.0.front k.0.rest left kept bytes passed k.0.cut sum is stops.2)
     go (Err e) (inr refuses) = inr refuses

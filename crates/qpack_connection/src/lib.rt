@@ -1,14 +1,22 @@
-//! What the ends of a QPACK connection are made of (RFC 9204), on the proved calls of `h3_qpack`: field sections read
-//! strictly, up to a limit, into memory that the caller keeps, and the encoder stream received strictly, however it is
-//! cut.
+//! The decoding end of a QPACK connection (RFC 9204), on the proved calls of `h3_qpack`, and what it is made of: field
+//! sections read strictly, up to a limit, into memory that the caller keeps, and the encoder stream received strictly,
+//! however it is cut.
 #![tactic(auto)]
 
+pub mod blocked;
+pub mod decoder;
 pub mod field_section;
+pub mod hearing;
+pub mod place;
 pub mod receiving;
 pub mod section;
 
+pub use blocked::BlockedStream;
+pub use decoder::{ConnectionDecoder, DecoderSettings, DecodingError, SettingsError};
 pub use field_section::{FieldRead, FieldSection, Fields};
-pub use receiving::EncoderStream;
+pub use hearing::{DECODER_STREAM_ERROR, DecoderStream, DecoderStreamError, HearingError};
+pub use place::Place;
+pub use receiving::{ENCODER_STREAM_ERROR, EncoderStream, EncoderStreamError};
 pub use section::{
     DECOMPRESSION_FAILED, LineError, Reading, SectionError, longest_section, read_section,
 };

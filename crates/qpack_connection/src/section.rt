@@ -39,7 +39,7 @@ pub enum Reading {
 }
 
 /// Why a line gives no field.
-#[derive(Debug, PartialEq, Drop, Error)]
+#[derive(Clone, Copy, Debug, PartialEq, Drop, Error)]
 pub enum LineError {
     /// Its bytes mean nothing, or it references no entry or static field.
     #[error("{0}")]
@@ -57,7 +57,7 @@ pub enum LineError {
 }
 
 /// Why a section gives no fields.
-#[derive(Debug, PartialEq, Drop, Error)]
+#[derive(Clone, Copy, Debug, PartialEq, Drop, Error)]
 pub enum SectionError {
     /// It is longer than any section whose fields are within the limit; it was not read.
     #[error("field section too long")]

@@ -1,0 +1,41 @@
+use Rattle.std.proofs.Common.{◌∙◌, sym, subst, ap, Ok, Err}
+use Rattle.qpack_spec.specs.Table.{insert_count}
+use Rattle.std.proofs.lemmas.Result.{err_from_is_err_and}
+use Rattle.qpack_connection.specs.Decoders.{DecodingEnd, ReceivesBytes}
+use Rattle.qpack_connection.specs.Receiving.{Receives}
+use Rattle.qpack_connection.proofs.Decoders.{stream_refused, stream_reported, stream_unreported}
+use Rattle.qpack_connection.proofs.decoder.ConnectionDecoder.receive.Goals as goal
+
+pub returns-in-Err-clause-receives : goal.returns-in-Err-clause-receives
+returns-in-Err-clause-receives c live start before k =
+    subst (λ (d : DecodingEnd). ReceivesBytes start before d c.refuse.new.self c.args.buf.now.rest
+    c.receive.new.buf.rest (Err c.refuse.result)) c.self.view_is
+    (stream_refused start before c.args.buf.now.rest c.receive.new.buf.rest _ c.refuse.new.self
+    c.receive.new.table c.receive.new.self c.in-Err.error c.refuse.result
+    (c.in-Err.ensures.receives start before
+    (subst (λ (d : DecodingEnd). Receives start d.table before d.stream) (sym c.self.view_is) k))
+    (c.refuse.ensures.is ∙ c.of_stream.ensures)
+    (rw c.refuse.ensures.is c.refuse.ensures.ends))
+
+pub returns-in_err-report-in-Ok-clause-receives : goal.returns-in_err-report-in-Ok-clause-receives
+returns-in_err-report-in-Ok-clause-receives c live start before k =
+    let p = err_from_is_err_and c.from_residual.result c.from_residual.ensures.1 in
+    rw (p.1, p.2)
+    (subst (λ (d : DecodingEnd). ReceivesBytes start before d c.report.new.self c.args.buf.now.rest
+    c.receive.new.buf.rest (Err c.in_err-report-in-Ok.field-0.0)) c.self.view_is
+    (stream_unreported start before c.args.buf.now.rest c.receive.new.buf.rest _ c.report.new.self
+    c.receive.new.table c.receive.new.self c.in_err-report-in-Ok.field-0.0
+    (c.in-Ok.ensures.receives start before
+    (subst (λ (d : DecodingEnd). Receives start d.table before d.stream) (sym c.self.view_is) k))
+    c.in_err-report-in-Ok.ensures))
+
+pub returns-clause-receives : goal.returns-clause-receives
+returns-clause-receives c live start before k =
+    subst (λ (d : DecodingEnd). ReceivesBytes start before d c.report.new.self c.args.buf.now.rest
+    c.receive.new.buf.rest (Ok c.total_inserted.result)) c.self.view_is
+    (stream_reported start before c.args.buf.now.rest c.receive.new.buf.rest _ c.report.new.self
+    c.receive.new.table c.receive.new.self c.total_inserted.result
+    (c.in-Ok.ensures.receives start before
+    (subst (λ (d : DecodingEnd). Receives start d.table before d.stream) (sym c.self.view_is) k))
+    c.in_ok-report-in-Ok.ensures
+    (c.total_inserted.ensures ∙ ap (λ (d : DecodingEnd). insert_count d.table) c.self-2.view_is))
