@@ -8,8 +8,10 @@ use h3_qpack::coding::Cursor;
 use h3_qpack::decoder::{Decoder, ack_header};
 use h3_qpack::dynamic::DynamicTable;
 use h3_qpack::encoder::Encoder;
+use h3_qpack::stream::DynamicTableSizeUpdate;
 use qpack_connection::FieldSection;
 use std::alloc::Global;
+use std::mem;
 use std::time::Instant;
 
 /// What is done with each list, in this order.
@@ -65,6 +67,14 @@ struct Connection {
     fields: FieldSection,
 }
 
+/// What a list made the encoder write.
+#[derive(Drop)]
+pub(crate) struct Written {
+    pub(crate) stream_id: u64,
+    pub(crate) encoder_stream: Vec<u8>,
+    pub(crate) block: Vec<u8>,
+}
+
 /// An empty table of this capacity.
 fn table(alloc: Global, capacity: usize) -> Result<DynamicTable> {
     let mut table = DynamicTable::new(alloc);
@@ -106,6 +116,17 @@ impl Connection {
         self.read(rt, clock)?;
         self.answer(rt, stream_id, decoded.dyn_ref, clock)?;
         Ok(decoded.fields == *list && strict::are_of(&self.fields, list))
+    }
+
+    /// What the last list made the encoder write, behind these bytes of its stream.
+    fn written(&self, alloc: Global, stream_id: u64, before: Vec<u8>) -> Result<Written> {
+        let mut encoder_stream = before;
+        encoder_stream.extend_from_slice(&self.encoder_stream)?;
+        Ok(Written {
+            stream_id,
+            encoder_stream,
+            block: Vec::from_slice(alloc, &self.block)?,
+        })
     }
 
     /// The phase in which a block is read strictly.
@@ -170,6 +191,46 @@ fn connect(
     let receiving = table(alloc, capacity)?;
     let mut connection = Connection::new(alloc, sending, receiving);
     exchange_all(rt, &mut connection, lists, clock)
+}
+
+/// What all lists make an encoder write, each acknowledged before the next; ahead of it all the instruction that sets
+/// the capacity.
+pub(crate) fn record(
+    rt: &HostRuntime,
+    alloc: Global,
+    lists: &[Vec<HeaderField>],
+    capacity: usize,
+) -> Result<Vec<Written>> {
+    let sending = table(alloc, capacity)?;
+    let receiving = table(alloc, capacity)?;
+    let mut first = Vec::new(alloc);
+    DynamicTableSizeUpdate(capacity).encode(&mut first)?;
+    let mut connection = Connection::new(alloc, sending, receiving);
+    record_all(rt, alloc, &mut connection, lists, first)
+}
+
+/// What all lists make this connection's encoder write, the first of them behind these bytes.
+fn record_all(
+    rt: &HostRuntime,
+    alloc: Global,
+    connection: &mut Connection,
+    lists: &[Vec<HeaderField>],
+    first: Vec<u8>,
+) -> Result<Vec<Written>> {
+    let mut clock = Clock {
+        last: Instant::now(rt)?,
+        nanos: [0; 6],
+    };
+    let mut all = Vec::new(alloc);
+    let mut ahead = first;
+    let mut stream_id = 0u64;
+    for list in lists {
+        connection.exchange(rt, stream_id, list, &mut clock)?;
+        let before = mem::replace(&mut ahead, Vec::new(alloc));
+        all.push(connection.written(alloc, stream_id, before)?)?;
+        stream_id = stream_id.wrapping_add(4);
+    }
+    Ok(all)
 }
 
 /// All lists, each on a stream of its own.

@@ -5,8 +5,11 @@
 mod comparing;
 mod connection;
 mod corpus;
+mod decoding;
 mod inspected;
+mod long;
 mod mutated;
+mod recorded;
 mod replay;
 mod strict;
 mod table;
@@ -69,7 +72,9 @@ fn tell(rt: &HostRuntime, alloc: Global, lists: &[Vec<HeaderField>], words: Word
     }
     for capacity in [4096, 65536] {
         connection::tell(rt, alloc, lists, capacity, words.rounds)?;
+        decoding::tell(rt, alloc, lists, capacity, words.rounds)?;
     }
+    long::tell(rt, alloc, words.rounds > 0)?;
     if words.entries > 0 {
         tell_table(rt, alloc, words.entries)?;
     }
@@ -119,6 +124,10 @@ fn tell_text(
     for piece in [1, 7, 65536] {
         let read = replay::replay(alloc, lists, text, max_capacity, piece)?;
         println!(rt; "{file}: {read} blocks read as their fields, in pieces of {piece} bytes")?;
+        let decoded = recorded::replay(alloc, lists, text, max_capacity, piece)?;
+        println!(rt;
+            "{file}: {decoded} sections decoded by a decoding end, in pieces of {piece} bytes"
+        )?;
     }
     let inspected = inspected::inspect_all(alloc, lists, file, text, max_capacity)?;
     println!(rt;

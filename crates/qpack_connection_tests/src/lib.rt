@@ -3,7 +3,13 @@
 #![tactic(auto)]
 
 #[cfg(test)]
+mod decoder;
+#[cfg(test)]
+mod hearing;
+#[cfg(test)]
 mod receiving;
+#[cfg(test)]
+mod recordings;
 #[cfg(test)]
 mod sections;
 #[cfg(test)]

@@ -1,12 +1,11 @@
 //! The encoder stream, received strictly and cut anywhere (RFC 9204, sections 3.2.2 and 4.3).
 
-use h3_qpack::DecoderError;
 use h3_qpack::coding::Cursor;
 use h3_qpack::dynamic::{DynamicTable, Error};
-use qpack_connection::EncoderStream;
-use qpack_testing::{bytes, field, prints, same};
+use h3_qpack::{DecoderError, prefix_int};
+use qpack_connection::{EncoderStream, EncoderStreamError, Place};
+use qpack_testing::{bytes, field, same};
 use std::alloc::Global;
-use std::fmt::{self, Display, Formatter, Write};
 use std::test::Fail;
 
 /// A table that begins at capacity 0, with this maximum.
@@ -21,10 +20,10 @@ fn receive(
     stream: &mut EncoderStream,
     table: &mut DynamicTable,
     piece: &[u8],
-) -> Result<(), DecoderError> {
+) -> Result<(), EncoderStreamError> {
     let mut buf = Cursor::new(piece);
     match stream.receive(table, &mut buf) {
-        Err(DecoderError::Memory) => stream.receive(table, &mut buf),
+        Err(EncoderStreamError::Memory) => stream.receive(table, &mut buf),
         answer => answer,
     }
 }
@@ -35,36 +34,56 @@ fn receive_all(
     table: &mut DynamicTable,
     bytes: &[u8],
     size: usize,
-) -> Result<(), DecoderError> {
+) -> Result<(), EncoderStreamError> {
     for piece in bytes.chunks(size.max(1)) {
         receive(stream, table, piece)?;
     }
     Ok(())
 }
 
-/// An answer, printed.
-#[derive(Drop)]
-struct Shown(Result<(), DecoderError>);
-
-impl Display for Shown {
-    fn fmt<W: Write>(&self, f: &mut Formatter<W>) -> Result<(), fmt::Error> {
-        write!(f, "{:?}", self.0)
-    }
-}
-
 /// The sizes of pieces.
 const SIZES: [usize; 4] = [1, 2, 7, 65_536];
 
-/// Under this maximum, a stream in hexadecimal is answered so, in pieces of any size.
-fn answers(alloc: Global, maximum: usize, stream: &[u8], answer: &str) -> Result<(), Fail> {
+/// What is answered under this maximum to a stream, in pieces of this size.
+fn answer(
+    alloc: Global,
+    maximum: usize,
+    bytes: &[u8],
+    size: usize,
+) -> Result<Result<(), EncoderStreamError>, Error> {
+    let mut table = table(alloc, maximum)?;
+    let mut stream = EncoderStream::new(alloc);
+    Ok(receive_all(&mut stream, &mut table, bytes, size))
+}
+
+/// Under this maximum, a stream in hexadecimal is received, in pieces of any size.
+fn received(alloc: Global, maximum: usize, stream: &[u8]) -> Result<(), Fail> {
     let bytes = bytes(alloc, stream)?;
     for size in SIZES {
-        let mut table = table(alloc, maximum)?;
-        let mut stream = EncoderStream::new(alloc);
-        let received = receive_all(&mut stream, &mut table, &bytes, size);
-        prints(alloc, &Shown(received), answer)?;
+        same(answer(alloc, maximum, &bytes, size)?, Ok(()))?;
     }
     Ok(())
+}
+
+/// Under this maximum, a stream in hexadecimal is refused at this place for this, in pieces of any size.
+fn refused(
+    alloc: Global,
+    maximum: usize,
+    stream: &[u8],
+    place: Place,
+    error: DecoderError,
+) -> Result<(), Fail> {
+    let bytes = bytes(alloc, stream)?;
+    let refusal = EncoderStreamError::Refused { place, error };
+    for size in SIZES {
+        same(answer(alloc, maximum, &bytes, size)?, Err(refusal))?;
+    }
+    Ok(())
+}
+
+/// The place of an instruction of this number, at this offset.
+fn place(number: u64, offset: u64) -> Place {
+    Place { number, offset }
 }
 
 /// A capacity of 220 bytes, two insertions with names of the static table, one with a name of its own, a duplicate of
@@ -106,53 +125,57 @@ fn an_instruction_waits_until_it_is_whole(rt: HostRuntime) -> Result<(), Fail> {
     same((stream.waiting(), table.total_inserted()), (0, 1))
 }
 
+/// That a field is too large for the table.
+const TOO_LARGE: DecoderError = DecoderError::DynamicTable(Error::MaxTableSizeReached);
+
+#[test]
+fn insertions_at_capacity_0_are_refused_by_their_first_byte(rt: HostRuntime) -> Result<(), Fail> {
+    let alloc = rt.alloc();
+    refused(alloc, 4096, b"c0", place(1, 0), TOO_LARGE)?;
+    refused(alloc, 4096, b"80", place(1, 0), TOO_LARGE)?;
+    refused(alloc, 4096, b"40", place(1, 0), TOO_LARGE)?;
+    refused(alloc, 0, b"c0", place(1, 0), TOO_LARGE)
+}
+
 #[test]
 fn insertions_that_cannot_fit_are_refused_at_once(rt: HostRuntime) -> Result<(), Fail> {
     let alloc = rt.alloc();
-    let too_large = "Err(DynamicTable(MaxTableSizeReached))";
-    // At capacity 0 the first byte is enough.
-    answers(alloc, 4096, b"c0", too_large)?;
-    answers(alloc, 4096, b"80", too_large)?;
-    answers(alloc, 4096, b"40", too_large)?;
-    answers(alloc, 0, b"c0", too_large)?;
     // At capacity 64 a name of 33 bytes, a value of 33, and a coded one of 129, by their lengths.
-    answers(alloc, 4096, b"3f215f02", too_large)?;
-    answers(alloc, 4096, b"3f21c021", too_large)?;
-    answers(alloc, 4096, b"3f21c0ff02", too_large)?;
+    refused(alloc, 4096, b"3f215f02", place(2, 2), TOO_LARGE)?;
+    refused(alloc, 4096, b"3f21c021", place(2, 2), TOO_LARGE)?;
+    refused(alloc, 4096, b"3f21c0ff02", place(2, 2), TOO_LARGE)?;
     // One byte less may fit.
-    answers(alloc, 4096, b"3f215f01", "Ok(())")?;
-    answers(alloc, 4096, b"3f21c020", "Ok(())")?;
-    answers(alloc, 4096, b"3f21c0ff01", "Ok(())")?;
+    received(alloc, 4096, b"3f215f01")?;
+    received(alloc, 4096, b"3f21c020")?;
+    received(alloc, 4096, b"3f21c0ff01")?;
     // A name and a value, neither too long alone.
-    answers(alloc, 4096, b"3f21436162631d", "Ok(())")?;
-    answers(alloc, 4096, b"3f21436162631e", too_large)
+    received(alloc, 4096, b"3f21436162631d")?;
+    refused(alloc, 4096, b"3f21436162631e", place(2, 2), TOO_LARGE)?;
+    // Behind an insertion, which stays.
+    refused(alloc, 4096, b"3f21c000c021", place(3, 4), TOO_LARGE)
 }
 
 #[test]
 fn streams_are_refused_for_what_they_say(rt: HostRuntime) -> Result<(), Fail> {
     let alloc = rt.alloc();
-    answers(alloc, 100, b"3f45", "Ok(())")?;
-    answers(
-        alloc,
-        100,
-        b"3f46",
-        "Err(DynamicTable(MaximumTableSizeTooLarge))",
-    )?;
-    answers(alloc, 4096, b"00", "Err(DynamicTable(BadRelativeIndex(0)))")?;
-    answers(
-        alloc,
-        4096,
-        b"3f218000",
-        "Err(DynamicTable(BadRelativeIndex(0)))",
-    )?;
-    answers(alloc, 4096, b"3f21ff2400", "Err(InvalidStaticIndex(99))")?;
-    answers(
-        alloc,
-        4096,
-        b"3fffffffffffffffffff",
-        "Err(InvalidInteger(Overflow))",
-    )?;
-    // What came before stays applied.
+    received(alloc, 100, b"3f45")?;
+    let error = DecoderError::DynamicTable(Error::MaximumTableSizeTooLarge);
+    refused(alloc, 100, b"3f46", place(1, 0), error)?;
+    let error = DecoderError::DynamicTable(Error::BadRelativeIndex(0));
+    refused(alloc, 4096, b"00", place(1, 0), error)?;
+    refused(alloc, 4096, b"3f218000", place(2, 2), error)?;
+    let error = DecoderError::InvalidStaticIndex(99);
+    refused(alloc, 4096, b"3f21ff2400", place(2, 2), error)?;
+    let error = DecoderError::InvalidInteger(prefix_int::Error::Overflow);
+    refused(alloc, 4096, b"3fffffffffffffffffff", place(1, 0), error)?;
+    // A capacity, an insertion, and a duplicate of an entry that was not inserted.
+    let error = DecoderError::DynamicTable(Error::BadRelativeIndex(1));
+    refused(alloc, 4096, b"3f21c0000100", place(3, 4), error)
+}
+
+#[test]
+fn what_was_taken_before_stays_applied(rt: HostRuntime) -> Result<(), Fail> {
+    let alloc = rt.alloc();
     let bytes = bytes(alloc, b"3f21c000c00000")?;
     let mut table = table(alloc, 4096)?;
     let mut stream = EncoderStream::new(alloc);

@@ -1,7 +1,10 @@
 //! What errors are printed as.
 
 use h3_qpack::{DecoderError, prefix_int};
-use qpack_connection::{DECOMPRESSION_FAILED, LineError, SectionError, longest_section};
+use qpack_connection::{
+    DECOMPRESSION_FAILED, ENCODER_STREAM_ERROR, EncoderStreamError, LineError, Place, SectionError,
+    longest_section,
+};
 use qpack_testing::{prints, same};
 use std::test::Fail;
 
@@ -45,6 +48,28 @@ fn errors_are_printed(rt: HostRuntime) -> Result<(), Fail> {
     prints(alloc, &SectionError::Memory, "out of memory")
 }
 
+/// The refusal of an encoder stream.
+fn refusal() -> EncoderStreamError {
+    EncoderStreamError::Refused {
+        place: Place {
+            number: 3,
+            offset: 17,
+        },
+        error: DecoderError::InvalidStaticIndex(99),
+    }
+}
+
+#[test]
+fn errors_of_the_encoder_stream_are_printed(rt: HostRuntime) -> Result<(), Fail> {
+    let alloc = rt.alloc();
+    prints(
+        alloc,
+        &refusal(),
+        "in instruction 3 at offset 17: unknown static index: 99",
+    )?;
+    prints(alloc, &EncoderStreamError::Memory, "out of memory")
+}
+
 #[test]
 fn the_longest_section_is_told(_rt: HostRuntime) -> Result<(), Fail> {
     same(longest_section(0), 20)?;
@@ -74,4 +99,11 @@ fn errors_that_end_the_connection_have_its_code(_rt: HostRuntime) -> Result<(), 
     same(in_line(LineError::TooLarge(84)).code(), None)?;
     same(SectionError::TooLong.code(), None)?;
     same(SectionError::Memory.code(), None)
+}
+
+#[test]
+fn a_refused_encoder_stream_has_its_code(_rt: HostRuntime) -> Result<(), Fail> {
+    same(ENCODER_STREAM_ERROR, 0x201)?;
+    same(refusal().code(), Some(0x201))?;
+    same(EncoderStreamError::Memory.code(), None)
 }

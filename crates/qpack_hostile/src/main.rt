@@ -2,6 +2,8 @@
 //! where the words name sizes, how long they take. Where they name none, also on every list of at most two bytes.
 #![tactic(auto)]
 
+mod blocked;
+mod bounds;
 mod copies;
 mod ends;
 mod entries;
@@ -45,6 +47,8 @@ fn tell_all(meter: &Meter, alloc: Global, size: usize) -> Result<()> {
     copies::tell(meter, alloc, size)?;
     pieces::tell(meter, alloc, size)?;
     strict::tell(meter, alloc, size)?;
+    bounds::tell(meter, alloc, size)?;
+    blocked::tell(meter, alloc, size)?;
     sessions::tell(meter, alloc, size)
 }
 
