@@ -4,12 +4,12 @@ use Rattle.std.proofs.Common.{◌∙◌, inl, inr}
 use Rattle.std.specs.Prelude.{IsOk}
 use Rattle.std.specs.Global.{Vec}
 use Rattle.qpack_spec.specs.Bytes.{Begins}
-use Rattle.qpack_spec.specs.Field.{Field}
+use Rattle.qpack_spec.specs.Field.{Field, FieldLine}
 use Rattle.qpack_spec.specs.Form.{FormFault, Form, Index, IndexAndValue, form_at, made_at, or_bad_integer}
 use Rattle.qpack_spec.specs.Form.{or_bad_string}
 use Rattle.qpack_spec.specs.Integer.{integer_at}
 use Rattle.qpack_spec.specs.Line.{Line, line_form}
-use Rattle.qpack_spec.specs.StrictReading.{FieldRead, LinesUnder, strict_line_at}
+use Rattle.qpack_spec.specs.StrictReading.{LinesUnder, strict_line_at}
 use Rattle.qpack_spec.specs.Text.{HoldsPayload, string_at}
 use Rattle.qpack_spec.proofs.FormLaws.{form_takes}
 use Rattle.qpack_base.specs.Cursor.{CursorView}
@@ -73,7 +73,7 @@ field_held u bytes f rest e = line_held bytes (go (form_at line_form bytes) e)
     go (Err x) q = absurd cc
 
 -- and so its field within the limit
-read_held : (u : LinesUnder) (all first : ℕ) (bytes more : List ℕ) (f : FieldRead) (rest : List ℕ)
+read_held : (u : LinesUnder) (all first : ℕ) (bytes more : List ℕ) (f : FieldLine) (rest : List ℕ)
     → bytes ≡ first ∷ more → strict_line_at u all first more ≡ Ok (f, rest) → Begins HoldsLine bytes
 read_held u all first bytes more f rest cut e =
     line_held bytes (go (form_at line_form bytes) (sym (line_at u all first bytes more cut) ∙ e))
@@ -83,7 +83,7 @@ read_held u all first bytes more f rest cut e =
     go (Err x) q = absurd cc
 
 -- a line was read, so that the first was
-pub held_begun : (u : LinesUnder) (all first : ℕ) (whole bytes more : List ℕ) (f : FieldRead) (rest : List ℕ)
+pub held_begun : (u : LinesUnder) (all first : ℕ) (whole bytes more : List ℕ) (f : FieldLine) (rest : List ℕ)
     → HasBegun whole bytes → bytes ≡ first ∷ more → strict_line_at u all first more ≡ Ok (f, rest)
     → Begins HoldsLine whole
 held_begun u all first whole bytes more f rest (inl e) cut read =

@@ -5,11 +5,11 @@ use Rattle.std.specs.Prelude.{slice_range}
 use Rattle.std.proofs.Math.Seq.{take-append_seam, drop-append_seam, take-length}
 use Rattle.std.proofs.lemmas.Bool.{lt-ltb, le-ltb}
 use Rattle.qpack_spec.specs.Bytes.{◌>>=◌}
-use Rattle.qpack_spec.specs.Field.{Field, field_size}
+use Rattle.qpack_spec.specs.Field.{Field, field_size, FieldLine}
 use Rattle.qpack_spec.specs.Form.{FormFault, form_at}
 use Rattle.qpack_spec.specs.Line.{Line, line_form}
 use Rattle.qpack_spec.specs.Stateless.{saturated_size}
-use Rattle.qpack_spec.specs.StrictReading.{FieldRead, LineFault, TooLarge, LinesUnder, strict_field, within_size}
+use Rattle.qpack_spec.specs.StrictReading.{LineFault, TooLarge, LinesUnder, strict_field, within_size}
 use Rattle.qpack_spec.specs.StrictReading.{is_never_indexed, strict_line_at}
 use Rattle.qpack_spec.proofs.Results.{ok_pair}
 use Rattle.qpack_spec.proofs.FormLaws.{form_takes}
@@ -21,11 +21,11 @@ use Rattle.qpack_connection.specs.Lines.{FailsLine, or_bad_line, Stands, field_o
 use Rattle.qpack_connection.proofs.LineParts.{fails_by}
 
 -- a field, as it is read of a line that begins so
-abbrev pub read_of : ℕ → Field → FieldRead
+abbrev pub read_of : ℕ → Field → FieldLine
 read_of first f = record { field = f; never_indexed = is_never_indexed first }
 
 -- the field of a line, within the limit
-abbrev pub within_line : LinesUnder → ℕ → ℕ → Result (Field × List ℕ) LineFault → Result (FieldRead × List ℕ) LineFault
+abbrev pub within_line : LinesUnder → ℕ → ℕ → Result (Field × List ℕ) LineFault → Result (FieldLine × List ℕ) LineFault
 within_line u all first r = r >>= λ x. within_size u.limit all x.0 >>= λ g. Ok (read_of first g, x.1)
 
 line_is : (u : LinesUnder) (all first : ℕ) (more : List ℕ)

@@ -5,8 +5,8 @@ use Rattle.std.specs.Prelude.{slice_range, slice_get, None, Some}
 use Rattle.std.specs.List.{AllByRecursion}
 use Rattle.std.proofs.lemmas.List.{take-append-le, drop-append-le, length-drop}
 use Rattle.qpack_spec.specs.Bytes.{◌>>=◌}
-use Rattle.qpack_spec.specs.Field.{field_size}
-use Rattle.qpack_spec.specs.StrictReading.{FieldRead, LineFault, SectionFault, LinesUnder, or_in_line}
+use Rattle.qpack_spec.specs.Field.{field_size, FieldLine}
+use Rattle.qpack_spec.specs.StrictReading.{LineFault, SectionFault, LinesUnder, or_in_line}
 use Rattle.qpack_spec.specs.StrictReading.{strict_field, strict_line_at, strict_lines_at}
 use Rattle.qpack_base.specs.Cursor.{CursorView}
 use Rattle.qpack_connection.specs.declared.field_section.Span.{Span}
@@ -57,7 +57,7 @@ all_last n (t ∷ spans) s w h = (w.0, all_last n spans s w.1 h)
 
 -- with one more field, the fields are those before it and it
 pub fields_more : (old new : CursorView) (text_old text_new : List ℕ) (spans_old spans_new : List Span) (all sum : ℕ)
-    (read : Result (FieldRead × List ℕ) LineFault)
+    (read : Result (FieldLine × List ℕ) LineFault)
     → (a : Adds old new text_old text_new spans_old spans_new all sum read)
     → AllByRecursion (IsWithin (length text_old)) spans_old
     → fields_in text_new spans_new ≡ fields_in text_old spans_old ++ a.field ∷ []
@@ -68,7 +68,7 @@ fields_more old new text_old text_new spans_old spans_new all sum read a w =
     ∙ ap (λ fs. fs ++ a.field ∷ []) (fields_again text_old a.more spans_old w)
 
 pub within_more : (old new : CursorView) (text_old text_new : List ℕ) (spans_old spans_new : List Span) (all sum : ℕ)
-    (read : Result (FieldRead × List ℕ) LineFault)
+    (read : Result (FieldLine × List ℕ) LineFault)
     → (a : Adds old new text_old text_new spans_old spans_new all sum read)
     → AllByRecursion (IsWithin (length text_old)) spans_old
     → AllByRecursion (IsWithin (length text_new)) spans_new
@@ -80,11 +80,11 @@ within_more old new text_old text_new spans_old spans_new all sum read a w =
 
 -- ---- the lines behind those that were read
 
-abbrev pub with_front : List FieldRead → Result (List FieldRead) SectionFault → Result (List FieldRead) SectionFault
+abbrev pub with_front : List FieldLine → Result (List FieldLine) SectionFault → Result (List FieldLine) SectionFault
 with_front front read = read >>= λ fs. Ok (front ++ fs)
 
 -- the lines behind one
-abbrev behind : ℕ → LinesUnder → ℕ → ℕ → FieldRead × List ℕ → Result (List FieldRead) SectionFault
+abbrev behind : ℕ → LinesUnder → ℕ → ℕ → FieldLine × List ℕ → Result (List FieldLine) SectionFault
 behind k u number all r = strict_lines_at k u number (all + field_size r.0.field) r.1 >>= λ fs. Ok (r.0 ∷ fs)
 
 same_line : (l : Lines) (section all first : ℕ) (more : List ℕ)
@@ -92,16 +92,16 @@ same_line : (l : Lines) (section all first : ℕ) (more : List ℕ)
 unfolding strict_line_at strict_field
 same_line l section all first more = refl
 
-front_more : (front : List FieldRead) (f : FieldRead) (read : Result (List FieldRead) SectionFault)
+front_more : (front : List FieldLine) (f : FieldLine) (read : Result (List FieldLine) SectionFault)
     → with_front front (read >>= λ fs. Ok (f ∷ fs)) ≡ with_front (front ++ f ∷ []) read
 front_more front f (Ok fs) =
-    ap (λ (x : List FieldRead). let r : Result (List FieldRead) SectionFault = Ok x in r)
+    ap (λ (x : List FieldLine). let r : Result (List FieldLine) SectionFault = Ok x in r)
     (sym (append_assoc front (f ∷ []) fs))
 front_more front f (Err e) = refl
 
 -- what the lines that are left are of the whole
-pub record Goes (u : LinesUnder) (number all : ℕ) (rest : List ℕ) (front : List FieldRead)
-    (whole : Result (List FieldRead) SectionFault) : Type 0 where
+pub record Goes (u : LinesUnder) (number all : ℕ) (rest : List ℕ) (front : List FieldLine)
+    (whole : Result (List FieldLine) SectionFault) : Type 0 where
   pub steps : ℕ
   pub enough : length rest ≤ steps
   pub is : with_front front (strict_lines_at steps u number all rest) ≡ whole
@@ -111,16 +111,16 @@ pub goes_first : (u : LinesUnder) (rest : List ℕ)
 goes_first u rest =
     record { steps = length rest; enough = omega arith; is = none (strict_lines_at (length rest) u 0 0 rest) }
   where
-    none : (r : Result (List FieldRead) SectionFault) → with_front [] r ≡ r
+    none : (r : Result (List FieldLine) SectionFault) → with_front [] r ≡ r
     none (Ok fs) = refl
     none (Err e) = refl
 
-pub goes_end : (u : LinesUnder) (number all : ℕ) (rest : List ℕ) (front : List FieldRead)
-    (whole : Result (List FieldRead) SectionFault) → Goes u number all rest front whole → rest ≡ [] → whole ≡ Ok front
+pub goes_end : (u : LinesUnder) (number all : ℕ) (rest : List ℕ) (front : List FieldLine)
+    (whole : Result (List FieldLine) SectionFault) → Goes u number all rest front whole → rest ≡ [] → whole ≡ Ok front
 unfolding strict_lines_at
 goes_end u number all rest front whole g none =
     sym g.is ∙ ap (λ x. with_front front (strict_lines_at g.steps u number all x)) none
-    ∙ ap (λ (x : List FieldRead). let r : Result (List FieldRead) SectionFault = Ok x in r) (append-nil front)
+    ∙ ap (λ (x : List FieldLine). let r : Result (List FieldLine) SectionFault = Ok x in r) (append-nil front)
 
 turn : (steps : ℕ) (u : LinesUnder) (number all first : ℕ) (more : List ℕ)
     → strict_lines_at (suc steps) u number all (first ∷ more)
@@ -130,8 +130,8 @@ unfolding strict_lines_at
 turn steps u number all first more = refl
 
 -- by the next line
-by_line : (u : LinesUnder) (number all : ℕ) (rest : List ℕ) (front : List FieldRead)
-    (whole : Result (List FieldRead) SectionFault) (first : ℕ) (more : List ℕ) → Goes u number all rest front whole
+by_line : (u : LinesUnder) (number all : ℕ) (rest : List ℕ) (front : List FieldLine)
+    (whole : Result (List FieldLine) SectionFault) (first : ℕ) (more : List ℕ) → Goes u number all rest front whole
     → rest ≡ first ∷ more
     → (steps : ℕ) × (length more ≤ steps)
     × (with_front front (or_in_line (suc number) (u.section - length rest) (strict_line_at u all first more)
@@ -152,22 +152,22 @@ by_line u number all rest front whole first more g cut = go g.steps g.enough g.i
           ∙ ap (λ x. with_front front (strict_lines_at (suc n) u number all x)) (sym cut) ∙ is,
     )
 
-pub goes_bad : (l : Lines) (section number all : ℕ) (rest : List ℕ) (front : List FieldRead)
-    (whole : Result (List FieldRead) SectionFault) (first : ℕ) (more : List ℕ) (e : LineError)
+pub goes_bad : (l : Lines) (section number all : ℕ) (rest : List ℕ) (front : List FieldLine)
+    (whole : Result (List FieldLine) SectionFault) (first : ℕ) (more : List ℕ) (e : LineError)
     → Goes (under l section) number all rest front whole → rest ≡ first ∷ more
     → FailsLine e (strict_line_at (under l 0) all first more)
     → FailsSection (error_at (suc number) (section - length rest) e) whole
 goes_bad l section number all rest front whole first more e g cut bad =
     let b = by_line (under l section) number all rest front whole first more g cut in
     subst
-    (λ (w : Result (List FieldRead) SectionFault). FailsSection (error_at (suc number) (section - length rest) e) w)
+    (λ (w : Result (List FieldLine) SectionFault). FailsSection (error_at (suc number) (section - length rest) e) w)
     b.2
     (go e (strict_line_at (under l section) all first more)
-    (subst (λ (r : Result (FieldRead × List ℕ) LineFault). FailsLine e r)
+    (subst (λ (r : Result (FieldLine × List ℕ) LineFault). FailsLine e r)
     (sym (same_line l section all first more)) bad)
     b.0)
   where
-    go : (e : LineError) (r : Result (FieldRead × List ℕ) LineFault) → FailsLine e r → (steps : ℕ)
+    go : (e : LineError) (r : Result (FieldLine × List ℕ) LineFault) → FailsLine e r → (steps : ℕ)
         → FailsSection (error_at (suc number) (section - length rest) e)
         (with_front front (or_in_line (suc number) (section - length rest) r
         >>= behind steps (under l section) (suc number) all))
@@ -179,8 +179,8 @@ goes_bad l section number all rest front whole first more e g cut bad =
     go (line.PastRequired i) (Ok x) h steps = absurd h
     go (line.TooLarge s) (Ok x) h steps = absurd h
 
-pub goes_on : (l : Lines) (section number all : ℕ) (rest : List ℕ) (front : List FieldRead)
-    (whole : Result (List FieldRead) SectionFault) (first : ℕ) (more : List ℕ) (f : FieldRead) (behind_it : List ℕ)
+pub goes_on : (l : Lines) (section number all : ℕ) (rest : List ℕ) (front : List FieldLine)
+    (whole : Result (List FieldLine) SectionFault) (first : ℕ) (more : List ℕ) (f : FieldLine) (behind_it : List ℕ)
     → Goes (under l section) number all rest front whole → rest ≡ first ∷ more
     → strict_line_at (under l 0) all first more ≡ Ok (f, behind_it) → length behind_it < length rest
     → Goes (under l section) (suc number) (all + field_size f.field) behind_it (front ++ f ∷ []) whole

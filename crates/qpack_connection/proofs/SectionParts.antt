@@ -4,9 +4,10 @@ use Rattle.std.proofs.Common.{◌∙◌, ◌+◌}
 use Rattle.std.proofs.lemmas.List.{length-map}
 use Rattle.std.specs.Prelude.{nat_lt, nat_eq, ◌&&◌}
 use Rattle.std.proofs.lemmas.Bool.{lt-ltb, le-ltb}
+use Rattle.qpack_spec.specs.Field.{FieldLine}
 use Rattle.qpack_spec.specs.Prefix.{Prefix, PrefixFault, OutOfRange, BelowZero, read_prefix}
 use Rattle.qpack_spec.specs.Reading.{BadPrefix}
-use Rattle.qpack_spec.specs.StrictReading.{FieldRead, SectionFault, InPrefix, CountAtZero}
+use Rattle.qpack_spec.specs.StrictReading.{SectionFault, InPrefix, CountAtZero}
 use Rattle.qpack_spec.specs.StrictReading.{Blocked, Refused, LinesUnder, strict_lines_at, lines_behind}
 use Rattle.qpack_spec.specs.StrictReading.{strict_section_behind}
 use Rattle.qpack_spec.specs.Table.{Table, window, insert_count}
@@ -83,7 +84,7 @@ prefix_read (Err OutOfRange) required base q = absurd cc
 prefix_read (Err (BelowZero b)) required base q = absurd cc
 
 -- a fault of the lines is the section's
-pub lines_fail : (e : SectionError) (required : ℕ) (r : Result (List FieldRead) SectionFault) → FailsSection e r
+pub lines_fail : (e : SectionError) (required : ℕ) (r : Result (List FieldLine) SectionFault) → FailsSection e r
     → FailsReading e (lines_behind required r)
 lines_fail Memory required r h = tt
 lines_fail e required (Err x) h = h

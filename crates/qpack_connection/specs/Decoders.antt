@@ -2,8 +2,9 @@
 use Rattle.std.specs.Prelude.{◌≡◌, ◌<◌, ◌≤◌, ◌^◌, ℕ, zero, suc, ◌-◌, ⊤, ◌⊎◌, false, if◌then◌else◌, nat_eq}
 use Rattle.std.specs.Prelude.{List, [], ◌++◌, length, Option, None, Some, Result, Ok, Err}
 use Rattle.std.specs.Option.{is_some, IfSome, IsSome}
+use Rattle.qpack_spec.specs.Field.{FieldLine}
 use Rattle.qpack_spec.specs.Instruction.{Acknowledgment, Cancellation, written_decoder_instruction}
-use Rattle.qpack_spec.specs.StrictReading.{FieldRead, StrictReading, Read, Blocked, strict_reading}
+use Rattle.qpack_spec.specs.StrictReading.{StrictReading, Read, Blocked, strict_reading}
 use Rattle.qpack_spec.specs.Table.{Table, empty_table, insert_count, window}
 use Rattle.qpack_wire.specs.Memory.{AsksSectionForMemory}
 use Rattle.h3_qpack.specs.Receiving.{written_report}
@@ -162,7 +163,7 @@ TakesReading old new stream (reading.Fields required) r = Acknowledges old new s
 TakesReading old new stream (reading.Blocked required) r = BlocksStream old new stream required r
 
 -- the fields of a section, and its acknowledgment is written, if one is to be; or its stream is counted as blocked
-abbrev pub GivesReading : DecodingEnd → DecodingEnd → ℕ → StrictReading → List FieldRead → Reading → Type 0
+abbrev pub GivesReading : DecodingEnd → DecodingEnd → ℕ → StrictReading → List FieldLine → Reading → Type 0
 GivesReading old new stream read fields (reading.Fields required) =
     (read ≡ Read fields required) × (new ≡ acknowledged stream required old)
 GivesReading old new stream read fields (reading.Blocked required) =
@@ -186,7 +187,7 @@ StopsDecoding old new stream read Memory = StopsForMemory old new read
 StopsDecoding old new stream read e = ⊥
 
 -- a section that reads so was decoded; or why not
-abbrev pub DecodesInto : DecodingEnd → DecodingEnd → ℕ → StrictReading → List FieldRead
+abbrev pub DecodesInto : DecodingEnd → DecodingEnd → ℕ → StrictReading → List FieldLine
     → Result Reading DecodingError → Type 0
 DecodesInto old new stream read fields (Ok r) = GivesReading old new stream read fields r
 DecodesInto old new stream read fields (Err e) = StopsDecoding old new stream read e
@@ -196,7 +197,7 @@ abbrev pub IsNotAnswered : DecodingEnd → DecodingEnd → ℕ → DecodingError
 IsNotAnswered old new stream e = Checks old stream (Err e) × (new ≡ old)
 
 -- the call was answered: the section that reads so was decoded, or there are no fields and this is why not
-abbrev pub Decodes : DecodingEnd → DecodingEnd → ℕ → StrictReading → List FieldRead → Result Reading DecodingError
+abbrev pub Decodes : DecodingEnd → DecodingEnd → ℕ → StrictReading → List FieldLine → Result Reading DecodingError
     → Type 0
 Decodes old new stream read fields (Ok r) =
     Checks old stream (Ok tt) × GivesReading old new stream read fields r

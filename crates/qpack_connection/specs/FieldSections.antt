@@ -1,11 +1,11 @@
 -- The fields of a section, each a name and a value cut out of one text.
 use Rattle.std.specs.Prelude.{◌≡◌, ◌≤◌, ℕ, List, [], ◌∷◌, Option, None, Some, map, slice_range}
-use Rattle.qpack_spec.specs.StrictReading.{FieldRead}
+use Rattle.qpack_spec.specs.Field.{FieldLine}
 use Rattle.qpack_connection.specs.declared.field_section.Span.{Span}
-use Rattle.qpack_connection.specs.declared.field_section.FieldRead.{FieldRead as LentField}
+use Rattle.qpack_connection.specs.declared.field_section.FieldLine.{FieldLine as LentField}
 
 -- the field of a span of the text
-abbrev pub field_at : List ℕ → Span → FieldRead
+abbrev pub field_at : List ℕ → Span → FieldLine
 field_at text s =
     record {
       field = record { name = slice_range text s.start s.middle; value = slice_range text s.middle s.end };
@@ -13,7 +13,7 @@ field_at text s =
     }
 
 -- the fields of spans of the text
-abbrev pub fields_in : List ℕ → List Span → List FieldRead
+abbrev pub fields_in : List ℕ → List Span → List FieldLine
 fields_in text spans = map (field_at text) spans
 
 -- the span stands in a text of so many bytes
@@ -23,11 +23,11 @@ pub record IsWithin (len : ℕ) (s : Span) : Type 0 where
   pub within : s.end ≤ len
 
 -- the field that is lent
-abbrev pub lent : LentField → FieldRead
+abbrev pub lent : LentField → FieldLine
 lent f = record { field = record { name = f.name.now; value = f.value.now }; never_indexed = f.never_indexed }
 
 -- the next field is given, and those behind it are left; or there is none
-abbrev pub GivesNext : List FieldRead → Option LentField → List FieldRead → Type 0
+abbrev pub GivesNext : List FieldLine → Option LentField → List FieldLine → Type 0
 GivesNext [] None after = after ≡ []
 GivesNext (f ∷ fs) (Some item) after = (lent item ≡ f) × (after ≡ fs)
 GivesNext left item after = ⊥

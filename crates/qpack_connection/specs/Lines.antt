@@ -2,14 +2,14 @@
 use Rattle.std.specs.Prelude.{◌≡◌, ◌≤◌, ◌<◌, ℕ, ◌+◌, ◌-◌, ◌^◌, min, ⊤, if◌then◌else◌, nat_le, List, [], ◌∷◌, ◌++◌}
 use Rattle.std.specs.Prelude.{length, Result, Ok, Err, IsOk, Some, ◌⊎◌}
 use Rattle.qpack_spec.specs.Bytes.{◌>>=◌}
-use Rattle.qpack_spec.specs.Field.{Field, field_size}
+use Rattle.qpack_spec.specs.Field.{Field, field_size, FieldLine}
 use Rattle.qpack_spec.specs.Form.{FormFault, Form, made_at}
 use Rattle.qpack_spec.specs.Line.{Line, IndexedStatic, IndexedDynamic, IndexedPostBase, NamedStatic, NamedDynamic}
 use Rattle.qpack_spec.specs.Line.{NamedPostBase}
 use Rattle.qpack_spec.specs.Reading.{Fault, static_field, relative_field, post_base_field}
 use Rattle.qpack_spec.specs.BlockReading.{or_bad_form}
 use Rattle.qpack_spec.specs.Stateless.{saturated_size}
-use Rattle.qpack_spec.specs.StrictReading.{FieldRead, LineFault, LinesUnder, or_meaningless, strict_field}
+use Rattle.qpack_spec.specs.StrictReading.{LineFault, LinesUnder, or_meaningless, strict_field}
 use Rattle.qpack_spec.specs.StrictReading as strict
 use Rattle.qpack_spec.specs.Table.{window}
 use Rattle.qpack_base.specs.Cursor.{CursorView}
@@ -153,8 +153,8 @@ AppendsLine old new text_old text_new (Err e) read = FailsLine e read × Extends
 
 -- a field was read: its span stands behind the others, its strings behind the text, and the sizes have this sum with it
 pub record Adds (old new : CursorView) (text_old text_new : List ℕ) (spans_old spans_new : List Span) (all sum : ℕ)
-    (read : Result (FieldRead × List ℕ) LineFault) : Type 0 where
-  pub field : FieldRead
+    (read : Result (FieldLine × List ℕ) LineFault) : Type 0 where
+  pub field : FieldLine
   pub is : read ≡ Ok (field, new.rest)
   pub span : Span
   pub spans : spans_new ≡ spans_old ++ span ∷ []
@@ -168,7 +168,7 @@ pub record Adds (old new : CursorView) (text_old text_new : List ℕ) (spans_old
 
 -- the line's field was read, the sizes before it having the sum `all`; or why not, and nothing is added
 abbrev pub ReadsLine : CursorView → CursorView → List ℕ → List ℕ → List Span → List Span → ℕ → Result ℕ LineError
-    → Result (FieldRead × List ℕ) LineFault → Type 0
+    → Result (FieldLine × List ℕ) LineFault → Type 0
 ReadsLine old new text_old text_new spans_old spans_new all (Ok sum) read =
     Adds old new text_old text_new spans_old spans_new all sum read
 ReadsLine old new text_old text_new spans_old spans_new all (Err e) read =

@@ -1,6 +1,7 @@
 -- What reading a section strictly answers (RFC 9204, sections 2.2 and 4.5).
 use Rattle.std.specs.Prelude.{◌≡◌, ℕ, ⊤, List, [], Option, None, Some, Result, Ok, Err}
-use Rattle.qpack_spec.specs.StrictReading.{FieldRead, SectionFault, StrictReading, InPrefix, InLine, Read, Blocked}
+use Rattle.qpack_spec.specs.Field.{FieldLine}
+use Rattle.qpack_spec.specs.StrictReading.{SectionFault, StrictReading, InPrefix, InLine, Read, Blocked}
 use Rattle.qpack_spec.specs.StrictReading.{Refused}
 use Rattle.qpack_spec.specs.StrictReading as strict
 use Rattle.qpack_base.specs.declared.parse_error.ParseError.{ParseError}
@@ -67,7 +68,7 @@ FailsSection Memory read = Unit {0}
 FailsSection e read = TellsFault e read
 
 -- the fields of all lines; or why not
-abbrev pub ReadsLines : Result ⊤ SectionError → List FieldRead → Result (List FieldRead) SectionFault → Type 0
+abbrev pub ReadsLines : Result ⊤ SectionError → List FieldLine → Result (List FieldLine) SectionFault → Type 0
 ReadsLines (Ok done) fields read = read ≡ Ok fields
 ReadsLines (Err e) fields read = FailsSection e read
 
@@ -82,12 +83,12 @@ FailsReading Memory read = Unit {0}
 FailsReading e read = TellsReading e read
 
 -- the fields of a section, and what it requires; or that it is blocked; or why it is refused
-abbrev pub ReadsInto : Result Reading SectionError → List FieldRead → StrictReading → Type 0
+abbrev pub ReadsInto : Result Reading SectionError → List FieldLine → StrictReading → Type 0
 ReadsInto (Ok (reading.Fields required)) fields read = read ≡ Read fields required
 ReadsInto (Ok (reading.Blocked required)) fields read = (read ≡ Blocked required) × (fields ≡ [])
 ReadsInto (Err e) fields read = FailsReading e read
 
 -- the same, with no field where none is answered
-abbrev pub ReadsSection : Result Reading SectionError → List FieldRead → StrictReading → Type 0
+abbrev pub ReadsSection : Result Reading SectionError → List FieldLine → StrictReading → Type 0
 ReadsSection (Err e) fields read = FailsReading e read × (fields ≡ [])
 ReadsSection r fields read = ReadsInto r fields read

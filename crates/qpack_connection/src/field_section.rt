@@ -31,7 +31,7 @@ pub(crate) struct Span {
 
 /// A field of a section, lent by it.
 #[derive(Clone, Copy, Debug, PartialEq, Drop)]
-pub struct FieldRead<'a> {
+pub struct FieldLine<'a> {
     /// The name.
     pub name: &'a [u8],
     /// The value.
@@ -42,11 +42,11 @@ pub struct FieldRead<'a> {
 }
 
 /// The field of a span.
-fn field_at<'a>(text: &'a [u8], span: &Span) -> FieldRead<'a>
+fn field_at<'a>(text: &'a [u8], span: &Span) -> FieldLine<'a>
     requires { IsWithin (length text.now) span.now }
     ensures { lent result ≡ field_of_span text.now span.now }
 {
-    FieldRead {
+    FieldLine {
         name: &text[span.start..span.middle],
         value: &text[span.middle..span.end],
         never_indexed: span.never_indexed,
@@ -63,10 +63,10 @@ pub struct FieldSection {
 impl Model for FieldSection {
     ghost use Rattle.std.specs.Prelude.{List, length};
     ghost use Rattle.std.specs.List.{AllByRecursion};
-    ghost use Rattle.qpack_spec.specs.StrictReading.{FieldRead};
+    ghost use Rattle.qpack_spec.specs.Field.{FieldLine};
     ghost use Rattle.qpack_connection.specs.FieldSections.{IsWithin, fields_in};
 
-    ghost Value = { List FieldRead };
+    ghost Value = { List FieldLine };
 
     ghost view = { λ s. fields_in s.text.items s.spans.items };
 
@@ -99,7 +99,7 @@ impl FieldSection {
     }
 
     /// The field at an index, from 0.
-    pub fn get(&self, index: usize) -> Option<FieldRead<'_>>
+    pub fn get(&self, index: usize) -> Option<FieldLine<'_>>
         ensures { option_map lent result ≡ slice_get self.now index }
     {
         let span = self.spans.get(index)?;
@@ -145,10 +145,10 @@ pub struct Fields<'a> {
 impl<'a> Model for Fields<'a> {
     ghost use Rattle.std.specs.Prelude.{List, length};
     ghost use Rattle.std.specs.List.{AllByRecursion};
-    ghost use Rattle.qpack_spec.specs.StrictReading.{FieldRead};
+    ghost use Rattle.qpack_spec.specs.Field.{FieldLine};
     ghost use Rattle.qpack_connection.specs.FieldSections.{IsWithin, fields_in};
 
-    ghost Value = { List FieldRead };
+    ghost Value = { List FieldLine };
 
     ghost view = { λ s. fields_in s.text.now s.spans.now };
 
@@ -156,7 +156,7 @@ impl<'a> Model for Fields<'a> {
 }
 
 impl<'a> Iterator for Fields<'a> {
-    type Item = FieldRead<'a>;
+    type Item = FieldLine<'a>;
 
     ghost use Rattle.std.specs.Iterator.{at_most};
     ghost use Rattle.std.specs.Prelude.{length};
@@ -166,7 +166,7 @@ impl<'a> Iterator for Fields<'a> {
 
     ghost remaining = { λ left. at_most (length left) };
 
-    fn next(&mut self) -> Option<FieldRead<'a>> {
+    fn next(&mut self) -> Option<FieldLine<'a>> {
         let (first, rest) = self.spans.split_first()?;
         self.spans = rest;
         Some(field_at(self.text, first))

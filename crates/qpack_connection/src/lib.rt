@@ -13,7 +13,7 @@ pub mod section;
 
 pub use blocked::BlockedStream;
 pub use decoder::{ConnectionDecoder, DecoderSettings, DecodingError, SettingsError};
-pub use field_section::{FieldRead, FieldSection, Fields};
+pub use field_section::{FieldLine, FieldSection, Fields};
 pub use hearing::{DECODER_STREAM_ERROR, DecoderStream, DecoderStreamError, HearingError};
 pub use place::Place;
 pub use receiving::{ENCODER_STREAM_ERROR, EncoderStream, EncoderStreamError};

@@ -1,7 +1,7 @@
 //! Sections read strictly, up to a limit (RFC 9204, sections 2.2.3, 4.5 and 7.1.3).
 
 use h3_qpack::dynamic::{DynamicTable, Error};
-use qpack_connection::{FieldRead, FieldSection, Reading, SectionError, read_section};
+use qpack_connection::{FieldLine, FieldSection, Reading, SectionError, read_section};
 use qpack_testing::{bytes, field, prints, same};
 use std::alloc::Global;
 use std::fmt::{self, Display, Formatter, Write};
@@ -53,7 +53,7 @@ fn has(fields: &FieldSection, rows: &[Row]) -> Result<(), Fail> {
     for field in fields.iter() {
         same(fields.get(index), Some(field))?;
         let (name, value, never_indexed) = rows[index];
-        let expected = FieldRead {
+        let expected = FieldLine {
             name,
             value,
             never_indexed,

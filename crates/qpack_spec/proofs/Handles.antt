@@ -28,7 +28,7 @@ use Rattle.qpack_spec.proofs.Drafts.{Room, room}
 use Rattle.qpack_spec.proofs.WrittenDrafts.{count_naming, count_entered, count_unnamed}
 
 -- the block in progress names every entry above its base: it inserted them
-abbrev NamesAbove : ℕ → Table → Type 0
+abbrev pub NamesAbove : ℕ → Table → Type 0
 NamesAbove base t = (a : ℕ) → base < a → a ≤ insert_count t → has_number a t.referenced ≡ true
 
 -- ---- numbers that are kept
@@ -155,7 +155,7 @@ found_literal base d f (Some a) = both (may_reference d.table a)
           instructions = is;
         } in x)) (append-nil d.instructions)
 
-name_literal : (base : ℕ) (d : Draft) (f : Field) (o : Option ℕ)
+pub name_literal : (base : ℕ) (d : Draft) (f : Field) (o : Option ℕ)
     → with_insertion d f (found_instead (found_name d.table base f o)) ≡ literal base d f o
 name_literal base d f (Some i) =
     ap (λ is. (let x : Draft = record {
@@ -234,7 +234,7 @@ entry_same base d f k (Some a) e = both (may_reference d.table a) (nat_le a base
     both false true h = insertion_same base d f
     both false false h = insertion_same base d f
 
-handle_same : (base : ℕ) (d : Draft) (f : Field) → NamesAbove base d.table → handle_field base d f ≡ rule_field base d f
+pub handle_same : (base : ℕ) (d : Draft) (f : Field) → NamesAbove base d.table → handle_field base d f ≡ rule_field base d f
 unfolding handle_field rule_field find_field
 handle_same base d f k = static (static_index f)
   where
@@ -252,7 +252,7 @@ above_literal base d f (Some a) k =
     (with_line d (Literal f.name f.value))
     (λ (x : Draft). NamesAbove base x.table) (λ _. above_naming base d.table a k) (λ _. k)
 
-above_name : (base : ℕ) (d : Draft) (f : Field) (o : Option ℕ) → NamesAbove base d.table
+pub above_name : (base : ℕ) (d : Draft) (f : Field) (o : Option ℕ) → NamesAbove base d.table
     → NamesAbove base (literal base d f o).table
 above_name base d f (Some i) k = k
 above_name base d f None k = above_literal base d f (newest_index d.table (has_name f.name)) k
@@ -273,7 +273,7 @@ above_entry base d f (Some a) k =
     (insertion_or_literal base d f) (λ (x : Draft). NamesAbove base x.table)
     (λ _. above_naming base d.table a k) (λ _. above_insertion base d f k)
 
-above_field : (base : ℕ) (d : Draft) (f : Field) → NamesAbove base d.table → NamesAbove base (rule_field base d f).table
+pub above_field : (base : ℕ) (d : Draft) (f : Field) → NamesAbove base d.table → NamesAbove base (rule_field base d f).table
 unfolding rule_field
 above_field base d f k = static (static_index f)
   where
@@ -288,7 +288,10 @@ fields_same base d (f ∷ fs) k =
     ap (λ x. handle_fields base x fs) (handle_same base d f k)
     ∙ fields_same base (rule_field base d f) fs (above_field base d f k)
 
+-- a block that begins has no entry above its base
+pub none_above : (t : Table) → NamesAbove (insert_count t) (empty_draft t).table
+none_above t a low high = absurd (omega (arith, low, high, count_unnamed t))
+
 pub handle_is_rule : HandleIsTheRule
 unfolding rule
-handle_is_rule t fs =
-    fields_same (insert_count t) (empty_draft t) fs (λ a low high. absurd (omega (arith, low, high, count_unnamed t)))
+handle_is_rule t fs = fields_same (insert_count t) (empty_draft t) fs (none_above t)

@@ -39,6 +39,7 @@ pub mod StatelessTables
 pub mod StatelessRows
 pub mod Sizes
 pub mod Handles
+pub mod Marked
 pub mod HandleRows
 pub mod Pieces
 pub mod SessionAnswers

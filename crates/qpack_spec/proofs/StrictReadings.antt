@@ -4,7 +4,7 @@ use Rattle.std.proofs.Common.{Result, Ok, Err, refl, sym, ap, subst, inl, inr, �
 use Rattle.std.specs.Prelude.{◌&&◌, nat_eq, nat_le, nat_lt}
 use Rattle.std.proofs.lemmas.Bool.{lt-ltb, le-ltb, cases_lt}
 use Rattle.qpack_spec.specs.Bytes.{◌>>=◌}
-use Rattle.qpack_spec.specs.Field.{Field, field_size, total_size}
+use Rattle.qpack_spec.specs.Field.{Field, field_size, total_size, FieldLine, fields_of_lines}
 use Rattle.qpack_spec.specs.Form.{FormFault, form_at}
 use Rattle.qpack_spec.specs.Line.{Line, line_form}
 use Rattle.qpack_spec.specs.Prefix.{Prefix, PrefixFault, read_prefix, prefix_at}
@@ -15,7 +15,7 @@ use Rattle.qpack_spec.specs.BlockReading.{or_bad_form, fields_at, fields_in_byte
 use Rattle.qpack_spec.specs.BlockReading.{reading_of_bytes}
 use Rattle.qpack_spec.specs.Stateless.{saturated_size}
 use Rattle.qpack_spec.specs.LengthLaws.{longest_section}
-use Rattle.qpack_spec.specs.StrictReading.{FieldRead, fields_read, is_never_indexed, LineFault, Meaningless}
+use Rattle.qpack_spec.specs.StrictReading.{is_never_indexed, LineFault, Meaningless}
 use Rattle.qpack_spec.specs.StrictReading.{PastRequired, TooLarge, SectionFault, TooLong, InPrefix, InLine, CountAtZero}
 use Rattle.qpack_spec.specs.StrictReading.{StrictReading, Read, Blocked, Refused, LinesUnder, or_meaningless}
 use Rattle.qpack_spec.specs.StrictReading.{or_in_line, within_size, strict_field, strict_line_at, strict_lines_at}
@@ -34,13 +34,13 @@ line_meaning w base r = or_bad_form r >>= λ l. line_field w base l.0 >>= λ f. 
 
 -- what a line means where a strict decoder reads it so: the same field, with which the sizes are within the limit, or
 -- the same fault
-abbrev SaysLine : ℕ → ℕ → Result (Field × List ℕ) Fault → Result (FieldRead × List ℕ) LineFault → Type 0
+abbrev SaysLine : ℕ → ℕ → Result (Field × List ℕ) Fault → Result (FieldLine × List ℕ) LineFault → Type 0
 SaysLine limit sum m (Ok x) = (m ≡ Ok (x.0.field, x.1)) × (saturated_size (sum + field_size x.0.field) ≤ limit)
 SaysLine limit sum m (Err (Meaningless fault)) = m ≡ Err fault
 SaysLine limit sum m (Err fault) = Unit {0}
 
 -- a field and the bytes behind it, as a strict decoder answers them
-abbrev line_read : ℕ → List ℕ → Field → Result (FieldRead × List ℕ) LineFault
+abbrev line_read : ℕ → List ℕ → Field → Result (FieldLine × List ℕ) LineFault
 line_read first rest f = Ok (record { field = f; never_indexed = is_never_indexed first }, rest)
 
 size_says : (limit sum first : ℕ) (rest : List ℕ) (f : Field)
@@ -89,8 +89,8 @@ line_says u sum first more = form_says u sum first (form_at line_form (first ∷
 -- ---- the lines in turn
 
 -- what lines mean where a strict decoder reads them so: the same fields, within the limit, or the same fault
-abbrev SaysLines : ℕ → ℕ → Result (List Field) Fault → Result (List FieldRead) SectionFault → Type 0
-SaysLines limit sum m (Ok fs) = (m ≡ Ok (fields_read fs)) × (saturated_size (sum + total_size (fields_read fs)) ≤ limit)
+abbrev SaysLines : ℕ → ℕ → Result (List Field) Fault → Result (List FieldLine) SectionFault → Type 0
+SaysLines limit sum m (Ok fs) = (m ≡ Ok (fields_of_lines fs)) × (saturated_size (sum + total_size (fields_of_lines fs)) ≤ limit)
 SaysLines limit sum m (Err (InPrefix fault)) = m ≡ Err fault
 SaysLines limit sum m (Err (InLine number offset (Meaningless fault))) = m ≡ Err fault
 SaysLines limit sum m (Err fault) = Unit {0}
@@ -117,20 +117,20 @@ meaning_first steps w base b bytes = go (form_at line_form (b ∷ bytes))
     go (Err e) = refl
 
 -- a field in front of those behind it
-before_says : (limit sum : ℕ) (x : FieldRead) (m : Result (List Field) Fault)
-    (s : Result (List FieldRead) SectionFault)
+before_says : (limit sum : ℕ) (x : FieldLine) (m : Result (List Field) Fault)
+    (s : Result (List FieldLine) SectionFault)
     → SaysLines limit (sum + field_size x.field) m s
     → SaysLines limit sum (m >>= λ fs. Ok (x.field ∷ fs)) (s >>= λ fs. Ok (x ∷ fs))
 before_says limit sum x m (Ok fs) h =
-    (rw h.0 refl, omega (arith, h.1, total_first x.field (fields_read fs)))
+    (rw h.0 refl, omega (arith, h.1, total_first x.field (fields_of_lines fs)))
 before_says limit sum x m (Err (InPrefix fault)) h = rw h refl
 before_says limit sum x m (Err (InLine number offset (Meaningless fault))) h = rw h refl
 before_says limit sum x m (Err fault) h = tt
 
 -- a line in front of those behind it
 first_says : (limit sum number offset : ℕ) (m : Result (Field × List ℕ) Fault)
-    (r : Result (FieldRead × List ℕ) LineFault) (meaning : List ℕ → Result (List Field) Fault)
-    (strict : ℕ → List ℕ → Result (List FieldRead) SectionFault) → SaysLine limit sum m r
+    (r : Result (FieldLine × List ℕ) LineFault) (meaning : List ℕ → Result (List Field) Fault)
+    (strict : ℕ → List ℕ → Result (List FieldLine) SectionFault) → SaysLine limit sum m r
     → ((n : ℕ) (rest : List ℕ) → saturated_size n ≤ limit → SaysLines limit n (meaning rest) (strict n rest))
     → SaysLines limit sum (m >>= λ p. meaning p.1 >>= λ fs. Ok (p.0 ∷ fs))
     (or_in_line number offset r >>= λ x. strict (sum + field_size x.0.field) x.1 >>= λ fs. Ok (x.0 ∷ fs))
@@ -163,7 +163,7 @@ lines_say (suc steps) u number sum (b ∷ bytes) low =
 
 -- what is answered is within the limit
 abbrev IsWithin : ℕ → StrictReading → Type 0
-IsWithin limit (Read fields required) = saturated_size (total_size (fields_read fields)) ≤ limit
+IsWithin limit (Read fields required) = saturated_size (total_size (fields_of_lines fields)) ≤ limit
 IsWithin limit (Blocked required) = Unit {0}
 IsWithin limit (Refused fault) = Unit {0}
 
@@ -171,7 +171,7 @@ IsWithin limit (Refused fault) = Unit {0}
 abbrev SaysSection : ℕ → Reading → StrictReading → Type 0
 SaysSection limit r s = SaysReading r s × IsWithin limit s
 
-lines_answer : (limit required : ℕ) (m : Result (List Field) Fault) (s : Result (List FieldRead) SectionFault)
+lines_answer : (limit required : ℕ) (m : Result (List Field) Fault) (s : Result (List FieldLine) SectionFault)
     → SaysLines limit 0 m s → SaysSection limit (reading_of_fields m (nat_lt 0 required)) (lines_behind required s)
 lines_answer limit required m (Ok fs) h = (rw h.0 refl, omega (arith, h.1))
 lines_answer limit required m (Err (InPrefix fault)) h = (rw h refl, tt)
@@ -237,7 +237,7 @@ strict_none zero u number sum = refl
 strict_none (suc steps) u number sum = refl
 
 -- a line that was read takes a byte at least
-pub strict_shorter : (u : LinesUnder) (sum b : ℕ) (bytes : List ℕ) (x : FieldRead × List ℕ)
+pub strict_shorter : (u : LinesUnder) (sum b : ℕ) (bytes : List ℕ) (x : FieldLine × List ℕ)
     → strict_line_at u sum b bytes ≡ Ok x → length x.1 < length (b ∷ bytes)
 strict_shorter u sum b bytes x e =
     go (form_at line_form (b ∷ bytes)) refl

@@ -4,7 +4,7 @@ use Rattle.std.proofs.Common.{◌∷◌, ◌++◌, length, Result, Ok, refl, sym
 use Rattle.std.specs.List.{AllByRecursion}
 use Rattle.std.specs.Prelude.{◌&&◌, nat_eq, nat_lt}
 use Rattle.std.proofs.lemmas.Bool.{lt-ltb, le-ltb, le-leb, ne_eqb}
-use Rattle.qpack_spec.specs.Field.{Field, field_size, total_size}
+use Rattle.qpack_spec.specs.Field.{Field, field_size, total_size, FieldLine}
 use Rattle.qpack_spec.specs.Form.{form_at}
 use Rattle.qpack_spec.specs.Line.{Line, IndexedStatic, IndexedDynamic, IndexedPostBase, NamedStatic, NamedDynamic}
 use Rattle.qpack_spec.specs.Line.{NamedPostBase, Literal, line_form, written_line, written_lines}
@@ -17,7 +17,7 @@ use Rattle.qpack_spec.specs.Reading.{references_of, greatest_of, reading}
 use Rattle.qpack_spec.specs.BlockReading.{written_block}
 use Rattle.qpack_spec.specs.Stateless.{saturated_size}
 use Rattle.qpack_spec.specs.LengthLaws.{longest_section}
-use Rattle.qpack_spec.specs.StrictReading.{FieldRead, is_never_indexed, LinesUnder, within_size, strict_field}
+use Rattle.qpack_spec.specs.StrictReading.{is_never_indexed, LinesUnder, within_size, strict_field}
 use Rattle.qpack_spec.specs.StrictReading.{strict_line_at, strict_lines_at, strict_reading, indexable}
 use Rattle.qpack_spec.specs.StrictReading.{StrictSectionsAreRead}
 use Rattle.qpack_spec.specs.WrittenLaws.{IsSmall, IsWritableLine, IsWritableBlock}
@@ -121,7 +121,7 @@ greatest_within n [] h = omega arith
 greatest_within n (a ∷ xs) h = omega (arith, h.0, greatest_within n xs h.1)
 
 -- a field that may be indexed
-abbrev free_field : Field → FieldRead
+abbrev free_field : Field → FieldLine
 free_field f = record { field = f; never_indexed = false }
 
 line_read : (u : LinesUnder) (sum : ℕ) (l : Line) (f : Field) (more : List ℕ) (first : ℕ) (rest : List ℕ)

@@ -1,5 +1,5 @@
 -- Header fields: a name and a value (RFC 9204, section 1.1), and their size in a table.
-use Rattle.std.specs.Prelude.{ℕ, ◌+◌, ◌&&◌, Bool, List, length, sum_by}
+use Rattle.std.specs.Prelude.{ℕ, ◌+◌, ◌&&◌, Bool, false, List, length, map, sum_by}
 use Rattle.std.specs.Str.{bytes_eq}
 
 -- a name and a value, two byte lists
@@ -22,3 +22,17 @@ has_name name f = bytes_eq name f.name
 -- whether two fields are the same, byte for byte
 abbrev pub is_field : Field → Field → Bool
 is_field f g = bytes_eq f.name g.name && bytes_eq f.value g.value
+
+-- a field line (RFC 9110, section 5): a field, and whether it is to stay a literal wherever it is sent on (RFC 9204,
+-- section 7.1.3)
+pub record FieldLine : Type 0 where
+  pub field : Field
+  pub never_indexed : Bool
+
+-- the fields alone
+abbrev pub fields_of_lines : List FieldLine → List Field
+fields_of_lines fs = map (λ f. f.field) fs
+
+-- a field that may be indexed
+abbrev pub unmarked : Field → FieldLine
+unmarked f = record { field = f; never_indexed = false }

@@ -24,6 +24,7 @@ pub mod Table
 pub mod TableLaws
 pub mod Rule
 pub mod Handle
+pub mod Marked
 pub mod Taking
 pub mod Session
 pub mod SessionLaws

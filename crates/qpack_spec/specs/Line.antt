@@ -1,5 +1,6 @@
 -- The lines of a field section, and their bytes (RFC 9204, sections 4.5.2 to 4.5.6).
-use Rattle.std.specs.Prelude.{ℕ, ◌/◌, ◌%◌, if◌then◌else◌, nat_lt, nat_eq, List, [], ◌∷◌, ◌++◌, Option, None, Some}
+use Rattle.std.specs.Prelude.{ℕ, ◌/◌, ◌%◌, Bool, true, if◌then◌else◌, nat_lt, nat_eq, List, [], ◌∷◌, ◌++◌, Option}
+use Rattle.std.specs.Prelude.{None, Some}
 use Rattle.qpack_spec.specs.Integer.{written_integer}
 use Rattle.qpack_spec.specs.Text.{written_string}
 use Rattle.qpack_spec.specs.Form.{FormFault, Form, Index, IndexAndValue, NameAndValue, Spells, Refuses}
@@ -49,3 +50,12 @@ written_line (Literal name value) = written_string 4 2 name ++ written_string 8 
 unfoldable pub written_lines : List Line → List ℕ
 written_lines [] = []
 written_lines (l ∷ ls) = written_line l ++ written_lines ls
+
+-- the written spelling of a line whose field is to stay a literal, or may be indexed: N is 1 or 0 (section 7.1.3); an
+-- indexed line has no N
+unfoldable pub written_marked_line : Bool → Line → List ℕ
+written_marked_line true (NamedStatic index value) = written_integer 4 7 index ++ written_string 8 0 value
+written_marked_line true (NamedDynamic relative value) = written_integer 4 6 relative ++ written_string 8 0 value
+written_marked_line true (NamedPostBase post_base value) = written_integer 3 1 post_base ++ written_string 8 0 value
+written_marked_line true (Literal name value) = written_string 4 3 name ++ written_string 8 0 value
+written_marked_line never l = written_line l

@@ -5,7 +5,7 @@
 use Rattle.std.specs.Prelude.{◌≡◌, ℕ, zero, suc, ◌+◌, ◌-◌, ◌/◌, ◌%◌, ◌≤◌, Bool, false, if◌then◌else◌, ◌&&◌, nat_lt}
 use Rattle.std.specs.Prelude.{nat_le, nat_eq, List, [], ◌∷◌, length, map, Result, Ok, Err}
 use Rattle.qpack_spec.specs.Bytes.{◌>>=◌}
-use Rattle.qpack_spec.specs.Field.{Field, field_size, total_size}
+use Rattle.qpack_spec.specs.Field.{Field, FieldLine, fields_of_lines, field_size, total_size}
 use Rattle.qpack_spec.specs.Form.{FormFault, form_at}
 use Rattle.qpack_spec.specs.Line.{Line, line_form}
 use Rattle.qpack_spec.specs.Prefix.{Prefix, PrefixFault, read_prefix, prefix_at}
@@ -17,15 +17,6 @@ use Rattle.qpack_spec.specs.Stateless.{saturated_size}
 use Rattle.qpack_spec.specs.LengthLaws.{longest_section}
 use Rattle.qpack_spec.specs.StrictLaws.{IsStrict}
 use Rattle.qpack_spec.specs.WrittenLaws.{IsWritableBlock}
-
--- a field as a section has it, and whether its line asks that it stay a literal (section 7.1.3)
-pub record FieldRead : Type 0 where
-  pub field : Field
-  pub never_indexed : Bool
-
--- the fields alone
-abbrev pub fields_read : List FieldRead → List Field
-fields_read fs = map (λ f. f.field) fs
 
 -- whether the first byte of a line asks that its field stay a literal: the bit N of 0000N, 001NH and 01NT (sections
 -- 4.5.4 to 4.5.6)
@@ -55,7 +46,7 @@ pub data SectionFault : Type 0 where
 -- what a strict decoder answers: the fields and the required insert count, the count where that exceeds the insertions
 -- that were received, or a fault
 pub data StrictReading : Type 0 where
-  Read : (fields : List FieldRead) (required : ℕ) → StrictReading
+  Read : (fields : List FieldLine) (required : ℕ) → StrictReading
   Blocked : (required : ℕ) → StrictReading
   Refused : (fault : SectionFault) → StrictReading
 
@@ -92,14 +83,14 @@ strict_field u l =
     else Err (PastRequired (greatest_of (references_of_line u.base l)))
 
 -- the field of the next line, which begins with this byte, and the bytes behind it; the sizes so far have this sum
-unfoldable pub strict_line_at : LinesUnder → ℕ → ℕ → List ℕ → Result (FieldRead × List ℕ) LineFault
+unfoldable pub strict_line_at : LinesUnder → ℕ → ℕ → List ℕ → Result (FieldLine × List ℕ) LineFault
 strict_line_at u sum first more =
     or_meaningless (or_bad_form (form_at line_form (first ∷ more))) >>= λ r. strict_field u r.0
     >>= λ f. within_size u.limit sum f
     >>= λ g. Ok (record { field = g; never_indexed = is_never_indexed first }, r.1)
 
 -- the fields of the lines in turn, in so many steps at most; so many lines were read, whose sizes have this sum
-unfoldable pub strict_lines_at : ℕ → LinesUnder → ℕ → ℕ → List ℕ → Result (List FieldRead) SectionFault
+unfoldable pub strict_lines_at : ℕ → LinesUnder → ℕ → ℕ → List ℕ → Result (List FieldLine) SectionFault
 strict_lines_at steps u number sum [] = Ok []
 strict_lines_at zero u number sum (b ∷ bytes) = Ok []
 strict_lines_at (suc steps) u number sum (b ∷ bytes) =
@@ -107,7 +98,7 @@ strict_lines_at (suc steps) u number sum (b ∷ bytes) =
     >>= λ r. strict_lines_at steps u (suc number) (sum + field_size r.0.field) r.1 >>= λ fs. Ok (r.0 ∷ fs)
 
 -- the answer for the fields of the lines, or for the first fault
-abbrev pub lines_behind : ℕ → Result (List FieldRead) SectionFault → StrictReading
+abbrev pub lines_behind : ℕ → Result (List FieldLine) SectionFault → StrictReading
 lines_behind required (Ok fs) = Read fs required
 lines_behind required (Err e) = Refused e
 
@@ -139,7 +130,7 @@ strict_reading w limit bytes =
 -- what the reading of a section is where a strict decoder answers so: the fields, the count and the fault of what both
 -- read are the same; nothing is said where the strict one alone refuses
 abbrev pub SaysReading : Reading → StrictReading → Type 0
-SaysReading r (Read fields required) = r ≡ Fields (fields_read fields) (nat_lt 0 required)
+SaysReading r (Read fields required) = r ≡ Fields (fields_of_lines fields) (nat_lt 0 required)
 SaysReading r (Blocked required) = r ≡ Missing required
 SaysReading r (Refused (InPrefix fault)) = r ≡ Faulty fault
 SaysReading r (Refused (InLine number offset (Meaningless fault))) = r ≡ Faulty fault
@@ -153,11 +144,11 @@ StrictReadingsAreReadings =
 -- and what it answers is within the limit
 abbrev pub StrictReadingsAreWithin : Type 0
 StrictReadingsAreWithin =
-    (w : Window) (limit : ℕ) (bytes : List ℕ) (fields : List FieldRead) (required : ℕ)
-    → strict_reading w limit bytes ≡ Read fields required → saturated_size (total_size (fields_read fields)) ≤ limit
+    (w : Window) (limit : ℕ) (bytes : List ℕ) (fields : List FieldLine) (required : ℕ)
+    → strict_reading w limit bytes ≡ Read fields required → saturated_size (total_size (fields_of_lines fields)) ≤ limit
 
 -- fields that may all be indexed
-abbrev pub indexable : List Field → List FieldRead
+abbrev pub indexable : List Field → List FieldLine
 indexable fs = map (λ f. record { field = f; never_indexed = false }) fs
 
 -- a section is read as what it means where it is written so, requires no more than was received, references nothing

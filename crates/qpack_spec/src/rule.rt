@@ -1,8 +1,12 @@
 //! Laws of the rule by which field sections are written (RFC 9204, section 2.1).
 
 ghost use Rattle.qpack_spec.specs.BlockLaws.{BlocksRequireReferences};
+ghost use Rattle.std.specs.Prelude.{List};
+ghost use Rattle.qpack_spec.specs.Field.{Field};
 ghost use Rattle.qpack_spec.specs.Handle.{HandleIsTheRule};
+ghost use Rattle.qpack_spec.specs.Marked.{HandleIsTheMarkedRule, IsTheRuleUnmarked, MarkedLinesAreOfFields};
 ghost use Rattle.qpack_spec.specs.StrictLaws.{NothingIsInsertedAtZero, WrittenSectionsAreStrict};
+ghost use Rattle.qpack_spec.specs.Table.{Table};
 
 /// Asking the table field by field, to find an entry and else to insert one, is the rule.
 pub fn handle_is_the_rule()
@@ -20,4 +24,12 @@ pub fn blocks_require_what_they_reference()
 pub fn written_sections_are_strict()
     ensures sections { WrittenSectionsAreStrict }
     ensures insertions { NothingIsInsertedAtZero }
+{}
+
+/// With fields that are marked as never to be indexed, asking the table field by field is the rule too, each field has a
+/// line, and where none is marked it is the rule for unmarked fields, written as ever (RFC 9204, section 7.1.3).
+pub fn marked_fields_are_literals()
+    ensures handle { HandleIsTheMarkedRule }
+    ensures lines { MarkedLinesAreOfFields }
+    ensures unmarked { (t : Table) (fs : List Field) → IsTheRuleUnmarked t fs }
 {}
