@@ -9,12 +9,17 @@ use Rattle.std.specs.Cow.{cow_slice_items}
 use Rattle.std.specs.Hash.{HashWrites, slice, u8}
 use Rattle.std.specs.Str.{encode_utf8_all}
 use Rattle.bstr.specs.Utf8.{lossy_chars}
-use Rattle.qpack_spec.specs.Field.{Field}
+use Rattle.qpack_spec.specs.Field.{Field, FieldLine}
+use Rattle.qpack_base.specs.declared.field.FieldLine.{FieldLine as LentLine}
 use Rattle.qpack_base.specs.declared.field.HeaderField.{HeaderField}
 
 -- the name and the value, borrowed or owned
 abbrev pub field_of : HeaderField → Field
 field_of f = record { name = cow_slice_items f.name; value = cow_slice_items f.value }
+
+-- the name, the value and the mark, lent
+abbrev pub line_of : LentLine → FieldLine
+line_of f = record { field = record { name = f.name.now; value = f.value.now }; never_indexed = f.never_indexed }
 
 -- the fields behind references
 abbrev pub fields_behind : List (Bor HeaderField) → List Field

@@ -1,9 +1,9 @@
 //! Header fields: a name and a value (RFC 9204, section 1.1).
 
-ghost use Rattle.std.specs.Prelude.{◌≡◌, ◌+◌, ◌-◌, ◌^◌, ◌↔◌, min, fold, IfOk, IsTrue, string_bytes};
-ghost use Rattle.qpack_spec.specs.Field.{field_size};
+ghost use Rattle.std.specs.Prelude.{◌≡◌, ◌+◌, ◌-◌, ◌^◌, ◌↔◌, true, min, fold, IfOk, IsTrue, string_bytes};
+ghost use Rattle.qpack_spec.specs.Field.{field_size, unmarked};
 ghost use Rattle.std.specs.Ordering.{is_eq};
-ghost use Rattle.qpack_base.specs.HeaderFields.{field_of, field_cmp, text_of, hash_input_of};
+ghost use Rattle.qpack_base.specs.HeaderFields.{field_of, line_of, field_cmp, text_of, hash_input_of};
 
 use crate::coding::NoMemory;
 use bstr::ByteSlice;
@@ -48,10 +48,15 @@ impl HeaderField {
     pub fn mem_size(&self) -> usize
         ensures { result ≡ min (field_size (field_of self.now)) (2 ^ 64 - 1) }
     {
-        self.name
-            .len()
-            .saturating_add(self.value.len())
-            .saturating_add(ESTIMATED_OVERHEAD_BYTES)
+        self.as_line().mem_size()
+    }
+
+    /// The field as a line that lends its name and its value, and that may be indexed.
+    #[inline(always)]
+    pub fn as_line(&self) -> FieldLine<'_>
+        ensures { line_of result ≡ unmarked (field_of self.now) }
+    {
+        FieldLine::new(self.name.as_slice(), self.value.as_slice())
     }
 
     /// The field with another value.
@@ -81,6 +86,55 @@ impl HeaderField {
         text.push('\t')?;
         self.value.as_slice().to_str_lossy_into(&mut text)?;
         Ok(text)
+    }
+}
+
+/// A field line (RFC 9110, section 5): a field that is lent, and whether it is to stay a literal wherever it is sent on
+/// (RFC 9204, section 7.1.3).
+#[derive(Clone, Copy, Debug, PartialEq, Drop)]
+pub struct FieldLine<'a> {
+    /// The name.
+    pub name: &'a [u8],
+    /// The value.
+    pub value: &'a [u8],
+    /// Whether the field is never to be indexed: whoever sends it on must send it as a literal that says so.
+    pub never_indexed: bool,
+}
+
+impl<'a> FieldLine<'a> {
+    /// The line of a field that may be indexed.
+    #[inline(always)]
+    pub fn new(name: &'a [u8], value: &'a [u8]) -> FieldLine<'a>
+        ensures { line_of result ≡ unmarked (record { name = name.now; value = value.now }) }
+    {
+        FieldLine {
+            name,
+            value,
+            never_indexed: false,
+        }
+    }
+
+    /// The line of a field that is never to be indexed.
+    #[inline(always)]
+    pub fn never_indexed(name: &'a [u8], value: &'a [u8]) -> FieldLine<'a>
+        ensures { line_of result ≡
+            record { field = record { name = name.now; value = value.now }; never_indexed = true } }
+    {
+        FieldLine {
+            name,
+            value,
+            never_indexed: true,
+        }
+    }
+
+    /// The size of the field in a table, in bytes, held at the greatest number (RFC 9204, section 3.2.1).
+    pub fn mem_size(&self) -> usize
+        ensures { result ≡ min (field_size (line_of self.now).field) (2 ^ 64 - 1) }
+    {
+        self.name
+            .len()
+            .saturating_add(self.value.len())
+            .saturating_add(ESTIMATED_OVERHEAD_BYTES)
     }
 }
 
