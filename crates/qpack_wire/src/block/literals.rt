@@ -2,6 +2,7 @@
 
 ghost use Rattle.std.specs.Prelude.{◌≡◌, Err, IfErr};
 ghost use Rattle.qpack_spec.specs.Line.{NamedStatic, NamedDynamic, NamedPostBase, Literal as LiteralLine, written_line};
+ghost use Rattle.qpack_spec.specs.Line.{written_marked_line};
 ghost use Rattle.qpack_base.specs.Writes.{Writes};
 ghost use Rattle.qpack_base.specs.declared.prefix_string.Error.TheVariants.{Memory as NoRoom};
 ghost use Rattle.qpack_base.specs.declared.parse_error.ParseError.TheVariants.{Memory};
@@ -27,7 +28,8 @@ use std::alloc::{Allocator, Global};
 // +---+---------------------------+
 // |  Value String (Length bytes)  |
 // +-------------------------------+
-// N asks that the field never be indexed: it is read and dropped, and written as 0. T is 1 for the static table.
+// N asks that the field never be indexed: it is read and dropped, and written as the writer is told. T is 1 for the
+// static table.
 pub(crate) const NAMED_SIZE: u8 = 4;
 
 pub(crate) const NAMED_DYNAMIC: u8 = 0b0100;
@@ -106,7 +108,7 @@ impl LiteralWithNameRef {
     /// Appends the written spelling of a line with a borrowed value behind a name of the static table, as
     /// `encode` does.
     #[inline(always)]
-    #[tactic(auto, unfolding(qpack_spec::specs::Line::written_line))]
+    #[tactic(auto, unfolding(qpack_spec::specs::Line::written_marked_line, qpack_spec::specs::Line::written_line))]
     pub fn write_static<A: Allocator>(
         index: usize,
         value: &[u8],
@@ -115,13 +117,34 @@ impl LiteralWithNameRef {
         ensures writes { Writes (written_line (NamedStatic index value.now)) buf.old buf.new result }
         ensures memory { IfErr result (λ e. e ≡ NoRoom) }
     {
-        put_index_and_value(NAMED_SIZE, NAMED_STATIC, index as u64, value, buf)
+        LiteralWithNameRef::write_static_marked(index, value, false, buf)
+    }
+
+    /// The same of a field that may be never to be indexed, in which case N is 1 (RFC 9204, section 7.1.3).
+    #[inline(always)]
+    #[tactic(auto, unfolding(qpack_spec::specs::Line::written_marked_line, qpack_spec::specs::Line::written_line))]
+    pub fn write_static_marked<A: Allocator>(
+        index: usize,
+        value: &[u8],
+        never_indexed: bool,
+        buf: &mut Vec<u8, A>,
+    ) -> Result<(), prefix_string::Error>
+        ensures writes { Writes (written_marked_line never_indexed (NamedStatic index value.now))
+            buf.old buf.new result }
+        ensures memory { IfErr result (λ e. e ≡ NoRoom) }
+    {
+        let flags = if never_indexed {
+            NAMED_STATIC_NEVER_INDEXED
+        } else {
+            NAMED_STATIC
+        };
+        put_index_and_value(NAMED_SIZE, flags, index as u64, value, buf)
     }
 
     /// Appends the written spelling of a line with a borrowed value behind a name of the dynamic table, as
     /// `encode` does.
     #[inline(always)]
-    #[tactic(auto, unfolding(qpack_spec::specs::Line::written_line))]
+    #[tactic(auto, unfolding(qpack_spec::specs::Line::written_marked_line, qpack_spec::specs::Line::written_line))]
     pub fn write_dynamic<A: Allocator>(
         index: usize,
         value: &[u8],
@@ -130,7 +153,28 @@ impl LiteralWithNameRef {
         ensures writes { Writes (written_line (NamedDynamic index value.now)) buf.old buf.new result }
         ensures memory { IfErr result (λ e. e ≡ NoRoom) }
     {
-        put_index_and_value(NAMED_SIZE, NAMED_DYNAMIC, index as u64, value, buf)
+        LiteralWithNameRef::write_dynamic_marked(index, value, false, buf)
+    }
+
+    /// The same of a field that may be never to be indexed, in which case N is 1 (RFC 9204, section 7.1.3).
+    #[inline(always)]
+    #[tactic(auto, unfolding(qpack_spec::specs::Line::written_marked_line, qpack_spec::specs::Line::written_line))]
+    pub fn write_dynamic_marked<A: Allocator>(
+        index: usize,
+        value: &[u8],
+        never_indexed: bool,
+        buf: &mut Vec<u8, A>,
+    ) -> Result<(), prefix_string::Error>
+        ensures writes { Writes (written_marked_line never_indexed (NamedDynamic index value.now))
+            buf.old buf.new result }
+        ensures memory { IfErr result (λ e. e ≡ NoRoom) }
+    {
+        let flags = if never_indexed {
+            NAMED_DYNAMIC_NEVER_INDEXED
+        } else {
+            NAMED_DYNAMIC
+        };
+        put_index_and_value(NAMED_SIZE, flags, index as u64, value, buf)
     }
 }
 
@@ -217,7 +261,7 @@ impl LiteralWithPostBaseNameRef {
 
     /// Appends the written spelling of a line with a borrowed value, as `encode` does.
     #[inline(always)]
-    #[tactic(auto, unfolding(qpack_spec::specs::Line::written_line))]
+    #[tactic(auto, unfolding(qpack_spec::specs::Line::written_marked_line, qpack_spec::specs::Line::written_line))]
     pub fn write<A: Allocator>(
         index: usize,
         value: &[u8],
@@ -226,13 +270,28 @@ impl LiteralWithPostBaseNameRef {
         ensures writes { Writes (written_line (NamedPostBase index value.now)) buf.old buf.new result }
         ensures memory { IfErr result (λ e. e ≡ NoRoom) }
     {
-        put_index_and_value(
-            POST_BASE_NAMED_SIZE,
-            POST_BASE_NAMED,
-            index as u64,
-            value,
-            buf,
-        )
+        LiteralWithPostBaseNameRef::write_marked(index, value, false, buf)
+    }
+
+    /// The same of a field that may be never to be indexed, in which case N is 1 (RFC 9204, section 7.1.3).
+    #[inline(always)]
+    #[tactic(auto, unfolding(qpack_spec::specs::Line::written_marked_line, qpack_spec::specs::Line::written_line))]
+    pub fn write_marked<A: Allocator>(
+        index: usize,
+        value: &[u8],
+        never_indexed: bool,
+        buf: &mut Vec<u8, A>,
+    ) -> Result<(), prefix_string::Error>
+        ensures writes { Writes (written_marked_line never_indexed (NamedPostBase index value.now))
+            buf.old buf.new result }
+        ensures memory { IfErr result (λ e. e ≡ NoRoom) }
+    {
+        let flags = if never_indexed {
+            POST_BASE_NAMED_NEVER_INDEXED
+        } else {
+            POST_BASE_NAMED
+        };
+        put_index_and_value(POST_BASE_NAMED_SIZE, flags, index as u64, value, buf)
     }
 }
 
@@ -315,7 +374,7 @@ impl Literal {
 
     /// Appends the written spelling of a line with a borrowed name and value, as `encode` does.
     #[inline(always)]
-    #[tactic(auto, unfolding(qpack_spec::specs::Line::written_line))]
+    #[tactic(auto, unfolding(qpack_spec::specs::Line::written_marked_line, qpack_spec::specs::Line::written_line))]
     pub fn write<A: Allocator>(
         name: &[u8],
         value: &[u8],
@@ -324,7 +383,28 @@ impl Literal {
         ensures writes { Writes (written_line (LiteralLine name.now value.now)) buf.old buf.new result }
         ensures memory { IfErr result (λ e. e ≡ NoRoom) }
     {
-        put_name_and_value(LITERAL_SIZE, LITERAL, name, value, buf)
+        Literal::write_marked(name, value, false, buf)
+    }
+
+    /// The same of a field that may be never to be indexed, in which case N is 1 (RFC 9204, section 7.1.3).
+    #[inline(always)]
+    #[tactic(auto, unfolding(qpack_spec::specs::Line::written_marked_line, qpack_spec::specs::Line::written_line))]
+    pub fn write_marked<A: Allocator>(
+        name: &[u8],
+        value: &[u8],
+        never_indexed: bool,
+        buf: &mut Vec<u8, A>,
+    ) -> Result<(), prefix_string::Error>
+        ensures writes { Writes (written_marked_line never_indexed (LiteralLine name.now value.now))
+            buf.old buf.new result }
+        ensures memory { IfErr result (λ e. e ≡ NoRoom) }
+    {
+        let flags = if never_indexed {
+            LITERAL_NEVER_INDEXED
+        } else {
+            LITERAL
+        };
+        put_name_and_value(LITERAL_SIZE, flags, name, value, buf)
     }
 }
 
