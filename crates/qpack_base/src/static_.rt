@@ -4,12 +4,12 @@ ghost use Rattle.std.specs.Prelude.{◌≡◌, ◌≤◌, IfOk, IfErr, IfSome, I
 ghost use Rattle.std.specs.Str.{bytes_eq};
 ghost use Rattle.qpack_spec.specs.StaticTable.{field, static_table, static_index, static_name_index, IsStaticAt};
 ghost use Rattle.qpack_spec.specs.StaticTable.{IsLeastStatic, NoStatic};
-ghost use Rattle.qpack_base.specs.HeaderFields.{field_of};
+ghost use Rattle.qpack_base.specs.HeaderFields.{field_of, line_of};
 ghost use Rattle.qpack_base.specs.StaticFields.{match_of, indexes_with_name, has_value_at};
 ghost use Rattle.qpack_base.specs.declared.static_.Error.TheVariants.{Unknown};
 
 use crate::bytes::same;
-use crate::field::HeaderField;
+use crate::field::{FieldLine, HeaderField};
 use names::{Name, names_of_length};
 use rows::row;
 use std::borrow::CowSlice;
@@ -72,7 +72,14 @@ impl StaticTable {
         ensures none { IfNone result (NoStatic (λ f. f ≡ field_of field.now)) }
         ensures exact { result ≡ static_index (field_of field.now) }
     {
-        index_of_value(indexes_of(field.name.as_slice()), field.value.as_slice())
+        StaticTable::find_line(&field.as_line())
+    }
+
+    /// The same of a field that is lent.
+    pub fn find_line(field: &FieldLine<'_>) -> Option<usize>
+        ensures { result ≡ static_index (line_of field.now).field }
+    {
+        index_of_value(indexes_of(field.name), field.value)
     }
 
     /// The least index of a field with the name.
