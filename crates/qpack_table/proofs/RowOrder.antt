@@ -1,5 +1,6 @@
 -- The order of fields, and of indexes by their fields.
-use Rattle.std.proofs.Common.{◌≡◌, ◌<◌, ◌≤◌, true, false, refl, sym, ap, subst, ◌∙◌, arith}
+use Rattle.std.proofs.Common.{◌≡◌, ◌<◌, ◌≤◌, ℕ, List, true, false, refl, sym, ap, subst, ◌∙◌, arith}
+use Rattle.std.specs.Cmp.Lexicographic.{slice_cmp}
 use Rattle.std.specs.Cmp.{IsTotalOrder}
 use Rattle.std.specs.declared.cmp.Ordering.{Ordering}
 use Rattle.std.specs.declared.cmp.Ordering.TheVariants.{Less, Equal, Greater}
@@ -27,6 +28,32 @@ same_when_equal f g h = same_field f g (sym (equal_is_field f g) ∙ ap is_eq h)
 pub equal_when_same : (f g : Field) → f ≡ g → field_cmp f g ≡ Equal
 equal_when_same f g h = subst (λ (x : Field). field_cmp f x ≡ Equal) h (tied_itself field_cmp_total f)
 
+first_equal : (r s : Ordering) → r ≡ Equal → ordering_then r s ≡ s
+first_equal r s h = rw h refl
+
+-- names that differ decide
+then_first : (r s : Ordering) → (r ≡ Equal → ⊥) → r ≡ ordering_then r s
+then_first Less s h = refl
+then_first Equal s h = absurd (h refl)
+then_first Greater s h = refl
+
+pub decided_by_name : (f g : Field) (o : Ordering) (name : List ℕ) → name ≡ f.name
+    → o ≡ slice_cmp nat_cmp name g.name → (o ≡ Equal → ⊥) → o ≡ field_cmp f g
+unfolding field_cmp
+decided_by_name f g o name is names apart =
+    then_first o (slice_cmp nat_cmp f.value g.value) apart
+    ∙ ap (λ (r : Ordering). ordering_then r (slice_cmp nat_cmp f.value g.value))
+    (names ∙ ap (λ (n : List ℕ). slice_cmp nat_cmp n g.name) is)
+
+-- else the values do
+pub decided_by_value : (f g : Field) (o v : Ordering) (name value : List ℕ) → name ≡ f.name → value ≡ f.value
+    → o ≡ slice_cmp nat_cmp name g.name → o ≡ Equal → v ≡ slice_cmp nat_cmp value g.value → v ≡ field_cmp f g
+unfolding field_cmp
+decided_by_value f g o v name value is has names equal values =
+    let tied : slice_cmp nat_cmp f.name g.name ≡ Equal =
+    sym (names ∙ ap (λ (n : List ℕ). slice_cmp nat_cmp n g.name) is) ∙ equal in
+    values ∙ ap (λ (n : List ℕ). slice_cmp nat_cmp n g.value) has ∙ sym (first_equal _ _ tied)
+
 -- ---- indexes by their fields
 
 then_equal : (r s : Ordering) → ordering_then r s ≡ Equal → s ≡ Equal
@@ -39,9 +66,6 @@ unfolding key_cmp
 same_index k l h = ranked k.index l.index Equal (sym (then_equal _ _ h))
 
 -- of one field, the lower index comes first
-first_equal : (r s : Ordering) → r ≡ Equal → ordering_then r s ≡ s
-first_equal r s h = rw h refl
-
 pub lower_first : (k l : Key) → k.field ≡ l.field → key_cmp k l ≡ Less → k.index < l.index
 unfolding key_cmp
 lower_first k l same h = ranked k.index l.index Less (sym (sym (first_equal _ _

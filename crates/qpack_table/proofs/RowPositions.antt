@@ -12,7 +12,7 @@ use Rattle.std.proofs.lemmas.List.Elements.{All-get_or, All-from_get_or, All-con
 use Rattle.std.proofs.lemmas.List.Sorted.{IsPermutation-insert, IsPermutation-remove, All-permutation}
 use Rattle.std.proofs.lemmas.List.Edits.{length-insert, get_or-insert_below, get_or-insert_at, get_or-insert_above}
 use Rattle.qpack_base.specs.HeaderFields.{field_of}
-use Rattle.qpack_spec.specs.Field.{Field}
+use Rattle.qpack_spec.specs.Field.{Field, FieldLine, unmarked}
 use Rattle.qpack_table.specs.declared.dynamic.entry.Entry.{Entry}
 use Rattle.qpack_table.specs.Rows.{Key, key_cmp}
 use Rattle.qpack_table.specs.Rows.{field_at, key_at, IsLiveIndex, IsRow, is_behind, IsPositionBehind}
@@ -32,6 +32,13 @@ contained row index c = record { within = c.1; is = get_or_default row c.0 0 ind
 
 pub containing : (row : List ℕ) (index k : ℕ) → IsAt row index k → Contains row index
 containing row index k h = (k, h.within, get_or_default row k index 0 h.within ∙ h.is)
+
+-- the position behind a field is that behind the line that lends it
+pub behind_line : (dropped : ℕ) (live : List Field) (row : List ℕ) (l : FieldLine) (f : Field) (last position : ℕ)
+    → l ≡ unmarked f → IsPositionBehind dropped live row l.field last position
+    → IsPositionBehind dropped live row f last position
+behind_line dropped live row l f last position same at =
+    subst (λ (m : FieldLine). IsPositionBehind dropped live row m.field last position) same at
 
 module _ (dropped : ℕ) (live : List Field) (row : List ℕ) (is : IsRow dropped live row) (f : Field) (last position : ℕ)
     (at : IsPositionBehind dropped live row f last position) where

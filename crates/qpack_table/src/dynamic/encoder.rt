@@ -1,17 +1,18 @@
 //! An encoder's handle on the table: a block in progress, which references entries (RFC 9204, section 2.1).
 
 ghost use Rattle.std.specs.Prelude.{◌≡◌, ◌<◌, ◌≤◌, ◌^◌};
-ghost use Rattle.qpack_base.specs.HeaderFields.{field_of};
+ghost use Rattle.qpack_base.specs.HeaderFields.{field_of, line_of};
 ghost use Rattle.qpack_spec.specs.Field.{total_size};
-ghost use Rattle.qpack_spec.specs.Handle.{find_field, insert_field};
+ghost use Rattle.qpack_spec.specs.Handle.{find_field, found_name, insert_field};
 ghost use Rattle.qpack_spec.specs.Reading.{greatest_of};
+ghost use Rattle.qpack_spec.specs.StaticTable.{static_name_index};
 ghost use Rattle.qpack_spec.specs.Table.{fields_in, insert_count, without_references};
 ghost use Rattle.qpack_spec.specs.Window.{maximum_capacity};
 ghost use Rattle.qpack_table.specs.Handles.{Finds, Inserts, Commits};
 
 use crate::dynamic::Error;
 use crate::dynamic::table::DynamicTable;
-use qpack_base::field::HeaderField;
+use qpack_base::field::{FieldLine, HeaderField};
 
 /// Where a field or its name was found. Absolute indexes begin at 1.
 #[derive(Debug, PartialEq, Clone, Copy)]
@@ -134,7 +135,30 @@ impl DynamicTableEncoder<'_> {
         ensures found { Finds result (find_field self.old.table.now self.old.base (field_of field.now))
             self.old.table.now self.new.table.now }
     {
+        self.table.find_field(self.base, &field.as_line())
+    }
+
+    /// The same of a field that is lent. Its mark has no part in it.
+    pub fn find_line(&mut self, field: &FieldLine<'_>) -> Result<DynamicLookupResult, Error>
+        ensures same_table { self.new.table.ghost_name ≡ self.old.table.ghost_name }
+        ensures stream { self.new.stream_id ≡ self.old.stream_id }
+        ensures base { self.new.base ≡ self.old.base }
+        ensures found { Finds result (find_field self.old.table.now self.old.base (line_of field.now).field)
+            self.old.table.now self.new.table.now }
+    {
         self.table.find_field(self.base, field)
+    }
+
+    /// Looks for the name of a field that is lent, in the static table and then among the entries, of which the newest
+    /// is referenced, if it may be. Refused, which is for memory alone, nothing changes.
+    pub fn find_line_name(&mut self, field: &FieldLine<'_>) -> Result<DynamicLookupResult, Error>
+        ensures same_table { self.new.table.ghost_name ≡ self.old.table.ghost_name }
+        ensures stream { self.new.stream_id ≡ self.old.stream_id }
+        ensures base { self.new.base ≡ self.old.base }
+        ensures found { Finds result (found_name self.old.table.now self.old.base (line_of field.now).field
+            (static_name_index (line_of field.now).field.name)) self.old.table.now self.new.table.now }
+    {
+        self.table.find_name(self.base, field)
     }
 
     /// Inserts a field, if one more block may be blocked and there is room: what has to go is evicted, and the new
@@ -145,6 +169,17 @@ impl DynamicTableEncoder<'_> {
         ensures stream { self.new.stream_id ≡ self.old.stream_id }
         ensures base { self.new.base ≡ self.old.base }
         ensures inserted { Inserts result (insert_field self.old.table.now self.old.base (field_of field.now))
+            self.old.table.now self.new.table.now }
+    {
+        self.table.insert_field(self.base, &field.as_line())
+    }
+
+    /// The same of a field that is lent, and is copied only if it is inserted. Its mark has no part in it.
+    pub fn insert_line(&mut self, field: &FieldLine<'_>) -> Result<DynamicInsertionResult, Error>
+        ensures same_table { self.new.table.ghost_name ≡ self.old.table.ghost_name }
+        ensures stream { self.new.stream_id ≡ self.old.stream_id }
+        ensures base { self.new.base ≡ self.old.base }
+        ensures inserted { Inserts result (insert_field self.old.table.now self.old.base (line_of field.now).field)
             self.old.table.now self.new.table.now }
     {
         self.table.insert_field(self.base, field)

@@ -158,7 +158,7 @@ pub(super) fn replace_oldest(
     ensures still { length entries.old.items + 1 ≤ deque_capacity entries.old
         → deque_capacity entries.new ≡ deque_capacity entries.old }
 {
-    let hashes = Hashes::of(&entry.field);
+    let hashes = Hashes::of(&entry.field.as_line());
     let size = entry.field.mem_size();
     make_room(entries)?;
     index.reserve(entries, vas.total_dropped(), hashes)?;

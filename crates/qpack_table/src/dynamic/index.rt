@@ -2,7 +2,7 @@
 //! indexes alone: each call is lent the entries, and is told how many were dropped.
 
 ghost use Rattle.std.specs.Prelude.{◌≡◌, ◌+◌, ◌-◌, ◌^◌, ◌<◌, ◌≤◌, ℕ, List, [], IfOk, OnOk, OnErr, length, drop};
-ghost use Rattle.qpack_base.specs.HeaderFields.{field_of};
+ghost use Rattle.qpack_base.specs.HeaderFields.{line_of};
 ghost use Rattle.qpack_spec.specs.Field.{Field, is_field, has_name};
 ghost use Rattle.qpack_table.specs.Tables.{entries_of};
 ghost use Rattle.qpack_table.specs.Rows.{field_at, Counts};
@@ -20,7 +20,7 @@ pub(super) use crate::dynamic::index::hash::Hashes;
 use crate::dynamic::index::names::Names;
 use crate::dynamic::index::rows::Rows;
 use crate::dynamic::steps::Steps;
-use qpack_base::field::HeaderField;
+use qpack_base::field::FieldLine;
 use std::alloc::{AllocError, Global};
 use std::collections::VecDeque;
 
@@ -65,12 +65,12 @@ impl Index {
         &self,
         entries: &VecDeque<Entry>,
         dropped: usize,
-        field: &HeaderField,
+        field: &FieldLine<'_>,
         steps: &mut Steps,
     ) -> Option<usize>
         requires index { IsIndexOf dropped (live_fields entries.now.items) (length entries.now.items) self.now }
         requires few { dropped + length entries.now.items < 2 ^ 64 }
-        ensures found { IsNewestIn dropped (entries_of entries.now.items) (is_field (field_of field.now)) result }
+        ensures found { IsNewestIn dropped (entries_of entries.now.items) (is_field (line_of field.now).field) result }
         ensures steps { Counts (length entries.now.items) steps.old.count steps.new.count }
     {
         let hashes = Hashes::of(field);

@@ -3,7 +3,7 @@
 
 ghost use Rattle.std.specs.Prelude.{◌≡◌, ◌+◌, ◌-◌, ◌^◌, ◌<◌, ◌≤◌, true, false, IfOk, IfErr, IfSome, IfNone, OnOk};
 ghost use Rattle.std.specs.Prelude.{◌&&◌, drop, length};
-ghost use Rattle.qpack_base.specs.HeaderFields.{field_of};
+ghost use Rattle.qpack_base.specs.HeaderFields.{field_of, line_of};
 ghost use Rattle.qpack_spec.specs.Handle.{found_entry, find_field, found_name, insert_field, answer_of};
 ghost use Rattle.qpack_spec.specs.Rule.{instruction_for, entries_left};
 ghost use Rattle.qpack_spec.specs.StaticTable.{static_name_index, IsLeastStatic};
@@ -17,31 +17,37 @@ use crate::dynamic::Error;
 use crate::dynamic::encoder::{DynamicInsertionResult, DynamicLookupResult};
 use crate::dynamic::table::{DynamicTable, MOST_INSERTIONS};
 use qpack_base::coding::NoMemory;
-use qpack_base::field::HeaderField;
+use qpack_base::field::{FieldLine, HeaderField};
 use qpack_base::static_::StaticTable;
+use std::alloc::Global;
+use std::borrow::CowSlice;
 
 impl DynamicTable {
     /// Finds the newest entry that is this field, and references it, if it may be referenced.
     pub(super) fn find_field(
         &mut self,
         base: usize,
-        field: &HeaderField,
+        field: &FieldLine<'_>,
     ) -> Result<DynamicLookupResult, Error>
-        ensures { Finds result (find_field self.old base (field_of field.now)) self.old self.new }
+        ensures { Finds result (find_field self.old base (line_of field.now).field) self.old self.new }
     {
         let newest = self.newest_field(field);
         self.find_entry(base, newest)
     }
 
     /// Finds a name: that of a static field, or of the newest entry that has it, which is referenced if it may be.
-    fn find_name(&mut self, base: usize, field: &HeaderField) -> Result<DynamicLookupResult, Error>
-        ensures { Finds result (found_name self.old base (field_of field.now)
-            (static_name_index (field_of field.now).name)) self.old self.new }
+    pub(super) fn find_name(
+        &mut self,
+        base: usize,
+        field: &FieldLine<'_>,
+    ) -> Result<DynamicLookupResult, Error>
+        ensures { Finds result (found_name self.old base (line_of field.now).field
+            (static_name_index (line_of field.now).field.name)) self.old self.new }
     {
-        if let Some(index) = StaticTable::find_name(field.name.as_slice()) {
+        if let Some(index) = StaticTable::find_name(field.name) {
             return Ok(DynamicLookupResult::Static(index));
         }
-        let newest = self.newest_of_name(field.name.as_slice());
+        let newest = self.newest_of_name(field.name);
         self.find_entry(base, newest)
     }
 
@@ -82,10 +88,10 @@ impl DynamicTable {
 
     /// How many of the oldest entries go before a field stands, if there is room for it: it fits, insertions are
     /// left, and what has to go may go (RFC 9204, section 2.1.1).
-    fn room_for(&self, field: &HeaderField) -> Option<usize>
-        ensures room { IfSome result (λ evicted. has_room self.now (field_of field.now) ≡ true) }
-        ensures evicted { IfSome result (λ evicted. evicted ≡ eviction_count_for self.now (field_of field.now)) }
-        ensures none { IfNone result (has_room self.now (field_of field.now) ≡ false) }
+    fn room_for(&self, field: &FieldLine<'_>) -> Option<usize>
+        ensures room { IfSome result (λ evicted. has_room self.now (line_of field.now).field ≡ true) }
+        ensures evicted { IfSome result (λ evicted. evicted ≡ eviction_count_for self.now (line_of field.now).field) }
+        ensures none { IfNone result (has_room self.now (line_of field.now).field ≡ false) }
     {
         let size = field.mem_size();
         if size > self.max_mem_size() {
@@ -99,12 +105,12 @@ impl DynamicTable {
 
     /// How many of the oldest entries go before a field is inserted, if one more block may be blocked and there is
     /// room.
-    fn insertable(&self, field: &HeaderField) -> Option<usize>
+    fn insertable(&self, field: &FieldLine<'_>) -> Option<usize>
         ensures inserted { IfSome result
-            (λ evicted. (below_limit self.now && has_room self.now (field_of field.now)) ≡ true) }
-        ensures room { IfSome result (λ evicted. has_room self.now (field_of field.now) ≡ true) }
-        ensures evicted { IfSome result (λ evicted. evicted ≡ eviction_count_for self.now (field_of field.now)) }
-        ensures none { IfNone result ((below_limit self.now && has_room self.now (field_of field.now)) ≡ false) }
+            (λ evicted. (below_limit self.now && has_room self.now (line_of field.now).field) ≡ true) }
+        ensures room { IfSome result (λ evicted. has_room self.now (line_of field.now).field ≡ true) }
+        ensures evicted { IfSome result (λ evicted. evicted ≡ eviction_count_for self.now (line_of field.now).field) }
+        ensures none { IfNone result ((below_limit self.now && has_room self.now (line_of field.now).field) ≡ false) }
     {
         if !self.is_below_limit() {
             return None;
@@ -117,9 +123,9 @@ impl DynamicTable {
     pub(super) fn insert_field(
         &mut self,
         base: usize,
-        field: &HeaderField,
+        field: &FieldLine<'_>,
     ) -> Result<DynamicInsertionResult, Error>
-        ensures { Inserts result (insert_field self.old base (field_of field.now)) self.old self.new }
+        ensures { Inserts result (insert_field self.old base (line_of field.now).field) self.old self.new }
     {
         if let Some(evicted) = self.insertable(field) {
             return self.insert_in_room(base, field, evicted);
@@ -133,21 +139,21 @@ impl DynamicTable {
     fn insert_in_room(
         &mut self,
         base: usize,
-        field: &HeaderField,
+        field: &FieldLine<'_>,
         evicted: usize,
     ) -> Result<DynamicInsertionResult, Error>
-        requires room { has_room self.old (field_of field.now) ≡ true }
-        requires evicted { evicted ≡ eviction_count_for self.old (field_of field.now) }
+        requires room { has_room self.old (line_of field.now).field ≡ true }
+        requires evicted { evicted ≡ eviction_count_for self.old (line_of field.now).field }
         ensures ok { IfOk result (λ r. insertion_of r ≡ answer_of
-            (instruction_for (field_of field.now) (entries_left self.old (field_of field.now)))
+            (instruction_for (line_of field.now).field (entries_left self.old (line_of field.now).field))
             (insert_count self.old - base) (insert_count self.old + 1)) }
-        ensures new { OnOk result (self.new ≡ with_reference (with_entry self.old (sent_entry (field_of field.now)))
-            (insert_count self.old + 1)) }
+        ensures new { OnOk result (self.new ≡ with_reference
+            (with_entry self.old (sent_entry (line_of field.now).field)) (insert_count self.old + 1)) }
         ensures err { IfErr result (λ e. (e ≡ NoRoom) × (self.new ≡ self.old)) }
     {
-        let static_name = StaticTable::find_name(field.name.as_slice());
+        let static_name = StaticTable::find_name(field.name);
         let insertion = self.insertion_of(base, field, static_name, evicted);
-        let copy = stored(field, static_name)?;
+        let copy = stored(self.allocator(), field, static_name)?;
         self.insert_sent(copy, evicted)?;
         Ok(insertion)
     }
@@ -157,15 +163,15 @@ impl DynamicTable {
     fn insertion_of(
         &self,
         base: usize,
-        field: &HeaderField,
+        field: &FieldLine<'_>,
         static_name: Option<usize>,
         evicted: usize,
     ) -> DynamicInsertionResult
-        requires static_name { static_name ≡ static_name_index (field_of field.now).name }
+        requires static_name { static_name ≡ static_name_index (line_of field.now).field.name }
         requires few { insert_count self.now < 2 ^ 62 }
         requires evicted { evicted ≤ length self.now.live }
         ensures { insertion_of result ≡ answer_of
-            (instruction_for (field_of field.now) (drop evicted (fields_in self.now.live)))
+            (instruction_for (line_of field.now).field (drop evicted (fields_in self.now.live)))
             (insert_count self.now - base) (insert_count self.now + 1) }
     {
         let total = self.total_inserted();
@@ -185,7 +191,7 @@ impl DynamicTable {
                 absolute,
             };
         }
-        match above(self.newest_of_name(field.name.as_slice()), dropped) {
+        match above(self.newest_of_name(field.name), dropped) {
             Some(newest) => DynamicInsertionResult::InsertedWithNameRef {
                 postbase,
                 relative: total - newest,
@@ -196,17 +202,21 @@ impl DynamicTable {
     }
 }
 
-/// The field as it is stored: with the name of the static field lent, if one has it.
-fn stored(field: &HeaderField, static_name: Option<usize>) -> Result<HeaderField, NoMemory>
-    requires { IfSome static_name (IsLeastStatic (λ f. f.name ≡ (field_of field.now).name)) }
-    ensures { IfOk result (λ copy. field_of copy ≡ field_of field.now) }
+/// A copy of the field, as it is stored: with the name of the static field lent, if one has it.
+fn stored(
+    alloc: Global,
+    field: &FieldLine<'_>,
+    static_name: Option<usize>,
+) -> Result<HeaderField, NoMemory>
+    requires { IfSome static_name (IsLeastStatic (λ f. f.name ≡ field.now.name.now)) }
+    ensures { IfOk result (λ copy. field_of copy ≡ (line_of field.now).field) }
 {
     match static_name.and_then(|index| StaticTable::get(index).ok()) {
         Some(known) => Ok(HeaderField {
             name: known.name,
-            value: field.value.clone()?,
+            value: CowSlice::Owned(Vec::from_slice(alloc, field.value)?),
         }),
-        None => Ok(field.clone()?),
+        None => HeaderField::from_pair(alloc, field.name, field.value),
     }
 }
 

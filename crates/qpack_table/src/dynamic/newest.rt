@@ -1,7 +1,7 @@
 //! The newest live entry with a field or with a name, found by the index.
 
 ghost use Rattle.std.specs.Prelude.{◌≡◌, length};
-ghost use Rattle.qpack_base.specs.HeaderFields.{field_of};
+ghost use Rattle.qpack_base.specs.HeaderFields.{field_of, line_of};
 ghost use Rattle.qpack_spec.specs.Field.{is_field, has_name};
 ghost use Rattle.qpack_spec.specs.Table.{newest_index};
 ghost use Rattle.qpack_table.specs.Rows.{Counts};
@@ -9,7 +9,7 @@ ghost use Rattle.qpack_table.specs.Rows.{Counts};
 use crate::dynamic::steps::Steps;
 use crate::dynamic::table::DynamicTable;
 use crate::vas::AbsoluteIndex;
-use qpack_base::field::HeaderField;
+use qpack_base::field::{FieldLine, HeaderField};
 
 impl DynamicTable {
     /// The absolute index of the newest live entry with the field. It is compared with at most as many entries as the
@@ -18,15 +18,23 @@ impl DynamicTable {
         ensures found { result ≡ newest_index self.now (is_field (field_of field.now)) }
         ensures steps { Counts (length self.now.live) steps.old.count steps.new.count }
     {
+        self.newest_line(&field.as_line(), steps)
+    }
+
+    /// The same of a field that is lent.
+    fn newest_line(&self, field: &FieldLine<'_>, steps: &mut Steps) -> Option<AbsoluteIndex>
+        ensures found { result ≡ newest_index self.now (is_field (line_of field.now).field) }
+        ensures steps { Counts (length self.now.live) steps.old.count steps.new.count }
+    {
         self.index
             .newest_equal(&self.entries, self.vas.total_dropped(), field, steps)
     }
 
     /// The absolute index of the newest live entry with the field, uncounted.
-    pub(super) fn newest_field(&self, field: &HeaderField) -> Option<AbsoluteIndex>
-        ensures { result ≡ newest_index self.now (is_field (field_of field.now)) }
+    pub(super) fn newest_field(&self, field: &FieldLine<'_>) -> Option<AbsoluteIndex>
+        ensures { result ≡ newest_index self.now (is_field (line_of field.now).field) }
     {
-        self.newest_equal(field, &mut Steps::new())
+        self.newest_line(field, &mut Steps::new())
     }
 
     /// The absolute index of the newest live entry with the name.

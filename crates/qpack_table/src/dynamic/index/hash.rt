@@ -1,11 +1,11 @@
 //! The hashes of fields and of names. That they spread them is not promised: a bad one costs time.
 
 ghost use Rattle.std.specs.Prelude.{◌≡◌, ◌<◌};
-ghost use Rattle.qpack_base.specs.HeaderFields.{field_of};
+ghost use Rattle.qpack_base.specs.HeaderFields.{line_of};
 ghost use Rattle.qpack_table.specs.Hashes.{bytes_hash, name_hash, field_hash, position_among};
 ghost use Rattle.qpack_table.specs.Hashes.{words_hash, piece_hash, rest_hash, few_bytes, folded_product};
 
-use qpack_base::field::HeaderField;
+use qpack_base::field::FieldLine;
 
 /// Any number will do: this is a part of that of `wyhash`, as the next.
 const SEED: u64 = 0xA076_1D64_78BD_642F;
@@ -26,12 +26,12 @@ pub(in crate::dynamic) struct Hashes {
 
 impl Hashes {
     /// Those of a field: what goes on from the name over the value is not hashed twice.
-    pub(in crate::dynamic) fn of(field: &HeaderField) -> Hashes
-        ensures name { result.name ≡ name_hash (field_of field.now).name }
-        ensures field { result.field ≡ field_hash (field_of field.now) }
+    pub(in crate::dynamic) fn of(field: &FieldLine<'_>) -> Hashes
+        ensures name { result.name ≡ name_hash (line_of field.now).field.name }
+        ensures field { result.field ≡ field_hash (line_of field.now).field }
     {
-        let name = hash_bytes(SEED, field.name.as_slice());
-        let field = hash_bytes(name, field.value.as_slice());
+        let name = hash_bytes(SEED, field.name);
+        let field = hash_bytes(name, field.value);
         Hashes {
             name: (name >> 32) as u32,
             field: (field >> 32) as u32,

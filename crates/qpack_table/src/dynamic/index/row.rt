@@ -4,25 +4,28 @@
 ghost use Rattle.std.specs.Prelude.{◌≡◌, ◌+◌, ◌-◌, ◌^◌, ◌<◌, ◌≤◌, ◌∷◌, [], min, length, OnOk, OnErr, Contains};
 ghost use Rattle.std.specs.Prelude.{vec_len, vec_capacity};
 ghost use Rattle.std.specs.List.Sorted.{IsPermutation};
-ghost use Rattle.qpack_base.specs.HeaderFields.{field_of, field_cmp};
+ghost use Rattle.qpack_base.specs.HeaderFields.{field_of, line_of, field_cmp};
 ghost use Rattle.qpack_table.specs.Rows.{IsRow, IsPositionBehind, IsEqualBefore, FindsNewest, Counts};
 ghost use Rattle.qpack_table.specs.Tables.{live_fields};
 
 use crate::dynamic::entry::Entry;
 use crate::dynamic::steps::Steps;
-use qpack_base::field::HeaderField;
+use qpack_base::field::FieldLine;
 use std::alloc::{AllocError, Global};
 use std::cmp::Ordering;
 use std::collections::VecDeque;
 
 /// How an entry stands to a field that is sought. Nothing else compares the two, and nothing else raises the count.
-fn compare(field: &HeaderField, entry: &Entry, steps: &mut Steps) -> Ordering
-    ensures order { result ≡ field_cmp (field_of entry.now.field) (field_of field.now) }
+fn compare(field: &FieldLine<'_>, entry: &Entry, steps: &mut Steps) -> Ordering
+    ensures order { result ≡ field_cmp (field_of entry.now.field) (line_of field.now).field }
     ensures raised { steps.new.count ≡ min (steps.old.count + 1) (2 ^ 64 - 1) }
     ensures grows { steps.old.count ≤ steps.new.count }
 {
     steps.raise();
-    entry.field.cmp(field)
+    match entry.field.name.as_slice().cmp(field.name) {
+        Ordering::Equal => entry.field.value.as_slice().cmp(field.value),
+        apart => apart,
+    }
 }
 
 /// What a search found: the position behind all that is not past what is sought, and whether the index before that
@@ -63,15 +66,15 @@ impl Row {
         &self,
         entries: &VecDeque<Entry>,
         dropped: usize,
-        field: &HeaderField,
+        field: &FieldLine<'_>,
         last: usize,
         steps: &mut Steps,
     ) -> Found
         requires { IsRow dropped (live_fields entries.now.items) self.now.indexes.items }
         ensures position { IsPositionBehind dropped (live_fields entries.now.items) self.now.indexes.items
-            (field_of field.now) last result.position }
+            (line_of field.now).field last result.position }
         ensures equal { IsEqualBefore dropped (live_fields entries.now.items) self.now.indexes.items
-            (field_of field.now) result.position result.equal }
+            (line_of field.now).field result.position result.equal }
         ensures steps { Counts (length self.now.indexes.items) steps.old.count steps.new.count }
     {
         let mut low = 0;
@@ -99,13 +102,13 @@ impl Row {
         &self,
         entries: &VecDeque<Entry>,
         dropped: usize,
-        field: &HeaderField,
+        field: &FieldLine<'_>,
         steps: &mut Steps,
     ) -> Option<usize>
         requires row { IsRow dropped (live_fields entries.now.items) self.now.indexes.items }
         requires few { dropped + length entries.now.items < 2 ^ 64 }
         ensures found { FindsNewest dropped (live_fields entries.now.items) self.now.indexes.items
-            (field_of field.now) result }
+            (line_of field.now).field result }
         ensures steps { Counts (length self.now.indexes.items) steps.old.count steps.new.count }
     {
         let found = self.search(entries, dropped, field, dropped + entries.len(), steps);
@@ -127,7 +130,7 @@ impl Row {
     {
         let mut steps = Steps::new();
         let entry = &entries[index - dropped - 1];
-        let found = self.search(entries, dropped, &entry.field, index, &mut steps);
+        let found = self.search(entries, dropped, &entry.field.as_line(), index, &mut steps);
         if let Err(_full) = self.indexes.insert(found.position, index) {}
     }
 
@@ -161,7 +164,7 @@ impl Row {
     {
         let mut steps = Steps::new();
         let entry = &entries[index - dropped - 1];
-        let found = self.search(entries, dropped, &entry.field, index, &mut steps);
+        let found = self.search(entries, dropped, &entry.field.as_line(), index, &mut steps);
         self.indexes.remove(found.position - 1);
     }
 }

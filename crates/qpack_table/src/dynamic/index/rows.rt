@@ -2,7 +2,7 @@
 //! all of them, and is searched by halving as ever.
 
 ghost use Rattle.std.specs.Prelude.{◌≡◌, ◌+◌, ◌-◌, ◌^◌, ◌<◌, ◌≤◌, ℕ, List, [], IfOk, OnOk, length, drop};
-ghost use Rattle.qpack_base.specs.HeaderFields.{field_of};
+ghost use Rattle.qpack_base.specs.HeaderFields.{line_of};
 ghost use Rattle.qpack_spec.specs.Field.{Field, is_field};
 ghost use Rattle.qpack_table.specs.Tables.{entries_of};
 ghost use Rattle.qpack_table.specs.Rows.{field_at, Counts};
@@ -14,7 +14,7 @@ use crate::dynamic::entry::Entry;
 use crate::dynamic::index::hash::position_of;
 use crate::dynamic::index::row::Row;
 use crate::dynamic::steps::Steps;
-use qpack_base::field::HeaderField;
+use qpack_base::field::FieldLine;
 use std::alloc::{AllocError, Global};
 use std::collections::VecDeque;
 
@@ -59,15 +59,15 @@ impl Rows {
         &self,
         entries: &VecDeque<Entry>,
         dropped: usize,
-        field: &HeaderField,
+        field: &FieldLine<'_>,
         hash: u32,
         steps: &mut Steps,
     ) -> Option<usize>
         requires rows { AreRowsOf dropped (live_fields entries.now.items) (length entries.now.items)
             self.now.rows.items }
-        requires hash { hash ≡ field_hash (field_of field.now) }
+        requires hash { hash ≡ field_hash (line_of field.now).field }
         requires few { dropped + length entries.now.items < 2 ^ 64 }
-        ensures found { IsNewestIn dropped (entries_of entries.now.items) (is_field (field_of field.now)) result }
+        ensures found { IsNewestIn dropped (entries_of entries.now.items) (is_field (line_of field.now).field) result }
         ensures steps { Counts (length entries.now.items) steps.old.count steps.new.count }
     {
         if self.rows.is_empty() {

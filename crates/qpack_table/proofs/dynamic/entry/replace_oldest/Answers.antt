@@ -1,8 +1,9 @@
-use Rattle.std.proofs.Common.{◌≡◌, ◌+◌, ◌∷◌, [], ◌++◌, List, drop, length, ap, ◌∙◌, arith}
+use Rattle.std.proofs.Common.{◌≡◌, ◌+◌, ◌∷◌, [], ◌++◌, List, drop, length, ap, subst, ◌∙◌, arith}
 use Rattle.std.proofs.lemmas.List.{length-append}
 use Rattle.qpack_base.specs.HeaderFields.{field_of}
-use Rattle.qpack_spec.specs.Field.{field_size, total_size}
+use Rattle.qpack_spec.specs.Field.{FieldLine, field_size, total_size}
 use Rattle.qpack_spec.specs.Table.{fields_in}
+use Rattle.qpack_table.specs.Indexes.{AreHashesOf}
 use Rattle.qpack_table.specs.Positions.{Positions}
 use Rattle.qpack_table.specs.Tables.{entries_of}
 use Rattle.qpack_table.specs.declared.dynamic.entry.Entry.{Entry}
@@ -38,8 +39,9 @@ enter-requires-clause-hashes c =
     ∙ ap (λ (l : List Entry). drop c.args.evicted l) c.in_ok-make_room.ensures.items) c.requires.there
     c.drop_oldest-freed.ensures.dropped c.add-absolute.ensures.index c.add-absolute.ensures.added
     c.total_dropped-2.ensures.exact in
-    hashes_joined _ _ _ c.args.entry _ _ (c.of-hashes.ensures.name, c.of-hashes.ensures.field)
-    c.push_back_reserved.ensures.items at.is
+    let hashes = subst (λ (l : FieldLine). AreHashesOf c.of-hashes.result l.field) c.as_line.ensures
+    (c.of-hashes.ensures.name, c.of-hashes.ensures.field) in
+    hashes_joined _ _ _ c.args.entry _ _ hashes c.push_back_reserved.ensures.items at.is
 
 pub returns-clause-entered : goal.returns-clause-entered
 returns-clause-entered c =

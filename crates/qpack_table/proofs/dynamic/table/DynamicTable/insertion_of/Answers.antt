@@ -1,5 +1,5 @@
-use Rattle.std.proofs.Common.{◌≡◌, ℕ, ◌+◌, List, None, Some, sym, refl, ap, ◌∙◌}
-use Rattle.qpack_base.specs.HeaderFields.{field_of}
+use Rattle.std.proofs.Common.{◌≡◌, ℕ, ◌+◌, None, Some, sym, refl, ap, ◌∙◌}
+use Rattle.qpack_base.specs.HeaderFields.{line_of}
 use Rattle.qpack_spec.specs.Field.{Field, is_field, has_name}
 use Rattle.qpack_spec.specs.StaticTable.{static_name_index}
 use Rattle.qpack_spec.specs.Table.{Table, newest_index}
@@ -10,7 +10,7 @@ use Rattle.qpack_table.proofs.dynamic.table.DynamicTable.insertion_of.Goals as g
 
 pub overflow_sub-result : goal.overflow_sub-result
 overflow_sub-result c =
-    let f : Field = field_of c.args.field.now in
+    let f : Field = (line_of c.args.field.now).field in
     let at : c.total_dropped.result + c.args.evicted ≡ c.args.self.now.dropped + c.args.evicted =
     ap (λ (n : ℕ). n + c.args.evicted) (c.total_dropped.ensures.exact ∙ ap (λ (t : Table). t.dropped) c.self.view_is) in
     let equal = stays c.args.self.now (is_field f) c.args.evicted c.in-Some.newest _ _ _ at c.newest_field.ensures
@@ -20,7 +20,7 @@ overflow_sub-result c =
 
 pub returns-in-Some : goal.returns-in-Some
 returns-in-Some c =
-    let f : Field = field_of c.args.field.now in
+    let f : Field = (line_of c.args.field.now).field in
     let at : c.total_dropped.result + c.args.evicted ≡ c.args.self.now.dropped + c.args.evicted =
     ap (λ (n : ℕ). n + c.args.evicted) (c.total_dropped.ensures.exact ∙ ap (λ (t : Table). t.dropped) c.self.view_is) in
     let equal = stays c.args.self.now (is_field f) c.args.evicted c.in-Some.newest _ _ _ at c.newest_field.ensures
@@ -30,7 +30,7 @@ returns-in-Some c =
 
 pub returns-in-Some-static_name : goal.returns-in-Some-static_name
 returns-in-Some-static_name c =
-    let f : Field = field_of c.args.field.now in
+    let f : Field = (line_of c.args.field.now).field in
     let at : c.total_dropped.result + c.args.evicted ≡ c.args.self.now.dropped + c.args.evicted =
     ap (λ (n : ℕ). n + c.args.evicted) (c.total_dropped.ensures.exact ∙ ap (λ (t : Table). t.dropped) c.self.view_is) in
     let none = none_stays c.args.self.now (is_field f) c.args.evicted _ _ _ at c.newest_field.ensures c.above.ensures
@@ -42,12 +42,11 @@ returns-in-Some-static_name c =
 
 pub overflow_sub-result-in-Some-above : goal.overflow_sub-result-in-Some-above
 overflow_sub-result-in-Some-above c =
-    let f : Field = field_of c.args.field.now in
+    let f : Field = (line_of c.args.field.now).field in
     let at : c.total_dropped.result + c.args.evicted ≡ c.args.self.now.dropped + c.args.evicted =
     ap (λ (n : ℕ). n + c.args.evicted) (c.total_dropped.ensures.exact ∙ ap (λ (t : Table). t.dropped) c.self.view_is) in
     let newest : c.newest_of_name.result ≡ newest_index c.args.self.now (has_name f.name) =
-    c.newest_of_name.ensures
-    ∙ ap (λ (n : List ℕ). newest_index c.args.self.now (has_name n)) c.as_slice.ensures.value in
+    c.newest_of_name.ensures in
     let named = stays c.args.self.now (has_name f.name) c.args.evicted c.in-Some-above.newest _ _ _ at newest
     c.above-2.ensures c.in-Some-above.is in
     stays_inserted c.args.self.now (has_name f.name) c.args.evicted _ _ named c.requires.evicted
@@ -55,7 +54,7 @@ overflow_sub-result-in-Some-above c =
 
 pub returns-in-Some-above : goal.returns-in-Some-above
 returns-in-Some-above c =
-    let f : Field = field_of c.args.field.now in
+    let f : Field = (line_of c.args.field.now).field in
     let at : c.total_dropped.result + c.args.evicted ≡ c.args.self.now.dropped + c.args.evicted =
     ap (λ (n : ℕ). n + c.args.evicted) (c.total_dropped.ensures.exact ∙ ap (λ (t : Table). t.dropped) c.self.view_is) in
     let none = none_stays c.args.self.now (is_field f) c.args.evicted _ _ _ at c.newest_field.ensures c.above.ensures
@@ -63,8 +62,7 @@ returns-in-Some-above c =
     let unknown : static_name_index f.name ≡ None =
     sym c.requires.static_name ∙ c.in_default-static_name.is in
     let newest : c.newest_of_name.result ≡ newest_index c.args.self.now (has_name f.name) =
-    c.newest_of_name.ensures
-    ∙ ap (λ (n : List ℕ). newest_index c.args.self.now (has_name n)) c.as_slice.ensures.value in
+    c.newest_of_name.ensures in
     let named = stays c.args.self.now (has_name f.name) c.args.evicted c.in-Some-above.newest _ _ _ at newest
     c.above-2.ensures c.in-Some-above.is in
     with_entry_name c.args.self.now f c.args.evicted _ _ c.args.base _ _ none unknown named c.requires.evicted
@@ -72,7 +70,7 @@ returns-in-Some-above c =
 
 pub returns-in-None : goal.returns-in-None
 returns-in-None c =
-    let f : Field = field_of c.args.field.now in
+    let f : Field = (line_of c.args.field.now).field in
     let at : c.total_dropped.result + c.args.evicted ≡ c.args.self.now.dropped + c.args.evicted =
     ap (λ (n : ℕ). n + c.args.evicted) (c.total_dropped.ensures.exact ∙ ap (λ (t : Table). t.dropped) c.self.view_is) in
     let none = none_stays c.args.self.now (is_field f) c.args.evicted _ _ _ at c.newest_field.ensures c.above.ensures
@@ -80,8 +78,7 @@ returns-in-None c =
     let unknown : static_name_index f.name ≡ None =
     sym c.requires.static_name ∙ c.in_default-static_name.is in
     let newest : c.newest_of_name.result ≡ newest_index c.args.self.now (has_name f.name) =
-    c.newest_of_name.ensures
-    ∙ ap (λ (n : List ℕ). newest_index c.args.self.now (has_name n)) c.as_slice.ensures.value in
+    c.newest_of_name.ensures in
     let other = none_stays c.args.self.now (has_name f.name) c.args.evicted _ _ _ at newest c.above-2.ensures
     c.in-None.is in
     with_own_name c.args.self.now f c.args.evicted _ c.args.base _ _ none unknown other

@@ -1,5 +1,5 @@
 use Rattle.std.proofs.Common.{arith}
-use Rattle.qpack_base.specs.HeaderFields.{field_of}
+use Rattle.qpack_base.specs.HeaderFields.{line_of}
 use Rattle.qpack_table.proofs.Sent.{room_too_large, room_too_late, room_by_walk, no_room_by_walk, least_by_walk}
 use Rattle.qpack_table.proofs.dynamic.table.DynamicTable.room_for.Goals as goal
 
@@ -11,16 +11,13 @@ pub returns-then-total_inserted-ge-MOST_INSERTIONS-clause-none
 returns-then-total_inserted-ge-MOST_INSERTIONS-clause-none c = room_too_late _ _ (omega arith) (omega arith)
 
 pub returns-clause-room : goal.returns-clause-room
-returns-clause-room c = room_by_walk c.args.self.now (field_of c.args.field.now) c.mem_size-size.result _ (omega
-    arith) (omega arith) (omega arith)
-    c.evictable_for.ensures.least c.evictable_for.ensures.evictable
+returns-clause-room c = room_by_walk c.args.self.now (line_of c.args.field.now).field c.mem_size-size.result _
+    (omega arith) (omega arith) (omega arith) c.evictable_for.ensures.least c.evictable_for.ensures.evictable
 
 pub returns-clause-evicted : goal.returns-clause-evicted
-returns-clause-evicted c = least_by_walk c.args.self.now (field_of c.args.field.now) c.mem_size-size.result _ (omega
-    arith)
-    c.evictable_for.ensures.least
+returns-clause-evicted c = least_by_walk c.args.self.now (line_of c.args.field.now).field c.mem_size-size.result _
+    (omega arith) c.evictable_for.ensures.least
 
 pub returns-clause-none : goal.returns-clause-none
-returns-clause-none c = no_room_by_walk c.args.self.now (field_of c.args.field.now) c.mem_size-size.result _ (omega
-    arith) (omega arith)
-    (omega arith) c.evictable_for.ensures.held
+returns-clause-none c = no_room_by_walk c.args.self.now (line_of c.args.field.now).field c.mem_size-size.result _
+    (omega arith) (omega arith) (omega arith) c.evictable_for.ensures.held
