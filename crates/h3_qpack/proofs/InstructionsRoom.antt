@@ -2,8 +2,9 @@
 use Rattle.std.proofs.Common.{◌≡◌, ◌+◌, ◌*◌, ◌<◌, ◌≤◌, ◌++◌, ℕ, zero, suc, List, [], ◌∷◌, length}
 use Rattle.std.proofs.Common.{get_or, map, take, vec_len, vec_capacity}
 use Rattle.std.proofs.Common.{Result, Ok, Err, refl, ap, ◌∙◌, sym, arith, length-append}
+use Rattle.std.proofs.lemmas.List.{map-append}
 use Rattle.std.specs.declared.vec.Vec.{Vec}
-use Rattle.qpack_spec.specs.Field.{Field, field_size, total_size}
+use Rattle.qpack_spec.specs.Field.{Field, FieldLine, fields_of_lines, field_size, total_size}
 use Rattle.qpack_spec.specs.Handle.{Insertable, Insertion}
 use Rattle.qpack_spec.specs.Table.{Table}
 use Rattle.qpack_spec.proofs.Sizes.{total_first, total_last}
@@ -66,39 +67,51 @@ grows_on first second both old mid new a b within =
       capacity = omega (arith, a.capacity, b.capacity);
     }
 
-front_smaller : {H : Type 0} (field : H → Field) (xs : List H) (i : ℕ)
-    → total_size (map field (take i xs)) ≤ total_size (map field xs)
-front_smaller field xs zero = omega arith
-front_smaller field [] (suc i) = omega arith
-front_smaller field (x ∷ xs) (suc i) =
+front_smaller : {H : Type 0} (line : H → FieldLine) (xs : List H) (i : ℕ)
+    → total_size (fields_of_lines (map line (take i xs))) ≤ total_size (fields_of_lines (map line xs))
+front_smaller line xs zero = omega arith
+front_smaller line [] (suc i) = omega arith
+front_smaller line (x ∷ xs) (suc i) =
     omega (
       arith,
-      front_smaller field xs i,
-      total_first (field x) (map field (take i xs)),
-      total_first (field x) (map field xs),
+      front_smaller line xs i,
+      total_first (line x).field (fields_of_lines (map line (take i xs))),
+      total_first (line x).field (fields_of_lines (map line xs)),
     )
 
--- a field more
-pub grows_next : {H A : Type 0} (field : H → Field) (xs : List H) (i : ℕ) (x : H) (f : Field) (old mid new : Vec ℕ A)
-    → i < length xs → x ≡ get_or xs i x → f ≡ field x
-    → GrowsWithin (instructions_room (map field (take i xs))) old mid → GrowsWithin (4 * field_size f) mid new
-    → GrowsWithin (instructions_room (map field (take (i + 1) xs))) old new
-grows_next {H = H} field xs i x f old mid new within is lent so_far more =
-    let front : map field (take (i + 1) xs) ≡ map field (take i xs) ++ field x ∷ [] =
-    front_of field xs i x within ∙ ap (λ (y : H). map field (take i xs) ++ field y ∷ []) (sym is) in
-    grows_on (instructions_room (map field (take i xs))) (4 * field_size f)
-    (instructions_room (map field (take (i + 1) xs))) old mid new so_far more
+-- the room of field lines with one more
+room_last : (ls : List FieldLine) (l : FieldLine)
+    → instructions_room (fields_of_lines (ls ++ l ∷ [])) ≡ instructions_room (fields_of_lines ls) + 4 * field_size l.field
+room_last ls l =
+    omega (
+      arith,
+      ap (λ (fs : List Field). total_size fs) (map-append (λ (k : FieldLine). k.field) ls (l ∷ [])),
+      total_last (fields_of_lines ls) l.field,
+    )
+
+-- a field line more
+pub grows_next : {H A : Type 0} (line : H → FieldLine) (xs : List H) (i : ℕ) (x : H) (l : FieldLine)
+    (old mid new : Vec ℕ A) → i < length xs → x ≡ get_or xs i x → l ≡ line x
+    → GrowsWithin (instructions_room (fields_of_lines (map line (take i xs)))) old mid
+    → GrowsWithin (4 * field_size l.field) mid new
+    → GrowsWithin (instructions_room (fields_of_lines (map line (take (i + 1) xs)))) old new
+grows_next {H = H} line xs i x l old mid new within is lent so_far more =
+    let front : map line (take (i + 1) xs) ≡ map line (take i xs) ++ line x ∷ [] =
+    front_of line xs i x within ∙ ap (λ (y : H). map line (take i xs) ++ line y ∷ []) (sym is) in
+    grows_on (instructions_room (fields_of_lines (map line (take i xs)))) (4 * field_size l.field)
+    (instructions_room (fields_of_lines (map line (take (i + 1) xs)))) old mid new so_far more
     (omega (
       arith,
-      ap (λ (fs : List Field). total_size fs) front,
-      total_last (map field (take i xs)) (field x),
-      ap (λ (g : Field). field_size g) lent,
+      ap (λ (ls : List FieldLine). instructions_room (fields_of_lines ls)) front,
+      room_last (map line (take i xs)) (line x),
+      ap (λ (k : FieldLine). field_size k.field) lent,
     ))
 
--- some of the fields take no more than all
-pub grows_front : {H A : Type 0} (field : H → Field) (xs : List H) (i : ℕ) (old new : Vec ℕ A)
-    → GrowsWithin (instructions_room (map field (take i xs))) old new
-    → GrowsWithin (instructions_room (map field xs)) old new
-grows_front field xs i old new so_far =
-    grows_on (instructions_room (map field (take i xs))) 0 (instructions_room (map field xs)) old new new so_far
-    (grows_none 0 new) (omega (arith, front_smaller field xs i))
+-- some of the field lines take no more than all
+pub grows_front : {H A : Type 0} (line : H → FieldLine) (xs : List H) (i : ℕ) (old new : Vec ℕ A)
+    → GrowsWithin (instructions_room (fields_of_lines (map line (take i xs)))) old new
+    → GrowsWithin (instructions_room (fields_of_lines (map line xs))) old new
+grows_front line xs i old new so_far =
+    grows_on (instructions_room (fields_of_lines (map line (take i xs)))) 0
+    (instructions_room (fields_of_lines (map line xs))) old new new so_far (grows_none 0 new)
+    (omega (arith, front_smaller line xs i))

@@ -14,6 +14,7 @@ pub mod Additions
 pub mod Rooms
 pub mod Stills
 pub mod AddedFields
+pub mod MarkedFields
 pub mod InstructionsRoom
 pub mod ReferencedRoom
 pub mod DraftedBlocks

@@ -4,11 +4,12 @@ use Rattle.std.proofs.Common.{sym, ap, ◌∙◌, arith}
 use Rattle.std.specs.Prelude.{◌&&◌}
 use Rattle.std.proofs.lemmas.Bool.{cond_both, and_parts}
 use Rattle.std.proofs.lemmas.List.{drop-map, map-append}
-use Rattle.qpack_spec.specs.Field.{Field, field_size, total_size, is_field, has_name}
+use Rattle.qpack_spec.specs.Field.{Field, FieldLine, field_size, total_size, is_field, has_name}
 use Rattle.qpack_spec.specs.StaticTable.{static_index, static_name_index}
 use Rattle.qpack_spec.specs.Handle.{Lookup, AtStatic, AtRelative, AtPostBase, NotFound, Found, find_field, found_entry}
-use Rattle.qpack_spec.specs.Handle.{found_name, Insertable, insert_field, with_found, by_handle, handle_field}
-use Rattle.qpack_spec.specs.Handle.{handle_fields}
+use Rattle.qpack_spec.specs.Handle.{found_name, found_instead, Insertable, insert_field, with_insertion, with_found}
+use Rattle.qpack_spec.specs.Handle.{by_handle, handle_field}
+use Rattle.qpack_spec.specs.Marked.{handle_line, handle_lines}
 use Rattle.qpack_spec.specs.Reading.{greatest_of}
 use Rattle.qpack_spec.specs.Rule.{Draft}
 use Rattle.qpack_spec.specs.Table.{Table, Entry, fields_in, insert_count, with_reference, with_entry, sent_entry}
@@ -18,7 +19,7 @@ use Rattle.qpack_spec.proofs.Positions.{newest_found}
 use Rattle.qpack_spec.proofs.Sizes.{total_first}
 use Rattle.qpack_spec.proofs.Windows.{eviction_count_fits, size_least}
 use Rattle.qpack_table.proofs.Greatest.{greatest_none}
-use Rattle.h3_qpack.specs.Encoding.{draft_at, draft_of_fields}
+use Rattle.h3_qpack.specs.Encoding.{draft_at, draft_of_lines}
 
 -- the live entries fit so many bytes, and an entry does if one is referenced
 record Fits (most : ℕ) (t : Table) : Type 0 where
@@ -107,19 +108,26 @@ fits_field : (most base : ℕ) (d : Draft) (f : Field) → Fits most d.table →
 unfolding handle_field
 fits_field most base d f k = fits_by_handle most base d f (static_index f) k
 
-fits_fields : (most base : ℕ) (d : Draft) (fs : List Field) → Fits most d.table
-    → Fits most (handle_fields base d fs).table
-fits_fields most base d [] k = k
-fits_fields most base d (f ∷ fs) k = fits_fields most base (handle_field base d f) fs (fits_field most base d f k)
+fits_line : (most base : ℕ) (d : Draft) (l : FieldLine) → Fits most d.table → Fits most (handle_line base d l).table
+fits_line most base d l k =
+    let found = found_instead (found_name d.table base l.field (static_name_index l.field.name)) in
+    cond_both l.never_indexed (with_insertion d l.field found) (handle_field base d l.field)
+    (λ (x : Draft). Fits most x.table) (λ _. fits_name most d.table base l.field (static_name_index l.field.name) k)
+    (λ _. fits_field most base d l.field k)
+
+fits_lines : (most base : ℕ) (d : Draft) (ls : List FieldLine) → Fits most d.table
+    → Fits most (handle_lines base d ls).table
+fits_lines most base d [] k = k
+fits_lines most base d (l ∷ ls) k = fits_lines most base (handle_line base d l) ls (fits_line most base d l k)
 
 -- a block that references an entry has a maximum capacity of 32 at least
-pub room_referenced : (most base : ℕ) (t : Table) (fs : List Field) (new : Table) → t.referenced ≡ []
-    → t.capacity ≤ most → total_size (fields_in t.live) ≤ most → new ≡ (draft_of_fields t base fs).table
+pub room_referenced : (most base : ℕ) (t : Table) (ls : List FieldLine) (new : Table) → t.referenced ≡ []
+    → t.capacity ≤ most → total_size (fields_in t.live) ≤ most → new ≡ (draft_of_lines t base ls).table
     → 0 < greatest_of new.referenced → 32 ≤ most
-room_referenced most base t fs new begins capacity live is =
+room_referenced most base t ls new begins capacity live is =
     let k : Fits most t = record {
       capacity = capacity;
       live = live;
       roomy = λ h. absurd (omega (arith, h, ap greatest_of begins, greatest_none));
     } in
-    rw is ((fits_fields most base (draft_at t) fs k).roomy)
+    rw is ((fits_lines most base (draft_at t) ls k).roomy)

@@ -3,7 +3,7 @@ use Rattle.std.specs.Prelude.{◌≡◌, ℕ, ◌+◌, ◌*◌, ◌≤◌, ◌�
 use Rattle.std.specs.declared.vec.Vec.{Vec}
 use Rattle.std.specs.Borrow.{Bor}
 use Rattle.std.specs.Iterator.{Drains}
-use Rattle.qpack_spec.specs.Field.{Field, total_size}
+use Rattle.qpack_spec.specs.Field.{Field, FieldLine, fields_of_lines, total_size}
 use Rattle.qpack_spec.specs.Instruction.{InsertStaticName, InsertDynamicName, InsertLiteralName, Duplicate}
 use Rattle.qpack_spec.specs.Instruction.{written_encoder_instruction, written_encoder_instructions}
 use Rattle.qpack_spec.specs.Line.{written_lines}
@@ -11,14 +11,15 @@ use Rattle.qpack_spec.specs.BlockReading.{written_block}
 use Rattle.qpack_spec.specs.Table.{Table, without_references}
 use Rattle.qpack_spec.specs.Rule.{Draft, rule, required_insert_count, block_of, committed_table}
 use Rattle.qpack_spec.specs.Handle.{Insertion, Duplicated, InsertedWithStaticName, InsertedWithName, Inserted}
-use Rattle.qpack_spec.specs.Handle.{NotInserted, handle_field, handle_fields}
-use Rattle.qpack_base.specs.HeaderFields.{field_of}
+use Rattle.qpack_spec.specs.Handle.{NotInserted, handle_field}
+use Rattle.qpack_spec.specs.Marked.{marked_rule, written_marked_lines, written_marked_block, handle_line, handle_lines}
+use Rattle.qpack_base.specs.HeaderFields.{DrainsFields}
 use Rattle.qpack_base.specs.declared.field.HeaderField.{HeaderField}
 
--- the iterator gives so many items and ends, and P holds of the list of the fields that they lend
-abbrev pub DrainsFieldsOf : {S H : Type 0} → (H → Field) → (S → Option H → S → Type 0) → S → (List Field → Type 0)
-    → Type 0
-DrainsFieldsOf {H = H} field steps it P = (items : List H) × Drains steps it items × P (map field items)
+-- the iterator gives so many items and ends, and P holds of the list of the field lines that they lend
+abbrev pub DrainsLinesOf : {S H : Type 0} → (H → FieldLine) → (S → Option H → S → Type 0) → S
+    → (List FieldLine → Type 0) → Type 0
+DrainsLinesOf {H = H} line steps it P = (items : List H) × Drains steps it items × P (map line items)
 
 -- the written instruction of an insertion's answer, if it has one
 abbrev pub written_insertion : Field → Insertion → List ℕ
@@ -42,17 +43,19 @@ pub record GrowsWithin {A : Type 0} (room : ℕ) (old new : Vec ℕ A) : Type 0 
   pub still : vec_len old + room ≤ vec_capacity old → vec_capacity new ≡ vec_capacity old
   pub capacity : vec_capacity old ≤ vec_capacity new
 
--- nothing was appended, and the vector was not grown; or that is so within the room of the fields that the iterator
--- gives
-abbrev pub GrowsForFieldsOf : {S H A : Type 0} → (H → Field) → (S → Option H → S → Type 0) → S → Vec ℕ A → Vec ℕ A
+-- nothing was appended, and the vector was not grown; or that is so within the room of the field lines that the
+-- iterator gives
+abbrev pub GrowsForLinesOf : {S H A : Type 0} → (H → FieldLine) → (S → Option H → S → Type 0) → S → Vec ℕ A → Vec ℕ A
     → Type 0
-GrowsForFieldsOf field steps it old new =
-    GrowsWithin 0 old new ⊎ DrainsFieldsOf field steps it (λ fs. GrowsWithin (instructions_room fs) old new)
+GrowsForLinesOf line steps it old new =
+    GrowsWithin 0 old new
+    ⊎ DrainsLinesOf line steps it (λ ls. GrowsWithin (instructions_room (fields_of_lines ls)) old new)
 
 -- the same of references to fields
 abbrev pub GrowsForFields : {S A : Type 0} → (S → Option (Bor HeaderField) → S → Type 0) → S → Vec ℕ A → Vec ℕ A
     → Type 0
-GrowsForFields steps it old new = GrowsForFieldsOf (λ field. field_of field.now) steps it old new
+GrowsForFields steps it old new =
+    GrowsWithin 0 old new ⊎ DrainsFields steps it (λ fs. GrowsWithin (instructions_room fs) old new)
 
 -- ---- one field
 
@@ -77,30 +80,68 @@ StopsAdding d old new written_old written_new =
     ((without_references new ≡ without_references old) × (written_new ≡ written_old))
     ⊎ ((new ≡ d.table) × (written_new ≡ written_old ++ written_encoder_instructions d.instructions))
 
--- what fields make of it, one after the other
-abbrev pub draft_of_fields : Table → ℕ → List Field → Draft
-draft_of_fields t base fs = handle_fields base (draft_at t) fs
+-- ---- field lines
 
--- memory was refused behind some of the fields: but for what is referenced, the table is as behind them, and exactly
--- their instructions were written
-pub record StopsAmong (fields : List Field) (old : Table) (base : ℕ) (new : Table) (written_old written_new : List ℕ) :
-    Type 0
-  where
-    pub many : ℕ
-    pub table : without_references new ≡ without_references (draft_of_fields old base (take many fields)).table
-    pub written : written_new
-        ≡ written_old ++ written_encoder_instructions (draft_of_fields old base (take many fields)).instructions
+-- what one field line makes of it
+abbrev pub draft_of_line : Table → ℕ → FieldLine → Draft
+draft_of_line t base l = handle_line base (draft_at t) l
+
+-- what field lines make of it, one after the other
+abbrev pub draft_of_lines : Table → ℕ → List FieldLine → Draft
+draft_of_lines t base ls = handle_lines base (draft_at t) ls
+
+-- the table is the draft's, and exactly the lines of these field lines and its instructions were written
+pub record AddsLines (ls : List FieldLine) (d : Draft) (new : Table) (lines_old lines_new written_old written_new :
+    List ℕ) : Type 0 where
+  pub table : new ≡ d.table
+  pub lines : lines_new ≡ lines_old ++ written_marked_lines ls d.lines
+  pub written : written_new ≡ written_old ++ written_encoder_instructions d.instructions
+
+-- memory was refused behind some of the field lines: but for what is referenced, the table is as behind them, and
+-- exactly their instructions were written
+pub record StopsAmong (fields : List FieldLine) (old : Table) (base : ℕ) (new : Table) (written_old written_new :
+    List ℕ) : Type 0 where
+  pub many : ℕ
+  pub table : without_references new ≡ without_references (draft_of_lines old base (take many fields)).table
+  pub written : written_new
+      ≡ written_old ++ written_encoder_instructions (draft_of_lines old base (take many fields)).instructions
 
 -- ---- a block
 
--- the block of the fields was written, and is not ended: its bytes and its instructions are the rule's, the table is
--- the rule's behind its lines, and what is answered is its required insert count
-pub record DraftsBlock (fields : List Field) (old new : Table) (block_old block_new written_old written_new : List ℕ)
-    (required : ℕ) : Type 0 where
-  pub required_is : required ≡ required_insert_count (rule old fields)
-  pub table : new ≡ (rule old fields).table
-  pub block : block_new ≡ block_old ++ written_block (block_of old (rule old fields))
-  pub written : written_new ≡ written_old ++ written_encoder_instructions (rule old fields).instructions
+-- the block of the field lines was written, and is not ended: its bytes and its instructions are the rule's, the table
+-- is the rule's behind its lines, and what is answered is its required insert count
+pub record DraftsBlock (fields : List FieldLine) (old new : Table) (block_old block_new written_old written_new :
+    List ℕ) (required : ℕ) : Type 0 where
+  pub required_is : required ≡ required_insert_count (marked_rule old fields)
+  pub table : new ≡ (marked_rule old fields).table
+  pub block : block_new ≡ block_old ++ written_marked_block fields (block_of old (marked_rule old fields))
+  pub written : written_new ≡ written_old ++ written_encoder_instructions (marked_rule old fields).instructions
+
+-- the block of the field lines was written: its bytes and its instructions are the rule's, the table is the rule's
+-- behind the block, and what is answered is its required insert count
+pub record EncodesLines (stream : ℕ) (fields : List FieldLine) (old new : Table) (block_old block_new written_old
+    written_new : List ℕ) (required : ℕ) : Type 0 where
+  pub required_is : required ≡ required_insert_count (marked_rule old fields)
+  pub table : new ≡ committed_table (marked_rule old fields) stream
+  pub block : block_new ≡ block_old ++ written_marked_block fields (block_of old (marked_rule old fields))
+  pub written : written_new ≡ written_old ++ written_encoder_instructions (marked_rule old fields).instructions
+
+-- the block was given up behind some of the field lines: their insertions stand and were written, and nothing is
+-- referenced
+pub record GivesUpLines (fields : List FieldLine) (old new : Table) (written_old written_new : List ℕ) : Type 0 where
+  pub many : ℕ
+  pub table : new ≡ without_references (marked_rule old (take many fields)).table
+  pub written : written_new
+      ≡ written_old ++ written_encoder_instructions (marked_rule old (take many fields)).instructions
+
+-- memory was refused: before the field lines were gathered, and then nothing was inserted; or behind some of them
+abbrev pub StopsEncodingLinesOf : {S H : Type 0} → (H → FieldLine) → (S → Option H → S → Type 0) → S → Table → Table
+    → List ℕ → List ℕ → Type 0
+StopsEncodingLinesOf line steps it old new written_old written_new =
+    GivesUpLines [] old new written_old written_new
+    ⊎ DrainsLinesOf line steps it (λ ls. GivesUpLines ls old new written_old written_new)
+
+-- ---- a block of fields none of which is marked
 
 -- the block of the fields was written: its bytes and its instructions are the rule's, the table is the rule's behind
 -- the block, and what is answered is its required insert count
@@ -118,14 +159,8 @@ pub record GivesUpBlock (fields : List Field) (old new : Table) (written_old wri
   pub written : written_new ≡ written_old ++ written_encoder_instructions (rule old (take many fields)).instructions
 
 -- memory was refused: before the fields were gathered, and then nothing was inserted; or behind some of the fields
-abbrev pub StopsEncodingOf : {S H : Type 0} → (H → Field) → (S → Option H → S → Type 0) → S → Table → Table → List ℕ
-    → List ℕ → Type 0
-StopsEncodingOf field steps it old new written_old written_new =
-    GivesUpBlock [] old new written_old written_new
-    ⊎ DrainsFieldsOf field steps it (λ fs. GivesUpBlock fs old new written_old written_new)
-
--- the same of references to fields
 abbrev pub StopsEncoding : {S : Type 0} → (S → Option (Bor HeaderField) → S → Type 0) → S → Table → Table → List ℕ
     → List ℕ → Type 0
 StopsEncoding steps it old new written_old written_new =
-    StopsEncodingOf (λ field. field_of field.now) steps it old new written_old written_new
+    GivesUpBlock [] old new written_old written_new
+    ⊎ DrainsFields steps it (λ fs. GivesUpBlock fs old new written_old written_new)

@@ -7,11 +7,14 @@ use Rattle.qpack_spec.specs.Field.{Field, FieldLine, has_name, is_field, unmarke
 use Rattle.qpack_spec.specs.Handle.{found_name, found_instead, with_insertion, handle_field}
 use Rattle.qpack_spec.specs.Line.{Line, IndexedStatic, IndexedDynamic, IndexedPostBase, NamedStatic, NamedDynamic}
 use Rattle.qpack_spec.specs.Line.{NamedPostBase, Literal, written_line, written_lines, written_marked_line}
+use Rattle.qpack_spec.specs.Marked.{stateless_line_marked}
 use Rattle.qpack_spec.specs.Marked.{marked_field, marked_fields, marked_rule, written_marked_lines, handle_line}
 use Rattle.qpack_spec.specs.Marked.{handle_lines, HandleIsTheMarkedRule, IsTheRuleUnmarked, MarkedLinesAreOfFields}
+use Rattle.qpack_spec.specs.Reading.{Block}
 use Rattle.qpack_spec.specs.Rule.{Draft, with_line, with_referencing_line, with_new_entry, name_reference_line}
 use Rattle.qpack_spec.specs.Rule.{literal_by_entry, literal, insertion_or_literal, by_entry, by_static, rule_field}
 use Rattle.qpack_spec.specs.Rule.{rule_fields, empty_draft, rule}
+use Rattle.qpack_spec.specs.Stateless.{stateless_line}
 use Rattle.qpack_spec.specs.StaticTable.{static_index, static_name_index}
 use Rattle.qpack_spec.specs.Table.{Table, insert_count, newest_index, may_reference, below_limit, has_room}
 use Rattle.qpack_spec.proofs.Handles.{NamesAbove, name_literal, handle_same, above_name, above_field, none_above}
@@ -72,11 +75,20 @@ unmarked_lines (f ∷ fs) (l ∷ ls) =
     ap (λ (x : List ℕ). x ++ written_marked_lines (map unmarked fs) ls) (unmarked_line l)
     ∙ ap (λ (x : List ℕ). written_line l ++ x) (unmarked_lines fs ls)
 
+stateless_unmarked : (fs : List Field)
+    → map (λ l. stateless_line_marked l) (map unmarked fs) ≡ map (λ f. stateless_line f) fs
+stateless_unmarked [] = refl
+stateless_unmarked (f ∷ fs) = ap (λ (ls : List Line). stateless_line f ∷ ls) (stateless_unmarked fs)
+
 pub is_rule_unmarked : (t : Table) (fs : List Field) → IsTheRuleUnmarked t fs
 unfolding marked_rule rule
 is_rule_unmarked t fs = record {
   draft = unmarked_fields (insert_count t) (empty_draft t) fs;
   lines = unmarked_lines fs;
+  stateless = ap (λ (ls : List Line). let b : Block = record {
+    prefix = record { count = 0; sign = false; delta = 0 };
+    lines = ls;
+  } in b) (stateless_unmarked fs);
 }
 
 -- ---- a line for each field

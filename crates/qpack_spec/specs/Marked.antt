@@ -1,12 +1,13 @@
 -- How the encoder writes a field section some of whose fields are marked as never to be indexed (RFC 9204, section
 -- 7.1.3): a marked field is a literal that asks to stay one, and any other field is as the rule has it.
-use Rattle.std.specs.Prelude.{◌≡◌, ℕ, if◌then◌else◌, List, [], ◌∷◌, ◌++◌, length, map}
+use Rattle.std.specs.Prelude.{◌≡◌, ℕ, false, if◌then◌else◌, List, [], ◌∷◌, ◌++◌, length, map}
 use Rattle.qpack_spec.specs.Field.{Field, FieldLine, unmarked}
 use Rattle.qpack_spec.specs.Handle.{found_name, found_instead, with_insertion, handle_field}
 use Rattle.qpack_spec.specs.Line.{Line, written_lines, written_marked_line}
 use Rattle.qpack_spec.specs.Prefix.{written_prefix}
 use Rattle.qpack_spec.specs.Reading.{Block}
 use Rattle.qpack_spec.specs.Rule.{Draft, literal, rule_field, empty_draft, rule}
+use Rattle.qpack_spec.specs.Stateless.{stateless_literal, stateless_line, stateless_block}
 use Rattle.qpack_spec.specs.StaticTable.{static_name_index}
 use Rattle.qpack_spec.specs.Table.{Table, insert_count}
 
@@ -34,6 +35,18 @@ written_marked_lines fs ls = written_lines ls
 unfoldable pub written_marked_block : List FieldLine → Block → List ℕ
 written_marked_block fs b = written_prefix b.prefix ++ written_marked_lines fs b.lines
 
+-- ---- where no entry is at hand
+
+-- the line of a field: a marked one is a literal, by the least static field of its name
+abbrev pub stateless_line_marked : FieldLine → Line
+stateless_line_marked l =
+    if l.never_indexed then stateless_literal l.field (static_name_index l.field.name) else stateless_line l.field
+
+-- the block of fields: nothing is required
+abbrev pub stateless_block_marked : List FieldLine → Block
+stateless_block_marked ls =
+    record { prefix = record { count = 0; sign = false; delta = 0 }; lines = map (λ l. stateless_line_marked l) ls }
+
 -- ---- the encoder's steps
 
 -- one field: the name of a marked one is found, any other is handled
@@ -56,10 +69,11 @@ abbrev pub HandleIsTheMarkedRule : Type 0
 HandleIsTheMarkedRule =
     (t : Table) (ls : List FieldLine) → handle_lines (insert_count t) (empty_draft t) ls ≡ marked_rule t ls
 
--- where no field is marked it is the rule, and the lines are written as ever
+-- where no field is marked it is the rule, the lines are written as ever, and so is a block where no entry is at hand
 pub record IsTheRuleUnmarked (t : Table) (fs : List Field) : Type 0 where
   pub draft : marked_rule t (map unmarked fs) ≡ rule t fs
   pub lines : (ls : List Line) → written_marked_lines (map unmarked fs) ls ≡ written_lines ls
+  pub stateless : stateless_block_marked (map unmarked fs) ≡ stateless_block fs
 
 -- a block has a line for each of its fields
 abbrev pub MarkedLinesAreOfFields : Type 0

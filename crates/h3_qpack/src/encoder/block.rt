@@ -3,16 +3,17 @@
 
 ghost use Rattle.std.specs.Prelude.{◌≡◌, ◌≤◌, [], ◌++◌, map, take, drop, IfOk, IfErr, OnOk, OnErr, vec_len};
 ghost use Rattle.std.specs.Prelude.{vec_capacity};
+ghost use Rattle.qpack_spec.specs.Field.{fields_of_lines};
 ghost use Rattle.qpack_spec.specs.Prefix.{written_prefix};
 ghost use Rattle.qpack_spec.specs.Table.{insert_count, without_references};
 ghost use Rattle.qpack_wire.specs.Prefixes.{prefix_of};
-ghost use Rattle.h3_qpack.specs.Encoding.{Adds, StopsAmong, draft_of_fields, DraftsBlock};
-ghost use Rattle.h3_qpack.specs.Encoding.{GivesUpBlock, GrowsWithin, instructions_room};
+ghost use Rattle.h3_qpack.specs.Encoding.{AddsLines, StopsAmong, draft_of_lines, DraftsBlock};
+ghost use Rattle.h3_qpack.specs.Encoding.{GivesUpLines, GrowsWithin, instructions_room};
 ghost use Rattle.h3_qpack.specs.declared.encoder.EncoderError.TheVariants.{Memory};
 
 use crate::encoder::EncoderError;
 use crate::encoder::as_field::AsField;
-use crate::encoder::fields::append_field;
+use crate::encoder::fields::append_field_line;
 use qpack_base::coding::NoMemory;
 use qpack_table::dynamic::DynamicTableEncoder;
 use qpack_wire::block::HeaderPrefix;
@@ -31,16 +32,16 @@ pub(super) fn append_block<A: Allocator, B: Allocator, H: AsField>(
     requires begins { handle.old.table.now.referenced ≡ [] }
     ensures same_table { handle.new.table.ghost_name ≡ handle.old.table.ghost_name }
     ensures stream { handle.new.stream_id ≡ handle.old.stream_id }
-    ensures ok { IfOk result (λ required. DraftsBlock (map H.field fields.now) handle.old.table.now
+    ensures ok { IfOk result (λ required. DraftsBlock (map H.line fields.now) handle.old.table.now
         handle.new.table.now block.old.items block.new.items encoder_buf.old.items encoder_buf.new.items required) }
-    ensures err { OnErr result (GivesUpBlock (map H.field fields.now) handle.old.table.now
+    ensures err { OnErr result (GivesUpLines (map H.line fields.now) handle.old.table.now
         (without_references handle.new.table.now) encoder_buf.old.items encoder_buf.new.items) }
     ensures as_before { OnErr result (take (vec_len block.old) block.new.items ≡ block.old.items) }
     ensures memory { IfErr result (λ e. e ≡ Memory) }
     ensures capacity { vec_capacity block.old ≤ vec_capacity block.new }
     ensures still { OnOk result
         (vec_len block.new ≤ vec_capacity block.old → vec_capacity block.new ≡ vec_capacity block.old) }
-    ensures instructions { GrowsWithin (instructions_room (map H.field fields.now)) encoder_buf.old encoder_buf.new }
+    ensures instructions { GrowsWithin (instructions_room (fields_of_lines (map H.line fields.now))) encoder_buf.old encoder_buf.new }
 {
     let max = handle.agreed_max();
     let len = block.len();
@@ -62,19 +63,19 @@ fn append_fields<A: Allocator, B: Allocator, H: AsField>(
     ensures same_table { handle.new.table.ghost_name ≡ handle.old.table.ghost_name }
     ensures stream { handle.new.stream_id ≡ handle.old.stream_id }
     ensures base { handle.new.base ≡ handle.old.base }
-    ensures ok { OnOk result (Adds (draft_of_fields handle.old.table.now handle.old.base (map H.field fields.now))
+    ensures ok { OnOk result (AddsLines (map H.line fields.now) (draft_of_lines handle.old.table.now handle.old.base (map H.line fields.now))
         handle.new.table.now lines.old.items lines.new.items encoder_buf.old.items encoder_buf.new.items) }
-    ensures err { OnErr result (StopsAmong (map H.field fields.now) handle.old.table.now handle.old.base
+    ensures err { OnErr result (StopsAmong (map H.line fields.now) handle.old.table.now handle.old.base
         handle.new.table.now encoder_buf.old.items encoder_buf.new.items) }
     ensures as_before { OnErr result (take (vec_len lines.old) lines.new.items ≡ lines.old.items) }
     ensures memory { IfErr result (λ e. e ≡ Memory) }
     ensures capacity { vec_capacity lines.old ≤ vec_capacity lines.new }
     ensures still { OnOk result
         (vec_len lines.new ≤ vec_capacity lines.old → vec_capacity lines.new ≡ vec_capacity lines.old) }
-    ensures instructions { GrowsWithin (instructions_room (map H.field fields.now)) encoder_buf.old encoder_buf.new }
+    ensures instructions { GrowsWithin (instructions_room (fields_of_lines (map H.line fields.now))) encoder_buf.old encoder_buf.new }
 {
     for field in fields {
-        append_field(handle, field.as_field(), lines, encoder_buf)?;
+        append_field_line(handle, &field.as_field(), lines, encoder_buf)?;
     }
     Ok(())
 }

@@ -1,21 +1,22 @@
 //! The fields of a block, one by one: a line for each, and an instruction for each that is inserted (RFC 9204, section
 //! 2.1).
 
-ghost use Rattle.std.specs.Prelude.{◌≡◌, ◌*◌, ◌≤◌, length, take, IfErr, OnOk, OnErr, vec_len, vec_capacity};
+ghost use Rattle.std.specs.Prelude.{◌≡◌, ◌*◌, ◌≤◌, [], ◌∷◌, false, length, take, IfErr, OnOk, OnErr, vec_len, vec_capacity};
 ghost use Rattle.qpack_spec.specs.Field.{field_size};
 ghost use Rattle.qpack_spec.specs.Handle.{insert_field, with_insertion, with_found, find_field};
 ghost use Rattle.qpack_spec.specs.Handle.{line_of as line_of_insertion, literal_at};
-ghost use Rattle.qpack_spec.specs.Line.{written_line};
-ghost use Rattle.qpack_base.specs.HeaderFields.{field_of};
+ghost use Rattle.qpack_spec.specs.Line.{written_line, written_marked_line};
+ghost use Rattle.qpack_base.specs.HeaderFields.{line_of};
 ghost use Rattle.qpack_base.specs.Writes.{Writes};
 ghost use Rattle.qpack_base.specs.declared.prefix_string.Error.TheVariants.{Memory as NoRoom};
 ghost use Rattle.qpack_table.specs.Handles.{insertion_of, lookup_of};
 ghost use Rattle.h3_qpack.specs.Encoding.{written_insertion, draft_at, draft_of_field, Adds, GrowsWithin, StopsAdding};
+ghost use Rattle.h3_qpack.specs.Encoding.{draft_of_line, AddsLines};
 ghost use Rattle.h3_qpack.specs.declared.encoder.EncoderError.TheVariants.{Memory};
 
 use crate::encoder::EncoderError;
 use crate::encoder::room::make_room;
-use qpack_base::field::HeaderField;
+use qpack_base::field::FieldLine;
 use qpack_base::prefix_string;
 use qpack_base::static_::StaticTable;
 use qpack_table::dynamic::{DynamicInsertionResult, DynamicLookupResult, DynamicTableEncoder};
@@ -25,33 +26,65 @@ use qpack_wire::block::{
 use qpack_wire::stream::{Duplicate, InsertWithNameRef, InsertWithoutNameRef};
 use std::alloc::Allocator;
 
-/// Adds a field to a block in progress: the first that applies of an equal static field, the newest equal entry, an
-/// insertion and a literal. Refused, which is for memory alone, either the entry was not inserted and no instruction
-/// is written, or it was and its instruction is.
-pub(super) fn append_field<A: Allocator, B: Allocator>(
+/// Adds a field line to a block in progress: a literal, if it is never to be indexed, and else as `append_field` does.
+/// Refused, which is for memory alone, either nothing was inserted and no instruction is written, or an entry was and
+/// its instruction is.
+pub(super) fn append_field_line<A: Allocator, B: Allocator>(
     block: &mut DynamicTableEncoder<'_>,
-    field: &HeaderField,
+    field: &FieldLine<'_>,
     lines: &mut Vec<u8, A>,
     encoder_buf: &mut Vec<u8, B>,
 ) -> Result<(), EncoderError>
     ensures same_table { block.new.table.ghost_name ≡ block.old.table.ghost_name }
     ensures stream { block.new.stream_id ≡ block.old.stream_id }
     ensures base { block.new.base ≡ block.old.base }
-    ensures ok { OnOk result (Adds (draft_of_field block.old.table.now block.old.base (field_of field.now))
+    ensures ok { OnOk result (AddsLines (line_of field.now ∷ [])
+        (draft_of_line block.old.table.now block.old.base (line_of field.now))
         block.new.table.now lines.old.items lines.new.items encoder_buf.old.items encoder_buf.new.items) }
-    ensures err { OnErr result (StopsAdding (draft_of_field block.old.table.now block.old.base (field_of field.now))
+    ensures err { OnErr result (StopsAdding (draft_of_line block.old.table.now block.old.base (line_of field.now))
         block.old.table.now block.new.table.now encoder_buf.old.items encoder_buf.new.items) }
     ensures as_before { OnErr result (take (vec_len lines.old) lines.new.items ≡ lines.old.items) }
     ensures memory { IfErr result (λ e. e ≡ Memory) }
     ensures capacity { vec_capacity lines.old ≤ vec_capacity lines.new }
     ensures still { OnOk result
         (vec_len lines.new ≤ vec_capacity lines.old → vec_capacity lines.new ≡ vec_capacity lines.old) }
-    ensures instructions { GrowsWithin (4 * field_size (field_of field.now)) encoder_buf.old encoder_buf.new }
+    ensures instructions { GrowsWithin (4 * field_size (line_of field.now).field) encoder_buf.old encoder_buf.new }
 {
-    if let Some(index) = StaticTable::find(field) {
+    if field.never_indexed {
+        let lookup = block.find_line_name(field)?;
+        return Ok(append_literal(field, lookup, lines)?);
+    }
+    append_field(block, field, lines, encoder_buf)
+}
+
+/// Adds a field to a block in progress: the first that applies of an equal static field, the newest equal entry, an
+/// insertion and a literal. Refused, which is for memory alone, either the entry was not inserted and no instruction
+/// is written, or it was and its instruction is.
+fn append_field<A: Allocator, B: Allocator>(
+    block: &mut DynamicTableEncoder<'_>,
+    field: &FieldLine<'_>,
+    lines: &mut Vec<u8, A>,
+    encoder_buf: &mut Vec<u8, B>,
+) -> Result<(), EncoderError>
+    requires unmarked { field.now.never_indexed ≡ false }
+    ensures same_table { block.new.table.ghost_name ≡ block.old.table.ghost_name }
+    ensures stream { block.new.stream_id ≡ block.old.stream_id }
+    ensures base { block.new.base ≡ block.old.base }
+    ensures ok { OnOk result (Adds (draft_of_field block.old.table.now block.old.base (line_of field.now).field)
+        block.new.table.now lines.old.items lines.new.items encoder_buf.old.items encoder_buf.new.items) }
+    ensures err { OnErr result (StopsAdding (draft_of_field block.old.table.now block.old.base (line_of field.now).field)
+        block.old.table.now block.new.table.now encoder_buf.old.items encoder_buf.new.items) }
+    ensures as_before { OnErr result (take (vec_len lines.old) lines.new.items ≡ lines.old.items) }
+    ensures memory { IfErr result (λ e. e ≡ Memory) }
+    ensures capacity { vec_capacity lines.old ≤ vec_capacity lines.new }
+    ensures still { OnOk result
+        (vec_len lines.new ≤ vec_capacity lines.old → vec_capacity lines.new ≡ vec_capacity lines.old) }
+    ensures instructions { GrowsWithin (4 * field_size (line_of field.now).field) encoder_buf.old encoder_buf.new }
+{
+    if let Some(index) = StaticTable::find_line(field) {
         return Ok(Indexed::Static(index).encode(lines)?);
     }
-    if let DynamicLookupResult::Relative { index, .. } = block.find(field)? {
+    if let DynamicLookupResult::Relative { index, .. } = block.find_line(field)? {
         return Ok(Indexed::Dynamic(index).encode(lines)?);
     }
     append_insertion(block, field, lines, encoder_buf)
@@ -60,38 +93,39 @@ pub(super) fn append_field<A: Allocator, B: Allocator>(
 /// Inserts a field, or writes it as a literal. Room for the instruction is made before the insertion.
 fn append_insertion<A: Allocator, B: Allocator>(
     block: &mut DynamicTableEncoder<'_>,
-    field: &HeaderField,
+    field: &FieldLine<'_>,
     lines: &mut Vec<u8, A>,
     encoder_buf: &mut Vec<u8, B>,
 ) -> Result<(), EncoderError>
+    requires unmarked { field.now.never_indexed ≡ false }
     ensures same_table { block.new.table.ghost_name ≡ block.old.table.ghost_name }
     ensures stream { block.new.stream_id ≡ block.old.stream_id }
     ensures base { block.new.base ≡ block.old.base }
-    ensures ok { OnOk result (Adds (with_insertion (draft_at block.old.table.now) (field_of field.now)
-        (insert_field block.old.table.now block.old.base (field_of field.now)))
+    ensures ok { OnOk result (Adds (with_insertion (draft_at block.old.table.now) (line_of field.now).field
+        (insert_field block.old.table.now block.old.base (line_of field.now).field))
         block.new.table.now lines.old.items lines.new.items encoder_buf.old.items encoder_buf.new.items) }
-    ensures err { OnErr result (StopsAdding (with_insertion (draft_at block.old.table.now) (field_of field.now)
-        (insert_field block.old.table.now block.old.base (field_of field.now)))
+    ensures err { OnErr result (StopsAdding (with_insertion (draft_at block.old.table.now) (line_of field.now).field
+        (insert_field block.old.table.now block.old.base (line_of field.now).field))
         block.old.table.now block.new.table.now encoder_buf.old.items encoder_buf.new.items) }
     ensures as_before { OnErr result (take (vec_len lines.old) lines.new.items ≡ lines.old.items) }
     ensures memory { IfErr result (λ e. e ≡ Memory) }
     ensures capacity { vec_capacity lines.old ≤ vec_capacity lines.new }
     ensures still { OnOk result
         (vec_len lines.new ≤ vec_capacity lines.old → vec_capacity lines.new ≡ vec_capacity lines.old) }
-    ensures instructions { GrowsWithin (4 * field_size (field_of field.now)) encoder_buf.old encoder_buf.new }
+    ensures instructions { GrowsWithin (4 * field_size (line_of field.now).field) encoder_buf.old encoder_buf.new }
 {
     make_room(encoder_buf, instruction_room(block, field))?;
-    let insertion = block.insert(field)?;
+    let insertion = block.insert_line(field)?;
     write_instruction(field, &insertion, encoder_buf)?;
     Ok(append_inserted(field, insertion, lines)?)
 }
 
 /// As many bytes as the instruction of this field takes, if it is inserted: four for each byte of the entry's size hold
 /// its numbers and its coded strings.
-fn instruction_room(block: &DynamicTableEncoder<'_>, field: &HeaderField) -> usize
-    ensures enough { length (written_insertion (field_of field.now)
-        (insert_field block.now.table.now block.now.base (field_of field.now)).insertion) ≤ result }
-    ensures most { result ≤ 4 * field_size (field_of field.now) }
+fn instruction_room(block: &DynamicTableEncoder<'_>, field: &FieldLine<'_>) -> usize
+    ensures enough { length (written_insertion (line_of field.now).field
+        (insert_field block.now.table.now block.now.base (line_of field.now).field).insertion) ≤ result }
+    ensures most { result ≤ 4 * field_size (line_of field.now).field }
 {
     let size = field.mem_size();
     if size > block.max_size() {
@@ -102,15 +136,15 @@ fn instruction_room(block: &DynamicTableEncoder<'_>, field: &HeaderField) -> usi
 
 /// Appends the instruction of an insertion. Refused, which is for memory alone, the vector is as before.
 fn write_instruction<A: Allocator>(
-    field: &HeaderField,
+    field: &FieldLine<'_>,
     insertion: &DynamicInsertionResult,
     buf: &mut Vec<u8, A>,
 ) -> Result<(), prefix_string::Error>
-    ensures writes { Writes (written_insertion (field_of field.now) (insertion_of insertion.now)) buf.old buf.new
+    ensures writes { Writes (written_insertion (line_of field.now).field (insertion_of insertion.now)) buf.old buf.new
         result }
     ensures memory { IfErr result (λ e. e ≡ NoRoom) }
 {
-    let value = field.value.as_slice();
+    let value = field.value;
     match *insertion {
         DynamicInsertionResult::Duplicated { relative, .. } => Ok(Duplicate(relative).encode(buf)?),
         DynamicInsertionResult::InsertedWithStaticNameRef { index, .. } => {
@@ -120,7 +154,7 @@ fn write_instruction<A: Allocator>(
             InsertWithNameRef::write_dynamic(relative, value, buf)
         }
         DynamicInsertionResult::Inserted { .. } => {
-            InsertWithoutNameRef::write(field.name.as_slice(), value, buf)
+            InsertWithoutNameRef::write(field.name, value, buf)
         }
         DynamicInsertionResult::NotInserted(_) => Ok(()),
     }
@@ -129,11 +163,12 @@ fn write_instruction<A: Allocator>(
 /// Appends the line of a field that was inserted, or was not. Refused, which is for memory alone, the vector is as
 /// before.
 fn append_inserted<A: Allocator>(
-    field: &HeaderField,
+    field: &FieldLine<'_>,
     insertion: DynamicInsertionResult,
     buf: &mut Vec<u8, A>,
 ) -> Result<(), prefix_string::Error>
-    ensures writes { Writes (written_line (line_of_insertion (field_of field.now) (insertion_of insertion))) buf.old
+    requires unmarked { field.now.never_indexed ≡ false }
+    ensures writes { Writes (written_line (line_of_insertion (line_of field.now).field (insertion_of insertion))) buf.old
         buf.new result }
     ensures memory { IfErr result (λ e. e ≡ NoRoom) }
 {
@@ -150,22 +185,27 @@ fn append_inserted<A: Allocator>(
 
 /// Appends a literal, by where its name was found. Refused, which is for memory alone, the vector is as before.
 fn append_literal<A: Allocator>(
-    field: &HeaderField,
+    field: &FieldLine<'_>,
     lookup: DynamicLookupResult,
     buf: &mut Vec<u8, A>,
 ) -> Result<(), prefix_string::Error>
-    ensures writes { Writes (written_line (literal_at (field_of field.now) (lookup_of lookup))) buf.old buf.new result }
+    ensures writes { Writes (written_marked_line field.now.never_indexed
+        (literal_at (line_of field.now).field (lookup_of lookup))) buf.old buf.new result }
     ensures memory { IfErr result (λ e. e ≡ NoRoom) }
 {
-    let value = field.value.as_slice();
+    let (value, never_indexed) = (field.value, field.never_indexed);
     match lookup {
-        DynamicLookupResult::Static(index) => LiteralWithNameRef::write_static(index, value, buf),
+        DynamicLookupResult::Static(index) => {
+            LiteralWithNameRef::write_static_marked(index, value, never_indexed, buf)
+        }
         DynamicLookupResult::Relative { index, .. } => {
-            LiteralWithNameRef::write_dynamic(index, value, buf)
+            LiteralWithNameRef::write_dynamic_marked(index, value, never_indexed, buf)
         }
         DynamicLookupResult::PostBase { index, .. } => {
-            LiteralWithPostBaseNameRef::write(index, value, buf)
+            LiteralWithPostBaseNameRef::write_marked(index, value, never_indexed, buf)
         }
-        DynamicLookupResult::NotFound => Literal::write(field.name.as_slice(), value, buf),
+        DynamicLookupResult::NotFound => {
+            Literal::write_marked(field.name, value, never_indexed, buf)
+        }
     }
 }

@@ -2,9 +2,10 @@
 
 ghost use Rattle.std.specs.Prelude.{◌≡◌, ◌≤◌, map, Ok, IfOk, IfErr, OnOk, OnErr, vec_len, vec_capacity};
 ghost use Rattle.std.specs.Iterator.{IsFinite, Drains};
+ghost use Rattle.qpack_spec.specs.Field.{fields_of_lines};
 ghost use Rattle.qpack_spec.specs.Table.{Table, commit, without_references};
-ghost use Rattle.h3_qpack.specs.Encoding.{DrainsFieldsOf, EncodesBlock, GivesUpBlock, StopsEncodingOf};
-ghost use Rattle.h3_qpack.specs.Encoding.{GrowsForFieldsOf, GrowsWithin, instructions_room};
+ghost use Rattle.h3_qpack.specs.Encoding.{DrainsLinesOf, EncodesLines, GivesUpLines, StopsEncodingLinesOf};
+ghost use Rattle.h3_qpack.specs.Encoding.{GrowsForLinesOf, GrowsWithin, instructions_room};
 ghost use Rattle.h3_qpack.specs.declared.encoder.EncoderError.TheVariants.{Memory};
 
 use crate::encoder::EncoderError;
@@ -31,16 +32,16 @@ pub trait WritesSections {
         encoder_buf: &mut Vec<u8, B>,
         fields: &[H],
     ) -> Result<usize, EncoderError>
-        ensures ok { IfOk result (λ required. EncodesBlock stream_id (map H.field fields.now) (table self.old)
+        ensures ok { IfOk result (λ required. EncodesLines stream_id (map H.line fields.now) (table self.old)
             (table self.new) block.old.items block.new.items encoder_buf.old.items encoder_buf.new.items required) }
-        ensures err { OnErr result (GivesUpBlock (map H.field fields.now) (table self.old) (table self.new)
+        ensures err { OnErr result (GivesUpLines (map H.line fields.now) (table self.old) (table self.new)
             encoder_buf.old.items encoder_buf.new.items) }
         ensures as_before { OnErr result (block.new.items ≡ block.old.items) }
         ensures memory { IfErr result (λ e. e ≡ Memory) }
         ensures capacity { vec_capacity block.old ≤ vec_capacity block.new }
         ensures still { OnOk result
             (vec_len block.new ≤ vec_capacity block.old → vec_capacity block.new ≡ vec_capacity block.old) }
-        ensures instructions { GrowsWithin (instructions_room (map H.field fields.now)) encoder_buf.old
+        ensures instructions { GrowsWithin (instructions_room (fields_of_lines (map H.line fields.now))) encoder_buf.old
             encoder_buf.new };
 
     /// Gives the block in progress up: what it references is referenced no more.
@@ -123,17 +124,17 @@ pub(super) fn encode_items<
 ) -> Result<usize, EncoderError>
     requires can { T.can_next fields }
     requires ends { IsFinite (T.remaining fields) }
-    ensures ok { IfOk result (λ required. DrainsFieldsOf H.field T.next_gives fields (λ fs. EncodesBlock stream_id fs
+    ensures ok { IfOk result (λ required. DrainsLinesOf H.line T.next_gives fields (λ fs. EncodesLines stream_id fs
         (D.table table.old) (D.table table.new) block.old.items block.new.items encoder_buf.old.items
         encoder_buf.new.items required)) }
-    ensures err { OnErr result (StopsEncodingOf H.field T.next_gives fields (D.table table.old) (D.table table.new)
+    ensures err { OnErr result (StopsEncodingLinesOf H.line T.next_gives fields (D.table table.old) (D.table table.new)
         encoder_buf.old.items encoder_buf.new.items) }
     ensures as_before { OnErr result (block.new.items ≡ block.old.items) }
     ensures memory { IfErr result (λ e. e ≡ Memory) }
     ensures capacity { vec_capacity block.old ≤ vec_capacity block.new }
     ensures still { OnOk result
         (vec_len block.new ≤ vec_capacity block.old → vec_capacity block.new ≡ vec_capacity block.old) }
-    ensures instructions { GrowsForFieldsOf H.field T.next_gives fields encoder_buf.old encoder_buf.new }
+    ensures instructions { GrowsForLinesOf H.line T.next_gives fields encoder_buf.old encoder_buf.new }
 {
     match gather(table.memory(), fields) {
         Ok(gathered) => table.write_section(stream_id, block, encoder_buf, &gathered),

@@ -9,14 +9,14 @@ pub returns-in_err-append_fields-clause-err : goal.returns-in_err-append_fields-
 returns-in_err-append_fields-clause-err g c =
     let p = err_from_is_err_and c.from_residual.result c.from_residual.ensures.1 in
     rw p.1
-    (gives_up c.args.handle.now.table.now c.args.handle.now.base (map g.H.AsField.field c.args.fields.now)
+    (gives_up c.args.handle.now.table.now c.args.handle.now.base (map g.H.AsField.line c.args.fields.now)
     c.append_fields.new.handle.table.now c.args.encoder_buf.now.items c.append_fields.new.encoder_buf.items
     c.requires.begins c.requires.base c.in_err-append_fields.ensures.err)
 
 pub new-prefix-requires-clause-room : goal.new-prefix-requires-clause-room
 new-prefix-requires-clause-room g c _ some =
     room_referenced c.agreed_max-max.result c.args.handle.now.base c.args.handle.now.table.now
-    (map g.H.AsField.field c.args.fields.now) c.append_fields.new.handle.table.now c.requires.begins
+    (map g.H.AsField.line c.args.fields.now) c.append_fields.new.handle.table.now c.requires.begins
     c.agreed_max-max.ensures.most c.agreed_max-max.ensures.fits c.in_ok-append_fields.ensures.ok.table
     (omega (arith, some, c.required_insert_count-required.ensures.exact))
 
@@ -25,14 +25,14 @@ returns-in_err-put_in_front-clause-err g c =
     let p = err_from_is_err_and c.from_residual-in_err-put_in_front.result
     c.from_residual-in_err-put_in_front.ensures.1 in
     rw p.1
-    (gives_up_all c.args.handle.now.table.now c.args.handle.now.base (map g.H.AsField.field c.args.fields.now)
+    (gives_up_all c.args.handle.now.table.now c.args.handle.now.base (map g.H.AsField.line c.args.fields.now)
     c.append_fields.new.handle.table.now c.args.block.now.items c.append_fields.new.lines.items
     c.args.encoder_buf.now.items c.append_fields.new.encoder_buf.items c.requires.begins c.requires.base
     c.in_ok-append_fields.ensures.ok)
 
 pub returns-clause-ok : goal.returns-clause-ok
 returns-clause-ok g c =
-    drafts_block c.args.handle.now.table.now c.args.handle.now.base (map g.H.AsField.field c.args.fields.now)
+    drafts_block c.args.handle.now.table.now c.args.handle.now.base (map g.H.AsField.line c.args.fields.now)
     c.append_fields.new.handle.table.now c.args.block.now.items c.append_fields.new.lines.items
     c.put_in_front.new.block.items c.args.encoder_buf.now.items c.append_fields.new.encoder_buf.items
     c.len-len.result c.required_insert_count-required.result c.agreed_max-max.result c.base.result _

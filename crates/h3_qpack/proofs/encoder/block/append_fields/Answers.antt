@@ -1,6 +1,6 @@
 use Rattle.std.proofs.Common.{[], ◌+◌, ◌∙◌, refl, sym, arith, append-nil}
 use Rattle.std.proofs.lemmas.Result.{err_from_is_err_and}
-use Rattle.qpack_base.specs.HeaderFields.{field_of}
+use Rattle.qpack_base.specs.HeaderFields.{line_of}
 use Rattle.h3_qpack.proofs.AddedFields.{adds_none, adds_next, stops_next}
 use Rattle.h3_qpack.proofs.WrittenBlocks.{take-append_front}
 use Rattle.h3_qpack.proofs.Stills.{still_next, longer_written}
@@ -21,47 +21,47 @@ loop-field-init g c =
       room = grows_none _ c.args.encoder_buf.now;
     }
 
-pub returns-in_err-append_field-clause-err : goal.returns-in_err-append_field-clause-err
-returns-in_err-append_field-clause-err g c =
+pub returns-in_err-append_field_line-clause-err : goal.returns-in_err-append_field_line-clause-err
+returns-in_err-append_field_line-clause-err g c =
     let p = err_from_is_err_and c.from_residual.result c.from_residual.ensures.1 in
     rw p.1
-    (stops_next g.H.AsField.field c.args.fields.now c.loop-field.field-index c.field-item.result
-    (field_of c.as_field.result.now) c.args.handle.now.table.now c.args.handle.now.base c.loop-field.handle.base
-    c.loop-field.handle.table.now c.append_field.new.block.table.now
+    (stops_next g.H.AsField.line c.args.fields.now c.loop-field.field-index c.field-item.result
+    (line_of c.as_field.result) c.args.handle.now.table.now c.args.handle.now.base c.loop-field.handle.base
+    c.loop-field.handle.table.now c.append_field_line.new.block.table.now
     c.args.lines.now.items c.loop-field.lines.items c.args.encoder_buf.now.items c.loop-field.encoder_buf.items
-    c.append_field.new.encoder_buf.items (omega arith) c.field-item.is c.loop-field.invariant.base
-    c.as_field.ensures c.loop-field.invariant.adds c.in_err-append_field.ensures.err)
+    c.append_field_line.new.encoder_buf.items (omega arith) c.field-item.is c.loop-field.invariant.base
+    c.as_field.ensures c.loop-field.invariant.adds c.in_err-append_field_line.ensures.err)
 
 pub loop-field-preserved : goal.loop-field-preserved
 loop-field-preserved g c =
-    let adds = adds_next g.H.AsField.field c.args.fields.now c.loop-field.field-index c.field-item.result
-    (field_of c.as_field.result.now) c.args.handle.now.table.now c.args.handle.now.base c.loop-field.handle.base
-    c.loop-field.handle.table.now c.append_field.new.block.table.now c.args.lines.now.items c.loop-field.lines.items
-    c.append_field.new.lines.items c.args.encoder_buf.now.items c.loop-field.encoder_buf.items
-    c.append_field.new.encoder_buf.items (omega arith) c.field-item.is c.loop-field.invariant.base c.as_field.ensures
-    c.loop-field.invariant.adds c.in_ok-append_field.ensures.ok in
+    let adds = adds_next g.H.AsField.line c.args.fields.now c.loop-field.field-index c.field-item.result
+    (line_of c.as_field.result) c.args.handle.now.table.now c.args.handle.now.base c.loop-field.handle.base
+    c.loop-field.handle.table.now c.append_field_line.new.block.table.now c.args.lines.now.items c.loop-field.lines.items
+    c.append_field_line.new.lines.items c.args.encoder_buf.now.items c.loop-field.encoder_buf.items
+    c.append_field_line.new.encoder_buf.items (omega arith) c.field-item.is c.loop-field.invariant.base c.as_field.ensures
+    c.loop-field.invariant.adds c.in_ok-append_field_line.ensures.ok in
     record {
-      same_table = c.append_field.ensures.same_table ∙ c.loop-field.invariant.same_table;
-      stream = c.append_field.ensures.stream ∙ c.loop-field.invariant.stream;
-      base = c.append_field.ensures.base ∙ c.loop-field.invariant.base;
+      same_table = c.append_field_line.ensures.same_table ∙ c.loop-field.invariant.same_table;
+      stream = c.append_field_line.ensures.stream ∙ c.loop-field.invariant.stream;
+      base = c.append_field_line.ensures.base ∙ c.loop-field.invariant.base;
       adds = adds;
-      front = take-append_front c.args.lines.now.items _ c.append_field.new.lines.items c.append_field.new.lines.items _
+      front = take-append_front c.args.lines.now.items _ c.append_field_line.new.lines.items c.append_field_line.new.lines.items _
           (sym c.args.lines.now.ok.0) refl adds.lines;
-      capacity = omega (arith, c.append_field.ensures.capacity, c.loop-field.invariant.capacity);
-      still = still_next c.args.lines.now c.loop-field.lines c.append_field.new.lines
-          (longer_written _ c.loop-field.lines c.append_field.new.lines c.in_ok-append_field.ensures.ok.lines)
-          c.loop-field.invariant.still c.in_ok-append_field.ensures.still;
-      room = grows_next g.H.AsField.field c.args.fields.now c.loop-field.field-index c.field-item.result
-          (field_of c.as_field.result.now) c.args.encoder_buf.now c.loop-field.encoder_buf
-          c.append_field.new.encoder_buf (omega arith) c.field-item.is c.as_field.ensures c.loop-field.invariant.room
-          c.append_field.ensures.instructions;
+      capacity = omega (arith, c.append_field_line.ensures.capacity, c.loop-field.invariant.capacity);
+      still = still_next c.args.lines.now c.loop-field.lines c.append_field_line.new.lines
+          (longer_written _ c.loop-field.lines c.append_field_line.new.lines c.in_ok-append_field_line.ensures.ok.lines)
+          c.loop-field.invariant.still c.in_ok-append_field_line.ensures.still;
+      room = grows_next g.H.AsField.line c.args.fields.now c.loop-field.field-index c.field-item.result
+          (line_of c.as_field.result) c.args.encoder_buf.now c.loop-field.encoder_buf
+          c.append_field_line.new.encoder_buf (omega arith) c.field-item.is c.as_field.ensures c.loop-field.invariant.room
+          c.append_field_line.ensures.instructions;
     }
 
-pub returns-in_err-append_field-clause-instructions : goal.returns-in_err-append_field-clause-instructions
-returns-in_err-append_field-clause-instructions g c =
-    grows_front g.H.AsField.field c.args.fields.now (c.loop-field.field-index + 1) c.args.encoder_buf.now
-    c.append_field.new.encoder_buf
-    (grows_next g.H.AsField.field c.args.fields.now c.loop-field.field-index c.field-item.result
-    (field_of c.as_field.result.now) c.args.encoder_buf.now c.loop-field.encoder_buf
-    c.append_field.new.encoder_buf (omega arith) c.field-item.is c.as_field.ensures c.loop-field.invariant.room
-    c.append_field.ensures.instructions)
+pub returns-in_err-append_field_line-clause-instructions : goal.returns-in_err-append_field_line-clause-instructions
+returns-in_err-append_field_line-clause-instructions g c =
+    grows_front g.H.AsField.line c.args.fields.now (c.loop-field.field-index + 1) c.args.encoder_buf.now
+    c.append_field_line.new.encoder_buf
+    (grows_next g.H.AsField.line c.args.fields.now c.loop-field.field-index c.field-item.result
+    (line_of c.as_field.result) c.args.encoder_buf.now c.loop-field.encoder_buf
+    c.append_field_line.new.encoder_buf (omega arith) c.field-item.is c.as_field.ensures c.loop-field.invariant.room
+    c.append_field_line.ensures.instructions)

@@ -1,7 +1,7 @@
 use Rattle.std.proofs.Common.{ℕ, List, ◌++◌, ap, ◌∙◌}
 use Rattle.std.proofs.lemmas.Result.{err_from_is_err_and}
 use Rattle.qpack_spec.specs.Handle.{insert_field}
-use Rattle.qpack_base.specs.HeaderFields.{field_of}
+use Rattle.qpack_base.specs.HeaderFields.{line_of}
 use Rattle.qpack_table.specs.Handles.{insertion_of}
 use Rattle.h3_qpack.specs.Encoding.{written_insertion}
 use Rattle.h3_qpack.proofs.Additions.{adds_insertion, stops_inserted}
@@ -13,10 +13,10 @@ pub returns-in_err-append_inserted-clause-err : goal.returns-in_err-append_inser
 returns-in_err-append_inserted-clause-err g c =
     let p = err_from_is_err_and c.from_residual-in_err-append_inserted.result
     c.from_residual-in_err-append_inserted.ensures.1 in
-    let f = field_of c.args.field.now in
+    let f = (line_of c.args.field.now).field in
     rw p.1
     (stops_inserted f c.args.block.now.table.now (insert_field c.args.block.now.table.now c.args.block.now.base f)
-    (insertion_of c.in_ok-insertion.insertion) c.insert.new.self.table.now c.args.encoder_buf.now.items
+    (insertion_of c.in_ok-insertion.insertion) c.insert_line.new.self.table.now c.args.encoder_buf.now.items
     c.write_instruction.new.buf.items c.in_ok-insertion.ensures.inserted
     (c.in_ok-write_instruction.ensures.writes.ok
     ∙ ap (λ (x : List ℕ). x ++ written_insertion f (insertion_of c.in_ok-insertion.insertion))
@@ -24,9 +24,9 @@ returns-in_err-append_inserted-clause-err g c =
 
 pub returns-clause-ok : goal.returns-clause-ok
 returns-clause-ok g c =
-    let f = field_of c.args.field.now in
+    let f = (line_of c.args.field.now).field in
     adds_insertion f c.args.block.now.table.now (insert_field c.args.block.now.table.now c.args.block.now.base f)
-    (insertion_of c.in_ok-insertion.insertion) c.insert.new.self.table.now c.args.lines.now.items
+    (insertion_of c.in_ok-insertion.insertion) c.insert_line.new.self.table.now c.args.lines.now.items
     c.append_inserted.new.buf.items c.args.encoder_buf.now.items
     c.write_instruction.new.buf.items c.in_ok-insertion.ensures.inserted
     c.in_ok-append_inserted.ensures.writes.ok
@@ -57,7 +57,7 @@ returns-in_err-write_instruction-clause-instructions g c =
     grows_written c.instruction_room.result _ _ c.args.encoder_buf.now c.make_room.new.buf c.write_instruction.new.buf
     c.write_instruction.result c.instruction_room.ensures.most room.len room.still room.capacity
     c.in_ok-make_room.ensures.ok
-    (inserted_fits c.instruction_room.result (field_of c.args.field.now) _ _ _ c.in_ok-insertion.ensures.inserted
+    (inserted_fits c.instruction_room.result (line_of c.args.field.now).field _ _ _ c.in_ok-insertion.ensures.inserted
     c.instruction_room.ensures.enough)
     c.write_instruction.ensures.writes
 
@@ -67,7 +67,7 @@ returns-in_err-append_inserted-clause-instructions g c =
     grows_written c.instruction_room.result _ _ c.args.encoder_buf.now c.make_room.new.buf c.write_instruction.new.buf
     c.write_instruction.result c.instruction_room.ensures.most room.len room.still room.capacity
     c.in_ok-make_room.ensures.ok
-    (inserted_fits c.instruction_room.result (field_of c.args.field.now) _ _ _ c.in_ok-insertion.ensures.inserted
+    (inserted_fits c.instruction_room.result (line_of c.args.field.now).field _ _ _ c.in_ok-insertion.ensures.inserted
     c.instruction_room.ensures.enough)
     c.write_instruction.ensures.writes
 
@@ -77,6 +77,6 @@ returns-clause-instructions g c =
     grows_written c.instruction_room.result _ _ c.args.encoder_buf.now c.make_room.new.buf c.write_instruction.new.buf
     c.write_instruction.result c.instruction_room.ensures.most room.len room.still room.capacity
     c.in_ok-make_room.ensures.ok
-    (inserted_fits c.instruction_room.result (field_of c.args.field.now) _ _ _ c.in_ok-insertion.ensures.inserted
+    (inserted_fits c.instruction_room.result (line_of c.args.field.now).field _ _ _ c.in_ok-insertion.ensures.inserted
     c.instruction_room.ensures.enough)
     c.write_instruction.ensures.writes

@@ -12,7 +12,7 @@ append_block-appended-requires-clause-begins g c =
 
 pub returns-then-is_err-clause-err : goal.returns-then-is_err-clause-err
 returns-then-is_err-clause-err g c =
-    gives_up_section (map g.H.AsField.field c.args.fields.now) c.append_block-appended.result c.end_block-answer.result
+    gives_up_section (map g.H.AsField.line c.args.fields.now) c.append_block-appended.result c.end_block-answer.result
     c.args.self.now.table c.encoder-handle.result.table.now c.append_block-appended.new.handle.table.now _
     c.args.block.now.items c.append_block-appended.new.block.items c.args.encoder_buf.now.items
     c.append_block-appended.new.encoder_buf.items c.encoder-handle.ensures.table c.append_block-appended.ensures.ok
@@ -20,7 +20,7 @@ returns-then-is_err-clause-err g c =
 
 pub returns-else-is_err-clause-ok : goal.returns-else-is_err-clause-ok
 returns-else-is_err-clause-ok g c =
-    encodes (map g.H.AsField.field c.args.fields.now) c.append_block-appended.result c.end_block-answer.result
+    encodes (map g.H.AsField.line c.args.fields.now) c.append_block-appended.result c.end_block-answer.result
     c.args.self.now.table c.encoder-handle.result.table.now c.append_block-appended.new.handle.table.now _
     c.args.stream_id c.append_block-appended.new.handle.stream_id c.args.block.now.items
     c.append_block-appended.new.block.items c.args.encoder_buf.now.items c.append_block-appended.new.encoder_buf.items
