@@ -1,7 +1,8 @@
-//! The encoding end of a connection, made from what the peer sent as its settings (RFC 9204, sections 2.1, 3.2.3 and 5).
+//! The encoding end of a connection, made from what the peer sent as its settings (RFC 9204, sections 2.1, 3.2.3 and
+//! 5).
 
-ghost use Rattle.std.specs.Prelude.{◌≡◌, ◌<◌, ◌≤◌, ◌^◌, Some, Err, IfOk, IfErr, IfSome, None, List, ℕ, [], drop, length};
-ghost use Rattle.std.specs.Prelude.{min};
+ghost use Rattle.std.specs.Prelude.{◌≡◌, ◌<◌, ◌≤◌, ◌^◌, None, Some, IfOk, IfErr, IfSome, List, [], ℕ, drop, length};
+ghost use Rattle.std.specs.Prelude.{Err, min};
 ghost use Rattle.qpack_spec.specs.Instruction.{DecoderInstruction};
 ghost use Rattle.qpack_spec.specs.Table.{empty_table};
 ghost use Rattle.qpack_connection.specs.Hearing.{Receives};
@@ -21,10 +22,10 @@ use std::alloc::Global;
 use std::marker::Model;
 use thiserror::Error;
 
-/// The capacity that an end wants if it isn't told another, in bytes.
+/// The capacity that `EncoderSettings::new` wants, in bytes.
 pub const DEFAULT_CAPACITY: usize = 4_096;
 
-/// How many sections may wait for acknowledgments if an end isn't told another number.
+/// How many sections may wait for acknowledgments by `EncoderSettings::new`.
 pub const DEFAULT_UNACKNOWLEDGED: usize = 1_000;
 
 /// The greatest limit of blocked streams that a table takes.
@@ -40,8 +41,8 @@ pub struct EncoderSettings {
     pub max_blocked: usize,
     /// The capacity that this end wants, in bytes; at most the maximum is taken (RFC 9204, section 3.2.3).
     pub capacity: usize,
-    /// How many sections may wait for acknowledgments before sections are written without references (RFC 9204, section
-    /// 2.1.4).
+    /// How many sections may wait for acknowledgments (RFC 9204, section 4.4.1) before sections are written without
+    /// references.
     pub most_unacknowledged: usize,
 }
 
@@ -218,15 +219,15 @@ impl ConnectionEncoder {
         self.failure
     }
 
-    /// How many sections wait for acknowledgments, of all streams (RFC 9204, section 2.1.4).
+    /// How many sections wait for acknowledgments, of all streams (RFC 9204, section 4.4.1).
     pub fn unacknowledged(&self) -> usize
         ensures { result ≡ length self.now.table.unacknowledged }
     {
         self.table.unacknowledged_blocks()
     }
 
-    /// How many sections may be blocked: those that require insertions which the peer is not known to have received (RFC
-    /// 9204, section 2.1.2).
+    /// How many sections may be blocked: those that require insertions which the peer is not known to have received
+    /// (RFC 9204, section 2.1.2).
     pub fn blocked(&self) -> usize
         ensures { result ≡ length self.now.table.blocked }
     {
@@ -272,13 +273,13 @@ impl ConnectionEncoder {
         self.tell(capacity)
     }
 
-    /// Receives the bytes of the decoder stream that the cursor has left, which follow on those of the calls before, cut
-    /// anywhere (RFC 9204, sections 4.2 and 4.4), as `DecoderStream::receive` does: acknowledgments and cancellations
-    /// release sections, acknowledgments and increments raise the known received count (section 2.1.4). It takes no
-    /// memory.
+    /// Receives the bytes of the decoder stream that the cursor has left, which follow on those of the calls before,
+    /// cut anywhere (RFC 9204, sections 4.2 and 4.4), as `DecoderStream::receive` does: acknowledgments and
+    /// cancellations release sections, acknowledgments and increments raise the known received count (section 2.1.4).
+    /// It takes no memory.
     ///
-    /// An instruction that is refused ends the connection (`DecoderStream`); those before it stay applied. The cursor is
-    /// moved to its end, but that behind an error that ended the connection it stays.
+    /// An instruction that is refused ends the connection (`DecoderStream`); those before it stay applied. The cursor
+    /// is moved to its end; only behind an error that ended the connection it stays.
     pub fn receive(&mut self, buf: &mut Cursor) -> Result<(), EncodingError>
         ensures receives { self.old.failure ≡ None → (heard : List DecoderInstruction) (before : List ℕ)
             → Receives heard before self.old.stream

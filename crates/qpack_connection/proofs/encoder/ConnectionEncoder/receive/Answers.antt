@@ -11,7 +11,8 @@ invariant_of-self c =
 
 pub invariant_of-self-in-Err : goal.invariant_of-self-in-Err
 invariant_of-self-in-Err c =
-    refused_sound _ c.receive.new.table c.receive.new.self c.args.buf.now.rest c.in-Err.error c.self.invariant c.in_default.is
+    refused_sound _ c.receive.new.table c.receive.new.self c.args.buf.now.rest c.in-Err.error c.self.invariant
+    c.in_default.is
     c.in-Err.ensures.receives
 
 pub returns-in-Err-clause-receives : goal.returns-in-Err-clause-receives
