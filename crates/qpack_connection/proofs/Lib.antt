@@ -7,6 +7,7 @@ pub mod PlacedTaking
 pub mod StrictTaking
 pub mod WaitingLengths
 pub mod Decoders
+pub mod Encoders
 pub mod ReceivedStreams
 pub mod StrictHearing
 pub mod HeardBytes

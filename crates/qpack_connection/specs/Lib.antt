@@ -6,3 +6,4 @@ pub mod Places
 pub mod Blocked
 pub mod Decoders
 pub mod Hearing
+pub mod Encoders

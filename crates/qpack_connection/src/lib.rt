@@ -5,6 +5,7 @@
 
 pub mod blocked;
 pub mod decoder;
+pub mod encoder;
 pub mod field_section;
 pub mod hearing;
 pub mod place;

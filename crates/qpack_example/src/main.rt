@@ -64,11 +64,7 @@ fn decode(
 }
 
 /// A request goes from one end to the other, and what is answered goes back.
-fn connect(
-    rt: &HostRuntime,
-    encoder: &mut Encoder,
-    decoder: &mut ConnectionDecoder,
-) -> Result<()> {
+fn connect(rt: &HostRuntime, encoder: &mut Encoder, decoder: &mut ConnectionDecoder) -> Result<()> {
     let mut section = Vec::new(rt.alloc());
     let mut instructions = Vec::new(rt.alloc());
     encode(rt.alloc(), encoder, &mut section, &mut instructions)?;

@@ -1,0 +1,140 @@
+-- The encoding end of a connection (RFC 9204, sections 2.1, 3.2.3, 4.3.1 and 4.4).
+use Rattle.std.specs.Prelude.{◌≡◌, ◌<◌, ◌≤◌, ◌^◌, ℕ, min, ⊤, ◌⊎◌, if◌then◌else◌, nat_eq}
+use Rattle.std.specs.Prelude.{List, [], ◌++◌, Option, None, Some, Result, Ok, Err, IsOk}
+use Rattle.std.specs.Option.{IfSome, IsSome}
+use Rattle.qpack_spec.specs.Instruction.{DecoderInstruction, SetCapacity, written_encoder_instruction}
+use Rattle.qpack_spec.specs.Table.{Table, empty_table, with_capacity}
+use Rattle.qpack_spec.specs.Window.{DoesNotFit, AboveMaximum}
+use Rattle.qpack_table.specs.declared.dynamic.Error.TheVariants.{MaxTableSizeReached}
+use Rattle.h3_qpack.specs.declared.encoder.EncoderError.{EncoderError}
+use Rattle.h3_qpack.specs.declared.encoder.EncoderError.TheVariants as encoder
+use Rattle.qpack_connection.specs.declared.encoder.EncoderSettings.{EncoderSettings}
+use Rattle.qpack_connection.specs.declared.encoder.EncodingError.{EncodingError}
+use Rattle.qpack_connection.specs.declared.encoder.EncodingError.TheVariants.{DecoderStream, CapacityTooLarge}
+use Rattle.qpack_connection.specs.declared.encoder.EncodingError.TheVariants.{EntriesHeld, Memory}
+use Rattle.qpack_connection.specs.Hearing.{StreamView, Receives, ReceivesMore, decoder_stream_error}
+
+-- an encoding end: its settings; the table; the capacity that is to be told before the first section, if one is; what
+-- waits of the decoder stream; the bytes of the encoder stream that are not sent; and the error that ended the
+-- connection
+pub record EncodingEnd : Type 0 where
+  pub settings : EncoderSettings
+  pub table : Table
+  pub wanted : Option ℕ
+  pub stream : StreamView
+  pub unsent : List ℕ
+  pub failure : Option EncodingError
+
+-- ---- its beginning
+
+-- the capacity that is told before the first section: what is wanted, at most the maximum; none of 0, which a table has
+-- from the start (section 3.2.3)
+abbrev pub first_capacity : EncoderSettings → Option ℕ
+first_capacity s = if nat_eq (min s.capacity s.max_capacity) 0 then None else Some (min s.capacity s.max_capacity)
+
+-- the maximum capacity is in range, and nothing has happened: the table is empty and of capacity 0 (section 3.2.3), and
+-- at most so many sections may be blocked as the peer has it, and as a table takes
+pub record Starts (settings : EncoderSettings) (d : EncodingEnd) : Type 0 where
+  pub capacity_in_range : settings.max_capacity < 2 ^ 30
+  pub settings_are : d.settings ≡ settings
+  pub table : d.table ≡ empty_table 0 (Some settings.max_capacity) (min settings.max_blocked 65534)
+  pub wanted : d.wanted ≡ first_capacity settings
+  pub stream : Receives [] [] d.stream
+  pub unsent : d.unsent ≡ []
+  pub failure : d.failure ≡ None
+
+-- ---- errors
+
+-- the code of an error that ends the connection; none of one that does not (section 6)
+abbrev pub code_of : EncodingError → Option ℕ
+code_of (DecoderStream e) = Some decoder_stream_error
+code_of e = None
+
+-- the error of a capacity that was not set, as an end's
+abbrev pub capacity_failure : EncoderError → EncodingError
+capacity_failure (encoder.Insertion MaxTableSizeReached) = EntriesHeld
+capacity_failure encoder.Memory = Memory
+capacity_failure e = CapacityTooLarge
+
+-- ---- what always holds
+
+-- a capacity that is to be told is one that the table takes: it is within the maximum, and nothing is in the table
+pub record IsToBeTold (d : EncodingEnd) (capacity : ℕ) : Type 0 where
+  pub within : capacity ≤ d.settings.max_capacity
+  pub small : d.settings.max_capacity < 2 ^ 30
+  pub agreed : d.table.agreed_max ≡ Some d.settings.max_capacity
+  pub nothing_live : d.table.live ≡ []
+
+-- the stream is what some instructions and bytes make of it
+abbrev pub HasReceived : StreamView → Type 0
+HasReceived s = (heard : List DecoderInstruction) × (before : List ℕ) × Receives heard before s
+
+-- the capacity that is to be told is one that the table takes, the stream was received unless it was refused, and the
+-- connection is ended only by an error that has a code
+pub record IsSound (d : EncodingEnd) : Type 0 where
+  pub wanted : IfSome d.wanted (λ capacity. IsToBeTold d capacity)
+  pub stream : d.failure ≡ None → HasReceived d.stream
+  pub failure : IfSome d.failure (λ e. IsSome (code_of e))
+
+-- ---- a capacity
+
+-- the end behind a capacity that the table was given, and that is told (section 4.3.1)
+abbrev pub told : ℕ → Table → EncodingEnd → EncodingEnd
+told capacity t d =
+    record d {
+      table = t;
+      wanted = None;
+      unsent = d.unsent ++ written_encoder_instruction (SetCapacity capacity);
+    }
+
+-- why a capacity was not told: it is above the maximum (section 3.2.3), or an entry that is not evictable would have to
+-- go (section 2.1.1); or memory was refused for one that the table takes
+abbrev pub StopsTelling : Table → ℕ → EncodingError → Type 0
+StopsTelling t capacity CapacityTooLarge = with_capacity t capacity ≡ Err AboveMaximum
+StopsTelling t capacity EntriesHeld = with_capacity t capacity ≡ Err DoesNotFit
+StopsTelling t capacity Memory = IsOk (with_capacity t capacity)
+StopsTelling t capacity e = ⊥
+
+-- the table was given a capacity, and it is told; or why not, and nothing changes
+abbrev pub TellsCapacity : EncodingEnd → EncodingEnd → ℕ → Result ⊤ EncodingError → Type 0
+TellsCapacity old new capacity (Ok done) =
+    (with_capacity old.table capacity ≡ Ok new.table) × (new ≡ told capacity new.table old)
+TellsCapacity old new capacity (Err e) = StopsTelling old.table capacity e × (new ≡ old)
+
+-- a capacity was set; or the connection was ended, and nothing changes; or why it was not set, and nothing changes
+abbrev pub SetsCapacity : EncodingEnd → EncodingEnd → ℕ → Result ⊤ EncodingError → Type 0
+SetsCapacity old new capacity (Ok done) = (old.failure ≡ None) × TellsCapacity old new capacity (Ok tt)
+SetsCapacity old new capacity (Err e) =
+    ((old.failure ≡ Some e) × (new ≡ old))
+    ⊎ ((old.failure ≡ None) × TellsCapacity old new capacity (Err e))
+
+-- the end behind a capacity that was to be told, if one was: the table, which is empty, has it
+abbrev pub begun_with : Option ℕ → EncodingEnd → EncodingEnd
+begun_with None d = d
+begun_with (Some capacity) d = told capacity (record d.table { capacity = capacity }) d
+
+-- the end once the capacity is told that is to be told before the first section
+abbrev pub begun : EncodingEnd → EncodingEnd
+begun d = begun_with d.wanted d
+
+-- the capacity that was to be told is told; or memory was refused for it, and nothing changes
+abbrev pub Begins : EncodingEnd → EncodingEnd → Result ⊤ EncodingError → Type 0
+Begins old new (Ok done) = new ≡ begun old
+Begins old new (Err e) = (e ≡ Memory) × IsSome old.wanted × (new ≡ old)
+
+-- ---- the decoder stream
+
+-- the end with what was received
+abbrev pub received : Table → StreamView → EncodingEnd → EncodingEnd
+received t s d = record d { table = t; stream = s }
+
+-- the next bytes of the decoder stream were received; or it is refused, which ends the connection
+abbrev pub ReceivesBytes : List DecoderInstruction → List ℕ → EncodingEnd → EncodingEnd → List ℕ
+    → Result ⊤ EncodingError → Type 0
+ReceivesBytes heard before old new bytes (Ok done) =
+    ReceivesMore old.table new.table heard before bytes new.stream (Ok tt)
+    × (new ≡ received new.table new.stream old)
+ReceivesBytes heard before old new bytes (Err (DecoderStream e)) =
+    ReceivesMore old.table new.table heard before bytes new.stream (Err e)
+    × (new ≡ record (received new.table new.stream old) { failure = Some (DecoderStream e) })
+ReceivesBytes heard before old new bytes (Err e) = ⊥
