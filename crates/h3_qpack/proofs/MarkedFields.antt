@@ -1,6 +1,7 @@
 -- Field lines that are marked as never to be indexed, and those that are not.
 use Rattle.std.proofs.Common.{◌≡◌, ℕ, zero, suc, List, [], ◌∷◌, ◌++◌, map, take, Bool, true, false, cond, Option, Some, None, refl}
-use Rattle.std.proofs.Common.{sym, ap, subst, ◌∙◌, inl, inr, append-nil, Result, Ok, Err}
+use Rattle.std.proofs.Common.{sym, ap, subst, ◌∙◌, inl, inr, append-nil, append_assoc, Result, Ok, Err, ◌+◌, ◌<◌}
+use Rattle.std.proofs.Common.{get_or, length}
 use Rattle.std.specs.Borrow.{Bor}
 use Rattle.std.specs.Iterator.{Drains}
 use Rattle.std.specs.Prelude.{OnOk, OnErr, IfOk}
@@ -10,8 +11,9 @@ use Rattle.qpack_spec.specs.Field.{Field, FieldLine, has_name, unmarked}
 use Rattle.qpack_spec.specs.Handle.{Lookup, Found, found_entry, found_name, found_instead, literal_at, with_insertion}
 use Rattle.qpack_spec.specs.Instruction.{written_encoder_instructions}
 use Rattle.qpack_spec.specs.Line.{Line, written_line, written_lines, written_marked_line}
-use Rattle.qpack_spec.specs.Marked.{marked_rule, written_marked_lines, written_marked_block}
-use Rattle.qpack_spec.specs.Prefix.{written_prefix}
+use Rattle.qpack_spec.specs.Marked.{marked_rule, written_marked_lines, written_marked_block, stateless_line_marked}
+use Rattle.qpack_spec.specs.Marked.{stateless_block_marked}
+use Rattle.qpack_spec.specs.Prefix.{written_prefix, prefix_for}
 use Rattle.qpack_spec.specs.Rule.{Draft, rule, block_of, required_insert_count, committed_table}
 use Rattle.qpack_spec.specs.StaticTable.{static_name_index}
 use Rattle.qpack_spec.specs.Table.{Table, empty_table, without_references, with_reference, may_reference}
@@ -23,6 +25,7 @@ use Rattle.h3_qpack.specs.Encoding.{draft_at, draft_of_field, draft_of_line, Add
 use Rattle.h3_qpack.specs.Encoding.{EncodesLines, EncodesBlock, GivesUpLines, GivesUpBlock, StopsEncodingLinesOf}
 use Rattle.h3_qpack.specs.Encoding.{StopsEncoding}
 use Rattle.h3_qpack.specs.declared.encoder.EncoderError.{EncoderError}
+use Rattle.h3_qpack.proofs.AddedFields.{front_of}
 
 -- ---- a field that is never to be indexed
 
@@ -207,3 +210,52 @@ pub on_err_stops_unmarked : {S : Type 0} (r : Result ℕ EncoderError)
 on_err_stops_unmarked (Ok required) steps it old new written_old written_new stops = tt
 on_err_stops_unmarked (Err e) steps it old new written_old written_new stops =
     stops_unmarked steps it old new written_old written_new stops
+
+-- ---- a block where no entry is at hand
+
+lines_of_more : (ls : List FieldLine) (l : FieldLine)
+    → written_marked_lines (ls ++ l ∷ []) (map (λ k. stateless_line_marked k) (ls ++ l ∷ []))
+    ≡ written_marked_lines ls (map (λ k. stateless_line_marked k) ls)
+    ++ written_marked_line l.never_indexed (stateless_line_marked l)
+unfolding written_marked_lines written_lines
+lines_of_more [] l = append-nil (written_marked_line l.never_indexed (stateless_line_marked l))
+lines_of_more (k ∷ ls) l =
+    ap (λ (x : List ℕ). written_marked_line k.never_indexed (stateless_line_marked k) ++ x) (lines_of_more ls l)
+    ∙ sym (append_assoc (written_marked_line k.never_indexed (stateless_line_marked k))
+    (written_marked_lines ls (map (λ k. stateless_line_marked k) ls))
+    (written_marked_line l.never_indexed (stateless_line_marked l)))
+
+-- the bytes of the block where no entry is at hand
+abbrev pub written_stateless : List FieldLine → List ℕ
+written_stateless ls = written_marked_block ls (stateless_block_marked ls)
+
+stateless_more : (ls : List FieldLine) (l : FieldLine)
+    → written_stateless (ls ++ l ∷ [])
+    ≡ written_stateless ls ++ written_marked_line l.never_indexed (stateless_line_marked l)
+unfolding written_marked_block
+stateless_more ls l =
+    let p = written_prefix (record { count = 0; sign = false; delta = 0 }) in
+    ap (λ (x : List ℕ). p ++ x) (lines_of_more ls l)
+    ∙ sym (append_assoc p (written_marked_lines ls (map (λ k. stateless_line_marked k) ls))
+    (written_marked_line l.never_indexed (stateless_line_marked l)))
+
+-- the first bytes are the prefix
+pub stateless_begun : (before now : List ℕ) → now ≡ before ++ written_prefix (prefix_for 0 0 0)
+    → now ≡ before ++ written_stateless []
+unfolding written_marked_block written_marked_lines written_lines prefix_for
+stateless_begun before now e =
+    e ∙ ap (λ (x : List ℕ). before ++ x) (sym (append-nil (written_prefix (record { count = 0; sign = false; delta = 0 }))))
+
+-- a line more
+pub stateless_grown : {H : Type 0} (line : H → FieldLine) (xs : List H) (i : ℕ) (x : H) (l : FieldLine)
+    (before mid now : List ℕ) → i < length xs → x ≡ get_or xs i x → l ≡ line x
+    → mid ≡ before ++ written_stateless (map line (take i xs))
+    → now ≡ mid ++ written_marked_line l.never_indexed (stateless_line_marked l)
+    → now ≡ before ++ written_stateless (map line (take (i + 1) xs))
+stateless_grown line xs i x l before mid now within is lent so_far more =
+    rw (front_of line xs i x within, ← is, ← lent)
+    (more
+    ∙ ap (λ (b : List ℕ). b ++ written_marked_line l.never_indexed (stateless_line_marked l)) so_far
+    ∙ append_assoc before (written_stateless (map line (take i xs)))
+    (written_marked_line l.never_indexed (stateless_line_marked l))
+    ∙ ap (λ (b : List ℕ). before ++ b) (sym (stateless_more (map line (take i xs)) l)))

@@ -3,22 +3,19 @@
 ghost use Rattle.std.specs.Prelude.{◌≡◌, ◌++◌, ◌≤◌, IfOk, IfErr, OnErr, take, vec_len, vec_capacity};
 ghost use Rattle.std.specs.Iterator.{IsFinite};
 ghost use Rattle.qpack_spec.specs.Field.{total_size};
-ghost use Rattle.qpack_spec.specs.Line.{written_line};
 ghost use Rattle.qpack_spec.specs.BlockReading.{written_block};
-ghost use Rattle.qpack_spec.specs.Stateless.{stateless_line, stateless_block, saturated_size};
-ghost use Rattle.qpack_base.specs.HeaderFields.{field_of, DrainsFields};
-ghost use Rattle.qpack_base.specs.Writes.{Writes};
-ghost use Rattle.qpack_base.specs.declared.prefix_string.Error.TheVariants.{Memory as NoRoom};
+ghost use Rattle.qpack_spec.specs.Stateless.{stateless_block, saturated_size};
+ghost use Rattle.qpack_base.specs.HeaderFields.{DrainsFields};
 ghost use Rattle.h3_qpack.specs.Errors.{encoder_error_of_table, encoder_error_of_string, encoder_error_of_parse};
 ghost use Rattle.h3_qpack.specs.declared.encoder.EncoderError.TheVariants.{Memory};
 
+use crate::encoder::stateless::append_line;
 use qpack_base::coding::NoMemory;
 use qpack_base::field::HeaderField;
 use qpack_base::parse_error::ParseError;
-use qpack_base::static_::{StaticMatch, StaticTable};
 use qpack_base::{prefix_int, prefix_string};
 use qpack_table::dynamic;
-use qpack_wire::block::{HeaderPrefix, Indexed, Literal, LiteralWithNameRef};
+use qpack_wire::block::HeaderPrefix;
 use std::alloc::{AllocError, Allocator};
 use thiserror::Error;
 
@@ -30,11 +27,13 @@ mod fields;
 mod instructions;
 mod room;
 mod sections;
+mod stateless;
 
 pub use crate::encoder::as_field::AsField;
 pub use crate::encoder::capacity::set_dynamic_table_size;
 pub use crate::encoder::connection::Encoder;
-pub use crate::encoder::sections::{EncoderTable, WritesSections};
+pub use crate::encoder::sections::{EncoderTable, WritesSections, encode_section};
+pub use crate::encoder::stateless::encode_section_stateless;
 
 /// Why fields were not encoded, or an instruction of the decoder was not taken.
 #[derive(Clone, Copy, Debug, PartialEq, Drop, Error)]
@@ -151,26 +150,8 @@ fn append_block<'a, A: Allocator, T: Iterator<Item = &'a HeaderField> + Drop>(
     HeaderPrefix::new(0, 0, 0, 0).encode(block)?;
     let mut size = 0u64;
     for field in fields {
-        append_line(block, field)?;
+        append_line(block, &field.as_line())?;
         size = size.saturating_add(field.mem_size() as u64);
     }
     Ok(size)
-}
-
-/// Appends the line of a field: a static index, a static name with the value, or both in full.
-/// Refused, the vector is as before.
-fn append_line<A: Allocator>(
-    block: &mut Vec<u8, A>,
-    field: &HeaderField,
-) -> Result<(), prefix_string::Error>
-    ensures writes { Writes (written_line (stateless_line (field_of field.now))) block.old block.new result }
-    ensures memory { IfErr result (λ e. e ≡ NoRoom) }
-{
-    let name = field.name.as_slice();
-    let value = field.value.as_slice();
-    match StaticTable::lookup(name, value) {
-        Some(StaticMatch::Field(index)) => Ok(Indexed::Static(index).encode(block)?),
-        Some(StaticMatch::Name(index)) => LiteralWithNameRef::write_static(index, value, block),
-        None => Literal::write(name, value, block),
-    }
 }

@@ -1,17 +1,20 @@
 -- The encoding end of a connection (RFC 9204, sections 2.1, 3.2.3, 4.3.1 and 4.4).
-use Rattle.std.specs.Prelude.{◌≡◌, ◌<◌, ◌≤◌, ◌^◌, ℕ, min, ⊤, ◌⊎◌, if◌then◌else◌, nat_eq}
-use Rattle.std.specs.Prelude.{List, [], ◌++◌, Option, None, Some, Result, Ok, Err, IsOk}
+use Rattle.std.specs.Prelude.{◌≡◌, ◌<◌, ◌≤◌, ◌^◌, ℕ, min, ⊤, ◌⊎◌, Bool, true, false, if◌then◌else◌, nat_eq, nat_le}
+use Rattle.std.specs.Prelude.{List, [], ◌++◌, length, Option, None, Some, Result, Ok, Err, IsOk}
 use Rattle.std.specs.Option.{IfSome, IsSome}
+use Rattle.qpack_spec.specs.Field.{FieldLine}
 use Rattle.qpack_spec.specs.Instruction.{DecoderInstruction, SetCapacity, written_encoder_instruction}
+use Rattle.qpack_spec.specs.Marked.{stateless_block_marked, written_marked_block}
 use Rattle.qpack_spec.specs.Table.{Table, empty_table, with_capacity}
 use Rattle.qpack_spec.specs.Window.{DoesNotFit, AboveMaximum}
 use Rattle.qpack_table.specs.declared.dynamic.Error.TheVariants.{MaxTableSizeReached}
+use Rattle.h3_qpack.specs.Encoding.{EncodesLines, GivesUpLines}
 use Rattle.h3_qpack.specs.declared.encoder.EncoderError.{EncoderError}
 use Rattle.h3_qpack.specs.declared.encoder.EncoderError.TheVariants as encoder
 use Rattle.qpack_connection.specs.declared.encoder.EncoderSettings.{EncoderSettings}
 use Rattle.qpack_connection.specs.declared.encoder.EncodingError.{EncodingError}
 use Rattle.qpack_connection.specs.declared.encoder.EncodingError.TheVariants.{DecoderStream, CapacityTooLarge}
-use Rattle.qpack_connection.specs.declared.encoder.EncodingError.TheVariants.{EntriesHeld, Memory}
+use Rattle.qpack_connection.specs.declared.encoder.EncodingError.TheVariants.{EntriesHeld, NoStream, Memory}
 use Rattle.qpack_connection.specs.Hearing.{StreamView, Receives, ReceivesMore, decoder_stream_error}
 
 -- an encoding end: its settings; the table; the capacity that is to be told before the first section, if one is; what
@@ -138,3 +141,65 @@ ReceivesBytes heard before old new bytes (Err (DecoderStream e)) =
     ReceivesMore old.table new.table heard before bytes new.stream (Err e)
     × (new ≡ record (received new.table new.stream old) { failure = Some (DecoderStream e) })
 ReceivesBytes heard before old new bytes (Err e) = ⊥
+
+-- ---- a section
+
+-- a call for a stream can be answered; else the connection was ended, or no stream has this number (RFC 9000, section
+-- 2.1)
+abbrev pub Checks : EncodingEnd → ℕ → Result ⊤ EncodingError → Type 0
+Checks d stream (Ok done) = (d.failure ≡ None) × (stream < 2 ^ 62)
+Checks d stream (Err e) = (d.failure ≡ Some e) ⊎ ((d.failure ≡ None) × (2 ^ 62 ≤ stream) × (e ≡ NoStream stream))
+
+-- as many sections wait for acknowledgments as may
+abbrev pub is_full : EncodingEnd → Bool
+is_full d = nat_le d.settings.most_unacknowledged (length d.table.unacknowledged)
+
+-- the section of fields that references no entry, which means them under every table
+abbrev pub written_alone : List FieldLine → List ℕ
+written_alone fields = written_marked_block fields (stateless_block_marked fields)
+
+-- the end with another table and other bytes that are to be sent
+abbrev pub with_section : Table → List ℕ → EncodingEnd → EncodingEnd
+with_section t unsent d = record d { table = t; unsent = unsent }
+
+-- where sections may wait, the section is the rule's, and so are its instructions and the table behind it
+pub record WritesSection (d new : EncodingEnd) (stream : ℕ) (fields : List FieldLine) (before after : List ℕ)
+    (required : ℕ) : Type 0 where
+  pub room : is_full d ≡ false
+  pub section : EncodesLines stream fields d.table new.table before after d.unsent new.unsent required
+  pub new_is : new ≡ with_section new.table new.unsent d
+
+-- where as many wait as may, the section references no entry, and nothing else changes
+pub record WritesAlone (d new : EncodingEnd) (fields : List FieldLine) (before after : List ℕ) (required : ℕ) :
+    Type 0 where
+  pub full : is_full d ≡ true
+  pub required_is : required ≡ 0
+  pub section : after ≡ before ++ written_alone fields
+  pub new_is : new ≡ d
+
+-- memory was refused behind some of the fields: their insertions stand and were written, and nothing is referenced
+pub record GivesUpSection (d new : EncodingEnd) (fields : List FieldLine) : Type 0 where
+  pub room : is_full d ≡ false
+  pub lines : GivesUpLines fields d.table new.table d.unsent new.unsent
+  pub new_is : new ≡ with_section new.table new.unsent d
+
+-- memory was refused: for the capacity that was to be told, and nothing changes; behind it, for a section without
+-- references; or among its fields
+abbrev pub StopsForMemory : EncodingEnd → EncodingEnd → List FieldLine → Type 0
+StopsForMemory old new fields =
+    (IsSome old.wanted × (new ≡ old))
+    ⊎ ((is_full (begun old) ≡ true) × (new ≡ begun old))
+    ⊎ GivesUpSection (begun old) new fields
+
+-- a section was encoded, behind the capacity that was to be told; or the call was not answered, and nothing changes; or
+-- memory was refused. Refused, nothing is appended
+abbrev pub Encodes : EncodingEnd → EncodingEnd → ℕ → List FieldLine → List ℕ → List ℕ → Result ℕ EncodingError
+    → Type 0
+Encodes old new stream fields before after (Ok required) =
+    Checks old stream (Ok tt)
+    × (WritesSection (begun old) new stream fields before after required
+    ⊎ WritesAlone (begun old) new fields before after required)
+Encodes old new stream fields before after (Err e) =
+    (after ≡ before)
+    × ((Checks old stream (Err e) × (new ≡ old))
+    ⊎ (Checks old stream (Ok tt) × (e ≡ Memory) × StopsForMemory old new fields))

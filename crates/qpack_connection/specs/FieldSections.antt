@@ -1,8 +1,9 @@
 -- The fields of a section, each a name and a value cut out of one text.
 use Rattle.std.specs.Prelude.{◌≡◌, ◌≤◌, ℕ, List, [], ◌∷◌, Option, None, Some, map, slice_range}
 use Rattle.qpack_spec.specs.Field.{FieldLine}
+use Rattle.qpack_base.specs.HeaderFields.{line_of}
+use Rattle.qpack_base.specs.declared.field.FieldLine.{FieldLine as LentLine}
 use Rattle.qpack_connection.specs.declared.field_section.Span.{Span}
-use Rattle.qpack_connection.specs.declared.field_section.FieldLine.{FieldLine as LentField}
 
 -- the field of a span of the text
 abbrev pub field_at : List ℕ → Span → FieldLine
@@ -22,12 +23,8 @@ pub record IsWithin (len : ℕ) (s : Span) : Type 0 where
   pub value : s.middle ≤ s.end
   pub within : s.end ≤ len
 
--- the field that is lent
-abbrev pub lent : LentField → FieldLine
-lent f = record { field = record { name = f.name.now; value = f.value.now }; never_indexed = f.never_indexed }
-
 -- the next field is given, and those behind it are left; or there is none
-abbrev pub GivesNext : List FieldLine → Option LentField → List FieldLine → Type 0
+abbrev pub GivesNext : List FieldLine → Option LentLine → List FieldLine → Type 0
 GivesNext [] None after = after ≡ []
-GivesNext (f ∷ fs) (Some item) after = (lent item ≡ f) × (after ≡ fs)
+GivesNext (f ∷ fs) (Some item) after = (line_of item ≡ f) × (after ≡ fs)
 GivesNext left item after = ⊥

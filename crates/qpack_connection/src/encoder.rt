@@ -2,23 +2,26 @@
 //! 5).
 
 ghost use Rattle.std.specs.Prelude.{◌≡◌, ◌<◌, ◌≤◌, ◌^◌, None, Some, IfOk, IfErr, IfSome, List, [], ℕ, drop, length};
-ghost use Rattle.std.specs.Prelude.{Err, min};
+ghost use Rattle.std.specs.Prelude.{Err, min, map, ◌++◌, vec_capacity};
 ghost use Rattle.qpack_spec.specs.Instruction.{DecoderInstruction};
 ghost use Rattle.qpack_spec.specs.Table.{empty_table};
 ghost use Rattle.qpack_connection.specs.Hearing.{Receives};
 ghost use Rattle.qpack_connection.specs.Encoders.{Starts, first_capacity, code_of, capacity_failure, SetsCapacity};
-ghost use Rattle.qpack_connection.specs.Encoders.{TellsCapacity, Begins, ReceivesBytes};
+ghost use Rattle.qpack_connection.specs.Encoders.{TellsCapacity, Begins, ReceivesBytes, Checks, is_full, written_alone};
+ghost use Rattle.qpack_connection.specs.Encoders.{Encodes};
 ghost use Rattle.qpack_connection.specs.declared.decoder.SettingsError.TheVariants.{CapacityTooLarge};
 ghost use Rattle.qpack_connection.specs.declared.encoder.EncodingError.TheVariants.{Memory};
 
 use crate::decoder::SettingsError;
 use crate::hearing::{DECODER_STREAM_ERROR, DecoderStream, DecoderStreamError};
 use h3_qpack::EncoderError;
-use h3_qpack::encoder::set_dynamic_table_size;
+use h3_qpack::encoder::{
+    AsField, encode_section, encode_section_stateless, set_dynamic_table_size,
+};
 use qpack_base::coding::{Cursor, NoMemory};
 use qpack_table::dynamic;
 use qpack_table::dynamic::DynamicTable;
-use std::alloc::Global;
+use std::alloc::{Allocator, Global};
 use std::marker::Model;
 use thiserror::Error;
 
@@ -27,6 +30,9 @@ pub const DEFAULT_CAPACITY: usize = 4_096;
 
 /// How many sections may wait for acknowledgments by `EncoderSettings::new`.
 pub const DEFAULT_UNACKNOWLEDGED: usize = 1_000;
+
+/// The least number that no stream has (RFC 9000, section 2.1).
+const STREAMS: u64 = 1 << 62;
 
 /// The greatest limit of blocked streams that a table takes.
 const MOST_BLOCKED: usize = 65_534;
@@ -273,6 +279,46 @@ impl ConnectionEncoder {
         self.tell(capacity)
     }
 
+    /// Encodes a field section for a stream (RFC 9204, section 2.1): appends it to the vector, and what it inserts to
+    /// the encoder stream, and answers its required insert count, 0 if it references no entry. For each field the first
+    /// is taken that applies: an equal static field, the newest equal entry that stood at the section's start, an
+    /// insertion, and a literal. A field that is never to be indexed is a literal that says so, by the name of a static
+    /// field or of an entry, and is neither inserted nor held against entries (section 7.1.3). Nothing is copied but
+    /// what is inserted.
+    ///
+    /// The first call tells the capacity of the settings, if none was told. While as many sections wait for
+    /// acknowledgments as may, a section is written without references, as `encode_section_stateless` does, and does
+    /// not wait.
+    ///
+    /// Refused are, in this order: every call behind an error that ended the connection, by that error; a number that
+    /// no stream has (`NoStream`); and any other where memory is refused. The vector is then as before; where memory
+    /// was refused, the capacity may have been told, and insertions that were made stand and are written: the call can
+    /// be made again.
+    pub fn encode<A: Allocator, H: AsField>(
+        &mut self,
+        stream: u64,
+        fields: &[H],
+        section: &mut Vec<u8, A>,
+    ) -> Result<usize, EncodingError>
+        ensures encodes { Encodes self.old self.new stream (map H.line fields.now) section.old.items section.new.items
+            result }
+        ensures capacity { vec_capacity section.old ≤ vec_capacity section.new }
+    {
+        self.check(stream)?;
+        self.begin()?;
+        if self.is_full() {
+            return encode_alone(fields, section);
+        }
+        let encoded = encode_section(
+            &mut self.table,
+            stream,
+            section,
+            &mut self.unsent,
+            fields,
+        );
+        encoded.map_err(|_| EncodingError::Memory)
+    }
+
     /// Receives the bytes of the decoder stream that the cursor has left, which follow on those of the calls before,
     /// cut anywhere (RFC 9204, sections 4.2 and 4.4), as `DecoderStream::receive` does: acknowledgments and
     /// cancellations release sections, acknowledgments and increments raise the known received count (section 2.1.4).
@@ -302,6 +348,26 @@ impl ConnectionEncoder {
         }
     }
 
+    /// Whether a call for a stream can be answered.
+    fn check(&self, stream: u64) -> Result<(), EncodingError>
+        ensures checks { Checks self.now stream result }
+    {
+        if let Some(failure) = self.failure {
+            return Err(failure);
+        }
+        if stream >= STREAMS {
+            return Err(EncodingError::NoStream(stream));
+        }
+        Ok(())
+    }
+
+    /// Whether as many sections wait for acknowledgments as may.
+    fn is_full(&self) -> bool
+        ensures { result ≡ is_full self.now }
+    {
+        self.table.unacknowledged_blocks() >= self.settings.most_unacknowledged
+    }
+
     /// Tells the capacity that is wanted, if one is to be told before the first section. Refused, which is for memory
     /// alone, nothing changes.
     fn begin(&mut self) -> Result<(), EncodingError>
@@ -324,6 +390,23 @@ impl ConnectionEncoder {
             }
             Err(error) => Err(EncodingError::of_capacity(error)),
         }
+    }
+}
+
+/// Appends the section of the fields that references no entry, and answers its required insert count, which is 0.
+/// Refused, which is for memory alone, the vector is as before.
+fn encode_alone<A: Allocator, H: AsField>(
+    fields: &[H],
+    section: &mut Vec<u8, A>,
+) -> Result<usize, EncodingError>
+    ensures ok { IfOk result (λ required. (required ≡ 0)
+        × (section.new.items ≡ section.old.items ++ written_alone (map H.line fields.now))) }
+    ensures err { IfErr result (λ e. (e ≡ Memory) × (section.new.items ≡ section.old.items)) }
+    ensures capacity { vec_capacity section.old ≤ vec_capacity section.new }
+{
+    match encode_section_stateless(section, fields) {
+        Ok(()) => Ok(0),
+        Err(_) => Err(EncodingError::Memory),
     }
 }
 

@@ -6,13 +6,15 @@ ghost use Rattle.std.specs.List.{AllByRecursion};
 ghost use Rattle.qpack_spec.specs.Bytes.{Begins};
 ghost use Rattle.qpack_spec.specs.StrictReading.{strict_lines_at};
 ghost use Rattle.qpack_wire.specs.Memory.{AsksLine};
-ghost use Rattle.qpack_connection.specs.FieldSections.{IsWithin, field_at as field_of_span, lent};
+ghost use Rattle.qpack_base.specs.HeaderFields.{line_of};
+ghost use Rattle.qpack_connection.specs.FieldSections.{IsWithin, field_at as field_of_span};
 ghost use Rattle.qpack_connection.specs.Lines.{under};
 ghost use Rattle.qpack_connection.specs.Sections.{ReadsLines};
 ghost use Rattle.qpack_connection.specs.declared.section.SectionError.TheVariants.{Memory};
 
 use crate::section::{Lines, SectionError, read_lines};
 use qpack_base::coding::Cursor;
+use qpack_base::field::FieldLine;
 use std::alloc::Global;
 use std::marker::Model;
 
@@ -29,22 +31,10 @@ pub(crate) struct Span {
     pub(crate) never_indexed: bool,
 }
 
-/// A field of a section, lent by it.
-#[derive(Clone, Copy, Debug, PartialEq, Drop)]
-pub struct FieldLine<'a> {
-    /// The name.
-    pub name: &'a [u8],
-    /// The value.
-    pub value: &'a [u8],
-    /// Whether the field came as a literal that is never to be indexed: whoever sends it on must send it as one (RFC
-    /// 9204, section 7.1.3).
-    pub never_indexed: bool,
-}
-
 /// The field of a span.
 fn field_at<'a>(text: &'a [u8], span: &Span) -> FieldLine<'a>
     requires { IsWithin (length text.now) span.now }
-    ensures { lent result ≡ field_of_span text.now span.now }
+    ensures { line_of result ≡ field_of_span text.now span.now }
 {
     FieldLine {
         name: &text[span.start..span.middle],
@@ -64,7 +54,8 @@ impl Model for FieldSection {
     ghost use Rattle.std.specs.Prelude.{List, length};
     ghost use Rattle.std.specs.List.{AllByRecursion};
     ghost use Rattle.qpack_spec.specs.Field.{FieldLine};
-    ghost use Rattle.qpack_connection.specs.FieldSections.{IsWithin, fields_in};
+    ghost use Rattle.qpack_base.specs.HeaderFields.{line_of};
+ghost use Rattle.qpack_connection.specs.FieldSections.{IsWithin, fields_in};
 
     ghost Value = { List FieldLine };
 
@@ -100,7 +91,7 @@ impl FieldSection {
 
     /// The field at an index, from 0.
     pub fn get(&self, index: usize) -> Option<FieldLine<'_>>
-        ensures { option_map lent result ≡ slice_get self.now index }
+        ensures { option_map line_of result ≡ slice_get self.now index }
     {
         let span = self.spans.get(index)?;
         Some(field_at(&self.text, span))
@@ -146,7 +137,8 @@ impl<'a> Model for Fields<'a> {
     ghost use Rattle.std.specs.Prelude.{List, length};
     ghost use Rattle.std.specs.List.{AllByRecursion};
     ghost use Rattle.qpack_spec.specs.Field.{FieldLine};
-    ghost use Rattle.qpack_connection.specs.FieldSections.{IsWithin, fields_in};
+    ghost use Rattle.qpack_base.specs.HeaderFields.{line_of};
+ghost use Rattle.qpack_connection.specs.FieldSections.{IsWithin, fields_in};
 
     ghost Value = { List FieldLine };
 

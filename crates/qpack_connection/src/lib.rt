@@ -1,6 +1,6 @@
-//! The decoding end of a QPACK connection (RFC 9204), on the proved calls of `h3_qpack`, and what it is made of: field
-//! sections read strictly, up to a limit, into memory that the caller keeps, and the encoder stream received strictly,
-//! however it is cut.
+//! The two ends of a QPACK connection (RFC 9204), on the proved calls of `h3_qpack`, and what they are made of: field
+//! sections read strictly, up to a limit, into memory that the caller keeps, and the two instruction streams received
+//! strictly, however they are cut.
 #![tactic(auto)]
 
 pub mod blocked;
@@ -14,10 +14,12 @@ pub mod section;
 
 pub use blocked::BlockedStream;
 pub use decoder::{ConnectionDecoder, DecoderSettings, DecodingError, SettingsError};
-pub use field_section::{FieldLine, FieldSection, Fields};
+pub use encoder::{ConnectionEncoder, EncoderSettings, EncodingError};
+pub use field_section::{FieldSection, Fields};
 pub use hearing::{DECODER_STREAM_ERROR, DecoderStream, DecoderStreamError, HearingError};
 pub use place::Place;
 pub use receiving::{ENCODER_STREAM_ERROR, EncoderStream, EncoderStreamError};
 pub use section::{
     DECOMPRESSION_FAILED, LineError, Reading, SectionError, longest_section, read_section,
 };
+pub use qpack_base::field::FieldLine;

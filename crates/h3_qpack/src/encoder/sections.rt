@@ -69,19 +69,49 @@ impl WritesSections for EncoderTable {
         encoder_buf: &mut Vec<u8, B>,
         fields: &[H],
     ) -> Result<usize, EncoderError> {
-        let len = block.len();
-        let mut handle = self.table.encoder(stream_id);
-        let appended = append_block(&mut handle, block, encoder_buf, fields);
-        let answer = end_block(handle, appended);
-        if answer.is_err() {
-            block.truncate(len);
-        }
-        answer
+        encode_section(&mut self.table, stream_id, block, encoder_buf, fields)
     }
 
     fn give_up(&mut self) {
         self.table.encoder(0).release();
     }
+}
+
+/// Encodes a field section of field lines that are lent for a stream, over a table, as `Encoder::encode` does over its
+/// own; one that is never to be indexed is a literal that says so, by the name of a static field or of an entry where
+/// the rule has one, and is neither inserted nor looked for (RFC 9204, sections 2.1 and 7.1.3). Nothing is copied but
+/// what is inserted. Appended are the block, to the one vector, and the instructions of what is inserted, to the other;
+/// answered is the block's required insert count, 0 if it references no entry.
+///
+/// Refused, which is for memory alone, the block is as before, the insertions that were made stand, their instructions
+/// are written, and nothing more is referenced.
+pub fn encode_section<A: Allocator, B: Allocator, H: AsField>(
+    table: &mut DynamicTable,
+    stream_id: u64,
+    block: &mut Vec<u8, A>,
+    encoder_buf: &mut Vec<u8, B>,
+    fields: &[H],
+) -> Result<usize, EncoderError>
+    ensures ok { IfOk result (λ required. EncodesLines stream_id (map H.line fields.now) table.old table.new
+        block.old.items block.new.items encoder_buf.old.items encoder_buf.new.items required) }
+    ensures err { OnErr result (GivesUpLines (map H.line fields.now) table.old table.new
+        encoder_buf.old.items encoder_buf.new.items) }
+    ensures as_before { OnErr result (block.new.items ≡ block.old.items) }
+    ensures memory { IfErr result (λ e. e ≡ Memory) }
+    ensures capacity { vec_capacity block.old ≤ vec_capacity block.new }
+    ensures still { OnOk result
+        (vec_len block.new ≤ vec_capacity block.old → vec_capacity block.new ≡ vec_capacity block.old) }
+    ensures instructions { GrowsWithin (instructions_room (fields_of_lines (map H.line fields.now))) encoder_buf.old
+        encoder_buf.new }
+{
+    let len = block.len();
+    let mut handle = table.encoder(stream_id);
+    let appended = append_block(&mut handle, block, encoder_buf, fields);
+    let answer = end_block(handle, appended);
+    if answer.is_err() {
+        block.truncate(len);
+    }
+    answer
 }
 
 /// Ends a block in progress, whose required insert count this is and is answered; or gives it up, where that is an

@@ -1,0 +1,10 @@
+use Rattle.std.proofs.Common.{◌≡◌, ◌≤◌, ◌++◌, map, take, vec_capacity}
+use Rattle.h3_qpack.proofs.MarkedFields.{written_stateless}
+use Rattle.h3_qpack.proofs.encoder.stateless.append_section.Given as goal
+
+abbrev pub invariant-loop-field : goal.invariant-loop-field
+invariant-loop-field g l = record {
+  written : l.block.items ≡ l.fn.block.items
+      ++ written_stateless (map g.H.AsField.line (take l.field-index l.fields));
+  capacity : vec_capacity l.fn.block ≤ vec_capacity l.block;
+}
