@@ -82,8 +82,17 @@ fn answer(
     section: &[u8],
 ) -> Result<Result<Reading, DecodingError>, Fail> {
     let section = bytes(alloc, section)?;
-    let mut fields = FieldSection::new(alloc);
-    let answer = decode(end, stream, &section, &mut fields);
+    answer_into(end, stream, &section, &mut FieldSection::new(alloc))
+}
+
+/// What a section is answered. Fields are given only where it is read.
+fn answer_into(
+    end: &mut ConnectionDecoder,
+    stream: u64,
+    section: &[u8],
+    fields: &mut FieldSection,
+) -> Result<Result<Reading, DecodingError>, Fail> {
+    let answer = decode(end, stream, section, fields);
     let is_read = matches!(answer, Ok(Reading::Fields { .. }));
     same(fields.is_empty() || is_read, true)?;
     Ok(answer)
@@ -118,7 +127,12 @@ fn blocks(
 /// The decoder stream has these bytes to be sent, in hexadecimal; then they are sent.
 fn sends(alloc: Global, end: &mut ConnectionDecoder, expected: &[u8]) -> Result<(), Fail> {
     let expected = bytes(alloc, expected)?;
-    same(end.decoder_stream(), expected.as_slice())?;
+    sends_bytes(end, &expected)
+}
+
+/// The decoder stream has these bytes to be sent; then they are sent.
+fn sends_bytes(end: &mut ConnectionDecoder, expected: &[u8]) -> Result<(), Fail> {
+    same(end.decoder_stream(), expected)?;
     end.sent(expected.len());
     same(end.decoder_stream(), b"")
 }
@@ -139,32 +153,60 @@ fn told(end: &ConnectionDecoder) -> (usize, usize, usize, usize) {
 /// An error with this code ended the connection: every further call answers it, and changes nothing.
 fn is_ended(alloc: Global, end: &mut ConnectionDecoder, code: u64) -> Result<(), Fail> {
     let failure = end.failure();
-    let found = failure.and_then(|error| error.code());
-    same(found, Some(code))?;
+    same(failure.and_then(|error| error.code()), Some(code))?;
     let before = told(end);
-    let mut fields = FieldSection::new(alloc);
-    same(receive(end, b"\x20").err(), failure)?;
-    same(receive(end, b"").err(), failure)?;
-    same(decode(end, 0, b"\x00\x00\xd1", &mut fields).err(), failure)?;
-    same(
-        decode(end, LAST_STREAM + 1, b"", &mut fields).err(),
-        failure,
-    )?;
-    same(fields.is_empty(), true)?;
-    same(cancel(end, 0).err(), failure)?;
-    same(cancel(end, LAST_STREAM + 1).err(), failure)?;
+    receives_no_more(end, failure)?;
+    decodes_no_more(end, failure, &mut FieldSection::new(alloc))?;
+    cancels_no_more(end, failure)?;
     same(told(end), before)?;
     same(end.failure(), failure)
 }
 
+/// Receiving bytes, or none, answers the error.
+fn receives_no_more(
+    end: &mut ConnectionDecoder,
+    failure: Option<DecodingError>,
+) -> Result<(), Fail> {
+    same(receive(end, b"\x20").err(), failure)?;
+    same(receive(end, b"").err(), failure)
+}
+
+/// Decoding a section answers the error, and gives no field.
+fn decodes_no_more(
+    end: &mut ConnectionDecoder,
+    failure: Option<DecodingError>,
+    fields: &mut FieldSection,
+) -> Result<(), Fail> {
+    same(decode(end, 0, b"\x00\x00\xd1", fields).err(), failure)?;
+    same(decode(end, LAST_STREAM + 1, b"", fields).err(), failure)?;
+    same(fields.is_empty(), true)
+}
+
+/// Giving a stream up answers the error.
+fn cancels_no_more(
+    end: &mut ConnectionDecoder,
+    failure: Option<DecodingError>,
+) -> Result<(), Fail> {
+    same(cancel(end, 0).err(), failure)?;
+    same(cancel(end, LAST_STREAM + 1).err(), failure)
+}
+
 /// Under this maximum capacity an encoder stream in hexadecimal is refused, whole and byte by byte.
 fn stream_ends(alloc: Global, max_capacity: usize, stream: &[u8]) -> Result<(), Fail> {
-    let bytes = bytes(alloc, stream)?;
-    for size in [1, 65_536] {
-        let mut end = begin(alloc, max_capacity, 1)?;
-        is_ended_by(alloc, &mut end, &bytes, size)?;
-    }
-    Ok(())
+    let stream = bytes(alloc, stream)?;
+    stream_ends_in_pieces(alloc, max_capacity, &stream, 1)?;
+    stream_ends_in_pieces(alloc, max_capacity, &stream, 65_536)
+}
+
+/// Under this maximum capacity an encoder stream in pieces of this size is refused.
+fn stream_ends_in_pieces(
+    alloc: Global,
+    max_capacity: usize,
+    stream: &[u8],
+    size: usize,
+) -> Result<(), Fail> {
+    let mut end = begin(alloc, max_capacity, 1)?;
+    is_ended_by(alloc, &mut end, stream, size)
 }
 
 /// An encoder stream in pieces of this size ends the connection.
@@ -189,22 +231,27 @@ fn section_ends(
     stream: &[u8],
     section: &[u8],
 ) -> Result<(), Fail> {
-    let stream = bytes(alloc, stream)?;
     let mut end = begin(alloc, max_capacity, 0)?;
-    is_ended_behind(alloc, &mut end, &stream, section)
+    is_ended_behind(alloc, &mut end, stream, section)
 }
 
-/// Behind an encoder stream, a section ends the connection.
+/// Behind an encoder stream, a section ends the connection, both in hexadecimal.
 fn is_ended_behind(
     alloc: Global,
     end: &mut ConnectionDecoder,
     stream: &[u8],
     section: &[u8],
 ) -> Result<(), Fail> {
-    same(receive(end, stream).is_ok(), true)?;
+    takes(alloc, end, stream)?;
     let answer = answer(alloc, end, 4, section)?;
     same(answer.err(), end.failure())?;
     is_ended(alloc, end, DECOMPRESSION_FAILED)
+}
+
+/// An end takes an encoder stream in hexadecimal.
+fn takes(alloc: Global, end: &mut ConnectionDecoder, stream: &[u8]) -> Result<(), Fail> {
+    let stream = bytes(alloc, stream)?;
+    same(receive(end, &stream).is_ok(), true)
 }
 
 /// An end of a maximum capacity of 220 bytes and three blocked streams at most, of which nothing has happened.
@@ -234,54 +281,68 @@ fn settings_are_refused_out_of_range(rt: HostRuntime) -> Result<(), Fail> {
     begins(&end)
 }
 
-#[test]
-fn encoder_streams_end_the_connection(rt: HostRuntime) -> Result<(), Fail> {
-    let alloc = rt.alloc();
+/// Maximum capacities, and encoder streams that are refused under them.
+const REFUSED_STREAMS: [(usize, &[u8]); 11] = [
     // An insertion at capacity 0 (RFC 9204, section 3.2.2).
-    stream_ends(alloc, 4096, b"c0")?;
-    stream_ends(alloc, 0, b"416100")?;
+    (4096, b"c0"),
+    (0, b"416100"),
     // At a capacity of 64 bytes an entry of 65 (section 3.2.2), whole, and by its lengths alone.
-    stream_ends(
-        alloc,
+    (
         4096,
         b"3f21436162631e616161616161616161616161616161616161616161616161616161616161",
-    )?;
-    stream_ends(alloc, 4096, b"3f21436162631e")?;
-    stream_ends(alloc, 4096, b"3f215f02")?;
+    ),
+    (4096, b"3f21436162631e"),
+    (4096, b"3f215f02"),
     // A capacity above the maximum (sections 3.2.3 and 4.3.1).
-    stream_ends(alloc, 100, b"3f46")?;
-    stream_ends(alloc, 0, b"21")?;
+    (100, b"3f46"),
+    (0, b"21"),
     // A static name past the table (section 3.1), and relative indexes of no entry (sections 3.2.5, 4.3.2 and 4.3.4).
-    stream_ends(alloc, 4096, b"3f21ff2400")?;
-    stream_ends(alloc, 4096, b"3f218000")?;
-    stream_ends(alloc, 4096, b"3f2141610001")?;
+    (4096, b"3f21ff2400"),
+    (4096, b"3f218000"),
+    (4096, b"3f2141610001"),
     // An integer past 2^62 (section 4.1.1).
-    stream_ends(alloc, 4096, b"3fffffffffffffffffff")
+    (4096, b"3fffffffffffffffffff"),
+];
+
+#[test]
+fn encoder_streams_end_the_connection(rt: HostRuntime) -> Result<(), Fail> {
+    for (max_capacity, stream) in REFUSED_STREAMS {
+        stream_ends(rt.alloc(), max_capacity, stream)?;
+    }
+    Ok(())
 }
+
+/// Sections that are refused behind two insertions.
+const REFUSED_SECTIONS: [&[u8]; 12] = [
+    // Required insert count 1: entry 2 by a relative index and by one behind the base, also as a name (section 2.2.3).
+    b"020180",
+    b"0201400163",
+    b"020010",
+    b"0200000163",
+    // A required insert count past the full range (section 4.5.1.1).
+    b"ff0200d1",
+    // A base below 0 (section 4.5.1.2).
+    b"0281d1",
+    b"0080d1",
+    // One blocked stream more than may be (section 2.1.2).
+    b"040080",
+    // A static index past the table (section 3.1), and a relative index of no entry.
+    b"0000ff24",
+    b"030082",
+    // Bytes that are no prefix, and a line that is cut (section 4.5).
+    b"",
+    b"0000d15102",
+];
 
 #[test]
 fn sections_end_the_connection(rt: HostRuntime) -> Result<(), Fail> {
     let alloc = rt.alloc();
-    // Required insert count 1: entry 2 by a relative index and by one behind the base, also as a name (section 2.2.3).
-    section_ends(alloc, 4096, TWO, b"020180")?;
-    section_ends(alloc, 4096, TWO, b"0201400163")?;
-    section_ends(alloc, 4096, TWO, b"020010")?;
-    section_ends(alloc, 4096, TWO, b"0200000163")?;
-    // A required insert count at maximum capacity 0, and past the full range (section 4.5.1.1).
+    for section in REFUSED_SECTIONS {
+        section_ends(alloc, 4096, TWO, section)?;
+    }
+    // A required insert count at maximum capacity 0 (section 4.5.1.1), and an entry that was evicted.
     section_ends(alloc, 0, b"", b"0200d1")?;
-    section_ends(alloc, 4096, TWO, b"ff0200d1")?;
-    // A base below 0 (section 4.5.1.2).
-    section_ends(alloc, 4096, TWO, b"0281d1")?;
-    section_ends(alloc, 4096, TWO, b"0080d1")?;
-    // One blocked stream more than may be (section 2.1.2).
-    section_ends(alloc, 4096, TWO, b"040080")?;
-    // A static index past the table (section 3.1), a relative index of no entry, and an entry that was evicted.
-    section_ends(alloc, 4096, TWO, b"0000ff24")?;
-    section_ends(alloc, 4096, TWO, b"030082")?;
-    section_ends(alloc, 40, b"3f09416100416200", b"030081")?;
-    // Bytes that are no prefix, and a line that is cut (section 4.5).
-    section_ends(alloc, 4096, TWO, b"")?;
-    section_ends(alloc, 4096, TWO, b"0000d15102")
+    section_ends(alloc, 40, b"3f09416100416200", b"030081")
 }
 
 /// Blocks two streams of an end that may have two, and one more.
@@ -360,29 +421,43 @@ fn sections_too_long_are_not_read(rt: HostRuntime) -> Result<(), Fail> {
 /// The encoder stream of a capacity of 4096 bytes and so many insertions of a field of 42 bytes.
 fn insertions(alloc: Global, many: usize) -> Result<Vec<u8>, Fail> {
     let mut stream = bytes(alloc, b"3fe11f")?;
+    push_insertions(&mut stream, many)?;
+    Ok(stream)
+}
+
+/// Adds so many insertions.
+fn push_insertions(stream: &mut Vec<u8>, many: usize) -> Result<(), Fail> {
     for _ in 0..many {
         again(|| stream.extend_from_slice(b"\xc0\x00"))?;
     }
-    Ok(stream)
+    Ok(())
 }
 
 /// So many insertions at once are reported by these increments.
 fn reports(alloc: Global, many: usize, increments: &[u8]) -> Result<(), Fail> {
-    let stream = insertions(alloc, many)?;
     let mut end = begin(alloc, 4096, 0)?;
-    reports_by(alloc, &mut end, &stream, many, increments)
+    reports_by(alloc, &mut end, many, increments)
 }
 
 /// An end receives so many insertions, and reports them by these increments.
 fn reports_by(
     alloc: Global,
     end: &mut ConnectionDecoder,
-    stream: &[u8],
     many: usize,
     increments: &[u8],
 ) -> Result<(), Fail> {
-    same(receive(end, stream), Ok(many))?;
+    receives_insertions(alloc, end, many)?;
     sends(alloc, end, increments)
+}
+
+/// An end receives so many insertions.
+fn receives_insertions(
+    alloc: Global,
+    end: &mut ConnectionDecoder,
+    many: usize,
+) -> Result<(), Fail> {
+    let stream = insertions(alloc, many)?;
+    same(receive(end, &stream), Ok(many))
 }
 
 /// Hands insertions in that are cut, and receives increments for those that are whole.
@@ -394,17 +469,24 @@ fn reports_in_turn(alloc: Global, end: &mut ConnectionDecoder) -> Result<(), Fai
     sends(alloc, end, b"0102")
 }
 
+/// How many insertions come at once, and the increments by which they are reported: each of 64, and one of the rest
+/// (RFC 9204, section 4.4.3).
+const REPORTED: [(usize, &[u8]); 7] = [
+    (0, b""),
+    (1, b"01"),
+    (62, b"3e"),
+    (63, b"3f00"),
+    (64, b"3f01"),
+    (65, b"3f0101"),
+    (191, b"3f013f013f00"),
+];
+
 #[test]
 fn insertions_are_reported(rt: HostRuntime) -> Result<(), Fail> {
     let alloc = rt.alloc();
-    // Increments of 64 and one of the rest (RFC 9204, section 4.4.3).
-    reports(alloc, 0, b"")?;
-    reports(alloc, 1, b"01")?;
-    reports(alloc, 62, b"3e")?;
-    reports(alloc, 63, b"3f00")?;
-    reports(alloc, 64, b"3f01")?;
-    reports(alloc, 65, b"3f0101")?;
-    reports(alloc, 191, b"3f013f013f00")?;
+    for (many, increments) in REPORTED {
+        reports(alloc, many, increments)?;
+    }
     // Each as it comes to be whole.
     let mut end = begin(alloc, 4096, 0)?;
     reports_in_turn(alloc, &mut end)

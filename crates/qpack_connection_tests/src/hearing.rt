@@ -13,9 +13,14 @@ use std::test::Fail;
 /// A table of this capacity; one block may be blocked.
 fn table(alloc: Global, capacity: usize) -> Result<DynamicTable, Error> {
     let mut table = DynamicTable::new(alloc);
-    table.set_max_size(capacity)?;
-    table.set_max_blocked(1)?;
+    set_bounds(&mut table, capacity, 1)?;
     Ok(table)
+}
+
+/// Sets the capacity of a table, and how many blocks may be blocked.
+fn set_bounds(table: &mut DynamicTable, capacity: usize, max_blocked: usize) -> Result<(), Error> {
+    table.set_max_size(capacity)?;
+    table.set_max_blocked(max_blocked)
 }
 
 /// References the entry of a field, which is inserted if there is none.
@@ -58,13 +63,22 @@ fn send(
 
 /// A table with a section on stream 0, whose entry is the first of three.
 fn table_of_three(alloc: Global) -> Result<DynamicTable, Error> {
-    let mut table = table(alloc, 4096)?;
-    table.set_max_blocked(3)?;
-    send(alloc, &mut table, 0, b"one")?;
-    send(alloc, &mut table, 4, b"two")?;
-    send(alloc, &mut table, 1000, b"three")?;
+    let mut table = DynamicTable::new(alloc);
+    send_three(alloc, &mut table)?;
     Ok(table)
 }
+
+/// Sends three sections, each with an entry of its own, on a table that is empty.
+fn send_three(alloc: Global, table: &mut DynamicTable) -> Result<(), Error> {
+    set_bounds(table, 4096, 3)?;
+    for (stream_id, name) in SECTIONS {
+        send(alloc, table, stream_id, name)?;
+    }
+    Ok(())
+}
+
+/// The streams and names of the three.
+const SECTIONS: [(u64, &[u8]); 3] = [(0, b"one"), (4, b"two"), (1000, b"three")];
 
 /// Receives bytes in pieces of this size, until one is refused.
 fn receive(
@@ -98,12 +112,36 @@ fn answers(
 ) -> Result<(), Fail> {
     let bytes = bytes(alloc, stream)?;
     for size in SIZES {
-        let mut table = table_of_three(alloc)?;
-        let mut stream = DecoderStream::new();
-        same(receive(&mut stream, &mut table, &bytes, size), answer)?;
-        same(table.known_received_count(), known)?;
+        answers_in_pieces(alloc, &bytes, size, answer, known)?;
     }
     Ok(())
+}
+
+/// The same of bytes in pieces of this size.
+fn answers_in_pieces(
+    alloc: Global,
+    bytes: &[u8],
+    size: usize,
+    answer: Result<(), DecoderStreamError>,
+    known: usize,
+) -> Result<(), Fail> {
+    let mut table = table_of_three(alloc)?;
+    table_answers(&mut table, bytes, size, answer, known)
+}
+
+/// The same, on this table.
+fn table_answers(
+    table: &mut DynamicTable,
+    bytes: &[u8],
+    size: usize,
+    answer: Result<(), DecoderStreamError>,
+    known: usize,
+) -> Result<(), Fail> {
+    same(
+        receive(&mut DecoderStream::new(), table, bytes, size),
+        answer,
+    )?;
+    same(table.known_received_count(), known)
 }
 
 // RFC 9204, section 4.4.3.
@@ -182,33 +220,44 @@ fn acknowledgments_raise_the_known_received_count(rt: HostRuntime) -> Result<(),
 /// Names, and how many insertions were made once one is inserted.
 const NAMES: [(&[u8], usize); 4] = [(b"one", 1), (b"two", 2), (b"six", 3), (b"ten", 4)];
 
+/// How many blocks of a table are unacknowledged, and how many are blocked.
+fn open_blocks(table: &DynamicTable) -> (usize, usize) {
+    (table.unacknowledged_blocks(), table.blocked_blocks())
+}
+
+/// A section on stream 4 makes an insertion, and is acknowledged.
+fn goes_on(
+    alloc: Global,
+    stream: &mut DecoderStream,
+    table: &mut DynamicTable,
+    name: &[u8],
+    inserted: usize,
+) -> Result<(), Fail> {
+    same(send(alloc, table, 4, name), Ok(inserted))?;
+    same(open_blocks(table), (1, 1))?;
+    same(table.oldest_required(4), Some(inserted))?;
+    same(receive(stream, table, b"\x84", 1), Ok(()))?;
+    same(open_blocks(table), (0, 0))?;
+    let known = (table.known_received_count(), table.oldest_required(4));
+    same(known, (inserted, None))
+}
+
+/// Makes an insertion behind the other, each acknowledged, and then references one that is known to be received.
+fn go_on(alloc: Global, stream: &mut DecoderStream, table: &mut DynamicTable) -> Result<(), Fail> {
+    for (name, inserted) in NAMES {
+        goes_on(alloc, stream, table, name, inserted)?;
+    }
+    same(send(alloc, table, 8, b"ten"), Ok(4))?;
+    // Nothing is blocked.
+    same(table.blocked_blocks(), 0)
+}
+
 // RFC 9204, sections 2.1.1 and 2.2.2.3.
 #[test]
 fn insertions_go_on_without_increments(rt: HostRuntime) -> Result<(), Fail> {
-    let alloc = rt.alloc();
     // One entry at most, so that each insertion evicts the one before it.
-    let mut table = table(alloc, 40)?;
-    let mut stream = DecoderStream::new();
-    for (name, inserted) in NAMES {
-        same(send(alloc, &mut table, 4, name), Ok(inserted))?;
-        same(
-            (table.unacknowledged_blocks(), table.blocked_blocks()),
-            (1, 1),
-        )?;
-        same(table.oldest_required(4), Some(inserted))?;
-        same(receive(&mut stream, &mut table, b"\x84", 1), Ok(()))?;
-        same(
-            (table.unacknowledged_blocks(), table.blocked_blocks()),
-            (0, 0),
-        )?;
-        same(
-            (table.known_received_count(), table.oldest_required(4)),
-            (inserted, None),
-        )?;
-    }
-    // An entry that is known to be received is referenced, and nothing is blocked.
-    same(send(alloc, &mut table, 8, b"ten"), Ok(4))?;
-    same(table.blocked_blocks(), 0)
+    let mut table = table(rt.alloc(), 40)?;
+    go_on(rt.alloc(), &mut DecoderStream::new(), &mut table)
 }
 
 /// Hands in instructions of which one is cut, and then its rest.
@@ -224,8 +273,7 @@ fn waits(stream: &mut DecoderStream, table: &mut DynamicTable) -> Result<(), Fai
 #[test]
 fn an_instruction_waits_until_it_is_whole(rt: HostRuntime) -> Result<(), Fail> {
     let mut table = table_of_three(rt.alloc())?;
-    let mut stream = DecoderStream::new();
-    waits(&mut stream, &mut table)
+    waits(&mut DecoderStream::new(), &mut table)
 }
 
 #[test]

@@ -52,17 +52,26 @@ fn answer(
     size: usize,
 ) -> Result<Result<(), EncoderStreamError>, Error> {
     let mut table = table(alloc, maximum)?;
-    let mut stream = EncoderStream::new(alloc);
-    Ok(receive_all(&mut stream, &mut table, bytes, size))
+    Ok(receive_all(&mut EncoderStream::new(alloc), &mut table, bytes, size))
+}
+
+/// Under this maximum, a stream is answered so, in pieces of any size.
+fn answers(
+    alloc: Global,
+    maximum: usize,
+    bytes: &[u8],
+    expected: Result<(), EncoderStreamError>,
+) -> Result<(), Fail> {
+    for size in SIZES {
+        same(answer(alloc, maximum, bytes, size)?, expected)?;
+    }
+    Ok(())
 }
 
 /// Under this maximum, a stream in hexadecimal is received, in pieces of any size.
 fn received(alloc: Global, maximum: usize, stream: &[u8]) -> Result<(), Fail> {
     let bytes = bytes(alloc, stream)?;
-    for size in SIZES {
-        same(answer(alloc, maximum, &bytes, size)?, Ok(()))?;
-    }
-    Ok(())
+    answers(alloc, maximum, &bytes, Ok(()))
 }
 
 /// Under this maximum, a stream in hexadecimal is refused at this place for this, in pieces of any size.
@@ -75,10 +84,7 @@ fn refused(
 ) -> Result<(), Fail> {
     let bytes = bytes(alloc, stream)?;
     let refusal = EncoderStreamError::Refused { place, error };
-    for size in SIZES {
-        same(answer(alloc, maximum, &bytes, size)?, Err(refusal))?;
-    }
-    Ok(())
+    answers(alloc, maximum, &bytes, Err(refusal))
 }
 
 /// The place of an instruction of this number, at this offset.
@@ -91,38 +97,71 @@ fn place(number: u64, offset: u64) -> Place {
 const STREAM: &[u8] = b"3fbd01c00f7777772e6578616d706c652e636f6dc10c2f73616d706c652f70617468\
     4a637573746f6d2d6b65790c637573746f6d2d76616c756502810d637573746f6d2d76616c756532";
 
+/// The entry of a relative index is this field.
+fn has(
+    alloc: Global,
+    table: &DynamicTable,
+    index: usize,
+    name: &[u8],
+    value: &[u8],
+) -> Result<(), Fail> {
+    let expected = field(alloc, name, value)?;
+    same(table.get_relative(index), Ok(&expected))
+}
+
+/// Receives the stream in pieces of this size, and has its five insertions.
+fn is_received(
+    alloc: Global,
+    stream: &mut EncoderStream,
+    table: &mut DynamicTable,
+    bytes: &[u8],
+    size: usize,
+) -> Result<(), Fail> {
+    same(receive_all(stream, table, bytes, size), Ok(()))?;
+    same((stream.waiting(), table.total_inserted()), (0, 5))?;
+    has(alloc, table, 0, b"custom-key", b"custom-value2")?;
+    has(alloc, table, 1, b":authority", b"www.example.com")
+}
+
+/// The same on a table of its own.
+fn is_received_in_pieces(alloc: Global, bytes: &[u8], size: usize) -> Result<(), Fail> {
+    let mut table = table(alloc, 220)?;
+    is_received(
+        alloc,
+        &mut EncoderStream::new(alloc),
+        &mut table,
+        bytes,
+        size,
+    )
+}
+
 #[test]
 fn streams_are_received_however_they_are_cut(rt: HostRuntime) -> Result<(), Fail> {
-    let alloc = rt.alloc();
-    let bytes = bytes(alloc, STREAM)?;
+    let bytes = bytes(rt.alloc(), STREAM)?;
     for size in SIZES {
-        let mut table = table(alloc, 220)?;
-        let mut stream = EncoderStream::new(alloc);
-        same(receive_all(&mut stream, &mut table, &bytes, size), Ok(()))?;
-        same(stream.waiting(), 0)?;
-        same(table.total_inserted(), 5)?;
-        let newest = field(alloc, b"custom-key", b"custom-value2")?;
-        same(table.get_relative(0), Ok(&newest))?;
-        let before = field(alloc, b":authority", b"www.example.com")?;
-        same(table.get_relative(1), Ok(&before))?;
+        is_received_in_pieces(rt.alloc(), &bytes, size)?;
     }
     Ok(())
 }
 
-#[test]
-fn an_instruction_waits_until_it_is_whole(rt: HostRuntime) -> Result<(), Fail> {
-    let alloc = rt.alloc();
-    let mut table = table(alloc, 220)?;
-    let mut stream = EncoderStream::new(alloc);
-    // The capacity, and all but the last byte of an insertion.
-    let front = bytes(alloc, b"3fbd01c00f7777772e6578616d706c652e636f")?;
-    same(receive(&mut stream, &mut table, &front), Ok(()))?;
+/// The capacity, and all but the last byte of an insertion.
+const FRONT: &[u8] = b"\x3f\xbd\x01\xc0\x0fwww.example.co";
+
+/// Hands in an instruction that is cut, and then its rest.
+fn waits(stream: &mut EncoderStream, table: &mut DynamicTable) -> Result<(), Fail> {
+    same(receive(stream, table, FRONT), Ok(()))?;
     same(stream.waiting(), 16)?;
     same((table.max_mem_size(), table.total_inserted()), (220, 0))?;
-    same(receive(&mut stream, &mut table, b""), Ok(()))?;
+    same(receive(stream, table, b""), Ok(()))?;
     same(stream.waiting(), 16)?;
-    same(receive(&mut stream, &mut table, b"m"), Ok(()))?;
+    same(receive(stream, table, b"m"), Ok(()))?;
     same((stream.waiting(), table.total_inserted()), (0, 1))
+}
+
+#[test]
+fn an_instruction_waits_until_it_is_whole(rt: HostRuntime) -> Result<(), Fail> {
+    let mut table = table(rt.alloc(), 220)?;
+    waits(&mut EncoderStream::new(rt.alloc()), &mut table)
 }
 
 /// That a field is too large for the table.
@@ -173,12 +212,15 @@ fn streams_are_refused_for_what_they_say(rt: HostRuntime) -> Result<(), Fail> {
     refused(alloc, 4096, b"3f21c0000100", place(3, 4), error)
 }
 
+/// Takes a capacity of 64 bytes, two insertions and a duplicate.
+fn stays_applied(stream: &mut EncoderStream, table: &mut DynamicTable) -> Result<(), Fail> {
+    let piece = b"\x3f\x21\xc0\x00\xc0\x00\x00";
+    same(receive(stream, table, piece), Ok(()))?;
+    same(table.total_inserted(), 3)
+}
+
 #[test]
 fn what_was_taken_before_stays_applied(rt: HostRuntime) -> Result<(), Fail> {
-    let alloc = rt.alloc();
-    let bytes = bytes(alloc, b"3f21c000c00000")?;
-    let mut table = table(alloc, 4096)?;
-    let mut stream = EncoderStream::new(alloc);
-    same(receive(&mut stream, &mut table, &bytes), Ok(()))?;
-    same(table.total_inserted(), 3)
+    let mut table = table(rt.alloc(), 4096)?;
+    stays_applied(&mut EncoderStream::new(rt.alloc()), &mut table)
 }

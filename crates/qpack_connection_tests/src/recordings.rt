@@ -251,11 +251,6 @@ const WIDE: &[Sent] = &[
     },
 ];
 
-/// How many insertions the instructions of each recording make.
-const NARROW_INSERTIONS: usize = 13;
-
-const WIDE_INSERTIONS: usize = 19;
-
 /// The sizes of pieces.
 const SIZES: [usize; 3] = [1, 7, 65_536];
 
@@ -281,14 +276,25 @@ impl Told {
             received: 0,
             acknowledged: Vec::new(alloc),
         };
-        let mut cursor = Cursor::new(end.decoder_stream());
-        for _ in end.decoder_stream() {
-            if let Some(line) = next_line(alloc, &mut cursor)? {
-                told.add(&line)?;
-            }
-        }
-        same(cursor.remaining(), 0)?;
+        told.read(alloc, end.decoder_stream())?;
         Ok(told)
+    }
+
+    /// Adds all instructions of a stream.
+    fn read(&mut self, alloc: Global, stream: &[u8]) -> Result<(), Fail> {
+        let mut cursor = Cursor::new(stream);
+        for _ in stream {
+            self.read_next(alloc, &mut cursor)?;
+        }
+        same(cursor.remaining(), 0)
+    }
+
+    /// Adds the next instruction, if there is one.
+    fn read_next(&mut self, alloc: Global, cursor: &mut Cursor<'_>) -> Result<(), Fail> {
+        match next_line(alloc, cursor)? {
+            Some(line) => self.add(&line),
+            None => Ok(()),
+        }
     }
 
     /// Adds an instruction, which is no cancellation.
@@ -336,7 +342,12 @@ impl Replay {
     /// Hands a section in; answers whether it was blocked. If not, its fields are right.
     fn is_blocked(&mut self, alloc: Global, sent: &Sent) -> Result<bool, Fail> {
         let section = bytes(alloc, sent.section)?;
-        match decode(&mut self.end, sent.stream, &section, &mut self.fields)? {
+        self.is_section_blocked(sent, &section)
+    }
+
+    /// The same, of its bytes.
+    fn is_section_blocked(&mut self, sent: &Sent, section: &[u8]) -> Result<bool, Fail> {
+        match decode(&mut self.end, sent.stream, section, &mut self.fields)? {
             Reading::Fields { .. } => {
                 has(&self.fields, sent.fields)?;
                 Ok(false)
@@ -379,39 +390,64 @@ impl Replay {
     /// Delivers the instructions before a section in pieces, and after each decodes what is ready.
     fn deliver(&mut self, alloc: Global, sent: &Sent, size: usize) -> Result<(), Fail> {
         let instructions = bytes(alloc, sent.instructions)?;
-        for piece in instructions.chunks(size.max(1)) {
-            let inserted = receive(&mut self.end, piece)?;
-            same(self.end.table().total_inserted(), inserted)?;
-            self.decode_ready(alloc)?;
+        self.deliver_bytes(alloc, &instructions, size)
+    }
+
+    /// Delivers instructions in pieces, and after each decodes what is ready.
+    fn deliver_bytes(&mut self, alloc: Global, bytes: &[u8], size: usize) -> Result<(), Fail> {
+        for piece in bytes.chunks(size.max(1)) {
+            self.deliver_piece(alloc, piece)?;
         }
         Ok(())
     }
 
-    /// Each section comes behind its instructions.
-    fn run_in_turn(&mut self, alloc: Global, size: usize, inserted: usize) -> Result<(), Fail> {
-        for sent in self.recording {
-            self.deliver(alloc, sent, size)?;
-            same(self.is_blocked(alloc, sent)?, false)?;
+    /// Delivers a piece, and decodes what is ready.
+    fn deliver_piece(&mut self, alloc: Global, piece: &[u8]) -> Result<(), Fail> {
+        let inserted = receive(&mut self.end, piece)?;
+        same(self.end.table().total_inserted(), inserted)?;
+        self.decode_ready(alloc)
+    }
+
+    /// The sections come in this order, and then everything was decoded.
+    fn run(
+        &mut self,
+        alloc: Global,
+        order: Order,
+        size: usize,
+        inserted: usize,
+    ) -> Result<(), Fail> {
+        match order {
+            Order::InTurn => self.run_in_turn(alloc, size)?,
+            Order::Late => self.run_late(alloc, size)?,
+            Order::Last => self.run_last(alloc, size)?,
         }
         self.is_over(alloc, inserted)
     }
 
+    /// Each section comes behind its instructions.
+    fn run_in_turn(&mut self, alloc: Global, size: usize) -> Result<(), Fail> {
+        for sent in self.recording {
+            self.deliver(alloc, sent, size)?;
+            same(self.is_blocked(alloc, sent)?, false)?;
+        }
+        Ok(())
+    }
+
     /// Each section comes before its instructions.
-    fn run_late(&mut self, alloc: Global, size: usize, inserted: usize) -> Result<(), Fail> {
+    fn run_late(&mut self, alloc: Global, size: usize) -> Result<(), Fail> {
         for sent in self.recording {
             same(self.is_blocked(alloc, sent)?, true)?;
             self.deliver(alloc, sent, size)?;
             same(self.end.blocked(), 0)?;
         }
-        self.is_over(alloc, inserted)
+        Ok(())
     }
 
     /// All sections come before all instructions.
-    fn run_last(&mut self, alloc: Global, size: usize, inserted: usize) -> Result<(), Fail> {
+    fn run_last(&mut self, alloc: Global, size: usize) -> Result<(), Fail> {
         self.hand_in_all(alloc)?;
         same(self.end.blocked(), self.recording.len())?;
-        self.deliver_all(alloc, size)?;
-        self.is_over(alloc, inserted)
+        self.deliver_all(alloc, size)
     }
 
     /// Everything was decoded, and each section acknowledged in its turn.
@@ -419,65 +455,81 @@ impl Replay {
         same((self.end.blocked(), self.end.waiting()), (0, 0))?;
         same(self.end.failure(), None)?;
         let told = Told::by(alloc, &self.end)?;
-        same(told.received, inserted)?;
-        let streams: &[u64] = &[0, 4, 8, 12];
-        same(told.acknowledged.as_slice(), streams)
+        same(
+            (told.received, told.acknowledged.as_slice()),
+            (inserted, STREAMS),
+        )
     }
 }
 
-/// Each section comes behind its instructions, and none is ever blocked.
-fn is_received_in_turn(
-    alloc: Global,
+/// The streams of each recording, in turn.
+const STREAMS: &[u64] = &[0, 4, 8, 12];
+
+/// A recording, the maximum capacity of its decoder, and how many insertions it makes.
+#[derive(Clone, Copy)]
+struct Case {
     recording: &'static [Sent],
     max_capacity: usize,
     inserted: usize,
-) -> Result<(), Fail> {
-    for size in SIZES {
-        let mut replay = Replay::new(alloc, recording, max_capacity, 0)?;
-        replay.run_in_turn(alloc, size, inserted)?;
-    }
-    Ok(())
 }
 
-/// Each section comes before its instructions, and is blocked until they came.
-fn is_received_late(
-    alloc: Global,
-    recording: &'static [Sent],
-    max_capacity: usize,
-    inserted: usize,
-) -> Result<(), Fail> {
-    for size in SIZES {
-        let mut replay = Replay::new(alloc, recording, max_capacity, 1)?;
-        replay.run_late(alloc, size, inserted)?;
-    }
-    Ok(())
+/// The recording in which entries are evicted.
+const NARROW_CASE: Case = Case {
+    recording: NARROW,
+    max_capacity: 256,
+    inserted: 13,
+};
+
+/// The recording in which none is.
+const WIDE_CASE: Case = Case {
+    recording: WIDE,
+    max_capacity: 4096,
+    inserted: 19,
+};
+
+/// When sections come.
+#[derive(Clone, Copy)]
+enum Order {
+    /// Each behind its instructions, so that none is ever blocked.
+    InTurn,
+    /// Each before its instructions, so that it is blocked until they came.
+    Late,
+    /// All before all instructions.
+    Last,
 }
 
-/// All sections come before all instructions.
-fn is_received_last(
-    alloc: Global,
-    recording: &'static [Sent],
-    max_capacity: usize,
-    inserted: usize,
-) -> Result<(), Fail> {
-    for size in SIZES {
-        let mut replay = Replay::new(alloc, recording, max_capacity, recording.len())?;
-        replay.run_last(alloc, size, inserted)?;
+impl Case {
+    /// The recording is received in this order, in pieces of any size.
+    fn is_received(self, alloc: Global, order: Order) -> Result<(), Fail> {
+        for size in SIZES {
+            self.is_received_in_pieces(alloc, order, size)?;
+        }
+        Ok(())
     }
-    Ok(())
+
+    /// The same in pieces of this size.
+    fn is_received_in_pieces(self, alloc: Global, order: Order, size: usize) -> Result<(), Fail> {
+        let max_blocked = match order {
+            Order::InTurn => 0,
+            Order::Late => 1,
+            Order::Last => self.recording.len(),
+        };
+        let mut replay = Replay::new(alloc, self.recording, self.max_capacity, max_blocked)?;
+        replay.run(alloc, order, size, self.inserted)
+    }
 }
 
 #[test]
 fn recorded_sections_come_behind_their_instructions(rt: HostRuntime) -> Result<(), Fail> {
     let alloc = rt.alloc();
-    is_received_in_turn(alloc, NARROW, 256, NARROW_INSERTIONS)?;
-    is_received_in_turn(alloc, WIDE, 4096, WIDE_INSERTIONS)
+    NARROW_CASE.is_received(alloc, Order::InTurn)?;
+    WIDE_CASE.is_received(alloc, Order::InTurn)
 }
 
 #[test]
 fn recorded_sections_come_before_their_instructions(rt: HostRuntime) -> Result<(), Fail> {
     let alloc = rt.alloc();
-    is_received_late(alloc, NARROW, 256, NARROW_INSERTIONS)?;
-    is_received_late(alloc, WIDE, 4096, WIDE_INSERTIONS)?;
-    is_received_last(alloc, WIDE, 4096, WIDE_INSERTIONS)
+    NARROW_CASE.is_received(alloc, Order::Late)?;
+    WIDE_CASE.is_received(alloc, Order::Late)?;
+    WIDE_CASE.is_received(alloc, Order::Last)
 }

@@ -25,10 +25,16 @@ fn put(alloc: Global, table: &mut DynamicTable, name: &[u8]) -> Result<(), Error
 fn table(alloc: Global, capacity: usize, names: &[&[u8]]) -> Result<DynamicTable, Error> {
     let mut table = DynamicTable::new(alloc);
     table.set_max_size(capacity)?;
-    for name in names {
-        put(alloc, &mut table, name)?;
-    }
+    put_all(alloc, &mut table, names)?;
     Ok(table)
+}
+
+/// Puts a field of each name.
+fn put_all(alloc: Global, table: &mut DynamicTable, names: &[&[u8]]) -> Result<(), Error> {
+    for name in names {
+        put(alloc, table, name)?;
+    }
+    Ok(())
 }
 
 /// Reads a section, again where memory was refused.
@@ -73,10 +79,32 @@ fn reads(
     required: usize,
 ) -> Result<(), Fail> {
     let section = bytes(alloc, section)?;
-    let mut fields = FieldSection::new(alloc);
-    let answer = read(table, &section, NO_LIMIT, &mut fields);
+    let fields = &mut FieldSection::new(alloc);
+    reads_into(table, &section, rows, required, fields)
+}
+
+/// A section is read as these fields, and requires so many insertions.
+fn reads_into(
+    table: &DynamicTable,
+    section: &[u8],
+    rows: &[Row],
+    required: usize,
+    fields: &mut FieldSection,
+) -> Result<(), Fail> {
+    let answer = read(table, section, NO_LIMIT, fields);
     same(answer, Ok(Reading::Fields { required }))?;
-    has(&fields, rows)
+    has(fields, rows)
+}
+
+/// A section in hexadecimal, the fields that it is read as, and how many insertions it requires.
+type Read = (&'static [u8], &'static [Row], usize);
+
+/// Each section is read so.
+fn read_all(alloc: Global, table: &DynamicTable, sections: &[Read]) -> Result<(), Fail> {
+    for (section, rows, required) in sections {
+        reads(alloc, table, section, rows, *required)?;
+    }
+    Ok(())
 }
 
 /// What reading answers, printed.
@@ -100,310 +128,357 @@ fn gives_none(
     section: &[u8],
     answer: &str,
 ) -> Result<(), Fail> {
-    let section = bytes(alloc, section)?;
-    let mut fields = FieldSection::new(alloc);
-    let shown = Shown(read(table, &section, limit, &mut fields));
-    has(&fields, &[])?;
-    prints(alloc, &shown, answer)
+    let found = answer_without_fields(alloc, table, limit, section)?;
+    prints(alloc, &Shown(found), answer)
 }
 
+/// What a section in hexadecimal is answered that gives no field.
+fn answer_without_fields(
+    alloc: Global,
+    table: &DynamicTable,
+    limit: u64,
+    section: &[u8],
+) -> Result<Result<Reading, SectionError>, Fail> {
+    let section = bytes(alloc, section)?;
+    read_none(table, &section, limit, &mut FieldSection::new(alloc))
+}
+
+/// What a section is answered that gives no field.
+fn read_none(
+    table: &DynamicTable,
+    section: &[u8],
+    limit: u64,
+    fields: &mut FieldSection,
+) -> Result<Result<Reading, SectionError>, Fail> {
+    let answer = read(table, section, limit, fields);
+    has(fields, &[])?;
+    Ok(answer)
+}
+
+/// A section in hexadecimal, and what is printed of its answer.
+type Refused = (&'static [u8], &'static str);
+
 /// The same of several sections, without a limit.
-fn give_none(alloc: Global, table: &DynamicTable, rows: &[(&[u8], &str)]) -> Result<(), Fail> {
-    for (section, answer) in rows {
+fn give_none(alloc: Global, table: &DynamicTable, sections: &[Refused]) -> Result<(), Fail> {
+    for (section, answer) in sections {
         gives_none(alloc, table, NO_LIMIT, section, answer)?;
     }
     Ok(())
 }
 
-#[test]
-fn static_fields_and_literals_are_read(rt: HostRuntime) -> Result<(), Fail> {
-    let alloc = rt.alloc();
-    let table = table(alloc, 0, &[])?;
-    reads(alloc, &table, b"0000", &[], 0)?;
-    reads(
-        alloc,
-        &table,
+/// Fields of the static table, with values of their own or without.
+const STATIC: &[Read] = &[
+    (b"0000", &[], 0),
+    (
         b"0000d1c1",
         &[(b":method", b"GET", false), (b":path", b"/", false)],
         0,
-    )?;
+    ),
     // A delta base means nothing where nothing is required.
-    reads(alloc, &table, b"0005d1", &[(b":method", b"GET", false)], 0)?;
-    reads(
-        alloc,
-        &table,
-        b"000051022f61",
-        &[(b":path", b"/a", false)],
-        0,
-    )?;
-    reads(
-        alloc,
-        &table,
-        b"0000518260bf",
-        &[(b":path", b"/e", false)],
-        0,
-    )?;
-    reads(alloc, &table, b"00002261620163", &[(b"ab", b"c", false)], 0)?;
-    reads(alloc, &table, b"00002000", &[(b"", b"", false)], 0)
+    (b"0005d1", &[(b":method", b"GET", false)], 0),
+    (b"000051022f61", &[(b":path", b"/a", false)], 0),
+    (b"0000518260bf", &[(b":path", b"/e", false)], 0),
+];
+
+/// Literals with names of their own.
+const LITERALS: &[Read] = &[
+    (b"00002261620163", &[(b"ab", b"c", false)], 0),
+    (b"00002000", &[(b"", b"", false)], 0),
+];
+
+#[test]
+fn static_fields_and_literals_are_read(rt: HostRuntime) -> Result<(), Fail> {
+    let table = table(rt.alloc(), 0, &[])?;
+    read_both(rt.alloc(), &table, STATIC, LITERALS)
 }
+
+/// Each section of both is read so.
+fn read_both(
+    alloc: Global,
+    table: &DynamicTable,
+    some: &[Read],
+    others: &[Read],
+) -> Result<(), Fail> {
+    read_all(alloc, table, some)?;
+    read_all(alloc, table, others)
+}
+
+/// References to the entries `foo: bar` and `baz: bar`, in this order.
+const REFERENCES: &[Read] = &[
+    // Required insert count 2 and base 2.
+    (
+        b"03008081",
+        &[(b"baz", b"bar", false), (b"foo", b"bar", false)],
+        2,
+    ),
+    // Required insert count 2 and base 0.
+    (
+        b"03811011",
+        &[(b"foo", b"bar", false), (b"baz", b"bar", false)],
+        2,
+    ),
+    // More is required than the lines reference.
+    (b"030081", &[(b"foo", b"bar", false)], 2),
+];
+
+/// References to their names, at the same counts and bases.
+const NAME_REFERENCES: &[Read] = &[
+    (
+        b"03004001634100",
+        &[(b"baz", b"c", false), (b"foo", b"", false)],
+        2,
+    ),
+    (
+        b"03810001630100",
+        &[(b"foo", b"c", false), (b"baz", b"", false)],
+        2,
+    ),
+];
 
 #[test]
 fn entries_are_read(rt: HostRuntime) -> Result<(), Fail> {
-    let alloc = rt.alloc();
-    let table = table(alloc, 4096, &[b"foo", b"baz"])?;
-    // Required insert count 2 and base 2.
-    let both: &[Row] = &[(b"baz", b"bar", false), (b"foo", b"bar", false)];
-    reads(alloc, &table, b"03008081", both, 2)?;
-    // Required insert count 2 and base 0.
-    let both: &[Row] = &[(b"foo", b"bar", false), (b"baz", b"bar", false)];
-    reads(alloc, &table, b"03811011", both, 2)?;
-    let named: &[Row] = &[(b"baz", b"c", false), (b"foo", b"", false)];
-    reads(alloc, &table, b"03004001634100", named, 2)?;
-    let named: &[Row] = &[(b"foo", b"c", false), (b"baz", b"", false)];
-    reads(alloc, &table, b"03810001630100", named, 2)?;
-    // More is required than the lines reference.
-    reads(alloc, &table, b"030081", &[(b"foo", b"bar", false)], 2)
+    let table = table(rt.alloc(), 4096, &[b"foo", b"baz"])?;
+    read_both(rt.alloc(), &table, REFERENCES, NAME_REFERENCES)
 }
+
+/// Literals that are never to be indexed.
+const NEVER_INDEXED: &[Read] = &[
+    (b"000071022f61", &[(b":path", b"/a", true)], 0),
+    (b"00003261620163", &[(b"ab", b"c", true)], 0),
+    (b"0200600163", &[(b"foo", b"c", true)], 1),
+    (b"0280080163", &[(b"foo", b"c", true)], 1),
+];
+
+/// The bit H of a name, and the high bits of indexes, are no N.
+const INDEXED: &[Read] = &[
+    (b"00002a60bf0163", &[(b"/e", b"c", false)], 0),
+    (b"0000ff22", &[(b"x-frame-options", b"deny", false)], 0),
+    (b"00005f000163", &[(b":method", b"c", false)], 0),
+];
 
 #[test]
 fn literals_tell_that_they_are_never_indexed(rt: HostRuntime) -> Result<(), Fail> {
-    let alloc = rt.alloc();
-    let table = table(alloc, 4096, &[b"foo"])?;
-    reads(
-        alloc,
-        &table,
-        b"000071022f61",
-        &[(b":path", b"/a", true)],
-        0,
-    )?;
-    reads(alloc, &table, b"00003261620163", &[(b"ab", b"c", true)], 0)?;
-    reads(alloc, &table, b"0200600163", &[(b"foo", b"c", true)], 1)?;
-    reads(alloc, &table, b"0280080163", &[(b"foo", b"c", true)], 1)?;
-    // The bit H of a name, and the high bits of indexes, are no N.
-    reads(alloc, &table, b"00002a60bf0163", &[(b"/e", b"c", false)], 0)?;
-    reads(
-        alloc,
-        &table,
-        b"0000ff22",
-        &[(b"x-frame-options", b"deny", false)],
-        0,
-    )?;
-    reads(
-        alloc,
-        &table,
-        b"00005f000163",
-        &[(b":method", b"c", false)],
-        0,
-    )
+    let table = table(rt.alloc(), 4096, &[b"foo"])?;
+    read_both(rt.alloc(), &table, NEVER_INDEXED, INDEXED)
+}
+
+/// References past the required insert count, where two entries stand.
+const PAST_REQUIRED: &[Refused] = &[
+    // Required insert count 1 and base 2.
+    (
+        b"020180",
+        "Line { number: 1, offset: 2, error: PastRequired(2) }",
+    ),
+    (
+        b"02018180",
+        "Line { number: 2, offset: 3, error: PastRequired(2) }",
+    ),
+    (
+        b"0201400163",
+        "Line { number: 1, offset: 2, error: PastRequired(2) }",
+    ),
+    // Required insert count 1, base 0.
+    (
+        b"028011",
+        "Line { number: 1, offset: 2, error: PastRequired(2) }",
+    ),
+    (
+        b"0280010163",
+        "Line { number: 1, offset: 2, error: PastRequired(2) }",
+    ),
+    // Nothing is required.
+    (
+        b"000010",
+        "Line { number: 1, offset: 2, error: PastRequired(1) }",
+    ),
+    // The line's bytes come first.
+    (
+        b"02014002",
+        "Line { number: 1, offset: 2, error: Meaningless(InvalidString(UnexpectedEnd)) }",
+    ),
+];
+
+/// Required insert count 1, base 2: the oldest entry is not past the count.
+const NOT_PAST: &[Row] = &[(b"foo", b"bar", false)];
+
+/// Reads a reference within the required insert count, and refuses those past it.
+fn keeps_to_the_count(alloc: Global, table: &DynamicTable) -> Result<(), Fail> {
+    reads(alloc, table, b"020181", NOT_PAST, 1)?;
+    give_none(alloc, table, PAST_REQUIRED)
 }
 
 #[test]
 fn references_past_the_required_insert_count_are_refused(rt: HostRuntime) -> Result<(), Fail> {
-    let alloc = rt.alloc();
-    let table = table(alloc, 4096, &[b"foo", b"baz"])?;
-    // Required insert count 1, base 2: the newest entry is past the count, the oldest is not.
-    reads(alloc, &table, b"020181", &[(b"foo", b"bar", false)], 1)?;
-    give_none(
-        alloc,
-        &table,
-        &[
-            (
-                b"020180",
-                "Line { number: 1, offset: 2, error: PastRequired(2) }",
-            ),
-            (
-                b"02018180",
-                "Line { number: 2, offset: 3, error: PastRequired(2) }",
-            ),
-            (
-                b"0201400163",
-                "Line { number: 1, offset: 2, error: PastRequired(2) }",
-            ),
-            // Required insert count 1, base 0.
-            (
-                b"028011",
-                "Line { number: 1, offset: 2, error: PastRequired(2) }",
-            ),
-            (
-                b"0280010163",
-                "Line { number: 1, offset: 2, error: PastRequired(2) }",
-            ),
-            // Nothing is required.
-            (
-                b"000010",
-                "Line { number: 1, offset: 2, error: PastRequired(1) }",
-            ),
-            // The line's bytes come first.
-            (
-                b"02014002",
-                "Line { number: 1, offset: 2, error: Meaningless(InvalidString(UnexpectedEnd)) }",
-            ),
-        ],
-    )
+    let table = table(rt.alloc(), 4096, &[b"foo", b"baz"])?;
+    keeps_to_the_count(rt.alloc(), &table)
+}
+
+/// Prefixes that are refused at capacity 0.
+const PREFIXES_AT_ZERO: &[Refused] = &[
+    (b"", "Prefix(InvalidInteger(UnexpectedEnd))"),
+    (b"00", "Prefix(InvalidInteger(UnexpectedEnd))"),
+    (b"0200d1", "CountAtZero"),
+    (b"0180", "CountAtZero"),
+    (b"0080d1", "Prefix(BadBaseIndex(-1))"),
+    (b"0085", "Prefix(BadBaseIndex(-6))"),
+];
+
+/// Prefixes that are refused where a table has one entry at most.
+const PREFIXES: &[Refused] = &[
+    (b"0300", "Prefix(InvalidInteger(Overflow))"),
+    (b"0281", "Prefix(BadBaseIndex(-1))"),
+];
+
+/// On a table of its own, the sections give no field.
+fn refuse(
+    alloc: Global,
+    capacity: usize,
+    names: &[&[u8]],
+    sections: &[Refused],
+) -> Result<(), Fail> {
+    let table = table(alloc, capacity, names)?;
+    give_none(alloc, &table, sections)
 }
 
 #[test]
 fn prefixes_are_refused(rt: HostRuntime) -> Result<(), Fail> {
-    let alloc = rt.alloc();
-    give_none(
-        alloc,
-        &table(alloc, 0, &[])?,
-        &[
-            (b"", "Prefix(InvalidInteger(UnexpectedEnd))"),
-            (b"00", "Prefix(InvalidInteger(UnexpectedEnd))"),
-            (b"0200d1", "CountAtZero"),
-            (b"0180", "CountAtZero"),
-            (b"0080d1", "Prefix(BadBaseIndex(-1))"),
-            (b"0085", "Prefix(BadBaseIndex(-6))"),
-        ],
-    )?;
-    // One entry at most.
-    give_none(
-        alloc,
-        &table(alloc, 40, &[b"foo"])?,
-        &[
-            (b"0300", "Prefix(InvalidInteger(Overflow))"),
-            (b"0281", "Prefix(BadBaseIndex(-1))"),
-        ],
-    )
+    refuse(rt.alloc(), 0, &[], PREFIXES_AT_ZERO)?;
+    refuse(rt.alloc(), 40, &[b"foo"], PREFIXES)
 }
+
+/// Lines that are refused where one entry stands.
+const REFUSED_LINES: &[Refused] = &[
+    (
+        b"0000ff24",
+        "Line { number: 1, offset: 2, error: Meaningless(InvalidStaticIndex(99)) }",
+    ),
+    (
+        b"0000d15f5400",
+        "Line { number: 2, offset: 3, error: Meaningless(InvalidStaticIndex(99)) }",
+    ),
+    (
+        b"020081",
+        "Line { number: 1, offset: 2, error: Meaningless(DynamicTable(BadRelativeIndex(1))) }",
+    ),
+    (
+        b"0200d1410163",
+        "Line { number: 2, offset: 3, error: Meaningless(DynamicTable(BadRelativeIndex(1))) }",
+    ),
+    (
+        b"0000d1ff",
+        "Line { number: 2, offset: 3, error: Meaningless(InvalidInteger(UnexpectedEnd)) }",
+    ),
+    (
+        b"00005102",
+        "Line { number: 1, offset: 2, error: Meaningless(InvalidString(UnexpectedEnd)) }",
+    ),
+    (
+        b"00005184ffffffff",
+        "Line { number: 1, offset: 2, error: \
+        Meaningless(InvalidString(HuffmanDecoding(\
+        Unhandled(BitWindow { byte: 0, bit: 0, count: 32 }, 1073741823)))) }",
+    ),
+];
 
 #[test]
 fn lines_are_refused_where_they_stand(rt: HostRuntime) -> Result<(), Fail> {
-    let alloc = rt.alloc();
-    let table = table(alloc, 4096, &[b"foo"])?;
-    give_none(
-        alloc,
-        &table,
-        &[
-            (
-                b"0000ff24",
-                "Line { number: 1, offset: 2, error: Meaningless(InvalidStaticIndex(99)) }",
-            ),
-            (
-                b"0000d15f5400",
-                "Line { number: 2, offset: 3, error: Meaningless(InvalidStaticIndex(99)) }",
-            ),
-            (
-                b"020081",
-                "Line { number: 1, offset: 2, error: Meaningless(DynamicTable(BadRelativeIndex(1))) }",
-            ),
-            (
-                b"0200d1410163",
-                "Line { number: 2, offset: 3, error: Meaningless(DynamicTable(BadRelativeIndex(1))) }",
-            ),
-            (
-                b"0000d1ff",
-                "Line { number: 2, offset: 3, error: Meaningless(InvalidInteger(UnexpectedEnd)) }",
-            ),
-            (
-                b"00005102",
-                "Line { number: 1, offset: 2, error: Meaningless(InvalidString(UnexpectedEnd)) }",
-            ),
-            (
-                b"00005184ffffffff",
-                "Line { number: 1, offset: 2, error: \
-            Meaningless(InvalidString(HuffmanDecoding(\
-            Unhandled(BitWindow { byte: 0, bit: 0, count: 32 }, 1073741823)))) }",
-            ),
-        ],
-    )
+    refuse(rt.alloc(), 4096, &[b"foo"], REFUSED_LINES)
+}
+
+/// The answer to a first field of 42 bytes that passes the limit.
+const ONE_TOO_LARGE: &str = "Line { number: 1, offset: 2, error: TooLarge(42) }";
+
+/// Limits, sections that pass them, and what is printed of the answers. A field `:method: GET` is of 42 bytes.
+const PAST_LIMITS: [(u64, &[u8], &str); 6] = [
+    (
+        83,
+        b"0000d1d1",
+        "Line { number: 2, offset: 3, error: TooLarge(84) }",
+    ),
+    (41, b"0000d1d1", ONE_TOO_LARGE),
+    (0, b"0000d1", ONE_TOO_LARGE),
+    // At a limit of 0 no section is longer than twenty bytes.
+    (
+        0,
+        b"0000d1d1d1d1d1d1d1d1d1d1d1d1d1d1d1d1d1d1",
+        ONE_TOO_LARGE,
+    ),
+    (0, b"0000d1d1d1d1d1d1d1d1d1d1d1d1d1d1d1d1d1d1d1", "TooLong"),
+    (0, b"ffd1d1d1d1d1d1d1d1d1d1d1d1d1d1d1d1d1d1d1d1", "TooLong"),
+];
+
+/// Reads a section of two such fields at its limit, and refuses those past theirs.
+fn keeps_to_limits(
+    alloc: Global,
+    table: &DynamicTable,
+    fields: &mut FieldSection,
+) -> Result<(), Fail> {
+    same(
+        read(table, b"\x00\x00\xd1\xd1", 84, fields),
+        Ok(Reading::Fields { required: 0 }),
+    )?;
+    for (limit, section, answer) in PAST_LIMITS {
+        gives_none(alloc, table, limit, section, answer)?;
+    }
+    Ok(())
 }
 
 #[test]
 fn limits_are_on_sizes(rt: HostRuntime) -> Result<(), Fail> {
-    let alloc = rt.alloc();
-    let table = table(alloc, 0, &[])?;
-    let mut fields = FieldSection::new(alloc);
-    let section = bytes(alloc, b"0000d1d1")?;
-    // A field `:method: GET` is of 42 bytes.
-    same(
-        read(&table, &section, 84, &mut fields),
-        Ok(Reading::Fields { required: 0 }),
-    )?;
-    let one = "Line { number: 1, offset: 2, error: TooLarge(42) }";
-    gives_none(
-        alloc,
-        &table,
-        83,
-        b"0000d1d1",
-        "Line { number: 2, offset: 3, error: TooLarge(84) }",
-    )?;
-    gives_none(alloc, &table, 41, b"0000d1d1", one)?;
-    gives_none(alloc, &table, 0, b"0000d1", one)?;
-    // At a limit of 0 no section is longer than twenty bytes.
-    gives_none(
-        alloc,
-        &table,
-        0,
-        b"0000d1d1d1d1d1d1d1d1d1d1d1d1d1d1d1d1d1d1",
-        one,
-    )?;
-    gives_none(
-        alloc,
-        &table,
-        0,
-        b"0000d1d1d1d1d1d1d1d1d1d1d1d1d1d1d1d1d1d1d1",
-        "TooLong",
-    )?;
-    gives_none(
-        alloc,
-        &table,
-        0,
-        b"ffd1d1d1d1d1d1d1d1d1d1d1d1d1d1d1d1d1d1d1d1",
-        "TooLong",
-    )
+    let table = table(rt.alloc(), 0, &[])?;
+    keeps_to_limits(rt.alloc(), &table, &mut FieldSection::new(rt.alloc()))
+}
+
+/// Sections that wait for a second insertion.
+const WAITING: &[Refused] = &[
+    (b"030080", "Blocked { required: 2 }"),
+    (b"0300ff", "Blocked { required: 2 }"),
+    (b"0300", "Blocked { required: 2 }"),
+];
+
+/// The field of the second insertion.
+const SECOND: &[Row] = &[(b"baz", b"bar", false)];
+
+/// Sections wait for the second insertion, and one is read behind it.
+fn waits(alloc: Global, table: &mut DynamicTable) -> Result<(), Fail> {
+    give_none(alloc, table, WAITING)?;
+    put(alloc, table, b"baz")?;
+    reads(alloc, table, b"030080", SECOND, 2)
 }
 
 #[test]
 fn sections_wait_for_insertions(rt: HostRuntime) -> Result<(), Fail> {
-    let alloc = rt.alloc();
-    let mut table = table(alloc, 4096, &[b"foo"])?;
-    let blocked = "Blocked { required: 2 }";
-    give_none(
-        alloc,
-        &table,
-        &[
-            (b"030080", blocked),
-            (b"0300ff", blocked),
-            (b"0300", blocked),
-        ],
+    let mut table = table(rt.alloc(), 4096, &[b"foo"])?;
+    waits(rt.alloc(), &mut table)
+}
+
+/// Two fields of the static table.
+const TWO_STATIC: &[Row] = &[(b":method", b"GET", false), (b":path", b"/", false)];
+
+/// The field of the one entry.
+const ENTRY: &[Row] = &[(b"foo", b"bar", false)];
+
+/// Reads sections into the same fields, one of which waits, and clears them.
+fn is_used_again(table: &DynamicTable, fields: &mut FieldSection) -> Result<(), Fail> {
+    reads_into(table, b"\x00\x00\xd1\xc1", TWO_STATIC, 0, fields)?;
+    reads_into(table, b"\x02\x00\x80", ENTRY, 1, fields)?;
+    let answer = read_none(table, b"\x03\x00", NO_LIMIT, fields)?;
+    same(answer, Ok(Reading::Blocked { required: 2 }))?;
+    is_cleared(table, fields)
+}
+
+/// Reads a section, and clears its fields.
+fn is_cleared(table: &DynamicTable, fields: &mut FieldSection) -> Result<(), Fail> {
+    same(
+        read(table, b"\x00\x00\xd1", NO_LIMIT, fields),
+        Ok(Reading::Fields { required: 0 }),
     )?;
-    put(alloc, &mut table, b"baz")?;
-    reads(alloc, &table, b"030080", &[(b"baz", b"bar", false)], 2)
+    fields.clear();
+    has(fields, &[])
 }
 
 #[test]
 fn a_field_section_is_used_again(rt: HostRuntime) -> Result<(), Fail> {
-    let alloc = rt.alloc();
-    let table = table(alloc, 4096, &[b"foo"])?;
-    let mut fields = FieldSection::new(alloc);
-    let section = bytes(alloc, b"0000d1c1")?;
-    same(
-        read(&table, &section, NO_LIMIT, &mut fields),
-        Ok(Reading::Fields { required: 0 }),
-    )?;
-    has(
-        &fields,
-        &[(b":method", b"GET", false), (b":path", b"/", false)],
-    )?;
-    let section = bytes(alloc, b"020080")?;
-    same(
-        read(&table, &section, NO_LIMIT, &mut fields),
-        Ok(Reading::Fields { required: 1 }),
-    )?;
-    has(&fields, &[(b"foo", b"bar", false)])?;
-    let section = bytes(alloc, b"0300")?;
-    same(
-        read(&table, &section, NO_LIMIT, &mut fields),
-        Ok(Reading::Blocked { required: 2 }),
-    )?;
-    has(&fields, &[])?;
-    let section = bytes(alloc, b"0000d1")?;
-    same(
-        read(&table, &section, NO_LIMIT, &mut fields),
-        Ok(Reading::Fields { required: 0 }),
-    )?;
-    fields.clear();
-    has(&fields, &[])
+    let table = table(rt.alloc(), 4096, &[b"foo"])?;
+    is_used_again(&table, &mut FieldSection::new(rt.alloc()))
 }
