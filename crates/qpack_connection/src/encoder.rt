@@ -265,7 +265,8 @@ impl ConnectionEncoder {
 
     /// Sets the capacity of the table in bytes, and writes the instruction that tells it (RFC 9204, sections 3.2.3 and
     /// 4.3.1). If the capacity of the settings was not told yet, this one is told in its place. What doesn't fit is
-    /// evicted, the oldest first (section 3.2.2).
+    /// evicted, the oldest first (section 3.2.2). Where the maximum is 0 the table has the only capacity that there is,
+    /// and nothing is written (section 3.2.3).
     ///
     /// Refused are, in this order: every call behind an error that ended the connection, by that error; a capacity
     /// above the maximum (`CapacityTooLarge`); one for which an entry that is not evictable would have to go
@@ -275,6 +276,9 @@ impl ConnectionEncoder {
     {
         if let Some(failure) = self.failure {
             return Err(failure);
+        }
+        if capacity == 0 && self.settings.max_capacity == 0 {
+            return Ok(());
         }
         self.tell(capacity)
     }
