@@ -154,7 +154,8 @@ adds_last t base ls l mid new lines_old lines_mid lines_new written_old written_
     let d = draft_of_lines t base ls in
     let goes = goes_on_lines t base ls l in
     let next : AddsLines (l ∷ []) (draft_of_line d.table base l) new lines_mid lines_new written_mid written_new =
-    subst (λ (x : Table). AddsLines (l ∷ []) (draft_of_line x base l) new lines_mid lines_new written_mid written_new) so_far.table
+    subst (λ (x : Table). AddsLines (l ∷ []) (draft_of_line x base l) new lines_mid lines_new written_mid written_new)
+    so_far.table
     more in
     let m = draft_of_line d.table base l in
     record {
@@ -222,11 +223,13 @@ take_lines line (x ∷ xs) (suc i) = ap (λ (ls : List FieldLine). line x ∷ ls
 
 -- a field line that an item lends, under another base that is the same
 adds_lent : (f g : FieldLine) (mid new : Table) (base other : ℕ) (lines_mid lines_new written_mid written_new : List ℕ)
-    → other ≡ base → f ≡ g → AddsLines (f ∷ []) (draft_of_line mid other f) new lines_mid lines_new written_mid written_new
+    → other ≡ base → f ≡ g → AddsLines (f ∷ []) (draft_of_line mid other f) new lines_mid lines_new written_mid
+    written_new
     → AddsLines (g ∷ []) (draft_of_line mid base g) new lines_mid lines_new written_mid written_new
 adds_lent f g mid new base other lines_mid lines_new written_mid written_new same lent adds =
     subst (λ (b : ℕ). AddsLines (g ∷ []) (draft_of_line mid b g) new lines_mid lines_new written_mid written_new) same
-    (subst (λ (h : FieldLine). AddsLines (h ∷ []) (draft_of_line mid other h) new lines_mid lines_new written_mid written_new) lent adds)
+    (subst (λ (h : FieldLine). AddsLines (h ∷ []) (draft_of_line mid other h) new lines_mid lines_new written_mid
+    written_new) lent adds)
 
 stops_lent : (f g : FieldLine) (mid new : Table) (base other : ℕ) (written_mid written_new : List ℕ)
     → other ≡ base → f ≡ g → StopsAdding (draft_of_line mid other f) mid new written_mid written_new
@@ -238,9 +241,11 @@ stops_lent f g mid new base other written_mid written_new same lent stops =
 pub adds_next : {H : Type 0} (line : H → FieldLine) (xs : List H) (i : ℕ) (x : H) (f : FieldLine) (t : Table)
     (base other : ℕ) (mid new : Table) (lines_old lines_mid lines_new written_old written_mid written_new : List ℕ)
     → i < length xs → x ≡ get_or xs i x → other ≡ base → f ≡ line x
-    → AddsLines (map line (take i xs)) (draft_of_lines t base (map line (take i xs))) mid lines_old lines_mid written_old written_mid
+    → AddsLines (map line (take i xs)) (draft_of_lines t base (map line (take i xs))) mid lines_old lines_mid
+    written_old written_mid
     → AddsLines (f ∷ []) (draft_of_line mid other f) new lines_mid lines_new written_mid written_new
-    → AddsLines (map line (take (i + 1) xs)) (draft_of_lines t base (map line (take (i + 1) xs))) new lines_old lines_new written_old written_new
+    → AddsLines (map line (take (i + 1) xs)) (draft_of_lines t base (map line (take (i + 1) xs))) new lines_old
+    lines_new written_old written_new
 adds_next line xs i x f t base other mid new lines_old lines_mid lines_new written_old written_mid written_new within
     is same
     lent so_far more =
@@ -252,7 +257,8 @@ adds_next line xs i x f t base other mid new lines_old lines_mid lines_new writt
 pub stops_next : {H : Type 0} (line : H → FieldLine) (xs : List H) (i : ℕ) (x : H) (f : FieldLine) (t : Table)
     (base other : ℕ) (mid new : Table) (lines_old lines_mid written_old written_mid written_new : List ℕ)
     → i < length xs → x ≡ get_or xs i x → other ≡ base → f ≡ line x
-    → AddsLines (map line (take i xs)) (draft_of_lines t base (map line (take i xs))) mid lines_old lines_mid written_old written_mid
+    → AddsLines (map line (take i xs)) (draft_of_lines t base (map line (take i xs))) mid lines_old lines_mid
+    written_old written_mid
     → StopsAdding (draft_of_line mid other f) mid new written_mid written_new
     → StopsAmong (map line xs) t base new written_old written_new
 stops_next line xs i x f t base other mid new lines_old lines_mid written_old written_mid written_new within is same

@@ -64,9 +64,11 @@ drafts_block t base fs new before lines block written_old written_new len requir
       required_is = required_is;
       table = table;
       block = put
-          ∙ put_together before lines (written_prefix prefix) (written_marked_lines fs (draft_of_lines t base fs).lines) len is
+          ∙ put_together before lines (written_prefix prefix) (written_marked_lines fs (draft_of_lines t base
+          fs).lines) len is
           adds.lines
-          ∙ ap (λ (p : Prefix). before ++ (written_prefix p ++ written_marked_lines fs (draft_of_lines t base fs).lines)) whole
+          ∙ ap (λ (p : Prefix). before ++ (written_prefix p ++ written_marked_lines fs (draft_of_lines t base
+          fs).lines)) whole
           ∙ ap (λ (x : Draft). before
           ++ (written_prefix (block_of t (marked_rule t fs)).prefix ++ written_marked_lines fs x.lines)) d;
       written = adds.written ∙ ap (λ (x : Draft). written_old ++ written_encoder_instructions x.instructions) d;
@@ -153,7 +155,8 @@ encodes_block : (fs : List FieldLine) (old begun mid new : Table) (stream given 
     → EncodesLines stream fs old new before block written_old written_new required
 unfolding without_references
 encodes_block fs old begun mid new stream given before block written_old written_new required begins same k ends =
-    let d : marked_rule begun fs ≡ marked_rule old fs = ap (λ (t : Table). marked_rule t fs) begins ∙ rule_again old fs in
+    let d : marked_rule begun fs ≡ marked_rule old fs = ap (λ (t : Table). marked_rule t fs) begins ∙ rule_again old
+    fs in
     let required_is : required ≡ required_insert_count (marked_rule old fs) =
     k.required_is ∙ ap (λ (x : Draft). required_insert_count x) d in
     record {

@@ -81,7 +81,8 @@ front_smaller line (x ∷ xs) (suc i) =
 
 -- the room of field lines with one more
 room_last : (ls : List FieldLine) (l : FieldLine)
-    → instructions_room (fields_of_lines (ls ++ l ∷ [])) ≡ instructions_room (fields_of_lines ls) + 4 * field_size l.field
+    → instructions_room (fields_of_lines (ls ++ l ∷ [])) ≡ instructions_room (fields_of_lines ls) + 4 * field_size
+    l.field
 room_last ls l =
     omega (
       arith,

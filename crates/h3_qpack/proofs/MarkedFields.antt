@@ -1,5 +1,6 @@
 -- Field lines that are marked as never to be indexed, and those that are not.
-use Rattle.std.proofs.Common.{◌≡◌, ℕ, zero, suc, List, [], ◌∷◌, ◌++◌, map, take, Bool, true, false, cond, Option, Some, None, refl}
+use Rattle.std.proofs.Common.{◌≡◌, ℕ, zero, suc, List, [], ◌∷◌, ◌++◌, map, take, Bool, true, false, cond, Option}
+use Rattle.std.proofs.Common.{Some, None, refl}
 use Rattle.std.proofs.Common.{sym, ap, subst, ◌∙◌, inl, inr, append-nil, append_assoc, Result, Ok, Err, ◌+◌, ◌<◌}
 use Rattle.std.proofs.Common.{get_or, length}
 use Rattle.std.specs.Borrow.{Bor}
@@ -21,7 +22,8 @@ use Rattle.qpack_spec.specs.Table.{newest_index}
 use Rattle.qpack_spec.proofs.Marked.{is_rule_unmarked}
 use Rattle.qpack_base.specs.HeaderFields.{field_of, fields_behind, DrainsFields}
 use Rattle.qpack_base.specs.declared.field.HeaderField.{HeaderField}
-use Rattle.h3_qpack.specs.Encoding.{draft_at, draft_of_field, draft_of_line, Adds, AddsLines, StopsAdding, DrainsLinesOf}
+use Rattle.h3_qpack.specs.Encoding.{draft_at, draft_of_field, draft_of_line, Adds, AddsLines, StopsAdding}
+use Rattle.h3_qpack.specs.Encoding.{DrainsLinesOf}
 use Rattle.h3_qpack.specs.Encoding.{EncodesLines, EncodesBlock, GivesUpLines, GivesUpBlock, StopsEncodingLinesOf}
 use Rattle.h3_qpack.specs.Encoding.{StopsEncoding}
 use Rattle.h3_qpack.specs.declared.encoder.EncoderError.{EncoderError}
@@ -244,7 +246,11 @@ pub stateless_begun : (before now : List ℕ) → now ≡ before ++ written_pref
     → now ≡ before ++ written_stateless []
 unfolding written_marked_block written_marked_lines written_lines prefix_for
 stateless_begun before now e =
-    e ∙ ap (λ (x : List ℕ). before ++ x) (sym (append-nil (written_prefix (record { count = 0; sign = false; delta = 0 }))))
+    e ∙ ap (λ (x : List ℕ). before ++ x) (sym (append-nil (written_prefix (record {
+      count = 0;
+      sign = false;
+      delta = 0;
+    }))))
 
 -- a line more
 pub stateless_grown : {H : Type 0} (line : H → FieldLine) (xs : List H) (i : ℕ) (x : H) (l : FieldLine)

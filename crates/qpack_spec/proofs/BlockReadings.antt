@@ -70,14 +70,14 @@ unfolding fields_of
 one_line w base l ls = refl
 
 -- the bytes of lines give what the lines mean
-fields_of_lines : (steps : ℕ) (w : Window) (base : ℕ) (bytes : List ℕ) (ls : List Line) → SpellsAll SpellsLine bytes ls
+fields_read : (steps : ℕ) (w : Window) (base : ℕ) (bytes : List ℕ) (ls : List Line) → SpellsAll SpellsLine bytes ls
     → length bytes ≤ steps → fields_at steps w base bytes ≡ fields_of w base ls
-fields_of_lines steps w base bytes [] j h = ap (fields_at steps w base) j ∙ no_bytes steps w base ∙ sym (no_lines w base)
-fields_of_lines zero w base bytes (l ∷ ls) j h = absurd (omega (arith, ap length j.2, spelled_length j.0 j.1 l j.3))
-fields_of_lines (suc steps) w base bytes (l ∷ ls) j h =
+fields_read steps w base bytes [] j h = ap (fields_at steps w base) j ∙ no_bytes steps w base ∙ sym (no_lines w base)
+fields_read zero w base bytes (l ∷ ls) j h = absurd (omega (arith, ap length j.2, spelled_length j.0 j.1 l j.3))
+fields_read (suc steps) w base bytes (l ∷ ls) j h =
     let short : length j.1 ≤ steps = omega (arith, ap length j.2, spelled_length j.0 j.1 l j.3) in
     ap (fields_at (suc steps) w base) j.2 ∙ step_at steps w base j.0 j.1 l j.3
-    ∙ ap (prepend_field (line_field w base l)) (fields_of_lines steps w base j.1 ls j.4 short) ∙ sym (one_line w base l ls)
+    ∙ ap (prepend_field (line_field w base l)) (fields_read steps w base j.1 ls j.4 short) ∙ sym (one_line w base l ls)
 
 -- ---- reading line by line finds what the relation says
 
@@ -201,7 +201,7 @@ stops_read (suc steps) w base b bytes e (in_line encoding more l cut s bad) h =
 
 pub fields_only : (w : Window) (base : ℕ) (bytes : List ℕ) (r : Result (List Field) Fault) → ReadsTo w base bytes r
     → fields_in_bytes w base bytes ≡ r
-fields_only w base bytes (Ok fs) k = fields_of_lines (length bytes) w base bytes k.lines k.joined (omega arith) ∙ k.means
+fields_only w base bytes (Ok fs) k = fields_read (length bytes) w base bytes k.lines k.joined (omega arith) ∙ k.means
 fields_only w base bytes (Err e) k =
     ap (λ x. fields_at (length bytes) w base x) k.cut
     ∙ front_read (length bytes) w base k.front (k.next ∷ k.more) k.lines k.so_far e k.joined k.means
@@ -314,7 +314,7 @@ written_read w b k =
     behind : (r : Result (ℕ × ℕ) PrefixFault) → bytes_behind w (written_lines b.lines) r ≡ reading_behind w b.lines r
     behind (Err e) = refl
     behind (Ok p) =
-        rw (fields_of_lines (length (written_lines b.lines)) w p.1 (written_lines b.lines) b.lines
+        rw (fields_read (length (written_lines b.lines)) w p.1 (written_lines b.lines) b.lines
         (joined_written b.lines k.lines) (omega arith)) refl
 
 -- what the lines of a written block mean over all insertions, where its base is the one that was written
@@ -324,5 +324,5 @@ pub written_means : (all : History) (b : Block) (required base : ℕ) (fs : List
 unfolding meaning_over_all written_block
 written_means all b required base fs k e m =
     rw (prefix_again (written_prefix b.prefix) (written_lines b.lines) b.prefix (prefix_spelled b.prefix k.prefix), e)
-    (fields_of_lines (length (written_lines b.lines)) (whole_window all) base (written_lines b.lines) b.lines
+    (fields_read (length (written_lines b.lines)) (whole_window all) base (written_lines b.lines) b.lines
     (joined_written b.lines k.lines) (omega arith) ∙ m)

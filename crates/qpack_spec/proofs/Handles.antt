@@ -234,7 +234,8 @@ entry_same base d f k (Some a) e = both (may_reference d.table a) (nat_le a base
     both false true h = insertion_same base d f
     both false false h = insertion_same base d f
 
-pub handle_same : (base : ℕ) (d : Draft) (f : Field) → NamesAbove base d.table → handle_field base d f ≡ rule_field base d f
+pub handle_same : (base : ℕ) (d : Draft) (f : Field) → NamesAbove base d.table
+    → handle_field base d f ≡ rule_field base d f
 unfolding handle_field rule_field find_field
 handle_same base d f k = static (static_index f)
   where
@@ -273,7 +274,8 @@ above_entry base d f (Some a) k =
     (insertion_or_literal base d f) (λ (x : Draft). NamesAbove base x.table)
     (λ _. above_naming base d.table a k) (λ _. above_insertion base d f k)
 
-pub above_field : (base : ℕ) (d : Draft) (f : Field) → NamesAbove base d.table → NamesAbove base (rule_field base d f).table
+pub above_field : (base : ℕ) (d : Draft) (f : Field) → NamesAbove base d.table
+    → NamesAbove base (rule_field base d f).table
 unfolding rule_field
 above_field base d f k = static (static_index f)
   where

@@ -216,10 +216,10 @@ prefix_short : (encoding : List ℕ) (p : Prefix) → SpellsPrefix encoding p �
 prefix_short encoding p s =
     omega (arith, ap length s.parts, length-append s.head s.tail, s.count.1.few, s.delta.few)
 
-fields_of_lines : (r : Result (List Field) Fault) (b is_dynamic : Bool) (fs : List Field)
+fields_read : (r : Result (List Field) Fault) (b is_dynamic : Bool) (fs : List Field)
     → reading_of_fields r b ≡ Fields fs is_dynamic → r ≡ Ok fs
-fields_of_lines (Ok gs) b is_dynamic fs e = let same : gs ≡ fs = cc in ap (λ (x : List Field). Ok x) same
-fields_of_lines (Err fault) b is_dynamic fs e = absurd cc
+fields_read (Ok gs) b is_dynamic fs e = let same : gs ≡ fs = cc in ap (λ (x : List Field). Ok x) same
+fields_read (Err fault) b is_dynamic fs e = absurd cc
 
 missing_not : (n : ℕ) (fs : List Field) (is_dynamic : Bool) → Missing n ≡ Fields fs is_dynamic → ⊥
 missing_not n fs is_dynamic e = absurd cc
@@ -234,7 +234,7 @@ behind_read w rest (Ok p) fs is_dynamic e = pick (nat_lt (window_insert_count w)
         → cond b (Missing p.0) (reading_of_fields (fields_in_bytes w p.1 rest) (nat_lt 0 p.0)) ≡ Fields fs is_dynamic
         → (base : ℕ) × (fields_in_bytes w base rest ≡ Ok fs)
     pick true h = absurd (missing_not p.0 fs is_dynamic h)
-    pick false h = (p.1, fields_of_lines (fields_in_bytes w p.1 rest) (nat_lt 0 p.0) is_dynamic fs h)
+    pick false h = (p.1, fields_read (fields_in_bytes w p.1 rest) (nat_lt 0 p.0) is_dynamic fs h)
 
 lines_read_short : (w : Window) (base : ℕ) (bytes : List ℕ) (fs : List Field) → fields_in_bytes w base bytes ≡ Ok fs
     → length bytes ≤ 4 * total_size fs

@@ -90,7 +90,8 @@ line_says u sum first more = form_says u sum first (form_at line_form (first ∷
 
 -- what lines mean where a strict decoder reads them so: the same fields, within the limit, or the same fault
 abbrev SaysLines : ℕ → ℕ → Result (List Field) Fault → Result (List FieldLine) SectionFault → Type 0
-SaysLines limit sum m (Ok fs) = (m ≡ Ok (fields_of_lines fs)) × (saturated_size (sum + total_size (fields_of_lines fs)) ≤ limit)
+SaysLines limit sum m (Ok fs) = (m ≡ Ok (fields_of_lines fs)) × (saturated_size (sum + total_size (fields_of_lines
+    fs)) ≤ limit)
 SaysLines limit sum m (Err (InPrefix fault)) = m ≡ Err fault
 SaysLines limit sum m (Err (InLine number offset (Meaningless fault))) = m ≡ Err fault
 SaysLines limit sum m (Err fault) = Unit {0}

@@ -26,8 +26,8 @@ pub fn written_sections_are_strict()
     ensures insertions { NothingIsInsertedAtZero }
 {}
 
-/// With fields that are marked as never to be indexed, asking the table field by field is the rule too, each field has a
-/// line, and where none is marked it is the rule for unmarked fields, written as ever (RFC 9204, section 7.1.3).
+/// With fields that are marked as never to be indexed, asking the table field by field is the rule too, each field
+/// has a line, and where none is marked it is the rule for unmarked fields, written as ever (RFC 9204, section 7.1.3).
 pub fn marked_fields_are_literals()
     ensures handle { HandleIsTheMarkedRule }
     ensures lines { MarkedLinesAreOfFields }

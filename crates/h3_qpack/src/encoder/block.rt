@@ -41,7 +41,8 @@ pub(super) fn append_block<A: Allocator, B: Allocator, H: AsField>(
     ensures capacity { vec_capacity block.old ≤ vec_capacity block.new }
     ensures still { OnOk result
         (vec_len block.new ≤ vec_capacity block.old → vec_capacity block.new ≡ vec_capacity block.old) }
-    ensures instructions { GrowsWithin (instructions_room (fields_of_lines (map H.line fields.now))) encoder_buf.old encoder_buf.new }
+    ensures instructions { GrowsWithin (instructions_room (fields_of_lines (map H.line fields.now))) encoder_buf.old
+        encoder_buf.new }
 {
     let max = handle.agreed_max();
     let len = block.len();
@@ -63,7 +64,8 @@ fn append_fields<A: Allocator, B: Allocator, H: AsField>(
     ensures same_table { handle.new.table.ghost_name ≡ handle.old.table.ghost_name }
     ensures stream { handle.new.stream_id ≡ handle.old.stream_id }
     ensures base { handle.new.base ≡ handle.old.base }
-    ensures ok { OnOk result (AddsLines (map H.line fields.now) (draft_of_lines handle.old.table.now handle.old.base (map H.line fields.now))
+    ensures ok { OnOk result (AddsLines (map H.line fields.now) (draft_of_lines handle.old.table.now handle.old.base
+        (map H.line fields.now))
         handle.new.table.now lines.old.items lines.new.items encoder_buf.old.items encoder_buf.new.items) }
     ensures err { OnErr result (StopsAmong (map H.line fields.now) handle.old.table.now handle.old.base
         handle.new.table.now encoder_buf.old.items encoder_buf.new.items) }
@@ -72,7 +74,8 @@ fn append_fields<A: Allocator, B: Allocator, H: AsField>(
     ensures capacity { vec_capacity lines.old ≤ vec_capacity lines.new }
     ensures still { OnOk result
         (vec_len lines.new ≤ vec_capacity lines.old → vec_capacity lines.new ≡ vec_capacity lines.old) }
-    ensures instructions { GrowsWithin (instructions_room (fields_of_lines (map H.line fields.now))) encoder_buf.old encoder_buf.new }
+    ensures instructions { GrowsWithin (instructions_room (fields_of_lines (map H.line fields.now))) encoder_buf.old
+        encoder_buf.new }
 {
     for field in fields {
         append_field_line(handle, &field.as_field(), lines, encoder_buf)?;

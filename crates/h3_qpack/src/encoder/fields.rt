@@ -1,7 +1,8 @@
 //! The fields of a block, one by one: a line for each, and an instruction for each that is inserted (RFC 9204, section
 //! 2.1).
 
-ghost use Rattle.std.specs.Prelude.{◌≡◌, ◌*◌, ◌≤◌, [], ◌∷◌, false, length, take, IfErr, OnOk, OnErr, vec_len, vec_capacity};
+ghost use Rattle.std.specs.Prelude.{◌≡◌, ◌*◌, ◌≤◌, [], ◌∷◌, false, length, take, IfErr, OnOk, OnErr, vec_len};
+ghost use Rattle.std.specs.Prelude.{vec_capacity};
 ghost use Rattle.qpack_spec.specs.Field.{field_size};
 ghost use Rattle.qpack_spec.specs.Handle.{insert_field, with_insertion, with_found, find_field};
 ghost use Rattle.qpack_spec.specs.Handle.{line_of as line_of_insertion, literal_at};
@@ -72,7 +73,8 @@ fn append_field<A: Allocator, B: Allocator>(
     ensures base { block.new.base ≡ block.old.base }
     ensures ok { OnOk result (Adds (draft_of_field block.old.table.now block.old.base (line_of field.now).field)
         block.new.table.now lines.old.items lines.new.items encoder_buf.old.items encoder_buf.new.items) }
-    ensures err { OnErr result (StopsAdding (draft_of_field block.old.table.now block.old.base (line_of field.now).field)
+    ensures err { OnErr result (StopsAdding (draft_of_field block.old.table.now block.old.base (line_of
+        field.now).field)
         block.old.table.now block.new.table.now encoder_buf.old.items encoder_buf.new.items) }
     ensures as_before { OnErr result (take (vec_len lines.old) lines.new.items ≡ lines.old.items) }
     ensures memory { IfErr result (λ e. e ≡ Memory) }
@@ -168,7 +170,8 @@ fn append_inserted<A: Allocator>(
     buf: &mut Vec<u8, A>,
 ) -> Result<(), prefix_string::Error>
     requires unmarked { field.now.never_indexed ≡ false }
-    ensures writes { Writes (written_line (line_of_insertion (line_of field.now).field (insertion_of insertion))) buf.old
+    ensures writes { Writes (written_line (line_of_insertion (line_of field.now).field (insertion_of insertion)))
+        buf.old
         buf.new result }
     ensures memory { IfErr result (λ e. e ≡ NoRoom) }
 {

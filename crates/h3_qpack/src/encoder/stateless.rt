@@ -19,9 +19,9 @@ use qpack_wire::block::{HeaderPrefix, Indexed, Literal, LiteralWithNameRef};
 use std::alloc::Allocator;
 
 /// Appends the section of field lines that is written without a dynamic table, as `encode_stateless` writes it: it
-/// references no entry, and is never blocked. A field line that is never to be indexed is a literal that says so, by the
-/// first static field of its name if there is one (RFC 9204, section 7.1.3). Refused, which is for memory alone, the
-/// vector is as before.
+/// references no entry, and is never blocked. A field line that is never to be indexed is a literal that says so, by
+/// the first static field of its name if there is one (RFC 9204, section 7.1.3). Refused, which is for memory alone,
+/// the vector is as before.
 pub fn encode_section_stateless<A: Allocator, H: AsField>(
     block: &mut Vec<u8, A>,
     fields: &[H],

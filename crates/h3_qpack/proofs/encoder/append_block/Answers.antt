@@ -21,7 +21,8 @@ loop-field-init g c = record {
 
 pub returns-in_err-append_unmarked-clause-err : goal.returns-in_err-append_unmarked-clause-err
 returns-in_err-append_unmarked-clause-err g c =
-    let p = err_from_is_err_and c.from_residual-in_err-append_unmarked.result c.from_residual-in_err-append_unmarked.ensures.1
+    let p = err_from_is_err_and c.from_residual-in_err-append_unmarked.result
+    c.from_residual-in_err-append_unmarked.ensures.1
     in
     rw p.1
     (take-append_front c.args.block.now.items (written_block (stateless_block (fields_behind c.loop-field.yielded)))

@@ -36,16 +36,19 @@ pub loop-field-preserved : goal.loop-field-preserved
 loop-field-preserved g c =
     let adds = adds_next g.H.AsField.line c.args.fields.now c.loop-field.field-index c.field-item.result
     (line_of c.as_field.result) c.args.handle.now.table.now c.args.handle.now.base c.loop-field.handle.base
-    c.loop-field.handle.table.now c.append_field_line.new.block.table.now c.args.lines.now.items c.loop-field.lines.items
+    c.loop-field.handle.table.now c.append_field_line.new.block.table.now c.args.lines.now.items
+    c.loop-field.lines.items
     c.append_field_line.new.lines.items c.args.encoder_buf.now.items c.loop-field.encoder_buf.items
-    c.append_field_line.new.encoder_buf.items (omega arith) c.field-item.is c.loop-field.invariant.base c.as_field.ensures
+    c.append_field_line.new.encoder_buf.items (omega arith) c.field-item.is c.loop-field.invariant.base
+    c.as_field.ensures
     c.loop-field.invariant.adds c.in_ok-append_field_line.ensures.ok in
     record {
       same_table = c.append_field_line.ensures.same_table ∙ c.loop-field.invariant.same_table;
       stream = c.append_field_line.ensures.stream ∙ c.loop-field.invariant.stream;
       base = c.append_field_line.ensures.base ∙ c.loop-field.invariant.base;
       adds = adds;
-      front = take-append_front c.args.lines.now.items _ c.append_field_line.new.lines.items c.append_field_line.new.lines.items _
+      front = take-append_front c.args.lines.now.items _ c.append_field_line.new.lines.items
+          c.append_field_line.new.lines.items _
           (sym c.args.lines.now.ok.0) refl adds.lines;
       capacity = omega (arith, c.append_field_line.ensures.capacity, c.loop-field.invariant.capacity);
       still = still_next c.args.lines.now c.loop-field.lines c.append_field_line.new.lines
@@ -53,7 +56,8 @@ loop-field-preserved g c =
           c.loop-field.invariant.still c.in_ok-append_field_line.ensures.still;
       room = grows_next g.H.AsField.line c.args.fields.now c.loop-field.field-index c.field-item.result
           (line_of c.as_field.result) c.args.encoder_buf.now c.loop-field.encoder_buf
-          c.append_field_line.new.encoder_buf (omega arith) c.field-item.is c.as_field.ensures c.loop-field.invariant.room
+          c.append_field_line.new.encoder_buf (omega arith) c.field-item.is c.as_field.ensures
+          c.loop-field.invariant.room
           c.append_field_line.ensures.instructions;
     }
 

@@ -16,6 +16,7 @@ invariant-loop-field g l = record {
   front : take (vec_len l.fn.lines) l.lines.items ≡ l.fn.lines.items;
   capacity : vec_capacity l.fn.lines ≤ vec_capacity l.lines;
   still : vec_len l.lines ≤ vec_capacity l.fn.lines → vec_capacity l.lines ≡ vec_capacity l.fn.lines;
-  room : GrowsWithin (instructions_room (fields_of_lines (map g.H.AsField.line (take l.field-index l.fields)))) l.fn.encoder_buf
+  room : GrowsWithin (instructions_room (fields_of_lines (map g.H.AsField.line (take l.field-index l.fields))))
+      l.fn.encoder_buf
       l.encoder_buf;
 }

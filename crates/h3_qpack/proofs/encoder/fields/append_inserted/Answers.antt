@@ -14,5 +14,6 @@ returns-in-NotInserted-clause-writes g c =
     let l = literal_at f (lookup_of c.in-NotInserted.lookup) in
     subst (λ (e : List ℕ). Writes e c.args.buf.now c.append_literal.new.buf c.append_literal.result)
     (ap (λ (b : Bool). written_marked_line b l) c.requires.unmarked ∙ written_unmarked f l
-    ∙ ap (λ (i : DynamicInsertionResult). written_line (line_of_insertion f (insertion_of i))) (sym c.in-NotInserted.is))
+    ∙ ap (λ (i : DynamicInsertionResult). written_line (line_of_insertion f (insertion_of i))) (sym
+    c.in-NotInserted.is))
     c.append_literal.ensures.writes
