@@ -3,15 +3,14 @@
 
 use crate::strict;
 use anyhow::Result;
-use h3_qpack::HeaderField;
 use h3_qpack::coding::Cursor;
 use h3_qpack::decoder::{Decoder, ack_header};
 use h3_qpack::dynamic::DynamicTable;
 use h3_qpack::encoder::Encoder;
 use h3_qpack::stream::DynamicTableSizeUpdate;
+use h3_qpack::{Decoded, HeaderField};
 use qpack_connection::FieldSection;
 use std::alloc::Global;
-use std::mem;
 use std::time::Instant;
 
 /// What is done with each list, in this order.
@@ -35,6 +34,14 @@ struct Clock {
 }
 
 impl Clock {
+    /// A clock that begins now.
+    fn new(rt: &HostRuntime) -> Result<Clock> {
+        Ok(Clock {
+            last: Instant::now(rt)?,
+            nanos: [0; 6],
+        })
+    }
+
     /// Adds the time since the last call to a phase.
     fn lap(&mut self, rt: &HostRuntime, phase: usize) -> Result<()> {
         let now = Instant::now(rt)?;
@@ -111,16 +118,34 @@ impl Connection {
         clock: &mut Clock,
     ) -> Result<bool> {
         self.send(rt, stream_id, list, clock)?;
-        let decoded = self.decoder.decode_header(&mut Cursor::new(&self.block))?;
-        clock.lap(rt, 2)?;
-        self.read(rt, clock)?;
+        let decoded = self.decode(rt, clock)?;
         self.answer(rt, stream_id, decoded.dyn_ref, clock)?;
         Ok(decoded.fields == *list && strict::are_of(&self.fields, list))
     }
 
+    /// The phase in which a block is decoded.
+    fn decode(&self, rt: &HostRuntime, clock: &mut Clock) -> Result<Decoded> {
+        let decoded = self.decoder.decode_header(&mut Cursor::new(&self.block))?;
+        clock.lap(rt, 2)?;
+        Ok(decoded)
+    }
+
+    /// All phases of one list; what it made the encoder write, behind the bytes of its stream that stand ahead.
+    fn record(
+        &mut self,
+        rt: &HostRuntime,
+        alloc: Global,
+        stream_id: u64,
+        list: &Vec<HeaderField>,
+        ahead: &[u8],
+    ) -> Result<Written> {
+        self.exchange(rt, stream_id, list, &mut Clock::new(rt)?)?;
+        self.written(alloc, stream_id, ahead)
+    }
+
     /// What the last list made the encoder write, behind these bytes of its stream.
-    fn written(&self, alloc: Global, stream_id: u64, before: Vec<u8>) -> Result<Written> {
-        let mut encoder_stream = before;
+    fn written(&self, alloc: Global, stream_id: u64, before: &[u8]) -> Result<Written> {
+        let mut encoder_stream = Vec::from_slice(alloc, before)?;
         encoder_stream.extend_from_slice(&self.encoder_stream)?;
         Ok(Written {
             stream_id,
@@ -169,6 +194,7 @@ impl Connection {
         is_dynamic: bool,
         clock: &mut Clock,
     ) -> Result<()> {
+        self.read(rt, clock)?;
         if is_dynamic {
             ack_header(stream_id, &mut self.decoder_stream)?;
         }
@@ -179,6 +205,13 @@ impl Connection {
     }
 }
 
+/// Two ends whose tables have this capacity.
+fn connected(alloc: Global, capacity: usize) -> Result<Connection> {
+    let sending = table(alloc, capacity)?;
+    let receiving = table(alloc, capacity)?;
+    Ok(Connection::new(alloc, sending, receiving))
+}
+
 /// One connection over all lists.
 fn connect(
     rt: &HostRuntime,
@@ -187,9 +220,7 @@ fn connect(
     capacity: usize,
     clock: &mut Clock,
 ) -> Result<Counts> {
-    let sending = table(alloc, capacity)?;
-    let receiving = table(alloc, capacity)?;
-    let mut connection = Connection::new(alloc, sending, receiving);
+    let mut connection = connected(alloc, capacity)?;
     exchange_all(rt, &mut connection, lists, clock)
 }
 
@@ -201,36 +232,41 @@ pub(crate) fn record(
     lists: &[Vec<HeaderField>],
     capacity: usize,
 ) -> Result<Vec<Written>> {
-    let sending = table(alloc, capacity)?;
-    let receiving = table(alloc, capacity)?;
-    let mut first = Vec::new(alloc);
-    DynamicTableSizeUpdate(capacity).encode(&mut first)?;
-    let mut connection = Connection::new(alloc, sending, receiving);
-    record_all(rt, alloc, &mut connection, lists, first)
+    let mut connection = connected(alloc, capacity)?;
+    record_all(rt, alloc, &mut connection, lists, capacity)
 }
 
-/// What all lists make this connection's encoder write, the first of them behind these bytes.
+/// What all lists make this connection's encoder write, whose table has this capacity.
 fn record_all(
     rt: &HostRuntime,
     alloc: Global,
     connection: &mut Connection,
     lists: &[Vec<HeaderField>],
-    first: Vec<u8>,
+    capacity: usize,
 ) -> Result<Vec<Written>> {
-    let mut clock = Clock {
-        last: Instant::now(rt)?,
-        nanos: [0; 6],
-    };
+    let mut ahead = Vec::new(alloc);
+    DynamicTableSizeUpdate(capacity).encode(&mut ahead)?;
     let mut all = Vec::new(alloc);
-    let mut ahead = first;
+    push_all(rt, alloc, connection, lists, &mut ahead, &mut all)?;
+    Ok(all)
+}
+
+/// Adds them, the first of them behind the bytes that stand ahead.
+fn push_all(
+    rt: &HostRuntime,
+    alloc: Global,
+    connection: &mut Connection,
+    lists: &[Vec<HeaderField>],
+    ahead: &mut Vec<u8>,
+    all: &mut Vec<Written>,
+) -> Result<()> {
     let mut stream_id = 0u64;
     for list in lists {
-        connection.exchange(rt, stream_id, list, &mut clock)?;
-        let before = mem::replace(&mut ahead, Vec::new(alloc));
-        all.push(connection.written(alloc, stream_id, before)?)?;
+        all.push(connection.record(rt, alloc, stream_id, list, ahead)?)?;
+        ahead.clear();
         stream_id = stream_id.wrapping_add(4);
     }
-    Ok(all)
+    Ok(())
 }
 
 /// All lists, each on a stream of its own.
@@ -258,6 +294,16 @@ fn exchange_all(
 }
 
 impl Counts {
+    /// Tells what a connection of this capacity wrote.
+    fn tell(&self, rt: &HostRuntime, capacity: usize) -> Result<()> {
+        println!(rt;
+            "capacity {capacity}: {} blocks decoded as encoded, also strictly; \
+                bytes: {} of blocks, {} and {} of both streams",
+            self.decoded, self.blocks, self.encoder_stream, self.decoder_stream
+        )?;
+        Ok(())
+    }
+
     /// Adds what the last list made both ends write.
     fn add(&mut self, connection: &Connection) {
         self.blocks = self.blocks.saturating_add(connection.block.len());
@@ -278,16 +324,9 @@ pub(crate) fn tell(
     capacity: usize,
     rounds: u64,
 ) -> Result<()> {
-    let mut clock = Clock {
-        last: Instant::now(rt)?,
-        nanos: [0; 6],
-    };
+    let mut clock = Clock::new(rt)?;
     let counts = connect(rt, alloc, lists, capacity, &mut clock)?;
-    println!(rt;
-        "capacity {capacity}: {} blocks decoded as encoded, also strictly; \
-            bytes: {} of blocks, {} and {} of both streams",
-        counts.decoded, counts.blocks, counts.encoder_stream, counts.decoder_stream
-    )?;
+    counts.tell(rt, capacity)?;
     clock.nanos = [0; 6];
     for _ in 0..rounds {
         connect(rt, alloc, lists, capacity, &mut clock)?;

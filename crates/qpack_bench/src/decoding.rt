@@ -124,10 +124,15 @@ impl Whole {
     fn take_all(&mut self, written: &[Written]) -> Result<u64> {
         let mut fields = 0u64;
         for each in written {
-            self.receive(&each.encoder_stream)?;
-            fields = fields.saturating_add(self.decode(each.stream_id, &each.block)?);
+            fields = fields.saturating_add(self.take(each)?);
         }
         Ok(fields)
+    }
+
+    /// Receives and decodes what was written; how many fields it has.
+    fn take(&mut self, written: &Written) -> Result<u64> {
+        self.receive(&written.encoder_stream)?;
+        self.decode(written.stream_id, &written.block)
     }
 }
 
@@ -165,11 +170,31 @@ impl Work {
     /// Does it once, with ends of its own; how many insertions were made, or fields decoded.
     fn once(self, alloc: Global, written: &[Written], capacity: usize) -> Result<u64> {
         match self {
-            Work::PortedReceive => Ported::new(alloc, capacity)?.receive_all(written),
-            Work::Receive => Whole::new(alloc, capacity)?.receive_all(written),
-            Work::PortedConnection => Ported::new(alloc, capacity)?.take_all(written),
-            Work::Connection => Whole::new(alloc, capacity)?.take_all(written),
+            Work::PortedReceive | Work::PortedConnection => {
+                let mut end = Ported::new(alloc, capacity)?;
+                self.once_ported(&mut end, written)
+            }
+            Work::Receive | Work::Connection => {
+                let mut end = Whole::new(alloc, capacity)?;
+                self.once_whole(&mut end, written)
+            }
         }
+    }
+
+    /// The same, with this end of `h3_qpack`.
+    fn once_ported(self, end: &mut Ported, written: &[Written]) -> Result<u64> {
+        if let Work::PortedReceive = self {
+            return end.receive_all(written);
+        }
+        end.take_all(written)
+    }
+
+    /// The same, with this decoding end.
+    fn once_whole(self, end: &mut Whole, written: &[Written]) -> Result<u64> {
+        if let Work::Receive = self {
+            return end.receive_all(written);
+        }
+        end.take_all(written)
     }
 }
 
@@ -183,12 +208,24 @@ pub(crate) fn tell(
     rounds: u64,
 ) -> Result<()> {
     let written = record(rt, alloc, lists, capacity)?;
-    tell_alike(rt, alloc, lists, &written, capacity)?;
-    if rounds > 0 {
-        let fields = fields_len(lists).saturating_mul(rounds);
-        tell_times(rt, alloc, &written, capacity, rounds, fields)?;
+    tell_written(rt, alloc, lists, &written, capacity, rounds)
+}
+
+/// The same, of what the lists made an encoder write.
+fn tell_written(
+    rt: &HostRuntime,
+    alloc: Global,
+    lists: &[Vec<HeaderField>],
+    written: &[Written],
+    capacity: usize,
+    rounds: u64,
+) -> Result<()> {
+    tell_alike(rt, alloc, lists, written, capacity)?;
+    if rounds == 0 {
+        return Ok(());
     }
-    Ok(())
+    let fields = fields_len(lists).saturating_mul(rounds);
+    tell_times(rt, alloc, written, capacity, rounds, fields)
 }
 
 /// Tells how many lists are decoded as they were encoded.
@@ -200,7 +237,18 @@ fn tell_alike(
     capacity: usize,
 ) -> Result<()> {
     let mut end = Whole::new(alloc, capacity)?;
-    let (alike, sent) = decode_alike(&mut end, lists, written)?;
+    tell_alike_of(rt, &mut end, lists, written, capacity)
+}
+
+/// The same, of this end.
+fn tell_alike_of(
+    rt: &HostRuntime,
+    end: &mut Whole,
+    lists: &[Vec<HeaderField>],
+    written: &[Written],
+    capacity: usize,
+) -> Result<()> {
+    let (alike, sent) = decode_alike(end, lists, written)?;
     println!(rt;
         "capacity {capacity}: {alike} sections decoded as encoded by a decoding end, which wrote {sent} bytes"
     )?;
@@ -216,8 +264,7 @@ fn decode_alike(
     let mut alike = 0usize;
     let mut sent = 0usize;
     for (list, each) in lists.iter().zip(written) {
-        end.receive(&each.encoder_stream)?;
-        end.decode(each.stream_id, &each.block)?;
+        end.take(each)?;
         sent = sent.saturating_add(end.end.decoder_stream().len());
         if strict::are_of(&end.fields, list) {
             alike = alike.saturating_add(1);
@@ -238,15 +285,21 @@ fn tell_times(
     for work in Work::ALL {
         let start = Instant::now(rt)?;
         let sum = repeat(alloc, work, written, capacity, rounds)?;
-        let nanos = start.elapsed(rt)?.as_nanos();
-        let tenths = nanos.saturating_mul(10) / u128::from(fields.max(1));
-        println!(rt;
-            "    {}: {}.{} ns a field ({sum})",
-            work.label(),
-            tenths / 10,
-            tenths % 10
-        )?;
+        tell_time(rt, work, start, fields, sum)?;
     }
+    Ok(())
+}
+
+/// Tells how long a work took since the start for each of so many fields, and the sum of what it answered.
+fn tell_time(rt: &HostRuntime, work: Work, start: Instant, fields: u64, sum: u64) -> Result<()> {
+    let nanos = start.elapsed(rt)?.as_nanos();
+    let tenths = nanos.saturating_mul(10) / u128::from(fields.max(1));
+    println!(rt;
+        "    {}: {}.{} ns a field ({sum})",
+        work.label(),
+        tenths / 10,
+        tenths % 10
+    )?;
     Ok(())
 }
 

@@ -26,9 +26,9 @@ pub(crate) fn tell(meter: &Meter, alloc: Global, size: usize) -> Result<()> {
     let most = size.min(GREATEST_LIMIT);
     tell_one_more(meter, alloc, most)?;
     let insertion = capacity_and_insertion(alloc, CAPACITY, b"a", b"b")?;
-    let mut fields = FieldSection::new(alloc);
     let mut end = new_end(alloc, CAPACITY, most)?;
-    tell_all(meter, most, &mut end, &insertion, &mut fields)
+    let fields = &mut FieldSection::new(alloc);
+    tell_all(meter, most, &mut end, &insertion, fields)
 }
 
 /// Tells the cases of this end, in which nothing is blocked yet.
@@ -87,10 +87,8 @@ fn tell_blocked(
 
 /// Tells how long it takes to refuse one more, which ends the connection; as many stay blocked.
 fn tell_one_more(meter: &Meter, alloc: Global, most: usize) -> Result<()> {
-    let mut fields = FieldSection::new(alloc);
     let mut end = new_end(alloc, CAPACITY, most)?;
-    block_streams(&mut end, most, &mut fields)?;
-    tell_too_many(meter, most, &mut end, &mut fields)
+    tell_too_many(meter, most, &mut end, &mut FieldSection::new(alloc))
 }
 
 /// The same, of this end.
@@ -100,10 +98,10 @@ fn tell_too_many(
     end: &mut ConnectionDecoder,
     fields: &mut FieldSection,
 ) -> Result<()> {
+    block_streams(end, most, fields)?;
     let start = meter.start()?;
-    let answer = end.decode(most as u64, SECTION, fields);
     ensure!(
-        is_one_too_many(&answer, most as u64),
+        is_one_too_many(end.decode(most as u64, SECTION, fields), most as u64),
         "one blocked stream too many was not refused"
     );
     let case = Case {
@@ -116,10 +114,10 @@ fn tell_too_many(
 }
 
 /// Whether a stream was refused as one too many, which ends the connection.
-fn is_one_too_many(answer: &Result<Reading, DecodingError>, stream: u64) -> bool {
+fn is_one_too_many(answer: Result<Reading, DecodingError>, stream: u64) -> bool {
     match answer {
         Err(error) => {
-            *error == DecodingError::TooManyBlocked(stream)
+            error == DecodingError::TooManyBlocked(stream)
                 && error.code() == Some(DECOMPRESSION_FAILED)
         }
         Ok(_) => false,

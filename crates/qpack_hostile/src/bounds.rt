@@ -1,12 +1,12 @@
 //! The decoding end of a connection at its bounds: bytes of the encoder stream that wait, sections that are too long,
 //! cancellations, and a large entry inserted again and again.
 
-use crate::copies::push_often;
+use crate::copies::{duplicates, static_lines};
 use crate::ends::write_insertion;
 use crate::meter::{Case, Meter};
 use anyhow::{Result, bail, ensure};
 use h3_qpack::coding::Cursor;
-use h3_qpack::stream::{Duplicate, DynamicTableSizeUpdate, StreamCancel};
+use h3_qpack::stream::{DynamicTableSizeUpdate, StreamCancel};
 use qpack_connection::decoder::{ConnectionDecoder, DecoderSettings, DecodingError};
 use qpack_connection::{FieldSection, SectionError, longest_section};
 use std::alloc::Global;
@@ -66,11 +66,17 @@ pub(crate) fn capacity_and_insertion(
 /// whose codes are the longest.
 fn tell_waiting(meter: &Meter, alloc: Global, size: usize) -> Result<()> {
     let capacity = size.max(64);
+    let insertion = insertion_of(alloc, capacity)?;
+    let mut end = new_end(alloc, capacity, 0)?;
+    tell_most_waiting(meter, alloc, capacity, &mut end, &insertion)
+}
+
+/// The insertion of a field as large as the capacity, whose codes are the longest.
+fn insertion_of(alloc: Global, capacity: usize) -> Result<Vec<u8>> {
     let value = Vec::from_elem(alloc, b'\n', capacity.saturating_sub(33))?;
     let mut insertion = Vec::new(alloc);
     write_insertion(b"\n", &value, &mut insertion)?;
-    let mut end = new_end(alloc, capacity, 0)?;
-    tell_most_waiting(meter, alloc, capacity, &mut end, &insertion)
+    Ok(insertion)
 }
 
 /// The same, of this end. All bytes of the insertion wait but the last.
@@ -90,6 +96,17 @@ fn tell_most_waiting(
         calls: insertion.len(),
         bytes: insertion.len(),
     };
+    tell_most(meter, case, bound, end, insertion)
+}
+
+/// Tells how many bytes of an insertion wait at most, which are within a bound.
+fn tell_most(
+    meter: &Meter,
+    case: Case,
+    bound: usize,
+    end: &mut ConnectionDecoder,
+    insertion: &[u8],
+) -> Result<()> {
     let start = meter.start()?;
     let most = most_waiting(end, insertion)?;
     ensure!(most <= bound, "{most} bytes wait of at most {bound}");
@@ -118,24 +135,23 @@ fn most_waiting(end: &mut ConnectionDecoder, stream: &[u8]) -> Result<usize> {
 /// Tells how long it takes to refuse a section that is a byte longer than any within a limit of so many bytes: it is
 /// not read, and the connection goes on.
 fn tell_too_long(meter: &Meter, alloc: Global, size: usize) -> Result<()> {
-    let mut section = Vec::from_slice(alloc, b"\0\0")?;
     let longest = longest_section(size as u64) as usize;
-    push_often(0xD1, longest.saturating_sub(1), &mut section)?;
+    let section = static_lines(alloc, longest.saturating_sub(1))?;
     let mut end = end_with_limit(alloc, CAPACITY, 0, size as u64)?;
-    tell_refused(meter, alloc, size, &mut end, &section)
+    let fields = &mut FieldSection::new(alloc);
+    tell_refused(meter, size, &mut end, &section, fields)
 }
 
 /// The same, of this end.
 fn tell_refused(
     meter: &Meter,
-    alloc: Global,
     size: usize,
     end: &mut ConnectionDecoder,
     section: &[u8],
+    fields: &mut FieldSection,
 ) -> Result<()> {
-    let mut fields = FieldSection::new(alloc);
     let start = meter.start()?;
-    let refused = refused_unread(end, section, &mut fields)?;
+    let refused = refused_unread(end, section, fields)?;
     let case = Case {
         name: "an end refuses a section longer than any within the limit",
         size,
@@ -170,8 +186,18 @@ fn refused_unread(
 fn tell_cancellations(meter: &Meter, alloc: Global, size: usize) -> Result<()> {
     let expected = cancellations(alloc, size)?.len();
     let mut end = new_end(alloc, CAPACITY, 0)?;
+    tell_written(meter, size, &mut end, expected)
+}
+
+/// The same, of this end.
+fn tell_written(
+    meter: &Meter,
+    size: usize,
+    end: &mut ConnectionDecoder,
+    expected: usize,
+) -> Result<()> {
     let start = meter.start()?;
-    let written = cancel_all(&mut end, size)?;
+    let written = cancel_all(end, size)?;
     let case = Case {
         name: "cancellations, bytes to be sent",
         size,
@@ -200,20 +226,23 @@ fn cancel_all(end: &mut ConnectionDecoder, count: usize) -> Result<usize> {
 
 /// Tells how long instructions of one byte take, each of which inserts again an entry whose name has so many bytes.
 fn tell_duplicates(meter: &Meter, alloc: Global, size: usize) -> Result<()> {
-    let name = Vec::from_elem(alloc, b'a', size)?;
-    let insertion = capacity_and_insertion(alloc, CAPACITY, &name, b"")?;
-    let duplicates = duplicates(alloc)?;
-    let mut end = new_end(alloc, CAPACITY, 0)?;
-    tell_received(meter, size, &mut end, &insertion, &duplicates)
+    let duplicates = duplicates(alloc, COUNT)?;
+    let mut end = with_large_entry(alloc, size)?;
+    tell_received(meter, size, &mut end, &duplicates)
 }
 
-/// The instructions that insert the newest entry again.
-fn duplicates(alloc: Global) -> Result<Vec<u8>> {
-    let mut stream = Vec::new(alloc);
-    for _ in 0..COUNT {
-        Duplicate(0).encode(&mut stream)?;
-    }
-    Ok(stream)
+/// An end that received an entry whose name has so many bytes.
+fn with_large_entry(alloc: Global, size: usize) -> Result<ConnectionDecoder> {
+    let name = Vec::from_elem(alloc, b'a', size)?;
+    let insertion = capacity_and_insertion(alloc, CAPACITY, &name, b"")?;
+    end_behind(alloc, &insertion)
+}
+
+/// An end that received an encoder stream.
+fn end_behind(alloc: Global, stream: &[u8]) -> Result<ConnectionDecoder> {
+    let mut end = new_end(alloc, CAPACITY, 0)?;
+    end.receive(&mut Cursor::new(stream))?;
+    Ok(end)
 }
 
 /// Tells how long this end takes to receive duplicates behind an insertion, and how many insertions it ever made.
@@ -221,10 +250,8 @@ fn tell_received(
     meter: &Meter,
     size: usize,
     end: &mut ConnectionDecoder,
-    insertion: &[u8],
     duplicates: &[u8],
 ) -> Result<()> {
-    end.receive(&mut Cursor::new(insertion))?;
     let start = meter.start()?;
     let inserted = end.receive(&mut Cursor::new(duplicates))?;
     let case = Case {

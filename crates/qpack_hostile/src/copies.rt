@@ -44,8 +44,7 @@ fn tell_lines(meter: &Meter, alloc: Global, size: usize) -> Result<()> {
 
 /// The same, of this decoder.
 fn tell_lines_of(meter: &Meter, alloc: Global, size: usize, decoder: &Decoder) -> Result<()> {
-    let mut block = prefix_of(alloc, decoder)?;
-    push_often(0x80, COUNT, &mut block)?;
+    let block = newest_lines(alloc, decoder)?;
     let case = Case {
         name: "decode_header, lines of a large entry",
         size,
@@ -54,6 +53,20 @@ fn tell_lines_of(meter: &Meter, alloc: Global, size: usize, decoder: &Decoder) -
     };
     let expected = size.saturating_add(32).saturating_mul(COUNT);
     tell_decoded(meter, case, decoder, &block, expected as u64)
+}
+
+/// A block of lines of one byte, each of which is the newest entry.
+pub(crate) fn newest_lines(alloc: Global, decoder: &Decoder) -> Result<Vec<u8>> {
+    let mut block = prefix_of(alloc, decoder)?;
+    push_often(0x80, COUNT, &mut block)?;
+    Ok(block)
+}
+
+/// A block of so many lines of one byte, each of a static field whose size is 42 bytes.
+pub(crate) fn static_lines(alloc: Global, count: usize) -> Result<Vec<u8>> {
+    let mut block = Vec::from_slice(alloc, b"\0\0")?;
+    push_often(0xD1, count, &mut block)?;
+    Ok(block)
 }
 
 /// Writes a byte so often.
@@ -67,8 +80,7 @@ pub(crate) fn push_often(byte: u8, count: usize, block: &mut Vec<u8>) -> Result<
 /// Tells how long a block without a table takes that passes the limit: of so many lines of one byte, of a static field
 /// whose size is 42 bytes.
 fn tell_limit(meter: &Meter, alloc: Global, size: usize) -> Result<()> {
-    let mut block = Vec::from_slice(alloc, b"\0\0")?;
-    push_often(0xD1, size.saturating_add(COUNT), &mut block)?;
+    let block = static_lines(alloc, size.saturating_add(COUNT))?;
     let start = meter.start()?;
     let sum = refused_size(alloc, &block)?;
     let case = Case {
@@ -90,10 +102,7 @@ fn refused_size(alloc: Global, block: &[u8]) -> Result<u64> {
 
 /// Tells how long instructions take that insert the large entry again, in one byte each.
 fn tell_duplicates(meter: &Meter, alloc: Global, size: usize, count: usize) -> Result<()> {
-    let mut stream = Vec::new(alloc);
-    for _ in 0..count {
-        Duplicate(0).encode(&mut stream)?;
-    }
+    let stream = duplicates(alloc, count)?;
     tell_stream(
         meter,
         alloc,
@@ -118,6 +127,15 @@ fn tell_names(meter: &Meter, alloc: Global, size: usize) -> Result<()> {
         COUNT,
         &stream,
     )
+}
+
+/// So many instructions that insert the newest entry again.
+pub(crate) fn duplicates(alloc: Global, count: usize) -> Result<Vec<u8>> {
+    let mut stream = Vec::new(alloc);
+    for _ in 0..count {
+        Duplicate(0).encode(&mut stream)?;
+    }
+    Ok(stream)
 }
 
 /// Tells how long insertions take behind that of the large entry.

@@ -94,23 +94,22 @@ fn tell_asked(
     expected: usize,
 ) -> Result<()> {
     let start = meter.start()?;
-    let answer = decoder.on_encoder_recv(&mut Cursor::new(stream), &mut Vec::new(alloc));
-    let is_so = if is_refused {
-        is_too_large(&answer)
-    } else {
-        answer.is_ok()
-    };
-    ensure!(is_so, "{}: not answered so", case.name);
+    ensure!(
+        is_refused == is_too_large(alloc, decoder, stream)?,
+        "{}: not answered so",
+        case.name
+    );
     let capacity = decoder.table().max_mem_size();
     meter.tell(case, start, capacity as u64, expected as u64)
 }
 
-/// Whether a capacity was refused as too large.
-fn is_too_large(answer: &Result<usize, DecoderError>) -> bool {
-    matches!(
-        answer,
-        Err(DecoderError::DynamicTable(dynamic::Error::MaximumTableSizeTooLarge))
-    )
+/// Whether a capacity is refused as too large. Fails where it is refused otherwise.
+fn is_too_large(alloc: Global, decoder: &mut Decoder, stream: &[u8]) -> Result<bool> {
+    match decoder.on_encoder_recv(&mut Cursor::new(stream), &mut Vec::new(alloc)) {
+        Ok(_) => Ok(false),
+        Err(DecoderError::DynamicTable(dynamic::Error::MaximumTableSizeTooLarge)) => Ok(true),
+        Err(error) => Err(error.into()),
+    }
 }
 
 /// An empty table, for which a maximum capacity was agreed on, or none.

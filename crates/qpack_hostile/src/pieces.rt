@@ -9,15 +9,19 @@ use std::alloc::Global;
 /// Tells the cases of instructions of some so many bytes: a long value behind a short name, and a long value behind a
 /// name that is as long.
 pub(crate) fn tell(meter: &Meter, alloc: Global, size: usize) -> Result<()> {
-    let short = Vec::from_elem(alloc, b'a', 1)?;
     let long = Vec::from_elem(alloc, b'a', size)?;
-    tell_pieces(meter, alloc, "a long value, byte by byte", &short, &long)?;
+    tell_both(meter, alloc, &long)
+}
+
+/// Tells both cases.
+fn tell_both(meter: &Meter, alloc: Global, long: &[u8]) -> Result<()> {
+    tell_pieces(meter, alloc, "a long value, byte by byte", b"a", long)?;
     tell_pieces(
         meter,
         alloc,
         "a long value behind a long name, byte by byte",
-        &long,
-        &long,
+        long,
+        long,
     )
 }
 

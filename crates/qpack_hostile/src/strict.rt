@@ -1,8 +1,8 @@
 //! Sections read strictly, up to a limit: longer than any within it, as long as one can be, of lines that name a large
 //! entry, and of lines that reference past the required insert count.
 
-use crate::copies::{push_often, with_large_entry, with_small_entries};
-use crate::ends::{prefix_of, prefix_requiring};
+use crate::copies::{newest_lines, push_often, static_lines, with_large_entry, with_small_entries};
+use crate::ends::prefix_requiring;
 use crate::meter::{Case, Meter};
 use crate::strings::{coded_block, plain_block};
 use anyhow::{Result, bail};
@@ -55,37 +55,66 @@ fn tell_refused(
     limit: u64,
     expected: u64,
 ) -> Result<()> {
-    let mut fields = FieldSection::new(alloc);
+    let fields = &mut FieldSection::new(alloc);
+    tell_told(meter, case, table, section, limit, expected, fields)
+}
+
+/// The same, where fields would stand here.
+fn tell_told(
+    meter: &Meter,
+    case: Case,
+    table: &DynamicTable,
+    section: &[u8],
+    limit: u64,
+    expected: u64,
+    fields: &mut FieldSection,
+) -> Result<()> {
     let start = meter.start()?;
-    let answered = told(table, section, limit, &mut fields)?;
+    let answered = told(table, section, limit, fields)?;
     meter.tell(case, start, answered, expected)
 }
 
 /// Tells the cases of a limit of so many bytes.
 fn tell_limited(meter: &Meter, alloc: Global, size: usize, table: &DynamicTable) -> Result<()> {
     tell_too_long(meter, alloc, size, table)?;
+    tell_plain(meter, alloc, size, table)?;
+    tell_coded(meter, alloc, size, table)
+}
+
+/// Tells the case of a plain string.
+fn tell_plain(meter: &Meter, alloc: Global, size: usize, table: &DynamicTable) -> Result<()> {
     let len = size.saturating_mul(4);
-    let plain = plain_block(alloc, len)?;
+    let mut plain = plain_block(alloc, len)?;
     tell_longest(
         meter,
         alloc,
         "read_section at its longest, a plain string",
         size,
         table,
-        plain,
+        &mut plain,
         len,
-    )?;
-    let text = Vec::from_elem(alloc, b'a', len.saturating_mul(8) / 5)?;
-    let coded = coded_block(alloc, &text)?;
+    )
+}
+
+/// Tells the case of a string whose codes are the shortest.
+fn tell_coded(meter: &Meter, alloc: Global, size: usize, table: &DynamicTable) -> Result<()> {
+    let len = size.saturating_mul(4).saturating_mul(8) / 5;
+    let mut coded = block_of_letters(alloc, len)?;
     tell_longest(
         meter,
         alloc,
         "read_section at its longest, codes of 5 bits",
         size,
         table,
-        coded,
-        text.len(),
+        &mut coded,
+        len,
     )
+}
+
+/// A block of one field, whose value is coded and has so many letters.
+fn block_of_letters(alloc: Global, len: usize) -> Result<Vec<u8>> {
+    let text = Vec::from_elem(alloc, b'a', len)?;
+    coded_block(alloc, &text)
 }
 
 /// The most bytes that a section within a limit of so many bytes can have.
@@ -95,8 +124,7 @@ fn longest_within(size: usize) -> usize {
 
 /// Tells how long it takes to refuse a section that is a byte longer than any within the limit: it is not read.
 fn tell_too_long(meter: &Meter, alloc: Global, size: usize, table: &DynamicTable) -> Result<()> {
-    let mut section = Vec::from_slice(alloc, b"\0\0")?;
-    push_often(0xD1, longest_within(size).saturating_sub(1), &mut section)?;
+    let section = static_lines(alloc, longest_within(size).saturating_sub(1))?;
     let case = Case {
         name: "read_section, longer than any within the limit",
         size,
@@ -114,11 +142,11 @@ fn tell_longest(
     name: &str,
     size: usize,
     table: &DynamicTable,
-    mut section: Vec<u8>,
+    section: &mut Vec<u8>,
     len: usize,
 ) -> Result<()> {
     let more = longest_within(size).saturating_sub(section.len());
-    push_often(0xD1, more, &mut section)?;
+    push_often(0xD1, more, section)?;
     let case = Case {
         name,
         size,
@@ -131,7 +159,7 @@ fn tell_longest(
         alloc,
         case,
         table,
-        &section,
+        section,
         size as u64,
         expected as u64,
     )
@@ -145,8 +173,7 @@ fn tell_large(meter: &Meter, alloc: Global, size: usize) -> Result<()> {
 
 /// The same, under this decoder's table.
 fn tell_large_of(meter: &Meter, alloc: Global, size: usize, decoder: &Decoder) -> Result<()> {
-    let mut section = prefix_of(alloc, decoder)?;
-    push_often(0x80, COUNT, &mut section)?;
+    let section = newest_lines(alloc, decoder)?;
     let case = Case {
         name: "read_section, lines of a large entry",
         size,

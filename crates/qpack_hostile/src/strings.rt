@@ -20,11 +20,23 @@ const ROUNDS: usize = 10;
 pub(crate) fn tell(meter: &Meter, alloc: Global, size: usize) -> Result<()> {
     for (label, byte, bits) in CODES {
         let len = size.saturating_mul(8) / bits.max(1);
-        let text = Vec::from_elem(alloc, byte, len)?;
-        tell_text(meter, alloc, label, size, &text)?;
+        tell_code(meter, alloc, label, size, byte, len)?;
     }
     let block = plain_block(alloc, size)?;
     tell_block(meter, alloc, "a plain string", size, &block, size)
+}
+
+/// Tells the cases of a byte so often.
+fn tell_code(
+    meter: &Meter,
+    alloc: Global,
+    label: &str,
+    size: usize,
+    byte: u8,
+    len: usize,
+) -> Result<()> {
+    let text = Vec::from_elem(alloc, byte, len)?;
+    tell_text(meter, alloc, label, size, &text)
 }
 
 /// Tells the cases of a text whose payload has so many bytes.

@@ -95,20 +95,31 @@ fn tell_instruction(meter: &Meter, alloc: Global, size: usize, instruction: Host
 /// An encoder with so many unacknowledged blocks, of the streams from 0 on, or all of stream 0.
 fn with_unacknowledged(alloc: Global, count: usize, has_streams: bool) -> Result<Encoder> {
     let mut encoder = Encoder::from(table_of_one(alloc)?);
+    encode_all(alloc, &mut encoder, count, has_streams)?;
+    Ok(encoder)
+}
+
+/// Encodes so many blocks.
+fn encode_all(alloc: Global, encoder: &mut Encoder, count: usize, has_streams: bool) -> Result<()> {
     for number in 0..count {
         let stream_id = if has_streams { number as u64 } else { 0 };
-        encode_value(alloc, &mut encoder, stream_id, b"bar")?;
+        encode_value(alloc, encoder, stream_id, b"bar")?;
     }
-    Ok(encoder)
+    Ok(())
 }
 
 /// A table with one entry, which is received.
 fn table_of_one(alloc: Global) -> Result<DynamicTable> {
-    let field = HeaderField::from_pair(alloc, b"foo", b"bar")?;
     let mut table = empty_table(alloc, 4096, 0)?;
-    table.put(field)?;
-    table.update_largest_received(1);
+    put_one(alloc, &mut table)?;
     Ok(table)
+}
+
+/// Puts an entry, which is received.
+fn put_one(alloc: Global, table: &mut DynamicTable) -> Result<()> {
+    table.put(HeaderField::from_pair(alloc, b"foo", b"bar")?)?;
+    table.update_largest_received(1);
+    Ok(())
 }
 
 /// Encodes a block of one field, whose value this is; its required insert count.
@@ -186,10 +197,16 @@ fn increments(alloc: Global, count: usize) -> Result<Vec<u8>> {
 /// An encoder with so many blocked blocks, each of which inserts a field of its own.
 fn with_blocked(alloc: Global, count: usize) -> Result<Encoder> {
     let mut encoder = Encoder::from(empty_table(alloc, count.saturating_mul(64), count)?);
-    for number in 0..count {
-        encode_number(alloc, &mut encoder, number as u64)?;
-    }
+    encode_numbers(alloc, &mut encoder, count)?;
     Ok(encoder)
+}
+
+/// Encodes so many blocks of a field of its own each.
+fn encode_numbers(alloc: Global, encoder: &mut Encoder, count: usize) -> Result<()> {
+    for number in 0..count {
+        encode_number(alloc, encoder, number as u64)?;
+    }
+    Ok(())
 }
 
 /// Encodes a block of one field on the stream of a number, whose value are its digits.
