@@ -6,7 +6,6 @@ use Rattle.std.proofs.Math.Seq.{take-length}
 use Rattle.std.proofs.lemmas.List.{take_at, drop_at}
 use Rattle.qpack_spec.specs.Field.{FieldLine}
 use Rattle.qpack_spec.specs.Instruction.{written_encoder_instructions}
-use Rattle.qpack_spec.specs.Line.{Line}
 use Rattle.qpack_spec.specs.Marked.{handle_lines, marked_rule, written_marked_lines, written_marked_block}
 use Rattle.qpack_spec.specs.Prefix.{Prefix, prefix_for, written_prefix}
 use Rattle.qpack_spec.specs.Reading.{greatest_of}

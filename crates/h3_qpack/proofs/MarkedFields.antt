@@ -3,7 +3,6 @@ use Rattle.std.proofs.Common.{◌≡◌, ℕ, zero, suc, List, [], ◌∷◌, �
 use Rattle.std.proofs.Common.{sym, ap, subst, ◌∙◌, inl, inr, append-nil, append_assoc, Result, Ok, Err, ◌+◌, ◌<◌}
 use Rattle.std.proofs.Common.{get_or, length}
 use Rattle.std.specs.Borrow.{Bor}
-use Rattle.std.specs.Iterator.{Drains}
 use Rattle.std.specs.Prelude.{OnOk, OnErr, IfOk}
 use Rattle.std.proofs.lemmas.Bool.{cond_both}
 use Rattle.qpack_spec.specs.BlockReading.{written_block}
@@ -15,6 +14,7 @@ use Rattle.qpack_spec.specs.Marked.{marked_rule, written_marked_lines, written_m
 use Rattle.qpack_spec.specs.Marked.{stateless_block_marked}
 use Rattle.qpack_spec.specs.Prefix.{written_prefix, prefix_for}
 use Rattle.qpack_spec.specs.Rule.{Draft, rule, block_of, required_insert_count, committed_table}
+use Rattle.qpack_spec.specs.Stateless.{stateless_line, stateless_literal}
 use Rattle.qpack_spec.specs.StaticTable.{static_name_index}
 use Rattle.qpack_spec.specs.Table.{Table, empty_table, without_references, with_reference, may_reference}
 use Rattle.qpack_spec.specs.Table.{newest_index}
@@ -259,3 +259,11 @@ stateless_grown line xs i x l before mid now within is lent so_far more =
     ∙ append_assoc before (written_stateless (map line (take i xs)))
     (written_marked_line l.never_indexed (stateless_line_marked l))
     ∙ ap (λ (b : List ℕ). before ++ b) (sym (stateless_more (map line (take i xs)) l)))
+
+-- the line of a field that may be indexed
+pub alone_unmarked : (l : FieldLine) → l.never_indexed ≡ false
+    → written_line (stateless_line l.field) ≡ written_marked_line l.never_indexed (stateless_line_marked l)
+alone_unmarked l is =
+    sym (ap (λ (b : Bool). written_marked_line b (cond b (stateless_literal l.field (static_name_index l.field.name))
+    (stateless_line l.field))) is
+    ∙ written_unmarked l.field (stateless_line l.field))

@@ -54,6 +54,15 @@ grown before mid now fs f e h =
     ∙ append_assoc before (written_block (stateless_block fs)) (written_line (stateless_line f))
     ∙ ap (λ (t : List ℕ). before ++ t) (sym (block_of_more fs f))
 
+-- the line of a field whose parts are lent
+pub lent_parts : (mid now name value : List ℕ) (f : Field) → name ≡ f.name → value ≡ f.value
+    → now ≡ mid ++ written_line (stateless_line (record { name = name; value = value }))
+    → now ≡ mid ++ written_line (stateless_line f)
+lent_parts mid now name value f same also is =
+    is
+    ∙ ap (λ (n : List ℕ). mid ++ written_line (stateless_line (record { name = n; value = value }))) same
+    ∙ ap (λ (v : List ℕ). mid ++ written_line (stateless_line (record { name = f.name; value = v }))) also
+
 -- what stood before is at the front of what has more behind it
 pub take-append_front : (before more mid now : List ℕ) (k : ℕ) → length before ≡ k → now ≡ mid → mid ≡ before ++ more
     → take k now ≡ before

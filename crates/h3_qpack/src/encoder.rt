@@ -9,7 +9,7 @@ ghost use Rattle.qpack_base.specs.HeaderFields.{DrainsFields};
 ghost use Rattle.h3_qpack.specs.Errors.{encoder_error_of_table, encoder_error_of_string, encoder_error_of_parse};
 ghost use Rattle.h3_qpack.specs.declared.encoder.EncoderError.TheVariants.{Memory};
 
-use crate::encoder::stateless::append_line;
+use crate::encoder::stateless::append_unmarked;
 use qpack_base::coding::NoMemory;
 use qpack_base::field::HeaderField;
 use qpack_base::parse_error::ParseError;
@@ -32,7 +32,7 @@ mod stateless;
 pub use crate::encoder::as_field::AsField;
 pub use crate::encoder::capacity::set_dynamic_table_size;
 pub use crate::encoder::connection::Encoder;
-pub use crate::encoder::sections::{EncoderTable, WritesSections, encode_section};
+pub use crate::encoder::sections::{EncoderTable, WritesSections};
 pub use crate::encoder::stateless::encode_section_stateless;
 
 /// Why fields were not encoded, or an instruction of the decoder was not taken.
@@ -150,7 +150,7 @@ fn append_block<'a, A: Allocator, T: Iterator<Item = &'a HeaderField> + Drop>(
     HeaderPrefix::new(0, 0, 0, 0).encode(block)?;
     let mut size = 0u64;
     for field in fields {
-        append_line(block, &field.as_line())?;
+        append_unmarked(block, field.name.as_slice(), field.value.as_slice())?;
         size = size.saturating_add(field.mem_size() as u64);
     }
     Ok(size)

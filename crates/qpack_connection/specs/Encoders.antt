@@ -104,9 +104,19 @@ TellsCapacity old new capacity (Ok done) =
     (with_capacity old.table capacity ≡ Ok new.table) × (new ≡ told capacity new.table old)
 TellsCapacity old new capacity (Err e) = StopsTelling old.table capacity e × (new ≡ old)
 
+-- the maximum is 0, and so is the capacity, which the table has: nothing may be written then (section 3.2.3)
+abbrev pub IsNoCapacity : EncodingEnd → ℕ → Type 0
+IsNoCapacity d capacity = (d.settings.max_capacity ≡ 0) × (capacity ≡ 0)
+
+-- nothing is to be done for the capacity, or it is told
+abbrev pub SetsIt : EncodingEnd → EncodingEnd → ℕ → Type 0
+SetsIt old new capacity =
+    (IsNoCapacity old capacity × (new ≡ old))
+    ⊎ ((IsNoCapacity old capacity → ⊥) × TellsCapacity old new capacity (Ok tt))
+
 -- a capacity was set; or the connection was ended, and nothing changes; or why it was not set, and nothing changes
 abbrev pub SetsCapacity : EncodingEnd → EncodingEnd → ℕ → Result ⊤ EncodingError → Type 0
-SetsCapacity old new capacity (Ok done) = (old.failure ≡ None) × TellsCapacity old new capacity (Ok tt)
+SetsCapacity old new capacity (Ok done) = (old.failure ≡ None) × SetsIt old new capacity
 SetsCapacity old new capacity (Err e) =
     ((old.failure ≡ Some e) × (new ≡ old))
     ⊎ ((old.failure ≡ None) × TellsCapacity old new capacity (Err e))

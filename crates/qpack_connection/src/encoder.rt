@@ -16,7 +16,7 @@ use crate::decoder::SettingsError;
 use crate::hearing::{DECODER_STREAM_ERROR, DecoderStream, DecoderStreamError};
 use h3_qpack::EncoderError;
 use h3_qpack::encoder::{
-    AsField, encode_section, encode_section_stateless, set_dynamic_table_size,
+    AsField, EncoderTable, WritesSections, encode_section_stateless, set_dynamic_table_size,
 };
 use qpack_base::coding::{Cursor, NoMemory};
 use qpack_table::dynamic;
@@ -148,7 +148,7 @@ impl From<NoMemory> for EncodingError {
 #[derive(Debug, Drop)]
 pub struct ConnectionEncoder {
     settings: EncoderSettings,
-    table: DynamicTable,
+    table: EncoderTable,
     /// The capacity that is to be told before the first section, in bytes.
     wanted: Option<usize>,
     stream: DecoderStream,
@@ -165,7 +165,7 @@ impl Model for ConnectionEncoder {
 
     ghost view = { λ d. record {
       settings = d.settings;
-      table = d.table;
+      table = d.table.table;
       wanted = d.wanted;
       stream = d.stream;
       unsent = d.unsent.items;
@@ -174,7 +174,7 @@ impl Model for ConnectionEncoder {
 
     ghost invariant = { λ d. IsSound (record {
       settings = d.settings;
-      table = d.table;
+      table = d.table.table;
       wanted = d.wanted;
       stream = d.stream;
       unsent = d.unsent.items;
@@ -196,7 +196,7 @@ impl ConnectionEncoder {
         let table = new_table(alloc, settings)?;
         Ok(ConnectionEncoder {
             settings,
-            table,
+            table: EncoderTable { table },
             wanted: settings.first_capacity(),
             stream: DecoderStream::new(),
             unsent: Vec::new(alloc),
@@ -215,7 +215,7 @@ impl ConnectionEncoder {
     pub fn table(&self) -> &DynamicTable
         ensures { result.now ≡ self.now.table }
     {
-        &self.table
+        &self.table.table
     }
 
     /// The error that ended the connection, if one did.
@@ -229,7 +229,7 @@ impl ConnectionEncoder {
     pub fn unacknowledged(&self) -> usize
         ensures { result ≡ length self.now.table.unacknowledged }
     {
-        self.table.unacknowledged_blocks()
+        self.table.table.unacknowledged_blocks()
     }
 
     /// How many sections may be blocked: those that require insertions which the peer is not known to have received
@@ -237,7 +237,7 @@ impl ConnectionEncoder {
     pub fn blocked(&self) -> usize
         ensures { result ≡ length self.now.table.blocked }
     {
-        self.table.blocked_blocks()
+        self.table.table.blocked_blocks()
     }
 
     /// How many bytes of the decoder stream wait for those behind them, which are nine at most.
@@ -265,7 +265,8 @@ impl ConnectionEncoder {
 
     /// Sets the capacity of the table in bytes, and writes the instruction that tells it (RFC 9204, sections 3.2.3 and
     /// 4.3.1). If the capacity of the settings was not told yet, this one is told in its place. What doesn't fit is
-    /// evicted, the oldest first (section 3.2.2).
+    /// evicted, the oldest first (section 3.2.2). Where the maximum is 0 the table has the only capacity that there is,
+    /// and nothing is written (section 3.2.3).
     ///
     /// Refused are, in this order: every call behind an error that ended the connection, by that error; a capacity
     /// above the maximum (`CapacityTooLarge`); one for which an entry that is not evictable would have to go
@@ -275,6 +276,9 @@ impl ConnectionEncoder {
     {
         if let Some(failure) = self.failure {
             return Err(failure);
+        }
+        if capacity == 0 && self.settings.max_capacity == 0 {
+            return Ok(());
         }
         self.tell(capacity)
     }
@@ -309,14 +313,13 @@ impl ConnectionEncoder {
         if self.is_full() {
             return encode_alone(fields, section);
         }
-        let encoded = encode_section(
-            &mut self.table,
-            stream,
-            section,
-            &mut self.unsent,
-            fields,
-        );
-        encoded.map_err(|_| EncodingError::Memory)
+        match self
+            .table
+            .write_section(stream, section, &mut self.unsent, fields)
+        {
+            Ok(required) => Ok(required),
+            Err(_) => Err(EncodingError::Memory),
+        }
     }
 
     /// Receives the bytes of the decoder stream that the cursor has left, which follow on those of the calls before,
@@ -338,7 +341,7 @@ impl ConnectionEncoder {
         if let Some(failure) = self.failure {
             return Err(failure);
         }
-        match self.stream.receive(&mut self.table, buf) {
+        match self.stream.receive(&mut self.table.table, buf) {
             Ok(()) => Ok(()),
             Err(error) => {
                 let failure = EncodingError::DecoderStream(error);
@@ -365,7 +368,7 @@ impl ConnectionEncoder {
     fn is_full(&self) -> bool
         ensures { result ≡ is_full self.now }
     {
-        self.table.unacknowledged_blocks() >= self.settings.most_unacknowledged
+        self.table.table.unacknowledged_blocks() >= self.settings.most_unacknowledged
     }
 
     /// Tells the capacity that is wanted, if one is to be told before the first section. Refused, which is for memory
@@ -383,7 +386,7 @@ impl ConnectionEncoder {
     fn tell(&mut self, capacity: usize) -> Result<(), EncodingError>
         ensures { TellsCapacity self.old self.new capacity result }
     {
-        match set_dynamic_table_size(&mut self.table, &mut self.unsent, capacity) {
+        match set_dynamic_table_size(&mut self.table.table, &mut self.unsent, capacity) {
             Ok(()) => {
                 self.wanted = None;
                 Ok(())

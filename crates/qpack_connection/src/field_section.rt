@@ -55,7 +55,7 @@ impl Model for FieldSection {
     ghost use Rattle.std.specs.List.{AllByRecursion};
     ghost use Rattle.qpack_spec.specs.Field.{FieldLine};
     ghost use Rattle.qpack_base.specs.HeaderFields.{line_of};
-ghost use Rattle.qpack_connection.specs.FieldSections.{IsWithin, fields_in};
+    ghost use Rattle.qpack_connection.specs.FieldSections.{IsWithin, fields_in};
 
     ghost Value = { List FieldLine };
 
@@ -138,7 +138,7 @@ impl<'a> Model for Fields<'a> {
     ghost use Rattle.std.specs.List.{AllByRecursion};
     ghost use Rattle.qpack_spec.specs.Field.{FieldLine};
     ghost use Rattle.qpack_base.specs.HeaderFields.{line_of};
-ghost use Rattle.qpack_connection.specs.FieldSections.{IsWithin, fields_in};
+    ghost use Rattle.qpack_connection.specs.FieldSections.{IsWithin, fields_in};
 
     ghost Value = { List FieldLine };
 

@@ -18,8 +18,8 @@ pub use encoder::{ConnectionEncoder, EncoderSettings, EncodingError};
 pub use field_section::{FieldSection, Fields};
 pub use hearing::{DECODER_STREAM_ERROR, DecoderStream, DecoderStreamError, HearingError};
 pub use place::Place;
+pub use qpack_base::field::FieldLine;
 pub use receiving::{ENCODER_STREAM_ERROR, EncoderStream, EncoderStreamError};
 pub use section::{
     DECOMPRESSION_FAILED, LineError, Reading, SectionError, longest_section, read_section,
 };
-pub use qpack_base::field::FieldLine;

@@ -63,17 +63,6 @@ pub(crate) fn cancel(end: &mut ConnectionDecoder, stream: u64) -> Result<(), Dec
     }
 }
 
-/// An end received bytes in hexadecimal, and has this insert count.
-fn received(
-    alloc: Global,
-    end: &mut ConnectionDecoder,
-    piece: &[u8],
-    inserted: usize,
-) -> Result<(), Fail> {
-    let piece = bytes(alloc, piece)?;
-    same(receive(end, &piece), Ok(inserted))
-}
-
 /// What a section in hexadecimal is answered.
 fn answer(
     alloc: Global,
@@ -98,6 +87,91 @@ fn answer_into(
     Ok(answer)
 }
 
+/// What is done with an end, and what comes of it. Bytes are in hexadecimal.
+#[derive(Clone, Copy)]
+enum Step {
+    /// Bytes of the encoder stream are received, and the insert count is this.
+    Receives(&'static [u8], usize),
+    /// A section on a stream gives fields, and requires so many insertions.
+    Decodes(u64, &'static [u8], usize),
+    /// A section on a stream waits for so many insertions, and so many streams are blocked.
+    Blocks(u64, &'static [u8], usize, usize),
+    /// A section on a stream is refused, and the connection goes on.
+    Refuses(u64, &'static [u8], SectionError),
+    /// A section on a stream ends the connection.
+    Ends(u64, &'static [u8], DecodingError),
+    /// A stream is given up.
+    Cancels(u64),
+    /// There is no stream of this number, and the connection goes on.
+    HasNone(u64),
+    /// The decoder stream has these bytes to be sent; then they are sent.
+    Sends(&'static [u8]),
+    /// The decoder stream has these bytes to be sent.
+    Holds(&'static [u8]),
+    /// So many bytes are sent, or all if there are fewer.
+    Drops(usize),
+    /// So many streams are blocked, and this one is ready.
+    Ready(usize, Option<u64>),
+    /// What the end has to tell is this.
+    Tells(usize, usize, usize, usize),
+}
+
+impl Step {
+    /// Does it.
+    fn take(self, alloc: Global, end: &mut ConnectionDecoder) -> Result<(), Fail> {
+        match self {
+            Step::Receives(piece, inserted) => receives(alloc, end, piece, inserted),
+            Step::Decodes(stream, section, required) => {
+                decodes(alloc, end, stream, section, required)
+            }
+            Step::Blocks(stream, section, required, blocked) => {
+                blocks(alloc, end, stream, section, (required, blocked))
+            }
+            Step::Refuses(stream, section, error) => refuses(alloc, end, stream, section, error),
+            Step::Ends(stream, section, error) => ends(alloc, end, stream, section, error),
+            Step::Cancels(stream) => same(cancel(end, stream), Ok(())),
+            Step::HasNone(stream) => has_none(alloc, end, stream),
+            Step::Sends(expected) => sends(alloc, end, expected),
+            Step::Holds(expected) => holds(alloc, end, expected),
+            Step::Drops(count) => {
+                end.sent(count);
+                Ok(())
+            }
+            Step::Ready(blocked, ready) => {
+                same((end.blocked(), end.next_ready()), (blocked, ready))
+            }
+            Step::Tells(to_send, blocked, waiting, inserted) => {
+                same(told(end), (to_send, blocked, waiting, inserted))
+            }
+        }
+    }
+}
+
+/// An end of these settings goes through steps.
+fn goes_through(alloc: Global, settings: DecoderSettings, steps: &[Step]) -> Result<(), Fail> {
+    let mut end = ConnectionDecoder::new(alloc, settings)?;
+    takes_steps(alloc, &mut end, steps)
+}
+
+/// An end takes steps.
+fn takes_steps(alloc: Global, end: &mut ConnectionDecoder, steps: &[Step]) -> Result<(), Fail> {
+    for step in steps {
+        step.take(alloc, end)?;
+    }
+    Ok(())
+}
+
+/// An end received bytes, and has this insert count.
+fn receives(
+    alloc: Global,
+    end: &mut ConnectionDecoder,
+    piece: &[u8],
+    inserted: usize,
+) -> Result<(), Fail> {
+    let piece = bytes(alloc, piece)?;
+    same(receive(end, &piece), Ok(inserted))
+}
+
 /// A section gives fields, and requires so many insertions.
 fn decodes(
     alloc: Global,
@@ -116,12 +190,54 @@ fn blocks(
     end: &mut ConnectionDecoder,
     stream: u64,
     section: &[u8],
-    required: usize,
-    blocked: usize,
+    (required, blocked): (usize, usize),
 ) -> Result<(), Fail> {
     let answer = answer(alloc, end, stream, section)?;
-    same(answer, Ok(Reading::Blocked { required }))?;
-    same(end.blocked(), blocked)
+    let waiting = Ok(Reading::Blocked { required });
+    same((answer, end.blocked()), (waiting, blocked))
+}
+
+/// A section is refused for an error that does not end the connection.
+fn refuses(
+    alloc: Global,
+    end: &mut ConnectionDecoder,
+    stream: u64,
+    section: &[u8],
+    error: SectionError,
+) -> Result<(), Fail> {
+    let answer = answer(alloc, end, stream, section)?;
+    let error = DecodingError::Section { stream, error };
+    same(
+        (answer, error.code(), end.failure()),
+        (Err(error), None, None),
+    )
+}
+
+/// A section is refused for an error that ends the connection.
+fn ends(
+    alloc: Global,
+    end: &mut ConnectionDecoder,
+    stream: u64,
+    section: &[u8],
+    error: DecodingError,
+) -> Result<(), Fail> {
+    let answer = answer(alloc, end, stream, section)?;
+    same((answer, end.failure()), (Err(error), Some(error)))?;
+    is_ended(alloc, end, DECOMPRESSION_FAILED)
+}
+
+/// There is no stream of this number.
+fn has_none(alloc: Global, end: &mut ConnectionDecoder, stream: u64) -> Result<(), Fail> {
+    let none = DecodingError::NoStream(stream);
+    let answer = answer(alloc, end, stream, b"030080")?;
+    same((answer, cancel(end, stream)), (Err(none), Err(none)))?;
+    same((none.code(), end.failure()), (None, None))
+}
+
+/// The decoder stream has these bytes to be sent, in hexadecimal.
+fn holds(alloc: Global, end: &ConnectionDecoder, expected: &[u8]) -> Result<(), Fail> {
+    let expected = bytes(alloc, expected)?;
+    same(end.decoder_stream(), expected.as_slice())
 }
 
 /// The decoder stream has these bytes to be sent, in hexadecimal; then they are sent.
@@ -155,11 +271,19 @@ fn is_ended(alloc: Global, end: &mut ConnectionDecoder, code: u64) -> Result<(),
     let failure = end.failure();
     same(failure.and_then(|error| error.code()), Some(code))?;
     let before = told(end);
+    answers_no_more(alloc, end, failure)?;
+    same((told(end), end.failure()), (before, failure))
+}
+
+/// Every call answers the error.
+fn answers_no_more(
+    alloc: Global,
+    end: &mut ConnectionDecoder,
+    failure: Option<DecodingError>,
+) -> Result<(), Fail> {
     receives_no_more(end, failure)?;
-    decodes_no_more(end, failure, &mut FieldSection::new(alloc))?;
     cancels_no_more(end, failure)?;
-    same(told(end), before)?;
-    same(end.failure(), failure)
+    decodes_no_more(end, failure, &mut FieldSection::new(alloc))
 }
 
 /// Receiving bytes, or none, answers the error.
@@ -265,18 +389,21 @@ fn begins(end: &ConnectionDecoder) -> Result<(), Fail> {
     same((end.next_ready(), end.failure()), (None, None))
 }
 
+/// Maximum capacities, limits of blocked streams, and why an end is refused that would have them.
+const RANGES: [(usize, usize, Option<SettingsError>); 4] = [
+    (1 << 30, 0, Some(SettingsError::CapacityTooLarge)),
+    ((1 << 30) - 1, 65_534, None),
+    (0, 65_535, Some(SettingsError::BlockedTooLarge)),
+    // The maximum capacity comes first.
+    (1 << 30, 65_535, Some(SettingsError::CapacityTooLarge)),
+];
+
 #[test]
 fn settings_are_refused_out_of_range(rt: HostRuntime) -> Result<(), Fail> {
     let alloc = rt.alloc();
-    let refused = |max_capacity, max_blocked| begin(alloc, max_capacity, max_blocked).err();
-    same(refused(1 << 30, 0), Some(SettingsError::CapacityTooLarge))?;
-    same(refused((1 << 30) - 1, 65_534), None)?;
-    same(refused(0, 65_535), Some(SettingsError::BlockedTooLarge))?;
-    // The maximum capacity comes first.
-    same(
-        refused(1 << 30, 65_535),
-        Some(SettingsError::CapacityTooLarge),
-    )?;
+    for (max_capacity, max_blocked, refusal) in RANGES {
+        same(begin(alloc, max_capacity, max_blocked).err(), refusal)?;
+    }
     let end = begin(alloc, 220, 3)?;
     begins(&end)
 }
@@ -345,77 +472,65 @@ fn sections_end_the_connection(rt: HostRuntime) -> Result<(), Fail> {
     section_ends(alloc, 40, b"3f09416100416200", b"030081")
 }
 
-/// Blocks two streams of an end that may have two, and one more.
-fn blocks_too_many(alloc: Global, end: &mut ConnectionDecoder) -> Result<(), Fail> {
-    received(alloc, end, TWO, 2)?;
-    blocks(alloc, end, 0, b"0400", 3, 1)?;
-    blocks(alloc, end, 4, b"0500", 4, 2)?;
-    // The same streams again.
-    blocks(alloc, end, 0, b"0400", 3, 2)?;
-    blocks(alloc, end, 4, b"0400", 3, 2)?;
-    let answer = answer(alloc, end, 8, b"0400")?;
-    same(answer, Err(DecodingError::TooManyBlocked(8)))?;
-    same((end.blocked(), end.next_ready()), (2, None))?;
-    is_ended(alloc, end, DECOMPRESSION_FAILED)?;
-    sends(alloc, end, b"02")
-}
+/// Blocks two streams of an end that may have two, the same again, and one more.
+const TOO_MANY_BLOCKED: &[Step] = &[
+    Step::Receives(TWO, 2),
+    Step::Blocks(0, b"0400", 3, 1),
+    Step::Blocks(4, b"0500", 4, 2),
+    Step::Blocks(0, b"0400", 3, 2),
+    Step::Blocks(4, b"0400", 3, 2),
+    Step::Ends(8, b"0400", DecodingError::TooManyBlocked(8)),
+    Step::Ready(2, None),
+    Step::Sends(b"02"),
+];
 
 #[test]
 fn a_blocked_stream_too_many_ends_the_connection(rt: HostRuntime) -> Result<(), Fail> {
-    let alloc = rt.alloc();
-    let mut end = begin(alloc, 4096, 2)?;
-    blocks_too_many(alloc, &mut end)
+    goes_through(rt.alloc(), settings(4096, 2), TOO_MANY_BLOCKED)
 }
 
+/// Why two fields `:method: GET`, of 42 bytes each, pass the limit of 83 bytes.
+const TOO_LARGE: SectionError = SectionError::Line {
+    number: 2,
+    offset: 3,
+    error: LineError::TooLarge(84),
+};
+
 /// Hands in a section that passes the limit of 83 bytes, and goes on.
-fn passes_the_limit(alloc: Global, end: &mut ConnectionDecoder) -> Result<(), Fail> {
-    let error = SectionError::Line {
-        number: 2,
-        offset: 3,
-        error: LineError::TooLarge(84),
-    };
-    let error = DecodingError::Section { stream: 4, error };
-    same(answer(alloc, end, 4, b"0000d1d1")?, Err(error))?;
-    same((error.code(), end.failure()), (None, None))?;
-    same(told(end), (0, 0, 0, 0))?;
-    same(cancel(end, 4), Ok(()))?;
-    sends(alloc, end, b"44")?;
-    decodes(alloc, end, 8, b"0000d1", 0)
-}
+const PAST_THE_LIMIT: &[Step] = &[
+    Step::Refuses(4, b"0000d1d1", TOO_LARGE),
+    Step::Tells(0, 0, 0, 0),
+    Step::Cancels(4),
+    Step::Sends(b"44"),
+    Step::Decodes(8, b"0000d1", 0),
+];
 
 #[test]
 fn sections_past_the_limit_do_not_end_the_connection(rt: HostRuntime) -> Result<(), Fail> {
-    let alloc = rt.alloc();
     let mut settings = settings(4096, 0);
-    // A field `:method: GET` is of 42 bytes.
     settings.max_section_size = 83;
-    let mut end = ConnectionDecoder::new(alloc, settings)?;
-    passes_the_limit(alloc, &mut end)
+    goes_through(rt.alloc(), settings, PAST_THE_LIMIT)
 }
 
 /// Hands in a section longer than any within the limit of no bytes, and goes on.
-fn is_too_long(alloc: Global, end: &mut ConnectionDecoder) -> Result<(), Fail> {
-    let error = DecodingError::Section {
-        stream: 4,
-        error: SectionError::TooLong,
-    };
+const TOO_LONG: &[Step] = &[
     // Of 21 bytes, the first of which would be refused.
-    let section = b"ffd1d1d1d1d1d1d1d1d1d1d1d1d1d1d1d1d1d1d1d1";
-    same(answer(alloc, end, 4, section)?, Err(error))?;
-    same((error.code(), end.failure()), (None, None))?;
-    same(told(end), (0, 0, 0, 0))?;
-    same(cancel(end, 4), Ok(()))?;
-    sends(alloc, end, b"44")?;
-    decodes(alloc, end, 8, b"0000", 0)
-}
+    Step::Refuses(
+        4,
+        b"ffd1d1d1d1d1d1d1d1d1d1d1d1d1d1d1d1d1d1d1d1",
+        SectionError::TooLong,
+    ),
+    Step::Tells(0, 0, 0, 0),
+    Step::Cancels(4),
+    Step::Sends(b"44"),
+    Step::Decodes(8, b"0000", 0),
+];
 
 #[test]
 fn sections_too_long_are_not_read(rt: HostRuntime) -> Result<(), Fail> {
-    let alloc = rt.alloc();
     let mut settings = settings(4096, 0);
     settings.max_section_size = 0;
-    let mut end = ConnectionDecoder::new(alloc, settings)?;
-    is_too_long(alloc, &mut end)
+    goes_through(rt.alloc(), settings, TOO_LONG)
 }
 
 /// The encoder stream of a capacity of 4096 bytes and so many insertions of a field of 42 bytes.
@@ -460,15 +575,6 @@ fn receives_insertions(
     same(receive(end, &stream), Ok(many))
 }
 
-/// Hands insertions in that are cut, and receives increments for those that are whole.
-fn reports_in_turn(alloc: Global, end: &mut ConnectionDecoder) -> Result<(), Fail> {
-    received(alloc, end, b"3fe11f4161", 0)?;
-    same(told(end), (0, 0, 2, 0))?;
-    received(alloc, end, b"0041", 1)?;
-    received(alloc, end, b"6200416300", 3)?;
-    sends(alloc, end, b"0102")
-}
-
 /// How many insertions come at once, and the increments by which they are reported: each of 64, and one of the rest
 /// (RFC 9204, section 4.4.3).
 const REPORTED: [(usize, &[u8]); 7] = [
@@ -481,166 +587,152 @@ const REPORTED: [(usize, &[u8]); 7] = [
     (191, b"3f013f013f00"),
 ];
 
+/// Insertions that are cut, and increments for each as it comes to be whole.
+const CUT: &[Step] = &[
+    Step::Receives(b"3fe11f4161", 0),
+    Step::Tells(0, 0, 2, 0),
+    Step::Receives(b"0041", 1),
+    Step::Receives(b"6200416300", 3),
+    Step::Sends(b"0102"),
+];
+
 #[test]
 fn insertions_are_reported(rt: HostRuntime) -> Result<(), Fail> {
-    let alloc = rt.alloc();
     for (many, increments) in REPORTED {
-        reports(alloc, many, increments)?;
+        reports(rt.alloc(), many, increments)?;
     }
-    // Each as it comes to be whole.
-    let mut end = begin(alloc, 4096, 0)?;
-    reports_in_turn(alloc, &mut end)
+    goes_through(rt.alloc(), settings(4096, 0), CUT)
 }
 
 /// Decodes sections that require insertions and sections that do not.
-fn acknowledges(alloc: Global, end: &mut ConnectionDecoder) -> Result<(), Fail> {
-    received(alloc, end, TWO, 2)?;
-    sends(alloc, end, b"02")?;
-    decodes(alloc, end, 4, b"0000d1", 0)?;
-    sends(alloc, end, b"")?;
-    decodes(alloc, end, 4, b"030080", 2)?;
-    decodes(alloc, end, 4, b"030080", 2)?;
-    decodes(alloc, end, 0, b"020080", 1)?;
+const ACKNOWLEDGED: &[Step] = &[
+    Step::Receives(TWO, 2),
+    Step::Sends(b"02"),
+    Step::Decodes(4, b"0000d1", 0),
+    Step::Sends(b""),
+    Step::Decodes(4, b"030080", 2),
+    Step::Decodes(4, b"030080", 2),
+    Step::Decodes(0, b"020080", 1),
     // It references nothing, but requires.
-    decodes(alloc, end, 126, b"0200", 1)?;
-    decodes(alloc, end, 127, b"020080", 1)?;
-    sends(alloc, end, b"848480feff00")
-}
+    Step::Decodes(126, b"0200", 1),
+    Step::Decodes(127, b"020080", 1),
+    Step::Sends(b"848480feff00"),
+];
 
 #[test]
 fn sections_are_acknowledged(rt: HostRuntime) -> Result<(), Fail> {
-    let alloc = rt.alloc();
-    let mut end = begin(alloc, 4096, 0)?;
-    acknowledges(alloc, &mut end)
+    goes_through(rt.alloc(), settings(4096, 0), ACKNOWLEDGED)
 }
 
-/// Cancels streams of an end, one of them twice.
-fn cancels(alloc: Global, end: &mut ConnectionDecoder) -> Result<(), Fail> {
-    for stream in [0, 4, 4, 62, 63] {
-        same(cancel(end, stream), Ok(()))?;
-    }
-    sends(alloc, end, b"4044447e7f00")
-}
-
-/// Cancels a stream of an end that tells nothing of it.
-fn cancels_in_silence(alloc: Global, end: &mut ConnectionDecoder) -> Result<(), Fail> {
-    same(cancel(end, 4), Ok(()))?;
-    sends(alloc, end, b"")
-}
+/// Gives streams up, one of them twice.
+const CANCELLED: &[Step] = &[
+    Step::Cancels(0),
+    Step::Cancels(4),
+    Step::Cancels(4),
+    Step::Cancels(62),
+    Step::Cancels(63),
+    Step::Sends(b"4044447e7f00"),
+];
 
 #[test]
 fn streams_are_cancelled(rt: HostRuntime) -> Result<(), Fail> {
-    let mut end = begin(rt.alloc(), 1, 0)?;
-    cancels(rt.alloc(), &mut end)
+    goes_through(rt.alloc(), settings(1, 0), CANCELLED)
 }
+
+/// Gives a stream up, of which nothing is told (RFC 9204, section 2.2.2.2).
+const CANCELLED_IN_SILENCE: &[Step] = &[Step::Cancels(4), Step::Sends(b"")];
 
 #[test]
 fn no_stream_is_cancelled_at_maximum_0(rt: HostRuntime) -> Result<(), Fail> {
-    // RFC 9204, section 2.2.2.2.
-    let mut end = begin(rt.alloc(), 0, 0)?;
-    cancels_in_silence(rt.alloc(), &mut end)
+    goes_through(rt.alloc(), settings(0, 0), CANCELLED_IN_SILENCE)
 }
 
 /// Sends what is to be sent piece by piece, and more than there is.
-fn drops(alloc: Global, end: &mut ConnectionDecoder) -> Result<(), Fail> {
-    received(alloc, end, TWO, 2)?;
-    decodes(alloc, end, 4, b"030080", 2)?;
-    same(cancel(end, 8), Ok(()))?;
-    same(end.decoder_stream(), b"\x02\x84\x48")?;
-    end.sent(0);
-    same(end.decoder_stream(), b"\x02\x84\x48")?;
-    end.sent(1);
-    same(end.decoder_stream(), b"\x84\x48")?;
-    same(cancel(end, 12), Ok(()))?;
-    same(end.decoder_stream(), b"\x84\x48\x4c")?;
-    end.sent(4);
-    same(end.decoder_stream(), b"")?;
-    end.sent(usize::MAX);
-    same(end.decoder_stream(), b"")
-}
+const DROPPED: &[Step] = &[
+    Step::Receives(TWO, 2),
+    Step::Decodes(4, b"030080", 2),
+    Step::Cancels(8),
+    Step::Holds(b"028448"),
+    Step::Drops(0),
+    Step::Holds(b"028448"),
+    Step::Drops(1),
+    Step::Holds(b"8448"),
+    Step::Cancels(12),
+    Step::Holds(b"84484c"),
+    Step::Drops(4),
+    Step::Holds(b""),
+    Step::Drops(usize::MAX),
+    Step::Holds(b""),
+];
 
 #[test]
 fn what_was_sent_is_dropped(rt: HostRuntime) -> Result<(), Fail> {
-    let alloc = rt.alloc();
-    let mut end = begin(alloc, 4096, 0)?;
-    drops(alloc, &mut end)
+    goes_through(rt.alloc(), settings(4096, 0), DROPPED)
 }
 
 /// Blocks three streams, and receives what they wait for.
-fn tells_ready(alloc: Global, end: &mut ConnectionDecoder) -> Result<(), Fail> {
-    blocks(alloc, end, 8, b"030080", 2, 1)?;
-    blocks(alloc, end, 4, b"020080", 1, 2)?;
-    blocks(alloc, end, 12, b"030081", 2, 3)?;
-    same(end.next_ready(), None)?;
+const READY: &[Step] = &[
+    Step::Blocks(8, b"030080", 2, 1),
+    Step::Blocks(4, b"020080", 1, 2),
+    Step::Blocks(12, b"030081", 2, 3),
+    Step::Ready(3, None),
     // The capacity and the first insertion.
-    received(alloc, end, b"3fe11f416100", 1)?;
-    same(end.next_ready(), Some(4))?;
-    decodes(alloc, end, 4, b"020080", 1)?;
-    same((end.blocked(), end.next_ready()), (2, None))?;
-    received(alloc, end, b"416200", 2)?;
-    same(end.next_ready(), Some(8))?;
-    decodes(alloc, end, 8, b"030080", 2)?;
-    same((end.blocked(), end.next_ready()), (1, Some(12)))?;
-    decodes(alloc, end, 12, b"030081", 2)?;
-    same((end.blocked(), end.next_ready()), (0, None))?;
-    sends(alloc, end, b"018401888c")
-}
+    Step::Receives(b"3fe11f416100", 1),
+    Step::Ready(3, Some(4)),
+    Step::Decodes(4, b"020080", 1),
+    Step::Ready(2, None),
+    Step::Receives(b"416200", 2),
+    Step::Ready(2, Some(8)),
+    Step::Decodes(8, b"030080", 2),
+    Step::Ready(1, Some(12)),
+    Step::Decodes(12, b"030081", 2),
+    Step::Ready(0, None),
+    Step::Sends(b"018401888c"),
+];
 
 #[test]
 fn blocked_streams_are_told_as_they_are_ready(rt: HostRuntime) -> Result<(), Fail> {
-    let alloc = rt.alloc();
-    let mut end = begin(alloc, 4096, 3)?;
-    tells_ready(alloc, &mut end)
+    goes_through(rt.alloc(), settings(4096, 3), READY)
 }
 
 /// Blocks, cancels and decodes streams of an end that may have one.
-fn frees(alloc: Global, end: &mut ConnectionDecoder) -> Result<(), Fail> {
-    blocks(alloc, end, 0, b"020080", 1, 1)?;
+const FREED: &[Step] = &[
+    Step::Blocks(0, b"020080", 1, 1),
     // Once it is cancelled another may be blocked.
-    same(cancel(end, 0), Ok(()))?;
-    same(end.blocked(), 0)?;
-    blocks(alloc, end, 4, b"020080", 1, 1)?;
+    Step::Cancels(0),
+    Step::Ready(0, None),
+    Step::Blocks(4, b"020080", 1, 1),
     // A stream that was not blocked leaves the others as they are.
-    same(cancel(end, 8), Ok(()))?;
-    decodes(alloc, end, 12, b"0000d1", 0)?;
-    same(end.blocked(), 1)?;
-    received(alloc, end, b"3fe11f416100", 1)?;
-    decodes(alloc, end, 4, b"020080", 1)?;
-    blocks(alloc, end, 16, b"030080", 2, 1)?;
-    sends(alloc, end, b"40480184")
-}
+    Step::Cancels(8),
+    Step::Decodes(12, b"0000d1", 0),
+    Step::Ready(1, None),
+    Step::Receives(b"3fe11f416100", 1),
+    Step::Decodes(4, b"020080", 1),
+    Step::Blocks(16, b"030080", 2, 1),
+    Step::Sends(b"40480184"),
+];
 
 #[test]
 fn a_blocked_stream_frees_its_place(rt: HostRuntime) -> Result<(), Fail> {
-    let alloc = rt.alloc();
-    let mut end = begin(alloc, 4096, 1)?;
-    frees(alloc, &mut end)
+    goes_through(rt.alloc(), settings(4096, 1), FREED)
 }
 
-/// Calls of an end for the greatest stream number, and for those past it.
-fn takes_numbers(alloc: Global, end: &mut ConnectionDecoder) -> Result<(), Fail> {
-    received(alloc, end, TWO, 2)?;
-    sends(alloc, end, b"02")?;
-    let none = DecodingError::NoStream(LAST_STREAM + 1);
-    same(answer(alloc, end, LAST_STREAM + 1, b"030080")?, Err(none))?;
-    same(cancel(end, LAST_STREAM + 1), Err(none))?;
-    same(
-        cancel(end, u64::MAX),
-        Err(DecodingError::NoStream(u64::MAX)),
-    )?;
-    same((none.code(), end.failure()), (None, None))?;
-    same(told(end), (0, 0, 0, 2))?;
-    decodes(alloc, end, LAST_STREAM, b"030080", 2)?;
-    sends(alloc, end, b"ff80ffffffffffffff3f")?;
-    blocks(alloc, end, LAST_STREAM, b"0400", 3, 1)?;
-    same(cancel(end, LAST_STREAM), Ok(()))?;
-    same(end.blocked(), 0)?;
-    sends(alloc, end, b"7fc0ffffffffffffff3f")
-}
+/// Calls for the greatest stream number, and for those past it.
+const GREATEST: &[Step] = &[
+    Step::Receives(TWO, 2),
+    Step::Sends(b"02"),
+    Step::HasNone(LAST_STREAM + 1),
+    Step::HasNone(u64::MAX),
+    Step::Tells(0, 0, 0, 2),
+    Step::Decodes(LAST_STREAM, b"030080", 2),
+    Step::Sends(b"ff80ffffffffffffff3f"),
+    Step::Blocks(LAST_STREAM, b"0400", 3, 1),
+    Step::Cancels(LAST_STREAM),
+    Step::Ready(0, None),
+    Step::Sends(b"7fc0ffffffffffffff3f"),
+];
 
 #[test]
 fn streams_have_numbers_below_two_to_the_62(rt: HostRuntime) -> Result<(), Fail> {
-    let alloc = rt.alloc();
-    let mut end = begin(alloc, 4096, 1)?;
-    takes_numbers(alloc, &mut end)
+    goes_through(rt.alloc(), settings(4096, 1), GREATEST)
 }

@@ -144,77 +144,145 @@ fn table_answers(
     same(table.known_received_count(), known)
 }
 
-// RFC 9204, section 4.4.3.
+/// A stream in hexadecimal; the number, the offset and the error of the instruction that is refused, if one is; and how
+/// many insertions are known to be received then.
+type Row = (&'static [u8], Option<(u64, u64, HearingError)>, usize);
+
+/// What a row has as the answer.
+fn answer_of(refusal: Option<(u64, u64, HearingError)>) -> Result<(), DecoderStreamError> {
+    match refusal {
+        Some((number, offset, error)) => refused(number, offset, error),
+        None => Ok(()),
+    }
+}
+
+/// Each stream is answered so.
+fn answer_all(alloc: Global, rows: &[Row]) -> Result<(), Fail> {
+    for (stream, refusal, known) in rows {
+        answers(alloc, stream, answer_of(*refusal), *known)?;
+    }
+    Ok(())
+}
+
+/// Increments of 0 (RFC 9204, section 4.4.3).
+const ZERO: &[Row] = &[
+    (b"00", Some((1, 0, HearingError::ZeroIncrement)), 0),
+    (b"02004180", Some((2, 1, HearingError::ZeroIncrement)), 2),
+    (b"03800000", Some((3, 2, HearingError::ZeroIncrement)), 3),
+];
+
 #[test]
 fn an_increment_of_0_is_refused(rt: HostRuntime) -> Result<(), Fail> {
-    let alloc = rt.alloc();
-    let zero = HearingError::ZeroIncrement;
-    answers(alloc, b"00", refused(1, 0, zero), 0)?;
-    answers(alloc, b"02004180", refused(2, 1, zero), 2)?;
-    answers(alloc, b"03800000", refused(3, 2, zero), 3)
+    answer_all(rt.alloc(), ZERO)
 }
 
-// RFC 9204, section 4.4.3.
+/// Increments up to the insertions, and past them (RFC 9204, section 4.4.3).
+const INCREMENTS: &[Row] = &[
+    (b"03", None, 3),
+    (b"0102", None, 3),
+    (
+        b"04",
+        Some((1, 0, HearingError::IncrementPastInsertions(4))),
+        0,
+    ),
+    (
+        b"0103",
+        Some((2, 1, HearingError::IncrementPastInsertions(3))),
+        1,
+    ),
+    (
+        b"010201",
+        Some((3, 2, HearingError::IncrementPastInsertions(1))),
+        3,
+    ),
+    (
+        b"3f01",
+        Some((1, 0, HearingError::IncrementPastInsertions(64))),
+        0,
+    ),
+    (
+        b"3fffffffffffffffff7f",
+        Some((
+            1,
+            0,
+            HearingError::IncrementPastInsertions(9_223_372_036_854_775_870),
+        )),
+        0,
+    ),
+];
+
 #[test]
 fn an_increment_past_the_insertions_is_refused(rt: HostRuntime) -> Result<(), Fail> {
-    let alloc = rt.alloc();
-    answers(alloc, b"03", Ok(()), 3)?;
-    answers(alloc, b"0102", Ok(()), 3)?;
-    let past = HearingError::IncrementPastInsertions;
-    answers(alloc, b"04", refused(1, 0, past(4)), 0)?;
-    answers(alloc, b"0103", refused(2, 1, past(3)), 1)?;
-    answers(alloc, b"010201", refused(3, 2, past(1)), 3)?;
-    answers(alloc, b"3f01", refused(1, 0, past(64)), 0)?;
-    answers(
-        alloc,
-        b"3fffffffffffffffff7f",
-        refused(1, 0, past(9_223_372_036_854_775_870)),
-        0,
-    )
+    answer_all(rt.alloc(), INCREMENTS)
 }
 
-// RFC 9204, section 4.4.1.
+/// Acknowledgments of streams that have no unacknowledged section (RFC 9204, section 4.4.1).
+const UNKNOWN: &[Row] = &[
+    (b"88", Some((1, 0, HearingError::UnknownStream(8))), 0),
+    // Acknowledged, and cancelled.
+    (b"8080", Some((2, 1, HearingError::UnknownStream(0))), 1),
+    (b"034080", Some((3, 2, HearingError::UnknownStream(0))), 3),
+    (
+        b"01ffe906ffe906",
+        Some((3, 4, HearingError::UnknownStream(1000))),
+        3,
+    ),
+    (
+        b"7fa907ffe906",
+        Some((2, 3, HearingError::UnknownStream(1000))),
+        0,
+    ),
+];
+
 #[test]
 fn an_acknowledgment_of_an_unknown_stream_is_refused(rt: HostRuntime) -> Result<(), Fail> {
-    let alloc = rt.alloc();
-    let unknown = HearingError::UnknownStream;
-    answers(alloc, b"88", refused(1, 0, unknown(8)), 0)?;
-    // Acknowledged, and cancelled.
-    answers(alloc, b"8080", refused(2, 1, unknown(0)), 1)?;
-    answers(alloc, b"034080", refused(3, 2, unknown(0)), 3)?;
-    answers(alloc, b"01ffe906ffe906", refused(3, 4, unknown(1000)), 3)?;
-    answers(alloc, b"7fa907ffe906", refused(2, 3, unknown(1000)), 0)
+    answer_all(rt.alloc(), UNKNOWN)
 }
 
-// RFC 9204, section 4.1.1.
+/// Integers that are cut, and such as are too large (RFC 9204, section 4.1.1).
+const INTEGERS: &[Row] = &[
+    (b"ffffffffffffffffff", None, 0),
+    (
+        b"ffffffffffffffffffff",
+        Some((1, 0, HearingError::IntegerOverflow)),
+        0,
+    ),
+    (
+        b"01807fffffffffffffffffffff",
+        Some((3, 2, HearingError::IntegerOverflow)),
+        1,
+    ),
+    (
+        b"3fffffffffffffffffff00",
+        Some((1, 0, HearingError::IntegerOverflow)),
+        0,
+    ),
+];
+
 #[test]
 fn integers_that_are_too_large_are_refused(rt: HostRuntime) -> Result<(), Fail> {
-    let alloc = rt.alloc();
-    let overflow = HearingError::IntegerOverflow;
-    answers(alloc, b"ffffffffffffffffff", Ok(()), 0)?;
-    answers(alloc, b"ffffffffffffffffffff", refused(1, 0, overflow), 0)?;
-    answers(
-        alloc,
-        b"01807fffffffffffffffffffff",
-        refused(3, 2, overflow),
-        1,
-    )?;
-    answers(alloc, b"3fffffffffffffffffff00", refused(1, 0, overflow), 0)
+    answer_all(rt.alloc(), INTEGERS)
 }
 
-// RFC 9204, section 2.1.4.
+/// Acknowledgments, and what is known to be received behind them (RFC 9204, section 2.1.4).
+const KNOWN: &[Row] = &[
+    (b"80", None, 1),
+    (b"8002", None, 3),
+    (
+        b"8003",
+        Some((2, 1, HearingError::IncrementPastInsertions(3))),
+        1,
+    ),
+    // It never falls.
+    (b"8480", None, 2),
+    (b"0380", None, 3),
+    // A cancellation tells nothing of what was received.
+    (b"44", None, 0),
+];
+
 #[test]
 fn acknowledgments_raise_the_known_received_count(rt: HostRuntime) -> Result<(), Fail> {
-    let alloc = rt.alloc();
-    let past = HearingError::IncrementPastInsertions;
-    answers(alloc, b"80", Ok(()), 1)?;
-    answers(alloc, b"8002", Ok(()), 3)?;
-    answers(alloc, b"8003", refused(2, 1, past(3)), 1)?;
-    // It never falls.
-    answers(alloc, b"8480", Ok(()), 2)?;
-    answers(alloc, b"0380", Ok(()), 3)?;
-    // A cancellation tells nothing of what was received.
-    answers(alloc, b"44", Ok(()), 0)
+    answer_all(rt.alloc(), KNOWN)
 }
 
 /// Names, and how many insertions were made once one is inserted.
@@ -234,12 +302,12 @@ fn goes_on(
     inserted: usize,
 ) -> Result<(), Fail> {
     same(send(alloc, table, 4, name), Ok(inserted))?;
-    same(open_blocks(table), (1, 1))?;
-    same(table.oldest_required(4), Some(inserted))?;
+    let found = (open_blocks(table), table.oldest_required(4));
+    same(found, ((1, 1), Some(inserted)))?;
     same(receive(stream, table, b"\x84", 1), Ok(()))?;
-    same(open_blocks(table), (0, 0))?;
-    let known = (table.known_received_count(), table.oldest_required(4));
-    same(known, (inserted, None))
+    let found = (open_blocks(table), table.oldest_required(4));
+    same(found, ((0, 0), None))?;
+    same(table.known_received_count(), inserted)
 }
 
 /// Makes an insertion behind the other, each acknowledged, and then references one that is known to be received.
@@ -260,14 +328,21 @@ fn insertions_go_on_without_increments(rt: HostRuntime) -> Result<(), Fail> {
     go_on(rt.alloc(), &mut DecoderStream::new(), &mut table)
 }
 
+/// Pieces, and behind each how many bytes wait, and how many blocks are unacknowledged.
+const PIECES: [(&[u8], usize, usize); 3] = [
+    (b"\x80\xff\xe9", 2, 2),
+    (b"", 2, 2),
+    (b"\x06\x84", 0, 0),
+];
+
 /// Hands in instructions of which one is cut, and then its rest.
 fn waits(stream: &mut DecoderStream, table: &mut DynamicTable) -> Result<(), Fail> {
-    same(receive(stream, table, b"\x80\xff\xe9", 9), Ok(()))?;
-    same((stream.waiting(), table.unacknowledged_blocks()), (2, 2))?;
-    same(receive(stream, table, b"", 9), Ok(()))?;
-    same(stream.waiting(), 2)?;
-    same(receive(stream, table, b"\x06\x84", 9), Ok(()))?;
-    same((stream.waiting(), table.unacknowledged_blocks()), (0, 0))
+    for (piece, waiting, unacknowledged) in PIECES {
+        same(receive(stream, table, piece, 9), Ok(()))?;
+        let found = (stream.waiting(), table.unacknowledged_blocks());
+        same(found, (waiting, unacknowledged))?;
+    }
+    Ok(())
 }
 
 #[test]
@@ -276,9 +351,21 @@ fn an_instruction_waits_until_it_is_whole(rt: HostRuntime) -> Result<(), Fail> {
     waits(&mut DecoderStream::new(), &mut table)
 }
 
+/// Errors, and what they are printed as.
+const TEXTS: [(HearingError, &str); 3] = [
+    (HearingError::IntegerOverflow, "integer too large"),
+    (
+        HearingError::IncrementPastInsertions(4),
+        "increment of 4, past the insertions",
+    ),
+    (
+        HearingError::UnknownStream(8),
+        "acknowledgment of stream 8, which has no unacknowledged section",
+    ),
+];
+
 #[test]
 fn the_decoder_streams_errors_are_printed(rt: HostRuntime) -> Result<(), Fail> {
-    let alloc = rt.alloc();
     let place = Place {
         number: 3,
         offset: 17,
@@ -286,20 +373,10 @@ fn the_decoder_streams_errors_are_printed(rt: HostRuntime) -> Result<(), Fail> {
     let error = HearingError::ZeroIncrement;
     let refused = DecoderStreamError { place, error };
     same((refused.code(), DECODER_STREAM_ERROR), (0x202, 0x202))?;
-    prints(
-        alloc,
-        &refused,
-        "in instruction 3 at offset 17: increment of 0",
-    )?;
-    prints(alloc, &HearingError::IntegerOverflow, "integer too large")?;
-    prints(
-        alloc,
-        &HearingError::IncrementPastInsertions(4),
-        "increment of 4, past the insertions",
-    )?;
-    prints(
-        alloc,
-        &HearingError::UnknownStream(8),
-        "acknowledgment of stream 8, which has no unacknowledged section",
-    )
+    let text = "in instruction 3 at offset 17: increment of 0";
+    prints(rt.alloc(), &refused, text)?;
+    for (error, text) in TEXTS {
+        prints(rt.alloc(), &error, text)?;
+    }
+    Ok(())
 }

@@ -144,18 +144,26 @@ fn streams_are_received_however_they_are_cut(rt: HostRuntime) -> Result<(), Fail
     Ok(())
 }
 
-/// The capacity, and all but the last byte of an insertion.
-const FRONT: &[u8] = b"\x3f\xbd\x01\xc0\x0fwww.example.co";
+/// Pieces of which one is cut: the capacity and all but the last byte of an insertion, nothing, and that byte. Behind
+/// each, how many bytes wait, and how many insertions were made.
+const PIECES: [(&[u8], usize, usize); 3] = [
+    (b"\x3f\xbd\x01\xc0\x0fwww.example.co", 16, 0),
+    (b"", 16, 0),
+    (b"m", 0, 1),
+];
 
 /// Hands in an instruction that is cut, and then its rest.
 fn waits(stream: &mut EncoderStream, table: &mut DynamicTable) -> Result<(), Fail> {
-    same(receive(stream, table, FRONT), Ok(()))?;
-    same(stream.waiting(), 16)?;
-    same((table.max_mem_size(), table.total_inserted()), (220, 0))?;
-    same(receive(stream, table, b""), Ok(()))?;
-    same(stream.waiting(), 16)?;
-    same(receive(stream, table, b"m"), Ok(()))?;
-    same((stream.waiting(), table.total_inserted()), (0, 1))
+    for (piece, waiting, inserted) in PIECES {
+        same(receive(stream, table, piece), Ok(()))?;
+        let found = (
+            stream.waiting(),
+            table.max_mem_size(),
+            table.total_inserted(),
+        );
+        same(found, (waiting, 220, inserted))?;
+    }
+    Ok(())
 }
 
 #[test]
@@ -167,49 +175,87 @@ fn an_instruction_waits_until_it_is_whole(rt: HostRuntime) -> Result<(), Fail> {
 /// That a field is too large for the table.
 const TOO_LARGE: DecoderError = DecoderError::DynamicTable(Error::MaxTableSizeReached);
 
+/// A maximum, a stream that is refused under it, in hexadecimal, where, and why.
+type Refusal = (usize, &'static [u8], (u64, u64), DecoderError);
+
+/// Each stream is refused so.
+fn refused_all(alloc: Global, refusals: &[Refusal]) -> Result<(), Fail> {
+    for (maximum, stream, (number, offset), error) in refusals {
+        refused(alloc, *maximum, stream, place(*number, *offset), *error)?;
+    }
+    Ok(())
+}
+
+/// Insertions at capacity 0.
+const AT_CAPACITY_0: &[Refusal] = &[
+    (4096, b"c0", (1, 0), TOO_LARGE),
+    (4096, b"80", (1, 0), TOO_LARGE),
+    (4096, b"40", (1, 0), TOO_LARGE),
+    (0, b"c0", (1, 0), TOO_LARGE),
+];
+
 #[test]
 fn insertions_at_capacity_0_are_refused_by_their_first_byte(rt: HostRuntime) -> Result<(), Fail> {
-    let alloc = rt.alloc();
-    refused(alloc, 4096, b"c0", place(1, 0), TOO_LARGE)?;
-    refused(alloc, 4096, b"80", place(1, 0), TOO_LARGE)?;
-    refused(alloc, 4096, b"40", place(1, 0), TOO_LARGE)?;
-    refused(alloc, 0, b"c0", place(1, 0), TOO_LARGE)
+    refused_all(rt.alloc(), AT_CAPACITY_0)
 }
+
+/// Insertions that cannot fit in 64 bytes.
+const PAST_CAPACITY: &[Refusal] = &[
+    // A name of 33 bytes, a value of 33, and a coded one of 129, by their lengths.
+    (4096, b"3f215f02", (2, 2), TOO_LARGE),
+    (4096, b"3f21c021", (2, 2), TOO_LARGE),
+    (4096, b"3f21c0ff02", (2, 2), TOO_LARGE),
+    // A name and a value, neither too long alone.
+    (4096, b"3f21436162631e", (2, 2), TOO_LARGE),
+    // Behind an insertion, which stays.
+    (4096, b"3f21c000c021", (3, 4), TOO_LARGE),
+];
+
+/// Insertions that may fit: of a byte less each.
+const WITHIN_CAPACITY: [&[u8]; 4] = [b"3f215f01", b"3f21c020", b"3f21c0ff01", b"3f21436162631d"];
 
 #[test]
 fn insertions_that_cannot_fit_are_refused_at_once(rt: HostRuntime) -> Result<(), Fail> {
-    let alloc = rt.alloc();
-    // At capacity 64 a name of 33 bytes, a value of 33, and a coded one of 129, by their lengths.
-    refused(alloc, 4096, b"3f215f02", place(2, 2), TOO_LARGE)?;
-    refused(alloc, 4096, b"3f21c021", place(2, 2), TOO_LARGE)?;
-    refused(alloc, 4096, b"3f21c0ff02", place(2, 2), TOO_LARGE)?;
-    // One byte less may fit.
-    received(alloc, 4096, b"3f215f01")?;
-    received(alloc, 4096, b"3f21c020")?;
-    received(alloc, 4096, b"3f21c0ff01")?;
-    // A name and a value, neither too long alone.
-    received(alloc, 4096, b"3f21436162631d")?;
-    refused(alloc, 4096, b"3f21436162631e", place(2, 2), TOO_LARGE)?;
-    // Behind an insertion, which stays.
-    refused(alloc, 4096, b"3f21c000c021", place(3, 4), TOO_LARGE)
+    for stream in WITHIN_CAPACITY {
+        received(rt.alloc(), 4096, stream)?;
+    }
+    refused_all(rt.alloc(), PAST_CAPACITY)
 }
+
+/// The error of a relative index that has no entry.
+const NO_NEWEST: DecoderError = DecoderError::DynamicTable(Error::BadRelativeIndex(0));
+
+/// That of the entry before the newest, where there is one entry.
+const NONE_BEFORE: DecoderError = DecoderError::DynamicTable(Error::BadRelativeIndex(1));
+
+/// The error of a capacity above the maximum.
+const CAPACITY_TOO_LARGE: DecoderError = DecoderError::DynamicTable(
+    Error::MaximumTableSizeTooLarge,
+);
+
+/// The error of an integer past 2^62.
+const OVERFLOW: DecoderError = DecoderError::InvalidInteger(prefix_int::Error::Overflow);
+
+/// Streams whose instructions mean nothing.
+const MEANINGLESS: &[Refusal] = &[
+    (100, b"3f46", (1, 0), CAPACITY_TOO_LARGE),
+    (4096, b"00", (1, 0), NO_NEWEST),
+    (4096, b"3f218000", (2, 2), NO_NEWEST),
+    (
+        4096,
+        b"3f21ff2400",
+        (2, 2),
+        DecoderError::InvalidStaticIndex(99),
+    ),
+    (4096, b"3fffffffffffffffffff", (1, 0), OVERFLOW),
+    // A capacity, an insertion, and a duplicate of an entry that was not inserted.
+    (4096, b"3f21c0000100", (3, 4), NONE_BEFORE),
+];
 
 #[test]
 fn streams_are_refused_for_what_they_say(rt: HostRuntime) -> Result<(), Fail> {
-    let alloc = rt.alloc();
-    received(alloc, 100, b"3f45")?;
-    let error = DecoderError::DynamicTable(Error::MaximumTableSizeTooLarge);
-    refused(alloc, 100, b"3f46", place(1, 0), error)?;
-    let error = DecoderError::DynamicTable(Error::BadRelativeIndex(0));
-    refused(alloc, 4096, b"00", place(1, 0), error)?;
-    refused(alloc, 4096, b"3f218000", place(2, 2), error)?;
-    let error = DecoderError::InvalidStaticIndex(99);
-    refused(alloc, 4096, b"3f21ff2400", place(2, 2), error)?;
-    let error = DecoderError::InvalidInteger(prefix_int::Error::Overflow);
-    refused(alloc, 4096, b"3fffffffffffffffffff", place(1, 0), error)?;
-    // A capacity, an insertion, and a duplicate of an entry that was not inserted.
-    let error = DecoderError::DynamicTable(Error::BadRelativeIndex(1));
-    refused(alloc, 4096, b"3f21c0000100", place(3, 4), error)
+    received(rt.alloc(), 100, b"3f45")?;
+    refused_all(rt.alloc(), MEANINGLESS)
 }
 
 /// Takes a capacity of 64 bytes, two insertions and a duplicate.

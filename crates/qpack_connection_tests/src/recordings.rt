@@ -10,6 +10,9 @@ use qpack_testing::{Pairs, again, bytes, same};
 use std::alloc::Global;
 use std::test::Fail;
 
+/// A name and a value.
+type Pair = (&'static [u8], &'static [u8]);
+
 /// A field section that was sent.
 #[derive(Clone, Copy)]
 struct Sent {
@@ -18,12 +21,34 @@ struct Sent {
     instructions: &'static [u8],
     /// Its bytes, in hexadecimal.
     section: &'static [u8],
+    message: Message,
+}
+
+/// Whose fields a section has.
+#[derive(Clone, Copy)]
+enum Message {
+    /// The request for a page.
+    Page,
+    PageAnswer,
+    /// The request for a style sheet.
+    Style,
+    StyleAnswer,
+}
+
+impl Message {
     /// Its fields.
-    fields: Pairs,
+    fn fields(self) -> Pairs {
+        match self {
+            Message::Page => &PAGE,
+            Message::PageAnswer => &PAGE_ANSWER,
+            Message::Style => &STYLE,
+            Message::StyleAnswer => &STYLE_ANSWER,
+        }
+    }
 }
 
 /// The request for a page.
-const PAGE: Pairs = &[
+static PAGE: [Pair; 17] = [
     (b":method", b"GET"),
     (b":authority", b"www.example-shop.com"),
     (b":scheme", b"https"),
@@ -54,7 +79,7 @@ const PAGE: Pairs = &[
 ];
 
 /// Its answer.
-const PAGE_ANSWER: Pairs = &[
+static PAGE_ANSWER: [Pair; 19] = [
     (b":status", b"200"),
     (b"date", b"Tue, 21 May 2024 10:14:55 GMT"),
     (b"content-type", b"text/html; charset=utf-8"),
@@ -94,7 +119,7 @@ const PAGE_ANSWER: Pairs = &[
 ];
 
 /// The request for a style sheet.
-const STYLE: Pairs = &[
+static STYLE: [Pair; 16] = [
     (b":method", b"GET"),
     (b":authority", b"static.example-cdn.net"),
     (b":scheme", b"https"),
@@ -120,7 +145,7 @@ const STYLE: Pairs = &[
 ];
 
 /// Its answer.
-const STYLE_ANSWER: Pairs = &[
+static STYLE_ANSWER: [Pair; 17] = [
     (b":status", b"200"),
     (b"date", b"Tue, 21 May 2024 10:14:56 GMT"),
     (b"content-type", b"text/css"),
@@ -141,7 +166,7 @@ const STYLE_ANSWER: Pairs = &[
 ];
 
 /// At a maximum capacity of 256 bytes, where entries are evicted.
-const NARROW: &[Sent] = &[
+static NARROW: [Sent; 4] = [
     Sent {
         stream: 0,
         instructions: b"3fe101c08ff1e3c2e5f23a6ba0ab2273d6b90f4fff20ced07f66a281b0dae053fafc087ed4ce6aadf2a7979c89c6bf\
@@ -154,7 +179,7 @@ const NARROW: &[Sent] = &[
             c754c5fbef046cfdf6800bbbf2f034148b4a549275906497f83a8f5172f034148b4a549275a93c85f86a87dcd30d25f2f034148b\
             4a549275a42a13f8690e4b692d49f2f034148b4a549275ad416cf023f315f10929bd9abfa5242cb40d25fa523b3e94f684c9f5f3\
             9932d4b70ddf45abefb4005dffa90bf7da002eeff12",
-        fields: PAGE,
+        message: Message::Page,
     },
     Sent {
         stream: 4,
@@ -171,7 +196,7 @@ const NARROW: &[Sent] = &[
             f5ebd4150831ea88d240f4a168ad37290a5185c746d8d97242c9235194626da67ed4d634cf031f6a6e292db0bf6a634a6bd5551e\
             bed4dc3a4bb8c92c19c7e7f5ec6222c9527ea5aa0fdeacf7d9e77bf4dd1559ec779139d78da4659310f04bc0c13fda9ac699e063\
             ed4d03f2b433160642d34fb8007da9b8a4b6c2fda9b874977192583726c3113135f44909d983f9b8d34cff3f6a52381e71a003f",
-        fields: PAGE_ANSWER,
+        message: Message::PageAnswer,
     },
     Sent {
         stream: 8,
@@ -184,7 +209,7 @@ const NARROW: &[Sent] = &[
             9275906497f872587421641925f2f034148b4a549275a93c85f85a8eb10f6232f034148b4a549275a42a13f84427d505f5d969d2\
             9ad171863c78f0b97c8e9ae82ac89cf5ae43d2c7f5f10929bd9abfa5242cb40d25fa523b3e94f684c9f5f39932d4b70ddf45abef\
             b4005dffa90bf7da002eeff12",
-        fields: STYLE,
+        message: Message::Style,
     },
     Sent {
         stream: 12,
@@ -193,12 +218,12 @@ const NARROW: &[Sent] = &[
         section: b"0e82d910f3548469e1059f11578cfe5995f2063746b4646dbfe712e052846c2265af2f0324ab10649cab21234da80348495\
             4e3ff1e2d24ab583f5f8f79e75b090523642ca003ed0d6c3b61eafb5f4d872507b649681d855f44909d983f9b8d34cff3f6a5238\
             1e71a003f",
-        fields: STYLE_ANSWER,
+        message: Message::StyleAnswer,
     },
 ];
 
 /// At a maximum capacity of 4,096 bytes, where none is.
-const WIDE: &[Sent] = &[
+static WIDE: [Sent; 4] = [
     Sent {
         stream: 0,
         instructions: b"3fe11fc08ff1e3c2e5f23a6ba0ab2273d6b90f4fff20ced07f66a281b0dae053fafc087ed4ce6aadf2a7979c89c6bf\
@@ -211,7 +236,7 @@ const WIDE: &[Sent] = &[
             89afe7e94fe749d2b42bddb07549fcfdf783f97dffe7f2f044148b1275ad1ad49e33505023f302f064148b1275ad1ad5d034ca7b\
             29f07224c696e757822ff1f11122f034148b4a549275906497f83a8f5172f034148b4a549275a93c85f86a87dcd30d25f2f03414\
             8b4a549275a42a13f8690e4b692d49f2f034148b4a549275ad416cf023f31131415",
-        fields: PAGE,
+        message: Message::Page,
     },
     Sent {
         stream: 4,
@@ -229,7 +254,7 @@ const WIDE: &[Sent] = &[
             94626da67ed4d634cf031f6a6e292db0bf6a634a6bd5551ebed4dc3a4bb8c92c19c7e7f5ec6222c9527ea5aa0fdeacf7d9e77bf4\
             dd1559ec779139d78da4659310f04bc0c13fda9ac699e063ed4d03f2b433160642d34fb8007da9b8a4b6c2fda9b8749771925837\
             26c31131415",
-        fields: PAGE_ANSWER,
+        message: Message::PageAnswer,
     },
     Sent {
         stream: 8,
@@ -239,7 +264,7 @@ const WIDE: &[Sent] = &[
             fa53f9c473cd4154bd3d87a4bfcfdf783f9089afe7e94fe749d2b42bddb07549fcfdf783f97dffe7f2f044148b1275ad1ad49e33\
             505023f302f064148b1275ad1ad5d034ca7b29f07224c696e7578228a112f034148b4a549275906497f872587421641925f2f034\
             148b4a549275a93c85f85a8eb10f6232f034148b4a549275a42a13f84427d505f12888713",
-        fields: STYLE,
+        message: Message::Style,
     },
     Sent {
         stream: 12,
@@ -247,7 +272,7 @@ const WIDE: &[Sent] = &[
             da91c7417fca96e4593e940b6a681fa5040134a01eb800dc0854c5a37f",
         section: b"1482d910f3548469e1059f11578cfe5995f2063746b4646dbfe712e052846c2265af2f0324ab10649cab21234da80348495\
             4e3ff1e2d24ab583f5f8f79e75b090523642ca003ed0d6c3b61eafb8584",
-        fields: STYLE_ANSWER,
+        message: Message::StyleAnswer,
     },
 ];
 
@@ -349,7 +374,7 @@ impl Replay {
     fn is_section_blocked(&mut self, sent: &Sent, section: &[u8]) -> Result<bool, Fail> {
         match decode(&mut self.end, sent.stream, section, &mut self.fields)? {
             Reading::Fields { .. } => {
-                has(&self.fields, sent.fields)?;
+                has(&self.fields, sent.message.fields())?;
                 Ok(false)
             }
             Reading::Blocked { .. } => {
@@ -473,20 +498,6 @@ struct Case {
     inserted: usize,
 }
 
-/// The recording in which entries are evicted.
-const NARROW_CASE: Case = Case {
-    recording: NARROW,
-    max_capacity: 256,
-    inserted: 13,
-};
-
-/// The recording in which none is.
-const WIDE_CASE: Case = Case {
-    recording: WIDE,
-    max_capacity: 4096,
-    inserted: 19,
-};
-
 /// When sections come.
 #[derive(Clone, Copy)]
 enum Order {
@@ -499,6 +510,24 @@ enum Order {
 }
 
 impl Case {
+    /// The recording in which entries are evicted.
+    fn narrow() -> Case {
+        Case {
+            recording: &NARROW,
+            max_capacity: 256,
+            inserted: 13,
+        }
+    }
+
+    /// The recording in which none is.
+    fn wide() -> Case {
+        Case {
+            recording: &WIDE,
+            max_capacity: 4096,
+            inserted: 19,
+        }
+    }
+
     /// The recording is received in this order, in pieces of any size.
     fn is_received(self, alloc: Global, order: Order) -> Result<(), Fail> {
         for size in SIZES {
@@ -522,14 +551,14 @@ impl Case {
 #[test]
 fn recorded_sections_come_behind_their_instructions(rt: HostRuntime) -> Result<(), Fail> {
     let alloc = rt.alloc();
-    NARROW_CASE.is_received(alloc, Order::InTurn)?;
-    WIDE_CASE.is_received(alloc, Order::InTurn)
+    Case::narrow().is_received(alloc, Order::InTurn)?;
+    Case::wide().is_received(alloc, Order::InTurn)
 }
 
 #[test]
 fn recorded_sections_come_before_their_instructions(rt: HostRuntime) -> Result<(), Fail> {
     let alloc = rt.alloc();
-    NARROW_CASE.is_received(alloc, Order::Late)?;
-    WIDE_CASE.is_received(alloc, Order::Late)?;
-    WIDE_CASE.is_received(alloc, Order::Last)
+    Case::narrow().is_received(alloc, Order::Late)?;
+    Case::wide().is_received(alloc, Order::Late)?;
+    Case::wide().is_received(alloc, Order::Last)
 }

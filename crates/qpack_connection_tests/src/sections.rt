@@ -52,22 +52,28 @@ fn read(
 
 /// The field section has just these fields, by index and in turn.
 fn has(fields: &FieldSection, rows: &[Row]) -> Result<(), Fail> {
-    same(fields.len(), rows.len())?;
-    same(fields.is_empty(), rows.is_empty())?;
+    same(
+        (fields.len(), fields.is_empty()),
+        (rows.len(), rows.is_empty()),
+    )?;
     same(fields.get(rows.len()), None)?;
     let mut index = 0;
     for field in fields.iter() {
         same(fields.get(index), Some(field))?;
-        let (name, value, never_indexed) = rows[index];
-        let expected = FieldLine {
-            name,
-            value,
-            never_indexed,
-        };
-        same(field, expected)?;
+        same(row_at(rows, index), Some(field))?;
         index += 1;
     }
     same(index, rows.len())
+}
+
+/// The field of a row.
+fn row_at(rows: &[Row], index: usize) -> Option<FieldLine<'_>> {
+    let (name, value, never_indexed) = *rows.get(index)?;
+    Some(FieldLine {
+        name,
+        value,
+        never_indexed,
+    })
 }
 
 /// A section in hexadecimal is read as these fields, and requires so many insertions.
@@ -413,10 +419,13 @@ fn keeps_to_limits(
     table: &DynamicTable,
     fields: &mut FieldSection,
 ) -> Result<(), Fail> {
-    same(
-        read(table, b"\x00\x00\xd1\xd1", 84, fields),
-        Ok(Reading::Fields { required: 0 }),
-    )?;
+    let answer = read(table, b"\x00\x00\xd1\xd1", 84, fields);
+    same(answer, Ok(Reading::Fields { required: 0 }))?;
+    keeps_within_limits(alloc, table)
+}
+
+/// Refuses sections past their limits.
+fn keeps_within_limits(alloc: Global, table: &DynamicTable) -> Result<(), Fail> {
     for (limit, section, answer) in PAST_LIMITS {
         gives_none(alloc, table, limit, section, answer)?;
     }

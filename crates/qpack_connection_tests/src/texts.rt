@@ -9,44 +9,53 @@ use qpack_connection::{
 use qpack_testing::{prints, same};
 use std::test::Fail;
 
+/// The error of an integer past 2^62.
+const OVERFLOW: DecoderError = DecoderError::InvalidInteger(prefix_int::Error::Overflow);
+
+/// The error of a static index past the table.
+const NO_STATIC: DecoderError = DecoderError::InvalidStaticIndex(99);
+
+/// Errors of sections, and what they are printed as.
+const SECTIONS: [(SectionError, &str); 5] = [
+    (SectionError::TooLong, "field section too long"),
+    (
+        SectionError::Prefix(OVERFLOW),
+        "in the prefix: invalid integer: value overflow",
+    ),
+    (
+        SectionError::CountAtZero,
+        "a required insert count at maximum capacity 0",
+    ),
+    (
+        SectionError::Line {
+            number: 3,
+            offset: 17,
+            error: LineError::PastRequired(4),
+        },
+        "in line 3 at offset 17: reference to entry 4, past the required insert count",
+    ),
+    (SectionError::Memory, "out of memory"),
+];
+
+/// Errors of lines, and what they are printed as.
+const LINES: [(LineError, &str); 3] = [
+    (
+        LineError::Meaningless(NO_STATIC),
+        "unknown static index: 99",
+    ),
+    (LineError::TooLarge(84), "field section of 84 bytes or more"),
+    (LineError::Memory, "out of memory"),
+];
+
 #[test]
 fn errors_are_printed(rt: HostRuntime) -> Result<(), Fail> {
-    let alloc = rt.alloc();
-    prints(alloc, &SectionError::TooLong, "field section too long")?;
-    let error = DecoderError::InvalidInteger(prefix_int::Error::Overflow);
-    prints(
-        alloc,
-        &SectionError::Prefix(error),
-        "in the prefix: invalid integer: value overflow",
-    )?;
-    prints(
-        alloc,
-        &SectionError::CountAtZero,
-        "a required insert count at maximum capacity 0",
-    )?;
-    let line = SectionError::Line {
-        number: 3,
-        offset: 17,
-        error: LineError::PastRequired(4),
-    };
-    prints(
-        alloc,
-        &line,
-        "in line 3 at offset 17: reference to entry 4, past the required insert count",
-    )?;
-    let error = DecoderError::InvalidStaticIndex(99);
-    prints(
-        alloc,
-        &LineError::Meaningless(error),
-        "unknown static index: 99",
-    )?;
-    prints(
-        alloc,
-        &LineError::TooLarge(84),
-        "field section of 84 bytes or more",
-    )?;
-    prints(alloc, &LineError::Memory, "out of memory")?;
-    prints(alloc, &SectionError::Memory, "out of memory")
+    for (error, text) in SECTIONS {
+        prints(rt.alloc(), &error, text)?;
+    }
+    for (error, text) in LINES {
+        prints(rt.alloc(), &error, text)?;
+    }
+    Ok(())
 }
 
 /// The refusal of an encoder stream.
@@ -88,18 +97,31 @@ fn in_line(error: LineError) -> SectionError {
     }
 }
 
+/// Errors of lines, and their codes.
+const LINE_CODES: [(LineError, Option<u64>); 3] = [
+    (LineError::PastRequired(1), Some(0x200)),
+    (LineError::Meaningless(NO_STATIC), Some(0x200)),
+    (LineError::TooLarge(84), None),
+];
+
+/// Other errors of sections, and their codes.
+const SECTION_CODES: [(SectionError, Option<u64>); 4] = [
+    (SectionError::CountAtZero, Some(0x200)),
+    (SectionError::Prefix(OVERFLOW), Some(0x200)),
+    (SectionError::TooLong, None),
+    (SectionError::Memory, None),
+];
+
 #[test]
 fn errors_that_end_the_connection_have_its_code(_rt: HostRuntime) -> Result<(), Fail> {
     same(DECOMPRESSION_FAILED, 0x200)?;
-    same(SectionError::CountAtZero.code(), Some(0x200))?;
-    let error = DecoderError::InvalidInteger(prefix_int::Error::Overflow);
-    same(SectionError::Prefix(error).code(), Some(0x200))?;
-    same(in_line(LineError::PastRequired(1)).code(), Some(0x200))?;
-    let error = DecoderError::InvalidStaticIndex(99);
-    same(in_line(LineError::Meaningless(error)).code(), Some(0x200))?;
-    same(in_line(LineError::TooLarge(84)).code(), None)?;
-    same(SectionError::TooLong.code(), None)?;
-    same(SectionError::Memory.code(), None)
+    for (error, code) in SECTION_CODES {
+        same(error.code(), code)?;
+    }
+    for (error, code) in LINE_CODES {
+        same(in_line(error).code(), code)?;
+    }
+    Ok(())
 }
 
 #[test]

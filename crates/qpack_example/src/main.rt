@@ -2,12 +2,11 @@
 #![tactic(auto)]
 
 use anyhow::Result;
-use h3_qpack::HeaderField;
 use h3_qpack::coding::Cursor;
-use h3_qpack::dynamic::DynamicTable;
-use h3_qpack::encoder::Encoder;
-use qpack_connection::decoder::{ConnectionDecoder, DecoderSettings};
-use qpack_connection::{FieldSection, Reading};
+use qpack_connection::{
+    ConnectionDecoder, ConnectionEncoder, DecoderSettings, EncoderSettings, FieldLine,
+    FieldSection, Reading,
+};
 use std::alloc::Global;
 use std::str;
 
@@ -19,25 +18,19 @@ const SETTINGS: DecoderSettings = DecoderSettings {
 };
 
 /// The encoding end for a peer that sent these settings.
-fn new_encoder(alloc: Global) -> Result<Encoder> {
-    let mut table = DynamicTable::new(alloc);
-    table.set_agreed_max(SETTINGS.max_capacity)?;
-    table.set_max_blocked(SETTINGS.max_blocked)?;
-    Ok(Encoder::from(table))
+fn new_encoder(alloc: Global) -> Result<ConnectionEncoder> {
+    let settings = EncoderSettings::new(SETTINGS.max_capacity, SETTINGS.max_blocked);
+    Ok(ConnectionEncoder::new(alloc, settings)?)
 }
 
-/// Encodes a request for stream 4: its section, and what goes on the encoder stream.
-fn encode(
-    alloc: Global,
-    encoder: &mut Encoder,
-    section: &mut Vec<u8>,
-    instructions: &mut Vec<u8>,
-) -> Result<()> {
-    let method = HeaderField::from_pair(alloc, b":method", b"GET")?;
-    let agent = HeaderField::from_pair(alloc, b"user-agent", b"curl/8")?;
-    let fields = [method, agent];
-    encoder.set_capacity(SETTINGS.max_capacity, instructions)?;
-    encoder.encode(4, section, instructions, fields.iter())?;
+/// Encodes a request for stream 4.
+fn encode(encoder: &mut ConnectionEncoder, section: &mut Vec<u8>) -> Result<()> {
+    let fields = [
+        FieldLine::new(b":method", b"GET"),
+        FieldLine::new(b"user-agent", b"curl/8"),
+        FieldLine::never_indexed(b"authorization", b"Basic Og=="),
+    ];
+    encoder.encode(4, &fields, section)?;
     Ok(())
 }
 
@@ -58,19 +51,29 @@ fn decode(
     }
     for field in fields.iter() {
         let name = str::from_utf8(field.name)?;
-        println!(rt; "{name}: {}", str::from_utf8(field.value)?)?;
+        let mark = if field.never_indexed {
+            " (never indexed)"
+        } else {
+            ""
+        };
+        println!(rt; "{name}: {}{mark}", str::from_utf8(field.value)?)?;
     }
     Ok(())
 }
 
 /// A request goes from one end to the other, and what is answered goes back.
-fn connect(rt: &HostRuntime, encoder: &mut Encoder, decoder: &mut ConnectionDecoder) -> Result<()> {
+fn connect(
+    rt: &HostRuntime,
+    encoder: &mut ConnectionEncoder,
+    decoder: &mut ConnectionDecoder,
+) -> Result<()> {
     let mut section = Vec::new(rt.alloc());
-    let mut instructions = Vec::new(rt.alloc());
-    encode(rt.alloc(), encoder, &mut section, &mut instructions)?;
     let mut fields = FieldSection::new(rt.alloc());
-    decode(rt, decoder, &section, &instructions, &mut fields)?;
-    encoder.on_decoder_recv(&mut Cursor::new(decoder.decoder_stream()))?;
+    encode(encoder, &mut section)?;
+    decode(rt, decoder, &section, encoder.encoder_stream(), &mut fields)?;
+    let sent = encoder.encoder_stream().len();
+    encoder.sent(sent);
+    encoder.receive(&mut Cursor::new(decoder.decoder_stream()))?;
     let answered = decoder.decoder_stream().len();
     decoder.sent(answered);
     println!(rt; "{} bytes, {answered} of answers", section.len())?;

@@ -23,8 +23,11 @@ pub trait WritesSections {
     /// What the table takes its memory of.
     fn memory(&self) -> Global;
 
-    /// Encodes a field section for a stream, as `Encoder::encode` does. Refused, which is for memory alone, the block
-    /// is as before, the insertions that were made stand, and nothing more is referenced.
+    /// Encodes a field section of field lines that are lent for a stream, as `Encoder::encode` does; nothing is copied
+    /// but what is inserted. A field that is never to be indexed is a literal that says so, by the name of a static
+    /// field or of an entry where the rule has one, and is neither inserted nor looked for (RFC 9204, section 7.1.3).
+    /// Refused, which is for memory alone, the block is as before, the insertions that were made stand, their
+    /// instructions are written, and nothing more is referenced.
     fn write_section<A: Allocator, B: Allocator, H: AsField>(
         &mut self,
         stream_id: u64,
@@ -52,7 +55,8 @@ pub trait WritesSections {
 /// The dynamic table of an encoder, by which its field sections are written.
 #[derive(Debug, Drop)]
 pub struct EncoderTable {
-    pub(super) table: DynamicTable,
+    /// The table.
+    pub table: DynamicTable,
 }
 
 impl WritesSections for EncoderTable {
@@ -69,49 +73,19 @@ impl WritesSections for EncoderTable {
         encoder_buf: &mut Vec<u8, B>,
         fields: &[H],
     ) -> Result<usize, EncoderError> {
-        encode_section(&mut self.table, stream_id, block, encoder_buf, fields)
+        let len = block.len();
+        let mut handle = self.table.encoder(stream_id);
+        let appended = append_block(&mut handle, block, encoder_buf, fields);
+        let answer = end_block(handle, appended);
+        if answer.is_err() {
+            block.truncate(len);
+        }
+        answer
     }
 
     fn give_up(&mut self) {
         self.table.encoder(0).release();
     }
-}
-
-/// Encodes a field section of field lines that are lent for a stream, over a table, as `Encoder::encode` does over its
-/// own; one that is never to be indexed is a literal that says so, by the name of a static field or of an entry where
-/// the rule has one, and is neither inserted nor looked for (RFC 9204, sections 2.1 and 7.1.3). Nothing is copied but
-/// what is inserted. Appended are the block, to the one vector, and the instructions of what is inserted, to the other;
-/// answered is the block's required insert count, 0 if it references no entry.
-///
-/// Refused, which is for memory alone, the block is as before, the insertions that were made stand, their instructions
-/// are written, and nothing more is referenced.
-pub fn encode_section<A: Allocator, B: Allocator, H: AsField>(
-    table: &mut DynamicTable,
-    stream_id: u64,
-    block: &mut Vec<u8, A>,
-    encoder_buf: &mut Vec<u8, B>,
-    fields: &[H],
-) -> Result<usize, EncoderError>
-    ensures ok { IfOk result (λ required. EncodesLines stream_id (map H.line fields.now) table.old table.new
-        block.old.items block.new.items encoder_buf.old.items encoder_buf.new.items required) }
-    ensures err { OnErr result (GivesUpLines (map H.line fields.now) table.old table.new
-        encoder_buf.old.items encoder_buf.new.items) }
-    ensures as_before { OnErr result (block.new.items ≡ block.old.items) }
-    ensures memory { IfErr result (λ e. e ≡ Memory) }
-    ensures capacity { vec_capacity block.old ≤ vec_capacity block.new }
-    ensures still { OnOk result
-        (vec_len block.new ≤ vec_capacity block.old → vec_capacity block.new ≡ vec_capacity block.old) }
-    ensures instructions { GrowsWithin (instructions_room (fields_of_lines (map H.line fields.now))) encoder_buf.old
-        encoder_buf.new }
-{
-    let len = block.len();
-    let mut handle = table.encoder(stream_id);
-    let appended = append_block(&mut handle, block, encoder_buf, fields);
-    let answer = end_block(handle, appended);
-    if answer.is_err() {
-        block.truncate(len);
-    }
-    answer
 }
 
 /// Ends a block in progress, whose required insert count this is and is answered; or gives it up, where that is an

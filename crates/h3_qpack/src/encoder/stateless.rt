@@ -1,9 +1,9 @@
 //! Field sections that reference no entry, of field lines that are lent (RFC 9204, sections 2.1 and 4.5).
 
 ghost use Rattle.std.specs.Prelude.{◌≡◌, ◌++◌, ◌≤◌, true, map, IfErr, OnOk, OnErr, take, vec_len, vec_capacity};
-ghost use Rattle.qpack_spec.specs.Line.{written_marked_line};
+ghost use Rattle.qpack_spec.specs.Line.{written_line, written_marked_line};
 ghost use Rattle.qpack_spec.specs.Marked.{stateless_line_marked, stateless_block_marked, written_marked_block};
-ghost use Rattle.qpack_spec.specs.Stateless.{stateless_literal};
+ghost use Rattle.qpack_spec.specs.Stateless.{stateless_line, stateless_literal};
 ghost use Rattle.qpack_spec.specs.StaticTable.{static_name_index};
 ghost use Rattle.qpack_base.specs.HeaderFields.{line_of};
 ghost use Rattle.qpack_base.specs.Writes.{Writes};
@@ -58,9 +58,8 @@ fn append_section<A: Allocator, H: AsField>(
     Ok(())
 }
 
-/// Appends the line of a field: a static index, a static name with the value, or both in full; of one that is never to
-/// be indexed, no static index. Refused, the vector is as before.
-pub(super) fn append_line<A: Allocator>(
+/// Appends the line of a field. Refused, the vector is as before.
+fn append_line<A: Allocator>(
     block: &mut Vec<u8, A>,
     field: &FieldLine<'_>,
 ) -> Result<(), prefix_string::Error>
@@ -68,10 +67,23 @@ pub(super) fn append_line<A: Allocator>(
         (stateless_line_marked (line_of field.now))) block.old block.new result }
     ensures memory { IfErr result (λ e. e ≡ NoRoom) }
 {
-    let (name, value) = (field.name, field.value);
     if field.never_indexed {
-        return append_never_indexed(block, name, value);
+        return append_never_indexed(block, field.name, field.value);
     }
+    append_unmarked(block, field.name, field.value)
+}
+
+/// Appends the line of a field that may be indexed: a static index, a static name with the value, or both in full.
+/// Refused, the vector is as before.
+pub(super) fn append_unmarked<A: Allocator>(
+    block: &mut Vec<u8, A>,
+    name: &[u8],
+    value: &[u8],
+) -> Result<(), prefix_string::Error>
+    ensures writes { Writes (written_line (stateless_line (record { name = name.now; value = value.now })))
+        block.old block.new result }
+    ensures memory { IfErr result (λ e. e ≡ NoRoom) }
+{
     match StaticTable::lookup(name, value) {
         Some(StaticMatch::Field(index)) => Ok(Indexed::Static(index).encode(block)?),
         Some(StaticMatch::Name(index)) => LiteralWithNameRef::write_static(index, value, block),

@@ -6,7 +6,7 @@ use Rattle.qpack_spec.specs.BlockReading.{written_block}
 use Rattle.qpack_spec.specs.Stateless.{stateless_block}
 use Rattle.qpack_spec.proofs.Sizes.{total_last}
 use Rattle.qpack_base.specs.HeaderFields.{field_of, fields_behind}
-use Rattle.h3_qpack.proofs.WrittenBlocks.{begun, grown, take-append_front, behind_more}
+use Rattle.h3_qpack.proofs.WrittenBlocks.{begun, grown, lent_parts, take-append_front, behind_more}
 use Rattle.h3_qpack.proofs.ReadLines.{saturated_is}
 use Rattle.h3_qpack.proofs.encoder.append_block.Goals as goal
 
@@ -19,14 +19,14 @@ loop-field-init g c = record {
   capacity = c.encode.ensures.writes.capacity;
 }
 
-pub returns-in_err-append_line-clause-err : goal.returns-in_err-append_line-clause-err
-returns-in_err-append_line-clause-err g c =
-    let p = err_from_is_err_and c.from_residual-in_err-append_line.result c.from_residual-in_err-append_line.ensures.1
+pub returns-in_err-append_unmarked-clause-err : goal.returns-in_err-append_unmarked-clause-err
+returns-in_err-append_unmarked-clause-err g c =
+    let p = err_from_is_err_and c.from_residual-in_err-append_unmarked.result c.from_residual-in_err-append_unmarked.ensures.1
     in
     rw p.1
     (take-append_front c.args.block.now.items (written_block (stateless_block (fields_behind c.loop-field.yielded)))
-    c.loop-field.block.items c.append_line.new.block.items _ (sym c.args.block.now.ok.0)
-    c.in_err-append_line.ensures.writes.err c.loop-field.invariant.written)
+    c.loop-field.block.items c.append_unmarked.new.block.items _ (sym c.args.block.now.ok.0)
+    c.in_err-append_unmarked.ensures.writes.err c.loop-field.invariant.written)
 
 pub loop-field-preserved : goal.loop-field-preserved
 loop-field-preserved g c =
@@ -37,8 +37,11 @@ loop-field-preserved g c =
     c.saturating_add-size.result
     c.loop-field.invariant.size c.mem_size.ensures c.saturating_add-size.ensures in
     rw (more, total_last fs f) (record {
-      written = grown c.args.block.now.items c.loop-field.block.items c.append_line.new.block.items fs f
-          c.loop-field.invariant.written c.in_ok-append_line.ensures.writes.ok;
+      written = grown c.args.block.now.items c.loop-field.block.items c.append_unmarked.new.block.items fs f
+          c.loop-field.invariant.written
+          (lent_parts c.loop-field.block.items c.append_unmarked.new.block.items c.as_slice.result.now
+          c.as_slice-in-loop-field.result.now f c.as_slice.ensures.value c.as_slice-in-loop-field.ensures.value
+          c.in_ok-append_unmarked.ensures.writes.ok);
       size = saturated;
-      capacity = omega (arith, c.loop-field.invariant.capacity, c.append_line.ensures.writes.capacity);
+      capacity = omega (arith, c.loop-field.invariant.capacity, c.append_unmarked.ensures.writes.capacity);
     })

@@ -1,6 +1,6 @@
 use Rattle.std.proofs.Common.{◌∙◌, map}
 use Rattle.h3_qpack.proofs.DraftedBlocks.{encodes, gives_up_section, count_begins, none_begins}
-use Rattle.h3_qpack.proofs.encoder.sections.encode_section.Goals as goal
+use Rattle.h3_qpack.proofs.encoder.sections.EncoderTableWritesSections.write_section.Goals as goal
 
 pub append_block-appended-requires-clause-base : goal.append_block-appended-requires-clause-base
 append_block-appended-requires-clause-base g c =
@@ -13,7 +13,7 @@ append_block-appended-requires-clause-begins g c =
 pub returns-then-is_err-clause-err : goal.returns-then-is_err-clause-err
 returns-then-is_err-clause-err g c =
     gives_up_section (map g.H.AsField.line c.args.fields.now) c.append_block-appended.result c.end_block-answer.result
-    c.args.table.now c.encoder-handle.result.table.now c.append_block-appended.new.handle.table.now _
+    c.args.self.now.table c.encoder-handle.result.table.now c.append_block-appended.new.handle.table.now _
     c.args.block.now.items c.append_block-appended.new.block.items c.args.encoder_buf.now.items
     c.append_block-appended.new.encoder_buf.items c.encoder-handle.ensures.table c.append_block-appended.ensures.ok
     c.append_block-appended.ensures.err c.end_block-answer.ensures.err
@@ -21,7 +21,7 @@ returns-then-is_err-clause-err g c =
 pub returns-else-is_err-clause-ok : goal.returns-else-is_err-clause-ok
 returns-else-is_err-clause-ok g c =
     encodes (map g.H.AsField.line c.args.fields.now) c.append_block-appended.result c.end_block-answer.result
-    c.args.table.now c.encoder-handle.result.table.now c.append_block-appended.new.handle.table.now _
+    c.args.self.now.table c.encoder-handle.result.table.now c.append_block-appended.new.handle.table.now _
     c.args.stream_id c.append_block-appended.new.handle.stream_id c.args.block.now.items
     c.append_block-appended.new.block.items c.args.encoder_buf.now.items c.append_block-appended.new.encoder_buf.items
     c.encoder-handle.ensures.table (c.append_block-appended.ensures.stream ∙ c.encoder-handle.ensures.stream)
