@@ -186,7 +186,12 @@ const TOLD: [(usize, usize, &[u8]); 6] = [
 ];
 
 /// The first section tells the capacity, the second nothing.
-fn tells_once(alloc: Global, sender: &mut Sender, told: &[u8], capacity: usize) -> Result<(), Fail> {
+fn tells_once(
+    alloc: Global,
+    sender: &mut Sender,
+    told: &[u8],
+    capacity: usize,
+) -> Result<(), Fail> {
     sender.is_to_send(alloc, b"")?;
     sender.encodes(alloc, 0, &[], 0, b"0000")?;
     sender.is_to_send(alloc, told)?;
@@ -328,9 +333,13 @@ impl InStep {
     fn encode_plain(&mut self, stream: u64, fields: &[HeaderField]) -> Result<usize, EncoderError> {
         self.section.clear();
         let (section, instructions) = (&mut self.section, &mut self.stream);
-        match self.encoder.encode(stream, section, instructions, fields.iter()) {
+        match self
+            .encoder
+            .encode(stream, section, instructions, fields.iter())
+        {
             Err(EncoderError::Memory) => {
-                self.encoder.encode(stream, section, instructions, fields.iter())
+                self.encoder
+                    .encode(stream, section, instructions, fields.iter())
             }
             answer => answer,
         }
@@ -398,7 +407,13 @@ const LISTS: [(u64, Pairs); 8] = [
     (0, &[(b"a", b"1"), (b"b", b"1"), (b":path", b"/a")]),
     (8, &[]),
     (0, &[(b"b", b"2"), (b"b", b"2"), (b"cookie", b"c")]),
-    (12, &[(b"c", b"a longer value, for which there is no room in a narrow table")]),
+    (
+        12,
+        &[(
+            b"c",
+            b"a longer value, for which there is no room in a narrow table",
+        )],
+    ),
     (0, &[(b"a", b"2"), (b"a", b"1"), (b":status", b"200")]),
     (0, &[(b"cookie", b"c"), (b"b", b"2"), (b"d", b"\xff\x00")]),
 ];
@@ -452,7 +467,10 @@ impl Ends {
         has(&self.fields, lines)?;
         same(self.sender.receive(self.receiver.decoder_stream()), Ok(()))?;
         self.receiver.sent(usize::MAX);
-        same((self.sender.end.unacknowledged(), self.sender.end.blocked()), (0, 0))
+        same(
+            (self.sender.end.unacknowledged(), self.sender.end.blocked()),
+            (0, 0),
+        )
     }
 
     /// Encodes fields on stream 4, of these bytes in hexadecimal, and passes them: so many insertions were made then.
@@ -485,8 +503,20 @@ fn marks_alone(alloc: Global, ends: &mut Ends) -> Result<(), Fail> {
     let marked = FieldLine::never_indexed;
     // By a static name, one of them of a static field that is equal.
     ends.exchange(alloc, &[marked(b":path", b"1")], 0, b"000071810f", 0)?;
-    ends.exchange(alloc, &[marked(b"authorization", b"1")], 0, b"00007f45810f", 0)?;
-    ends.exchange(alloc, &[marked(b":method", b"GET")], 0, b"00007f0083c5837f", 0)?;
+    ends.exchange(
+        alloc,
+        &[marked(b"authorization", b"1")],
+        0,
+        b"00007f45810f",
+        0,
+    )?;
+    ends.exchange(
+        alloc,
+        &[marked(b":method", b"GET")],
+        0,
+        b"00007f0083c5837f",
+        0,
+    )?;
     // The full literal.
     ends.exchange(alloc, &[marked(b"z", b"1")], 0, b"000039f7810f", 0)?;
     ends.sender.is_to_send(alloc, b"")
@@ -555,15 +585,16 @@ fn marks_are_handed_on(rt: HostRuntime) -> Result<(), Fail> {
     let mut second = Ends::new(alloc)?;
     passes_marks(&mut first)?;
     hands_on(alloc, &first.fields, &mut second)?;
-    same(second.sender.section.as_slice(), first.sender.section.as_slice())
+    same(
+        second.sender.section.as_slice(),
+        first.sender.section.as_slice(),
+    )
 }
 
 // ---- a peer that leaves increments out
 
 /// Names.
-const NAMES: [&[u8]; 10] = [
-    b"a", b"b", b"c", b"d", b"e", b"f", b"g", b"h", b"i", b"j",
-];
+const NAMES: [&[u8]; 10] = [b"a", b"b", b"c", b"d", b"e", b"f", b"g", b"h", b"i", b"j"];
 
 /// A section inserts a field, and is acknowledged without an increment; the next references it, and is not blocked.
 fn goes_on(sender: &mut Sender, name: &'static [u8], inserted: usize) -> Result<(), Fail> {
@@ -626,22 +657,58 @@ fn increments_count_from_acknowledgments(rt: HostRuntime) -> Result<(), Fail> {
 
 /// A decoder stream in hexadecimal, the number and the offset of the instruction that is refused, why, and what counts
 /// are left.
-type Refusal = (&'static [u8], u64, u64, HearingError, (usize, usize, usize, usize));
+type Refusal = (
+    &'static [u8],
+    u64,
+    u64,
+    HearingError,
+    (usize, usize, usize, usize),
+);
 
 /// Behind three sections.
 const REFUSALS: [Refusal; 9] = [
     // RFC 9204, section 4.4.3.
     (b"00", 1, 0, HearingError::ZeroIncrement, (3, 3, 3, 0)),
     (b"0200", 2, 1, HearingError::ZeroIncrement, (3, 1, 3, 2)),
-    (b"04", 1, 0, HearingError::IncrementPastInsertions(4), (3, 3, 3, 0)),
-    (b"8003", 2, 1, HearingError::IncrementPastInsertions(3), (2, 2, 3, 1)),
+    (
+        b"04",
+        1,
+        0,
+        HearingError::IncrementPastInsertions(4),
+        (3, 3, 3, 0),
+    ),
+    (
+        b"8003",
+        2,
+        1,
+        HearingError::IncrementPastInsertions(3),
+        (2, 2, 3, 1),
+    ),
     // RFC 9204, section 4.4.1.
     (b"8c", 1, 0, HearingError::UnknownStream(12), (3, 3, 3, 0)),
     (b"8080", 2, 1, HearingError::UnknownStream(0), (2, 2, 3, 1)),
-    (b"034080", 3, 2, HearingError::UnknownStream(0), (2, 0, 3, 3)),
+    (
+        b"034080",
+        3,
+        2,
+        HearingError::UnknownStream(0),
+        (2, 0, 3, 3),
+    ),
     // RFC 9204, section 4.1.1.
-    (b"ffffffffffffffffffff", 1, 0, HearingError::IntegerOverflow, (3, 3, 3, 0)),
-    (b"013fffffffffffffffffff", 2, 1, HearingError::IntegerOverflow, (3, 2, 3, 1)),
+    (
+        b"ffffffffffffffffffff",
+        1,
+        0,
+        HearingError::IntegerOverflow,
+        (3, 3, 3, 0),
+    ),
+    (
+        b"013fffffffffffffffffff",
+        2,
+        1,
+        HearingError::IntegerOverflow,
+        (3, 2, 3, 1),
+    ),
 ];
 
 /// Every call answers the error that ended the connection, and changes nothing.
@@ -729,7 +796,10 @@ fn waits_for_two(alloc: Global, sender: &mut Sender) -> Result<(), Fail> {
     let sent = sender.end.encoder_stream().len();
     sender.encodes(alloc, 8, &[path()], 0, ALONE)?;
     decodes_alone(alloc, sender, &[path()])?;
-    same((sender.counts(), sender.end.encoder_stream().len()), ((2, 2, 1, 0), sent))?;
+    same(
+        (sender.counts(), sender.end.encoder_stream().len()),
+        ((2, 2, 1, 0), sent),
+    )?;
     same(sender.receive(b"\x80"), Ok(()))?;
     sender.encodes(alloc, 8, &[path()], 1, b"020080")?;
     same(sender.counts(), (2, 0, 1, 1))?;
@@ -772,7 +842,10 @@ fn takes_numbers(alloc: Global, sender: &mut Sender) -> Result<(), Fail> {
     sender.is_to_send(alloc, b"")?;
     sender.encodes(alloc, STREAMS - 1, &[path()], 1, b"028010")?;
     sender.is_to_send(alloc, b"3fe11fc180")?;
-    same(sender.receive(b"\xff\x80\xff\xff\xff\xff\xff\xff\xff\x3f"), Ok(()))?;
+    same(
+        sender.receive(b"\xff\x80\xff\xff\xff\xff\xff\xff\xff\x3f"),
+        Ok(()),
+    )?;
     same(sender.counts(), (0, 0, 1, 1))
 }
 

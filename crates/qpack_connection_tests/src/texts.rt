@@ -3,8 +3,8 @@
 use h3_qpack::{DecoderError, prefix_int};
 use qpack_connection::encoder::EncodingError;
 use qpack_connection::{
-    DECOMPRESSION_FAILED, DecoderStreamError, ENCODER_STREAM_ERROR, EncoderStreamError, HearingError,
-    LineError, Place, SectionError, longest_section,
+    DECOMPRESSION_FAILED, DecoderStreamError, ENCODER_STREAM_ERROR, EncoderStreamError,
+    HearingError, LineError, Place, SectionError, longest_section,
 };
 use qpack_testing::{prints, same};
 use std::test::Fail;

@@ -169,7 +169,11 @@ impl Connection {
         let Some(stream) = self.flights.get(at).map(|flight| flight.stream) else {
             return Ok(());
         };
-        match self.flights.iter().position(|flight| flight.stream == stream) {
+        match self
+            .flights
+            .iter()
+            .position(|flight| flight.stream == stream)
+        {
             Some(first) => self.decode_at(alloc, first),
             None => Ok(()),
         }
@@ -244,7 +248,10 @@ impl Connection {
         }
         self.to_encoder(usize::MAX)?;
         same((self.flights.len(), self.decoder.blocked()), (0, 0))?;
-        same((self.encoder.unacknowledged(), self.encoder.blocked()), (0, 0))?;
+        same(
+            (self.encoder.unacknowledged(), self.encoder.blocked()),
+            (0, 0),
+        )?;
         same((self.encoder.waiting(), self.decoder.waiting()), (0, 0))
     }
 
