@@ -224,12 +224,20 @@ fn sets_before(
     same(sender.end.table().max_mem_size(), capacity)
 }
 
+/// Maximum capacities, capacities that are set, and the encoder stream behind that.
+const SET: [(usize, usize, &[u8]); 4] = [
+    (4096, 220, b"3fbd01"),
+    (4096, 0, b"20"),
+    (4096, 4096, b"3fe11f"),
+    // No instruction is sent at maximum 0 (RFC 9204, section 3.2.3).
+    (0, 0, b""),
+];
+
 #[test]
 fn a_capacity_set_before_is_told_in_its_place(rt: HostRuntime) -> Result<(), Fail> {
-    let alloc = rt.alloc();
-    for (capacity, told) in [(220, b"3fbd01".as_slice()), (0, b"20"), (4096, b"3fe11f")] {
-        let mut sender = Sender::new(alloc, EncoderSettings::new(4096, 0))?;
-        sets_before(alloc, &mut sender, capacity, told)?;
+    for (max_capacity, capacity, told) in SET {
+        let mut sender = Sender::new(rt.alloc(), EncoderSettings::new(max_capacity, 0))?;
+        sets_before(rt.alloc(), &mut sender, capacity, told)?;
     }
     Ok(())
 }

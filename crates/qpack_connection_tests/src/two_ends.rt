@@ -164,6 +164,12 @@ impl Connection {
         Ok(())
     }
 
+    /// A section comes, by chance.
+    fn decode_some(&mut self, alloc: Global, numbers: &mut Numbers) -> Result<(), Fail> {
+        let count = self.flights.len();
+        self.decode(alloc, numbers.below(count))
+    }
+
     /// The oldest section of the stream of a section comes.
     fn decode(&mut self, alloc: Global, at: usize) -> Result<(), Fail> {
         let Some(stream) = self.flights.get(at).map(|flight| flight.stream) else {
@@ -199,7 +205,9 @@ impl Connection {
 
     /// The section at a place was decoded.
     fn note_fields(&mut self, at: usize, required: usize) {
-        self.flights.remove(at);
+        if at < self.flights.len() {
+            self.flights.remove(at);
+        }
         self.seen.decoded = self.seen.decoded.saturating_add(1);
         let dynamic = usize::from(required > 0);
         self.seen.dynamic = self.seen.dynamic.saturating_add(dynamic);
@@ -234,7 +242,7 @@ impl Connection {
             0..=8 => self.encode(alloc, numbers),
             9..=14 => self.to_decoder(numbers.below(20)),
             15..=20 => self.to_encoder(numbers.below(4)),
-            21..=29 => self.decode(alloc, numbers.below(self.flights.len())),
+            21..=29 => self.decode_some(alloc, numbers),
             30 => self.cancel(numbers),
             _ => self.set_capacity(numbers.below(400)),
         }
