@@ -296,14 +296,9 @@ struct InStep {
 /// An encoder over a table of a maximum capacity of 4,096 bytes and so many blocked streams.
 fn plain_encoder(alloc: Global, max_blocked: usize) -> Result<Encoder, Error> {
     let mut table = DynamicTable::new(alloc);
-    set_bounds(&mut table, max_blocked)?;
-    Ok(Encoder::from(table))
-}
-
-/// Sets the bounds of such a table.
-fn set_bounds(table: &mut DynamicTable, max_blocked: usize) -> Result<(), Error> {
     table.set_agreed_max(4096)?;
-    table.set_max_blocked(max_blocked)
+    table.set_max_blocked(max_blocked)?;
+    Ok(Encoder::from(table))
 }
 
 /// The field lines of header fields.
@@ -382,7 +377,9 @@ impl InStep {
     /// All receive an increment for what is not known to be received, and an acknowledgment of stream 0.
     fn acknowledge(&mut self) -> Result<(), Fail> {
         let table = self.encoder.table();
-        let missing = table.total_inserted() - table.known_received_count();
+        let missing = table
+            .total_inserted()
+            .saturating_sub(table.known_received_count());
         if missing > 0 {
             self.receive(&[missing.min(62) as u8])?;
         }
@@ -607,7 +604,10 @@ const NAMES: [&[u8]; 10] = [b"a", b"b", b"c", b"d", b"e", b"f", b"g", b"h", b"i"
 /// A section inserts a field, and is acknowledged without an increment; the next references it, and is not blocked.
 fn goes_on(sender: &mut Sender, name: &'static [u8], inserted: usize) -> Result<(), Fail> {
     same(sender.encode(0, &[named(name)]), Ok(inserted))?;
-    same(sender.counts(), (1, 1, inserted, inserted - 1))?;
+    same(
+        sender.counts(),
+        (1, 1, inserted, inserted.saturating_sub(1)),
+    )?;
     same(sender.receive(b"\x80"), Ok(()))?;
     same(sender.counts(), (0, 0, inserted, inserted))?;
     same(sender.encode(4, &[named(name)]), Ok(inserted))?;
