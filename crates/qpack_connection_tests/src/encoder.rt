@@ -64,8 +64,8 @@ impl Sender {
         self.end.receive(&mut Cursor::new(bytes))
     }
 
-    /// How many sections are unacknowledged, how many may be blocked, and how many insertions were made and are known to
-    /// be received.
+    /// How many sections are unacknowledged, how many may be blocked, and how many insertions were made and are known
+    /// to be received.
     fn counts(&self) -> (usize, usize, usize, usize) {
         let table = self.end.table();
         (

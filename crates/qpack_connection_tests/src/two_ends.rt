@@ -1,5 +1,5 @@
-//! Random connections of the two ends: each section is decoded to the fields that were handed, with their marks, however
-//! late and cut the instruction streams come, and no end refuses the other (RFC 9204, sections 2 and 4).
+//! Random connections of the two ends: each section is decoded to the fields that were handed, with their marks, and
+//! no end refuses the other, however late and cut the instruction streams come (RFC 9204, sections 2 and 4).
 
 use crate::decoder::{cancel, decode, receive};
 use crate::encoder::{encode, has, set_capacity};
