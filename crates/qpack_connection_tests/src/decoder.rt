@@ -56,7 +56,7 @@ pub(crate) fn decode(
 }
 
 /// Gives a stream up, again where memory was refused.
-fn cancel(end: &mut ConnectionDecoder, stream: u64) -> Result<(), DecodingError> {
+pub(crate) fn cancel(end: &mut ConnectionDecoder, stream: u64) -> Result<(), DecodingError> {
     match end.cancel(stream) {
         Err(DecodingError::Memory) => end.cancel(stream),
         answer => answer,

@@ -5,6 +5,8 @@
 #[cfg(test)]
 mod decoder;
 #[cfg(test)]
+mod encoder;
+#[cfg(test)]
 mod hearing;
 #[cfg(test)]
 mod receiving;
@@ -14,3 +16,5 @@ mod recordings;
 mod sections;
 #[cfg(test)]
 mod texts;
+#[cfg(test)]
+mod two_ends;

@@ -1,9 +1,10 @@
 //! What errors are printed as.
 
 use h3_qpack::{DecoderError, prefix_int};
+use qpack_connection::encoder::EncodingError;
 use qpack_connection::{
-    DECOMPRESSION_FAILED, ENCODER_STREAM_ERROR, EncoderStreamError, LineError, Place, SectionError,
-    longest_section,
+    DECOMPRESSION_FAILED, DecoderStreamError, ENCODER_STREAM_ERROR, EncoderStreamError,
+    HearingError, LineError, Place, SectionError, longest_section,
 };
 use qpack_testing::{prints, same};
 use std::test::Fail;
@@ -128,4 +129,38 @@ fn a_refused_encoder_stream_has_its_code(_rt: HostRuntime) -> Result<(), Fail> {
     same(ENCODER_STREAM_ERROR, 0x201)?;
     same(refusal().code(), Some(0x201))?;
     same(EncoderStreamError::Memory.code(), None)
+}
+
+/// The refusal of a decoder stream, as an encoding end's.
+fn hearing_refusal() -> EncodingError {
+    EncodingError::DecoderStream(DecoderStreamError {
+        place: Place {
+            number: 3,
+            offset: 17,
+        },
+        error: HearingError::ZeroIncrement,
+    })
+}
+
+#[test]
+fn errors_of_an_encoding_end_are_printed(rt: HostRuntime) -> Result<(), Fail> {
+    let alloc = rt.alloc();
+    let text = "decoder stream: in instruction 3 at offset 17: increment of 0";
+    prints(alloc, &hearing_refusal(), text)?;
+    let text = "capacity above the maximum of the peer";
+    prints(alloc, &EncodingError::CapacityTooLarge, text)?;
+    let text = "entries that are not evictable do not fit the capacity";
+    prints(alloc, &EncodingError::EntriesHeld, text)?;
+    let text = "no stream has the number 4611686018427387904";
+    prints(alloc, &EncodingError::NoStream(1 << 62), text)?;
+    prints(alloc, &EncodingError::Memory, "out of memory")
+}
+
+#[test]
+fn a_refused_decoder_stream_alone_has_a_code(_rt: HostRuntime) -> Result<(), Fail> {
+    same(hearing_refusal().code(), Some(0x202))?;
+    same(EncodingError::CapacityTooLarge.code(), None)?;
+    same(EncodingError::EntriesHeld.code(), None)?;
+    same(EncodingError::NoStream(1 << 62).code(), None)?;
+    same(EncodingError::Memory.code(), None)
 }
