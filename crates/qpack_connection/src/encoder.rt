@@ -233,7 +233,7 @@ impl ConnectionEncoder {
     }
 
     /// How many sections may be blocked: those that require insertions which the peer is not known to have received
-    /// (RFC 9204, section 2.1.2).
+    /// (RFC 9204, section 2.1.2). A section that was cancelled counts until what it required is known to be received.
     pub fn blocked(&self) -> usize
         ensures { result ≡ length self.now.table.blocked }
     {
