@@ -77,7 +77,7 @@ pub enum DecodingError {
 }
 
 /// The least number that no stream has (RFC 9000, section 2.1).
-const STREAMS: u64 = 1 << 62;
+pub(crate) const STREAMS: u64 = 1 << 62;
 
 /// The least limit of blocked streams that is refused.
 const BLOCKED_LIMITS: usize = 65_535;
@@ -172,9 +172,9 @@ impl Model for ConnectionDecoder {
 }
 
 impl ConnectionDecoder {
-    /// A decoding end that sends these settings. Its table has the capacity 0 until the peer sets one (RFC 9204, section
-    /// 3.2.3). Refused are a maximum capacity of 2^30 bytes or more, and then a limit of 65,535 blocked streams or more.
-    /// Takes no memory.
+    /// A decoding end that sends these settings. Its table has the capacity 0 until the peer sets one (RFC 9204,
+    /// section 3.2.3). Refused are a maximum capacity of 2^30 bytes or more, and then a limit of 65,535 blocked streams
+    /// or more. Takes no memory.
     pub fn new(alloc: Global, settings: DecoderSettings) -> Result<ConnectionDecoder, SettingsError>
         ensures ok { IfOk result (λ d. Begins settings d) }
         ensures err { IfErr result (FailsSettings settings) }
@@ -296,12 +296,12 @@ impl ConnectionDecoder {
         Ok(())
     }
 
-    /// Receives the bytes of the encoder stream that the cursor has left, which follow on those of the calls before, cut
-    /// anywhere (RFC 9204, sections 4.2 and 4.3), as `EncoderStream::receive` does, and answers how many insertions were
-    /// ever made. They are reported by increments of 64 and one of the rest (section 4.4.3).
+    /// Receives the bytes of the encoder stream that the cursor has left, which follow on those of the calls before,
+    /// cut anywhere (RFC 9204, sections 4.2 and 4.3), as `EncoderStream::receive` does, and answers how many insertions
+    /// were ever made. They are reported by increments of 64 and one of the rest (section 4.4.3).
     ///
-    /// An instruction that is refused ends the connection (`EncoderStream`); those before it stay applied. After want of
-    /// memory what the cursor has left is offered again, be it nothing; insertions that were made are reported then.
+    /// An instruction that is refused ends the connection (`EncoderStream`); those before it stay applied. After want
+    /// of memory what the cursor has left is offered again, be it nothing; insertions that were made are reported then.
     pub fn receive(&mut self, buf: &mut Cursor) -> Result<usize, DecodingError>
         ensures receives { self.old.failure ≡ None → (start : Table) (before : List ℕ)
             → Receives start self.old.table before self.old.stream

@@ -12,7 +12,7 @@ ghost use Rattle.qpack_connection.specs.Encoders.{Encodes};
 ghost use Rattle.qpack_connection.specs.declared.decoder.SettingsError.TheVariants.{CapacityTooLarge};
 ghost use Rattle.qpack_connection.specs.declared.encoder.EncodingError.TheVariants.{Memory};
 
-use crate::decoder::SettingsError;
+use crate::decoder::{STREAMS, SettingsError};
 use crate::hearing::{DECODER_STREAM_ERROR, DecoderStream, DecoderStreamError};
 use h3_qpack::EncoderError;
 use h3_qpack::encoder::{
@@ -30,9 +30,6 @@ pub const DEFAULT_CAPACITY: usize = 4_096;
 
 /// How many sections may wait for acknowledgments by `EncoderSettings::new`.
 pub const DEFAULT_UNACKNOWLEDGED: usize = 1_000;
-
-/// The least number that no stream has (RFC 9000, section 2.1).
-const STREAMS: u64 = 1 << 62;
 
 /// The greatest limit of blocked streams that a table takes.
 const MOST_BLOCKED: usize = 65_534;
