@@ -18,7 +18,7 @@ use h3_qpack::EncoderError;
 use h3_qpack::encoder::{
     AsField, EncoderTable, WritesSections, encode_section_stateless, set_dynamic_table_size,
 };
-use qpack_base::coding::{Cursor, NoMemory};
+use qpack_base::coding::Cursor;
 use qpack_table::dynamic;
 use qpack_table::dynamic::DynamicTable;
 use std::alloc::{Allocator, Global};
@@ -127,14 +127,6 @@ impl EncodingError {
             EncoderError::Memory => EncodingError::Memory,
             _ => EncodingError::CapacityTooLarge,
         }
-    }
-}
-
-impl From<NoMemory> for EncodingError {
-    ghost from_gives = { λ _ r. r ≡ Memory };
-
-    fn from(_e: NoMemory) -> EncodingError {
-        EncodingError::Memory
     }
 }
 
