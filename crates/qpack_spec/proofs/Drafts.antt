@@ -345,7 +345,7 @@ drafting_literal_by_entry t0 h0 done d f k (Some a) e =
     (λ _. drafting_writes t0 h0 done d (Literal f.name f.value) f k (literal_names (insert_count t0) f.name f.value)
     (literal_line (whole_window k.history) (insert_count t0) f))
 
-drafting_literal : (t0 : Table) (h0 : History) (done : List Field) (d : Draft) (f : Field) → Drafting t0 h0 done d
+pub drafting_literal : (t0 : Table) (h0 : History) (done : List Field) (d : Draft) (f : Field) → Drafting t0 h0 done d
     → (o : Option ℕ) → static_name_index f.name ≡ o → Drafting t0 h0 (done ++ f ∷ []) (literal (insert_count t0) d f o)
 drafting_literal t0 h0 done d f k None e =
     drafting_literal_by_entry t0 h0 done d f k (newest_index d.table (has_name f.name)) refl
@@ -394,7 +394,7 @@ drafting_by_static t0 h0 done d f s k (Some i) e =
     (static_line (whole_window k.history) (insert_count t0) i f (static_found f i e))
 
 -- one field
-drafting_field : (t0 : Table) (h0 : History) (done : List Field) (d : Draft) (f : Field) → Sound h0
+pub drafting_field : (t0 : Table) (h0 : History) (done : List Field) (d : Draft) (f : Field) → Sound h0
     → Drafting t0 h0 done d → Drafting t0 h0 (done ++ f ∷ []) (rule_field (insert_count t0) d f)
 unfolding rule_field
 drafting_field t0 h0 done d f s k = drafting_by_static t0 h0 done d f s k (static_index f) refl
@@ -411,7 +411,7 @@ pub keeps_unnamed : (h : History) (t : Table) → KeepsTable h t → KeepsTable 
 unfolding without_references window
 keeps_unnamed h t k = record { shares = k.shares; marked = k.marked; behind = k.behind; held = k.held }
 
-drafting_blank : (t0 : Table) (h0 : History) → KeepsTable h0 t0 → Drafting t0 h0 [] (empty_draft t0)
+pub drafting_blank : (t0 : Table) (h0 : History) → KeepsTable h0 t0 → Drafting t0 h0 [] (empty_draft t0)
 unfolding fields_of references_of without_references
 drafting_blank t0 h0 k =
     record {

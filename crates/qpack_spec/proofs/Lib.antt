@@ -53,4 +53,6 @@ pub mod WaitingFields
 pub mod WaitingBytes
 pub mod StringRows
 pub mod StrictReadings
+pub mod MarkedForms
 pub mod StrictWritten
+pub mod MarkedDrafts

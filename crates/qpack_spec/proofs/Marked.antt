@@ -68,7 +68,7 @@ unmarked_line (NamedDynamic relative value) = refl
 unmarked_line (NamedPostBase post_base value) = refl
 unmarked_line (Literal name value) = refl
 
-unmarked_lines : (fs : List Field) (ls : List Line) → written_marked_lines (map unmarked fs) ls ≡ written_lines ls
+pub unmarked_lines : (fs : List Field) (ls : List Line) → written_marked_lines (map unmarked fs) ls ≡ written_lines ls
 unfolding written_marked_lines written_lines
 unmarked_lines [] ls = refl
 unmarked_lines (f ∷ fs) [] = refl

@@ -45,7 +45,7 @@ strict_sections t fields =
 
 -- ---- at capacity 0
 
-AtZero : Draft → Type 0
+abbrev pub AtZero : Draft → Type 0
 AtZero d = (d.table.capacity ≡ 0) × (d.instructions ≡ [])
 
 -- no field fits
@@ -57,34 +57,31 @@ no_room t f none =
 
 literal_by_entry_at_0 : (base : ℕ) (d : Draft) (f : Field) (o : Option ℕ) → AtZero d
     → AtZero (literal_by_entry base d f o)
-unfolding AtZero with_reference
+unfolding with_reference
 literal_by_entry_at_0 base d f (Some a) h =
     cond_both (may_reference d.table a) (with_referencing_line d a (name_reference_line base a f))
     (with_line d (Literal f.name f.value)) AtZero (λ _. h) (λ _. h)
 literal_by_entry_at_0 base d f None h = h
 
-literal_at_0 : (base : ℕ) (d : Draft) (f : Field) (o : Option ℕ) → AtZero d → AtZero (literal base d f o)
-unfolding AtZero
+pub literal_at_0 : (base : ℕ) (d : Draft) (f : Field) (o : Option ℕ) → AtZero d → AtZero (literal base d f o)
 literal_at_0 base d f (Some i) h = h
 literal_at_0 base d f None h =
     literal_by_entry_at_0 base d f (newest_index d.table (has_name f.name)) h
 
 insertion_at_0 : (base : ℕ) (d : Draft) (f : Field) → AtZero d → AtZero (insertion_or_literal base d f)
-unfolding AtZero
 insertion_at_0 base d f h =
     let none : (below_limit d.table && has_room d.table f) ≡ false =
     ap (λ (b : Bool). below_limit d.table && b) (no_room d.table f h.0) ∙ and-false (below_limit d.table) in
     rw none (literal_at_0 base d f (static_name_index f.name) h)
 
 by_entry_at_0 : (base : ℕ) (d : Draft) (f : Field) (o : Option ℕ) → AtZero d → AtZero (by_entry base d f o)
-unfolding AtZero with_reference
+unfolding with_reference
 by_entry_at_0 base d f (Some a) h =
     cond_both (nat_le a base && may_reference d.table a) (with_referencing_line d a (IndexedDynamic (base - a)))
     (insertion_or_literal base d f) AtZero (λ _. h) (λ _. insertion_at_0 base d f h)
 by_entry_at_0 base d f None h = insertion_at_0 base d f h
 
-by_static_at_0 : (base : ℕ) (d : Draft) (f : Field) (o : Option ℕ) → AtZero d → AtZero (by_static base d f o)
-unfolding AtZero
+pub by_static_at_0 : (base : ℕ) (d : Draft) (f : Field) (o : Option ℕ) → AtZero d → AtZero (by_static base d f o)
 by_static_at_0 base d f (Some i) h = h
 by_static_at_0 base d f None h = by_entry_at_0 base d f (newest_index d.table (is_field f)) h
 
@@ -95,5 +92,5 @@ fields_at_0 base d (f ∷ fs) h =
     fields_at_0 base (rule_field base d f) fs (by_static_at_0 base d f (static_index f) h)
 
 pub nothing_at_0 : NothingIsInsertedAtZero
-unfolding rule AtZero without_references
+unfolding rule without_references
 nothing_at_0 t fields none = (fields_at_0 (insert_count t) (empty_draft t) fields (none, refl)).1

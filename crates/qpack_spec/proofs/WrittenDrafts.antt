@@ -133,7 +133,7 @@ by_entry_written base d f b k w (Some a) e =
     (entry_line base a f b (omega (arith, at.within, k.few)) w))
     (λ _. writes_written d (Literal f.name f.value) k w)
 
-literal_written : (base : ℕ) (d : Draft) (f : Field) → base ≤ 2 ^ 62 → WrittenDraft d → IsByteField f → (o : Option ℕ)
+pub literal_written : (base : ℕ) (d : Draft) (f : Field) → base ≤ 2 ^ 62 → WrittenDraft d → IsByteField f → (o : Option ℕ)
     → static_name_index f.name ≡ o → WrittenDraft (literal base d f o)
 literal_written base d f b k w None e = by_entry_written base d f b k w (newest_index d.table (has_name f.name)) refl
 literal_written base d f b k w (Some i) e =
@@ -161,7 +161,7 @@ static_written : (base : ℕ) (d : Draft) (f : Field) → base ≤ 2 ^ 62 → Wr
 static_written base d f b k w None e = equal_written base d f b k w (newest_index d.table (is_field f))
 static_written base d f b k w (Some i) e = writes_written d (IndexedStatic i) k (static_small i f (static_found f i e))
 
-field_written : (base : ℕ) (d : Draft) (f : Field) → base ≤ 2 ^ 62 → WrittenDraft d → IsByteField f
+pub field_written : (base : ℕ) (d : Draft) (f : Field) → base ≤ 2 ^ 62 → WrittenDraft d → IsByteField f
     → WrittenDraft (rule_field base d f)
 unfolding rule_field
 field_written base d f b k w = static_written base d f b k w (static_index f) refl

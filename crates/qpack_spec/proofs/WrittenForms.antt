@@ -83,7 +83,7 @@ by_index {L} form_of n flags index make least most fit small named =
       spells = (index, (flags, s), refl);
     }
 
-by_index_and_value : {L : Type 0} (form_of : ℕ → Option (Form L)) (n flags index : ℕ) (value : List ℕ) (make : ℕ
+pub by_index_and_value : {L : Type 0} (form_of : ℕ → Option (Form L)) (n flags index : ℕ) (value : List ℕ) (make : ℕ
     → List ℕ → L) → 1 ≤ n → n ≤ 8 → flags < 2 ^ (8 - n) → IsSmall index → IsWritableValue value
     → ((b : ℕ) → flags ≡ b / 2 ^ n → form_of b ≡ Some (IndexAndValue n make))
     → Spells L form_of (written_integer n flags index ++ written_string 8 0 value) (make index value)
@@ -111,7 +111,7 @@ by_index_and_value {L} form_of n flags index value make least most fit small w n
       );
     }
 
-by_name_and_value : {L : Type 0} (form_of : ℕ → Option (Form L)) (n flags : ℕ) (name value : List ℕ) (make : List ℕ
+pub by_name_and_value : {L : Type 0} (form_of : ℕ → Option (Form L)) (n flags : ℕ) (name value : List ℕ) (make : List ℕ
     → List ℕ → L) → 1 ≤ n → n ≤ 7 → 2 * flags + 1 < 2 ^ (8 - n) → flags < 2 ^ (8 - suc n) → IsWritableValue name
     → IsWritableValue value
     → ((b : ℕ) → 2 * flags + 1 ≡ b / 2 ^ n → form_of b ≡ Some (NameAndValue (suc n) make))

@@ -35,5 +35,6 @@ pub mod StatelessMeaning
 pub mod LengthLaws
 pub mod StrictLaws
 pub mod StrictReading
+pub mod MarkedLaws
 pub mod Wanted
 pub mod WantedLaws

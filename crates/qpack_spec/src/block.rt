@@ -3,6 +3,7 @@
 ghost use Rattle.qpack_spec.specs.BlockLaws.{ReadingFindsPrefixes, CountsHaveOneReading, CountsAreRead};
 ghost use Rattle.qpack_spec.specs.LengthLaws.{ReadSectionsAreShort, StatelessSectionsAreShort};
 ghost use Rattle.qpack_spec.specs.BlockLaws.{ReadingLinesFindsFields};
+ghost use Rattle.qpack_spec.specs.MarkedLaws.{MarkedLinesAreSpellings, MarkedSectionsAreRead};
 ghost use Rattle.qpack_spec.specs.StrictReading.{StrictReadingsAreReadings, StrictReadingsAreWithin};
 ghost use Rattle.qpack_spec.specs.StrictReading.{StrictSectionsAreRead};
 ghost use Rattle.qpack_spec.specs.WrittenLaws.{WrittenPrefixesAreSpellings, WrittenBlocksAreRead};
@@ -42,7 +43,10 @@ pub fn strict_readings_are_readings()
     ensures within { StrictReadingsAreWithin }
 {}
 
-/// And it reads every section that is written so, keeps to its required insert count, and is within the limit.
+/// And it reads every section that is written so, keeps to its required insert count, and is within the limit, with the
+/// marks of its fields.
 pub fn strict_sections_are_read()
-    ensures { StrictSectionsAreRead }
+    ensures plain { StrictSectionsAreRead }
+    ensures spelled { MarkedLinesAreSpellings }
+    ensures marked { MarkedSectionsAreRead }
 {}

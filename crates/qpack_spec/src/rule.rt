@@ -5,6 +5,7 @@ ghost use Rattle.std.specs.Prelude.{List};
 ghost use Rattle.qpack_spec.specs.Field.{Field};
 ghost use Rattle.qpack_spec.specs.Handle.{HandleIsTheRule};
 ghost use Rattle.qpack_spec.specs.Marked.{HandleIsTheMarkedRule, IsTheRuleUnmarked, MarkedLinesAreOfFields};
+ghost use Rattle.qpack_spec.specs.MarkedLaws.{MarkedFieldsAreLiterals};
 ghost use Rattle.qpack_spec.specs.StrictLaws.{NothingIsInsertedAtZero, WrittenSectionsAreStrict};
 ghost use Rattle.qpack_spec.specs.Table.{Table};
 
@@ -27,8 +28,10 @@ pub fn written_sections_are_strict()
 {}
 
 /// With fields that are marked as never to be indexed, asking the table field by field is the rule too, each field
-/// has a line, and where none is marked it is the rule for unmarked fields, written as ever (RFC 9204, section 7.1.3).
+/// has a line, a marked one a literal, and where none is marked it is the rule for unmarked fields, written as ever (RFC
+/// 9204, section 7.1.3).
 pub fn marked_fields_are_literals()
+    ensures literals { MarkedFieldsAreLiterals }
     ensures handle { HandleIsTheMarkedRule }
     ensures lines { MarkedLinesAreOfFields }
     ensures unmarked { (t : Table) (fs : List Field) → IsTheRuleUnmarked t fs }
