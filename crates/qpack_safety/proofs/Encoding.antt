@@ -6,22 +6,25 @@ use Rattle.std.specs.Prelude.{nat_lt, nat_eq, not}
 use Rattle.std.proofs.lemmas.Bool.{cond_both, eq-eqb, ne_eqb, ltb-true}
 use Rattle.std.proofs.lemmas.List.{append-nil, append_assoc, drop-append-le, map-append}
 use Rattle.std.proofs.lemmas.List.Elements.{filter-append}
-use Rattle.qpack_spec.specs.Field.{Field}
+use Rattle.qpack_spec.specs.Field.{Field, FieldLine, fields_of_lines}
 use Rattle.qpack_spec.specs.Instruction.{EncoderInstruction, DecoderInstruction}
 use Rattle.qpack_spec.specs.Window.{Window, maximum_capacity}
-use Rattle.qpack_spec.specs.History.{History, window_of, initial_history, Leads}
+use Rattle.qpack_spec.specs.History.{History, window_of, whole_window, initial_history, Leads}
 use Rattle.qpack_spec.specs.Prefix.{prefix_for}
 use Rattle.qpack_spec.specs.Reading.{greatest_of}
 use Rattle.qpack_spec.specs.Table.{UnacknowledgedBlock, Table, window, insert_count, with_unacknowledged, commit}
-use Rattle.qpack_spec.specs.Table.{without_references}
-use Rattle.qpack_spec.specs.Rule.{rule, block_of}
-use Rattle.qpack_spec.specs.Session.{stream_at}
+use Rattle.qpack_spec.specs.Table.{with_numbers, without_references}
+use Rattle.qpack_spec.specs.Marked.{marked_rule, stateless_block_marked}
+use Rattle.qpack_spec.specs.Rule.{Draft, rule, block_of}
+use Rattle.qpack_spec.specs.Session.{stream_at, with_stream}
 use Rattle.qpack_safety.specs.AbstractSession.{AbstractBlock, is_dynamic, AbstractStream, AbstractSession, after_encode}
-use Rattle.qpack_safety.specs.AbstractSession.{after_abandon}
+use Rattle.qpack_safety.specs.AbstractSession.{after_alone, after_abandon}
 use Rattle.qpack_spec.proofs.Lists.{every_append, every_weaker}
 use Rattle.qpack_spec.proofs.Windows.{Sound, Agreed, leads_append, leads_sound, leads_grows, Grows}
 use Rattle.qpack_spec.proofs.Readings.{greatest_bound, greatest_has}
 use Rattle.qpack_spec.proofs.Drafts.{IsLive, MayStand, KeepsTable, Drafting, count_inserted, keeps_unnamed, rule_drafts}
+use Rattle.qpack_spec.proofs.AloneSections.{lines_alone, none_referenced, prefix_alone}
+use Rattle.qpack_spec.proofs.MarkedDrafts.{marked_drafts}
 use Rattle.qpack_safety.proofs.OpenBlocks.{open_of, open_push}
 use Rattle.qpack_safety.proofs.DecoderInstructions.{acks_in, fits_more, fits_count}
 use Rattle.qpack_safety.proofs.Fronts.{filter_take, filter_take_append}
@@ -168,18 +171,16 @@ stream_encoded capacity maximum h encoder_stream unacknowledged decoder_in_fligh
     }
 
 -- the block that was written
-block_kept : (capacity maximum limit : ℕ) (w : AbstractSession) (fs : List Field)
-    (k : Invariant capacity maximum limit w)
-    (p : Drafting w.encoder k.made fs (rule w.encoder fs))
-    → (let d = rule w.encoder fs in let encoder_stream = w.taken ++ (w.in_flight ++ d.instructions) in
+block_kept : (capacity maximum limit : ℕ) (w : AbstractSession) (fs : List Field) (d : Draft)
+    (k : Invariant capacity maximum limit w) (p : Drafting w.encoder k.made fs d)
+    → (let encoder_stream = w.taken ++ (w.in_flight ++ d.instructions) in
     KeepsBlock capacity maximum p.history encoder_stream (record {
       block = block_of w.encoder d;
       referenced = d.table.referenced;
       end = length encoder_stream;
       fields = fs;
     }))
-block_kept capacity maximum limit w fs k p =
-    let d = rule w.encoder fs in
+block_kept capacity maximum limit w fs d k p =
     let encoder_stream = w.taken ++ (w.in_flight ++ d.instructions) in
     let sound : Sound k.made = sound_made capacity maximum limit w k in
     let sound' : Sound p.history = leads_sound k.made d.instructions p.history p.leads sound in
@@ -208,13 +209,11 @@ block_kept capacity maximum limit w fs k p =
           p.referenced);
     }
 
-pub inv_encoded : (capacity maximum limit : ℕ) (w : AbstractSession) (s : ℕ) (fs : List Field)
-    → Invariant capacity maximum limit w
-    → Invariant capacity maximum limit (after_encode w s fs (rule w.encoder fs))
-inv_encoded capacity maximum limit w s fs k =
-    let d = rule w.encoder fs in
-    let p : Drafting w.encoder k.made fs d =
-    rule_drafts w.encoder k.made fs (sound_made capacity maximum limit w k) k.encoder in
+-- the session that has a block more, whatever wrote it
+pub inv_drafted : (capacity maximum limit : ℕ) (w : AbstractSession) (s : ℕ) (fs : List Field) (d : Draft)
+    (k : Invariant capacity maximum limit w) → Drafting w.encoder k.made fs d
+    → Invariant capacity maximum limit (after_encode w s fs d)
+inv_drafted capacity maximum limit w s fs d k p =
     let g : Grows k.made p.history = leads_grows k.made d.instructions p.history p.leads in
     let encoder_stream = w.taken ++ (w.in_flight ++ d.instructions) in
     let regroup : (w.taken ++ w.in_flight) ++ d.instructions
@@ -228,7 +227,7 @@ inv_encoded capacity maximum limit w s fs k =
       end = length encoder_stream;
       fields = fs;
     } in
-    let ok : KeepsBlock capacity maximum p.history encoder_stream b = block_kept capacity maximum limit w fs k p in
+    let ok : KeepsBlock capacity maximum p.history encoder_stream b = block_kept capacity maximum limit w fs d k p in
     let opened' : (commit d.table s required).unacknowledged
     ≡ with_unacknowledged w.encoder.unacknowledged s d.table.referenced =
     c.c_opened ∙ ap (λ bs. with_unacknowledged bs s d.table.referenced) p.references.unacknowledged in
@@ -264,6 +263,20 @@ inv_encoded capacity maximum limit w s fs k =
           (opens_other s q d.table.referenced w.encoder.unacknowledged apart) (grown_stream q)));
     }
 
+pub inv_encoded : (capacity maximum limit : ℕ) (w : AbstractSession) (s : ℕ) (fs : List Field)
+    → Invariant capacity maximum limit w
+    → Invariant capacity maximum limit (after_encode w s fs (rule w.encoder fs))
+inv_encoded capacity maximum limit w s fs k =
+    inv_drafted capacity maximum limit w s fs (rule w.encoder fs) k
+    (rule_drafts w.encoder k.made fs (sound_made capacity maximum limit w k) k.encoder)
+
+pub inv_marked : (capacity maximum limit : ℕ) (w : AbstractSession) (s : ℕ) (ls : List FieldLine)
+    → Invariant capacity maximum limit w
+    → Invariant capacity maximum limit (after_encode w s (fields_of_lines ls) (marked_rule w.encoder ls))
+inv_marked capacity maximum limit w s ls k =
+    inv_drafted capacity maximum limit w s (fields_of_lines ls) (marked_rule w.encoder ls) k
+    (marked_drafts w.encoder k.made ls (sound_made capacity maximum limit w k) k.encoder)
+
 -- what is given up leaves the rest of the table
 record SameUnnamed (t t' : Table) : Type 0 where
   pub u_known : t'.known_received_count ≡ t.known_received_count
@@ -275,13 +288,10 @@ same_unnamed : (t : Table) → SameUnnamed t (without_references t)
 unfolding without_references
 same_unnamed t = record { u_known = refl; u_limit = refl; u_opened = refl; u_waiting = refl }
 
-pub inv_abandoned : (capacity maximum limit : ℕ) (w : AbstractSession) (fs : List Field)
-    → Invariant capacity maximum limit w
-    → Invariant capacity maximum limit (after_abandon w (rule w.encoder fs))
-inv_abandoned capacity maximum limit w fs k =
-    let d = rule w.encoder fs in
-    let p : Drafting w.encoder k.made fs d =
-    rule_drafts w.encoder k.made fs (sound_made capacity maximum limit w k) k.encoder in
+inv_given_up : (capacity maximum limit : ℕ) (w : AbstractSession) (fs : List Field) (d : Draft)
+    (k : Invariant capacity maximum limit w) → Drafting w.encoder k.made fs d
+    → Invariant capacity maximum limit (after_abandon w d)
+inv_given_up capacity maximum limit w fs d k p =
     let g : Grows k.made p.history = leads_grows k.made d.instructions p.history p.leads in
     let u = same_unnamed d.table in
     record {
@@ -300,4 +310,108 @@ inv_abandoned capacity maximum limit w fs k =
           (stream_grows capacity maximum k.made p.history
           (w.taken ++ w.in_flight) d.instructions w.encoder.unacknowledged
           w.decoder_in_flight q (stream_at w.streams q) g (k.streams q));
+    }
+
+pub inv_abandoned : (capacity maximum limit : ℕ) (w : AbstractSession) (fs : List Field)
+    → Invariant capacity maximum limit w
+    → Invariant capacity maximum limit (after_abandon w (rule w.encoder fs))
+inv_abandoned capacity maximum limit w fs k =
+    inv_given_up capacity maximum limit w fs (rule w.encoder fs) k
+    (rule_drafts w.encoder k.made fs (sound_made capacity maximum limit w k) k.encoder)
+
+pub inv_abandoned_marked : (capacity maximum limit : ℕ) (w : AbstractSession) (ls : List FieldLine)
+    → Invariant capacity maximum limit w
+    → Invariant capacity maximum limit (after_abandon w (marked_rule w.encoder ls))
+inv_abandoned_marked capacity maximum limit w ls k =
+    inv_given_up capacity maximum limit w (fields_of_lines ls) (marked_rule w.encoder ls) k
+    (marked_drafts w.encoder k.made ls (sound_made capacity maximum limit w k) k.encoder)
+
+-- ---- a block that references no entry
+
+alone_kept : (capacity maximum limit : ℕ) (w : AbstractSession) (ls : List FieldLine)
+    (k : Invariant capacity maximum limit w)
+    → KeepsBlock capacity maximum k.made (w.taken ++ w.in_flight) (record {
+      block = stateless_block_marked ls;
+      referenced = [];
+      end = length (w.taken ++ w.in_flight);
+      fields = fields_of_lines ls;
+    })
+unfolding greatest_of
+alone_kept capacity maximum limit w ls k =
+    record {
+      base = 0;
+      few = omega arith;
+      written = prefix_alone maximum 0;
+      means = lines_alone (whole_window k.made) 0 ls;
+      references = ap (with_numbers []) (none_referenced 0 (whole_window k.made) ls);
+      plain = λ _. refl;
+      front = w.taken ++ w.in_flight;
+      rest = [];
+      cut = append-nil (w.taken ++ w.in_flight);
+      ends = refl;
+      at_end = k.made;
+      leads = leads_append (initial_history capacity maximum) w.taken w.in_flight k.received k.made k.taken_leads
+          k.in_flight_leads;
+      within = omega arith;
+    }
+
+pub inv_alone : (capacity maximum limit : ℕ) (w : AbstractSession) (s : ℕ) (ls : List FieldLine)
+    → Invariant capacity maximum limit w → Invariant capacity maximum limit (after_alone w s ls)
+inv_alone capacity maximum limit w s ls k =
+    let st = stream_at w.streams s in
+    let b : AbstractBlock =
+    record {
+      block = stateless_block_marked ls;
+      referenced = [];
+      end = length (w.taken ++ w.in_flight);
+      fields = fields_of_lines ls;
+    } in
+    record {
+      within = k.within;
+      received = k.received;
+      made = k.made;
+      taken_leads = k.taken_leads;
+      in_flight_leads = k.in_flight_leads;
+      decoder = k.decoder;
+      encoder = k.encoder;
+      same_limit = k.same_limit;
+      known_received_count = k.known_received_count;
+      blocked = k.blocked;
+      streams =
+          streams_update (λ (q : ℕ) (v : AbstractStream). KeepsStream capacity maximum k.made (w.taken ++ w.in_flight)
+          w.encoder.unacknowledged w.decoder_in_flight q v) w.streams s (record st { blocks = st.blocks ++ b ∷ [] })
+          (stream_encoded capacity maximum k.made (w.taken ++ w.in_flight) w.encoder.unacknowledged w.decoder_in_flight
+          s st b (k.streams s) (alone_kept capacity maximum limit w ls k)) (λ q apart. k.streams q);
+    }
+
+-- ---- a stream that is given up without a word
+
+pub inv_forgotten : (capacity maximum limit : ℕ) (w : AbstractSession) (s : ℕ) → Invariant capacity maximum limit w
+    → Invariant capacity maximum limit (record w {
+      streams = with_stream w.streams s (record (stream_at w.streams s) { cancelled = true });
+    })
+inv_forgotten capacity maximum limit w s k =
+    let st = stream_at w.streams s in
+    let old = k.streams s in
+    record {
+      within = k.within;
+      received = k.received;
+      made = k.made;
+      taken_leads = k.taken_leads;
+      in_flight_leads = k.in_flight_leads;
+      decoder = k.decoder;
+      encoder = k.encoder;
+      same_limit = k.same_limit;
+      known_received_count = k.known_received_count;
+      blocked = k.blocked;
+      streams =
+          streams_update (λ (q : ℕ) (v : AbstractStream). KeepsStream capacity maximum k.made (w.taken ++ w.in_flight)
+          w.encoder.unacknowledged w.decoder_in_flight q v) w.streams s (record st { cancelled = true })
+          (record {
+            acknowledged = old.acknowledged;
+            fits = old.fits;
+            stays_open = λ e. absurd cc;
+            quiet = λ e. absurd cc;
+            blocks = old.blocks;
+          }) (λ q apart. k.streams q);
     }

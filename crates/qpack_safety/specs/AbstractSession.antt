@@ -2,11 +2,12 @@
 -- section 2). No contract names it.
 use Rattle.std.specs.Prelude.{ℕ, ◌+◌, ◌-◌, Bool, true, if◌then◌else◌, ◌&&◌, not, nat_eq, List, [], ◌∷◌, ◌++◌, length}
 use Rattle.std.specs.Prelude.{Option, None, Some, Result, Ok, Err}
-use Rattle.qpack_spec.specs.Field.{Field}
+use Rattle.qpack_spec.specs.Field.{Field, FieldLine, fields_of_lines}
 use Rattle.qpack_spec.specs.Instruction.{EncoderInstruction, SetCapacity, DecoderInstruction, Acknowledgment}
 use Rattle.qpack_spec.specs.Instruction.{Cancellation}
 use Rattle.qpack_spec.specs.Window.{Window, window_insert_count, TableRefusal, apply}
 use Rattle.qpack_spec.specs.History.{initial_history, window_of}
+use Rattle.qpack_spec.specs.Marked.{marked_rule, stateless_block_marked}
 use Rattle.qpack_spec.specs.Reading.{Block, Reading, reading, greatest_of}
 use Rattle.qpack_spec.specs.Table.{Table, empty_table, without_references, apply_decoder_instruction, with_capacity}
 use Rattle.qpack_spec.specs.Rule.{Draft, rule, block_of, committed_table}
@@ -47,7 +48,9 @@ pub record AbstractSession : Type 0 where
 
 -- the small steps: the encoder writes a block; it is refused memory behind some fields of a block; it sets a capacity;
 -- the decoder takes an instruction; it reports its insertions, in pieces; the encoder takes a decoder instruction; the
--- decoder decodes the next block of a stream; it acknowledges one; it cancels a stream
+-- decoder decodes the next block of a stream; it acknowledges one; it cancels a stream. And what only the ends of a
+-- connection do: the encoder writes a block of fields some of which are marked, or is refused memory behind some of
+-- them, or writes a block that references no entry; the decoder gives up a stream and tells nothing
 pub data SmallStep : Type 0 where
   Encode : (stream : ℕ) (fields : List Field) → SmallStep
   Abandon : (fields : List Field) → SmallStep
@@ -58,6 +61,10 @@ pub data SmallStep : Type 0 where
   Decode : (stream : ℕ) → SmallStep
   Acknowledge : (stream : ℕ) → SmallStep
   Cancel : (stream : ℕ) → SmallStep
+  EncodeMarked : (stream : ℕ) (lines : List FieldLine) → SmallStep
+  AbandonMarked : (lines : List FieldLine) → SmallStep
+  EncodeAlone : (stream : ℕ) (lines : List FieldLine) → SmallStep
+  Forget : (stream : ℕ) → SmallStep
 
 -- how a session begins: both tables empty and of this capacity, this maximum capacity agreed
 abbrev pub abstract_start : ℕ → ℕ → ℕ → AbstractSession
@@ -87,6 +94,22 @@ after_encode w s fs d =
               referenced = d.table.referenced;
               end = length (w.taken ++ in_flight);
               fields = fs;
+            } ∷ [];
+      });
+    }
+
+-- the session after a block was written that references no entry
+abbrev pub after_alone : AbstractSession → ℕ → List FieldLine → AbstractSession
+after_alone w s ls =
+    let st = stream_at w.streams s in
+    record w {
+      streams = with_stream w.streams s (record st {
+        blocks =
+            st.blocks ++ record {
+              block = stateless_block_marked ls;
+              referenced = [];
+              end = length (w.taken ++ w.in_flight);
+              fields = fields_of_lines ls;
             } ∷ [];
       });
     }
@@ -172,6 +195,11 @@ after_step w (Cancel s) =
       decoder_in_flight = w.decoder_in_flight ++ Cancellation s ∷ [];
       streams = with_stream w.streams s (record st { cancelled = true });
     }
+after_step w (EncodeMarked s ls) = after_encode w s (fields_of_lines ls) (marked_rule w.encoder ls)
+after_step w (AbandonMarked ls) = after_abandon w (marked_rule w.encoder ls)
+after_step w (EncodeAlone s ls) = after_alone w s ls
+after_step w (Forget s) =
+    record w { streams = with_stream w.streams s (record (stream_at w.streams s) { cancelled = true }) }
 
 -- the session after some steps
 abbrev pub after_steps : List SmallStep → AbstractSession → AbstractSession

@@ -291,17 +291,17 @@ unfolding line_field
 indexed_line w base a f le e = let q : base - (base - a) ≡ a =
     omega arith in entry_relative w base (base - a) f (rw q e)
 
-static_line : (w : Window) (base i : ℕ) (f : Field) → slice_get static_table i ≡ Some f
+pub static_line : (w : Window) (base i : ℕ) (f : Field) → slice_get static_table i ≡ Some f
     → line_field w base (IndexedStatic i) ≡ Ok f
 unfolding line_field
 static_line w base i f e = static_means i f e
 
-static_name_line : (w : Window) (base i : ℕ) (f g : Field) → slice_get static_table i ≡ Some g → f.name ≡ g.name
+pub static_name_line : (w : Window) (base i : ℕ) (f g : Field) → slice_get static_table i ≡ Some g → f.name ≡ g.name
     → line_field w base (NamedStatic i f.value) ≡ Ok f
 unfolding line_field
 static_name_line w base i f g e q = valued_found (static_field i) g f (static_means i g e) q
 
-literal_line : (w : Window) (base : ℕ) (f : Field) → line_field w base (Literal f.name f.value) ≡ Ok f
+pub literal_line : (w : Window) (base : ℕ) (f : Field) → line_field w base (Literal f.name f.value) ≡ Ok f
 unfolding line_field
 literal_line w base f = refl
 

@@ -56,3 +56,4 @@ pub mod StrictReadings
 pub mod MarkedForms
 pub mod StrictWritten
 pub mod MarkedDrafts
+pub mod AloneSections

@@ -7,8 +7,8 @@ use Rattle.std.proofs.lemmas.Bool.{cond_both}
 use Rattle.std.proofs.lemmas.List.{append-nil, append_assoc}
 use Rattle.qpack_spec.specs.Field.{Field, FieldLine, fields_of_lines, has_name, is_field}
 use Rattle.qpack_spec.specs.History.{History}
-use Rattle.qpack_spec.specs.Line.{Line, IndexedStatic, IndexedDynamic, IndexedPostBase, NamedStatic, NamedDynamic}
-use Rattle.qpack_spec.specs.Line.{NamedPostBase, Literal}
+use Rattle.qpack_spec.specs.Line.{Line, IndexedStatic, IndexedDynamic, NamedStatic}
+use Rattle.qpack_spec.specs.Line.{Literal}
 use Rattle.qpack_spec.specs.Marked.{marked_field, marked_fields, marked_rule}
 use Rattle.qpack_spec.specs.MarkedLaws.{is_literal, AreLiteralsWhereMarked, MarkedFieldsAreLiterals}
 use Rattle.qpack_spec.specs.Rule.{Draft, with_line, with_referencing_line, with_new_entry, name_reference_line}

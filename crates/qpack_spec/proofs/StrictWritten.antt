@@ -1,5 +1,5 @@
 -- A strict decoder reads every section that is written so, keeps to its required insert count, and is within its limit.
-use Rattle.std.proofs.Common.{ℕ, zero, suc, ◌+◌, ◌-◌, ◌≤◌, ◌≡◌, false, List, []}
+use Rattle.std.proofs.Common.{ℕ, zero, suc, ◌+◌, ◌≤◌, ◌≡◌, false, List, []}
 use Rattle.std.proofs.Common.{◌∷◌, ◌++◌, length, map, Result, Ok, refl, sym, ap, ◌∙◌, subst, arith, length-append}
 use Rattle.std.proofs.Common.{true}
 use Rattle.std.specs.List.{AllByRecursion}

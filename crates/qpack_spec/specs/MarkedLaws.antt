@@ -1,6 +1,6 @@
 -- What is written of fields some of which are marked as never to be indexed is read as these fields with their marks, as
 -- statements; the crate's law functions promise them (RFC 9204, sections 4.5.4 to 4.5.6 and 7.1.3).
-use Rattle.std.specs.Prelude.{◌≡◌, ◌≤◌, ℕ, Bool, true, false, List, [], ◌∷◌, Ok}
+use Rattle.std.specs.Prelude.{◌≡◌, ◌≤◌, ℕ, Bool, true, false, List, ◌∷◌, Ok}
 use Rattle.qpack_spec.specs.Field.{FieldLine, fields_of_lines, total_size}
 use Rattle.qpack_spec.specs.Line.{Line, NamedStatic, NamedDynamic, NamedPostBase, Literal, SpellsLine}
 use Rattle.qpack_spec.specs.Line.{written_marked_line}
