@@ -65,7 +65,7 @@ plain_live t [] h e = refl
 plain_live t (a ∷ as') h e = absurd (omega (arith, h.0.0))
 
 -- the parts of a committed table
-record SameCommitted (t t' : Table) (s required : ℕ) : Type 0 where
+pub record SameCommitted (t t' : Table) (s required : ℕ) : Type 0 where
   pub c_known : t'.known_received_count ≡ t.known_received_count
   pub c_limit : t'.limit ≡ t.limit
   pub c_opened : t'.unacknowledged ≡ with_unacknowledged t.unacknowledged s t.referenced
@@ -74,7 +74,7 @@ record SameCommitted (t t' : Table) (s required : ℕ) : Type 0 where
   pub c_live : t'.live ≡ t.live
   pub c_waiting : t'.blocked ≡ cond (nat_lt t.known_received_count required) (t.blocked ++ required ∷ []) t.blocked
 
-same_committed : (t : Table) (s required : ℕ) → SameCommitted t (commit t s required) s required
+pub same_committed : (t : Table) (s required : ℕ) → SameCommitted t (commit t s required) s required
 unfolding commit window
 same_committed t s required =
     record {
@@ -278,13 +278,13 @@ inv_marked capacity maximum limit w s ls k =
     (marked_drafts w.encoder k.made ls (sound_made capacity maximum limit w k) k.encoder)
 
 -- what is given up leaves the rest of the table
-record SameUnnamed (t t' : Table) : Type 0 where
+pub record SameUnnamed (t t' : Table) : Type 0 where
   pub u_known : t'.known_received_count ≡ t.known_received_count
   pub u_limit : t'.limit ≡ t.limit
   pub u_opened : t'.unacknowledged ≡ t.unacknowledged
   pub u_waiting : t'.blocked ≡ t.blocked
 
-same_unnamed : (t : Table) → SameUnnamed t (without_references t)
+pub same_unnamed : (t : Table) → SameUnnamed t (without_references t)
 unfolding without_references
 same_unnamed t = record { u_known = refl; u_limit = refl; u_opened = refl; u_waiting = refl }
 

@@ -106,7 +106,7 @@ pub increments_cons_cancel : (s : ℕ) (rs : List DecoderInstruction) → increm
 unfolding increment_sum
 increments_cons_cancel s rs = refl
 
-increments_cons : (n : ℕ) (rs : List DecoderInstruction) → increment_sum (Increment n ∷ rs) ≡ n + increment_sum rs
+pub increments_cons : (n : ℕ) (rs : List DecoderInstruction) → increment_sum (Increment n ∷ rs) ≡ n + increment_sum rs
 unfolding increment_sum
 increments_cons n rs = refl
 
@@ -211,13 +211,13 @@ ack_finds capacity maximum limit w s rest k e =
     release_some s w.encoder.unacknowledged (fits_ack_own s rest (length (open_of s w.encoder.unacknowledged)) f).0
 
 -- what an increment changes
-record SameRaised (t t' : Table) (n : ℕ) : Type 0 where
+pub record SameRaised (t t' : Table) (n : ℕ) : Type 0 where
   pub r_known : t'.known_received_count ≡ t.known_received_count + n
   pub r_limit : t'.limit ≡ t.limit
   pub r_opened : t'.unacknowledged ≡ t.unacknowledged
   pub r_waiting : length t'.blocked ≤ length t.blocked
 
-same_raised : (t : Table) (n : ℕ) → t.known_received_count + n ≤ 2 ^ 62 → SameRaised t (with_increment t n) n
+pub same_raised : (t : Table) (n : ℕ) → t.known_received_count + n ≤ 2 ^ 62 → SameRaised t (with_increment t n) n
 unfolding with_increment
 same_raised t n h =
     record {

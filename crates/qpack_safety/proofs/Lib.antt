@@ -5,8 +5,12 @@ pub mod Invariant
 pub mod Encoding
 pub mod Taking
 pub mod Hearing
+pub mod ToldCounts
+pub mod LawfulInsertions
+pub mod StrictSession
 pub mod Decoding
 pub mod Resizing
+pub mod StrictEvents
 pub mod Steps
 pub mod Safely
 pub mod Deliveries

@@ -77,6 +77,10 @@ unfolding resized_table
 same_resized t n =
     record { z_known = refl; z_limit = refl; z_opened = refl; z_waiting = refl; z_dropped = refl; z_live = refl }
 
+pub resized_capacity : (t : Table) (n : ℕ) → (resized_table t n).capacity ≡ n
+unfolding resized_table
+resized_capacity t n = refl
+
 kept_resized : (h : History) (t : Table) (n : ℕ) → Sound h → KeepsTable h t → CanResize t n
     → KeepsTable (history_after h (Resizes n)) (resized_table t n)
 kept_resized h t n s k c =

@@ -57,3 +57,4 @@ pub mod MarkedForms
 pub mod StrictWritten
 pub mod MarkedDrafts
 pub mod AloneSections
+pub mod MarkedInsertions

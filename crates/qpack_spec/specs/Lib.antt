@@ -36,5 +36,6 @@ pub mod LengthLaws
 pub mod StrictLaws
 pub mod StrictReading
 pub mod MarkedLaws
+pub mod StrictInstructions
 pub mod Wanted
 pub mod WantedLaws
