@@ -6,6 +6,8 @@ pub mod SectionParts
 pub mod PlacedTaking
 pub mod StrictTaking
 pub mod WaitingLengths
+pub mod BlockedStreams
+pub mod StrictCounts
 pub mod Decoders
 pub mod Encoders
 pub mod ReceivedStreams

@@ -1,6 +1,6 @@
 -- The decoding end of a connection (RFC 9204, sections 2.1.2, 2.2, 4.4 and 5).
-use Rattle.std.specs.Prelude.{◌≡◌, ◌<◌, ◌≤◌, ◌^◌, ℕ, zero, suc, ◌-◌, ⊤, ◌⊎◌, false, if◌then◌else◌, nat_eq}
-use Rattle.std.specs.Prelude.{List, [], ◌++◌, length, Option, None, Some, Result, Ok, Err}
+use Rattle.std.specs.Prelude.{◌≡◌, ◌<◌, ◌≤◌, ◌^◌, ℕ, zero, suc, ◌-◌, ⊤, ◌⊎◌, Bool, false, if◌then◌else◌, nat_eq}
+use Rattle.std.specs.Prelude.{List, [], ◌++◌, Option, None, Some, Result, Ok, Err}
 use Rattle.std.specs.Option.{is_some, IfSome, IsSome}
 use Rattle.qpack_spec.specs.Field.{FieldLine}
 use Rattle.qpack_spec.specs.Instruction.{Acknowledgment, Cancellation, written_decoder_instruction}
@@ -21,13 +21,14 @@ use Rattle.qpack_connection.specs.declared.section.Reading.{Reading}
 use Rattle.qpack_connection.specs.declared.section.Reading.TheVariants as reading
 use Rattle.qpack_connection.specs.declared.section.SectionError.{SectionError}
 use Rattle.qpack_connection.specs.declared.section.SectionError.TheVariants as section
-use Rattle.qpack_connection.specs.Blocked.{is_blocked, with_blocked, without}
+use Rattle.qpack_connection.specs.Blocked.{is_listed, is_blocked, blocked_among, with_blocked, without}
 use Rattle.qpack_connection.specs.Receiving.{StreamView, Receives, ReceivesMore, encoder_stream_error}
 use Rattle.qpack_connection.specs.Sections.{decompression_failed, TellsReading, ReadsInto}
 use Rattle.qpack_connection.specs.Sections as sections
 
 -- a decoding end: its settings; the table; what waits of the encoder stream; how many insertions it has reported; the
--- streams that are blocked; the bytes of the decoder stream that are not sent; and the error that ended the connection
+-- streams that came to be blocked and were not decoded since; the bytes of the decoder stream that are not sent; and the
+-- error that ended the connection
 pub record DecodingEnd : Type 0 where
   pub settings : DecoderSettings
   pub table : Table
@@ -76,9 +77,13 @@ abbrev pub stream_failure : EncoderStreamError → DecodingError
 stream_failure (stream.Refused place e) = EncoderStream place e
 stream_failure stream.Memory = Memory
 
+-- how many streams are blocked: of those that came to be, the ones that wait for insertions yet (section 2.1.2)
+abbrev pub blocked_streams : DecodingEnd → ℕ
+blocked_streams d = blocked_among (insert_count d.table) d.blocked
+
 -- no more streams are blocked than may be (section 2.1.2), and the connection is ended only by an error that has a code
 pub record IsSound (d : DecodingEnd) : Type 0 where
-  pub blocked : length d.blocked ≤ d.settings.max_blocked
+  pub blocked : blocked_streams d ≤ d.settings.max_blocked
   pub failure : IfSome d.failure (λ e. IsSome (code_of e))
 
 -- the end behind an error, which is kept if it ends the connection
@@ -129,13 +134,17 @@ Acknowledges old new stream required (Err e) = StopsAcknowledging old new requir
 
 -- ---- blocked streams
 
+-- this stream is one of those that are blocked
+abbrev pub is_blocked_now : ℕ → DecodingEnd → Bool
+is_blocked_now stream d = is_blocked (insert_count d.table) stream d.blocked
+
 -- a stream may come to be blocked: it is, or fewer are than may be (section 2.1.2)
 abbrev pub MayBlock : DecodingEnd → ℕ → Type 0
-MayBlock d stream = is_blocked stream d.blocked ≡ false → length d.blocked < d.settings.max_blocked
+MayBlock d stream = is_blocked_now stream d ≡ false → blocked_streams d < d.settings.max_blocked
 
 -- as many streams are blocked as may be, and this is another
 abbrev pub IsOneTooMany : DecodingEnd → ℕ → Type 0
-IsOneTooMany d stream = (is_blocked stream d.blocked ≡ false) × (d.settings.max_blocked ≤ length d.blocked)
+IsOneTooMany d stream = (is_blocked_now stream d ≡ false) × (d.settings.max_blocked ≤ blocked_streams d)
 
 -- the end behind a section of this stream that waits for so many insertions
 abbrev pub blocked_behind : ℕ → ℕ → DecodingEnd → DecodingEnd
@@ -146,7 +155,7 @@ blocked_behind stream required d =
 abbrev pub StopsBlocking : DecodingEnd → DecodingEnd → ℕ → DecodingError → Type 0
 StopsBlocking old new stream (TooManyBlocked s) =
     (s ≡ stream) × IsOneTooMany old stream × (new ≡ refused (TooManyBlocked stream) old)
-StopsBlocking old new stream Memory = (new ≡ old) × (is_blocked stream old.blocked ≡ false)
+StopsBlocking old new stream Memory = (new ≡ old) × (is_listed stream old.blocked ≡ false)
 StopsBlocking old new stream e = ⊥
 
 -- the stream was counted as blocked; or why not
@@ -205,10 +214,11 @@ Decodes old new stream read fields (Err e) =
     (fields ≡ [])
     × (IsNotAnswered old new stream e ⊎ (Checks old stream (Ok tt) × StopsDecoding old new stream read e))
 
--- memory may be asked for behind a reading: an acknowledgment is to be written, or a stream comes to be blocked
+-- memory may be asked for behind a reading: an acknowledgment is to be written, or a stream comes to be blocked that was
+-- not among those that did
 abbrev pub AsksBehind : DecodingEnd → ℕ → StrictReading → Type 0
 AsksBehind d stream (Read fields required) = 0 < required
-AsksBehind d stream (Blocked required) = is_blocked stream d.blocked ≡ false
+AsksBehind d stream (Blocked required) = is_listed stream d.blocked ≡ false
 AsksBehind d stream read = ⊥
 
 -- memory may be asked for: by the section, or behind its reading

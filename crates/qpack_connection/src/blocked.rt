@@ -1,8 +1,10 @@
 //! The streams that are blocked: each has a section that waits for insertions (RFC 9204, sections 2.1.2 and 2.2.1).
 
-ghost use Rattle.std.specs.Prelude.{◌≡◌, ◌≤◌, [], length};
-ghost use Rattle.qpack_connection.specs.Blocked.{required_of, without, ready, Blocks};
+ghost use Rattle.std.specs.Prelude.{◌≡◌, ◌≤◌, ℕ, false, [], IfErr, Ok, nat_eq, position};
+ghost use Rattle.qpack_connection.specs.Blocked.{required_of, is_listed, is_blocked, blocked_among, without, ready};
+ghost use Rattle.qpack_connection.specs.Blocked.{with_blocked, Blocks};
 
+use qpack_base::coding::NoMemory;
 use std::alloc::Global;
 use std::marker::Model;
 
@@ -49,33 +51,39 @@ impl BlockedStreams {
         }
     }
 
-    /// How many there are.
-    pub(crate) fn len(&self) -> usize
-        ensures { result ≡ length self.now }
+    /// How many are blocked where so many insertions were received: those that were unblocked meanwhile are not.
+    pub(crate) fn count(&self, inserted: usize) -> usize
+        ensures { result ≡ blocked_among inserted self.now }
     {
-        self.streams.len()
+        self.streams
+            .iter()
+            .filter(|blocked| blocked.required > inserted)
+            .count()
     }
 
-    /// Counts a stream as blocked, unless it is already. Refused, nothing changes.
-    pub(crate) fn block(&mut self, stream: BlockedStream, most: usize) -> Result<(), NotBlocked>
-        ensures { Blocks self.old self.new stream most result }
+    /// A stream comes to be blocked where so many insertions were received, unless with it more than so many would be.
+    /// Refused, nothing changes.
+    pub(crate) fn block(
+        &mut self,
+        stream: BlockedStream,
+        inserted: usize,
+        most: usize,
+    ) -> Result<(), NotBlocked>
+        ensures { Blocks self.old self.new stream inserted most result }
     {
-        if self.required(stream.stream).is_some() {
-            return Ok(());
-        }
-        if self.streams.len() >= most {
+        if !self.is_blocked(stream.stream, inserted) && self.count(inserted) >= most {
             return Err(NotBlocked::TooMany);
         }
-        match self.streams.push(stream) {
+        match self.put(stream) {
             Ok(()) => Ok(()),
             Err(_) => Err(NotBlocked::Memory),
         }
     }
 
-    /// Counts a stream as blocked no more.
+    /// The stream is there no more.
     pub(crate) fn forget(&mut self, stream: u64)
         ensures others { self.new ≡ without stream self.old }
-        ensures few { length self.new ≤ length self.old }
+        ensures few { (inserted : ℕ) → blocked_among inserted self.new ≤ blocked_among inserted self.old }
     {
         self.streams.retain(|blocked| blocked.stream != stream);
     }
@@ -91,7 +99,17 @@ impl BlockedStreams {
         Some(blocked.stream)
     }
 
-    /// How many insertions a stream waits for, if it is blocked.
+    /// Whether a stream is blocked where so many insertions were received.
+    fn is_blocked(&self, stream: u64, inserted: usize) -> bool
+        ensures { result ≡ is_blocked inserted stream self.now }
+    {
+        match self.required(stream) {
+            Some(required) => required > inserted,
+            None => false,
+        }
+    }
+
+    /// How many insertions a stream waits for, if it is there.
     fn required(&self, stream: u64) -> Option<usize>
         ensures { result ≡ required_of stream self.now }
     {
@@ -100,5 +118,26 @@ impl BlockedStreams {
             .iter()
             .find(|blocked| blocked.stream == stream)?;
         Some(blocked.required)
+    }
+
+    /// Puts a stream in the place of the one of its number, or behind all. Memory is refused only for one more.
+    fn put(&mut self, stream: BlockedStream) -> Result<(), NoMemory>
+        ensures ok { result ≡ Ok tt → self.new ≡ with_blocked stream self.old }
+        ensures err { IfErr result (λ _. (self.new ≡ self.old) × (is_listed stream.stream self.old ≡ false)) }
+    {
+        match self.position(stream.stream) {
+            Some(at) => self.streams[at] = stream,
+            None => self.streams.push(stream)?,
+        }
+        Ok(())
+    }
+
+    /// Where a stream is, if it is there.
+    fn position(&self, stream: u64) -> Option<usize>
+        ensures { result ≡ position (λ b. nat_eq b.stream stream) self.now }
+    {
+        self.streams
+            .iter()
+            .position(|blocked| blocked.stream == stream)
     }
 }

@@ -8,6 +8,7 @@ ghost use Rattle.qpack_connection.specs.Receiving.{Receives};
 ghost use Rattle.qpack_connection.specs.Decoders.{Begins, FailsSettings, Checks, Reports, Acknowledges, BlocksStream};
 ghost use Rattle.qpack_connection.specs.Decoders.{TakesReading, DecodesInto, Decodes, Cancels, AsksToDecode, refused};
 ghost use Rattle.qpack_connection.specs.Decoders.{code_of, section_failure, stream_failure, ReceivesBytes};
+ghost use Rattle.qpack_connection.specs.Decoders.{blocked_streams};
 ghost use Rattle.qpack_connection.specs.declared.decoder.DecodingError.TheVariants.{Memory};
 ghost use Rattle.qpack_connection.specs.declared.decoder.SettingsError.TheVariants.{CapacityTooLarge};
 
@@ -215,12 +216,12 @@ impl ConnectionDecoder {
         self.failure
     }
 
-    /// How many streams are blocked.
+    /// How many streams are blocked: those that wait for insertions yet.
     pub fn blocked(&self) -> usize
-        ensures exact { result ≡ length self.now.blocked }
+        ensures exact { result ≡ blocked_streams self.now }
         ensures few { result ≤ self.now.settings.max_blocked }
     {
-        self.blocked.len()
+        self.blocked.count(self.table.total_inserted())
     }
 
     /// How many bytes of the encoder stream wait for those behind them.
@@ -376,12 +377,16 @@ impl ConnectionDecoder {
         Ok(())
     }
 
-    /// Counts a stream as blocked; where it is one too many, that ends the connection.
+    /// A stream comes to be blocked; where it is one too many, that ends the connection.
     fn block(&mut self, stream: u64, required: usize) -> Result<(), DecodingError>
         ensures { BlocksStream self.old self.new stream required result }
     {
         let blocked = BlockedStream { stream, required };
-        match self.blocked.block(blocked, self.settings.max_blocked) {
+        let inserted = self.table.total_inserted();
+        match self
+            .blocked
+            .block(blocked, inserted, self.settings.max_blocked)
+        {
             Ok(()) => Ok(()),
             Err(NotBlocked::TooMany) => Err(self.refuse(DecodingError::TooManyBlocked(stream))),
             Err(NotBlocked::Memory) => Err(DecodingError::Memory),

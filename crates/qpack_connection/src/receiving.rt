@@ -1,9 +1,9 @@
 //! The encoder stream as a strict decoder receives it: handed in once, cut anywhere (RFC 9204, section 4.3).
 
-ghost use Rattle.std.specs.Prelude.{◌≡◌, ℕ, [], List, length};
+ghost use Rattle.std.specs.Prelude.{◌≡◌, ◌≤◌, ℕ, [], List, length};
 ghost use Rattle.qpack_spec.specs.Form.{Truncates};
 ghost use Rattle.qpack_spec.specs.Instruction.{encoder_instruction_form};
-ghost use Rattle.qpack_spec.specs.Table.{Table};
+ghost use Rattle.qpack_spec.specs.Table.{Table, insert_count};
 ghost use Rattle.qpack_connection.specs.Receiving.{begins_unlawfully, TakesNextStrictly, TakesAllStrictly, FindsWanted};
 ghost use Rattle.qpack_connection.specs.Receiving.{Receives, ReceivesMore, PassesOne};
 ghost use Rattle.qpack_connection.specs.Receiving.{stream_error_at, answer_at, stream_code_of};
@@ -121,6 +121,7 @@ impl EncoderStream {
     ) -> Result<(), EncoderStreamError>
         ensures receives { (start : Table) (before : List ℕ) → Receives start table.old before self.old
             → ReceivesMore start table.old table.new before buf.old.rest buf.new.rest self.old self.new result }
+        ensures grows { insert_count table.old ≤ insert_count table.new }
         ensures total { buf.new.total ≡ buf.old.total }
     {
         match self.receive_bytes(table, buf) {
@@ -138,6 +139,7 @@ impl EncoderStream {
         ensures receives { (start : Table) (before : List ℕ) → Receives start table.old before self.old
             → ReceivesMore start table.old table.new before buf.old.rest buf.new.rest self.old self.new
             (answer_at self.new.place result) }
+        ensures grows { insert_count table.old ≤ insert_count table.new }
         ensures total { buf.new.total ≡ buf.old.total }
     {
         let wanted = self.wanted;

@@ -1,9 +1,10 @@
-use Rattle.std.proofs.Common.{◌∙◌, sym, subst, ap, Ok, Err}
+use Rattle.std.proofs.Common.{arith, ◌∙◌, sym, subst, ap, Ok, Err}
 use Rattle.qpack_spec.specs.Table.{insert_count}
 use Rattle.std.proofs.lemmas.Result.{err_from_is_err_and}
 use Rattle.qpack_connection.specs.Decoders.{DecodingEnd, ReceivesBytes}
 use Rattle.qpack_connection.specs.Receiving.{Receives}
 use Rattle.qpack_connection.proofs.Decoders.{stream_refused, stream_reported, stream_unreported}
+use Rattle.qpack_connection.proofs.BlockedStreams.{fewer_blocked}
 use Rattle.qpack_connection.proofs.decoder.ConnectionDecoder.receive.Goals as goal
 
 pub returns-in-Err-clause-receives : goal.returns-in-Err-clause-receives
@@ -39,3 +40,17 @@ returns-clause-receives c live start before k =
     (subst (λ (d : DecodingEnd). Receives start d.table before d.stream) (sym c.self.view_is) k))
     c.in_ok-report-in-Ok.ensures
     (c.total_inserted.ensures ∙ ap (λ (d : DecodingEnd). insert_count d.table) c.self-2.view_is))
+
+pub invariant_of-self : goal.invariant_of-self
+invariant_of-self c =
+    let fewer = fewer_blocked (insert_count c.self.inside.table) (insert_count c.receive.new.table)
+    c.self.inside.blocked c.in-Ok.ensures.grows in
+    let within = c.self.invariant.blocked in
+    record { blocked = omega (arith, fewer, within); failure = c.self.invariant.failure }
+
+pub invariant_of-self-in-Err : goal.invariant_of-self-in-Err
+invariant_of-self-in-Err c =
+    let fewer = fewer_blocked (insert_count c.self.inside.table) (insert_count c.receive.new.table)
+    c.self.inside.blocked c.in-Err.ensures.grows in
+    let within = c.self.invariant.blocked in
+    record { blocked = omega (arith, fewer, within); failure = c.self.invariant.failure }

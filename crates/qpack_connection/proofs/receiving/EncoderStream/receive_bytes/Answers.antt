@@ -3,6 +3,7 @@ use Rattle.std.proofs.lemmas.Result.{err_from_is_err_and}
 use Rattle.qpack_connection.specs.Receiving.{StreamView}
 use Rattle.qpack_connection.proofs.ReceivedStreams.{reaches_same, still_waiting, took_whole, answers_not_taken}
 use Rattle.qpack_connection.proofs.ReceivedStreams.{answers_waiting, answers_too_large, answers_refused, all_passed}
+use Rattle.qpack_connection.proofs.StrictCounts.{all_count}
 use Rattle.qpack_connection.proofs.receiving.EncoderStream.receive_bytes.Goals as goal
 use Rattle.qpack_connection.proofs.receiving.EncoderStream.receive_bytes.Goals.{then-len-wanted+in_ok-take_whole}
 use Rattle.qpack_connection.proofs.receiving.EncoderStream.receive_bytes.Goals.{else-len-wanted}
@@ -83,3 +84,26 @@ returns-clause-receives c start before k =
           (omega (arith, w.if-len-wanted.false, len, ap (λ (v : StreamView). v.wanted) c.self.view_is)))
     ]) c.in_ok-self-inside.ensures in
     rw (← c.deref.ensures.value) (none, waiting.0, waiting.1, waiting.2)
+
+pub returns-in_err-take_whole-clause-grows : goal.returns-in_err-take_whole-clause-grows
+returns-in_err-take_whole-clause-grows c =
+    all_count c.in_err-take_whole.ensures.0.lines c.args.table.now c.take_whole.new.table
+    c.in_err-take_whole.ensures.0.applies
+
+pub returns-in_err-self-inside-clause-grows : goal.returns-in_err-self-inside-clause-grows
+returns-in_err-self-inside-clause-grows c =
+    elim c.if-len-wanted.branch [
+      | then-len-wanted+in_ok-take_whole w ↦
+          rw w.table-is (all_count w.in_ok-take_whole.ensures.0.lines c.args.table.now w.take_whole.new.table
+          w.in_ok-take_whole.ensures.0.applies)
+      | else-len-wanted w ↦ rw w.table-is (omega arith)
+    ]
+
+pub returns-clause-grows : goal.returns-clause-grows
+returns-clause-grows c =
+    elim c.if-len-wanted.branch [
+      | then-len-wanted+in_ok-take_whole w ↦
+          rw w.table-is (all_count w.in_ok-take_whole.ensures.0.lines c.args.table.now w.take_whole.new.table
+          w.in_ok-take_whole.ensures.0.applies)
+      | else-len-wanted w ↦ rw w.table-is (omega arith)
+    ]
