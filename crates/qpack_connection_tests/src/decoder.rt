@@ -110,7 +110,7 @@ enum Step {
     Holds(&'static [u8]),
     /// So many bytes are sent, or all if there are fewer.
     Drops(usize),
-    /// So many streams are blocked, and this one is ready.
+    /// So many streams are blocked yet, and this one is ready.
     Ready(usize, Option<u64>),
     /// What the end has to tell is this.
     Tells(usize, usize, usize, usize),
@@ -489,6 +489,46 @@ fn a_blocked_stream_too_many_ends_the_connection(rt: HostRuntime) -> Result<(), 
     goes_through(rt.alloc(), settings(4096, 2), TOO_MANY_BLOCKED)
 }
 
+/// An end that may have one blocked stream has one that was unblocked and is not decoded yet, and then another.
+const UNBLOCKED: &[Step] = &[
+    Step::Receives(b"3fe11f", 0),
+    Step::Blocks(0, b"0200", 1, 1),
+    Step::Receives(b"416100", 1),
+    Step::Ready(0, Some(0)),
+    Step::Blocks(4, b"0300", 2, 1),
+    Step::Ready(1, Some(0)),
+    Step::Decodes(0, b"0200", 1),
+    Step::Ready(1, None),
+    Step::Ends(8, b"0300", DecodingError::TooManyBlocked(8)),
+];
+
+/// The same, and the first stream would be blocked again.
+const BLOCKED_AGAIN: &[Step] = &[
+    Step::Receives(b"3fe11f", 0),
+    Step::Blocks(0, b"0200", 1, 1),
+    Step::Receives(b"416100", 1),
+    Step::Blocks(4, b"0300", 2, 1),
+    Step::Ends(0, b"0300", DecodingError::TooManyBlocked(0)),
+];
+
+/// A stream waits for more than it did before.
+const BLOCKED_FOR_MORE: &[Step] = &[
+    Step::Receives(b"3fe11f", 0),
+    Step::Blocks(0, b"0200", 1, 1),
+    Step::Blocks(0, b"0300", 2, 1),
+    Step::Receives(b"416100", 1),
+    Step::Ready(1, None),
+    Step::Receives(b"416200", 2),
+    Step::Ready(0, Some(0)),
+];
+
+#[test]
+fn a_stream_that_was_unblocked_is_not_counted(rt: HostRuntime) -> Result<(), Fail> {
+    goes_through(rt.alloc(), settings(4096, 1), UNBLOCKED)?;
+    goes_through(rt.alloc(), settings(4096, 1), BLOCKED_AGAIN)?;
+    goes_through(rt.alloc(), settings(4096, 1), BLOCKED_FOR_MORE)
+}
+
 /// Why two fields `:method: GET`, of 42 bytes each, pass the limit of 83 bytes.
 const TOO_LARGE: SectionError = SectionError::Line {
     number: 2,
@@ -678,13 +718,13 @@ const READY: &[Step] = &[
     Step::Ready(3, None),
     // The capacity and the first insertion.
     Step::Receives(b"3fe11f416100", 1),
-    Step::Ready(3, Some(4)),
+    Step::Ready(2, Some(4)),
     Step::Decodes(4, b"020080", 1),
     Step::Ready(2, None),
     Step::Receives(b"416200", 2),
-    Step::Ready(2, Some(8)),
+    Step::Ready(0, Some(8)),
     Step::Decodes(8, b"030080", 2),
-    Step::Ready(1, Some(12)),
+    Step::Ready(0, Some(12)),
     Step::Decodes(12, b"030081", 2),
     Step::Ready(0, None),
     Step::Sends(b"018401888c"),
