@@ -17,36 +17,12 @@ use Rattle.qpack_connection.specs.declared.hearing.DecoderStreamError.{DecoderSt
 use Rattle.qpack_connection.specs.declared.hearing.HearingError.{HearingError}
 use Rattle.qpack_connection.specs.declared.hearing.HearingError.TheVariants as error
 use Rattle.qpack_connection.specs.declared.place.Place.{Place}
-
 -- ---- one instruction
 
--- why a strict encoder does not apply a decoder instruction: it is an increment of 0; it raises the known received
--- count above the insertions made (section 4.4.3); or no section of its stream waits for it (section 4.4.1)
-pub data HearingRefusal : Type 0 where
-  ZeroIncrement : HearingRefusal
-  PastInsertions : (by : ℕ) → HearingRefusal
-  UnknownStream : (stream : ℕ) → HearingRefusal
-
--- the table refuses an acknowledgment of this stream
-abbrev pub or_unknown : {A : Type 0} → ℕ → Result A TableRefusal → Result A HearingRefusal
-or_unknown stream (Ok x) = Ok x
-or_unknown stream (Err refusal) = Err (UnknownStream stream)
-
--- the known received count is the greater of what it was and this count
-abbrev pub known_at_least : ℕ → Table → Table
-known_at_least count t = with_increment t (count - t.known_received_count)
-
--- what a strict encoder makes of a decoder instruction: an acknowledgment tells too that all was received that its
--- section required (section 2.1.4), and an increment is of 1 at least and of insertions that were made (section 4.4.3)
-unfoldable pub strict_hear : Table → DecoderInstruction → Result Table HearingRefusal
-strict_hear t (Acknowledgment stream) =
-    or_unknown stream (apply_decoder_instruction t (Acknowledgment stream))
-    >>= λ u. Ok (known_at_least (unwrap_or (oldest_required stream t.unacknowledged) 0) u)
-strict_hear t (Cancellation stream) = or_unknown stream (apply_decoder_instruction t (Cancellation stream))
-strict_hear t (Increment by) =
-    if nat_eq by 0 then Err ZeroIncrement
-    else if nat_lt (insert_count t) (t.known_received_count + by) then Err (PastInsertions by)
-    else Ok (with_increment t by)
+-- what a strict encoder makes of an instruction, and why it refuses one
+pub use Rattle.qpack_spec.specs.StrictInstructions.{HearingRefusal, ZeroIncrement, PastInsertions, UnknownStream}
+pub use Rattle.qpack_spec.specs.StrictInstructions.{or_unknown, known_at_least}
+unfoldable pub use Rattle.qpack_spec.specs.StrictInstructions.{strict_hear}
 
 -- the refusal that an error tells
 abbrev pub refusal_of : HearingError → Option HearingRefusal

@@ -19,19 +19,11 @@ use Rattle.qpack_connection.specs.Places.{first_place, passed, behind}
 use Rattle.qpack_connection.specs.declared.place.Place.{Place}
 use Rattle.qpack_connection.specs.declared.receiving.EncoderStreamError.{EncoderStreamError}
 use Rattle.qpack_connection.specs.declared.receiving.EncoderStreamError.TheVariants.{Refused, Memory}
-
 -- ---- one instruction
 
--- whether an instruction inserts a field that it spells (sections 4.3.2 and 4.3.3)
-abbrev pub inserts : EncoderInstruction → Bool
-inserts (InsertStaticName index value) = true
-inserts (InsertDynamicName relative value) = true
-inserts (InsertLiteralName name value) = true
-inserts i = false
-
--- what a strict decoder makes of an instruction: at capacity 0 no insertion is lawful (section 3.2.2)
-unfoldable pub strict_apply : Table → EncoderInstruction → Result Table TableRefusal
-strict_apply t i = if nat_eq t.capacity 0 && inserts i then Err DoesNotFit else apply_encoder_instruction t i
+-- what a strict decoder makes of an instruction, and which of them insert
+pub use Rattle.qpack_spec.specs.StrictInstructions.{inserts}
+unfoldable pub use Rattle.qpack_spec.specs.StrictInstructions.{strict_apply}
 
 -- the bytes begin such an insertion: their first bits are 01, 10 or 11 (sections 4.3.2 and 4.3.3)
 abbrev pub begins_insertion : List ℕ → Bool
