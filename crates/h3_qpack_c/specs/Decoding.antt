@@ -1,0 +1,91 @@
+-- What the calls of a decoding end do in C.
+use Rattle.std.specs.Prelude.{◌≡◌, ◌<◌, ◌^◌, ◌-◌, ℕ, ℤ, ⊤, min}
+use Rattle.std.specs.Prelude.{List, length, take, drop, Option, None, Some, Result, Ok, Err}
+use Rattle.std.specs.Option.{IfSome}
+use Rattle.qpack_spec.specs.Field.{FieldLine}
+use Rattle.qpack_spec.specs.StrictReading.{strict_reading}
+use Rattle.qpack_spec.specs.Table.{Table, window}
+use Rattle.qpack_connection.specs.declared.decoder.DecodingError.{DecodingError}
+use Rattle.qpack_connection.specs.declared.decoder.DecodingError.TheVariants.{EncoderStream, Section}
+use Rattle.qpack_connection.specs.declared.section.SectionError.TheVariants.{Line}
+use Rattle.qpack_connection.specs.declared.section.Reading.{Reading}
+use Rattle.qpack_connection.specs.declared.section.Reading.TheVariants.{Fields, Blocked}
+use Rattle.qpack_connection.specs.Decoders.{Decodes, Cancels, ReceivesBytes}
+use Rattle.qpack_connection.specs.Receiving.{Receives}
+use Rattle.h3_qpack_c.specs.declared.answers.Decoding.{Decoding}
+use Rattle.h3_qpack_c.specs.declared.answers.Received.{Received}
+use Rattle.h3_qpack_c.specs.declared.decoder.State.{State}
+use Rattle.h3_qpack_c.specs.Crossing.{written_over}
+use Rattle.h3_qpack_c.specs.Statuses.{done, blocked, of_decoding, of_decoding_call}
+
+-- the settings that an end takes
+abbrev pub InRange : ℕ → ℕ → Type 0
+InRange max_capacity max_blocked = (max_capacity < 2 ^ 30) × (max_blocked < 65535)
+
+-- what is told of a section that is refused: the status, and where a line was refused
+abbrev pub told_of_refusal : DecodingError → Decoding
+told_of_refusal (Section stream (Line number offset e)) =
+    record {
+      status = of_decoding (Section stream (Line number offset e));
+      fields = 0;
+      required = 0;
+      number = number;
+      offset = offset;
+    }
+told_of_refusal e = record { status = of_decoding e; fields = 0; required = 0; number = 0; offset = 0 }
+
+-- what is told of a section that has these fields
+abbrev pub told_of_decoding : Result Reading DecodingError → List FieldLine → Decoding
+told_of_decoding (Ok (Fields required)) fields =
+    record { status = done; fields = length fields; required = required; number = 0; offset = 0 }
+told_of_decoding (Ok (Blocked required)) fields =
+    record { status = blocked; fields = 0; required = required; number = 0; offset = 0 }
+told_of_decoding (Err e) fields = told_of_refusal e
+
+-- a section is decoded as the end does it, and its fields are kept; where there are none, none are
+pub record DecodesTo (old new : State) (stream : ℕ) (bytes : List ℕ) (told : Decoding) : Type 0 where
+  pub answer : Result Reading DecodingError
+  pub decodes : Decodes old.end new.end stream
+      (strict_reading (window old.end.table) old.end.settings.max_section_size bytes) new.fields answer
+  pub told_is : told ≡ told_of_decoding answer new.fields
+
+-- what is told of bytes of the encoder stream, of which so many were taken
+abbrev pub told_of_receiving : Result ℕ DecodingError → ℕ → Received
+told_of_receiving (Ok total) taken = record { status = done; taken = taken; number = 0; offset = 0 }
+told_of_receiving (Err (EncoderStream place e)) taken =
+    record {
+      status = of_decoding (EncoderStream place e);
+      taken = taken;
+      number = place.number;
+      offset = place.offset;
+    }
+told_of_receiving (Err e) taken = record { status = of_decoding e; taken = taken; number = 0; offset = 0 }
+
+-- bytes of the encoder stream are received as the end does it, of which some are left
+pub record ReceivesTo (old new : State) (bytes : List ℕ) (told : Received) : Type 0 where
+  pub answer : Result ℕ DecodingError
+  pub left : List ℕ
+  pub receives : old.end.failure ≡ None → (start : Table) (before : List ℕ)
+      → Receives start old.end.table before old.end.stream
+      → ReceivesBytes start before old.end new.end bytes left answer
+  pub ended : IfSome old.end.failure (λ e. (answer ≡ Err e) × (new.end ≡ old.end) × (left ≡ bytes))
+  pub fields : new.fields ≡ old.fields
+  pub told_is : told ≡ told_of_receiving answer (length bytes - length left)
+
+-- a stream that can be decoded now is told, and a 1 is answered; or there is none, and a 0 is
+abbrev pub TellsReady : Option ℕ → ℕ → ℕ → ℕ → Type 0
+TellsReady None old new told = (told ≡ 0) × (new ≡ old)
+TellsReady (Some stream) old new told = (told ≡ 1) × (new ≡ stream)
+
+-- a front of the decoder stream, as much as the caller's memory has room for, is copied there, and dropped
+pub record TakesStream (old new : State) (before after : List ℕ) (taken : ℕ) : Type 0 where
+  pub taken_is : taken ≡ min (length old.end.unsent) (length before)
+  pub copied_is : after ≡ written_over (take taken old.end.unsent) before
+  pub new_is : new ≡ record old { end = record old.end { unsent = drop taken old.end.unsent } }
+
+-- reading of a stream is given up as the end does it
+pub record CancelsTo (old new : State) (stream : ℕ) (status : ℤ) : Type 0 where
+  pub answer : Result ⊤ DecodingError
+  pub cancels : Cancels old.end new.end stream answer
+  pub fields : new.fields ≡ old.fields
+  pub status_is : status ≡ of_decoding_call answer

@@ -1,0 +1,57 @@
+-- What the calls of an encoding end do in C.
+use Rattle.std.specs.Prelude.{◌≡◌, ℕ, ℤ, ⊤, min, List, [], length, take, drop, None, Result, Ok, Err}
+use Rattle.std.specs.Option.{IfSome}
+use Rattle.qpack_spec.specs.Field.{FieldLine}
+use Rattle.qpack_spec.specs.Instruction.{DecoderInstruction}
+use Rattle.qpack_connection.specs.declared.encoder.EncodingError.{EncodingError}
+use Rattle.qpack_connection.specs.declared.encoder.EncodingError.TheVariants.{DecoderStream}
+use Rattle.qpack_connection.specs.Encoders.{Encodes, ReceivesBytes, SetsCapacity}
+use Rattle.qpack_connection.specs.Hearing.{Receives}
+use Rattle.h3_qpack_c.specs.declared.answers.Encoded.{Encoded}
+use Rattle.h3_qpack_c.specs.declared.answers.Received.{Received}
+use Rattle.h3_qpack_c.specs.declared.encoder.State.{State}
+use Rattle.h3_qpack_c.specs.Crossing.{copied, status_of_copy, written_over}
+use Rattle.h3_qpack_c.specs.Statuses.{done, of_encoding, of_encoding_call}
+
+-- what is told of an encoding, of which the section is these bytes, and the caller's memory these
+abbrev pub told_of_encoding : Result ℕ EncodingError → List ℕ → List ℕ → Encoded
+told_of_encoding (Ok required) section before =
+    record { status = status_of_copy section before; len = length section; required = required }
+told_of_encoding (Err e) section before = record { status = of_encoding e; len = 0; required = 0 }
+
+-- a section is encoded as the end does it, and is copied to the caller's memory if it fits; refused, there is none
+pub record EncodesTo (old new : State) (stream : ℕ) (fields : List FieldLine) (before after : List ℕ) (told : Encoded) :
+    Type 0 where
+  pub answer : Result ℕ EncodingError
+  pub encodes : Encodes old.end new.end stream fields [] new.section.items answer
+  pub copied_is : after ≡ copied new.section.items before
+  pub told_is : told ≡ told_of_encoding answer new.section.items before
+
+-- a front of the encoder stream, as much as the caller's memory has room for, is copied there, and dropped
+pub record TakesStream (old new : State) (before after : List ℕ) (taken : ℕ) : Type 0 where
+  pub taken_is : taken ≡ min (length old.end.unsent) (length before)
+  pub copied_is : after ≡ written_over (take taken old.end.unsent) before
+  pub new_is : new ≡ record old { end = record old.end { unsent = drop taken old.end.unsent } }
+
+-- what is told of so many bytes of the decoder stream
+abbrev pub told_of_hearing : Result ⊤ EncodingError → ℕ → Received
+told_of_hearing (Ok done_) len = record { status = done; taken = len; number = 0; offset = 0 }
+told_of_hearing (Err (DecoderStream e)) len =
+    record { status = of_encoding (DecoderStream e); taken = 0; number = e.place.number; offset = e.place.offset }
+told_of_hearing (Err e) len = record { status = of_encoding e; taken = 0; number = 0; offset = 0 }
+
+-- bytes of the decoder stream are received as the end does it
+pub record HearsTo (old new : State) (bytes : List ℕ) (told : Received) : Type 0 where
+  pub answer : Result ⊤ EncodingError
+  pub receives : old.end.failure ≡ None → (heard : List DecoderInstruction) (before : List ℕ)
+      → Receives heard before old.end.stream → ReceivesBytes heard before old.end new.end bytes answer
+  pub ended : IfSome old.end.failure (λ e. (answer ≡ Err e) × (new.end ≡ old.end))
+  pub section : new.section ≡ old.section
+  pub told_is : told ≡ told_of_hearing answer (length bytes)
+
+-- a capacity is set as the end does it
+pub record SetsCapacityTo (old new : State) (capacity : ℕ) (status : ℤ) : Type 0 where
+  pub answer : Result ⊤ EncodingError
+  pub sets : SetsCapacity old.end new.end capacity answer
+  pub section : new.section ≡ old.section
+  pub status_is : status ≡ of_encoding_call answer

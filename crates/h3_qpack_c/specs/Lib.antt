@@ -1,0 +1,6 @@
+pub mod Statuses
+pub mod Crossing
+pub mod Encoding
+pub mod Decoding
+pub mod EncoderFollows
+pub mod DecoderFollows

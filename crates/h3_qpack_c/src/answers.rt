@@ -1,0 +1,61 @@
+//! What calls answer beside a status.
+
+ghost use Rattle.std.specs.Prelude.{◌≡◌};
+
+/// What encoding answers.
+#[repr(C)]
+#[derive(Drop)]
+pub struct Encoded {
+    pub status: i32,
+    /// How many bytes the section has.
+    pub len: usize,
+    /// Its required insert count, 0 if it references no entry.
+    pub required: usize,
+}
+
+/// A status and a number of bytes.
+#[repr(C)]
+#[derive(Drop)]
+pub struct Written {
+    pub status: i32,
+    pub len: usize,
+}
+
+/// What receiving bytes of a stream answers.
+#[repr(C)]
+#[derive(Drop)]
+pub struct Received {
+    pub status: i32,
+    /// How many of the bytes were taken.
+    pub taken: usize,
+    /// Where an instruction was refused: its number on the stream, from 1, else 0.
+    pub number: u64,
+    /// And where it begins, in bytes from the stream's start.
+    pub offset: u64,
+}
+
+/// What decoding answers.
+#[repr(C)]
+#[derive(Drop)]
+pub struct Decoding {
+    pub status: i32,
+    /// How many fields there are.
+    pub fields: usize,
+    /// The required insert count of a section that was decoded or that waits.
+    pub required: usize,
+    /// Where a line was refused: its number in the section, from 1, else 0.
+    pub number: u64,
+    /// And where it begins, in bytes from the section's start.
+    pub offset: u64,
+}
+
+/// What is told of a field.
+#[repr(C)]
+#[derive(Drop)]
+pub struct Given {
+    pub status: i32,
+    /// The lowest bit says that the field is never to be indexed.
+    pub flags: u32,
+    pub name: usize,
+    pub value: usize,
+}

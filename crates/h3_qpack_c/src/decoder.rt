@@ -1,0 +1,318 @@
+//! The decoding end behind a handle.
+
+ghost use Rattle.h3_qpack_c.specs.declared.decoder.State.{State};
+ghost use Rattle.std.specs.Prelude.{◌≡◌, ◌<◌, ◌≤◌, ◌^◌, length, slice_get, IfOk, IfErr, [], ℕ};
+ghost use Rattle.qpack_spec.specs.Table.{insert_count};
+ghost use Rattle.qpack_connection.specs.Blocked.{ready};
+ghost use Rattle.qpack_connection.specs.Decoders.{Begins, FailsSettings};
+ghost use Rattle.h3_qpack_c.specs.Crossing.{Makes, Gives};
+ghost use Rattle.h3_qpack_c.specs.Decoding.{DecodesTo, ReceivesTo, CancelsTo, TakesStream, TellsReady, InRange};
+ghost use Rattle.h3_qpack_c.specs.Decoding.{told_of_refusal, told_of_receiving};
+
+use crate::answers::{Decoding, Given, Received};
+use crate::fields::{copy_front, give, no_field};
+use crate::statuses::{
+    BLOCKED, DONE, ENCODER_STREAM_ERROR, INVALID, NO_MEMORY, status_of_decoding,
+};
+use qpack_base::coding::Cursor;
+use qpack_connection::{
+    ConnectionDecoder, DecoderSettings, DecodingError, FieldSection, Reading, SectionError,
+    SettingsError,
+};
+use std::alloc::Global;
+use std::marker::Model;
+
+mod lend;
+
+use lend::state;
+
+/// A decoding end, and the fields of the section that it decoded last.
+#[derive(Drop)]
+pub struct State {
+    end: ConnectionDecoder,
+    fields: FieldSection,
+}
+
+/// A decoding end that C keeps.
+#[repr(C)]
+pub struct Handle {
+    at: *mut u8,
+    ghost value: { State },
+}
+
+impl Model for Handle {
+    ghost use Rattle.std.specs.Box.Ownership.{box_owns};
+    ghost use Rattle.libc.specs.Heap.{chunk};
+    ghost use Rattle.h3_qpack_c.specs.contracts.decoder.State.{the_row};
+
+    ghost also_owns = { λ h. box_owns chunk the_row h.at h.value };
+}
+
+impl Handle {
+    /// The end that a handle keeps.
+    fn into_box(self, alloc: Global) -> Box<State>
+        ensures { result.value ≡ self.value }
+    {
+        let Handle { at } = self;
+        unsafe { Box::from_raw(alloc, at as *mut State) }
+    }
+}
+
+/// An end at which nothing happened yet.
+fn begin(alloc: Global, settings: DecoderSettings) -> Result<State, SettingsError>
+    ensures ok { IfOk result (λ s. Begins settings s.end × (s.fields ≡ [])) }
+    ensures err { IfErr result (FailsSettings settings) }
+{
+    let end = ConnectionDecoder::new(alloc, settings)?;
+    Ok(State {
+        end,
+        fields: FieldSection::new(alloc),
+    })
+}
+
+/// Makes a decoding end that sends these settings: the greatest capacity in bytes, below 2^30, how many streams may be
+/// blocked, below 65,535, and the greatest sum of the sizes of a section's fields.
+#[unsafe(no_mangle)]
+pub extern "C" fn h3q_decoder_new(
+    alloc: Global,
+    max_capacity: usize,
+    max_blocked: usize,
+    max_section_size: u64,
+    out: &mut *mut u8,
+) -> i32
+    ensures { Makes (InRange max_capacity max_blocked) result out.old out.new }
+{
+    let settings = DecoderSettings {
+        max_capacity,
+        max_blocked,
+        max_section_size,
+    };
+    let Ok(state) = begin(alloc, settings) else {
+        return INVALID;
+    };
+    match Box::new(alloc, state) {
+        Ok(kept) => {
+            *out = Box::into_raw(kept) as *mut u8;
+            DONE
+        }
+        Err(_) => NO_MEMORY,
+    }
+}
+
+/// Frees a decoding end.
+#[unsafe(no_mangle)]
+pub extern "C" fn h3q_decoder_free(alloc: Global, handle: Handle) {
+    let _end = handle.into_box(alloc);
+}
+
+/// Decodes a section that came on a stream. Its fields are kept until the next call that decodes.
+#[unsafe(no_mangle)]
+pub extern "C" fn h3q_decoder_decode(handle: &mut Handle, stream: u64, section: &[u8]) -> Decoding
+    ensures { DecodesTo handle.old.value handle.new.value stream section.now result }
+{
+    let state = state(handle);
+    let answer = decode(state, stream, section);
+    answer
+}
+
+/// The same, of what a handle keeps.
+fn decode(state: &mut State, stream: u64, section: &[u8]) -> Decoding
+    ensures { DecodesTo state.old state.new stream section.now result }
+{
+    match state.end.decode(stream, section, &mut state.fields) {
+        Ok(Reading::Fields { required }) => decoded(DONE, state.fields.len(), required),
+        Ok(Reading::Blocked { required }) => decoded(BLOCKED, 0, required),
+        Err(error) => refused(&error),
+    }
+}
+
+/// What is told of a section that was read.
+fn decoded(status: i32, fields: usize, required: usize) -> Decoding
+    ensures { result ≡ record {
+      status = status;
+      fields = fields;
+      required = required;
+      number = 0;
+      offset = 0;
+    } }
+{
+    Decoding {
+        status,
+        fields,
+        required,
+        number: 0,
+        offset: 0,
+    }
+}
+
+/// What is told of a section that is refused.
+fn refused(error: &DecodingError) -> Decoding
+    ensures { result ≡ told_of_refusal error.now }
+{
+    let status = status_of_decoding(error);
+    let (number, offset) = match error {
+        DecodingError::Section {
+            error: SectionError::Line { number, offset, .. },
+            ..
+        } => (*number as u64, *offset as u64),
+        _ => (0, 0),
+    };
+    Decoding {
+        status,
+        fields: 0,
+        required: 0,
+        number,
+        offset,
+    }
+}
+
+/// Copies the name and the value of a field of the section that was decoded last to the caller's memory, one behind the
+/// other, if both fit.
+#[unsafe(no_mangle)]
+pub extern "C" fn h3q_decoder_field(handle: &mut Handle, index: usize, out: &mut [u8]) -> Given
+    ensures same { handle.new.value ≡ handle.old.value }
+    ensures gives { Gives (slice_get handle.old.value.fields index) out.old out.new result }
+{
+    let state = state(handle);
+    let answer = match state.fields.get(index) {
+        Some(field) => give(&field, out),
+        None => no_field(),
+    };
+    answer
+}
+
+/// Takes the next bytes of the encoder stream, cut anywhere.
+#[unsafe(no_mangle)]
+pub extern "C" fn h3q_decoder_read(handle: &mut Handle, bytes: &[u8]) -> Received
+    ensures { ReceivesTo handle.old.value handle.new.value bytes.now result }
+{
+    let state = state(handle);
+    let answer = read(state, bytes);
+    answer
+}
+
+/// The same, of what a handle keeps.
+fn read(state: &mut State, bytes: &[u8]) -> Received
+    ensures { ReceivesTo state.old state.new bytes.now result }
+{
+    let mut cursor = Cursor::new(bytes);
+    let answer = state.end.receive(&mut cursor);
+    received(&answer, bytes.len().saturating_sub(cursor.remaining()))
+}
+
+/// What is told of bytes of the encoder stream, of which so many were taken.
+fn received(answer: &Result<usize, DecodingError>, taken: usize) -> Received
+    ensures { result ≡ told_of_receiving answer.now taken }
+{
+    match answer {
+        Ok(_) => Received {
+            status: DONE,
+            taken,
+            number: 0,
+            offset: 0,
+        },
+        Err(DecodingError::EncoderStream { place, .. }) => Received {
+            status: ENCODER_STREAM_ERROR,
+            taken,
+            number: place.number,
+            offset: place.offset,
+        },
+        Err(error) => Received {
+            status: status_of_decoding(error),
+            taken,
+            number: 0,
+            offset: 0,
+        },
+    }
+}
+
+/// How many insertions were ever received.
+#[unsafe(no_mangle)]
+pub extern "C" fn h3q_decoder_insert_count(handle: &mut Handle) -> usize
+    ensures same { handle.new.value ≡ handle.old.value }
+    ensures exact { result ≡ insert_count handle.old.value.end.table }
+{
+    let state = state(handle);
+    let count = state.end.table().total_inserted();
+    count
+}
+
+/// How many streams are blocked.
+#[unsafe(no_mangle)]
+pub extern "C" fn h3q_decoder_blocked(handle: &mut Handle) -> usize
+    ensures same { handle.new.value ≡ handle.old.value }
+    ensures exact { result ≡ length handle.old.value.end.blocked }
+{
+    let state = state(handle);
+    let blocked = state.end.blocked();
+    blocked
+}
+
+/// Tells a blocked stream of which the section can be decoded now, if there is one: of those, the one that came to be
+/// blocked first.
+#[unsafe(no_mangle)]
+pub extern "C" fn h3q_decoder_next_ready(handle: &mut Handle, stream: &mut u64) -> u32
+    ensures same { handle.new.value ≡ handle.old.value }
+    ensures tells { TellsReady (ready (insert_count handle.old.value.end.table) handle.old.value.end.blocked)
+        stream.old stream.new result }
+{
+    let state = state(handle);
+    let ready = match state.end.next_ready() {
+        Some(number) => {
+            *stream = number;
+            1
+        }
+        None => 0,
+    };
+    ready
+}
+
+/// Takes as many bytes of the decoder stream as the caller's memory has room for, and answers their number.
+#[unsafe(no_mangle)]
+pub extern "C" fn h3q_decoder_stream(handle: &mut Handle, out: &mut [u8]) -> usize
+    ensures { TakesStream handle.old.value handle.new.value out.old out.new result }
+{
+    let state = state(handle);
+    let taken = take_stream(state, out);
+    taken
+}
+
+/// The same, of what a handle keeps.
+fn take_stream(state: &mut State, out: &mut [u8]) -> usize
+    ensures { TakesStream state.old state.new out.old out.new result }
+{
+    let taken = copy_front(state.end.decoder_stream(), out);
+    state.end.sent(taken);
+    taken
+}
+
+/// How many bytes of the decoder stream are to be taken.
+#[unsafe(no_mangle)]
+pub extern "C" fn h3q_decoder_stream_len(handle: &mut Handle) -> usize
+    ensures same { handle.new.value ≡ handle.old.value }
+    ensures exact { result ≡ length handle.old.value.end.unsent }
+{
+    let state = state(handle);
+    let len = state.end.decoder_stream().len();
+    len
+}
+
+/// Reading of a stream is given up, or it was reset.
+#[unsafe(no_mangle)]
+pub extern "C" fn h3q_decoder_cancel(handle: &mut Handle, stream: u64) -> i32
+    ensures { CancelsTo handle.old.value handle.new.value stream result }
+{
+    let state = state(handle);
+    let status = cancel(state, stream);
+    status
+}
+
+/// The same, of what a handle keeps.
+fn cancel(state: &mut State, stream: u64) -> i32
+    ensures { CancelsTo state.old state.new stream result }
+{
+    match state.end.cancel(stream) {
+        Ok(()) => DONE,
+        Err(error) => status_of_decoding(&error),
+    }
+}

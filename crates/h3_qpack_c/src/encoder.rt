@@ -1,0 +1,258 @@
+//! The encoding end behind a handle.
+
+ghost use Rattle.h3_qpack_c.specs.declared.encoder.State.{State};
+ghost use Rattle.std.specs.Prelude.{◌≡◌, ◌<◌, ◌≤◌, ◌^◌, pos, length, map, IfOk, IfErr, ℤ};
+ghost use Rattle.qpack_connection.specs.Encoders.{Starts};
+ghost use Rattle.qpack_connection.specs.declared.decoder.SettingsError.TheVariants.{CapacityTooLarge};
+ghost use Rattle.h3_qpack_c.specs.Crossing.{line_of_lent, copied, told_of_copy, Makes};
+ghost use Rattle.h3_qpack_c.specs.Encoding.{EncodesTo, HearsTo, SetsCapacityTo, TakesStream, told_of_hearing};
+
+use crate::answers::{Encoded, Received, Written};
+use crate::fields::{Field, copy_front, write};
+use crate::statuses::{DECODER_STREAM_ERROR, DONE, INVALID, NO_MEMORY, status_of_encoding};
+use qpack_base::coding::Cursor;
+use qpack_connection::{ConnectionEncoder, EncoderSettings, EncodingError, SettingsError};
+use std::alloc::Global;
+use std::marker::Model;
+
+mod lend;
+
+use lend::state;
+
+/// An encoding end, and the section that it encoded last.
+#[derive(Drop)]
+pub struct State {
+    end: ConnectionEncoder,
+    section: Vec<u8>,
+}
+
+/// An encoding end that C keeps.
+#[repr(C)]
+pub struct Handle {
+    at: *mut u8,
+    ghost value: { State },
+}
+
+impl Model for Handle {
+    ghost use Rattle.std.specs.Box.Ownership.{box_owns};
+    ghost use Rattle.libc.specs.Heap.{chunk};
+    ghost use Rattle.h3_qpack_c.specs.contracts.encoder.State.{the_row};
+
+    ghost also_owns = { λ h. box_owns chunk the_row h.at h.value };
+}
+
+impl Handle {
+    /// The end that a handle keeps.
+    fn into_box(self, alloc: Global) -> Box<State>
+        ensures { result.value ≡ self.value }
+    {
+        let Handle { at } = self;
+        unsafe { Box::from_raw(alloc, at as *mut State) }
+    }
+}
+
+/// An end at which nothing happened yet.
+fn begin(alloc: Global, settings: EncoderSettings) -> Result<State, SettingsError>
+    ensures ok { IfOk result (λ s. Starts settings s.end) }
+    ensures err { IfErr result (λ e. (e ≡ CapacityTooLarge) × (2 ^ 30 ≤ settings.max_capacity)) }
+{
+    let end = ConnectionEncoder::new(alloc, settings)?;
+    Ok(State {
+        end,
+        section: Vec::new(alloc),
+    })
+}
+
+/// Makes an encoding end for a peer that sent these settings, its maximum capacity in bytes, below 2^30, and its limit
+/// of blocked streams; with the capacity that is wanted, and how many sections may wait for acknowledgments.
+#[unsafe(no_mangle)]
+pub extern "C" fn h3q_encoder_new(
+    alloc: Global,
+    max_capacity: usize,
+    max_blocked: usize,
+    capacity: usize,
+    most_unacknowledged: usize,
+    out: &mut *mut u8,
+) -> i32
+    ensures { Makes (max_capacity < 2 ^ 30) result out.old out.new }
+{
+    let settings = EncoderSettings {
+        max_capacity,
+        max_blocked,
+        capacity,
+        most_unacknowledged,
+    };
+    let Ok(state) = begin(alloc, settings) else {
+        return INVALID;
+    };
+    match Box::new(alloc, state) {
+        Ok(kept) => {
+            *out = Box::into_raw(kept) as *mut u8;
+            DONE
+        }
+        Err(_) => NO_MEMORY,
+    }
+}
+
+/// Frees an encoding end.
+#[unsafe(no_mangle)]
+pub extern "C" fn h3q_encoder_free(alloc: Global, handle: Handle) {
+    let _end = handle.into_box(alloc);
+}
+
+/// Encodes fields for a stream, and copies the section to the caller's memory if it fits there; it is kept until the
+/// next call that encodes.
+#[unsafe(no_mangle)]
+pub extern "C" fn h3q_encoder_encode(
+    handle: &mut Handle,
+    stream: u64,
+    fields: &[Field],
+    section: &mut [u8],
+) -> Encoded
+    ensures { EncodesTo handle.old.value handle.new.value stream (map line_of_lent fields.now) section.old section.new
+        result }
+{
+    let state = state(handle);
+    let answer = encode(state, stream, fields, section);
+    answer
+}
+
+/// The same, of what a handle keeps.
+fn encode(state: &mut State, stream: u64, fields: &[Field], section: &mut [u8]) -> Encoded
+    ensures { EncodesTo state.old state.new stream (map line_of_lent fields.now) section.old section.new result }
+{
+    state.section.clear();
+    match state.end.encode(stream, fields, &mut state.section) {
+        Ok(required) => {
+            let Written { status, len } = write(&state.section, section);
+            Encoded {
+                status,
+                len,
+                required,
+            }
+        }
+        Err(error) => Encoded {
+            status: status_of_encoding(&error),
+            len: 0,
+            required: 0,
+        },
+    }
+}
+
+/// Copies the section that was encoded last to the caller's memory, if it fits.
+#[unsafe(no_mangle)]
+pub extern "C" fn h3q_encoder_section(handle: &mut Handle, section: &mut [u8]) -> Written
+    ensures same { handle.new.value ≡ handle.old.value }
+    ensures told { result ≡ told_of_copy handle.old.value.section.items section.old }
+    ensures copied { section.new ≡ copied handle.old.value.section.items section.old }
+{
+    let state = state(handle);
+    let answer = write(&state.section, section);
+    answer
+}
+
+/// Takes as many bytes of the encoder stream as the caller's memory has room for, and answers their number.
+#[unsafe(no_mangle)]
+pub extern "C" fn h3q_encoder_stream(handle: &mut Handle, out: &mut [u8]) -> usize
+    ensures { TakesStream handle.old.value handle.new.value out.old out.new result }
+{
+    let state = state(handle);
+    let taken = take_stream(state, out);
+    taken
+}
+
+/// The same, of what a handle keeps.
+fn take_stream(state: &mut State, out: &mut [u8]) -> usize
+    ensures { TakesStream state.old state.new out.old out.new result }
+{
+    let taken = copy_front(state.end.encoder_stream(), out);
+    state.end.sent(taken);
+    taken
+}
+
+/// How many bytes of the encoder stream are to be taken.
+#[unsafe(no_mangle)]
+pub extern "C" fn h3q_encoder_stream_len(handle: &mut Handle) -> usize
+    ensures same { handle.new.value ≡ handle.old.value }
+    ensures len { result ≡ length handle.old.value.end.unsent }
+{
+    let state = state(handle);
+    let len = state.end.encoder_stream().len();
+    len
+}
+
+/// Takes the next bytes of the decoder stream, cut anywhere.
+#[unsafe(no_mangle)]
+pub extern "C" fn h3q_encoder_read(handle: &mut Handle, bytes: &[u8]) -> Received
+    ensures { HearsTo handle.old.value handle.new.value bytes.now result }
+{
+    let state = state(handle);
+    let answer = read(state, bytes);
+    answer
+}
+
+/// The same, of what a handle keeps.
+fn read(state: &mut State, bytes: &[u8]) -> Received
+    ensures { HearsTo state.old state.new bytes.now result }
+{
+    let mut cursor = Cursor::new(bytes);
+    let answer = state.end.receive(&mut cursor);
+    heard(&answer, bytes.len())
+}
+
+/// What is told of bytes of the decoder stream.
+fn heard(answer: &Result<(), EncodingError>, len: usize) -> Received
+    ensures { result ≡ told_of_hearing answer.now len }
+{
+    match answer {
+        Ok(()) => Received {
+            status: DONE,
+            taken: len,
+            number: 0,
+            offset: 0,
+        },
+        Err(EncodingError::DecoderStream(error)) => Received {
+            status: DECODER_STREAM_ERROR,
+            taken: 0,
+            number: error.place.number,
+            offset: error.place.offset,
+        },
+        Err(error) => Received {
+            status: status_of_encoding(error),
+            taken: 0,
+            number: 0,
+            offset: 0,
+        },
+    }
+}
+
+/// Sets the capacity of the table, in bytes.
+#[unsafe(no_mangle)]
+pub extern "C" fn h3q_encoder_set_capacity(handle: &mut Handle, capacity: usize) -> i32
+    ensures { SetsCapacityTo handle.old.value handle.new.value capacity result }
+{
+    let state = state(handle);
+    let status = set_capacity(state, capacity);
+    status
+}
+
+/// The same, of what a handle keeps.
+fn set_capacity(state: &mut State, capacity: usize) -> i32
+    ensures { SetsCapacityTo state.old state.new capacity result }
+{
+    match state.end.set_capacity(capacity) {
+        Ok(()) => DONE,
+        Err(error) => status_of_encoding(&error),
+    }
+}
+
+/// How many sections may be blocked.
+#[unsafe(no_mangle)]
+pub extern "C" fn h3q_encoder_blocked(handle: &mut Handle) -> usize
+    ensures same { handle.new.value ≡ handle.old.value }
+    ensures exact { result ≡ length handle.old.value.end.table.blocked }
+{
+    let state = state(handle);
+    let blocked = state.end.blocked();
+    blocked
+}
