@@ -1,0 +1,200 @@
+/* Every call once where it succeeds, and each refusal; and two threads with ends of their own. */
+#include <pthread.h>
+#include "common.h"
+
+static uint8_t section[1 << 16], stream[1 << 16], bytes[256];
+
+static const h3_qpack_nv get = {(const uint8_t *)":method", 7, (const uint8_t *)"GET", 3, 0};
+static const h3_qpack_nv custom = {(const uint8_t *)"foo", 3, (const uint8_t *)"bar", 3, 0};
+static const h3_qpack_nv secret = {(const uint8_t *)"foo", 3, (const uint8_t *)"bar", 3, H3_QPACK_NV_FLAG_NEVER_INDEX};
+
+/* Null ends, null memory with a length, and lengths that are too great; null with a length of 0 is taken. */
+static void refuse_arguments(void) {
+  h3_qpack_encoder none = {NULL}, e;
+  h3_qpack_decoder nothing = {NULL}, d;
+  size_t much = (size_t)PTRDIFF_MAX + 1;
+  h3_qpack_nv null_name = {NULL, 0, (const uint8_t *)"", 0, 0};
+  uint64_t id = 7;
+  CHECK(h3_qpack_encoder_new(NULL, 0, 0) == H3_QPACK_ERR_INVALID);
+  CHECK(h3_qpack_decoder_new(NULL, 0, 0, 0) == H3_QPACK_ERR_INVALID);
+  CHECK(h3_qpack_encoder_new(&e, (size_t)1 << 30, 0) == H3_QPACK_ERR_INVALID && !e.at);
+  CHECK(h3_qpack_decoder_new(&d, (size_t)1 << 30, 0, 0) == H3_QPACK_ERR_INVALID && !d.at);
+  CHECK(h3_qpack_decoder_new(&d, 0, 65535, 0) == H3_QPACK_ERR_INVALID && !d.at);
+  CHECK(h3_qpack_encoder_encode(&none, 0, &get, 1, section, 9).status == H3_QPACK_ERR_INVALID);
+  CHECK(h3_qpack_encoder_section(NULL, section, 9).status == H3_QPACK_ERR_INVALID);
+  CHECK(h3_qpack_encoder_read_decoder(&none, NULL, 0).status == H3_QPACK_ERR_INVALID);
+  CHECK(h3_qpack_encoder_set_capacity(&none, 0) == H3_QPACK_ERR_INVALID);
+  CHECK(!h3_qpack_encoder_write_encoder(&none, section, 9) && !h3_qpack_encoder_get_encoder_streamlen(NULL));
+  CHECK(!h3_qpack_encoder_get_num_blocked(&none));
+  CHECK(h3_qpack_decoder_decode(&nothing, 0, section, 2).status == H3_QPACK_ERR_INVALID);
+  CHECK(h3_qpack_decoder_field(NULL, 0, section, 2).status == H3_QPACK_ERR_INVALID);
+  CHECK(h3_qpack_decoder_read_encoder(&nothing, NULL, 0).status == H3_QPACK_ERR_INVALID);
+  CHECK(h3_qpack_decoder_cancel_stream(&nothing, 0) == H3_QPACK_ERR_INVALID);
+  CHECK(!h3_qpack_decoder_write_decoder(&nothing, section, 2) && !h3_qpack_decoder_get_decoder_streamlen(&nothing));
+  CHECK(!h3_qpack_decoder_get_icnt(NULL) && !h3_qpack_decoder_get_num_blocked(&nothing));
+  CHECK(!h3_qpack_decoder_next_ready(&nothing, &id) && id == 7);
+  h3_qpack_encoder_del(NULL);
+  h3_qpack_encoder_del(&none);
+  h3_qpack_decoder_del(NULL);
+  h3_qpack_decoder_del(&nothing);
+
+  CHECK(!h3_qpack_encoder_new(&e, 4096, 1) && !h3_qpack_decoder_new(&d, 4096, 1, 100));
+  CHECK(h3_qpack_encoder_encode(&e, 0, NULL, 1, section, 9).status == H3_QPACK_ERR_INVALID);
+  CHECK(h3_qpack_encoder_encode(&e, 0, &null_name, 1, section, 9).status == H3_QPACK_ERR_INVALID);
+  CHECK(h3_qpack_encoder_encode(&e, 0, &get, 1, NULL, 1).status == H3_QPACK_ERR_INVALID);
+  CHECK(h3_qpack_encoder_encode(&e, 0, &get, 1, section, much).status == H3_QPACK_ERR_INVALID);
+  CHECK(h3_qpack_encoder_encode(&e, 0, &get, much, section, 9).status == H3_QPACK_ERR_INVALID);
+  CHECK(h3_qpack_encoder_encode(&e, (uint64_t)1 << 62, &get, 1, section, 9).status == H3_QPACK_ERR_INVALID);
+  CHECK(!h3_qpack_encoder_get_encoder_streamlen(&e));
+  CHECK(h3_qpack_encoder_read_decoder(&e, NULL, 1).status == H3_QPACK_ERR_INVALID);
+  CHECK(h3_qpack_encoder_read_decoder(&e, NULL, 0).status == H3_QPACK_OK);
+  CHECK(h3_qpack_encoder_set_capacity(&e, 4097) == H3_QPACK_ERR_INVALID);
+  CHECK(h3_qpack_decoder_decode(&d, 0, NULL, 1).status == H3_QPACK_ERR_INVALID);
+  CHECK(h3_qpack_decoder_decode(&d, (uint64_t)1 << 62, section, 0).status == H3_QPACK_ERR_INVALID);
+  CHECK(h3_qpack_decoder_cancel_stream(&d, (uint64_t)1 << 62) == H3_QPACK_ERR_INVALID);
+  CHECK(h3_qpack_decoder_field(&d, 0, bytes, sizeof bytes).status == H3_QPACK_ERR_INVALID);
+  CHECK(!h3_qpack_decoder_next_ready(&d, NULL));
+  CHECK(h3_qpack_encode_stateless(NULL, 1, section, 9).status == H3_QPACK_ERR_INVALID);
+  h3_qpack_encoder_del(&e);
+  h3_qpack_encoder_del(&e);
+  h3_qpack_decoder_del(&d);
+  h3_qpack_decoder_del(&d);
+}
+
+/* Memory that is too small changes nothing in it, and what was made is had by a second call. */
+static void ask_for_room(void) {
+  h3_qpack_encoder e;
+  h3_qpack_decoder d;
+  CHECK(!h3_qpack_encoder_new(&e, 0, 0) && !h3_qpack_decoder_new(&d, 0, 0, 100));
+  memset(section, 0xee, 4);
+  h3_qpack_encoded a = h3_qpack_encoder_encode(&e, 0, &get, 1, section, 2);
+  CHECK(a.status == H3_QPACK_ERR_NO_ROOM && a.len == 3 && !a.required && section[0] == 0xee && section[1] == 0xee);
+  h3_qpack_written w = h3_qpack_encoder_section(&e, NULL, 0);
+  CHECK(w.status == H3_QPACK_ERR_NO_ROOM && w.len == 3);
+  w = h3_qpack_encoder_section(&e, section, 4);
+  CHECK(w.status == H3_QPACK_OK && w.len == 3 && !memcmp(section, "\0\0\xd1\xee", 4));
+  h3_qpack_decoded r = h3_qpack_decoder_decode(&d, 0, section, 3);
+  CHECK(r.status == H3_QPACK_OK && r.fields == 1 && !r.required);
+  memset(bytes, 0xee, 11);
+  h3_qpack_field f = h3_qpack_decoder_field(&d, 0, bytes, 9);
+  CHECK(f.status == H3_QPACK_ERR_NO_ROOM && f.namelen == 7 && f.valuelen == 3 && !f.flags && bytes[0] == 0xee);
+  f = h3_qpack_decoder_field(&d, 0, bytes, 11);
+  CHECK(f.status == H3_QPACK_OK && !memcmp(bytes, ":methodGET\xee", 11));
+  CHECK(h3_qpack_decoder_field(&d, 1, bytes, 11).status == H3_QPACK_ERR_INVALID);
+  a = h3_qpack_encoder_encode(&e, 4, &secret, 1, section, sizeof section);
+  CHECK(a.status == H3_QPACK_OK && section[2] & 0x10);
+  r = h3_qpack_decoder_decode(&d, 4, section, a.len);
+  CHECK(r.status == H3_QPACK_OK && r.fields == 1);
+  check_field(&d, 0, &secret);
+  w = h3_qpack_encode_stateless(&get, 1, section, 2);
+  CHECK(w.status == H3_QPACK_ERR_NO_ROOM && w.len == 3);
+  w = h3_qpack_encode_stateless(&get, 1, section, 3);
+  CHECK(w.status == H3_QPACK_OK && !memcmp(section, "\0\0\xd1", 3));
+  CHECK(h3_qpack_encoder_encode(&e, 8, NULL, 0, section, 2).len == 2);
+  h3_qpack_encoder_del(&e);
+  h3_qpack_decoder_del(&d);
+}
+
+/* What ends a connection: the code, where the fault stood, and the same answer from then on. */
+static void end_connections(void) {
+  h3_qpack_encoder e;
+  h3_qpack_decoder d;
+  CHECK(!h3_qpack_encoder_new(&e, 4096, 1));
+  h3_qpack_received r = h3_qpack_encoder_read_decoder(&e, (const uint8_t *)"\x44\x84", 2);
+  CHECK(r.status == H3_QPACK_DECODER_STREAM_ERROR && r.number == 2 && r.offset == 1);
+  CHECK(h3_qpack_encoder_encode(&e, 0, &get, 1, section, 9).status == H3_QPACK_DECODER_STREAM_ERROR);
+  CHECK(h3_qpack_encoder_set_capacity(&e, 0) == H3_QPACK_DECODER_STREAM_ERROR);
+  h3_qpack_encoder_del(&e);
+  CHECK(!h3_qpack_decoder_new(&d, 4096, 1, 100));
+  r = h3_qpack_decoder_read_encoder(&d, (const uint8_t *)"\x3f\xe1\x1f\x02", 4);
+  CHECK(r.status == H3_QPACK_ENCODER_STREAM_ERROR && r.number == 2 && r.offset == 3);
+  CHECK(h3_qpack_decoder_decode(&d, 0, (const uint8_t *)"\0\0\xd1", 3).status == H3_QPACK_ENCODER_STREAM_ERROR);
+  CHECK(h3_qpack_decoder_cancel_stream(&d, 0) == H3_QPACK_ENCODER_STREAM_ERROR);
+  h3_qpack_decoder_del(&d);
+  CHECK(!h3_qpack_decoder_new(&d, 4096, 1, 100));
+  h3_qpack_decoded a = h3_qpack_decoder_decode(&d, 0, (const uint8_t *)"\0\0\xd1\xff\x3f", 5);
+  CHECK(a.status == H3_QPACK_DECOMPRESSION_FAILED && a.number == 2 && a.offset == 3 && !a.fields);
+  h3_qpack_decoder_del(&d);
+  CHECK(!h3_qpack_decoder_new(&d, 4096, 1, 50));
+  CHECK(h3_qpack_decoder_decode(&d, 0, (const uint8_t *)"\0\0\xd1\xd1", 4).status == H3_QPACK_ERR_TOO_LARGE);
+  CHECK(h3_qpack_decoder_decode(&d, 0, (const uint8_t *)"\0\0\xd1", 3).status == H3_QPACK_OK);
+  h3_qpack_decoder_del(&d);
+}
+
+/* A section that waits, one that would be one too many, and a stream that is given up. */
+static void wait_for_insertions(void) {
+  h3_qpack_encoder e;
+  h3_qpack_decoder d;
+  uint64_t id = 0;
+  CHECK(!h3_qpack_encoder_new(&e, 4096, 2) && !h3_qpack_decoder_new(&d, 4096, 1, 100));
+  h3_qpack_encoded a = h3_qpack_encoder_encode(&e, 4, &custom, 1, section, sizeof section);
+  CHECK(a.status == H3_QPACK_OK && a.required == 1 && h3_qpack_encoder_get_num_blocked(&e) == 1);
+  size_t len = h3_qpack_encoder_get_encoder_streamlen(&e);
+  CHECK(h3_qpack_encoder_write_encoder(&e, stream, 3) == 3 && h3_qpack_encoder_get_encoder_streamlen(&e) == len - 3);
+  CHECK(h3_qpack_encoder_write_encoder(&e, stream + 3, sizeof stream - 3) == len - 3);
+  h3_qpack_decoded r = h3_qpack_decoder_decode(&d, 4, section, a.len);
+  CHECK(r.status == H3_QPACK_BLOCKED && r.required == 1 && !r.fields && h3_qpack_decoder_get_num_blocked(&d) == 1);
+  CHECK(h3_qpack_encoder_set_capacity(&e, 0) == H3_QPACK_ERR_HELD);
+  CHECK(!h3_qpack_decoder_next_ready(&d, &id));
+  h3_qpack_received t = h3_qpack_decoder_read_encoder(&d, stream, len);
+  CHECK(t.status == H3_QPACK_OK && t.taken == len && h3_qpack_decoder_get_icnt(&d) == 1);
+  CHECK(h3_qpack_decoder_next_ready(&d, &id) && id == 4);
+  r = h3_qpack_decoder_decode(&d, 4, section, a.len);
+  CHECK(r.status == H3_QPACK_OK && r.fields == 1 && r.required == 1 && !h3_qpack_decoder_get_num_blocked(&d));
+  check_field(&d, 0, &custom);
+  len = h3_qpack_decoder_get_decoder_streamlen(&d);
+  CHECK(len == 2 && h3_qpack_decoder_write_decoder(&d, stream, 1) == 1);
+  CHECK(h3_qpack_decoder_write_decoder(&d, stream + 1, 9) == 1 && !memcmp(stream, "\x01\x84", 2));
+  CHECK(h3_qpack_encoder_read_decoder(&e, stream, len).status == H3_QPACK_OK && !h3_qpack_encoder_get_num_blocked(&e));
+  CHECK(h3_qpack_encoder_set_capacity(&e, 0) == H3_QPACK_OK);
+  static const uint8_t waits[] = {0x03, 0x00, 0x80};
+  CHECK(h3_qpack_decoder_decode(&d, 8, waits, 3).status == H3_QPACK_BLOCKED);
+  CHECK(h3_qpack_decoder_cancel_stream(&d, 8) == H3_QPACK_OK && !h3_qpack_decoder_get_num_blocked(&d));
+  CHECK(h3_qpack_decoder_write_decoder(&d, stream, 9) == 1 && stream[0] == 0x48);
+  CHECK(h3_qpack_decoder_decode(&d, 12, waits, 3).status == H3_QPACK_BLOCKED);
+  CHECK(h3_qpack_decoder_decode(&d, 16, waits, 3).status == H3_QPACK_DECOMPRESSION_FAILED);
+  h3_qpack_encoder_del(&e);
+  h3_qpack_decoder_del(&d);
+}
+
+/* A thread's own connection, over all lists. */
+static void *run_connection(void *rounds) {
+  static _Thread_local uint8_t own[1 << 16], instructions[1 << 16];
+  for (int round = 0; round < *(int *)rounds; round++) {
+    h3_qpack_encoder e;
+    h3_qpack_decoder d;
+    CHECK(!h3_qpack_encoder_new(&e, 4096, 100) && !h3_qpack_decoder_new(&d, 4096, 100, 1 << 20));
+    for (size_t i = 0; i < nlists; i++) {
+      h3_qpack_encoded a = h3_qpack_encoder_encode(&e, 4 * i, lists[i].nv, lists[i].len, own, sizeof own);
+      CHECK(a.status == H3_QPACK_OK);
+      size_t len = h3_qpack_encoder_write_encoder(&e, instructions, sizeof instructions);
+      CHECK(h3_qpack_decoder_read_encoder(&d, instructions, len).status == H3_QPACK_OK);
+      h3_qpack_decoded r = h3_qpack_decoder_decode(&d, 4 * i, own, a.len);
+      CHECK(r.status == H3_QPACK_OK && r.fields == lists[i].len);
+      for (size_t k = 0; k < lists[i].len; k++) check_field(&d, k, &lists[i].nv[k]);
+      len = h3_qpack_decoder_write_decoder(&d, instructions, sizeof instructions);
+      CHECK(h3_qpack_encoder_read_decoder(&e, instructions, len).status == H3_QPACK_OK);
+    }
+    h3_qpack_encoder_del(&e);
+    h3_qpack_decoder_del(&d);
+  }
+  return NULL;
+}
+
+int main(int argc, char **argv) {
+  CHECK(argc == 2);
+  read_corpus(argv[1], 0);
+  add_random_lists(50);
+  CHECK(h3_qpack_version() == 65536);
+  refuse_arguments();
+  ask_for_room();
+  end_connections();
+  wait_for_insertions();
+  pthread_t threads[2];
+  int rounds = 20;
+  for (int i = 0; i < 2; i++) CHECK(!pthread_create(&threads[i], NULL, run_connection, &rounds));
+  for (int i = 0; i < 2; i++) CHECK(!pthread_join(threads[i], NULL));
+  printf("calls: every call and each refusal; two threads, %zu fields each %d times\n", nfields, rounds);
+  free_lists();
+  return 0;
+}

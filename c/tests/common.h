@@ -1,0 +1,128 @@
+/* What the tests share: the corpus, lists of fields at random, and a test that ends the program. */
+#ifndef COMMON_H
+#define COMMON_H
+
+#include <stdint.h>
+#include <stdio.h>
+#include <stdlib.h>
+#include <string.h>
+#include <nghttp3/nghttp3.h>
+#include "h3_qpack.h"
+
+#define CHECK(x) \
+  do { \
+    if (!(x)) { \
+      fprintf(stderr, "%s:%d: %s\n", __FILE__, __LINE__, #x); \
+      exit(1); \
+    } \
+  } while (0)
+
+/* A list of fields, as both libraries take it. */
+typedef struct {
+  h3_qpack_nv *nv;
+  nghttp3_nv *ng;
+  size_t len, room;
+} list;
+
+static list *lists;
+static size_t nlists, nfields;
+
+static uint64_t seed = 0x9e3779b97f4a7c15u;
+
+/* A number below |below|, the same in every run. */
+static inline size_t random_below(size_t below) {
+  seed ^= seed << 13;
+  seed ^= seed >> 7;
+  seed ^= seed << 17;
+  return (size_t)(seed % below);
+}
+
+static inline uint8_t *copy_of(const void *bytes, size_t len) {
+  uint8_t *copy = malloc(len ? len : 1);
+  CHECK(copy);
+  if (len) memcpy(copy, bytes, len);
+  return copy;
+}
+
+static inline void add_field(list *l, const void *name, size_t namelen, const void *value, size_t valuelen, int never) {
+  if (l->len == l->room) {
+    l->room = 2 * l->room + 8;
+    l->nv = realloc(l->nv, l->room * sizeof *l->nv);
+    l->ng = realloc(l->ng, l->room * sizeof *l->ng);
+    CHECK(l->nv && l->ng);
+  }
+  h3_qpack_nv nv = {copy_of(name, namelen), namelen, copy_of(value, valuelen), valuelen,
+                    (uint8_t)(never ? H3_QPACK_NV_FLAG_NEVER_INDEX : 0)};
+  nghttp3_nv ng = {(uint8_t *)nv.name, (uint8_t *)nv.value, namelen, valuelen,
+                   (uint8_t)(never ? NGHTTP3_NV_FLAG_NEVER_INDEX : NGHTTP3_NV_FLAG_NONE)};
+  l->nv[l->len] = nv;
+  l->ng[l->len++] = ng;
+  nfields++;
+}
+
+static inline list *add_list(void) {
+  lists = realloc(lists, (nlists + 1) * sizeof *lists);
+  CHECK(lists);
+  memset(&lists[nlists], 0, sizeof *lists);
+  return &lists[nlists++];
+}
+
+/* Reads a corpus: a field a line, its name and its value parted by a TAB, and an empty line behind each list. With
+ * |bodiless| it leaves out content-length, which messages without a body do not have. */
+static inline void read_corpus(const char *path, int bodiless) {
+  FILE *f = fopen(path, "rb");
+  CHECK(f);
+  static char line[1 << 16];
+  list *l = NULL;
+  while (fgets(line, sizeof line, f)) {
+    size_t len = strcspn(line, "\n");
+    if (!len) l = NULL;
+    if (!len || *line == '#') continue;
+    if (!l) l = add_list();
+    char *tab = memchr(line, '\t', len);
+    CHECK(tab);
+    size_t namelen = (size_t)(tab - line);
+    if (bodiless && namelen == 14 && !memcmp(line, "content-length", 14)) continue;
+    add_field(l, line, namelen, tab + 1, len - namelen - 1, 0);
+  }
+  fclose(f);
+}
+
+/* Adds lists of fields at random: few names, of which some are static, values that repeat, all bytes, some sensitive. */
+static inline void add_random_lists(size_t many) {
+  static const char *names[] = {":path", "cookie", "x", "x-long-name-that-is-not-static", "accept", "authorization", ""};
+  while (many--) {
+    list *l = add_list();
+    for (size_t left = random_below(12); left; left--) {
+      const char *name = names[random_below(sizeof names / sizeof *names)];
+      uint8_t value[300];
+      size_t valuelen = random_below(random_below(8) ? 20 : sizeof value), all = random_below(2);
+      for (size_t i = 0; i < valuelen; i++) value[i] = (uint8_t)(all ? random_below(256) : 'a' + random_below(3));
+      add_field(l, name, strlen(name), value, valuelen, !random_below(6));
+    }
+  }
+}
+
+static inline void free_lists(void) {
+  for (size_t i = 0; i < nlists; i++) {
+    for (size_t k = 0; k < lists[i].len; k++) {
+      free((void *)lists[i].nv[k].name);
+      free((void *)lists[i].nv[k].value);
+    }
+    free(lists[i].nv);
+    free(lists[i].ng);
+  }
+  free(lists);
+  lists = NULL;
+  nlists = nfields = 0;
+}
+
+/* A field of a decoder is this one. */
+static inline void check_field(h3_qpack_decoder *d, size_t index, const h3_qpack_nv *nv) {
+  static _Thread_local uint8_t bytes[1 << 16];
+  h3_qpack_field f = h3_qpack_decoder_field(d, index, bytes, sizeof bytes);
+  CHECK(f.status == H3_QPACK_OK && f.namelen == nv->namelen && f.valuelen == nv->valuelen && f.flags == nv->flags);
+  CHECK(!memcmp(bytes, nv->name, nv->namelen) && !memcmp(bytes + f.namelen, nv->value, nv->valuelen));
+}
+
+#endif
