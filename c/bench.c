@@ -1,5 +1,5 @@
-/* ns a field across the boundary, this library and nghttp3 in turn in one run over the corpus, the best of so many
- * rounds; and ns of calls that do nothing. What decoding gives is copied to the caller's memory here, and counted there. */
+/* bench CORPUS ROUNDS: ns a field across the boundary, this library and nghttp3 in turn in one run over the corpus, the
+ * best of so many rounds; and ns of calls that do nothing. Of both, what is decoded is copied to memory of the caller. */
 #include <time.h>
 #include "tests/common.h"
 
@@ -24,7 +24,8 @@ static times run_ours(size_t capacity) {
   h3_qpack_encoder e;
   h3_qpack_decoder d;
   times t = {0, 0};
-  CHECK(!h3_qpack_encoder_new_with(&e, capacity, 100, capacity, 1000) && !h3_qpack_decoder_new(&d, capacity, 100, 1 << 20));
+  CHECK(!h3_qpack_encoder_new_with(&e, capacity, 100, capacity, 1000));
+  CHECK(!h3_qpack_decoder_new(&d, capacity, 100, 1 << 20));
   for (size_t i = 0; i < nlists; i++) {
     double t0 = now();
     h3_qpack_encoded a = h3_qpack_encoder_encode(&e, 4 * i, lists[i].nv, lists[i].len, section, sizeof section);
@@ -68,7 +69,8 @@ static times run_theirs(size_t capacity) {
     nghttp3_buf_reset(&prefix);
     nghttp3_buf_reset(&lines);
     nghttp3_buf_reset(&instructions);
-    CHECK(!nghttp3_qpack_encoder_encode(e, &prefix, &lines, &instructions, (int64_t)(4 * i), lists[i].ng, lists[i].len));
+    CHECK(!nghttp3_qpack_encoder_encode(e, &prefix, &lines, &instructions, (int64_t)(4 * i), lists[i].ng,
+                                        lists[i].len));
     double t1 = now();
     size_t front = nghttp3_buf_len(&prefix), left = front + nghttp3_buf_len(&lines), fields = 0, at = 0;
     memcpy(section, prefix.pos, front);
@@ -146,9 +148,9 @@ int main(int argc, char **argv) {
       keep_best(&theirs, run_theirs(capacities[c]));
     }
     double n = (double)nfields;
-    printf("capacity %5zu: encode %4.0f ns a field, nghttp3 %4.0f (%.2f); decode %4.0f, nghttp3 %4.0f (%.2f)\n", capacities[c],
-           ours.encode / n, theirs.encode / n, ours.encode / theirs.encode, ours.decode / n, theirs.decode / n,
-           ours.decode / theirs.decode);
+    printf("capacity %5zu: encode %4.0f ns a field, nghttp3 %4.0f (%.2f); decode %4.0f, nghttp3 %4.0f (%.2f)\n",
+           capacities[c], ours.encode / n, theirs.encode / n, ours.encode / theirs.encode, ours.decode / n,
+           theirs.decode / n, ours.decode / theirs.decode);
   }
   time_boundary(rounds);
   free_lists();

@@ -8,7 +8,7 @@ cd "$(dirname "$0")"
 
 # Prints the packages that are wanted and not there.
 list_wanted() {
-    command -v cc >/dev/null || echo gcc
+    command -v cc >/dev/null || echo gcc libc6-dev
     command -v c++ >/dev/null || echo g++
     command -v make >/dev/null || echo make
     command -v pkg-config >/dev/null || echo pkg-config
@@ -34,7 +34,8 @@ install_wanted() {
 # Whether the archive is there, and no source of a crate below it is newer.
 is_built() {
     [ -f "$archive" ] || return 1
-    [ -z "$(find ../crates.txt ../crates/{qpack_*,h3_qpack*}/{src,specs,proofs} -newer "$archive" -print -quit 2>/dev/null)" ]
+    local sources=(../crates.txt ../crates/{qpack_*,h3_qpack*}/{src,specs,proofs})
+    [ -z "$(find "${sources[@]}" -newer "$archive" -print -quit 2>/dev/null)" ]
 }
 
 build_archive() {
@@ -88,16 +89,20 @@ run check_symbols
 cc -std=c99 -pedantic -Wall -Wextra -Werror examples/roundtrip.c $flags -o "$room/roundtrip"
 c++ -x c++ -std=c++11 -pedantic -Wall -Wextra -Werror -fsyntax-only $flags ../include/h3_qpack.h
 run "$room/roundtrip"
-for test in calls interop http3; do
-    compile "$test" "tests/$test.c" -O2
+for test in calls interop http3 memory; do
+    wraps=
+    [ "$test" != memory ] || wraps=-Wl,--wrap=malloc,--wrap=realloc
+    compile "$test" "tests/$test.c" -O2 $wraps
     run "$room/$test" "$corpus"
     cat "$room/told"
-    compile "$test.sanitized" "tests/$test.c" -g -fsanitize=address,undefined -fno-sanitize-recover
+    compile "$test.sanitized" "tests/$test.c" -g -fsanitize=address,undefined -fno-sanitize-recover $wraps
     run "$room/$test.sanitized" "$corpus"
 done
 with="with the address and undefined sanitizers"
 if command -v valgrind >/dev/null; then
-    run valgrind -q --error-exitcode=9 --leak-check=full --show-leak-kinds=all "$room/calls" "$corpus"
+    for test in calls memory; do
+        run valgrind -q --error-exitcode=9 --leak-check=full --show-leak-kinds=all "$room/$test" "$corpus"
+    done
     with="$with and valgrind"
 fi
 compile bench bench.c -O2

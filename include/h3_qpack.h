@@ -96,7 +96,8 @@ typedef struct h3_qpack_decoder { void *at; } h3_qpack_decoder;
 /* ---- The exports. Use the calls below, which test for null and for lengths that are too great. */
 
 uint32_t h3q_version(void);
-int32_t h3q_encoder_new(size_t max_capacity, size_t max_blocked, size_t capacity, size_t most_unacknowledged, void **at);
+int32_t h3q_encoder_new(size_t max_capacity, size_t max_blocked, size_t capacity, size_t most_unacknowledged,
+                        void **at);
 void h3q_encoder_free(h3_qpack_encoder encoder);
 h3_qpack_encoded h3q_encoder_encode(h3_qpack_encoder *encoder, uint64_t stream_id, const h3_qpack_nv *nva, size_t nvlen,
                                     uint8_t *section, size_t sectionlen);
@@ -129,7 +130,8 @@ static inline int h3q_are_fields(const h3_qpack_nv *nva, size_t nvlen) {
   size_t i;
   if ((!nva && nvlen) || nvlen > (size_t)PTRDIFF_MAX / sizeof *nva) return 0;
   for (i = 0; i < nvlen; i++)
-    if (!nva[i].name || !nva[i].value || nva[i].namelen > (size_t)PTRDIFF_MAX || nva[i].valuelen > (size_t)PTRDIFF_MAX)
+    if (!nva[i].name || !nva[i].value || nva[i].namelen > (size_t)PTRDIFF_MAX ||
+        nva[i].valuelen > (size_t)PTRDIFF_MAX)
       return 0;
   return 1;
 }
@@ -163,9 +165,9 @@ static inline void h3_qpack_encoder_del(h3_qpack_encoder *encoder) {
   }
 }
 
-/* Encodes fields for a stream, and writes the section to |section|. What it inserts is added to the encoder stream. With
- * H3_QPACK_ERR_NO_ROOM the fields are encoded: get the section by h3_qpack_encoder_section, with |len| bytes of memory,
- * before the next call that encodes. */
+/* Encodes fields for a stream, and writes the section to |section|. What it inserts is added to the encoder stream.
+ * With H3_QPACK_ERR_NO_ROOM the fields are encoded: get the section by h3_qpack_encoder_section, with |len| bytes of
+ * memory, before the next call that encodes. */
 static inline h3_qpack_encoded h3_qpack_encoder_encode(h3_qpack_encoder *encoder, uint64_t stream_id,
                                                        const h3_qpack_nv *nva, size_t nvlen, uint8_t *section,
                                                        size_t sectionlen) {
@@ -176,7 +178,8 @@ static inline h3_qpack_encoded h3_qpack_encoder_encode(h3_qpack_encoder *encoder
 }
 
 /* Writes the section that was encoded last once more. */
-static inline h3_qpack_written h3_qpack_encoder_section(h3_qpack_encoder *encoder, uint8_t *section, size_t sectionlen) {
+static inline h3_qpack_written h3_qpack_encoder_section(h3_qpack_encoder *encoder, uint8_t *section,
+                                                        size_t sectionlen) {
   h3_qpack_written invalid = {H3_QPACK_ERR_INVALID, 0};
   if (!H3Q_IS_END(encoder) || !H3Q_IS_MEMORY(section, sectionlen)) return invalid;
   return h3q_encoder_section(encoder, H3Q_LEND(uint8_t, section), sectionlen);
@@ -230,8 +233,8 @@ static inline void h3_qpack_decoder_del(h3_qpack_decoder *decoder) {
   }
 }
 
-/* Receives the next bytes of the encoder stream. Behind H3_QPACK_ERR_NO_MEMORY the bytes that were not |taken| are handed
- * in again, be it none. Afterwards h3_qpack_decoder_next_ready tells which sections wait no more. */
+/* Receives the next bytes of the encoder stream. Behind H3_QPACK_ERR_NO_MEMORY the bytes that were not |taken| are
+ * handed in again, be it none. Afterwards h3_qpack_decoder_next_ready tells which sections wait no more. */
 static inline h3_qpack_received h3_qpack_decoder_read_encoder(h3_qpack_decoder *decoder, const uint8_t *src,
                                                               size_t srclen) {
   h3_qpack_received invalid = {H3_QPACK_ERR_INVALID, 0, 0, 0};
@@ -239,10 +242,10 @@ static inline h3_qpack_received h3_qpack_decoder_read_encoder(h3_qpack_decoder *
   return h3q_decoder_read(decoder, H3Q_LEND(const uint8_t, src), srclen);
 }
 
-/* Decodes a whole section of a stream. Its fields can be had by h3_qpack_decoder_field until the next call that decodes.
- * A section that is blocked is not kept: hand it in again when h3_qpack_decoder_next_ready tells its stream. */
-static inline h3_qpack_decoded h3_qpack_decoder_decode(h3_qpack_decoder *decoder, uint64_t stream_id, const uint8_t *src,
-                                                       size_t srclen) {
+/* Decodes a whole section of a stream. Its fields can be had by h3_qpack_decoder_field until the next call that
+ * decodes. A section that is blocked is not kept: hand it in again when h3_qpack_decoder_next_ready tells its stream. */
+static inline h3_qpack_decoded h3_qpack_decoder_decode(h3_qpack_decoder *decoder, uint64_t stream_id,
+                                                       const uint8_t *src, size_t srclen) {
   h3_qpack_decoded invalid = {H3_QPACK_ERR_INVALID, 0, 0, 0, 0};
   if (!H3Q_IS_END(decoder) || !H3Q_IS_MEMORY(src, srclen)) return invalid;
   return h3q_decoder_decode(decoder, stream_id, H3Q_LEND(const uint8_t, src), srclen);
@@ -250,7 +253,8 @@ static inline h3_qpack_decoded h3_qpack_decoder_decode(h3_qpack_decoder *decoder
 
 /* Writes the field of this index, from 0, to |out|: its name, and its value right behind it, if both fit. The lengths
  * are told in any case. H3_QPACK_ERR_INVALID: there is no such field. */
-static inline h3_qpack_field h3_qpack_decoder_field(h3_qpack_decoder *decoder, size_t index, uint8_t *out, size_t outlen) {
+static inline h3_qpack_field h3_qpack_decoder_field(h3_qpack_decoder *decoder, size_t index, uint8_t *out,
+                                                    size_t outlen) {
   h3_qpack_field invalid = {H3_QPACK_ERR_INVALID, 0, 0, 0};
   if (!H3Q_IS_END(decoder) || !H3Q_IS_MEMORY(out, outlen)) return invalid;
   return h3q_decoder_field(decoder, index, H3Q_LEND(uint8_t, out), outlen);

@@ -88,9 +88,10 @@ static inline void read_corpus(const char *path, int bodiless) {
   fclose(f);
 }
 
-/* Adds lists of fields at random: few names, of which some are static, values that repeat, all bytes, some sensitive. */
+/* Adds lists of fields at random: few names, some of them static, values that repeat, all bytes, some sensitive. */
 static inline void add_random_lists(size_t many) {
-  static const char *names[] = {":path", "cookie", "x", "x-long-name-that-is-not-static", "accept", "authorization", ""};
+  static const char *names[] = {":path",  "cookie",        "x", "x-long-name-that-is-not-static",
+                                "accept", "authorization", ""};
   while (many--) {
     list *l = add_list();
     for (size_t left = random_below(12); left; left--) {

@@ -1,6 +1,6 @@
 /* A whole HTTP/3 connection in memory: nghttp3 at one end, and at the other a small framing that uses this library for
- * QPACK, as client and as server. A hundred requests with bodies each; bytes arrive in pieces at random, the QPACK streams
- * before the requests or behind them, and some streams are given up. */
+ * QPACK, as client and as server. A hundred requests with bodies each; bytes arrive in pieces at random, the QPACK
+ * streams before the requests or behind them, and some streams are given up. */
 #include "common.h"
 
 #define STREAMS 424
@@ -89,8 +89,8 @@ static int take_data(nghttp3_conn *conn, int64_t id, const uint8_t *data, size_t
   return 0;
 }
 
-static nghttp3_ssize give_body(nghttp3_conn *conn, int64_t id, nghttp3_vec *vec, size_t veccnt, uint32_t *flags, void *user,
-                               void *stream_user) {
+static nghttp3_ssize give_body(nghttp3_conn *conn, int64_t id, nghttp3_vec *vec, size_t veccnt, uint32_t *flags,
+                               void *user, void *stream_user) {
   (void)conn, (void)veccnt, (void)user, (void)stream_user;
   vec[0].base = body;
   vec[0].len = body_of(id);
@@ -277,7 +277,8 @@ static int turn(side *x) {
 }
 
 static void begin(side *x, int is_client, int is_late, size_t capacity, size_t blocked) {
-  static const nghttp3_callbacks callbacks = {.recv_header = take_header, .recv_data = take_data, .end_stream = end_stream};
+  static const nghttp3_callbacks callbacks = {
+      .recv_header = take_header, .recv_data = take_data, .end_stream = end_stream};
   nghttp3_settings settings;
   memset(x, 0, sizeof *x);
   x->is_client = is_client;
@@ -328,9 +329,10 @@ static void connect_both(int is_client, int is_late, size_t capacity, size_t blo
   }
   CHECK(x.heard_by_peer == REQUESTS && x.heard + x.given_up == REQUESTS);
   CHECK(!h3_qpack_decoder_get_num_blocked(&x.decoder));
+  CHECK(!capacity == !x.waited && (!is_client || !capacity || x.given_up));
   printf("http3: as %s, table %zu, limit %zu, %s: %d requests; %zu sections waited, %zu streams given up\n",
-         is_client ? "client" : "server", capacity, blocked, is_late ? "requests first" : "QPACK first", REQUESTS, x.waited,
-         x.given_up);
+         is_client ? "client" : "server", capacity, blocked, is_late ? "requests first" : "QPACK first", REQUESTS,
+         x.waited, x.given_up);
   nghttp3_conn_del(x.peer);
   h3_qpack_encoder_del(&x.encoder);
   h3_qpack_decoder_del(&x.decoder);

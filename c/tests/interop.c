@@ -1,5 +1,5 @@
-/* The corpus and lists at random, both ways with nghttp3 in one process, at five capacities and three limits. Streams are
- * cut at random; instructions come behind the section where |late|, so that sections wait; some streams are given up. */
+/* The corpus and lists at random, both ways with nghttp3 in one process, at five capacities and three limits. Streams
+ * are cut at random; where |late| instructions come behind sections, which then wait; some streams are given up. */
 #include "common.h"
 
 #define SECTION (1 << 16)
@@ -69,7 +69,8 @@ static void theirs_to_ours(size_t capacity, size_t limit, int late) {
   for (size_t i = 0; i < nlists; i++) {
     nghttp3_buf_reset(&prefix);
     nghttp3_buf_reset(&lines);
-    CHECK(!nghttp3_qpack_encoder_encode(e, &prefix, &lines, &instructions, (int64_t)(4 * i), lists[i].ng, lists[i].len));
+    CHECK(!nghttp3_qpack_encoder_encode(e, &prefix, &lines, &instructions, (int64_t)(4 * i), lists[i].ng,
+                                        lists[i].len));
     static uint8_t section[SECTION];
     size_t front = nghttp3_buf_len(&prefix), len = front + nghttp3_buf_len(&lines);
     CHECK(len <= sizeof section);
@@ -152,7 +153,8 @@ static void ours_to_theirs(size_t capacity, size_t limit, int late) {
   CHECK(waiting);
   for (size_t i = 0; i < nlists; i++) {
     static uint8_t section[SECTION], stream[SECTION];
-    h3_qpack_encoded a = h3_qpack_encoder_encode(&e, 4 * i, lists[i].nv, lists[i].len, section, random_below(2) ? 8 : SECTION);
+    size_t room = random_below(2) ? 8 : sizeof section;
+    h3_qpack_encoded a = h3_qpack_encoder_encode(&e, 4 * i, lists[i].nv, lists[i].len, section, room);
     if (a.status == H3_QPACK_ERR_NO_ROOM) CHECK(h3_qpack_encoder_section(&e, section, a.len).status == H3_QPACK_OK);
     else CHECK(a.status == H3_QPACK_OK);
     CHECK(h3_qpack_encoder_get_num_blocked(&e) <= limit || !a.required);
@@ -209,8 +211,9 @@ int main(int argc, char **argv) {
         theirs_to_ours(capacities[c], limits[l], late);
         ours_to_theirs(capacities[c], limits[l], late);
       }
-  printf("interop: %zu lists, %zu fields; %zu sections with nghttp3 both ways, %zu of them with the dynamic table, %zu that "
-         "waited, %zu given up; %zu bytes of encoder streams, %zu of decoder streams\n",
+  CHECK(dynamic && waited && cancelled);
+  printf("interop: %zu lists, %zu fields; %zu sections with nghttp3 both ways, %zu of them with the dynamic table, "
+         "%zu that waited, %zu given up; %zu bytes of encoder streams, %zu of decoder streams\n",
          nlists, nfields, sections, dynamic, waited, cancelled, encoder_bytes, decoder_bytes);
   free_lists();
   return 0;

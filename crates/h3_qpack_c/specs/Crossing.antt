@@ -37,8 +37,8 @@ flags_of f = if f.never_indexed then 1 else 0
 abbrev pub no_such_field : Given
 no_such_field = record { status = invalid; flags = 0; name = 0; value = 0 }
 
--- the field's name and value are copied to the caller's memory, one behind the other, if both fit, and their lengths are
--- told; or there is no such field
+-- the field's name and value are copied to the caller's memory, one behind the other, if both fit, and their lengths
+-- are told; or there is no such field
 abbrev pub Gives : Option FieldLine → List ℕ → List ℕ → Given → Type 0
 Gives None old new told = (told ≡ no_such_field) × (new ≡ old)
 Gives (Some f) old new told =

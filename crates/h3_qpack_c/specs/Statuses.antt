@@ -1,4 +1,5 @@
--- What calls answer in C: 0, below it what the connection outlives, above it the code that ends it (RFC 9204, section 6).
+-- What calls answer in C: 0, below it what the connection outlives, above it the code that ends it (RFC 9204, section
+-- 6).
 use Rattle.std.specs.Prelude.{ℤ, pos, negsuc, Result, Ok, Err, ⊤}
 use Rattle.qpack_connection.specs.declared.encoder.EncodingError.{EncodingError}
 use Rattle.qpack_connection.specs.declared.encoder.EncodingError.TheVariants.{DecoderStream, CapacityTooLarge}
