@@ -6,11 +6,11 @@ use Rattle.qpack_spec.specs.Field.{FieldLine}
 use Rattle.qpack_spec.specs.StrictReading.{strict_reading}
 use Rattle.qpack_spec.specs.Table.{Table, window}
 use Rattle.qpack_connection.specs.declared.decoder.DecodingError.{DecodingError}
-use Rattle.qpack_connection.specs.declared.decoder.DecodingError.TheVariants.{EncoderStream, Section}
+use Rattle.qpack_connection.specs.declared.decoder.DecodingError.TheVariants.{EncoderStream, Section, Memory}
 use Rattle.qpack_connection.specs.declared.section.SectionError.TheVariants.{Line}
 use Rattle.qpack_connection.specs.declared.section.Reading.{Reading}
 use Rattle.qpack_connection.specs.declared.section.Reading.TheVariants.{Fields, Blocked}
-use Rattle.qpack_connection.specs.Decoders.{Decodes, Cancels, ReceivesBytes}
+use Rattle.qpack_connection.specs.Decoders.{Decodes, Cancels, ReceivesBytes, AsksToDecode}
 use Rattle.qpack_connection.specs.Receiving.{Receives}
 use Rattle.h3_qpack_c.specs.declared.answers.Decoding.{Decoding}
 use Rattle.h3_qpack_c.specs.declared.answers.Received.{Received}
@@ -47,6 +47,7 @@ pub record DecodesTo (old new : State) (stream : ℕ) (bytes : List ℕ) (told :
   pub answer : Result Reading DecodingError
   pub decodes : Decodes old.end new.end stream
       (strict_reading (window old.end.table) old.end.settings.max_section_size bytes) new.fields answer
+  pub memory : answer ≡ Err Memory → AsksToDecode old.end stream bytes
   pub told_is : told ≡ told_of_decoding answer new.fields
 
 -- what is told of bytes of the encoder stream, of which so many were taken
