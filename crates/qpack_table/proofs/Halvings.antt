@@ -1,6 +1,5 @@
 -- A search that halves makes at most as many steps as its row's length has digits.
 use Rattle.std.proofs.Common.{◌≡◌, ℕ, suc, ◌+◌, ◌-◌, ◌*◌, ◌^◌, ◌<◌, ◌≤◌, inl, inr, ap, arith}
-use Rattle.std.specs.Prelude.{min}
 use Rattle.std.proofs.lemmas.Bool.{cases_lt}
 use Rattle.std.proofs.Math.Nat.{pow-suc, pow-le-pow_right, mul-le-mul_right}
 use Rattle.qpack_table.specs.Rows.{Counts}
@@ -36,7 +35,7 @@ pub record CountsHalved (n left old new : ℕ) : Type 0 where
   pub most : new ≤ old + steps
 
 pub counts_more : (n left less old now new : ℕ) → CountsHalved n left old now → 0 < left → less * 2 ≤ left
-    → new ≡ min (now + 1) (2 ^ 64 - 1) → now ≤ new → CountsHalved n less old new
+    → new ≤ now + 1 → now ≤ new → CountsHalved n less old new
 counts_more n left less old now new h some half raised grows =
     record {
       steps = suc h.steps;
@@ -51,3 +50,9 @@ counts_all n left old new h = (h.least, λ digits g. omega (arith, h.most, h.hal
 
 pub counts_fewer : (m n old new : ℕ) → m ≤ n → Counts m old new → Counts n old new
 counts_fewer m n old new h c = (c.0, λ digits g. c.1 digits (omega (arith, h, g)))
+
+-- where it ends in the middle
+pub counts_found : (n left old now new : ℕ) → CountsHalved n left old now → 0 < left → new ≤ now + 1 → now ≤ new
+    → Counts n old new
+counts_found n left old now new h some raised grows =
+    counts_all n 0 old new (counts_more n left 0 old now new h some (omega arith) raised grows)

@@ -13,12 +13,11 @@ pub mod Changes
 pub mod Halvings
 pub mod RowOrder
 pub mod RowSearches
-pub mod RowPositions
+pub mod RowSlots
 pub mod NewestEntries
 pub mod RowChanges
 pub mod HashedRows
 pub mod RowsChanges
-pub mod NameChains
 pub mod WholeIndexes
 pub mod Released
 pub mod Products

@@ -1,22 +1,32 @@
 -- The newest entry that passes, as the definitions find it.
 use Rattle.std.proofs.Common.{◌≡◌, ℕ, zero, suc, ◌+◌, ◌-◌, ◌<◌, ◌≤◌, Bool, true, false, [], ◌∷◌, List, length, get_or}
-use Rattle.std.proofs.Common.{Option, None, Some, refl, sym, ap, subst, ◌∙◌, arith}
+use Rattle.std.proofs.Common.{Option, None, Some, refl, sym, ap, subst, ◌∙◌, map, eqb, eqb-true, arith}
 use Rattle.std.specs.Prelude.{slice_index_or, Contains}
 use Rattle.std.specs.Option.{option_map}
 use Rattle.std.specs.Ordering.{is_eq}
-use Rattle.std.proofs.lemmas.List.{length-map}
+use Rattle.std.proofs.lemmas.List.{length-map, get_or_default, get_or-map}
+use Rattle.std.proofs.lemmas.Map.Steps.{length-le_from_distinct_below}
+use Rattle.std.proofs.lemmas.Map.Keys.{IsDistinct-from_apart}
+use Rattle.std.proofs.lemmas.Map.Views.{Contains-from_any}
+use Rattle.std.proofs.lemmas.Slice.Eq.{bytes_eq-Decides}
 use Rattle.std.proofs.lemmas.Option.{get_or_from_slice_get}
-use Rattle.qpack_spec.specs.Field.{Field, is_field}
+use Rattle.qpack_spec.specs.Field.{Field, is_field, has_name}
 use Rattle.qpack_spec.specs.Table as table
 use Rattle.qpack_spec.specs.Table.{Table, fields_in, later_position, last_position, newest_index}
-use Rattle.qpack_spec.proofs.Positions.{newest_found, same_field}
+use Rattle.qpack_spec.proofs.Positions.{newest_found, same_field, same_name}
 use Rattle.qpack_base.proofs.FieldOrder.{equal_is_field}
-use Rattle.qpack_table.specs.Tables.{entries_of}
-use Rattle.qpack_table.specs.Rows.{field_at, IsLiveIndex, IsRow, FindsNewest}
-use Rattle.qpack_table.specs.Indexes.{IsNewestIn}
+use Rattle.qpack_table.specs.Hashes.{position_among}
+use Rattle.qpack_table.specs.Tables.{entries_of, live_fields}
+use Rattle.qpack_table.specs.Rows.{field_at, part_of, part_at, IsLiveIndex, IsRow, FindsSlot}
+use Rattle.qpack_table.specs.Indexes.{home, AreRowsOf, HasSlotOf, FindsNewest, IsNewestIn}
 use Rattle.qpack_table.specs.declared.dynamic.entry.Entry.{Entry}
-use Rattle.qpack_table.proofs.RowOrder.{equal_when_same}
-use Rattle.qpack_table.proofs.RowPositions.{contained}
+use Rattle.qpack_table.specs.declared.dynamic.index.row.Part.{Part}
+use Rattle.qpack_table.specs.declared.dynamic.index.row.Part.TheVariants.{Name, Whole}
+use Rattle.qpack_table.specs.declared.dynamic.index.row.Row.{Row}
+use Rattle.qpack_table.specs.declared.dynamic.index.row.Slot.{Slot}
+use Rattle.qpack_table.proofs.RowOrder.{equal_when_same, same_hash}
+use Rattle.qpack_table.proofs.RowSlots.{one_slot, one_index}
+use Rattle.qpack_table.proofs.HashedRows.{row_there}
 
 -- the last position is at least that of each element that passes
 record LastFrom {X : Type 0} (p : X → Bool) (xs : List X) (i : ℕ) : Type 0 where
@@ -116,35 +126,115 @@ none_live dropped (e ∷ es) p none = absurd (none (omega arith))
 passes : (f g : Field) → g ≡ f → is_field f g ≡ true
 passes f g e = sym (equal_is_field f g) ∙ ap is_eq (equal_when_same f g (sym e))
 
--- a row has each live index whose entry has the field
-abbrev pub HasAllOf : ℕ → List Field → List ℕ → Field → Type 0
-HasAllOf dropped live row f = (index : ℕ) → IsLiveIndex dropped live index → field_at dropped live index ≡ f
-    → Contains row index
+-- what the row of a part answers is the newest of all that have it
+module _ (part : Part) (dropped : ℕ) (live : List Field) (entered : ℕ) (rows : List Row)
+    (are : AreRowsOf part dropped live entered rows) (all : entered ≡ length live) (k : ℕ) (r : Row)
+    (within : k < length rows) (read : r ≡ get_or rows k r) (f : Field) (here : k ≡ home part (length rows) f) where
+  is : IsRow part dropped live (r.slots.items)
+  is = row_there part dropped live entered rows are k r within read
 
-module _ (dropped : ℕ) (live : List table.Entry) (row : List ℕ) (f : Field) (is : IsRow dropped (fields_in live) row)
-    (has : HasAllOf dropped (fields_in live) row f) where
-  -- what passes is in the row, and has the field
-  passes_in_row : (b : ℕ) → PassesAt dropped (fields_in live) (is_field f) b
-      → Contains row b × (field_at dropped (fields_in live) b ≡ f)
-  passes_in_row b at =
-      let same : field_at dropped (fields_in live) b ≡ f =
-      sym (same_field f (field_at dropped (fields_in live) b) at.passes) in
-      (has b at.live same, same)
+  slot_there : (a : ℕ) → IsLiveIndex dropped live a → part_at part dropped live a ≡ part_of part f
+      → HasSlotOf part dropped live (r.slots.items) a
+  slot_there a at same =
+      let position : home part (length rows) (field_at dropped live a) ≡ k =
+      ap (λ (h : ℕ). position_among (length rows) h) (same_hash part (field_at dropped live a) f same) ∙ sym here in
+      subst (λ (x : Row). HasSlotOf part dropped live (x.slots.items) a)
+      (ap (λ (i : ℕ). get_or rows i r) position ∙ sym read)
+      (are.complete a r at.0 (omega (arith, at.1, all)))
 
-  in_row_passes : (a : ℕ) → Contains row a → field_at dropped (fields_in live) a ≡ f
-      → PassesAt dropped (fields_in live) (is_field f) a
-  in_row_passes a c e =
-      let there = contained row a c in
-      record {
-        live = subst (λ (i : ℕ). IsLiveIndex dropped (fields_in live) i) there.is (is.all_live c.0 there.within);
-        passes = passes f (field_at dropped (fields_in live) a) e;
-      }
+  pub newest_found_in : (found : Option ℕ) → FindsSlot part dropped live (r.slots.items) (part_of part f) found
+      → FindsNewest part dropped live (part_of part f) found
+  newest_found_in None h = λ other at same.
+      let s = slot_there other at same in h s.0 s.1 (s.4 ∙ same)
+  newest_found_in (Some a) h = (
+    subst (λ (i : ℕ). IsLiveIndex dropped live i) h.2 (is.slots h.0 h.1).0,
+    h.3,
+    λ other at same.
+        let s = slot_there other at same in
+        let one : s.0.index ≡ h.0.index =
+        one_slot part dropped live (r.slots.items) is s.0 h.0 s.1 h.1
+        (s.4 ∙ same ∙ sym h.3 ∙ ap (λ (i : ℕ). part_at part dropped live i) (sym h.2)) in
+        omega (arith, one, h.2, s.2),
+  )
 
-  -- what a row answers is what the definitions answer
-  pub newest_in : (found : Option ℕ) → FindsNewest dropped (fields_in live) row f found
-      → IsNewestIn dropped live (is_field f) found
-  newest_in None h =
-      newest_nowhere dropped live (is_field f) (λ b at. let p = passes_in_row b at in h b p.0 p.1)
-  newest_in (Some a) h =
-      newest_at dropped live (is_field f) a (in_row_passes a h.among h.equal)
-      (λ b at. let p = passes_in_row b at in h.newest b p.0 p.1)
+-- where nothing is live, nothing is found
+pub newest_of_none : (part : Part) (dropped : ℕ) (live : List Field) (f : Field) → (0 < length live → ⊥)
+    → FindsNewest part dropped live f None
+newest_of_none part dropped live f none = λ other at same. none (omega (arith, at.0, at.1))
+
+-- what is found by a whole field is what the definitions find
+pub newest_field : (dropped : ℕ) (es : List Entry) (f : Field) (found : Option ℕ)
+    → FindsNewest Whole dropped (live_fields es) f found → IsNewestIn dropped (entries_of es) (is_field f) found
+newest_field dropped es f None h =
+    newest_nowhere dropped (entries_of es) (is_field f) (λ b at.
+    h b at.live (sym (same_field f (field_at dropped (live_fields es) b) at.passes)))
+newest_field dropped es f (Some a) h =
+    newest_at dropped (entries_of es) (is_field f) a
+    (record { live = h.0; passes = passes f (field_at dropped (live_fields es) a) h.1 })
+    (λ b at. h.2 b at.live (sym (same_field f (field_at dropped (live_fields es) b) at.passes)))
+
+-- and by a name
+only_name : (name : List ℕ) (f : Field) → has_name name f ≡ true
+    → part_of Name f ≡ part_of Name (record { name = name; value = [] })
+only_name name f h =
+    let same : f.name ≡ name = sym (same_name name f h) in
+    λ i. record { name = same i; value = [] }
+
+pub newest_name : (dropped : ℕ) (es : List Entry) (name : List ℕ) (found : Option ℕ)
+    → FindsNewest Name dropped (live_fields es) (record { name = name; value = [] }) found
+    → IsNewestIn dropped (entries_of es) (has_name name) found
+newest_name dropped es name None h =
+    newest_nowhere dropped (entries_of es) (has_name name)
+    (λ b at. h b at.live (only_name name (field_at dropped (live_fields es) b) at.passes))
+newest_name dropped es name (Some a) h =
+    newest_at dropped (entries_of es) (has_name name) a
+    (record {
+      live = h.0;
+      passes = (bytes_eq-Decides name (field_at dropped (live_fields es) a).name).1
+          (sym (ap (λ (f : Field). f.name) h.1));
+    })
+    (λ b at. h.2 b at.live (only_name name (field_at dropped (live_fields es) b) at.passes))
+
+-- ---- a row has no more slots than entries are live
+
+module _ (part : Part) (dropped : ℕ) (live : List Field) (row : List Slot) (is : IsRow part dropped live row) where
+  abbrev position : Slot → ℕ
+  position s = s.index - dropped - 1
+
+  position_read : (j d : ℕ) (s : Slot) → j < length row → get_or (map position row) j d ≡ position (get_or row j s)
+  position_read j d s h = get_or-map position row j s d h
+
+  there : (j : ℕ) (s : Slot) → j < length row → Contains row (get_or row j s)
+  there j s h = (j, h, get_or_default row j (get_or row j s) s h)
+
+  apart : (i j d : ℕ) (s : Slot) → i < j → j < length row
+      → eqb (get_or (map position row) i d) (get_or (map position row) j d) ≡ false
+  apart i j d s lt within = pick (eqb (get_or (map position row) i d) (get_or (map position row) j d)) refl
+    where
+      pick : (b : Bool) → eqb (get_or (map position row) i d) (get_or (map position row) j d) ≡ b → b ≡ false
+      pick false e = refl
+      pick true e =
+          let first = there i s (omega (arith, lt, within)) in
+          let second = there j s within in
+          let places : position (get_or row i s) ≡ position (get_or row j s) =
+          sym (position_read i d s (omega (arith, lt, within))) ∙ eqb-true _ _ e ∙ position_read j d s within in
+          let same : (get_or row i s).index ≡ (get_or row j s).index =
+          omega (arith, places, (is.slots _ first).0.0, (is.slots _ second).0.0) in
+          absurd (omega (arith, lt, one_index part dropped live row is i j s (omega (arith, lt, within)) within same))
+
+  pub row_few : length row ≤ length live
+  row_few = few row refl
+    where
+      few : (xs : List Slot) → row ≡ xs → length row ≤ length live
+      few [] e = omega (arith, ap (λ (l : List Slot). length l) e)
+      few (s ∷ xs) e =
+          let long = length-map row position in
+          let bound = length-le_from_distinct_below (map position row) (length live)
+          (IsDistinct-from_apart eqb (map position row)
+          (λ i j d lt within. apart i j d s lt (omega (arith, within, long))))
+          (λ q h. let c = Contains-from_any (λ x y. eqb-true x y) q (map position row) h in
+          let lt : c.0 < length row = omega (arith, c.1, long) in
+          let at = is.slots _ (there c.0 s lt) in
+          let same : q ≡ position (get_or row c.0 s) = sym c.2 ∙ position_read c.0 q s lt in
+          omega (arith, same, at.0.0, at.0.1)) in
+          omega (arith, bound, long)

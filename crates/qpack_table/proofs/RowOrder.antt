@@ -1,16 +1,18 @@
--- The order of fields, and of indexes by their fields.
-use Rattle.std.proofs.Common.{◌≡◌, ◌<◌, ◌≤◌, ℕ, List, true, false, refl, sym, ap, subst, ◌∙◌, arith}
+-- The order of fields, and of slots by their hashes and a part of their fields.
+use Rattle.std.proofs.Common.{◌≡◌, ℕ, [], List, refl, sym, ap, subst, ◌∙◌, inl, inr, ◌⊎◌}
 use Rattle.std.specs.Cmp.Lexicographic.{slice_cmp}
 use Rattle.std.specs.Cmp.{IsTotalOrder}
 use Rattle.std.specs.declared.cmp.Ordering.{Ordering}
 use Rattle.std.specs.declared.cmp.Ordering.TheVariants.{Less, Equal, Greater}
-use Rattle.std.specs.Ordering.{nat_cmp, is_gt, is_eq, ordering_then, ordering_reverse}
-use Rattle.std.proofs.lemmas.Cmp.{nat_cmp_total, nat_list_cmp_total, on_total, then_total, tied_itself, ranked}
+use Rattle.std.specs.Ordering.{nat_cmp, is_eq, ordering_then, ordering_reverse}
+use Rattle.std.proofs.lemmas.Cmp.{nat_cmp_total, nat_list_cmp_total, on_total, then_total, tied_itself, tied_back, ranked}
 use Rattle.qpack_spec.specs.Field.{Field}
 use Rattle.qpack_spec.proofs.Positions.{same_field}
 use Rattle.qpack_base.specs.HeaderFields.{field_cmp}
 use Rattle.qpack_base.proofs.FieldOrder.{equal_is_field}
-use Rattle.qpack_table.specs.Rows.{Key, key_cmp}
+use Rattle.qpack_table.specs.Rows.{Key, key_cmp, part_of, hash_of}
+use Rattle.qpack_table.specs.declared.dynamic.index.row.Part.{Part}
+use Rattle.qpack_table.specs.declared.dynamic.index.row.Part.TheVariants.{Name, Whole}
 
 field_cmp_total : IsTotalOrder field_cmp
 unfolding field_cmp
@@ -19,8 +21,8 @@ field_cmp_total = then_total (on_total (λ (f : Field). f.name) nat_list_cmp_tot
 
 pub key_cmp_total : IsTotalOrder key_cmp
 unfolding key_cmp
-key_cmp_total = then_total (on_total (λ (k : Key). k.field) field_cmp_total) (on_total (λ
-    (k : Key). k.index) nat_cmp_total)
+key_cmp_total = then_total (on_total (λ (k : Key). k.hash) nat_cmp_total) (on_total (λ
+    (k : Key). k.field) field_cmp_total)
 
 pub same_when_equal : (f g : Field) → field_cmp f g ≡ Equal → f ≡ g
 same_when_equal f g h = same_field f g (sym (equal_is_field f g) ∙ ap is_eq h)
@@ -28,93 +30,127 @@ same_when_equal f g h = same_field f g (sym (equal_is_field f g) ∙ ap is_eq h)
 pub equal_when_same : (f g : Field) → f ≡ g → field_cmp f g ≡ Equal
 equal_when_same f g h = subst (λ (x : Field). field_cmp f x ≡ Equal) h (tied_itself field_cmp_total f)
 
-first_equal : (r s : Ordering) → r ≡ Equal → ordering_then r s ≡ s
+pub first_equal : (r s : Ordering) → r ≡ Equal → ordering_then r s ≡ s
 first_equal r s h = rw h refl
 
--- names that differ decide
+-- an order that isn't a tie decides
 then_first : (r s : Ordering) → (r ≡ Equal → ⊥) → r ≡ ordering_then r s
 then_first Less s h = refl
 then_first Equal s h = absurd (h refl)
 then_first Greater s h = refl
-
-pub decided_by_name : (f g : Field) (o : Ordering) (name : List ℕ) → name ≡ f.name
-    → o ≡ slice_cmp nat_cmp name g.name → (o ≡ Equal → ⊥) → o ≡ field_cmp f g
-unfolding field_cmp
-decided_by_name f g o name is names apart =
-    then_first o (slice_cmp nat_cmp f.value g.value) apart
-    ∙ ap (λ (r : Ordering). ordering_then r (slice_cmp nat_cmp f.value g.value))
-    (names ∙ ap (λ (n : List ℕ). slice_cmp nat_cmp n g.name) is)
-
--- else the values do
-pub decided_by_value : (f g : Field) (o v : Ordering) (name value : List ℕ) → name ≡ f.name → value ≡ f.value
-    → o ≡ slice_cmp nat_cmp name g.name → o ≡ Equal → v ≡ slice_cmp nat_cmp value g.value → v ≡ field_cmp f g
-unfolding field_cmp
-decided_by_value f g o v name value is has names equal values =
-    let tied : slice_cmp nat_cmp f.name g.name ≡ Equal =
-    sym (names ∙ ap (λ (n : List ℕ). slice_cmp nat_cmp n g.name) is) ∙ equal in
-    values ∙ ap (λ (n : List ℕ). slice_cmp nat_cmp n g.value) has ∙ sym (first_equal _ _ tied)
-
--- ---- indexes by their fields
 
 then_equal : (r s : Ordering) → ordering_then r s ≡ Equal → s ≡ Equal
 then_equal Less s h = absurd cc
 then_equal Equal s h = h
 then_equal Greater s h = absurd cc
 
-same_index : (k l : Key) → key_cmp k l ≡ Equal → k.index ≡ l.index
-unfolding key_cmp
-same_index k l h = ranked k.index l.index Equal (sym (then_equal _ _ h))
+first_ties : (r s : Ordering) → ordering_then r s ≡ Equal → r ≡ Equal
+first_ties Less s h = absurd cc
+first_ties Equal s h = refl
+first_ties Greater s h = absurd cc
 
--- of one field, the lower index comes first
-pub lower_first : (k l : Key) → k.field ≡ l.field → key_cmp k l ≡ Less → k.index < l.index
-unfolding key_cmp
-lower_first k l same h = ranked k.index l.index Less (sym (sym (first_equal _ _
-    (equal_when_same k.field l.field same)) ∙ h))
+-- ---- parts of fields
 
-pub not_higher : (k l : Key) → k.field ≡ l.field → k.index ≤ l.index → is_gt (key_cmp k l) ≡ false
+-- either part has the name
+part_name : (part : Part) (f : Field) → (part_of part f).name ≡ f.name
+part_name Name f = refl
+part_name Whole f = refl
+
+-- fields with the same part have the same hash of it
+pub same_hash : (part : Part) (f g : Field) → part_of part f ≡ part_of part g → hash_of part f ≡ hash_of part g
+same_hash Name f g h = ap (λ (x : Field). hash_of Name x) h
+same_hash Whole f g h = ap (λ (x : Field). hash_of Whole x) h
+
+-- names that differ decide
+pub decided_by_name : (part : Part) (f g : Field) (o : Ordering) (name other : List ℕ) → name ≡ f.name → other ≡ g.name
+    → o ≡ slice_cmp nat_cmp name other → (o ≡ Equal → ⊥) → o ≡ field_cmp (part_of part f) (part_of part g)
+unfolding field_cmp
+decided_by_name part f g o name other is has names apart =
+    then_first o (slice_cmp nat_cmp (part_of part f).value (part_of part g).value) apart
+    ∙ ap (λ (r : Ordering). ordering_then r (slice_cmp nat_cmp (part_of part f).value (part_of part g).value))
+    (names
+    ∙ (λ i. slice_cmp nat_cmp ((is ∙ sym (part_name part f)) i) ((has ∙ sym (part_name part g)) i)))
+
+-- a name is decided by nothing else
+pub decided_by_tie : (f g : Field) (o : Ordering) (name other : List ℕ) → name ≡ f.name → other ≡ g.name
+    → o ≡ slice_cmp nat_cmp name other → o ≡ Equal → Equal ≡ field_cmp (part_of Name f) (part_of Name g)
+unfolding field_cmp
+decided_by_tie f g o name other is has names equal =
+    let tied : slice_cmp nat_cmp f.name g.name ≡ Equal =
+    sym (names ∙ (λ i. slice_cmp nat_cmp (is i) (has i))) ∙ equal in
+    sym (first_equal _ _ tied)
+
+-- else the values do
+pub decided_by_value : (f g : Field) (o v : Ordering) (name other value more : List ℕ) → name ≡ f.name
+    → other ≡ g.name → value ≡ f.value → more ≡ g.value → o ≡ slice_cmp nat_cmp name other → o ≡ Equal
+    → v ≡ slice_cmp nat_cmp value more → v ≡ field_cmp (part_of Whole f) (part_of Whole g)
+unfolding field_cmp
+decided_by_value f g o v name other value more is has there holds names equal values =
+    let tied : slice_cmp nat_cmp f.name g.name ≡ Equal =
+    sym (names ∙ (λ i. slice_cmp nat_cmp (is i) (has i))) ∙ equal in
+    values ∙ (λ i. slice_cmp nat_cmp (there i) (holds i)) ∙ sym (first_equal _ _ tied)
+
+-- ---- keys
+
+-- hashes that differ decide
+pub decided_by_hash : (k l : Key) (o : Ordering) → o ≡ nat_cmp k.hash l.hash → (o ≡ Equal → ⊥) → o ≡ key_cmp k l
 unfolding key_cmp
-not_higher k l same h = ap is_gt (first_equal _ _ (equal_when_same k.field l.field same))
-    ∙ pick (nat_cmp k.index l.index) refl
+decided_by_hash k l o is apart =
+    then_first o (field_cmp k.field l.field) apart
+    ∙ ap (λ (r : Ordering). ordering_then r (field_cmp k.field l.field)) is
+
+-- else the parts do
+pub decided_by_part : (k l : Key) (o r : Ordering) → o ≡ nat_cmp k.hash l.hash → o ≡ Equal
+    → r ≡ field_cmp k.field l.field → r ≡ key_cmp k l
+unfolding key_cmp
+decided_by_part k l o r is equal parts = parts ∙ sym (first_equal _ _ (sym is ∙ equal))
+
+pub same_part : (k l : Key) → key_cmp k l ≡ Equal → k.field ≡ l.field
+unfolding key_cmp
+same_part k l h = same_when_equal k.field l.field (then_equal _ _ h)
+
+-- keys that tie are the same
+pub same_key : (k l : Key) → key_cmp k l ≡ Equal → k ≡ l
+unfolding key_cmp
+same_key k l h = both (ranked k.hash l.hash Equal (sym (first_ties _ _ h))) (same_part k l h)
   where
-    pick : (r : Ordering) → nat_cmp k.index l.index ≡ r → is_gt r ≡ false
-    pick Less e = refl
-    pick Equal e = refl
-    pick Greater e = let more : l.index < k.index =
-        ranked k.index l.index Greater (sym e) in absurd (omega (arith, more, h))
+    both : k.hash ≡ l.hash → k.field ≡ l.field → k ≡ l
+    both e f = λ i. record { hash = e i; field = f i }
 
--- what comes before another and isn't behind it has its field, if that one isn't behind either
-between : (r s : Ordering) (a b : Ordering) → ordering_then r a ≡ Less → is_gt (ordering_then s b) ≡ false
-    → r ≡ ordering_reverse s → s ≡ Equal
-between Less Less a b h k turn = absurd cc
-between Equal Less a b h k turn = absurd cc
-between Greater Less a b h k turn = absurd cc
-between r Equal a b h k turn = refl
-between r Greater a b h k turn = absurd cc
+pub tie_of : (k l : Key) → k.hash ≡ l.hash → k.field ≡ l.field → key_cmp k l ≡ Equal
+tie_of k l hash field = (λ i. key_cmp k (record { hash = sym hash i; field = sym field i })) ∙ tied_itself key_cmp_total k
 
-pub same_between : (k l m : Key) → k.field ≡ m.field → key_cmp k l ≡ Less → is_gt (key_cmp l m) ≡ false
-    → l.field ≡ m.field
-unfolding key_cmp
-same_between k l m same less low =
-    same_when_equal l.field m.field (between (field_cmp k.field l.field) (field_cmp l.field m.field) _ _ less low
-    (field_cmp_total.antisymm k.field l.field ∙ ap (λ (x : Field). ordering_reverse (field_cmp l.field x)) same))
-
--- ---- what isn't behind, and isn't the same, comes before
-
-pub not_behind : (k l : Key) → is_gt (key_cmp k l) ≡ false → (k.index ≡ l.index → ⊥) → key_cmp k l ≡ Less
-not_behind k l h other = pick (key_cmp k l) refl h
+-- whether two fields are the same
+pub cases_field : (f g : Field) → (f ≡ g) ⊎ (f ≡ g → ⊥)
+cases_field f g = pick (field_cmp f g) refl
   where
-    pick : (r : Ordering) → key_cmp k l ≡ r → is_gt r ≡ false → r ≡ Less
-    pick Less e low = refl
-    pick Equal e low = absurd (other (same_index k l e))
-    pick Greater e low = absurd cc
+    pick : (r : Ordering) → field_cmp f g ≡ r → (f ≡ g) ⊎ (f ≡ g → ⊥)
+    pick Less e = inr (λ h. unlike (sym e ∙ equal_when_same f g h))
+      where
+        unlike : Less ≡ Equal → ⊥
+        unlike q = cc
+    pick Equal e = inl (same_when_equal f g e)
+    pick Greater e = inr (λ h. unlike (sym e ∙ equal_when_same f g h))
+      where
+        unlike : Greater ≡ Equal → ⊥
+        unlike q = cc
 
-pub behind_turned : (k l : Key) → is_gt (key_cmp k l) ≡ true → key_cmp l k ≡ Less
-behind_turned k l h = key_cmp_total.antisymm l k ∙ pick (key_cmp k l) h
-  where
-    pick : (r : Ordering) → is_gt r ≡ true → ordering_reverse r ≡ Less
-    pick Less e = absurd cc
-    pick Equal e = absurd cc
-    pick Greater e = refl
+-- an order is one alone
+pub not_less_and_equal : (r : Ordering) → r ≡ Less → r ≡ Equal → ⊥
+not_less_and_equal r h k = cc
 
-pub before_turned : (k l : Key) → key_cmp k l ≡ Less → is_gt (key_cmp l k) ≡ true
-before_turned k l h = ap is_gt (key_cmp_total.antisymm l k ∙ ap ordering_reverse h)
+pub not_greater_and_equal : (r : Ordering) → r ≡ Greater → r ≡ Equal → ⊥
+not_greater_and_equal r h k = cc
+
+-- what comes before one that comes before, and behind one that comes behind
+pub before_less : (k l m : Key) → key_cmp k l ≡ Less → key_cmp l m ≡ Less → key_cmp k m ≡ Less
+before_less k l m g h = key_cmp_total.trans k l m g h
+
+pub behind_less : (k l : Key) → key_cmp k l ≡ Less → key_cmp l k ≡ Greater
+behind_less k l h = key_cmp_total.antisymm l k ∙ ap ordering_reverse h
+
+pub less_behind : (k l : Key) → key_cmp k l ≡ Greater → key_cmp l k ≡ Less
+less_behind k l h = key_cmp_total.antisymm l k ∙ ap ordering_reverse h
+
+pub behind_greater : (k l m : Key) → key_cmp k l ≡ Less → key_cmp k m ≡ Greater → key_cmp l m ≡ Greater
+behind_greater k l m g h = behind_less m l (key_cmp_total.trans m k l (less_behind k m h) g)

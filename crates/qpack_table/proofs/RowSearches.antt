@@ -1,134 +1,150 @@
 -- A halving search in a row.
 use Rattle.std.proofs.Common.{◌≡◌, ℕ, ◌+◌, ◌-◌, ◌<◌, ◌≤◌, Bool, true, false, List, [], length, get_or}
 use Rattle.std.proofs.Common.{refl, sym, ap, subst, ◌∙◌, inl, inr, arith}
-use Rattle.std.specs.Prelude.{slice_index}
+use Rattle.std.specs.Prelude.{Contains}
 use Rattle.std.specs.declared.cmp.Ordering.{Ordering}
 use Rattle.std.specs.declared.cmp.Ordering.TheVariants.{Less, Equal, Greater}
-use Rattle.std.specs.Ordering.{nat_cmp, is_gt, is_eq, ordering_then}
 use Rattle.std.proofs.lemmas.Bool.{cases_lt}
-use Rattle.std.proofs.lemmas.Cmp.{upto, tied_itself}
 use Rattle.std.proofs.lemmas.List.{get_or_default}
+use Rattle.std.proofs.lemmas.List.Elements.{Contains-get_or}
 use Rattle.qpack_base.specs.HeaderFields.{field_of}
 use Rattle.qpack_spec.specs.Field.{Field}
-use Rattle.qpack_base.specs.HeaderFields.{field_cmp}
-use Rattle.qpack_table.specs.Rows.{key_cmp, field_at, key_at, IsRow, is_behind}
+use Rattle.qpack_table.specs.Rows.{Key, key_cmp, key_at, part_of, part_at, field_at, IsLiveIndex, IsSlot, IsRow, IsMatch}
+use Rattle.qpack_table.specs.Rows.{IsGap, FindsSlot, hash_of}
 use Rattle.qpack_table.specs.Tables.{live_fields}
-use Rattle.qpack_table.specs.Rows.{IsEqualBefore}
 use Rattle.qpack_table.specs.declared.dynamic.entry.Entry.{Entry}
-use Rattle.qpack_table.proofs.RowOrder.{key_cmp_total, same_when_equal, equal_when_same}
+use Rattle.qpack_table.specs.declared.dynamic.index.row.Part.{Part}
+use Rattle.qpack_table.specs.declared.dynamic.index.row.Slot.{Slot}
+use Rattle.qpack_table.proofs.RowOrder.{before_less, behind_greater, same_part, same_hash, tie_of}
+use Rattle.qpack_table.proofs.RowOrder.{not_less_and_equal, not_greater_and_equal}
 use Rattle.qpack_table.proofs.Lookups.{fields_long, field_read}
 
-pub not_both : (b : Bool) → b ≡ true → b ≡ false → ⊥
-not_both b h k = cc
-
-module _ (dropped : ℕ) (live : List Field) (row : List ℕ) (is : IsRow dropped live row) where
-  -- an index isn't behind itself or a later_position one
-  rising : (i j : ℕ) → i ≤ j → j < length row
-      → is_gt (key_cmp (key_at dropped live (slice_index row i)) (key_at dropped live (slice_index row j))) ≡ false
-  rising i j le lt =
-      elim (cases_lt i j) [
-        | inl less ↦ ap is_gt (is.rises i j 0 less lt)
-        | inr not ↦
-            let same : i ≡ j = omega (arith, le, not) in
-            subst (λ (k : ℕ). is_gt (key_cmp (key_at dropped live (slice_index row i)) (key_at dropped live
-            (slice_index row k))) ≡ false) same (ap is_gt (tied_itself key_cmp_total (key_at dropped live
-            (slice_index row i))))
-      ]
-
-  -- what comes before one that isn't behind isn't behind
-  pub still_not_behind : (f : Field) (last i j : ℕ) → i ≤ j → j < length row
-      → is_behind dropped live f last (slice_index row j) ≡ false
-      → is_behind dropped live f last (slice_index row i) ≡ false
-  still_not_behind f last i j le lt h = upto key_cmp_total _ _ _ (rising i j le lt) h
-
-  pub still_behind : (f : Field) (last i j : ℕ) → i ≤ j → j < length row
-      → is_behind dropped live f last (slice_index row i) ≡ true
-      → is_behind dropped live f last (slice_index row j) ≡ true
-  still_behind f last i j le lt h = pick (is_behind dropped live f last (slice_index row j)) refl
-    where
-      pick : (b : Bool) → is_behind dropped live f last (slice_index row j) ≡ b → b ≡ true
-      pick true e = refl
-      pick false e = absurd (not_both _ h (still_not_behind f last i j le lt e))
-
--- what is known between two positions: before the lower one nothing is behind, and from the higher one on all is
-pub record Searching (dropped : ℕ) (live : List Field) (row : List ℕ) (f : Field) (last low high : ℕ)
-    (equal : Bool) : Type 0 where
+-- what is known between two positions: before the lower one all come before what is sought, and from the higher one
+-- on all come behind it
+pub record Searching (part : Part) (dropped : ℕ) (live : List Field) (row : List Slot) (k : Key) (low high : ℕ) :
+    Type 0 where
   pub order : low ≤ high
   pub within : high ≤ length row
-  pub before : (k : ℕ) → k < low → is_behind dropped live f last (slice_index row k) ≡ false
-  pub after : (k : ℕ) → high ≤ k → k < length row → is_behind dropped live f last (slice_index row k) ≡ true
-  pub equal_before : IsEqualBefore dropped live row f low equal
+  pub before : (j : ℕ) (d : Slot) → j < low → key_cmp (key_at part dropped live (get_or row j d)) k ≡ Less
+  pub after : (j : ℕ) (d : Slot) → high ≤ j → j < length row
+      → key_cmp (key_at part dropped live (get_or row j d)) k ≡ Greater
 
-pub searching_lower : (dropped : ℕ) (live : List Field) (row : List ℕ) (f : Field) (last low high middle : ℕ)
-    (equal : Bool) → IsRow dropped live row → Searching dropped live row f last low high equal
-    → low ≤ middle → middle < high → is_behind dropped live f last (slice_index row middle) ≡ true
-    → Searching dropped live row f last low middle equal
-searching_lower dropped live row f last low high middle equal is h from to behind = record {
-  order = from;
-  within = omega (arith, to, h.within);
-  before = h.before;
-  after = λ k g lt. still_behind dropped live row is f last middle k g lt behind;
-  equal_before = h.equal_before;
-}
+module _ (part : Part) (dropped : ℕ) (live : List Field) (row : List Slot) (is : IsRow part dropped live row)
+    (k : Key) where
+  abbrev key : ℕ → Slot → Key
+  key j d = key_at part dropped live (get_or row j d)
 
-pub searching_higher : (dropped : ℕ) (live : List Field) (row : List ℕ) (f : Field) (last low high middle : ℕ)
-    (equal now : Bool) → IsRow dropped live row → Searching dropped live row f last low high equal
-    → low ≤ middle → middle < high → is_behind dropped live f last (slice_index row middle) ≡ false
-    → now ≡ is_eq (field_cmp (field_at dropped live (slice_index row middle)) f)
-    → Searching dropped live row f last (middle + 1) high now
-searching_higher dropped live row f last low high middle equal now is h from to behind tested = record {
-  order = omega (arith, to);
-  within = h.within;
-  before = λ k g. still_not_behind dropped live row is f last k middle (omega (arith, g)) (omega
-      (arith, to, h.within)) behind;
-  after = h.after;
-  equal_before = pick now tested;
-}
-  where
-    here : middle + 1 - 1 ≡ middle
-    here = omega arith
+  pub begins : Searching part dropped live row k 0 (length row)
+  begins = record {
+    order = omega arith;
+    within = omega arith;
+    before = λ j d h. absurd (omega (arith, h));
+    after = λ j d h lt. absurd (omega (arith, h, lt));
+  }
 
-    field : ℕ → Field
-    field k = field_at dropped live (slice_index row k)
+  module _ (low high middle : ℕ) (h : Searching part dropped live row k low high) (from : low ≤ middle)
+      (to : middle < high) (slot : Slot) (read : slot ≡ get_or row middle slot) where
+    there : (d : Slot) → get_or row middle d ≡ slot
+    there d = get_or_default row middle d slot (omega (arith, to, h.within)) ∙ sym read
 
-    tie : (r : Ordering) → true ≡ is_eq r → r ≡ Equal
-    tie Less e = absurd cc
-    tie Equal e = refl
-    tie Greater e = absurd cc
+    pub searching_higher : key_cmp (key_at part dropped live slot) k ≡ Less
+        → Searching part dropped live row k (middle + 1) high
+    searching_higher less = record {
+      order = omega (arith, to);
+      within = h.within;
+      before = λ j d g. pick j d g;
+      after = h.after;
+    }
+      where
+        at : (d : Slot) → key_cmp (key middle d) k ≡ Less
+        at d = ap (λ (s : Slot). key_cmp (key_at part dropped live s) k) (there d) ∙ less
 
-    pick : (b : Bool) → b ≡ is_eq (field_cmp (field_at dropped live (slice_index row middle)) f)
-        → IsEqualBefore dropped live row f (middle + 1) b
-    pick true e = (
-      omega arith,
-      ap (λ (k : ℕ). field_at dropped live (slice_index row k)) here
-          ∙ same_when_equal (field_at dropped live (slice_index row middle)) f (tie _ e),
-    )
-    pick false e = λ some same. not_both (is_eq (field_cmp (field_at dropped live (slice_index row middle)) f))
-        (ap is_eq (equal_when_same (field_at dropped live (slice_index row middle)) f (sym (ap (λ
-        (k : ℕ). field_at dropped live (slice_index row k)) here) ∙ same))) (sym e)
+        pick : (j : ℕ) (d : Slot) → j < middle + 1 → key_cmp (key j d) k ≡ Less
+        pick j d g = elim (cases_lt j middle) [
+          | inl lt ↦ before_less (key j d) (key middle d) k (is.rises j middle d lt (omega (arith, to, h.within))) (at d)
+          | inr le ↦
+              let same : middle ≡ j = omega (arith, le, g) in
+              subst (λ (i : ℕ). key_cmp (key i d) k ≡ Less) same (at d)
+        ]
 
--- what the code compares: the entry of the index in the middle
-pub record Tested (dropped : ℕ) (live : List Field) (row : List ℕ) (f : Field) (last middle : ℕ) (order : Ordering)
-    (behind : Bool) : Type 0 where
-  pub field : order ≡ field_cmp (field_at dropped live (slice_index row middle)) f
-  pub is : behind ≡ is_behind dropped live f last (slice_index row middle)
+    pub searching_lower : key_cmp (key_at part dropped live slot) k ≡ Greater
+        → Searching part dropped live row k low middle
+    searching_lower greater = record {
+      order = from;
+      within = omega (arith, to, h.within);
+      before = h.before;
+      after = λ j d g lt. pick j d g lt;
+    }
+      where
+        at : (d : Slot) → key_cmp (key middle d) k ≡ Greater
+        at d = ap (λ (s : Slot). key_cmp (key_at part dropped live s) k) (there d) ∙ greater
 
-pub tested : (dropped : ℕ) (es : List Entry) (row : List ℕ) (f : Field) (last middle index : ℕ) (e : Entry)
-    (order rank both : Ordering) (behind : Bool) → IsRow dropped (live_fields es) row → middle < length row
-    → index ≡ get_or row middle index → e ≡ get_or es (index - dropped - 1) e
-    → order ≡ field_cmp (field_of e.field) f → rank ≡ nat_cmp index last → both ≡ ordering_then order rank
-    → behind ≡ is_gt both
-    → Tested dropped (live_fields es) row f last middle order behind
-unfolding key_cmp
-tested dropped es row f last middle index e order rank both behind is lt read entry ordered ranks joined tests =
-    let same : index ≡ slice_index row middle = read ∙ get_or_default row middle index 0 lt in
-    let live : (dropped < slice_index row middle) × (slice_index row middle ≤ dropped + length (live_fields es)) =
-    is.all_live middle lt in
-    let long = fields_long es in
+        pick : (j : ℕ) (d : Slot) → middle ≤ j → j < length row → key_cmp (key j d) k ≡ Greater
+        pick j d g lt = elim (cases_lt middle j) [
+          | inl less ↦ behind_greater (key middle d) (key j d) k (is.rises middle j d less lt) (at d)
+          | inr le ↦
+              let same : middle ≡ j = omega (arith, le, g) in
+              subst (λ (i : ℕ). key_cmp (key i d) k ≡ Greater) same (at d)
+        ]
+
+    pub matched : key_cmp (key_at part dropped live slot) k ≡ Equal → IsMatch part dropped live row k middle
+    matched equal = record {
+      within = omega (arith, to, h.within);
+      equal = λ d. ap (λ (s : Slot). key_cmp (key_at part dropped live s) k) (there d) ∙ equal;
+    }
+
+  pub ends : (low high : ℕ) → Searching part dropped live row k low high → high ≤ low
+      → IsGap part dropped live row k low
+  ends low high h le = record {
+    within = omega (arith, h.order, h.within);
+    before = h.before;
+    after = λ j d g lt. h.after j d (omega (arith, le, g)) lt;
+  }
+
+  -- the slot that was read in the middle
+  pub slot_read : (middle : ℕ) (slot : Slot) → middle < length row → slot ≡ get_or row middle slot
+      → IsSlot part dropped live slot
+  slot_read middle slot lt read = is.slots slot (middle, lt, sym read)
+
+-- the entry of a slot that is compared has the field of its index
+pub entry_part : (part : Part) (dropped : ℕ) (es : List Entry) (index : ℕ) (e : Entry)
+    → (dropped < index) × (index ≤ dropped + length (live_fields es)) → e ≡ get_or es (index - dropped - 1) e
+    → part_of part (field_of e.field) ≡ part_at part dropped (live_fields es) index
+entry_part part dropped es index e live read =
     let none : Field = record { name = []; value = [] } in
-    let field : field_of e.field ≡ field_at dropped (live_fields es) index =
-    sym (field_read es (index - dropped - 1) e none (omega (arith, live.0, live.1, same, long)) entry) in
-    let at : order ≡ field_cmp (field_at dropped (live_fields es) (slice_index row middle)) f =
-    ordered ∙ ap (λ (g : Field). field_cmp g f) (field ∙ ap (field_at dropped (live_fields es)) same) in
-    let rank_at : rank ≡ nat_cmp (slice_index row middle) last = ranks ∙ ap (λ (i : ℕ). nat_cmp i last) same in
-    record { field = at; is = tests ∙ ap is_gt (joined ∙ (λ i. ordering_then (at i) (rank_at i))) }
+    ap (λ (f : Field). part_of part f)
+    (sym (field_read es (index - dropped - 1) e none (omega (arith, live.0, live.1, fields_long es)) read))
+
+-- ---- what was found
+
+module _ (part : Part) (dropped : ℕ) (live : List Field) (row : List Slot) (is : IsRow part dropped live row)
+    (k : Key) (f : Field) (part_is : k.field ≡ part_of part f) (hashed : k.hash ≡ hash_of part f) where
+  -- a slot with what is sought ties with it
+  pub ties : (s : Slot) → Contains row s → part_at part dropped live s.index ≡ k.field
+      → key_cmp (key_at part dropped live s) k ≡ Equal
+  ties s c same =
+      tie_of (key_at part dropped live s) k
+      ((is.slots s c).1 ∙ same_hash part (field_at dropped live s.index) f (same ∙ part_is) ∙ sym hashed) same
+
+  -- where nothing was found, no slot has it
+  pub found_none : (position : ℕ) → IsGap part dropped live row k position → (s : Slot) → Contains row s
+      → part_at part dropped live s.index ≡ k.field → ⊥
+  found_none position at s c same =
+      let tie : key_cmp (key_at part dropped live (get_or row c.0 s)) k ≡ Equal =
+      ap (λ (x : Slot). key_cmp (key_at part dropped live x) k) c.2 ∙ ties s c same in
+      elim (cases_lt c.0 position) [
+        | inl lt ↦ not_less_and_equal _ (at.before c.0 s lt) tie
+        | inr le ↦ not_greater_and_equal _ (at.after c.0 s le c.1) tie
+      ]
+
+pub found_some : (part : Part) (dropped : ℕ) (live : List Field) (row : List Slot) (k : Key) (position index : ℕ)
+    (slot : Slot) → IsMatch part dropped live row k position → slot ≡ get_or row position slot → index ≡ slot.index
+    → (s : Slot) × Contains row s × (s.index ≡ index) × (part_at part dropped live index ≡ k.field)
+found_some part dropped live row k position index slot at read is =
+    let tie : key_cmp (key_at part dropped live slot) k ≡ Equal =
+    ap (λ (x : Slot). key_cmp (key_at part dropped live x) k) read ∙ at.equal slot in (
+      slot,
+      (position, at.within, sym read),
+      sym is,
+      ap (λ (i : ℕ). part_at part dropped live i) is ∙ same_part (key_at part dropped live slot) k tie,
+    )

@@ -1,40 +1,36 @@
 -- Rows behind a change of the entries or of one row.
 use Rattle.std.proofs.Common.{◌≡◌, ℕ, ◌+◌, ◌-◌, ◌<◌, ◌≤◌, ◌∷◌, [], ◌++◌, List, length, get_or, set, drop, sym, ap}
-use Rattle.std.proofs.Common.{subst, ◌∙◌}
+use Rattle.std.proofs.Common.{subst, ◌∙◌, refl}
 use Rattle.std.proofs.Common.{inl, inr, ◌⊎◌, arith}
-use Rattle.std.specs.Prelude.{slice_index, Contains, sum_by}
-use Rattle.std.specs.List.Sorted.{IsPermutation}
+use Rattle.std.specs.Prelude.{Contains}
 use Rattle.std.proofs.lemmas.Bool.{cases_lt, cases_eq}
-use Rattle.std.proofs.lemmas.List.{length-set, get_or-set_other, get_or-set_same}
-use Rattle.std.proofs.lemmas.List.Sums.{sum_by-set}
-use Rattle.std.proofs.lemmas.List.Sorted.{length_permutation, Contains-permutation, IsPermutation-sym}
+use Rattle.std.proofs.lemmas.List.{length-drop, length-append, length-set, get_or-set_other, get_or-set_same}
 use Rattle.qpack_spec.specs.Field.{Field}
-use Rattle.qpack_table.specs.Rows.{field_at, IsRow}
-use Rattle.qpack_table.specs.Indexes.{home, AreRowsOf}
+use Rattle.qpack_table.specs.Rows.{field_at, part_of, part_at, IsLiveIndex, IsRow, Enters, Leaves}
+use Rattle.qpack_table.specs.Indexes.{home, HasSlotOf, AreRowsOf}
+use Rattle.qpack_table.specs.declared.dynamic.index.row.Part.{Part}
 use Rattle.qpack_table.specs.declared.dynamic.index.row.Row.{Row}
-use Rattle.qpack_table.proofs.HashedRows.{size}
-use Rattle.qpack_table.proofs.RowPositions.{contained}
-use Rattle.qpack_table.proofs.RowChanges.{contains_more, contains_other, field_pushed, row_pushed, drop_field}
-use Rattle.qpack_table.proofs.RowChanges.{row_behind}
+use Rattle.qpack_table.specs.declared.dynamic.index.row.Slot.{Slot}
+use Rattle.qpack_table.proofs.RowChanges.{field_pushed, row_pushed, drop_field, above_oldest, row_behind}
 
 -- what a changed row and the others have to keep
-pub record Changed (to : ℕ) (new : List Field) (entered : ℕ) (rows : List Row) (k : ℕ) (r : Row) : Type 0 where
-  pub row : IsRow to new (r.indexes.items)
-  pub others : (j : ℕ) (d : Row) → j < length rows → (j ≡ k → ⊥) → IsRow to new ((get_or rows j d).indexes.items)
-  pub at_home : (a : ℕ) → Contains (r.indexes.items) a
-      → (a ≤ to + entered) × (home (length rows) (field_at to new a) ≡ k)
-  pub others_at_home : (j : ℕ) (d : Row) (a : ℕ) → j < length rows → (j ≡ k → ⊥)
-      → Contains ((get_or rows j d).indexes.items) a
-      → (a ≤ to + entered) × (home (length rows) (field_at to new a) ≡ j)
-  pub complete : (a : ℕ) → to < a → a ≤ to + entered → home (length rows) (field_at to new a) ≡ k
-      → Contains (r.indexes.items) a
+pub record Changed (part : Part) (to : ℕ) (new : List Field) (entered : ℕ) (rows : List Row) (k : ℕ) (r : Row) :
+    Type 0 where
+  pub row : IsRow part to new (r.slots.items)
+  pub others : (j : ℕ) (d : Row) → j < length rows → (j ≡ k → ⊥) → IsRow part to new ((get_or rows j d).slots.items)
+  pub at_home : (s : Slot) → Contains (r.slots.items) s
+      → (s.index ≤ to + entered) × (home part (length rows) (field_at to new s.index) ≡ k)
+  pub others_at_home : (j : ℕ) (d : Row) (s : Slot) → j < length rows → (j ≡ k → ⊥)
+      → Contains ((get_or rows j d).slots.items) s
+      → (s.index ≤ to + entered) × (home part (length rows) (field_at to new s.index) ≡ j)
+  pub complete : (a : ℕ) → to < a → a ≤ to + entered → home part (length rows) (field_at to new a) ≡ k
+      → HasSlotOf part to new (r.slots.items) a
   pub others_complete : (a : ℕ) (d : Row) → to < a → a ≤ to + entered
-      → (home (length rows) (field_at to new a) ≡ k → ⊥)
-      → Contains ((get_or rows (home (length rows) (field_at to new a)) d).indexes.items) a
-  pub counted : sum_by (λ (x : Row). length x.indexes.items) (set rows k r) ≡ entered
+      → (home part (length rows) (field_at to new a) ≡ k → ⊥)
+      → HasSlotOf part to new ((get_or rows (home part (length rows) (field_at to new a)) d).slots.items) a
 
-module _ (to : ℕ) (new : List Field) (entered : ℕ) (rows : List Row) (k : ℕ) (r : Row) (within : k < length rows)
-    (c : Changed to new entered rows k r) where
+module _ (part : Part) (to : ℕ) (new : List Field) (entered : ℕ) (rows : List Row) (k : ℕ) (r : Row)
+    (within : k < length rows) (c : Changed part to new entered rows k r) where
   at : (j : ℕ) (d : Row) → j ≡ k → get_or (set rows k r) j d ≡ r
   at j d e = ap (λ (i : ℕ). get_or (set rows k r) i d) e ∙ get_or-set_same rows k r d within
 
@@ -42,204 +38,222 @@ module _ (to : ℕ) (new : List Field) (entered : ℕ) (rows : List Row) (k : �
   off j d ne = get_or-set_other rows k j r d ne
 
   pick_row : (j : ℕ) (d : Row) → j < length rows → (j ≡ k) ⊎ (j ≡ k → ⊥)
-      → IsRow to new ((get_or (set rows k r) j d).indexes.items)
-  pick_row j d h (inl e) = subst (λ (x : Row). IsRow to new (x.indexes.items)) (sym (at j d e)) c.row
-  pick_row j d h (inr ne) = subst (λ (x : Row). IsRow to new (x.indexes.items)) (sym (off j d ne)) (c.others j d h ne)
+      → IsRow part to new ((get_or (set rows k r) j d).slots.items)
+  pick_row j d h (inl e) = subst (λ (x : Row). IsRow part to new (x.slots.items)) (sym (at j d e)) c.row
+  pick_row j d h (inr ne) =
+      subst (λ (x : Row). IsRow part to new (x.slots.items)) (sym (off j d ne)) (c.others j d h ne)
 
-  pick_home : (j : ℕ) (d : Row) (a : ℕ) → j < length rows → Contains ((get_or (set rows k r) j d).indexes.items) a
-      → (j ≡ k) ⊎ (j ≡ k → ⊥) → (a ≤ to + entered) × (home (length rows) (field_at to new a) ≡ j)
-  pick_home j d a h g (inl e) =
-      let there = c.at_home a (subst (λ (x : Row). Contains (x.indexes.items) a) (at j d e) g) in
+  pick_home : (j : ℕ) (d : Row) (s : Slot) → j < length rows → Contains ((get_or (set rows k r) j d).slots.items) s
+      → (j ≡ k) ⊎ (j ≡ k → ⊥)
+      → (s.index ≤ to + entered) × (home part (length rows) (field_at to new s.index) ≡ j)
+  pick_home j d s h g (inl e) =
+      let there = c.at_home s (subst (λ (x : Row). Contains (x.slots.items) s) (at j d e) g) in
       (there.0, there.1 ∙ sym e)
-  pick_home j d a h g (inr ne) =
-      c.others_at_home j d a h ne (subst (λ (x : Row). Contains (x.indexes.items) a) (off j d ne) g)
+  pick_home j d s h g (inr ne) =
+      c.others_at_home j d s h ne (subst (λ (x : Row). Contains (x.slots.items) s) (off j d ne) g)
 
   pick_there : (a : ℕ) (d : Row) → to < a → a ≤ to + entered
-      → (home (length rows) (field_at to new a) ≡ k) ⊎ (home (length rows) (field_at to new a) ≡ k → ⊥)
-      → Contains ((get_or (set rows k r) (home (length rows) (field_at to new a)) d).indexes.items) a
+      → (home part (length rows) (field_at to new a) ≡ k) ⊎ (home part (length rows) (field_at to new a) ≡ k → ⊥)
+      → HasSlotOf part to new
+      ((get_or (set rows k r) (home part (length rows) (field_at to new a)) d).slots.items) a
   pick_there a d g h (inl e) =
-      subst (λ (x : Row). Contains (x.indexes.items) a) (sym (at (home (length rows) (field_at to new a)) d e))
-      (c.complete a g h e)
+      subst (λ (x : Row). HasSlotOf part to new (x.slots.items) a)
+      (sym (at (home part (length rows) (field_at to new a)) d e)) (c.complete a g h e)
   pick_there a d g h (inr ne) =
-      subst (λ (x : Row). Contains (x.indexes.items) a) (sym (off (home (length rows) (field_at to new a)) d ne))
-      (c.others_complete a d g h ne)
+      subst (λ (x : Row). HasSlotOf part to new (x.slots.items) a)
+      (sym (off (home part (length rows) (field_at to new a)) d ne)) (c.others_complete a d g h ne)
 
   same_length : length (set rows k r) ≡ length rows
   same_length = length-set rows k r
 
-  pub rows_changed : AreRowsOf to new entered (set rows k r)
+  pub rows_changed : AreRowsOf part to new entered (set rows k r)
   rows_changed = record {
     some = λ g. omega (arith, within, same_length);
     are_rows = λ j d h. pick_row j d (omega (arith, h, same_length)) (cases_eq j k);
-    at_home = λ j d a h g.
-        subst (λ (n : ℕ). (a ≤ to + entered) × (home n (field_at to new a) ≡ j)) (sym same_length)
-        (pick_home j d a (omega (arith, h, same_length)) g (cases_eq j k));
+    at_home = λ j d s h g.
+        subst (λ (n : ℕ). (s.index ≤ to + entered) × (home part n (field_at to new s.index) ≡ j)) (sym same_length)
+        (pick_home j d s (omega (arith, h, same_length)) g (cases_eq j k));
     complete = λ a d g h.
-        subst (λ (n : ℕ). Contains ((get_or (set rows k r) (home n (field_at to new a)) d).indexes.items) a)
-        (sym same_length) (pick_there a d g h (cases_eq (home (length rows) (field_at to new a)) k));
-    counted = c.counted;
+        subst (λ (n : ℕ). HasSlotOf part to new
+        ((get_or (set rows k r) (home part n (field_at to new a)) d).slots.items) a)
+        (sym same_length) (pick_there a d g h (cases_eq (home part (length rows) (field_at to new a)) k));
   }
 
 -- ---- one row takes the next index in, or the oldest goes out
 
-module _ (dropped : ℕ) (live : List Field) (entered : ℕ) (rows : List Row) (k : ℕ) (r new : Row)
-    (within : k < length rows) (read : r ≡ get_or rows k r) (are : AreRowsOf dropped live entered rows) where
-  sizes : sum_by (λ (x : Row). length x.indexes.items) (set rows k new) + size r
-      ≡ sum_by (λ (x : Row). length x.indexes.items) rows + size new
-  sizes =
-      ap (λ (n : ℕ). sum_by (λ (x : Row). length x.indexes.items) (set rows k new) + n)
-      (ap (λ (x : Row). length x.indexes.items) read)
-      ∙ sum_by-set (λ (x : Row). length x.indexes.items) rows k new r within
+module _ (part : Part) (dropped : ℕ) (live : List Field) (entered : ℕ) (rows : List Row) (k : ℕ) (r new : Row)
+    (within : k < length rows) (read : r ≡ get_or rows k r) (are : AreRowsOf part dropped live entered rows) where
+  at_home_there : (s : Slot) → Contains (r.slots.items) s
+      → (s.index ≤ dropped + entered) × (home part (length rows) (field_at dropped live s.index) ≡ k)
+  at_home_there s c = are.at_home k r s within (subst (λ (x : Row). Contains (x.slots.items) s) read c)
 
-  at_home_there : (a : ℕ) → Contains (r.indexes.items) a
-      → (a ≤ dropped + entered) × (home (length rows) (field_at dropped live a) ≡ k)
-  at_home_there a c = are.at_home k r a within (subst (λ (x : Row). Contains (x.indexes.items) a) read c)
-
-  complete_there : (a : ℕ) → dropped < a → a ≤ dropped + entered → home (length rows) (field_at dropped live a) ≡ k
-      → Contains (r.indexes.items) a
+  complete_there : (a : ℕ) → dropped < a → a ≤ dropped + entered
+      → home part (length rows) (field_at dropped live a) ≡ k → HasSlotOf part dropped live (r.slots.items) a
   complete_there a g h q =
-      subst (λ (x : Row). Contains (x.indexes.items) a) (ap (λ (i : ℕ). get_or rows i r) q ∙ sym read)
-      (are.complete a r g h)
+      subst (λ (x : Row). HasSlotOf part dropped live (x.slots.items) a)
+      (ap (λ (i : ℕ). get_or rows i r) q ∙ sym read) (are.complete a r g h)
 
-  -- the row keeps its indexes
-  pub rows_kept : new.indexes.items ≡ r.indexes.items → Changed dropped live entered rows k new
+  -- the row keeps its slots
+  pub rows_kept : new.slots.items ≡ r.slots.items → Changed part dropped live entered rows k new
   rows_kept same = record {
-    row = subst (λ (is : List ℕ). IsRow dropped live is) (sym same)
-        (subst (λ (x : Row). IsRow dropped live (x.indexes.items)) (sym read) (are.are_rows k r within));
+    row = subst (λ (xs : List Slot). IsRow part dropped live xs) (sym same)
+        (subst (λ (x : Row). IsRow part dropped live (x.slots.items)) (sym read) (are.are_rows k r within));
     others = λ j d h ne. are.are_rows j d h;
-    at_home = λ a c. at_home_there a (subst (λ (is : List ℕ). Contains is a) same c);
-    others_at_home = λ j d a h ne c. are.at_home j d a h c;
-    complete = λ a g h q. subst (λ (is : List ℕ). Contains is a) (sym same) (complete_there a g h q);
+    at_home = λ s c. at_home_there s (subst (λ (xs : List Slot). Contains xs s) same c);
+    others_at_home = λ j d s h ne c. are.at_home j d s h c;
+    complete = λ a g h q.
+        subst (λ (xs : List Slot). HasSlotOf part dropped live xs a) (sym same) (complete_there a g h q);
     others_complete = λ a d g h ne. are.complete a d g h;
-    counted = omega (arith, sizes, ap (λ (is : List ℕ). length is) same, are.counted);
   }
 
-  module _ (newest : ℕ) (next : newest ≡ dropped + entered + 1)
-      (here : home (length rows) (field_at dropped live newest) ≡ k) (rises : IsRow dropped live (new.indexes.items))
-      (moved : IsPermutation (newest ∷ r.indexes.items) (new.indexes.items)) where
-    home_new : (a : ℕ) → (newest ≡ a) ⊎ (newest ≡ a → ⊥) → Contains (newest ∷ r.indexes.items) a
-        → (a ≤ dropped + (entered + 1)) × (home (length rows) (field_at dropped live a) ≡ k)
-    home_new a (inl e) c =
-        (omega (arith, e, next), subst (λ (i : ℕ). home (length rows) (field_at dropped live i) ≡ k) e here)
-    home_new a (inr ne) c =
-        let there = at_home_there a (contains_other (r.indexes.items) newest a ne c) in
-        (omega (arith, there.0), there.1)
+  module _ (slot : Slot) (next : slot.index ≡ dropped + entered + 1) (bound : slot.index ≤ dropped + length live)
+      (here : home part (length rows) (field_at dropped live slot.index) ≡ k)
+      (rises : IsRow part dropped live (new.slots.items))
+      (enters : Enters part dropped live (r.slots.items) (new.slots.items) slot) where
+    home_new : (s : Slot) → Contains (new.slots.items) s
+        → (s.index ≤ dropped + (entered + 1)) × (home part (length rows) (field_at dropped live s.index) ≡ k)
+    home_new s c = elim (enters.only s c) [
+      | inl e ↦
+          let same : slot.index ≡ s.index = ap (λ (x : Slot). x.index) e in (
+            omega (arith, same, next),
+            subst (λ (i : ℕ). home part (length rows) (field_at dropped live i) ≡ k) same here,
+          )
+      | inr old ↦ let there = at_home_there s old in (omega (arith, there.0), there.1)
+    ]
 
-    there_new : (a : ℕ) → dropped < a → a ≤ dropped + (entered + 1) → home (length rows) (field_at dropped live a) ≡ k
-        → (a < newest) ⊎ (newest ≤ a) → Contains (newest ∷ r.indexes.items) a
+    -- an older one of its part is found by the new slot
+    there_new : (a : ℕ) → dropped < a → a ≤ dropped + (entered + 1)
+        → home part (length rows) (field_at dropped live a) ≡ k → (a < slot.index) ⊎ (slot.index ≤ a)
+        → HasSlotOf part dropped live (new.slots.items) a
     there_new a g h q (inl lt) =
-        contains_more (r.indexes.items) newest a (complete_there a g (omega (arith, lt, next)) q)
-    there_new a g h q (inr le) = (0, omega arith, omega (arith, h, le, next))
+        let old = complete_there a g (omega (arith, lt, next)) q in
+        elim (enters.kept old.0 old.1) [
+          | inl same ↦ (slot, enters.entered, omega (arith, lt), bound, sym same ∙ old.4)
+          | inr there ↦ (old.0, there, old.2, old.3, old.4)
+        ]
+    there_new a g h q (inr le) =
+        let same : slot.index ≡ a = omega (arith, h, le, next) in
+        (slot, enters.entered, omega (arith, same), bound, ap (λ (i : ℕ). part_at part dropped live i) same)
 
     elsewhere : (a : ℕ) (d : Row) → dropped < a → a ≤ dropped + (entered + 1)
-        → (home (length rows) (field_at dropped live a) ≡ k → ⊥) → (a < newest) ⊎ (newest ≤ a)
-        → Contains ((get_or rows (home (length rows) (field_at dropped live a)) d).indexes.items) a
+        → (home part (length rows) (field_at dropped live a) ≡ k → ⊥) → (a < slot.index) ⊎ (slot.index ≤ a)
+        → HasSlotOf part dropped live
+        ((get_or rows (home part (length rows) (field_at dropped live a)) d).slots.items) a
     elsewhere a d g h ne (inl lt) = are.complete a d g (omega (arith, lt, next))
     elsewhere a d g h ne (inr le) =
-        let same : newest ≡ a = omega (arith, h, le, next) in
-        absurd (ne (subst (λ (i : ℕ). home (length rows) (field_at dropped live i) ≡ k) same here))
+        let same : slot.index ≡ a = omega (arith, h, le, next) in
+        absurd (ne (subst (λ (i : ℕ). home part (length rows) (field_at dropped live i) ≡ k) same here))
 
-    pub rows_entered : Changed dropped live (entered + 1) rows k new
+    pub rows_entered : Changed part dropped live (entered + 1) rows k new
     rows_entered = record {
       row = rises;
       others = λ j d h ne. are.are_rows j d h;
-      at_home = λ a c. home_new a (cases_eq newest a)
-          (Contains-permutation (new.indexes.items) (newest ∷ r.indexes.items) a
-          (IsPermutation-sym (newest ∷ r.indexes.items) (new.indexes.items) moved) c);
-      others_at_home = λ j d a h ne c.
-          let there = are.at_home j d a h c in (omega (arith, there.0), there.1);
-      complete = λ a g h q. Contains-permutation (newest ∷ r.indexes.items) (new.indexes.items) a moved
-          (there_new a g h q (cases_lt a newest));
-      others_complete = λ a d g h ne. elsewhere a d g h ne (cases_lt a newest);
-      counted = omega (
-        arith,
-        sizes,
-        length_permutation (newest ∷ r.indexes.items) (new.indexes.items) moved,
-        are.counted,
-      );
+      at_home = home_new;
+      others_at_home = λ j d s h ne c.
+          let there = are.at_home j d s h c in (omega (arith, there.0), there.1);
+      complete = λ a g h q. there_new a g h q (cases_lt a slot.index);
+      others_complete = λ a d g h ne. elsewhere a d g h ne (cases_lt a slot.index);
     }
 
   module _ (some : 0 < length live) (inside : 0 < entered)
-      (here : home (length rows) (field_at dropped live (dropped + 1)) ≡ k)
-      (rises : IsRow dropped live (new.indexes.items))
-      (moved : IsPermutation (r.indexes.items) ((dropped + 1) ∷ new.indexes.items))
-      (gone : Contains (new.indexes.items) (dropped + 1) → ⊥) where
-    not_there : (j : ℕ) (d : Row) → j < length rows → (j ≡ k → ⊥)
-        → Contains ((get_or rows j d).indexes.items) (dropped + 1) → ⊥
-    not_there j d h ne c = ne (sym (are.at_home j d (dropped + 1) h c).1 ∙ here)
-
-    later : (a : ℕ) (xs : List ℕ) → IsRow dropped live xs → (Contains xs (dropped + 1) → ⊥) → Contains xs a
-        → dropped + 1 < a
-    later a xs is none c =
-        let at = contained xs a c in
-        let above : dropped < slice_index xs c.0 = (is.all_live c.0 at.within).0 in
-        elim (cases_lt (dropped + 1) a) [
-          | inl lt ↦ lt
-          | inr le ↦
-              let same : a ≡ dropped + 1 = omega (arith, le, above, at.is) in
-              absurd (none (subst (Contains xs) same c))
-        ]
-
-    from_new : (a : ℕ) → Contains (new.indexes.items) a → Contains (r.indexes.items) a
-    from_new a c = Contains-permutation ((dropped + 1) ∷ new.indexes.items) (r.indexes.items) a
-        (IsPermutation-sym (r.indexes.items) ((dropped + 1) ∷ new.indexes.items) moved)
-        (contains_more (new.indexes.items) (dropped + 1) a c)
+      (here : home part (length rows) (field_at dropped live (dropped + 1)) ≡ k)
+      (rises : IsRow part dropped live (new.slots.items))
+      (leaves : Leaves (r.slots.items) (new.slots.items) (dropped + 1)) where
+    not_there : (j : ℕ) (d : Row) → j < length rows → (j ≡ k → ⊥) → (s : Slot)
+        → Contains ((get_or rows j d).slots.items) s → s.index ≡ dropped + 1 → ⊥
+    not_there j d h ne s c e =
+        ne (sym (are.at_home j d s h c).1
+        ∙ ap (λ (i : ℕ). home part (length rows) (field_at dropped live i)) e ∙ here)
 
     home_left : (a j : ℕ) → dropped + 1 < a
-        → (a ≤ dropped + entered) × (home (length rows) (field_at dropped live a) ≡ j)
-        → (a ≤ dropped + 1 + (entered - 1)) × (home (length rows) (field_at (dropped + 1) (drop 1 live) a) ≡ j)
-    home_left a j lt there =
-        (omega (arith, there.0, inside), ap (home (length rows)) (drop_field dropped live a lt) ∙ there.1)
+        → (a ≤ dropped + entered) × (home part (length rows) (field_at dropped live a) ≡ j)
+        → (a ≤ dropped + 1 + (entered - 1))
+        × (home part (length rows) (field_at (dropped + 1) (drop 1 live) a) ≡ j)
+    home_left a j lt there = (
+      omega (arith, there.0, inside),
+      ap (λ (f : Field). home part (length rows) f) (drop_field dropped live a lt) ∙ there.1,
+    )
+
+    -- a slot that is found stays found
+    slot_left : (row : List Slot) (a : ℕ) → dropped + 1 < a → (s : Slot) → Contains row s → a ≤ s.index
+        → s.index ≤ dropped + length live → part_at part dropped live s.index ≡ part_at part dropped live a
+        → HasSlotOf part (dropped + 1) (drop 1 live) row a
+    slot_left row a lt s c le most same = (
+      s,
+      c,
+      le,
+      omega (arith, most, length-drop 1 live, some),
+      ap (λ (f : Field). part_of part f) (drop_field dropped live s.index (omega (arith, lt, le))) ∙ same
+          ∙ ap (λ (f : Field). part_of part f) (sym (drop_field dropped live a lt)),
+    )
 
     complete_left : (a : ℕ) → dropped + 1 < a → a ≤ dropped + 1 + (entered - 1)
-        → home (length rows) (field_at (dropped + 1) (drop 1 live) a) ≡ k → Contains (new.indexes.items) a
+        → home part (length rows) (field_at (dropped + 1) (drop 1 live) a) ≡ k
+        → HasSlotOf part (dropped + 1) (drop 1 live) (new.slots.items) a
     complete_left a g h q =
         let was = complete_there a (omega (arith, g)) (omega (arith, h, inside))
-        (ap (home (length rows)) (sym (drop_field dropped live a g)) ∙ q) in
-        contains_other (new.indexes.items) (dropped + 1) a (λ e. omega (arith, e, g))
-        (Contains-permutation (r.indexes.items) ((dropped + 1) ∷ new.indexes.items) a moved was)
+        (ap (λ (f : Field). home part (length rows) f) (sym (drop_field dropped live a g)) ∙ q) in
+        slot_left (new.slots.items) a g was.0 (leaves.kept was.0 was.1 (λ e. omega (arith, e, g, was.2))) was.2 was.3
+        was.4
 
-    pub rows_left : Changed (dropped + 1) (drop 1 live) (entered - 1) rows k new
+    others_left : (a : ℕ) (d : Row) → dropped + 1 < a → a ≤ dropped + 1 + (entered - 1)
+        → HasSlotOf part (dropped + 1) (drop 1 live)
+        ((get_or rows (home part (length rows) (field_at dropped live a)) d).slots.items) a
+    others_left a d g h =
+        let was = are.complete a d (omega (arith, g)) (omega (arith, h, inside)) in
+        slot_left ((get_or rows (home part (length rows) (field_at dropped live a)) d).slots.items) a g was.0 was.1
+        was.2 was.3 was.4
+
+    pub rows_left : Changed part (dropped + 1) (drop 1 live) (entered - 1) rows k new
     rows_left = record {
-      row = row_behind dropped live (new.indexes.items) some rises gone;
-      others = λ j d h ne. row_behind dropped live ((get_or rows j d).indexes.items) some (are.are_rows j d h)
+      row = row_behind part dropped live (new.slots.items) some rises leaves.gone;
+      others = λ j d h ne.
+          row_behind part dropped live ((get_or rows j d).slots.items) some (are.are_rows j d h)
           (not_there j d h ne);
-      at_home = λ a c. home_left a k (later a (new.indexes.items) rises gone c) (at_home_there a (from_new a c));
-      others_at_home = λ j d a h ne c.
-          home_left a j (later a ((get_or rows j d).indexes.items) (are.are_rows j d h) (not_there j d h ne) c)
-          (are.at_home j d a h c);
+      at_home = λ s c. home_left s.index k
+          (above_oldest part dropped live (new.slots.items) rises s c (leaves.gone s c))
+          (at_home_there s (leaves.only s c));
+      others_at_home = λ j d s h ne c. home_left s.index j
+          (above_oldest part dropped live ((get_or rows j d).slots.items) (are.are_rows j d h) s c
+          (not_there j d h ne s c))
+          (are.at_home j d s h c);
       complete = complete_left;
       others_complete = λ a d g h ne.
-          subst (λ (f : Field). Contains ((get_or rows (home (length rows) f) d).indexes.items) a)
-          (sym (drop_field dropped live a g))
-          (are.complete a d (omega (arith, g)) (omega (arith, h, inside)));
-      counted = omega (
-        arith,
-        sizes,
-        length_permutation (r.indexes.items) ((dropped + 1) ∷ new.indexes.items) moved,
-        are.counted,
-        inside,
-      );
+          subst (λ (f : Field). HasSlotOf part (dropped + 1) (drop 1 live)
+          ((get_or rows (home part (length rows) f) d).slots.items) a)
+          (sym (drop_field dropped live a g)) (others_left a d g h);
     }
 
 -- ---- an entry is pushed that has not come in yet
 
-pub rows_pushed : (dropped : ℕ) (live : List Field) (f : Field) (rows : List Row)
-    → AreRowsOf dropped live (length live) rows → AreRowsOf dropped (live ++ f ∷ []) (length live) rows
-rows_pushed dropped live f rows are = record {
+pub rows_pushed : (part : Part) (dropped : ℕ) (live : List Field) (f : Field) (rows : List Row)
+    → AreRowsOf part dropped live (length live) rows → AreRowsOf part dropped (live ++ f ∷ []) (length live) rows
+rows_pushed part dropped live f rows are = record {
   some = are.some;
-  are_rows = λ k d h. row_pushed dropped live f ((get_or rows k d).indexes.items) (are.are_rows k d h);
-  at_home = λ k d a h c.
-      let there = are.at_home k d a h c in
-      let at = contained ((get_or rows k d).indexes.items) a c in
-      let above : dropped < slice_index ((get_or rows k d).indexes.items) c.0 =
-      ((are.are_rows k d h).all_live c.0 at.within).0 in (
+  are_rows = λ k d h. row_pushed part dropped live f ((get_or rows k d).slots.items) (are.are_rows k d h);
+  at_home = λ k d s h c.
+      let there = are.at_home k d s h c in
+      let at = (are.are_rows k d h).slots s c in (
         there.0,
-        ap (home (length rows)) (field_pushed dropped live f a (omega (arith, above, at.is), there.0))
-            ∙ there.1,
+        ap (λ (x : Field). home part (length rows) x) (field_pushed dropped live f s.index at.0) ∙ there.1,
       );
   complete = λ a d g h.
-      subst (λ (x : Field). Contains ((get_or rows (home (length rows) x) d).indexes.items) a)
-      (sym (field_pushed dropped live f a (g, h))) (are.complete a d g h);
-  counted = are.counted;
+      subst (λ (x : Field). HasSlotOf part dropped (live ++ f ∷ [])
+      ((get_or rows (home part (length rows) x) d).slots.items) a)
+      (sym (field_pushed dropped live f a (g, h))) (there a d g h);
 }
+  where
+    there : (a : ℕ) (d : Row) → dropped < a → a ≤ dropped + length live
+        → HasSlotOf part dropped (live ++ f ∷ [])
+        ((get_or rows (home part (length rows) (field_at dropped live a)) d).slots.items) a
+    there a d g h =
+        let was = are.complete a d g h in (
+          was.0,
+          was.1,
+          was.2,
+          omega (arith, was.3, length-append live (f ∷ [])),
+          ap (λ (x : Field). part_of part x)
+              (field_pushed dropped live f was.0.index (omega (arith, g, was.2), was.3))
+              ∙ was.4
+              ∙ ap (λ (x : Field). part_of part x) (sym (field_pushed dropped live f a (g, h))),
+        )

@@ -1,56 +1,112 @@
 -- The index as a whole.
 use Rattle.std.proofs.Common.{◌≡◌, ℕ, ◌+◌, ◌-◌, ◌<◌, ◌≤◌, [], ◌∷◌, ◌++◌, List, length, get_or, drop, sym, ap}
-use Rattle.std.proofs.Common.{subst, ◌∙◌, arith}
-use Rattle.std.proofs.lemmas.List.{length-drop, length-append}
+use Rattle.std.proofs.Common.{subst, ◌∙◌, inl, inr, ◌⊎◌, arith}
+use Rattle.std.proofs.lemmas.Bool.{cases_lt}
+use Rattle.std.proofs.lemmas.List.{length-drop, length-append, get_or_append_left, get_or-drop}
 use Rattle.std.proofs.Math.Seq.{get_or-append_seam}
 use Rattle.qpack_base.specs.HeaderFields.{field_of}
-use Rattle.qpack_spec.specs.Field.{Field}
+use Rattle.qpack_spec.specs.Field.{Field, FieldLine, unmarked}
 use Rattle.qpack_table.specs.Positions.{Positions}
-use Rattle.qpack_table.specs.Rows.{field_at}
-use Rattle.qpack_table.specs.Indexes.{AreHashesOf, AreNamesOf, IsIndexOf}
+use Rattle.qpack_table.specs.Rows.{field_at, part_of, part_at}
+use Rattle.qpack_table.specs.Indexes.{AreHashesOf, AreAllHashesOf, IsIndexOf}
 use Rattle.qpack_table.specs.Tables.{live_fields}
 use Rattle.qpack_table.specs.declared.dynamic.entry.Entry.{Entry}
 use Rattle.qpack_table.specs.declared.dynamic.index.Index.{Index}
 use Rattle.qpack_table.specs.declared.dynamic.index.hash.Hashes.{Hashes}
-use Rattle.qpack_table.specs.declared.dynamic.index.names.Link.{Link}
-use Rattle.qpack_table.proofs.NameChains.{names_pushed}
+use Rattle.qpack_table.specs.declared.dynamic.index.row.Part.{Part}
+use Rattle.qpack_table.specs.declared.dynamic.index.row.Part.TheVariants.{Name, Whole}
+use Rattle.qpack_table.proofs.RowChanges.{field_pushed, drop_field}
+use Rattle.qpack_table.proofs.RowSearches.{entry_part}
 use Rattle.qpack_table.proofs.RowsChanges.{rows_pushed}
 use Rattle.qpack_table.proofs.Evictions.{joined_fields}
 use Rattle.qpack_table.proofs.Lookups.{fields_long}
 
--- what a call promises of names that count as many links as there are
-pub names_counted : (P : ℕ → Type 0) (dropped : ℕ) (live : List Field) (entered : ℕ) (heads : List ℕ)
-    (links : List Link) → AreNamesOf dropped live entered heads links
-    → (AreNamesOf dropped live (length links) heads links → P (length links)) → P entered
-names_counted P dropped live entered heads links are promised =
-    subst P are.counted
-    (promised (subst (λ (n : ℕ). AreNamesOf dropped live n heads links) (sym are.counted) are))
+-- ---- the hashes of all entries
 
-pub hashes_there : (dropped : ℕ) (live : List Field) (entered position index : ℕ) (heads : List ℕ) (links : List Link)
-    (hashes : Hashes) → AreNamesOf dropped live entered heads links → dropped + position + 1 ≡ index
-    → (AreNamesOf dropped live (length links) heads links
-    → AreHashesOf hashes (field_at dropped live (dropped + position + 1)))
-    → AreHashesOf hashes (field_at dropped live index)
-hashes_there dropped live entered position index heads links hashes are is promised =
-    subst (λ (a : ℕ). AreHashesOf hashes (field_at dropped live a)) is
-    (names_counted (λ n. AreHashesOf hashes (field_at dropped live (dropped + position + 1))) dropped live entered heads
-    links are promised)
+pub no_hashes : (dropped : ℕ) (live : List Field) (hashes : List Hashes) → hashes ≡ []
+    → AreAllHashesOf dropped live 0 hashes
+no_hashes dropped live hashes e = record {
+  counted = ap (λ (l : List Hashes). length l) e;
+  hashed = λ k d h. absurd (omega (arith, h));
+}
+
+pub hashes_read : (dropped : ℕ) (live : List Field) (entered position index : ℕ) (hashes : List Hashes) (h : Hashes)
+    → AreAllHashesOf dropped live entered hashes → position < entered → dropped + position + 1 ≡ index
+    → h ≡ get_or hashes position h → AreHashesOf h (field_at dropped live index)
+hashes_read dropped live entered position index hashes h are within is read =
+    subst (λ (a : ℕ). AreHashesOf h (field_at dropped live a)) is
+    (subst (λ (x : Hashes). AreHashesOf x (field_at dropped live (dropped + position + 1))) (sym read)
+    (are.hashed position h within))
+
+hashes_pushed : (dropped : ℕ) (live : List Field) (f : Field) (hashes : List Hashes)
+    → AreAllHashesOf dropped live (length live) hashes → AreAllHashesOf dropped (live ++ f ∷ []) (length live) hashes
+hashes_pushed dropped live f hashes are = record {
+  counted = are.counted;
+  hashed = λ k d h.
+      subst (λ (x : Field). AreHashesOf (get_or hashes k d) x)
+      (sym (field_pushed dropped live f (dropped + k + 1) (omega arith, omega (arith, h)))) (are.hashed k d h);
+}
+
+pub hashes_entered : (dropped : ℕ) (live : List Field) (entered index : ℕ) (hashes new : List Hashes) (h : Hashes)
+    → AreAllHashesOf dropped live entered hashes → index ≡ dropped + entered + 1
+    → AreHashesOf h (field_at dropped live index) → new ≡ hashes ++ h ∷ []
+    → AreAllHashesOf dropped live (entered + 1) new
+hashes_entered dropped live entered index hashes new h are next is made =
+    subst (λ (l : List Hashes). AreAllHashesOf dropped live (entered + 1) l) (sym made) (record {
+      counted = omega (arith, length-append hashes (h ∷ []), are.counted);
+      hashed = λ k d lt. pick k d lt (cases_lt k entered);
+    })
+  where
+    pick : (k : ℕ) (d : Hashes) → k < entered + 1 → (k < entered) ⊎ (entered ≤ k)
+        → AreHashesOf (get_or (hashes ++ h ∷ []) k d) (field_at dropped live (dropped + k + 1))
+    pick k d lt (inl less) =
+        subst (λ (x : Hashes). AreHashesOf x (field_at dropped live (dropped + k + 1)))
+        (sym (get_or_append_left hashes (h ∷ []) d k (omega (arith, less, are.counted)))) (are.hashed k d less)
+    pick k d lt (inr le) =
+        let last : length hashes ≡ k = omega (arith, le, lt, are.counted) in
+        let there : index ≡ dropped + k + 1 = omega (arith, le, lt, next) in
+        subst (λ (x : Hashes). AreHashesOf x (field_at dropped live (dropped + k + 1)))
+        (sym (get_or-append_seam hashes h [] d) ∙ ap (λ (i : ℕ). get_or (hashes ++ h ∷ []) i d) last)
+        (subst (λ (a : ℕ). AreHashesOf h (field_at dropped live a)) there is)
+
+pub hashes_left : (dropped : ℕ) (live : List Field) (entered : ℕ) (hashes new : List Hashes) → 0 < entered
+    → AreAllHashesOf dropped live entered hashes → new ≡ drop 1 hashes
+    → AreAllHashesOf (dropped + 1) (drop 1 live) (entered - 1) new
+hashes_left dropped live entered hashes new inside are made =
+    subst (λ (l : List Hashes). AreAllHashesOf (dropped + 1) (drop 1 live) (entered - 1) l) (sym made) (record {
+      counted = omega (arith, length-drop 1 hashes, are.counted);
+      hashed = λ k d lt.
+          let there : dropped + (1 + k) + 1 ≡ dropped + 1 + k + 1 = omega arith in
+          subst (λ (x : Hashes). AreHashesOf x (field_at (dropped + 1) (drop 1 live) (dropped + 1 + k + 1)))
+          (sym (get_or-drop 1 hashes k d))
+          (subst (λ (f : Field). AreHashesOf (get_or hashes (1 + k) d) f)
+          (sym (drop_field dropped live (dropped + 1 + k + 1) (omega arith)))
+          (subst (λ (a : ℕ). AreHashesOf (get_or hashes (1 + k) d) (field_at dropped live a)) there
+          (are.hashed (1 + k) d (omega (arith, lt, inside)))));
+    })
+
+-- hashes that stay
+pub hashes_same : (dropped : ℕ) (live : List Field) (entered : ℕ) (hashes now : List Hashes) → now ≡ hashes
+    → AreAllHashesOf dropped live entered hashes → AreAllHashesOf dropped live entered now
+hashes_same dropped live entered hashes now e are =
+    subst (λ (l : List Hashes). AreAllHashesOf dropped live entered l) (sym e) are
 
 index_pushed : (dropped : ℕ) (live : List Field) (f : Field) (index : Index)
     → IsIndexOf dropped live (length live) index → IsIndexOf dropped (live ++ f ∷ []) (length live) index
 index_pushed dropped live f index is = record {
-  rows = rows_pushed dropped live f index.rows.rows.items is.rows;
-  names = names_pushed dropped live f index.names.heads.items index.names.links.items is.names;
+  fields = rows_pushed Whole dropped live f index.fields.rows.items is.fields;
+  names = rows_pushed Name dropped live f index.names.rows.items is.names;
+  hashes = hashes_pushed dropped live f index.hashes.items is.hashes;
   matched = is.matched;
 }
 
--- names whose heads and links stay
-pub names_same : (dropped : ℕ) (live : List Field) (entered : ℕ) (heads more : List ℕ) (links now : List Link)
-    → more ≡ heads → now ≡ links → AreNamesOf dropped live entered heads links
-    → AreNamesOf dropped live entered more now
-names_same dropped live entered heads more links now a b are =
-    subst (λ (l : List Link). AreNamesOf dropped live entered more l) (sym b)
-    (subst (λ (h : List ℕ). AreNamesOf dropped live entered h links) (sym a) are)
+-- the line of a live entry that was read
+pub line_read : (part : Part) (dropped : ℕ) (es : List Entry) (index : ℕ) (e : Entry) (l : FieldLine)
+    → (dropped < index) × (index ≤ dropped + length es) → e ≡ get_or es (index - dropped - 1) e
+    → l ≡ unmarked (field_of e.field) → part_of part l.field ≡ part_at part dropped (live_fields es) index
+line_read part dropped es index e l live read is =
+    ap (λ (x : FieldLine). part_of part x.field) is
+    ∙ entry_part part dropped es index e (live.0, omega (arith, live.1, fields_long es)) read
 
 -- ---- as the table's entries come and go
 

@@ -1,87 +1,76 @@
--- The index of the dynamic table's live entries: rows of absolute indexes, cut by a hash of their fields.
-use Rattle.std.specs.Prelude.{◌≡◌, ◌≢◌, ℕ, ◌+◌, ◌-◌, ◌<◌, ◌≤◌, Bool, List, length, sum_by, Option, Contains}
+-- The index of the dynamic table's live entries: rows of absolute indexes, cut by a hash of a part of their fields.
+use Rattle.std.specs.Prelude.{◌≡◌, ◌≢◌, ℕ, ◌+◌, ◌-◌, ◌<◌, ◌≤◌, Bool, List, length, Option, MatchOption, Contains}
 use Rattle.std.specs.Prelude.{slice_index_or, vec_len, vec_capacity}
 use Rattle.std.specs.VecDeque.{deque_len, deque_capacity}
 use Rattle.qpack_spec.specs.Field.{Field}
 use Rattle.qpack_spec.specs.Table as table
 use Rattle.qpack_spec.specs.Table.{Table, newest_index}
 use Rattle.qpack_table.specs.Hashes.{field_hash, name_hash, position_among}
-use Rattle.qpack_table.specs.Rows.{field_at, IsRow}
+use Rattle.qpack_table.specs.Rows.{field_at, part_at, hash_of, IsLiveIndex, IsRow}
 use Rattle.qpack_table.specs.declared.dynamic.index.Index.{Index}
 use Rattle.qpack_table.specs.declared.dynamic.index.hash.Hashes.{Hashes}
-use Rattle.qpack_table.specs.declared.dynamic.index.names.Link.{Link}
-use Rattle.qpack_table.specs.declared.dynamic.index.names.Names.{Names}
+use Rattle.qpack_table.specs.declared.dynamic.index.row.Part.{Part}
+use Rattle.qpack_table.specs.declared.dynamic.index.row.Part.TheVariants.{Name, Whole}
 use Rattle.qpack_table.specs.declared.dynamic.index.row.Row.{Row}
+use Rattle.qpack_table.specs.declared.dynamic.index.row.Slot.{Slot}
 
--- the row of a field, among so many
-abbrev pub home : ℕ → Field → ℕ
-home count f = position_among count (field_hash f)
+-- the row of a part, among so many
+abbrev pub home : Part → ℕ → Field → ℕ
+home part count f = position_among count (hash_of part f)
 
--- so many of the oldest live entries stand in the rows, each in that of its field, and nothing else does
-pub record AreRowsOf (dropped : ℕ) (live : List Field) (entered : ℕ) (rows : List Row) : Type 0 where
+-- a row has the slot of an index, or of a newer one with the same part
+abbrev pub HasSlotOf : Part → ℕ → List Field → List Slot → ℕ → Type 0
+HasSlotOf part dropped live row index =
+    (s : Slot) × Contains row s × (index ≤ s.index) × (s.index ≤ dropped + length live)
+    × (part_at part dropped live s.index ≡ part_at part dropped live index)
+
+-- of so many of the oldest live entries, the newest of each part stands in the rows, each in that of its part, and
+-- nothing else does
+pub record AreRowsOf (part : Part) (dropped : ℕ) (live : List Field) (entered : ℕ) (rows : List Row) : Type 0 where
   pub some : 0 < entered → 0 < length rows
-  pub are_rows : (k : ℕ) (d : Row) → k < length rows → IsRow dropped live ((slice_index_or rows k d).indexes.items)
-  pub at_home : (k : ℕ) (d : Row) (index : ℕ) → k < length rows
-      → Contains ((slice_index_or rows k d).indexes.items) index
-      → (index ≤ dropped + entered) × (home (length rows) (field_at dropped live index) ≡ k)
+  pub are_rows : (k : ℕ) (d : Row) → k < length rows
+      → IsRow part dropped live ((slice_index_or rows k d).slots.items)
+  pub at_home : (k : ℕ) (d : Row) (s : Slot) → k < length rows
+      → Contains ((slice_index_or rows k d).slots.items) s
+      → (s.index ≤ dropped + entered) × (home part (length rows) (field_at dropped live s.index) ≡ k)
   pub complete : (index : ℕ) (d : Row) → dropped < index → index ≤ dropped + entered
-      → Contains ((slice_index_or rows (home (length rows) (field_at dropped live index)) d).indexes.items) index
-  pub counted : sum_by (λ (r : Row). length r.indexes.items) rows ≡ entered
+      → HasSlotOf part dropped live
+      ((slice_index_or rows (home part (length rows) (field_at dropped live index)) d).slots.items) index
 
 -- the row of a hash has room for one more
 pub record HasRoomFor (rows : List Row) (hash : ℕ) : Type 0 where
   pub some : 0 < length rows
-  pub room : (d : Row) → vec_len ((slice_index_or rows (position_among (length rows) hash) d).indexes)
-      < vec_capacity ((slice_index_or rows (position_among (length rows) hash) d).indexes)
+  pub room : (d : Row) → vec_len ((slice_index_or rows (position_among (length rows) hash) d).slots)
+      < vec_capacity ((slice_index_or rows (position_among (length rows) hash) d).slots)
 
--- ---- names
-
--- the bucket of a name, among so many
-abbrev pub bucket : ℕ → List ℕ → ℕ
-bucket count name = position_among count (name_hash name)
-
--- of the live indexes below a limit, the greatest whose name is in a bucket; one that isn't live, if there is none
-pub record IsNewestOf (dropped : ℕ) (live : List Field) (count position limit index : ℕ) : Type 0 where
-  pub below : index < limit
-  pub there : dropped < index → bucket count (field_at dropped live index).name ≡ position
-  pub newest : (other : ℕ) → dropped < other → index < other → other < limit
-      → bucket count (field_at dropped live other).name ≢ position
+-- the newest live index with such a part, or none if no live entry has it
+abbrev pub FindsNewest : Part → ℕ → List Field → Field → Option ℕ → Type 0
+FindsNewest part dropped live f found =
+    MatchOption found ((other : ℕ) → IsLiveIndex dropped live other → part_at part dropped live other ≢ f)
+    (λ index. IsLiveIndex dropped live index × (part_at part dropped live index ≡ f)
+    × ((other : ℕ) → IsLiveIndex dropped live other → part_at part dropped live other ≡ f → other ≤ index))
 
 abbrev pub AreHashesOf : Hashes → Field → Type 0
 AreHashesOf hashes f = (hashes.name ≡ name_hash f.name) × (hashes.field ≡ field_hash f)
 
--- what is kept of a live entry: its hashes, and the next older index of its bucket
-pub record IsLinkOf (dropped : ℕ) (live : List Field) (count index : ℕ) (link : Link) : Type 0 where
-  pub hashed : AreHashesOf link.hashes (field_at dropped live index)
-  pub chained : IsNewestOf dropped live count (bucket count (field_at dropped live index).name) index link.older
-
--- so many of the oldest live entries are linked, each bucket's newest first
-pub record AreNamesOf (dropped : ℕ) (live : List Field) (entered : ℕ) (heads : List ℕ) (links : List Link) : Type 0
-  where
-    pub some : 0 < entered → 0 < length heads
-    pub newest : (k d : ℕ) → k < length heads
-        → IsNewestOf dropped live (length heads) k (dropped + entered + 1) (slice_index_or heads k d)
-    pub counted : length links ≡ entered
-    pub linked : (index : ℕ) (d : Link) → dropped < index → index ≤ dropped + entered
-        → IsLinkOf dropped live (length heads) index (slice_index_or links (index - dropped - 1) d)
-
--- there is room for one more
-pub record HasRoomForLink (names : Names) : Type 0 where
-  pub some : 0 < length names.heads.items
-  pub room : deque_len names.links < deque_capacity names.links
-
--- ---- rows and names
+-- the hashes of so many of the oldest live entries
+pub record AreAllHashesOf (dropped : ℕ) (live : List Field) (entered : ℕ) (hashes : List Hashes) : Type 0 where
+  pub counted : length hashes ≡ entered
+  pub hashed : (k : ℕ) (d : Hashes) → k < entered
+      → AreHashesOf (slice_index_or hashes k d) (field_at dropped live (dropped + k + 1))
 
 -- so many of the oldest live entries are in the index
 pub record IsIndexOf (dropped : ℕ) (live : List Field) (entered : ℕ) (index : Index) : Type 0 where
-  pub rows : AreRowsOf dropped live entered index.rows.rows.items
-  pub names : AreNamesOf dropped live entered index.names.heads.items index.names.links.items
-  pub matched : length index.names.heads.items ≡ length index.rows.rows.items
+  pub fields : AreRowsOf Whole dropped live entered index.fields.rows.items
+  pub names : AreRowsOf Name dropped live entered index.names.rows.items
+  pub hashes : AreAllHashesOf dropped live entered index.hashes.items
+  pub matched : length index.names.rows.items ≡ length index.fields.rows.items
 
 -- there is room for one more entry with such hashes
 pub record HasRoomForEntry (hashes : Hashes) (index : Index) : Type 0 where
-  pub row : HasRoomFor index.rows.rows.items hashes.field
-  pub link : HasRoomForLink index.names
+  pub field : HasRoomFor index.fields.rows.items hashes.field
+  pub name : HasRoomFor index.names.rows.items hashes.name
+  pub kept : deque_len index.hashes < deque_capacity index.hashes
 
 -- what the definitions answer for each table with these entries
 abbrev pub IsNewestIn : ℕ → List table.Entry → (Field → Bool) → Option ℕ → Type 0

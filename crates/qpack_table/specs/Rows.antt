@@ -1,12 +1,18 @@
--- A row of the dynamic table's index: absolute indexes in the order of their entries' fields.
-use Rattle.std.specs.Prelude.{◌≡◌, ◌≢◌, ℕ, ◌+◌, ◌-◌, ◌<◌, ◌≤◌, ◌^◌, Bool, true, false, List, [], length, slice_index}
-use Rattle.std.specs.Prelude.{slice_index_or, Option, MatchOption, MatchBool, Contains}
+-- A row of the dynamic table's index: slots with the absolute indexes of entries, in the order of a part of their
+-- fields.
+use Rattle.std.specs.Prelude.{◌≡◌, ◌≢◌, ℕ, ◌+◌, ◌-◌, ◌<◌, ◌≤◌, ◌^◌, List, [], length, slice_index_or}
+use Rattle.std.specs.Prelude.{Option, MatchOption, Result, Ok, Err, Contains, ◌⊎◌}
 use Rattle.std.specs.List.{AllPairs}
 use Rattle.std.specs.declared.cmp.Ordering.{Ordering}
-use Rattle.std.specs.declared.cmp.Ordering.TheVariants.{Less}
-use Rattle.std.specs.Ordering.{is_gt, nat_cmp, ordering_then}
-use Rattle.qpack_base.specs.HeaderFields.{field_cmp}
+use Rattle.std.specs.declared.cmp.Ordering.TheVariants.{Less, Equal, Greater}
+use Rattle.std.specs.Ordering.{nat_cmp, ordering_then}
+use Rattle.qpack_base.specs.HeaderFields.{field_cmp, line_of}
 use Rattle.qpack_spec.specs.Field.{Field}
+use Rattle.qpack_table.specs.Hashes.{field_hash, name_hash}
+use Rattle.qpack_table.specs.declared.dynamic.index.row.Part.{Part}
+use Rattle.qpack_table.specs.declared.dynamic.index.row.Part.TheVariants.{Name, Whole}
+use Rattle.qpack_table.specs.declared.dynamic.index.row.Slot.{Slot}
+use Rattle.qpack_table.specs.declared.dynamic.index.row.Sought.{Sought}
 
 -- an absolute index is that of a live entry (RFC 9204, section 3.2.4, which begins at 0)
 abbrev pub IsLiveIndex : ℕ → List Field → ℕ → Type 0
@@ -16,56 +22,98 @@ IsLiveIndex dropped live index = (dropped < index) × (index ≤ dropped + lengt
 abbrev pub field_at : ℕ → List Field → ℕ → Field
 field_at dropped live index = slice_index_or live (index - dropped - 1) (record { name = []; value = [] })
 
--- where an index stands among others
+-- a part of a field: its name alone, or all of it
+abbrev pub part_of : Part → Field → Field
+part_of Name f = record { name = f.name; value = [] }
+part_of Whole f = f
+
+-- the hash of that part
+abbrev pub hash_of : Part → Field → ℕ
+hash_of Name f = name_hash f.name
+hash_of Whole f = field_hash f
+
+-- the part of the field of a live entry's absolute index
+abbrev pub part_at : Part → ℕ → List Field → ℕ → Field
+part_at part dropped live index = part_of part (field_at dropped live index)
+
+-- where a part stands among others
 pub record Key : Type 0 where
+  pub hash : ℕ
   pub field : Field
-  pub index : ℕ
 
--- by field, then by index
+-- by its hash, then by itself
 unfoldable pub key_cmp : Key → Key → Ordering
-key_cmp k l = ordering_then (field_cmp k.field l.field) (nat_cmp k.index l.index)
+key_cmp k l = ordering_then (nat_cmp k.hash l.hash) (field_cmp k.field l.field)
 
-abbrev pub key_at : ℕ → List Field → ℕ → Key
-key_at dropped live index = record { field = field_at dropped live index; index = index }
+abbrev pub key_at : Part → ℕ → List Field → Slot → Key
+key_at part dropped live s = record { hash = s.hash; field = part_at part dropped live s.index }
 
--- each index comes before those behind it
-abbrev pub Rises : ℕ → List Field → List ℕ → Type 0
-Rises dropped live row = AllPairs (λ a b. key_cmp (key_at dropped live a) (key_at dropped live b) ≡ Less) row
+-- what is sought
+abbrev pub field_of_sought : Sought → Field
+field_of_sought s = part_of s.part (line_of s.line).field
 
--- a row of live indexes that rises
-pub record IsRow (dropped : ℕ) (live : List Field) (row : List ℕ) : Type 0 where
-  pub all_live : (k : ℕ) → k < length row → IsLiveIndex dropped live (slice_index row k)
-  pub rises : Rises dropped live row
+abbrev pub key_of : Sought → Key
+key_of s = record { hash = s.hash; field = field_of_sought s }
 
--- an index stands behind the field, and behind the index `last` that has it
-abbrev pub is_behind : ℕ → List Field → Field → ℕ → ℕ → Bool
-is_behind dropped live f last index = is_gt
-    (key_cmp (key_at dropped live index) (record { field = f; index = last }))
+-- it has its part's hash
+abbrev pub IsHashed : Sought → Type 0
+IsHashed s = s.hash ≡ hash_of s.part (line_of s.line).field
 
--- the position parts the row: what is before it isn't behind, and what is from it on is
-pub record IsPositionBehind (dropped : ℕ) (live : List Field) (row : List ℕ) (f : Field) (last position : ℕ) : Type 0
+-- a slot of a live index, with its part's hash
+abbrev pub IsSlot : Part → ℕ → List Field → Slot → Type 0
+IsSlot part dropped live s = IsLiveIndex dropped live s.index × (s.hash ≡ hash_of part (field_at dropped live s.index))
+
+-- slots that rise, so no two have the same part
+pub record IsRow (part : Part) (dropped : ℕ) (live : List Field) (row : List Slot) : Type 0 where
+  pub slots : (s : Slot) → Contains row s → IsSlot part dropped live s
+  pub rises : AllPairs (λ a b. key_cmp (key_at part dropped live a) (key_at part dropped live b) ≡ Less) row
+
+-- the slot at a position has what is sought
+pub record IsMatch (part : Part) (dropped : ℕ) (live : List Field) (row : List Slot) (k : Key) (position : ℕ) : Type 0
+  where
+    pub within : position < length row
+    pub equal : (d : Slot) → key_cmp (key_at part dropped live (slice_index_or row position d)) k ≡ Equal
+
+-- no slot has it, and those before the position come before it
+pub record IsGap (part : Part) (dropped : ℕ) (live : List Field) (row : List Slot) (k : Key) (position : ℕ) : Type 0
   where
     pub within : position ≤ length row
-    pub before : (k : ℕ) → k < position → is_behind dropped live f last (slice_index row k) ≡ false
-    pub after : (k : ℕ) → position ≤ k → k < length row → is_behind dropped live f last (slice_index row k) ≡ true
+    pub before : (j : ℕ) (d : Slot) → j < position
+        → key_cmp (key_at part dropped live (slice_index_or row j d)) k ≡ Less
+    pub after : (j : ℕ) (d : Slot) → position ≤ j → j < length row
+        → key_cmp (key_at part dropped live (slice_index_or row j d)) k ≡ Greater
 
--- whether the index before a position has the field
-abbrev pub IsEqualBefore : ℕ → List Field → List ℕ → Field → ℕ → Bool → Type 0
-IsEqualBefore dropped live row f position equal =
-    MatchBool equal ((0 < position) × (field_at dropped live (slice_index row (position - 1)) ≡ f))
-    (0 < position → field_at dropped live (slice_index row (position - 1)) ≢ f)
+-- what a search found: where it is, or where it would stand
+abbrev pub IsPlace : Part → ℕ → List Field → List Slot → Key → Result ℕ ℕ → Type 0
+IsPlace part dropped live row k (Ok position) = IsMatch part dropped live row k position
+IsPlace part dropped live row k (Err position) = IsGap part dropped live row k position
 
--- the greatest index of the row that has the field
-pub record IsNewest (dropped : ℕ) (live : List Field) (row : List ℕ) (f : Field) (index : ℕ) : Type 0 where
-  pub among : Contains row index
-  pub equal : field_at dropped live index ≡ f
-  pub newest : (other : ℕ) → Contains row other → field_at dropped live other ≡ f → other ≤ index
+-- the index of the row's slot whose entry has the part that is sought, or none if there is no such slot
+abbrev pub FindsSlot : Part → ℕ → List Field → List Slot → Field → Option ℕ → Type 0
+FindsSlot part dropped live row f found =
+    MatchOption found ((s : Slot) → Contains row s → part_at part dropped live s.index ≢ f)
+    (λ index. (s : Slot) × Contains row s × (s.index ≡ index) × (part_at part dropped live index ≡ f))
 
--- that index, or none if no index of the row has the field
-abbrev pub FindsNewest : ℕ → List Field → List ℕ → Field → Option ℕ → Type 0
-FindsNewest dropped live row f found =
-    MatchOption found ((other : ℕ) → Contains row other → field_at dropped live other ≢ f)
-    (λ index. IsNewest dropped live row f index)
+-- what a row has once a slot came in: that one, and those of other parts
+pub record Enters (part : Part) (dropped : ℕ) (live : List Field) (old new : List Slot) (slot : Slot) : Type 0 where
+  pub entered : Contains new slot
+  pub kept : (s : Slot) → Contains old s
+      → (part_at part dropped live s.index ≡ part_at part dropped live slot.index) ⊎ Contains new s
+  pub only : (s : Slot) → Contains new s → (slot ≡ s) ⊎ Contains old s
+
+-- what it has once an index went out: those of other indexes
+pub record Leaves (old new : List Slot) (index : ℕ) : Type 0 where
+  pub kept : (s : Slot) → Contains old s → s.index ≢ index → Contains new s
+  pub only : (s : Slot) → Contains new s → Contains old s
+  pub gone : (s : Slot) → Contains new s → s.index ≢ index
+
+-- the slot at a position is that of an index
+pub record HasIndexAt (row : List Slot) (index position : ℕ) : Type 0 where
+  pub within : position < length row
+  pub is : (d : Slot) → (slice_index_or row position d).index ≡ index
+
+abbrev pub HasNoIndex : List Slot → ℕ → Type 0
+HasNoIndex row index = (j : ℕ) (d : Slot) → j < length row → (slice_index_or row j d).index ≢ index
 
 -- a search among so many raised the count by at most the binary digits of their number, which are the fewest whose
 -- power of two is above it; 0 has none

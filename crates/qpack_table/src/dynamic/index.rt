@@ -1,23 +1,22 @@
-//! The index of the live entries, by which the newest entry with a field, or with a name, is found. It keeps absolute
-//! indexes alone: each call is lent the entries, and is told how many were dropped.
+//! The index of the live entries, by which the newest entry with a field, or with a name, is found. It keeps hashes and
+//! absolute indexes alone: each call is lent the entries, and is told how many were dropped.
 
-ghost use Rattle.std.specs.Prelude.{◌≡◌, ◌+◌, ◌-◌, ◌^◌, ◌<◌, ◌≤◌, ℕ, List, [], IfOk, OnOk, OnErr, length, drop};
+ghost use Rattle.std.specs.Prelude.{◌≡◌, ◌+◌, ◌-◌, ◌^◌, ◌<◌, ◌≤◌, ℕ, List, [], IfOk, OnOk, length, drop};
 ghost use Rattle.qpack_base.specs.HeaderFields.{line_of};
 ghost use Rattle.qpack_spec.specs.Field.{Field, is_field, has_name};
-ghost use Rattle.qpack_table.specs.Tables.{entries_of};
 ghost use Rattle.qpack_table.specs.Rows.{field_at, Counts};
-ghost use Rattle.qpack_table.specs.Tables.{live_fields};
+ghost use Rattle.qpack_table.specs.Tables.{entries_of, live_fields};
 ghost use Rattle.qpack_table.specs.declared.dynamic.index.hash.Hashes.{Hashes};
 ghost use Rattle.qpack_table.specs.Indexes.{AreHashesOf, IsIndexOf, HasRoomForEntry, IsNewestIn};
 
 mod hash;
-mod names;
 mod row;
 mod rows;
 
 use crate::dynamic::entry::Entry;
 pub(super) use crate::dynamic::index::hash::Hashes;
-use crate::dynamic::index::names::Names;
+use crate::dynamic::index::hash::hash_name;
+use crate::dynamic::index::row::{Part, Sought};
 use crate::dynamic::index::rows::Rows;
 use crate::dynamic::steps::Steps;
 use qpack_base::field::FieldLine;
@@ -27,12 +26,14 @@ use std::collections::VecDeque;
 /// The least number of rows, once there are any.
 const LEAST_ROWS: usize = 8;
 
-/// The live entries by their fields and by their names. There are at least as many rows, and as many buckets of
-/// names, as entries.
+/// The newest live entry of each different field, and of each different name. There are at least as many rows of
+/// either as entries.
 #[derive(Debug, Drop)]
 pub(super) struct Index {
-    rows: Rows,
-    names: Names,
+    fields: Rows,
+    names: Rows,
+    /// The hashes of each live entry, the oldest first.
+    hashes: VecDeque<Hashes>,
     alloc: Global,
 }
 
@@ -42,20 +43,22 @@ impl Index {
         ensures { (dropped : ℕ) → IsIndexOf dropped [] 0 result }
     {
         Index {
-            rows: Rows::new(alloc),
-            names: Names::new(alloc),
+            fields: Rows::new(alloc),
+            names: Rows::new(alloc),
+            hashes: VecDeque::new(alloc),
             alloc,
         }
     }
 
-    /// The index of no entry, with so many rows and buckets.
+    /// The index of no entry, with so many rows of either kind.
     fn with_count(alloc: Global, count: usize) -> Result<Index, AllocError>
         ensures empty { IfOk result (λ index. (dropped : ℕ) (live : List Field) → IsIndexOf dropped live 0 index) }
-        ensures rows { IfOk result (λ index. length index.rows.rows.items ≡ count) }
+        ensures rows { IfOk result (λ index. length index.fields.rows.items ≡ count) }
     {
         Ok(Index {
-            rows: Rows::with_count(alloc, count)?,
-            names: Names::with_count(alloc, count)?,
+            fields: Rows::with_count(alloc, count)?,
+            names: Rows::with_count(alloc, count)?,
+            hashes: VecDeque::with_capacity(alloc, count)?,
             alloc,
         })
     }
@@ -69,13 +72,15 @@ impl Index {
         steps: &mut Steps,
     ) -> Option<usize>
         requires index { IsIndexOf dropped (live_fields entries.now.items) (length entries.now.items) self.now }
-        requires few { dropped + length entries.now.items < 2 ^ 64 }
         ensures found { IsNewestIn dropped (entries_of entries.now.items) (is_field (line_of field.now).field) result }
         ensures steps { Counts (length entries.now.items) steps.old.count steps.new.count }
     {
-        let hashes = Hashes::of(field);
-        self.rows
-            .newest_equal(entries, dropped, field, hashes.field, steps)
+        let sought = Sought {
+            part: Part::Whole,
+            line: *field,
+            hash: Hashes::of(field).field,
+        };
+        self.fields.newest(entries, dropped, &sought, steps)
     }
 
     /// The newest entry with the name.
@@ -84,11 +89,18 @@ impl Index {
         entries: &VecDeque<Entry>,
         dropped: usize,
         name: &[u8],
+        steps: &mut Steps,
     ) -> Option<usize>
-        requires { IsIndexOf dropped (live_fields entries.now.items) (length entries.now.items) self.now }
-        ensures { IsNewestIn dropped (entries_of entries.now.items) (has_name name.now) result }
+        requires index { IsIndexOf dropped (live_fields entries.now.items) (length entries.now.items) self.now }
+        ensures found { IsNewestIn dropped (entries_of entries.now.items) (has_name name.now) result }
+        ensures steps { Counts (length entries.now.items) steps.old.count steps.new.count }
     {
-        self.names.newest(entries, dropped, name)
+        let sought = Sought {
+            part: Part::Name,
+            line: FieldLine::new(name, &[]),
+            hash: hash_name(name),
+        };
+        self.names.newest(entries, dropped, &sought, steps)
     }
 
     /// Makes room for one entry more, with such hashes. Refused, the index is as before.
@@ -103,7 +115,7 @@ impl Index {
         ensures index { IsIndexOf dropped (live_fields entries.now.items) (length entries.now.items) self.new }
         ensures room { OnOk result (HasRoomForEntry hashes self.new) }
     {
-        let count = self.rows.count();
+        let count = self.fields.count();
         if entries.len() < count {
             return self.make_room(hashes);
         }
@@ -113,20 +125,21 @@ impl Index {
         Ok(())
     }
 
-    /// Makes room for one entry more in its row and among the links.
+    /// Makes room for one entry more in its rows and among the hashes.
     fn make_room(&mut self, hashes: Hashes) -> Result<(), AllocError>
-        requires rows { 0 < length self.old.rows.rows.items }
-        requires heads { 0 < length self.old.names.heads.items }
+        requires fields { 0 < length self.old.fields.rows.items }
+        requires names { 0 < length self.old.names.rows.items }
         ensures index { (dropped entered : ℕ) (live : List Field) → IsIndexOf dropped live entered self.old
             → IsIndexOf dropped live entered self.new }
-        ensures rows { length self.new.rows.rows.items ≡ length self.old.rows.rows.items }
+        ensures rows { length self.new.fields.rows.items ≡ length self.old.fields.rows.items }
         ensures room { OnOk result (HasRoomForEntry hashes self.new) }
     {
-        self.names.reserve()?;
-        self.rows.reserve(hashes.field)
+        self.hashes.reserve(1)?;
+        self.names.reserve(hashes.name)?;
+        self.fields.reserve(hashes.field)
     }
 
-    /// The same entries in an index of so many rows and buckets. Nothing is hashed again.
+    /// The same entries in an index of so many rows of either kind. Nothing is hashed again.
     fn with_rows(
         &self,
         entries: &VecDeque<Entry>,
@@ -138,11 +151,11 @@ impl Index {
         requires some { 0 < count }
         ensures index { IfOk result (λ index.
             IsIndexOf dropped (live_fields entries.now.items) (length entries.now.items) index) }
-        ensures rows { IfOk result (λ index. length index.rows.rows.items ≡ count) }
+        ensures rows { IfOk result (λ index. length index.fields.rows.items ≡ count) }
     {
         let mut index = Index::with_count(self.alloc, count)?;
         for position in 0..entries.len() {
-            let hashes = self.names.hashes_at(position);
+            let hashes = self.hashes[position];
             index.make_room(hashes)?;
             index.enter(entries, dropped, dropped + position + 1, hashes);
         }
@@ -162,10 +175,22 @@ impl Index {
         requires hashes { AreHashesOf hashes (field_at dropped (live_fields entries.now.items) index) }
         requires room { HasRoomForEntry hashes self.old }
         ensures index { IsIndexOf dropped (live_fields entries.now.items) (index - dropped) self.new }
-        ensures rows { length self.new.rows.rows.items ≡ length self.old.rows.rows.items }
+        ensures rows { length self.new.fields.rows.items ≡ length self.old.fields.rows.items }
     {
-        self.rows.enter(entries, dropped, index, hashes.field);
-        self.names.enter(index, hashes);
+        let line = entries[index - dropped - 1].field.as_line();
+        let field = Sought {
+            part: Part::Whole,
+            line,
+            hash: hashes.field,
+        };
+        let name = Sought {
+            part: Part::Name,
+            line,
+            hash: hashes.name,
+        };
+        self.fields.enter(entries, dropped, index, &field);
+        self.names.enter(entries, dropped, index, &name);
+        self.hashes.push_back_reserved(hashes);
     }
 
     /// The oldest entry, which is about to be popped, goes out. It takes no memory, and the room that was made stays.
@@ -177,8 +202,20 @@ impl Index {
             (length entries.now.items - 1) self.new }
         ensures room { (hashes : Hashes) → HasRoomForEntry hashes self.old → HasRoomForEntry hashes self.new }
     {
-        let hashes = self.names.hashes_at(0);
-        self.rows.leave(entries, dropped, hashes.field);
-        self.names.leave();
+        let hashes = self.hashes[0];
+        let line = entries[0].field.as_line();
+        let field = Sought {
+            part: Part::Whole,
+            line,
+            hash: hashes.field,
+        };
+        let name = Sought {
+            part: Part::Name,
+            line,
+            hash: hashes.name,
+        };
+        self.fields.leave(entries, dropped, &field);
+        self.names.leave(entries, dropped, &name);
+        self.hashes.pop_front();
     }
 }

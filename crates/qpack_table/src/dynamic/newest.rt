@@ -37,11 +37,20 @@ impl DynamicTable {
         self.newest_line(field, &mut Steps::new())
     }
 
-    /// The absolute index of the newest live entry with the name.
+    /// The absolute index of the newest live entry with the name, whose comparisons are bounded and counted as those of
+    /// [`DynamicTable::newest_equal`].
+    pub fn newest_named(&self, name: &[u8], steps: &mut Steps) -> Option<AbsoluteIndex>
+        ensures found { result ≡ newest_index self.now (has_name name.now) }
+        ensures steps { Counts (length self.now.live) steps.old.count steps.new.count }
+    {
+        self.index
+            .newest_of_name(&self.entries, self.vas.total_dropped(), name, steps)
+    }
+
+    /// The absolute index of the newest live entry with the name, uncounted.
     pub(super) fn newest_of_name(&self, name: &[u8]) -> Option<AbsoluteIndex>
         ensures { result ≡ newest_index self.now (has_name name.now) }
     {
-        self.index
-            .newest_of_name(&self.entries, self.vas.total_dropped(), name)
+        self.newest_named(name, &mut Steps::new())
     }
 }

@@ -1,12 +1,13 @@
-//! A row of the index: absolute indexes of entries by their fields' names, then by their values, then by
-//! themselves. It is searched by halving.
+//! A row of the index: slots that rise by the hash of a part of their entries' fields, then by that part. It is
+//! searched by halving.
 
-ghost use Rattle.std.specs.Prelude.{◌≡◌, ◌+◌, ◌-◌, ◌^◌, ◌<◌, ◌≤◌, ◌∷◌, [], min, length, OnOk, OnErr, Contains};
-ghost use Rattle.std.specs.Prelude.{vec_len, vec_capacity};
-ghost use Rattle.std.specs.List.Sorted.{IsPermutation};
+ghost use Rattle.std.specs.Prelude.{◌≡◌, ◌+◌, ◌-◌, ◌^◌, ◌<◌, ◌≤◌, [], min, length, OnOk, OnErr, IfSome, IfNone};
+ghost use Rattle.std.specs.Prelude.{ℕ, slice_index, vec_len, vec_capacity};
 ghost use Rattle.qpack_base.specs.HeaderFields.{field_of, line_of, field_cmp};
-ghost use Rattle.qpack_table.specs.Rows.{IsRow, IsPositionBehind, IsEqualBefore, FindsNewest, Counts};
+ghost use Rattle.qpack_table.specs.Rows.{part_of, part_at, key_cmp, key_at, key_of, field_of_sought, IsHashed, IsSlot};
+ghost use Rattle.qpack_table.specs.Rows.{IsRow, IsPlace, FindsSlot, Enters, Leaves, HasIndexAt, HasNoIndex, Counts};
 ghost use Rattle.qpack_table.specs.Tables.{live_fields};
+ghost use Rattle.qpack_table.specs.declared.dynamic.index.row.Slot.{Slot};
 
 use crate::dynamic::entry::Entry;
 use crate::dynamic::steps::Steps;
@@ -15,156 +16,230 @@ use std::alloc::{AllocError, Global};
 use std::cmp::Ordering;
 use std::collections::VecDeque;
 
-/// How an entry stands to a field that is sought. Nothing else compares the two, and nothing else raises the count.
-fn compare(field: &FieldLine<'_>, entry: &Entry, steps: &mut Steps) -> Ordering
-    ensures order { result ≡ field_cmp (field_of entry.now.field) (line_of field.now).field }
+/// A row of at most so many slots is searched for an index without a look at an entry.
+const MOST_SCANNED: usize = 8;
+
+/// Which part of its field an entry is found by.
+#[derive(Debug, Clone, Copy)]
+pub(super) enum Part {
+    Name,
+    Whole,
+}
+
+/// A part of a field that is sought, with its hash.
+#[derive(Debug, Clone, Copy)]
+pub(super) struct Sought<'a> {
+    pub(super) part: Part,
+    pub(super) line: FieldLine<'a>,
+    pub(super) hash: u32,
+}
+
+/// The absolute index of an entry, and the hash of its part.
+#[derive(Debug, Clone, Copy)]
+pub(super) struct Slot {
+    hash: u32,
+    index: usize,
+}
+
+/// How an entry stands to what is sought. Nothing else compares the two, and nothing else raises the count.
+fn compare_entry(sought: &Sought<'_>, entry: &Entry, steps: &mut Steps) -> Ordering
+    ensures order { result ≡ field_cmp (part_of sought.now.part (field_of entry.now.field))
+        (field_of_sought sought.now) }
     ensures raised { steps.new.count ≡ min (steps.old.count + 1) (2 ^ 64 - 1) }
     ensures grows { steps.old.count ≤ steps.new.count }
 {
     steps.raise();
-    match entry.field.name.as_slice().cmp(field.name) {
-        Ordering::Equal => entry.field.value.as_slice().cmp(field.value),
+    match entry.field.name.as_slice().cmp(sought.line.name) {
+        Ordering::Equal => match sought.part {
+            Part::Name => Ordering::Equal,
+            Part::Whole => entry.field.value.as_slice().cmp(sought.line.value),
+        },
         apart => apart,
     }
 }
 
-/// What a search found: the position behind all that is not past what is sought, and whether the index before that
-/// position has the field.
-#[derive(Clone, Copy)]
-struct Found {
-    position: usize,
-    equal: bool,
+/// How a slot stands to what is sought: its entry is looked at only where the hashes are the same.
+fn compare(
+    sought: &Sought<'_>,
+    slot: Slot,
+    entries: &VecDeque<Entry>,
+    dropped: usize,
+    steps: &mut Steps,
+) -> Ordering
+    requires { IsSlot sought.now.part dropped (live_fields entries.now.items) slot }
+    ensures order { result ≡ key_cmp (key_at sought.now.part dropped (live_fields entries.now.items) slot)
+        (key_of sought.now) }
+    ensures raised { steps.new.count ≤ steps.old.count + 1 }
+    ensures grows { steps.old.count ≤ steps.new.count }
+{
+    match slot.hash.cmp(&sought.hash) {
+        Ordering::Equal => compare_entry(sought, &entries[slot.index - dropped - 1], steps),
+        apart => apart,
+    }
 }
 
-/// Absolute indexes, rising by their entries' fields and by themselves.
+/// Slots of live entries, rising by the hash and the part; no two have the same part.
 #[derive(Debug, Drop)]
 pub(super) struct Row {
-    indexes: Vec<usize>,
+    slots: Vec<Slot>,
 }
 
 impl Row {
     /// An empty row.
     pub(super) fn new(alloc: Global) -> Row
-        ensures { result.indexes.items ≡ [] }
+        ensures { result.slots.items ≡ [] }
     {
         Row {
-            indexes: Vec::new(alloc),
+            slots: Vec::new(alloc),
         }
     }
 
-    /// Makes room for one index more.
+    /// Makes room for one slot more.
     pub(super) fn reserve(&mut self) -> Result<(), AllocError>
-        ensures indexes { self.new.indexes.items ≡ self.old.indexes.items }
-        ensures ok { OnOk result (vec_len self.new.indexes < vec_capacity self.new.indexes) }
-        ensures err { OnErr result (vec_capacity self.new.indexes ≡ vec_capacity self.old.indexes) }
+        ensures slots { self.new.slots.items ≡ self.old.slots.items }
+        ensures ok { OnOk result (vec_len self.new.slots < vec_capacity self.new.slots) }
+        ensures err { OnErr result (vec_capacity self.new.slots ≡ vec_capacity self.old.slots) }
     {
-        self.indexes.reserve(1)
+        self.slots.reserve(1)
     }
 
-    /// The position behind the indexes whose entries stand before a field, or have it and are at most `last`.
+    /// Where the slot with what is sought is, or where it would stand.
     fn search(
         &self,
         entries: &VecDeque<Entry>,
         dropped: usize,
-        field: &FieldLine<'_>,
-        last: usize,
+        sought: &Sought<'_>,
         steps: &mut Steps,
-    ) -> Found
-        requires { IsRow dropped (live_fields entries.now.items) self.now.indexes.items }
-        ensures position { IsPositionBehind dropped (live_fields entries.now.items) self.now.indexes.items
-            (line_of field.now).field last result.position }
-        ensures equal { IsEqualBefore dropped (live_fields entries.now.items) self.now.indexes.items
-            (line_of field.now).field result.position result.equal }
-        ensures steps { Counts (length self.now.indexes.items) steps.old.count steps.new.count }
+    ) -> Result<usize, usize>
+        requires { IsRow sought.now.part dropped (live_fields entries.now.items) self.now.slots.items }
+        ensures place { IsPlace sought.now.part dropped (live_fields entries.now.items) self.now.slots.items
+            (key_of sought.now) result }
+        ensures steps { Counts (length self.now.slots.items) steps.old.count steps.new.count }
     {
         let mut low = 0;
-        let mut high = self.indexes.len();
-        let mut equal = false;
+        let mut high = self.slots.len();
         while low < high {
             let middle = low + (high - low) / 2;
-            let index = self.indexes[middle];
-            let order = compare(field, &entries[index - dropped - 1], steps);
-            if order.then(index.cmp(&last)).is_gt() {
-                high = middle;
-            } else {
-                low = middle + 1;
-                equal = order.is_eq();
+            match compare(sought, self.slots[middle], entries, dropped, steps) {
+                Ordering::Less => low = middle + 1,
+                Ordering::Equal => return Ok(middle),
+                Ordering::Greater => high = middle,
             }
         }
-        Found {
-            position: low,
-            equal,
-        }
+        Err(low)
     }
 
-    /// The greatest index whose entry has the field.
-    pub(super) fn newest_equal(
+    /// The index whose entry has what is sought.
+    pub(super) fn find(
         &self,
         entries: &VecDeque<Entry>,
         dropped: usize,
-        field: &FieldLine<'_>,
+        sought: &Sought<'_>,
         steps: &mut Steps,
     ) -> Option<usize>
-        requires row { IsRow dropped (live_fields entries.now.items) self.now.indexes.items }
-        requires few { dropped + length entries.now.items < 2 ^ 64 }
-        ensures found { FindsNewest dropped (live_fields entries.now.items) self.now.indexes.items
-            (line_of field.now).field result }
-        ensures steps { Counts (length self.now.indexes.items) steps.old.count steps.new.count }
+        requires row { IsRow sought.now.part dropped (live_fields entries.now.items) self.now.slots.items }
+        requires hashed { IsHashed sought.now }
+        ensures found { FindsSlot sought.now.part dropped (live_fields entries.now.items) self.now.slots.items
+            (field_of_sought sought.now) result }
+        ensures steps { Counts (length self.now.slots.items) steps.old.count steps.new.count }
     {
-        let found = self.search(entries, dropped, field, dropped + entries.len(), steps);
-        if found.equal {
-            Some(self.indexes[found.position - 1])
+        match self.search(entries, dropped, sought, steps) {
+            Ok(position) => Some(self.slots[position].index),
+            Err(_) => None,
+        }
+    }
+
+    /// Takes a live index in, for which there is room: into the slot of the same part, if there is one.
+    pub(super) fn enter(
+        &mut self,
+        entries: &VecDeque<Entry>,
+        dropped: usize,
+        index: usize,
+        sought: &Sought<'_>,
+    )
+        requires row { IsRow sought.now.part dropped (live_fields entries.now.items) self.old.slots.items }
+        requires live { (dropped < index) × (index ≤ dropped + length entries.now.items) }
+        requires field { field_of_sought sought.now
+            ≡ part_at sought.now.part dropped (live_fields entries.now.items) index }
+        requires hashed { IsHashed sought.now }
+        requires room { vec_len self.old.slots < vec_capacity self.old.slots }
+        ensures row { IsRow sought.now.part dropped (live_fields entries.now.items) self.new.slots.items }
+        ensures slots { let slot : Slot = record { hash = sought.now.hash; index = index } in
+            Enters sought.now.part dropped (live_fields entries.now.items) self.old.slots.items self.new.slots.items
+            slot }
+    {
+        let mut steps = Steps::new();
+        let slot = Slot {
+            hash: sought.hash,
+            index,
+        };
+        match self.search(entries, dropped, sought, &mut steps) {
+            Ok(position) => self.slots[position] = slot,
+            Err(position) => if let Err(_full) = self.slots.insert(position, slot) {},
+        }
+    }
+
+    /// Takes an index out, if it is there.
+    pub(super) fn leave(
+        &mut self,
+        entries: &VecDeque<Entry>,
+        dropped: usize,
+        index: usize,
+        sought: &Sought<'_>,
+    )
+        requires row { IsRow sought.now.part dropped (live_fields entries.now.items) self.old.slots.items }
+        requires field { field_of_sought sought.now
+            ≡ part_at sought.now.part dropped (live_fields entries.now.items) index }
+        requires hashed { IsHashed sought.now }
+        ensures row { IsRow sought.now.part dropped (live_fields entries.now.items) self.new.slots.items }
+        ensures slots { Leaves self.old.slots.items self.new.slots.items index }
+        ensures capacity { vec_capacity self.new.slots ≡ vec_capacity self.old.slots }
+        ensures shorter { vec_len self.new.slots ≤ vec_len self.old.slots }
+    {
+        if let Some(position) = self.position_of(entries, dropped, index, sought) {
+            self.slots.remove(position);
+        }
+    }
+
+    /// The position of an index.
+    fn position_of(
+        &self,
+        entries: &VecDeque<Entry>,
+        dropped: usize,
+        index: usize,
+        sought: &Sought<'_>,
+    ) -> Option<usize>
+        requires row { IsRow sought.now.part dropped (live_fields entries.now.items) self.now.slots.items }
+        requires field { field_of_sought sought.now
+            ≡ part_at sought.now.part dropped (live_fields entries.now.items) index }
+        requires hashed { IsHashed sought.now }
+        ensures some { IfSome result (λ position. HasIndexAt self.now.slots.items index position) }
+        ensures none { IfNone result (HasNoIndex self.now.slots.items index) }
+    {
+        if self.slots.len() <= MOST_SCANNED {
+            return self.scan(index);
+        }
+        let mut steps = Steps::new();
+        let Ok(position) = self.search(entries, dropped, sought, &mut steps) else {
+            return None;
+        };
+        if self.slots[position].index == index {
+            Some(position)
         } else {
             None
         }
     }
 
-    /// Takes an index in, for which there is room.
-    pub(super) fn enter(&mut self, entries: &VecDeque<Entry>, dropped: usize, index: usize)
-        requires row { IsRow dropped (live_fields entries.now.items) self.old.indexes.items }
-        requires live { (dropped < index) × (index ≤ dropped + length entries.now.items) }
-        requires absent { ¬ Contains self.old.indexes.items index }
-        requires room { vec_len self.old.indexes < vec_capacity self.old.indexes }
-        ensures row { IsRow dropped (live_fields entries.now.items) self.new.indexes.items }
-        ensures indexes { IsPermutation (index ∷ self.old.indexes.items) self.new.indexes.items }
+    /// The position of an index, slot by slot.
+    fn scan(&self, index: usize) -> Option<usize>
+        ensures some { IfSome result (λ position. HasIndexAt self.now.slots.items index position) }
+        ensures none { IfNone result (HasNoIndex self.now.slots.items index) }
     {
-        let mut steps = Steps::new();
-        let entry = &entries[index - dropped - 1];
-        let found = self.search(entries, dropped, &entry.field.as_line(), index, &mut steps);
-        if let Err(_full) = self.indexes.insert(found.position, index) {}
-    }
-
-    /// Takes an index out.
-    pub(super) fn leave(&mut self, entries: &VecDeque<Entry>, dropped: usize, index: usize)
-        requires row { IsRow dropped (live_fields entries.now.items) self.old.indexes.items }
-        requires there { Contains self.old.indexes.items index }
-        ensures row { IsRow dropped (live_fields entries.now.items) self.new.indexes.items }
-        ensures indexes { IsPermutation self.old.indexes.items (index ∷ self.new.indexes.items) }
-        ensures gone { ¬ Contains self.new.indexes.items index }
-        ensures capacity { vec_capacity self.new.indexes ≡ vec_capacity self.old.indexes }
-        ensures shorter { vec_len self.new.indexes ≤ vec_len self.old.indexes }
-    {
-        if self.indexes.len() == 1 {
-            self.indexes.clear();
-            return;
+        for position in 0..self.slots.len() {
+            if self.slots[position].index == index {
+                return Some(position);
+            }
         }
-        self.leave_among(entries, dropped, index);
-    }
-
-    /// The same, out of any row.
-    #[inline(never)]
-    fn leave_among(&mut self, entries: &VecDeque<Entry>, dropped: usize, index: usize)
-        requires row { IsRow dropped (live_fields entries.now.items) self.old.indexes.items }
-        requires there { Contains self.old.indexes.items index }
-        ensures row { IsRow dropped (live_fields entries.now.items) self.new.indexes.items }
-        ensures indexes { IsPermutation self.old.indexes.items (index ∷ self.new.indexes.items) }
-        ensures gone { ¬ Contains self.new.indexes.items index }
-        ensures capacity { vec_capacity self.new.indexes ≡ vec_capacity self.old.indexes }
-        ensures shorter { vec_len self.new.indexes ≤ vec_len self.old.indexes }
-    {
-        let mut steps = Steps::new();
-        let entry = &entries[index - dropped - 1];
-        let found = self.search(entries, dropped, &entry.field.as_line(), index, &mut steps);
-        self.indexes.remove(found.position - 1);
+        None
     }
 }

@@ -1,14 +1,12 @@
-use Rattle.std.proofs.Common.{ℕ, ap, ◌≡◌, ◌∙◌, sym, length, List}
-use Rattle.std.specs.Global.{Vec}
-use Rattle.qpack_table.proofs.WholeIndexes.{names_same}
+use Rattle.std.proofs.Common.{sym, ◌∙◌, rules}
+use Rattle.qpack_table.specs.declared.dynamic.index.row.Part.TheVariants.{Name, Whole}
+use Rattle.qpack_table.proofs.WholeIndexes.{hashes_same}
 use Rattle.qpack_table.proofs.dynamic.index.Index.make_room.Goals as goal
 
 pub returns-clause-index : goal.returns-clause-index
-returns-clause-index c = λ dropped entered live is.
-    let heads : c.reserve.new.self.heads.items ≡ c.args.self.now.names.heads.items =
-    ap (λ (v : Vec ℕ). v.items) c.reserve.ensures.heads in
-    record {
-      rows = c.reserve-2.ensures.rows dropped entered live is.rows;
-      names = names_same dropped live entered _ _ _ _ heads c.reserve.ensures.links is.names;
-      matched = ap (λ (l : List ℕ). length l) heads ∙ is.matched ∙ sym c.reserve-2.ensures.count;
-    }
+returns-clause-index c = λ dropped entered live is. record {
+  fields = c.reserve-3.ensures.rows Whole dropped entered live is.fields;
+  names = c.reserve-2.ensures.rows Name dropped entered live is.names;
+  hashes = hashes_same dropped live entered _ _ (search rules) is.hashes;
+  matched = c.reserve-2.ensures.count ∙ is.matched ∙ sym c.reserve-3.ensures.count;
+}

@@ -1,7 +1,7 @@
-use Rattle.std.proofs.Common.{◌≡◌, ℕ, ◌+◌, ◌-◌, length, subst, ◌∙◌, rules, arith}
+use Rattle.std.proofs.Common.{◌≡◌, ℕ, ◌+◌, ◌-◌, ◌<◌, length, subst, ◌∙◌, rules, arith}
 use Rattle.qpack_table.specs.Tables.{live_fields}
 use Rattle.qpack_table.specs.Indexes.{IsIndexOf}
-use Rattle.qpack_table.proofs.WholeIndexes.{hashes_there}
+use Rattle.qpack_table.proofs.WholeIndexes.{hashes_read}
 use Rattle.qpack_table.proofs.dynamic.index.Index.with_rows.Goals as goal
 
 pub loop-position-init : goal.loop-position-init
@@ -16,8 +16,11 @@ enter-requires-clause-index c =
 
 pub enter-requires-clause-hashes : goal.enter-requires-clause-hashes
 enter-requires-clause-hashes c =
-    hashes_there _ _ _ c.loop-position.position _ _ _ _ c.requires.index.names (omega arith)
-    (c.hashes_at-hashes.ensures _ _)
+    let len : c.len-position-end.result ≡ length c.args.entries.now.items = search rules in
+    let within : c.loop-position.position < length c.args.entries.now.items =
+    omega (arith, len, c.loop-position-test.true) in
+    hashes_read _ _ _ c.loop-position.position _ _ _ c.requires.index.hashes within (omega arith)
+    c.index-hashes.ensures
 
 pub loop-position-preserved : goal.loop-position-preserved
 loop-position-preserved c =

@@ -6,5 +6,5 @@ use Rattle.qpack_table.proofs.dynamic.index.Index.with_rows.Given as goal
 abbrev pub invariant-loop-position : goal.invariant-loop-position
 invariant-loop-position l = record {
   index : IsIndexOf l.dropped (live_fields l.entries.items) l.position l.index;
-  rows : length l.index.rows.rows.items ≡ l.count;
+  rows : length l.index.fields.rows.items ≡ l.count;
 }

@@ -1,17 +1,43 @@
-use Rattle.std.proofs.Common.{◌∷◌, sym, subst}
-use Rattle.std.specs.List.Sorted.{IsPermutation}
-use Rattle.std.proofs.lemmas.List.Sorted.{IsPermutation-insert}
-use Rattle.qpack_table.proofs.RowPositions.{behind_line, entered_in, entered_there}
+use Rattle.std.proofs.Common.{List, sym, subst}
+use Rattle.qpack_base.specs.HeaderFields.{line_of}
+use Rattle.qpack_table.specs.Rows.{key_of, IsRow, Enters}
+use Rattle.qpack_table.specs.Tables.{live_fields}
+use Rattle.qpack_table.specs.declared.dynamic.index.row.Slot.{Slot}
+use Rattle.qpack_table.proofs.RowSlots.{row_set, enters_set, row_inserted, enters_inserted, inserted_there}
+use Rattle.qpack_table.proofs.RowSlots.{slot_entered, key_entered}
 use Rattle.qpack_table.proofs.dynamic.index.row.Row.enter.Goals as goal
+
+pub returns-in-Ok-clause-row : goal.returns-in-Ok-clause-row
+returns-in-Ok-clause-row c =
+    row_set _ _ _ _ c.requires.row _ (slot_entered _ _ c.args.entries.now.items _ _ (line_of c.args.sought.now.line).field
+    c.requires.live c.requires.field c.requires.hashed) (key_of c.args.sought.now)
+    (key_entered c.args.sought.now.part c.args.dropped
+    (live_fields c.args.entries.now.items) c.args.index _ _ c.requires.field) _ c.in-Ok.ensures.place
+
+pub returns-in-Ok-clause-slots : goal.returns-in-Ok-clause-slots
+returns-in-Ok-clause-slots c =
+    enters_set _ _ _ _ c.requires.row _ (slot_entered _ _ c.args.entries.now.items _ _
+    (line_of c.args.sought.now.line).field c.requires.live c.requires.field c.requires.hashed)
+    (key_of c.args.sought.now) (key_entered c.args.sought.now.part c.args.dropped
+    (live_fields c.args.entries.now.items) c.args.index _ _ c.requires.field) _ c.in-Ok.ensures.place
 
 pub returns-in_default-clause-row : goal.returns-in_default-clause-row
 returns-in_default-clause-row c =
-    let made = entered_there _ _ _ _ _ c.insert.ensures.items (c.insert.ensures.succeeds c.requires.room) in
-    entered_in _ _ _ _ _ _ _ c.requires.row c.requires.live c.requires.absent c.index-entry.ensures
-    (behind_line _ _ _ _ _ _ _ c.as_line.ensures c.search-found.ensures.position) made
+    let made = inserted_there _ _ _ _ _ c.insert.ensures.items (c.insert.ensures.succeeds c.requires.room) in
+    subst (λ (xs : List Slot). IsRow c.args.sought.now.part c.args.dropped (live_fields c.args.entries.now.items) xs)
+    (sym made)
+    (row_inserted _ _ _ _ c.requires.row _ (slot_entered _ _ c.args.entries.now.items _ _
+    (line_of c.args.sought.now.line).field c.requires.live c.requires.field c.requires.hashed)
+    (key_of c.args.sought.now) (key_entered c.args.sought.now.part c.args.dropped
+    (live_fields c.args.entries.now.items) c.args.index _ _ c.requires.field) _ c.in-Err.ensures.place)
 
-pub returns-in_default-clause-indexes : goal.returns-in_default-clause-indexes
-returns-in_default-clause-indexes c =
-    let made = entered_there _ _ _ _ _ c.insert.ensures.items (c.insert.ensures.succeeds c.requires.room) in
-    subst (IsPermutation (c.args.index ∷ c.args.self.now.indexes.items)) (sym made)
-    (IsPermutation-insert c.args.self.now.indexes.items c.search-found.result.position c.args.index)
+pub returns-in_default-clause-slots : goal.returns-in_default-clause-slots
+returns-in_default-clause-slots c =
+    let slot : Slot = record { hash = c.args.sought.now.hash; index = c.args.index } in
+    let made = inserted_there _ _ _ _ _ c.insert.ensures.items (c.insert.ensures.succeeds c.requires.room) in
+    subst (λ (xs : List Slot). Enters c.args.sought.now.part c.args.dropped (live_fields c.args.entries.now.items)
+    c.args.self.now.slots.items xs slot) (sym made)
+    (enters_inserted _ _ _ _ c.requires.row _ (slot_entered _ _ c.args.entries.now.items _ _
+    (line_of c.args.sought.now.line).field c.requires.live c.requires.field c.requires.hashed)
+    (key_of c.args.sought.now) (key_entered c.args.sought.now.part c.args.dropped
+    (live_fields c.args.entries.now.items) c.args.index _ _ c.requires.field) _ c.in-Err.ensures.place)

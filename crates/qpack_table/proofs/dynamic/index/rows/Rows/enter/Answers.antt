@@ -1,29 +1,26 @@
 use Rattle.std.proofs.Common.{◌≡◌, ℕ, ◌-◌, ◌+◌, length, set, sym, ap, subst, ◌∙◌, rules, arith}
+use Rattle.qpack_base.specs.HeaderFields.{line_of}
+use Rattle.qpack_table.specs.Rows.{field_at}
 use Rattle.qpack_table.specs.Tables.{live_fields}
 use Rattle.qpack_table.specs.Hashes.{position_among}
 use Rattle.qpack_table.specs.Indexes.{AreRowsOf}
+use Rattle.qpack_table.specs.declared.dynamic.index.row.Slot.{Slot}
+use Rattle.qpack_table.proofs.Lookups.{fields_long}
 use Rattle.qpack_table.proofs.RowsChanges.{rows_changed, rows_entered}
-use Rattle.qpack_table.proofs.HashedRows.{home_chosen, home_within, room_there, row_there, not_entered}
+use Rattle.qpack_table.proofs.HashedRows.{home_chosen, home_within, room_there, row_there}
 use Rattle.qpack_table.proofs.dynamic.index.rows.Rows.enter.Goals as goal
 
 pub enter-requires-clause-row : goal.enter-requires-clause-row
 enter-requires-clause-row c =
     let len : c.len.result ≡ length c.args.self.now.rows.items = search rules in
     let within = home_within _ _ _ len c.position_of-home.ensures.within in
-    row_there _ _ _ _ c.requires.rows _ _ within c.index_mut.ensures.value
-
-pub enter-requires-clause-absent : goal.enter-requires-clause-absent
-enter-requires-clause-absent c =
-    let len : c.len.result ≡ length c.args.self.now.rows.items = search rules in
-    let within = home_within _ _ _ len c.position_of-home.ensures.within in
-    not_entered _ _ _ _ c.requires.rows _ _ within c.index_mut.ensures.value c.args.index
-    (omega (arith, c.requires.live.0))
+    row_there _ _ _ _ _ c.requires.rows _ _ within c.index_mut.ensures.value
 
 pub enter-requires-clause-room : goal.enter-requires-clause-room
 enter-requires-clause-room c =
     let len : c.len.result ≡ length c.args.self.now.rows.items = search rules in
     room_there _ _ _ _ c.requires.room (sym (c.position_of-home.ensures.position ∙ ap (λ (n : ℕ). position_among n
-    c.args.hash) len)) c.index_mut.ensures.value
+    c.args.sought.now.hash) len)) c.index_mut.ensures.value
 
 pub returns-clause-rows : goal.returns-clause-rows
 returns-clause-rows c =
@@ -33,8 +30,12 @@ returns-clause-rows c =
     omega (arith, c.requires.live.0) in
     let count : c.args.index - c.args.dropped - 1 + 1 ≡ c.args.index - c.args.dropped =
     omega (arith, c.requires.live.0) in
-    subst (λ (n : ℕ). AreRowsOf c.args.dropped (live_fields c.args.entries.now.items) n
+    let long = fields_long c.args.entries.now.items in
+    let slot : Slot = record { hash = c.args.sought.now.hash; index = c.args.index } in
+    subst (λ (n : ℕ). AreRowsOf c.args.sought.now.part c.args.dropped (live_fields c.args.entries.now.items) n
     (set c.args.self.now.rows.items c.position_of-home.result c.enter.new.self)) count
-    (rows_changed _ _ _ _ _ _ within (rows_entered _ _ _ _ _ _ _ within c.index_mut.ensures.value c.requires.rows
-    c.args.index next (sym (home_chosen _ _ _ _ _ c.requires.hash c.position_of-home.ensures.position len))
-    c.enter.ensures.row c.enter.ensures.indexes))
+    (rows_changed _ _ _ _ _ _ _ within (rows_entered _ _ _ _ _ _ _ _ within c.index_mut.ensures.value c.requires.rows
+    slot next (omega (arith, c.requires.live.1, long))
+    (sym (home_chosen c.args.sought.now.part _ _ _ _ (line_of c.args.sought.now.line).field
+    (field_at c.args.dropped (live_fields c.args.entries.now.items) c.args.index) c.requires.hashed c.requires.field c.position_of-home.ensures.position len))
+    c.enter.ensures.row c.enter.ensures.slots))

@@ -2,4 +2,4 @@ use Rattle.qpack_table.proofs.HashedRows.{empty_rows}
 use Rattle.qpack_table.proofs.dynamic.index.rows.Rows.with_count.Goals as goal
 
 pub returns-clause-empty : goal.returns-clause-empty
-returns-clause-empty c = λ dropped live. empty_rows dropped live _ c.loop.invariant.empty
+returns-clause-empty c = λ part dropped live. empty_rows part dropped live _ c.loop.invariant.empty

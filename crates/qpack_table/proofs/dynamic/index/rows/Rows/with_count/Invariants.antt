@@ -5,5 +5,5 @@ use Rattle.qpack_table.proofs.dynamic.index.rows.Rows.with_count.Given as goal
 abbrev pub invariant-loop : goal.invariant-loop
 invariant-loop l = record {
   count : length l.rows.items ≡ l.counter;
-  empty : All (λ r. r.indexes.items ≡ []) l.rows.items;
+  empty : All (λ r. r.slots.items ≡ []) l.rows.items;
 }

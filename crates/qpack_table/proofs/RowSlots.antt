@@ -1,0 +1,354 @@
+-- A row that takes a slot in, or lets one go.
+use Rattle.std.proofs.Common.{◌≡◌, ℕ, zero, suc, ◌+◌, ◌-◌, ◌<◌, ◌≤◌, [], ◌∷◌, List, length, get_or, set, refl, sym}
+use Rattle.std.proofs.Common.{ap, subst, ◌∙◌, inl, inr, ◌⊎◌, arith}
+use Rattle.std.specs.Prelude.{Contains, Result, Ok, Err, IsOk, if◌then◌else◌}
+use Rattle.std.specs.Result.{is_ok}
+use Rattle.std.specs.Ordering.{nat_cmp}
+use Rattle.std.specs.declared.cmp.Ordering.TheVariants.{Less, Equal}
+use Rattle.std.specs.List.{AllPairs, insert, remove}
+use Rattle.std.specs.List.Sorted.{IsPermutation}
+use Rattle.std.proofs.lemmas.Bool.{cases_lt, cases_eq}
+use Rattle.std.proofs.lemmas.List.{get_or_default, length-set, get_or-set_other, get_or-set_same}
+use Rattle.std.proofs.lemmas.List.Sorted.{IsPermutation-insert, IsPermutation-remove, IsPermutation-sym}
+use Rattle.std.proofs.lemmas.List.Sorted.{Contains-permutation}
+use Rattle.std.proofs.lemmas.List.Edits.{length-insert, get_or-insert_below, get_or-insert_at, get_or-insert_above}
+use Rattle.std.proofs.lemmas.List.Edits.{length-remove, get_or-remove_below, get_or-remove_above}
+use Rattle.qpack_spec.specs.Field.{Field}
+use Rattle.qpack_table.specs.Rows.{Key, key_cmp, key_at, part_of, part_at, hash_of, field_at, IsSlot, IsRow, IsMatch}
+use Rattle.qpack_table.specs.Rows.{IsGap, Enters, Leaves, HasIndexAt, HasNoIndex}
+use Rattle.qpack_table.specs.declared.dynamic.index.row.Part.{Part}
+use Rattle.qpack_table.specs.declared.dynamic.index.row.Slot.{Slot}
+use Rattle.qpack_table.proofs.RowOrder.{same_key, tie_of, same_hash, less_behind, not_less_and_equal}
+use Rattle.qpack_table.specs.Tables.{live_fields}
+use Rattle.qpack_table.specs.declared.dynamic.entry.Entry.{Entry}
+use Rattle.qpack_table.proofs.Lookups.{fields_long}
+use Rattle.qpack_table.proofs.RowSearches.{ties, found_none}
+
+-- ---- elements of changed lists
+
+pub contains_more : {X : Type 0} → (xs : List X) (x a : X) → Contains xs a → Contains (x ∷ xs) a
+contains_more xs x a c = (suc c.0, omega (arith, c.1), c.2)
+
+pub contains_either : {X : Type 0} → (xs : List X) (x a : X) → Contains (x ∷ xs) a → (x ≡ a) ⊎ Contains xs a
+contains_either {X} xs x a c = pick c.0 c.1 c.2
+  where
+    pick : (k : ℕ) → k < length (x ∷ xs) → get_or (x ∷ xs) k a ≡ a → (x ≡ a) ⊎ Contains xs a
+    pick zero h e = inl e
+    pick (suc k) h e = inr (k, omega (arith, h), e)
+
+-- an element of a list with one replaced
+set_either : {X : Type 0} → (xs : List X) (p : ℕ) (y a : X) → p < length xs → Contains (set xs p y) a
+    → (y ≡ a) ⊎ Contains xs a
+set_either xs p y a lt c = elim (cases_eq c.0 p) [
+  | inl e ↦ inl (sym (get_or-set_same xs p y a lt) ∙ ap (λ (i : ℕ). get_or (set xs p y) i a) (sym e) ∙ c.2)
+  | inr ne ↦ inr (c.0, omega (arith, c.1, length-set xs p y), sym (get_or-set_other xs p c.0 y a ne) ∙ c.2)
+]
+
+-- an insertion between what is before and what is behind
+all_pairs_insert : {X : Type 0} → (R : X → X → Type 0) (xs : List X) (n : ℕ) (y : X) → n ≤ length xs
+    → AllPairs R xs → ((k : ℕ) (d : X) → k < n → R (get_or xs k d) y) → ((k : ℕ) (d : X) → n ≤ k → k < length xs
+    → R y (get_or xs k d)) → AllPairs R (insert xs n y)
+all_pairs_insert {X} R xs n y le all below above i j d lt within = pick (cases_lt i n) (cases_lt j n) (cases_lt n j)
+  where
+    new : List X
+    new = insert xs n y
+
+    inside : j < length xs + 1
+    inside = omega (arith, within, length-insert xs n y le)
+
+    -- an element of the new list behind the position
+    moved : (k : ℕ) → n < k → get_or new k d ≡ get_or xs (k - 1) d
+    moved k g = subst (λ (q : ℕ). get_or new q d ≡ get_or xs (k - 1) d) {x =
+        k - 1 + 1} (omega (arith, g)) (get_or-insert_above xs n y d (k - 1) (omega (arith, g)) le)
+
+    here : (k : ℕ) → k ≤ n → n ≤ k → get_or new k d ≡ y
+    here k a b = subst (λ (q : ℕ). get_or new q d ≡ y) {x = n} (omega (arith, a, b)) (get_or-insert_at xs n y d le)
+
+    two : (a b c e : X) → a ≡ b → c ≡ e → R b e → R a c
+    two a b c e p q r = subst (λ (x : X). R x c) (sym p) (subst (λ (x : X). R b x) (sym q) r)
+
+    pick : (i < n) ⊎ (n ≤ i) → (j < n) ⊎ (n ≤ j) → (n < j) ⊎ (j ≤ n) → R (get_or new i d) (get_or new j d)
+    pick (inl a) (inl b) c = two _ _ _ _ (get_or-insert_below xs n y d i a le) (get_or-insert_below xs n y d j b le)
+        (all i j d lt (omega (arith, b, le)))
+    pick (inl a) (inr b) (inl c) = two _ _ _ _ (get_or-insert_below xs n y d i a le) (moved j c) (all i (j - 1) d
+        (omega (arith, a, c)) (omega (arith, inside, c)))
+    pick (inl a) (inr b) (inr c) = two _ _ _ _ (get_or-insert_below xs n y d i a le) (here j c b) (below i d a)
+    pick (inr a) (inl b) c = absurd (omega (arith, a, b, lt))
+    pick (inr a) (inr b) (inl c) = pick_first (cases_lt n i)
+      where
+        pick_first : (n < i) ⊎ (i ≤ n) → R (get_or new i d) (get_or new j d)
+        pick_first (inl e) = two _ _ _ _ (moved i e) (moved j c) (all (i - 1) (j - 1) d (omega (arith, lt, e))
+            (omega (arith, inside, c)))
+        pick_first (inr e) = two _ _ _ _ (here i e a) (moved j c) (above (j - 1) d (omega (arith, c)) (omega
+            (arith, inside, c)))
+    pick (inr a) (inr b) (inr c) = absurd (omega (arith, a, c, lt))
+
+-- all but one
+all_pairs_remove : {X : Type 0} → (R : X → X → Type 0) (xs : List X) (p : ℕ) → p < length xs → AllPairs R xs
+    → AllPairs R (remove xs p)
+all_pairs_remove {X} R xs p lt all i j d less within = pick (cases_lt i p) (cases_lt j p)
+  where
+    long : length (remove xs p) + 1 ≡ length xs
+    long = omega (arith, length-remove xs p lt, lt)
+
+    two : (a b c e : X) → a ≡ b → c ≡ e → R b e → R a c
+    two a b c e q r h = subst (λ (x : X). R x c) (sym q) (subst (λ (x : X). R b x) (sym r) h)
+
+    pick : (i < p) ⊎ (p ≤ i) → (j < p) ⊎ (p ≤ j) → R (get_or (remove xs p) i d) (get_or (remove xs p) j d)
+    pick (inl a) (inl b) = two _ _ _ _ (get_or-remove_below xs p d i a lt) (get_or-remove_below xs p d j b lt)
+        (all i j d less (omega (arith, within, long)))
+    pick (inl a) (inr b) = two _ _ _ _ (get_or-remove_below xs p d i a lt) (get_or-remove_above xs p d j b lt)
+        (all i (j + 1) d (omega (arith, less)) (omega (arith, within, long)))
+    pick (inr a) (inl b) = absurd (omega (arith, a, b, less))
+    pick (inr a) (inr b) = two _ _ _ _ (get_or-remove_above xs p d i a lt) (get_or-remove_above xs p d j b lt)
+        (all (i + 1) (j + 1) d (omega (arith, less)) (omega (arith, within, long)))
+
+-- ---- a slot comes in
+
+module _ (part : Part) (dropped : ℕ) (live : List Field) (row : List Slot) (is : IsRow part dropped live row)
+    (slot : Slot) (there : IsSlot part dropped live slot) where
+  abbrev key : Slot → Key
+  key s = key_at part dropped live s
+
+  -- into the slot of its part
+  module _ (k : Key) (same : key slot ≡ k) (p : ℕ) (at : IsMatch part dropped live row k p) where
+    key_there : (d : Slot) → key (get_or row p d) ≡ key slot
+    key_there d = same_key (key (get_or row p d)) k (at.equal d) ∙ sym same
+
+    keys_set : (j : ℕ) (d : Slot) → key (get_or (set row p slot) j d) ≡ key (get_or row j d)
+    keys_set j d = elim (cases_eq j p) [
+      | inl e ↦
+          ap key (ap (λ (i : ℕ). get_or (set row p slot) i d) e ∙ get_or-set_same row p slot d at.within)
+          ∙ sym (key_there d) ∙ ap (λ (i : ℕ). key (get_or row i d)) (sym e)
+      | inr ne ↦ ap key (get_or-set_other row p j slot d ne)
+    ]
+
+    pub row_set : IsRow part dropped live (set row p slot)
+    row_set = record {
+      slots = λ s c. elim (set_either row p slot s at.within c) [
+        | inl e ↦ subst (λ (x : Slot). IsSlot part dropped live x) e there
+        | inr old ↦ is.slots s old
+      ];
+      rises = λ i j d lt within.
+          (λ t. key_cmp (keys_set i d t) (keys_set j d t))
+          ∙ is.rises i j d lt (omega (arith, within, length-set row p slot));
+    }
+
+    kept_set : (s : Slot) (c : Contains row s) → (c.0 ≡ p) ⊎ (c.0 ≡ p → ⊥)
+        → (part_at part dropped live s.index ≡ part_at part dropped live slot.index) ⊎ Contains (set row p slot) s
+    kept_set s c (inl e) =
+        let one : key s ≡ key slot =
+        ap key (sym c.2 ∙ ap (λ (i : ℕ). get_or row i s) e) ∙ key_there s in
+        inl (ap (λ (x : Key). x.field) one)
+    kept_set s c (inr ne) = inr (
+      c.0,
+      omega (arith, c.1, length-set row p slot),
+      get_or-set_other row p c.0 slot s ne ∙ c.2,
+    )
+
+    pub enters_set : Enters part dropped live row (set row p slot) slot
+    enters_set = record {
+      entered = (p, omega (arith, at.within, length-set row p slot), get_or-set_same row p slot slot at.within);
+      kept = λ s c. kept_set s c (cases_eq c.0 p);
+      only = λ s c. set_either row p slot s at.within c;
+    }
+
+  -- between others
+  module _ (k : Key) (same : key slot ≡ k) (p : ℕ) (at : IsGap part dropped live row k p) where
+    moved : IsPermutation (slot ∷ row) (insert row p slot)
+    moved = IsPermutation-insert row p slot
+
+    from_insert : (s : Slot) → Contains (insert row p slot) s → (slot ≡ s) ⊎ Contains row s
+    from_insert s c = contains_either row slot s (Contains-permutation (insert row p slot) (slot ∷ row) s
+        (IsPermutation-sym (slot ∷ row) (insert row p slot) moved) c)
+
+    pub row_inserted : IsRow part dropped live (insert row p slot)
+    row_inserted = record {
+      slots = λ s c. elim (from_insert s c) [
+        | inl e ↦ subst (λ (x : Slot). IsSlot part dropped live x) e there
+        | inr old ↦ is.slots s old
+      ];
+      rises = all_pairs_insert (λ a b. key_cmp (key a) (key b) ≡ Less) row p slot at.within is.rises
+          (λ j d h. ap (λ (x : Key). key_cmp (key (get_or row j d)) x) same ∙ at.before j d h)
+          (λ j d h lt. ap (λ (x : Key). key_cmp x (key (get_or row j d))) same
+          ∙ less_behind (key (get_or row j d)) k (at.after j d h lt));
+    }
+
+    pub enters_inserted : Enters part dropped live row (insert row p slot) slot
+    enters_inserted = record {
+      entered = Contains-permutation (slot ∷ row) (insert row p slot) slot moved (0, omega arith, refl);
+      kept = λ s c. inr (Contains-permutation (slot ∷ row) (insert row p slot) s moved
+          (contains_more row slot s c));
+      only = from_insert;
+    }
+
+-- an insertion that has room is made
+pub inserted_there : {X Y E : Type 0} (r : Result X E) (old new : List Y) (position : ℕ) (y : Y)
+    → new ≡ (if is_ok r then insert old position y else old) → IsOk r → new ≡ insert old position y
+inserted_there (Ok x) old new position y e ok = e
+inserted_there (Err x) old new position y e ok = absurd cc
+
+-- ---- an index goes out
+
+module _ (part : Part) (dropped : ℕ) (live : List Field) (row : List Slot) (is : IsRow part dropped live row)
+  where
+    -- slots of one part, or of one index, tie
+    tied_parts : (s t : Slot) → Contains row s → Contains row t
+        → part_at part dropped live s.index ≡ part_at part dropped live t.index
+        → key_cmp (key_at part dropped live s) (key_at part dropped live t) ≡ Equal
+    tied_parts s t c e fields =
+        tie_of (key_at part dropped live s) (key_at part dropped live t)
+        ((is.slots s c).1 ∙ same_hash part (field_at dropped live s.index) (field_at dropped live t.index) fields
+        ∙ sym (is.slots t e).1) fields
+
+    alike : (s t : Slot) → Contains row s → Contains row t → s.index ≡ t.index
+        → key_cmp (key_at part dropped live s) (key_at part dropped live t) ≡ Equal
+    alike s t c e same = tied_parts s t c e (ap (λ (i : ℕ). part_at part dropped live i) same)
+
+    -- slots that tie stand at one position
+    one_place : (i j : ℕ) (d : Slot) → i < length row → j < length row
+        → key_cmp (key_at part dropped live (get_or row i d)) (key_at part dropped live (get_or row j d)) ≡ Equal
+        → key_cmp (key_at part dropped live (get_or row j d)) (key_at part dropped live (get_or row i d)) ≡ Equal
+        → i ≡ j
+    one_place i j d h g tie back = elim (cases_lt i j) [
+      | inl lt ↦ absurd (not_less_and_equal _ (is.rises i j d lt g) tie)
+      | inr le ↦ elim (cases_lt j i) [
+        | inl lt ↦ absurd (not_less_and_equal _ (is.rises j i d lt h) back)
+        | inr ge ↦ omega (arith, le, ge)
+      ]
+    ]
+
+    -- so each index, and each part, stands in one slot
+    pub one_index : (i j : ℕ) (d : Slot) → i < length row → j < length row
+        → (get_or row i d).index ≡ (get_or row j d).index → i ≡ j
+    one_index i j d h g same =
+        let first : Contains row (get_or row i d) = (i, h, get_or_default row i (get_or row i d) d h) in
+        let second : Contains row (get_or row j d) = (j, g, get_or_default row j (get_or row j d) d g) in
+        one_place i j d h g (alike _ _ first second same) (alike _ _ second first (sym same))
+
+    pub one_slot : (s t : Slot) → Contains row s → Contains row t
+        → part_at part dropped live s.index ≡ part_at part dropped live t.index → s.index ≡ t.index
+    one_slot s t c e same =
+        let first : get_or row c.0 s ≡ s = c.2 in
+        let second : get_or row e.0 s ≡ t = get_or_default row e.0 s t e.1 ∙ e.2 in
+        let place : c.0 ≡ e.0 =
+        one_place c.0 e.0 s c.1 e.1
+        ((λ i. key_cmp (key_at part dropped live (first i)) (key_at part dropped live (second i)))
+        ∙ tied_parts s t c e same)
+        ((λ i. key_cmp (key_at part dropped live (second i)) (key_at part dropped live (first i)))
+        ∙ tied_parts t s e c (sym same)) in
+        ap (λ (x : Slot). x.index) (sym first ∙ ap (λ (i : ℕ). get_or row i s) place ∙ second)
+
+    -- what doesn't have it
+    pub leaves_none : (index : ℕ) → HasNoIndex row index → Leaves row row index
+    leaves_none index none = record {
+      kept = λ s c ne. c;
+      only = λ s c. c;
+      gone = λ s c e. none c.0 s c.1 (ap (λ (x : Slot). x.index) c.2 ∙ e);
+    }
+
+    module _ (index p : ℕ) (at : HasIndexAt row index p) (slot : Slot) (read : slot ≡ get_or row p slot) where
+      went : IsPermutation row (slot ∷ remove row p)
+      went = IsPermutation-remove row p slot at.within read
+
+      of_index : slot.index ≡ index
+      of_index = ap (λ (x : Slot). x.index) read ∙ at.is slot
+
+      only_left : (s : Slot) → Contains (remove row p) s → Contains row s
+      only_left s c = Contains-permutation (slot ∷ remove row p) row s
+          (IsPermutation-sym row (slot ∷ remove row p) went) (contains_more (remove row p) slot s c)
+
+      pub row_removed : IsRow part dropped live (remove row p)
+      row_removed = record {
+        slots = λ s c. is.slots s (only_left s c);
+        rises = all_pairs_remove
+            (λ a b. key_cmp (key_at part dropped live a) (key_at part dropped live b) ≡ Less) row p at.within is.rises;
+      }
+
+      -- its position in the row, which isn't that of the one that went
+      was : (s : Slot) → Contains (remove row p) s → (j : ℕ) × (j < length row) × (get_or row j s ≡ s) × (j ≡ p → ⊥)
+      was s c =
+          let long = length-remove row p at.within in
+          elim (cases_lt c.0 p) [
+            | inl lt ↦ (
+              c.0,
+              omega (arith, lt, at.within),
+              sym (get_or-remove_below row p s c.0 lt at.within) ∙ c.2,
+              λ e. omega (arith, e, lt),
+            )
+            | inr le ↦ (
+              c.0 + 1,
+              omega (arith, c.1, long, at.within),
+              sym (get_or-remove_above row p s c.0 le at.within) ∙ c.2,
+              λ e. omega (arith, e, le),
+            )
+          ]
+
+      pub leaves_removed : Leaves row (remove row p) index
+      leaves_removed = record {
+        kept = λ s c ne. elim (contains_either (remove row p) slot s
+            (Contains-permutation row (slot ∷ remove row p) s went c)) [
+              | inl e ↦ absurd (ne (sym (ap (λ (x : Slot). x.index) e) ∙ of_index))
+              | inr left ↦ left
+            ];
+        only = only_left;
+        gone = λ s c e.
+            let w = was s c in
+            let here : Contains row (get_or row p s) =
+            (p, at.within, get_or_default row p (get_or row p s) s at.within) in
+            let there : Contains row (get_or row w.0 s) =
+            (w.0, w.1, get_or_default row w.0 (get_or row w.0 s) s w.1) in
+            let same : (get_or row w.0 s).index ≡ (get_or row p s).index =
+            ap (λ (x : Slot). x.index) w.2 ∙ e ∙ sym (at.is s) in
+            w.3 (one_place w.0 p s w.1 at.within (alike _ _ there here same) (alike _ _ here there (sym same)));
+      }
+
+    -- ---- where an index stands
+
+    module _ (index : ℕ) (k : Key) (f : Field) (part_is : k.field ≡ part_of part f) (hashed : k.hash ≡ hash_of part f)
+        (sought : k.field ≡ part_at part dropped live index) where
+      tied : (j : ℕ) (d : Slot) → j < length row → (get_or row j d).index ≡ index
+          → key_cmp (key_at part dropped live (get_or row j d)) k ≡ Equal
+      tied j d h e =
+          ties part dropped live row is k f part_is hashed (get_or row j d)
+          (j, h, get_or_default row j (get_or row j d) d h)
+          (ap (λ (i : ℕ). part_at part dropped live i) e ∙ sym sought)
+
+      -- another index has its part
+      pub other_there : (p : ℕ) (slot : Slot) → IsMatch part dropped live row k p → slot ≡ get_or row p slot
+          → (slot.index ≡ index → ⊥) → HasNoIndex row index
+      other_there p slot at read ne = λ j d h e.
+          let one : key_at part dropped live (get_or row j d) ≡ key_at part dropped live (get_or row p d) =
+          same_key _ k (tied j d h e) ∙ sym (same_key _ k (at.equal d)) in
+          let tie : key_cmp (key_at part dropped live (get_or row j d)) (key_at part dropped live (get_or row p d))
+          ≡ Equal =
+          tie_of _ _ (ap (λ (x : Key). x.hash) one) (ap (λ (x : Key). x.field) one) in
+          let back : key_cmp (key_at part dropped live (get_or row p d)) (key_at part dropped live (get_or row j d))
+          ≡ Equal =
+          tie_of _ _ (sym (ap (λ (x : Key). x.hash) one)) (sym (ap (λ (x : Key). x.field) one)) in
+          let place : j ≡ p = one_place j p d h at.within tie back in
+          ne (ap (λ (x : Slot). x.index) (read ∙ get_or_default row p slot d at.within
+          ∙ ap (λ (i : ℕ). get_or row i d) (sym place)) ∙ e)
+
+      -- no index has it
+      pub none_there : (p : ℕ) → IsGap part dropped live row k p → HasNoIndex row index
+      none_there p at = λ j d h e.
+          found_none part dropped live row is k f part_is hashed p at (get_or row j d)
+          (j, h, get_or_default row j (get_or row j d) d h)
+          (ap (λ (i : ℕ). part_at part dropped live i) e ∙ sym sought)
+
+-- ---- as the code enters
+
+pub slot_entered : (part : Part) (dropped : ℕ) (es : List Entry) (index hash : ℕ) (f : Field)
+    → (dropped < index) × (index ≤ dropped + length es) → part_of part f ≡ part_at part dropped (live_fields es) index
+    → hash ≡ hash_of part f
+    → (let slot : Slot = record { hash = hash; index = index } in IsSlot part dropped (live_fields es) slot)
+slot_entered part dropped es index hash f live same hashed = (
+  (live.0, omega (arith, live.1, fields_long es)),
+  hashed ∙ same_hash part f (field_at dropped (live_fields es) index) same,
+)
+
+pub key_entered : (part : Part) (dropped : ℕ) (live : List Field) (index hash : ℕ) (f : Field)
+    → f ≡ part_at part dropped live index → (let slot : Slot = record { hash = hash; index = index } in
+    let k : Key = record { hash = hash; field = f } in key_at part dropped live slot ≡ k)
+key_entered part dropped live index hash f same = λ i. record { hash = hash; field = sym same i }

@@ -1,0 +1,31 @@
+use Rattle.std.proofs.Common.{◌≡◌, sym, subst}
+use Rattle.std.specs.declared.cmp.Ordering.TheVariants.{Equal}
+use Rattle.qpack_base.specs.HeaderFields.{field_of, line_of, field_cmp}
+use Rattle.std.proofs.Common.{refl}
+use Rattle.qpack_table.specs.Rows.{part_of}
+use Rattle.qpack_table.specs.declared.dynamic.index.row.Part.{Part}
+use Rattle.qpack_table.proofs.RowOrder.{decided_by_name, decided_by_tie, decided_by_value}
+use Rattle.qpack_table.proofs.dynamic.index.row.compare_entry.Goals as goal
+
+pub returns-in-Name-clause-order : goal.returns-in-Name-clause-order
+returns-in-Name-clause-order c =
+    subst (λ (p : Part). Equal ≡ field_cmp (part_of p (field_of c.args.entry.now.field))
+    (part_of p (line_of c.args.sought.now.line).field)) (sym c.in-Name.is)
+    (decided_by_tie (field_of c.args.entry.now.field) (line_of c.args.sought.now.line).field _ _ _
+    c.as_slice.ensures.value refl c.cmp.ensures c.in-Equal.is)
+
+pub returns-in-Whole-clause-order : goal.returns-in-Whole-clause-order
+returns-in-Whole-clause-order c =
+    subst (λ (p : Part). c.cmp-in-Whole.result ≡ field_cmp (part_of p (field_of c.args.entry.now.field))
+    (part_of p (line_of c.args.sought.now.line).field)) (sym c.in-Whole.is)
+    (decided_by_value (field_of c.args.entry.now.field) (line_of c.args.sought.now.line).field _ _ _ _ _ _
+    c.as_slice.ensures.value refl c.as_slice-in-Whole.ensures.value refl c.cmp.ensures c.in-Equal.is
+    c.cmp-in-Whole.ensures)
+
+pub returns-in_default : goal.returns-in_default
+returns-in_default c = record {
+  order = decided_by_name c.args.sought.now.part (field_of c.args.entry.now.field)
+      (line_of c.args.sought.now.line).field _ _ _ c.as_slice.ensures.value refl c.cmp.ensures c.in_default.not-Equal;
+  raised = c.raise.ensures.raised;
+  grows = c.raise.ensures.grows;
+}
