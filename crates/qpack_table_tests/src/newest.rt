@@ -33,6 +33,19 @@ fn scanned(table: &DynamicTable, sought: &HeaderField) -> Option<usize> {
     None
 }
 
+/// The newest live entry with a name, by a scan from the newest on.
+fn scanned_name(table: &DynamicTable, name: &[u8]) -> Option<usize> {
+    let total = table.total_inserted();
+    for relative in 0..total {
+        match table.get_relative(relative) {
+            Ok(found) if found.name.as_slice() == name => return Some(total - relative),
+            Ok(_) => {}
+            Err(_) => return None,
+        }
+    }
+    None
+}
+
 /// How many entries are live.
 fn live_count(table: &DynamicTable) -> usize {
     for relative in 0..table.total_inserted() {
@@ -46,7 +59,8 @@ fn live_count(table: &DynamicTable) -> usize {
 /// The newest entry with a field is that of a scan, and no more entries were looked at than their number has digits.
 fn finds(alloc: Global, table: &DynamicTable, name: &[u8], value: &[u8]) -> Result<(), Fail> {
     let sought = field(alloc, name, value)?;
-    finds_field(table, &sought)
+    finds_field(table, &sought)?;
+    finds_name(table, name)
 }
 
 /// The same of this field.
@@ -54,6 +68,15 @@ fn finds_field(table: &DynamicTable, sought: &HeaderField) -> Result<(), Fail> {
     let mut steps = Steps::new();
     let found = table.newest_equal(sought, &mut steps);
     same(found, scanned(table, sought))?;
+    let digits = usize::BITS - live_count(table).leading_zeros();
+    same(steps.count() <= u64::from(digits), true)
+}
+
+/// The same of a name.
+fn finds_name(table: &DynamicTable, name: &[u8]) -> Result<(), Fail> {
+    let mut steps = Steps::new();
+    let found = table.newest_named(name, &mut steps);
+    same(found, scanned_name(table, name))?;
     let digits = usize::BITS - live_count(table).leading_zeros();
     same(steps.count() <= u64::from(digits), true)
 }
@@ -78,6 +101,24 @@ fn is_found_of_a_hundred(alloc: Global, table: &mut DynamicTable) -> Result<(), 
     let found = table.newest_equal(&field(alloc, b"n", &[57])?, &mut steps);
     same((found, live_count(table)), (Some(57), 100))?;
     same((steps.count() > 0, steps.count() <= 8), (true, true))
+}
+
+#[test]
+fn a_field_whose_hash_is_another_s_is_not_looked_at(rt: HostRuntime) -> Result<(), Fail> {
+    let mut table = table(rt.alloc(), 4096, 0)?;
+    none_is_looked_at(rt.alloc(), &mut table)
+}
+
+/// A name that no entry has is compared with none, where no hash is the same.
+fn none_is_looked_at(alloc: Global, table: &mut DynamicTable) -> Result<(), Fail> {
+    for value in 1..=100_u8 {
+        put(alloc, table, b"n", &[value])?;
+    }
+    let mut steps = Steps::new();
+    let found = table.newest_named(b"m", &mut steps);
+    same((found, steps.count()), (None, 0))?;
+    let found = table.newest_named(b"n", &mut steps);
+    same((found, steps.count()), (Some(100), 1))
 }
 
 #[test]
