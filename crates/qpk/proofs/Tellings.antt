@@ -5,7 +5,7 @@ use Rattle.qpk.specs.Refusals.{IsFault, TellsBy, refusal_line}
 use Rattle.h3_qpack.specs.declared.decoder.DecoderError.{DecoderError}
 use Rattle.qpk.specs.Serving.{HasFault, EndsFor, Stops, IsInspection, input_of}
 use Rattle.qpk.specs.declared.serve.Command.{Command}
-use Rattle.qpk.specs.declared.serve.Command.TheVariants.{Help, Encode, Decode, Inspect, Run}
+use Rattle.qpk.specs.declared.serve.Command.TheVariants.{Help, Encode, Decode, DecodeHex, Inspect, Run}
 use Rattle.qpk.specs.declared.text.Fault.TheVariants.{Memory}
 use Rattle.qpk.specs.declared.refusal.Refusal.{Refusal}
 use Rattle.qpk.specs.declared.refusal.Refusal.TheVariants as refusal
@@ -22,6 +22,7 @@ memory_has : (command : Command) (bytes : List ℕ) → HasFault command bytes M
 memory_has Help bytes = refl
 memory_has Encode bytes = tt
 memory_has (Decode limit) bytes = tt
+memory_has (DecodeHex limit) bytes = tt
 memory_has (Inspect capacity) bytes = tt
 memory_has (Run capacity limit) bytes = tt
 
@@ -60,5 +61,6 @@ pub stops_inspecting : (command : Command) (bytes out : List ℕ) (e : DecoderEr
 stops_inspecting Help bytes out e stops = stops
 stops_inspecting Encode bytes out e stops = stops
 stops_inspecting (Decode limit) bytes out e stops = stops
+stops_inspecting (DecodeHex limit) bytes out e stops = stops
 stops_inspecting (Inspect capacity) bytes out e stops = tt
 stops_inspecting (Run capacity limit) bytes out e stops = stops

@@ -68,6 +68,13 @@ abbrev pub hexadecimal : List ℕ → List ℕ
 hexadecimal [] = codes "-"
 hexadecimal (b ∷ bytes) = encode_lower (b ∷ bytes)
 
+-- a field, its name and its value parted by a TAB; and fields, a line each
+abbrev pub hexadecimal_field : Field → List ℕ
+hexadecimal_field f = hexadecimal f.name ++ codes "\t" ++ hexadecimal f.value ++ codes "\n"
+
+abbrev pub hexadecimal_fields : List Field → List ℕ
+hexadecimal_fields fs = flat_map hexadecimal_field fs
+
 -- words and two numbers
 abbrev pub numbers_text : List ℕ → ℕ → ℕ → List ℕ
 numbers_text words first second = words ++ codes " " ++ decimal first ++ codes " " ++ decimal second ++ codes "\n"

@@ -10,7 +10,7 @@ use Rattle.qpack_spec.specs.Stateless.{saturated_size, stateless_reading}
 use Rattle.qpk.specs.FieldText.{text_of_fields}
 use Rattle.qpk.specs.Answers.{encode_answer, without_feed, FailsText, FailsHexadecimal}
 use Rattle.qpk.specs.declared.serve.Command.{Command}
-use Rattle.qpk.specs.declared.serve.Command.TheVariants.{Help, Encode, Decode, Inspect, Run}
+use Rattle.qpk.specs.declared.serve.Command.TheVariants.{Help, Encode, Decode, DecodeHex, Inspect, Run}
 use Rattle.qpk.specs.Refusals.{AppendsPart}
 use Rattle.qpk.specs.Usage.{usage_text}
 use Rattle.qpk.specs.declared.refusal.Refusal.{Refusal}
@@ -19,7 +19,7 @@ use Rattle.qpk.specs.declared.text.Fault.{Fault}
 use Rattle.qpk.specs.declared.text.Fault.TheVariants.{Refused, Memory}
 use Rattle.std.specs.Io.KnownBytes.{Appends}
 use Rattle.h3_qpack.specs.declared.decoder.DecoderError.{DecoderError}
-use Rattle.qpk.specs.Inspecting.{PrintsInspection}
+use Rattle.qpk.specs.Inspecting.{PrintsInspection, hexadecimal_fields}
 use Rattle.qpk.specs.Runs.{PrintsRun, HasRunFault}
 use Rattle.qpk.specs.Inspections.{FailsInspection}
 use Rattle.qpk.specs.declared.inspect.Inspection.{Inspection}
@@ -30,11 +30,13 @@ pub record SaysNumber (text : List ℕ) (n : ℕ) : Type 0 where
   pub value : n ≡ digits_value 10 (without_leading_plus text)
   pub small : n < 2 ^ 64
 
--- the texts ask for the command: by its name, and a number or two behind it
+-- the texts ask for the command: by its name, and an option, or a number or two behind it
 abbrev pub AreFor : List (List ℕ) → Command → Type 0
 AreFor texts Help = texts ≡ codes "--help" ∷ []
 AreFor texts Encode = texts ≡ codes "encode" ∷ []
 AreFor texts (Decode limit) = (number : List ℕ) × (texts ≡ codes "decode" ∷ number ∷ []) × SaysNumber number limit
+AreFor texts (DecodeHex limit) =
+    (number : List ℕ) × (texts ≡ codes "decode" ∷ codes "--hex" ∷ number ∷ []) × SaysNumber number limit
 AreFor texts (Inspect capacity) =
     (number : List ℕ) × (texts ≡ codes "inspect" ∷ number ∷ []) × SaysNumber number capacity
 AreFor texts (Run capacity limit) =
@@ -58,6 +60,11 @@ AsksForNothing words = (command : Command) → AsksFor words command → ⊥
 abbrev pub printed_fields : List Field → List ℕ
 printed_fields fs = text_of_fields fs ++ codes "size " ++ decimal (saturated_size (total_size fs)) ++ 10 ∷ []
 
+-- the same with the fields in hexadecimal
+abbrev pub hexadecimal_answer : List Field → List ℕ
+hexadecimal_answer fs =
+    hexadecimal_fields fs ++ codes "size " ++ decimal (saturated_size (total_size fs)) ++ 10 ∷ []
+
 -- the input that a command answers, where it is known: help answers none
 abbrev pub input_of : Command → Option (List ℕ) → Option (List ℕ)
 input_of Help input = Some []
@@ -75,6 +82,9 @@ Answers Encode input out = (text : List ℕ) × (encode_answer input ≡ Ok text
 Answers (Decode limit) input out =
     (block : List ℕ) × (fs : List Field) × (decode_of (without_feed input) ≡ Ok block)
     × (stateless_reading limit block ≡ Ok fs) × (out ≡ printed_fields fs)
+Answers (DecodeHex limit) input out =
+    (block : List ℕ) × (fs : List Field) × (decode_of (without_feed input) ≡ Ok block)
+    × (stateless_reading limit block ≡ Ok fs) × (out ≡ hexadecimal_answer fs)
 Answers (Inspect capacity) input out = PrintsInspection capacity input out None
 Answers (Run capacity limit) input out = PrintsRun capacity limit input out
 
@@ -98,6 +108,7 @@ abbrev pub HasFault : Command → List ℕ → Fault → Type 0
 HasFault Help input fault = fault ≡ Memory
 HasFault Encode input fault = FailsText fault (encode_answer input)
 HasFault (Decode limit) input fault = FailsHexadecimal fault limit (decode_of (without_feed input))
+HasFault (DecodeHex limit) input fault = FailsHexadecimal fault limit (decode_of (without_feed input))
 HasFault (Inspect capacity) input fault = FailsInspection capacity input fault
 HasFault (Run capacity limit) input fault = HasRunFault capacity limit input fault
 

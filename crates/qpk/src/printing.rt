@@ -1,6 +1,7 @@
 //! The lines that are printed, by whichever command: each is appended to a text that is lent.
 
 ghost use Rattle.std.specs.Prelude.{◌≡◌, ◌++◌, IfSome, OnOk, string_bytes};
+ghost use Rattle.qpack_base.specs.HeaderFields.{field_of};
 ghost use Rattle.qpack_wire.specs.BlockLines.{line_of};
 ghost use Rattle.qpack_wire.specs.Instructions.{encoder_instruction_of_insert_with_name_ref};
 ghost use Rattle.qpack_wire.specs.Lines.{line_of_indexed, line_of_literal_with_name_ref};
@@ -8,7 +9,8 @@ ghost use Rattle.qpack_wire.specs.StreamLines.{encoder_instruction_of};
 ghost use Rattle.h3_qpack.specs.Stateless.{fields_in};
 ghost use Rattle.qpk.specs.ErrorWords.{refused_text};
 ghost use Rattle.qpk.specs.FieldText.{text_of_fields};
-ghost use Rattle.qpk.specs.Inspecting.{hexadecimal, index_text, index_value_text, name_value_text};
+ghost use Rattle.qpk.specs.Inspecting.{hexadecimal, hexadecimal_field, hexadecimal_fields, index_text};
+ghost use Rattle.qpk.specs.Inspecting.{index_value_text, name_value_text};
 ghost use Rattle.qpk.specs.Inspecting.{numbers_text, instruction_text, line_text};
 
 use h3_qpack::HeaderField;
@@ -44,6 +46,28 @@ pub fn push_fields(text: &mut String, fields: &[HeaderField]) -> Result<(), Allo
         writeln!(text, "{line}")?;
     }
     Ok(())
+}
+
+/// Appends fields in hexadecimal, a line each.
+pub fn push_hexadecimal_fields(text: &mut String, fields: &[HeaderField]) -> Result<(), AllocError>
+    ensures { OnOk result (string_bytes text.new
+        ≡ string_bytes text.old ++ hexadecimal_fields (fields_in fields.now)) }
+{
+    for field in fields {
+        push_hexadecimal_field(text, field)?;
+    }
+    Ok(())
+}
+
+/// Appends the line of a field in hexadecimal, its name and its value parted by a TAB.
+fn push_hexadecimal_field(text: &mut String, field: &HeaderField) -> Result<(), AllocError>
+    ensures { OnOk result (string_bytes text.new
+        ≡ string_bytes text.old ++ hexadecimal_field (field_of field.now)) }
+{
+    push_hexadecimal(text, field.name.as_slice())?;
+    text.push('\t')?;
+    push_hexadecimal(text, field.value.as_slice())?;
+    text.push('\n')
 }
 
 /// Appends the line of what was refused, in these words.

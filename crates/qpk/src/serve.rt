@@ -8,11 +8,11 @@ ghost use Rattle.qpack_spec.specs.Stateless.{saturated_size};
 ghost use Rattle.h3_qpack.specs.Stateless.{fields_in};
 ghost use Rattle.qpk.specs.Refusals.{AppendsAtStatus, AppendsPart, TellsBy, refusal_line};
 ghost use Rattle.qpk.specs.Serving.{AsksFor, AsksForNothing, Answers, AnswersInput, EndsFor, FailsToRead, SaysNumber};
-ghost use Rattle.qpk.specs.Serving.{GivesCommand, input_of, printed_fields};
+ghost use Rattle.qpk.specs.Serving.{GivesCommand, hexadecimal_answer, input_of, printed_fields};
 ghost use Rattle.qpk.specs.declared.serve.Command.TheVariants.{Help};
 
 use crate::inspect::{Inspection, inspect};
-use crate::printing::push_fields;
+use crate::printing::{push_fields, push_hexadecimal_fields};
 use crate::refusal::Refusal;
 use crate::run::run_script;
 use crate::text::{Fault, decode_text, encode_text};
@@ -33,6 +33,8 @@ pub enum Command {
     Encode,
     /// Decode the block of the input, up to a sum of sizes in bytes.
     Decode(u64),
+    /// The same, with the fields in hexadecimal.
+    DecodeHex(u64),
     /// Inspect the events of the input, by a table of this capacity in bytes.
     Inspect(usize),
     /// Run the events of the input on a session of this capacity in bytes, where so many blocks may be blocked.
@@ -159,12 +161,15 @@ fn command_with(word: &str, number: &str) -> Option<Command>
     None
 }
 
-/// What a word and two numbers ask for.
+/// What a word and two others ask for.
 fn command_with_two(word: &str, first: &str, second: &str) -> Option<Command>
     ensures { GivesCommand result (word.now ∷ first.now ∷ second.now ∷ []) }
 {
-    let capacity = read_number(first)?;
     let limit = read_number(second)?;
+    if word == "decode" && first == "--hex" {
+        return Some(Command::DecodeHex(limit));
+    }
+    let capacity = read_number(first)?;
     if word == "run" {
         return Some(Command::Run(capacity as usize, limit as usize));
     }
@@ -211,6 +216,10 @@ fn answer(alloc: Global, command: Command, input: &[u8]) -> Result<Inspection, F
             let text = show(alloc, &decode_text(alloc, input, limit)?)?;
             Ok(whole(text))
         }
+        Command::DecodeHex(limit) => {
+            let text = show_hexadecimal(alloc, &decode_text(alloc, input, limit)?)?;
+            Ok(whole(text))
+        }
         Command::Inspect(capacity) => inspect(alloc, capacity, input),
         Command::Run(capacity, limit) => Ok(whole(run_script(alloc, capacity, limit, input)?)),
     }
@@ -234,6 +243,17 @@ fn show(alloc: Global, decoded: &Decoded) -> Result<String, NoMemory>
 {
     let mut text = String::new(alloc);
     push_fields(&mut text, &decoded.fields)?;
+    writeln!(text, "size {}", decoded.mem_size)?;
+    Ok(text)
+}
+
+/// The same, with the fields in hexadecimal.
+fn show_hexadecimal(alloc: Global, decoded: &Decoded) -> Result<String, NoMemory>
+    requires { decoded.now.mem_size ≡ saturated_size (total_size (fields_in decoded.now.fields.items)) }
+    ensures { IfOk result (λ text. string_bytes text ≡ hexadecimal_answer (fields_in decoded.now.fields.items)) }
+{
+    let mut text = String::new(alloc);
+    push_hexadecimal_fields(&mut text, &decoded.fields)?;
     writeln!(text, "size {}", decoded.mem_size)?;
     Ok(text)
 }

@@ -91,6 +91,52 @@ fn blocks_are_decoded(rt: HostRuntime) -> Result<(), Fail> {
     hold(&rt, rt.alloc(), &DECODED)
 }
 
+// What two lines of text can't tell apart: a line feed and a TAB in a value, bytes that are no UTF-8, and none.
+const DECODED_TO_HEXADECIMAL: [Case; 4] = [
+    Case {
+        words: "decode --hex 42",
+        input: "0000d1\n",
+        output: "3a6d6574686f64\t474554\nsize 42\n",
+        fault: "",
+    },
+    Case {
+        words: "decode --hex 73",
+        input: "000023666f6f030a09ff2161025c3a",
+        output: "666f6f\t0a09ff\n61\t5c3a\nsize 73\n",
+        fault: "",
+    },
+    Case {
+        words: "decode --hex 75",
+        input: "0000216100c0",
+        output: "61\t-\n3a617574686f72697479\t-\nsize 75\n",
+        fault: "",
+    },
+    Case {
+        words: "decode --hex 0",
+        input: "0500",
+        output: "size 0\n",
+        fault: "",
+    },
+];
+
+#[test]
+fn blocks_are_decoded_to_hexadecimal(rt: HostRuntime) -> Result<(), Fail> {
+    let alloc = rt.alloc();
+    hold(&rt, alloc, &DECODED_TO_HEXADECIMAL)?;
+    refuse(
+        &rt,
+        alloc,
+        "qpk: refused: header too long\n",
+        &[("decode --hex 41", "0000d1\n")],
+    )?;
+    refuse(
+        &rt,
+        alloc,
+        "qpk: not hexadecimal\n",
+        &[("decode --hex 9", "000")],
+    )
+}
+
 const BAD: [Case; 6] = [
     Case {
         words: "decode 9",
@@ -208,6 +254,10 @@ fn other_words_are_refused(rt: HostRuntime) -> Result<(), Fail> {
         ("decode ten", "0000"),
         ("decode 18446744073709551616", "0000"),
         ("decode -1", "0000"),
+        ("decode --hex", "0000"),
+        ("decode --hex ten", "0000"),
+        ("decode 42 --hex", "0000"),
+        ("encode --hex 42", "0000"),
         ("run", ""),
         ("run 4096 -1", ""),
         ("inspect", ""),
