@@ -9,7 +9,7 @@ ghost use Rattle.h3_qpack.specs.Stateless.{fields_in};
 ghost use Rattle.qpk.specs.Refusals.{AppendsAtStatus, AppendsPart, TellsBy, refusal_line};
 ghost use Rattle.qpk.specs.Serving.{AsksFor, AsksForNothing, Answers, AnswersInput, EndsFor, FailsToRead, SaysNumber};
 ghost use Rattle.qpk.specs.Serving.{GivesCommand, hexadecimal_answer, input_of, printed_fields};
-ghost use Rattle.qpk.specs.declared.serve.Command.TheVariants.{Help};
+ghost use Rattle.qpk.specs.declared.serve.Command.TheVariants.{DecodeHex, Help};
 
 use crate::inspect::{Inspection, inspect};
 use crate::printing::{push_fields, push_hexadecimal_fields};
@@ -216,10 +216,7 @@ fn answer(alloc: Global, command: Command, input: &[u8]) -> Result<Inspection, F
             let text = show(alloc, &decode_text(alloc, input, limit)?)?;
             Ok(whole(text))
         }
-        Command::DecodeHex(limit) => {
-            let text = show_hexadecimal(alloc, &decode_text(alloc, input, limit)?)?;
-            Ok(whole(text))
-        }
+        Command::DecodeHex(limit) => decode_to_hexadecimal(alloc, input, limit),
         Command::Inspect(capacity) => inspect(alloc, capacity, input),
         Command::Run(capacity, limit) => Ok(whole(run_script(alloc, capacity, limit, input)?)),
     }
@@ -247,7 +244,15 @@ fn show(alloc: Global, decoded: &Decoded) -> Result<String, NoMemory>
     Ok(text)
 }
 
-/// The same, with the fields in hexadecimal.
+/// What is written for a block whose fields are told in hexadecimal, up to a sum of sizes in bytes.
+fn decode_to_hexadecimal(alloc: Global, input: &[u8], limit: u64) -> Result<Inspection, Fault>
+    ensures { AnswersInput (DecodeHex limit) input.now result }
+{
+    let text = show_hexadecimal(alloc, &decode_text(alloc, input, limit)?)?;
+    Ok(whole(text))
+}
+
+/// The fields in hexadecimal, a line each, and the line of their size.
 fn show_hexadecimal(alloc: Global, decoded: &Decoded) -> Result<String, NoMemory>
     requires { decoded.now.mem_size ≡ saturated_size (total_size (fields_in decoded.now.fields.items)) }
     ensures { IfOk result (λ text. string_bytes text ≡ hexadecimal_answer (fields_in decoded.now.fields.items)) }
