@@ -4,7 +4,7 @@ ghost use Rattle.h3_qpack_c.specs.declared.decoder.State.{State};
 ghost use Rattle.std.specs.Prelude.{◌≡◌, ◌<◌, ◌≤◌, ◌^◌, length, slice_get, IfOk, IfErr, [], ℕ};
 ghost use Rattle.qpack_spec.specs.Table.{insert_count};
 ghost use Rattle.qpack_connection.specs.Blocked.{ready};
-ghost use Rattle.qpack_connection.specs.Decoders.{Begins, FailsSettings};
+ghost use Rattle.qpack_connection.specs.Decoders.{Begins, FailsSettings, blocked_streams};
 ghost use Rattle.h3_qpack_c.specs.Crossing.{Makes, Gives};
 ghost use Rattle.h3_qpack_c.specs.Decoding.{DecodesTo, ReceivesTo, CancelsTo, TakesStream, TellsReady, InRange};
 ghost use Rattle.h3_qpack_c.specs.Decoding.{told_of_refusal, told_of_receiving};
@@ -241,7 +241,7 @@ pub extern "C" fn h3q_decoder_insert_count(handle: &mut Handle) -> usize
 #[unsafe(no_mangle)]
 pub extern "C" fn h3q_decoder_blocked(handle: &mut Handle) -> usize
     ensures same { handle.new.value ≡ handle.old.value }
-    ensures exact { result ≡ length handle.old.value.end.blocked }
+    ensures exact { result ≡ blocked_streams handle.old.value.end }
 {
     let state = state(handle);
     let blocked = state.end.blocked();
