@@ -1,4 +1,5 @@
 pub mod Statuses
+pub mod Tokens
 pub mod Crossing
 pub mod Encoding
 pub mod Decoding

@@ -35,10 +35,10 @@ pub struct Handle {
 
 impl Model for Handle {
     ghost use Rattle.std.specs.Box.Ownership.{box_owns};
-    ghost use Rattle.libc.specs.Heap.{chunk};
+    ghost use Rattle.h3_qpack_c.specs.Tokens.{token};
     ghost use Rattle.h3_qpack_c.specs.contracts.encoder.State.{the_row};
 
-    ghost also_owns = { λ h. box_owns chunk the_row h.at h.value };
+    ghost also_owns = { λ h. box_owns token the_row h.at h.value };
 }
 
 impl Handle {

@@ -27,7 +27,7 @@ use denote.Triple.Walked.{Stays, stay_dropped, walk_of, says, ends_at, Goes-spen
 use mir.Raw.{raw as bare}
 use Rattle.core.proofs.alloc.Shapes.{after}
 use Rattle.std.specs.Box.Ownership.{box_owns}
-use Rattle.libc.specs.Heap.{chunk}
+use Rattle.h3_qpack_c.specs.Tokens.{token}
 use Rattle.std.proofs.raw_atomic.Walks.{proved}
 use Rattle.h3_qpack_c.specs.contracts.encoder.State as held
 use Rattle.h3_qpack_c.specs.EncoderFollows.{with_value}
@@ -50,7 +50,7 @@ word b o = vstruct (vcons (vptr b o) vnil)
 
 -- all of the handle but what it keeps
 abbrev Rest : ℕ → ℕ → ℕ → ℕ → Fml
-Rest b o rb ro = fsep (chunk (bare (layout T)) (block_ptr b o)) (cell_at full_share H'.mir (word b o ∷ []) rb ro)
+Rest b o rb ro = fsep (token (bare (layout T)) (block_ptr b o)) (cell_at full_share H'.mir (word b o ∷ []) rb ro)
 
 pub state_spec : {M : Type 1} → statement M
 unfolding part_of
@@ -65,13 +65,13 @@ state_spec {M} 𝓤 𝓛 𝓜 𝓡 wired =
     enter ! 𝓣.C 𝓣.Λ fn (mut_vals a.0 ++ []) Post $ alloc_all ! (λ l. pass_all ! refl ((tt, tt), tt) $ let En = env fn.locals l in
     fsplit3 ! $ drop ! $ move ! (0 ∷ 1 ∷ 2 ∷ []) $ opens ! tt H' rb ro (λ vs. move ! (1 ∷ []) $
     fsplit ! $ fpick ! (λ vss. fsplit ! $ feq_l ! (λ ev. fsplit ! $ feq_l ! (λ ep. drop ! $
-    in_a_block ! h.at (λ p. box_owns chunk T p h.value) (fst∗ 𝓤 (never 𝓤) (sem 𝓛 (chunk (bare (layout T)) null_ptr))) (λ b o e. fsplit ! $
+    in_a_block ! h.at (λ p. box_owns token T p h.value) (fst∗ 𝓤 (never 𝓤) (sem 𝓛 (token (bare (layout T)) null_ptr))) (λ b o e. fsplit ! $
     let w : Val = word b o in
     let is : vs ≡ w ∷ [] = subst (λ (p : Ptr). vs ≡ vstruct (of_list (ptr_val p ∷ [])) ∷ []) e (subst (λ (ps : List Val). vs ≡ vstruct (of_list (ps ++ [])) ∷ []) ep ev) in
     rewrite ! 2 (λ (us : List Val). ‵ (cell_at full_share H'.mir us rb ro)) is refl $
     let back : (x : T.Denot) → ent 𝓤 (sep 𝓤 (sem 𝓛 ((mem T).own_at x b o)) (sem 𝓛 (Rest b o rb ro))) (sem 𝓛 ((mem H').own_at (with_value h x) rb ro)) = λ x.
     qed 𝓛 (‵ (part_at T full_share x b o) ∷ ‵ (Rest b o rb ro) ∷ []) ∵ move ! (1 ∷ []) $ fsplit ! $ move ! (2 ∷ 0 ∷ []) $ fjoin ! $
-    rewrite ! 0 (λ (p : Ptr). ‵ (box_owns chunk T p x)) (sym e) refl $
+    rewrite ! 0 (λ (p : Ptr). ‵ (box_owns token T p x)) (sym e) refl $
     nothing ! $ feq_i ! (List Val) (vptr b o ∷ []) (ptr_val h.at ∷ []) (ap (λ (p : Ptr). ptr_val p ∷ []) (sym e)) $ fjoin ! $
     feq_i ! (List Val) (w ∷ []) (w ∷ []) refl $ fjoin ! $ fpack ! (Valss (RawPtr ∷ [])) (within (shape handle.the_type) (h.at, tt) (w ∷ [])) (vptr b o ∷ [], tt) $ fjoin ! $ move ! (1 ∷ 0 ∷ []) $ fjoin ! $
     fpack ! (List Val) (λ us. fsep (cell_at full_share H'.mir us rb ro) (H'.own_val (with_value h x) us)) (w ∷ []) $ done ! in
