@@ -13,6 +13,7 @@ pub mod Resizing
 pub mod StrictEvents
 pub mod Steps
 pub mod Safely
+pub mod TwoEnds
 pub mod Deliveries
 pub mod Shown
 pub mod WritingEvents

@@ -70,7 +70,7 @@ strict_resized w n t =
 
 -- ---- the decoder decodes
 
-next_passes : (n : ℕ) (p : AbstractBlock → Bool) (xs : List AbstractBlock) (x : AbstractBlock)
+pub next_passes : (n : ℕ) (p : AbstractBlock → Bool) (xs : List AbstractBlock) (x : AbstractBlock)
     → slice_get xs n ≡ Some x
     → length (filter p (take (suc n) xs)) ≡ length (filter p (take n xs)) + cond (p x) 1 0
 next_passes n p [] x e = absurd cc

@@ -1,5 +1,6 @@
 pub mod AbstractSession
 pub mod AbstractSafety
+pub mod TwoEnds
 pub mod Refines
 pub mod Headline
 pub mod SessionSafety

@@ -5,6 +5,7 @@
 
 ghost use Rattle.qpack_safety.specs.Headline.{SessionsAnswerWhatWasHanded};
 ghost use Rattle.qpack_safety.specs.SessionSafety.{SessionsAreSafe};
+ghost use Rattle.qpack_safety.specs.TwoEnds.{StrictEndsAreSafe};
 
 /// The theorem: at every moment of every session in bytes, whatever its events were, and wherever memory was refused.
 pub fn sessions_are_safe()
@@ -15,4 +16,10 @@ pub fn sessions_are_safe()
 /// were encoded, in order, and each answer is right behind those before it.
 pub fn sessions_answer_what_was_handed()
     ensures { SessionsAnswerWhatWasHanded }
+{}
+
+/// Of sessions in values: two strict ends that know marked fields, of which the decoder writes each acknowledgment behind
+/// the increments for all that it received, never send what the other refuses, and each section is decoded exactly.
+pub fn strict_ends_are_safe()
+    ensures { StrictEndsAreSafe }
 {}
