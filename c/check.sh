@@ -1,9 +1,10 @@
 #!/usr/bin/env bash
 # Tests the C library. It needs a C and a C++ compiler, make, pkg-config and nghttp3's headers (Debian: gcc, g++, make,
-# pkg-config and libnghttp3-dev), and installs by apt-get what is not there, which only root can. Where nghttp3 can't be
-# had, what needs it is left out, and said so; without a compiler nothing is tested, and that is a failure. valgrind is
-# used where it is there. The library is built by rt lib, over what the gate left of the crates below it, if it was not
-# built from the sources as they stand. Ends in a line of what passed, with a status that is not 0 if something failed.
+# pkg-config and libnghttp3-dev), and installs by apt-get what is not there, which only root can. Where nghttp3 can't
+# be had, all but the symbols and the example is left out, and the last line says so; without a compiler nothing is
+# tested, and that is a failure. valgrind is used where it is there. The library is built by rt lib, over what the gate
+# left of the crates below it, if it was not built from the sources as they stand. Ends in a line of what passed, with
+# a status that is not 0 if something failed.
 set -euo pipefail
 cd "$(dirname "$0")"
 
@@ -43,7 +44,7 @@ choose_tests() {
         "libnghttp3-dev ")
             tests=""
             peer=
-            echo "c/check.sh: without nghttp3, so without the tests against it"
+            echo "c/check.sh: without nghttp3, so without the tests, which all hold the library against it"
             ;;
         *)
             echo "c/check.sh: install these first:" $(list_wanted) >&2
@@ -120,17 +121,17 @@ for test in $tests; do
     compile "$test.sanitized" "tests/$test.c" -g -fsanitize=address,undefined -fno-sanitize-recover $wraps
     run "$room/$test.sanitized" "$corpus"
 done
+if [ -z "$peer" ]; then
+    echo "c/check.sh: $passed runs passed, of the symbols and the example alone: nghttp3 could not be had"
+    exit
+fi
 with="with the address and undefined sanitizers"
 if command -v valgrind >/dev/null; then
     for test in calls memory; do
-        [ -x "$room/$test" ] || continue
         run valgrind -q --error-exitcode=9 --leak-check=full --show-leak-kinds=all "$room/$test" "$corpus"
     done
     with="$with and valgrind"
 fi
-if [ -n "$peer" ]; then
-    compile bench bench.c -O2
-    run "$room/bench" "$corpus" 3
-fi
-[ -n "$peer" ] || with="$with, but nothing of nghttp3"
+compile bench bench.c -O2
+run "$room/bench" "$corpus" 3
 echo "c/check.sh: $passed runs passed, $with"
