@@ -257,11 +257,11 @@ impl ConnectionDecoder {
     /// limit of the settings. Where no fields are answered there are none in `fields`.
     ///
     /// Fields of a section that requires insertions are acknowledged, behind increments for what is not reported; the
-    /// stream is blocked no more. A section that is blocked is not kept: its stream is counted as blocked while insertions
-    /// are missing, and once `next_ready` tells the stream the section is handed in again. Refused are, in this order: every call behind an
-    /// error that ended the connection, by that error; a number that no stream has (`NoStream`); what `read_section`
-    /// refuses (`Section`); and a stream more than may be blocked (`TooManyBlocked`). An error that has no code changes
-    /// nothing, but that increments may have been written where memory was refused.
+    /// stream is blocked no more. A section that is blocked is not kept: its stream is counted as blocked while
+    /// insertions are missing, and once `next_ready` tells the stream the section is handed in again. Refused are, in
+    /// this order: every call behind an error that ended the connection, by that error; a number that no stream has
+    /// (`NoStream`); what `read_section` refuses (`Section`); and a stream more than may be blocked (`TooManyBlocked`).
+    /// An error that has no code changes nothing, but that increments may have been written where memory was refused.
     pub fn decode(
         &mut self,
         stream: u64,
