@@ -37,12 +37,12 @@ nil_append [] ys h = refl
 nil_append (x ∷ xs) ys h = absurd (cc)
 
 -- what was read of a piece, and what stays in flight
-record Read (L : Type 0) (S : List ℕ → L → Type 0) (lines in_flight : List L) (rest more : List ℕ) : Type 0 where
+pub record Read (L : Type 0) (S : List ℕ → L → Type 0) (lines in_flight : List L) (rest more : List ℕ) : Type 0 where
   pub still : List L
   pub goes_on : in_flight ≡ lines ++ still
   pub left : SpellsAll S (rest ++ more) still
 
-reads_front : {L : Type 0} (S : List ℕ → L → Type 0) (W : Wire L S) (lines in_flight : List L)
+pub reads_front : {L : Type 0} (S : List ℕ → L → Type 0) (W : Wire L S) (lines in_flight : List L)
     (front rest more : List ℕ)
     → SpellsAll S front lines → SpellsAll S (front ++ (rest ++ more)) in_flight → Read L S lines in_flight rest more
 reads_front S W [] in_flight front rest more j f =

@@ -58,3 +58,4 @@ pub mod StrictWritten
 pub mod MarkedDrafts
 pub mod AloneSections
 pub mod MarkedInsertions
+pub mod LawfulStreams

@@ -39,3 +39,4 @@ pub mod MarkedLaws
 pub mod StrictInstructions
 pub mod Wanted
 pub mod WantedLaws
+pub mod LawfulStreams
