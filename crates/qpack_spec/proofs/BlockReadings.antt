@@ -29,7 +29,7 @@ use Rattle.qpack_spec.proofs.WrittenForms.{lines_spelled, integer_written}
 
 -- ---- lines
 
-joined_written : (ls : List Line) → AllByRecursion IsWritableLine ls → SpellsAll SpellsLine (written_lines ls) ls
+pub joined_written : (ls : List Line) → AllByRecursion IsWritableLine ls → SpellsAll SpellsLine (written_lines ls) ls
 unfolding written_lines
 joined_written [] w = refl
 joined_written (l ∷ ls) w = (written_line l, written_lines ls, refl, lines_spelled l w.0, joined_written ls w.1)

@@ -193,7 +193,7 @@ parts_of (Ok f) (Ok rest) fs e = record { first = f; rest = rest; first_is = ref
 parts_of (Ok f) (Err fault) fs e = absurd cc
 parts_of (Err fault) more fs e = absurd cc
 
-lines_short : (w : Window) (base : ℕ) (bytes : List ℕ) (lines : List Line) (fs : List Field)
+pub lines_short : (w : Window) (base : ℕ) (bytes : List ℕ) (lines : List Line) (fs : List Field)
     → SpellsAll SpellsLine bytes lines → fields_of w base lines ≡ Ok fs → length bytes ≤ 4 * total_size fs
 unfolding fields_of
 lines_short w base bytes [] fs j e = omega (arith, ap length j)
@@ -212,7 +212,7 @@ lines_short w base bytes (l ∷ lines) fs j e =
 
 -- ---- sections
 
-prefix_short : (encoding : List ℕ) (p : Prefix) → SpellsPrefix encoding p → length encoding ≤ 20
+pub prefix_short : (encoding : List ℕ) (p : Prefix) → SpellsPrefix encoding p → length encoding ≤ 20
 prefix_short encoding p s =
     omega (arith, ap length s.parts, length-append s.head s.tail, s.count.1.few, s.delta.few)
 

@@ -4,12 +4,13 @@ use Rattle.std.proofs.Common.{◌∷◌, ◌++◌, length, map, Result, Ok, refl
 use Rattle.std.proofs.Common.{true}
 use Rattle.std.specs.List.{AllByRecursion}
 use Rattle.std.specs.Prelude.{◌&&◌, nat_eq, nat_lt}
-use Rattle.std.proofs.lemmas.Bool.{le-ltb, le-leb, ne_eqb}
+use Rattle.std.proofs.lemmas.Bool.{le-ltb, lt-ltb, le-leb, ne_eqb}
 use Rattle.qpack_spec.specs.Field.{Field, field_size, total_size, FieldLine, fields_of_lines, unmarked}
 use Rattle.qpack_spec.specs.Form.{form_at}
 use Rattle.qpack_spec.specs.Line.{Line, line_form, written_line, written_lines, written_marked_line}
 use Rattle.qpack_spec.specs.Marked.{written_marked_lines, written_marked_block}
 use Rattle.qpack_spec.specs.MarkedLaws.{is_literal, AreLiteralsWhereMarked, MarkedSectionsAreRead}
+use Rattle.qpack_spec.specs.MarkedLaws.{MarkedSectionsAreBlocked}
 use Rattle.qpack_spec.specs.Prefix.{read_prefix, written_prefix}
 use Rattle.qpack_spec.specs.Window.{Window, maximum_capacity, window_insert_count}
 use Rattle.qpack_spec.specs.Reading.{Fault, Block, Fields, line_field, fields_of, references_of_line}
@@ -27,7 +28,8 @@ use Rattle.qpack_spec.proofs.FormLaws.{form_again}
 use Rattle.qpack_spec.proofs.Marked.{unmarked_lines}
 use Rattle.qpack_spec.proofs.MarkedForms.{marked_lines_spelled, line_tells, line_length}
 use Rattle.qpack_spec.proofs.BlockReadings.{prefix_spelled, prefix_again, written_read, spelled_length}
-use Rattle.qpack_spec.proofs.SectionLengths.{read_sections_short}
+use Rattle.qpack_spec.proofs.BlockReadings.{joined_written}
+use Rattle.qpack_spec.proofs.SectionLengths.{read_sections_short, lines_short, prefix_short}
 use Rattle.qpack_spec.proofs.StrictReadings.{strict_none}
 use Rattle.qpack_spec.proofs.Sizes.{total_first}
 
@@ -186,6 +188,32 @@ marked_sections_read w limit required base b fs k prefix received strict means l
       le-ltb (window_insert_count w) required received,
       lines_read (length (written_marked_lines fs b.lines)) u 0 0 b.lines fs k.lines literal strict.references means
           (omega (arith, low)) (omega arith),
+    ) refl
+
+-- a section is no longer than any within the limit where its lines mean such fields under any window
+block_short : (later : Window) (limit base : ℕ) (b : Block) (fs : List Field) → IsWritableBlock b
+    → fields_of later base b.lines ≡ Ok fs → total_size fs ≤ limit → length (written_block b) ≤ longest_section limit
+unfolding written_block
+block_short later limit base b fs k means low =
+    omega (
+      arith,
+      low,
+      length-append (written_prefix b.prefix) (written_lines b.lines),
+      prefix_short (written_prefix b.prefix) b.prefix (prefix_spelled b.prefix k.prefix),
+      lines_short later base (written_lines b.lines) b.lines fs (joined_written b.lines k.lines) means,
+    )
+
+pub marked_sections_blocked : MarkedSectionsAreBlocked
+unfolding strict_reading written_marked_block
+marked_sections_blocked w later limit required base b fs k prefix missing no_count means low =
+    rw (
+      le-ltb (longest_section limit) (length (written_prefix b.prefix ++ written_marked_lines fs b.lines))
+          (marked_short b fs limit (block_short later limit base b (fields_of_lines fs) k means low)),
+      prefix_again (written_prefix b.prefix) (written_marked_lines fs b.lines) b.prefix
+          (prefix_spelled b.prefix k.prefix),
+      count_free (maximum_capacity w.agreed_max w.capacity) b.prefix.count no_count,
+      prefix,
+      lt-ltb (window_insert_count w) required missing,
     ) refl
 
 -- ---- where no field is marked

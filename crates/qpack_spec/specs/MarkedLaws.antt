@@ -1,6 +1,6 @@
 -- What is written of fields some of which are marked as never to be indexed is read as these fields with their marks, as
 -- statements; the crate's law functions promise them (RFC 9204, sections 4.5.4 to 4.5.6 and 7.1.3).
-use Rattle.std.specs.Prelude.{◌≡◌, ◌≤◌, ℕ, Bool, true, false, List, ◌∷◌, Ok}
+use Rattle.std.specs.Prelude.{◌≡◌, ◌<◌, ◌≤◌, ℕ, Bool, true, false, List, ◌∷◌, Ok}
 use Rattle.qpack_spec.specs.Field.{FieldLine, fields_of_lines, total_size}
 use Rattle.qpack_spec.specs.Line.{Line, NamedStatic, NamedDynamic, NamedPostBase, Literal, SpellsLine}
 use Rattle.qpack_spec.specs.Line.{written_marked_line}
@@ -8,7 +8,7 @@ use Rattle.qpack_spec.specs.Marked.{marked_rule, written_marked_block}
 use Rattle.qpack_spec.specs.Prefix.{read_prefix}
 use Rattle.qpack_spec.specs.Reading.{Block, fields_of}
 use Rattle.qpack_spec.specs.StrictLaws.{IsStrict}
-use Rattle.qpack_spec.specs.StrictReading.{strict_reading, Read}
+use Rattle.qpack_spec.specs.StrictReading.{strict_reading, Read, Blocked}
 use Rattle.qpack_spec.specs.Table.{Table}
 use Rattle.qpack_spec.specs.Window.{Window, maximum_capacity, window_insert_count}
 use Rattle.qpack_spec.specs.WrittenLaws.{IsWritableLine, IsWritableBlock}
@@ -48,3 +48,13 @@ MarkedSectionsAreRead =
     → fields_of w base b.lines ≡ Ok (fields_of_lines fields) → AreLiteralsWhereMarked fields b.lines
     → total_size (fields_of_lines fields) ≤ limit
     → strict_reading w limit (written_marked_block fields b) ≡ Read fields required)
+
+-- and it is blocked where it requires more than was received, whatever window its lines mean the fields under
+abbrev pub MarkedSectionsAreBlocked : Type 0
+MarkedSectionsAreBlocked =
+    (w later : Window) (limit required base : ℕ) (b : Block) (fields : List FieldLine)
+    → (let maximum = maximum_capacity w.agreed_max w.capacity in
+    IsWritableBlock b → read_prefix (window_insert_count w) maximum b.prefix ≡ Ok (required, base)
+    → window_insert_count w < required → (maximum ≡ 0 → b.prefix.count ≡ 0)
+    → fields_of later base b.lines ≡ Ok (fields_of_lines fields) → total_size (fields_of_lines fields) ≤ limit
+    → strict_reading w limit (written_marked_block fields b) ≡ Blocked required)

@@ -1,7 +1,7 @@
 -- What a strict end of a connection makes of an instruction: it refuses what a lawful peer never sends (RFC 9204,
 -- sections 3.2.2 and 4.4).
-use Rattle.std.specs.Prelude.{ℕ, Bool, true, false, if◌then◌else◌, ◌&&◌, nat_eq, nat_lt, ◌+◌, ◌-◌, List, Option, Result}
-use Rattle.std.specs.Prelude.{Ok, Err, find}
+use Rattle.std.specs.Prelude.{ℕ, Bool, true, false, if◌then◌else◌, ◌&&◌, nat_eq, nat_lt, ◌+◌, ◌-◌, List, [], ◌∷◌, Option}
+use Rattle.std.specs.Prelude.{Result, Ok, Err, find}
 use Rattle.std.specs.Option.{option_map, unwrap_or}
 use Rattle.qpack_spec.specs.Bytes.{◌>>=◌}
 use Rattle.qpack_spec.specs.Instruction.{EncoderInstruction, InsertStaticName, InsertDynamicName, InsertLiteralName}
@@ -61,3 +61,8 @@ strict_hear t (Increment by) =
     if nat_eq by 0 then Err ZeroIncrement
     else if nat_lt (insert_count t) (t.known_received_count + by) then Err (PastInsertions by)
     else Ok (with_increment t by)
+
+-- the table behind some instructions
+abbrev pub hear_in_turn : Table → List DecoderInstruction → Result Table HearingRefusal
+hear_in_turn t [] = Ok t
+hear_in_turn t (i ∷ is) = strict_hear t i >>= λ u. hear_in_turn u is
