@@ -1,26 +1,39 @@
 #!/usr/bin/env bash
-# Tests the C library. It needs a C and a C++ compiler, make, pkg-config and nghttp3's headers (Debian: gcc, g++, make,
-# pkg-config and libnghttp3-dev), and installs by apt-get what is not there, which only root can. Where nghttp3 can't
-# be had, all but the symbols and the example is left out, and the last line says so; without a compiler nothing is
-# tested, and that is a failure. valgrind is used where it is there. The library is built by rt lib, over what the gate
-# left of the crates below it, if it was not built from the sources as they stand. Ends in a line of what passed, with
-# a status that is not 0 if something failed.
+# Tests the C library. It needs a C and a C++ compiler, make, pkg-config and the headers of nghttp3 and of ngtcp2 with
+# GnuTLS (Debian: gcc, g++, make, pkg-config, libnghttp3-dev, libngtcp2-dev, libngtcp2-crypto-gnutls-dev and
+# libgnutls28-dev), and installs by apt-get what is not there, which only root can. Where nghttp3 can't be had, all but
+# the symbols and the example is left out, and where ngtcp2 can't, the connection over QUIC; the last line says so.
+# Without a compiler nothing is tested, and that is a failure. valgrind is used where it is there. The library is built
+# by rt lib, over what the gate left of the crates below it, if it was not built from the sources as they stand. Ends in
+# a line of what passed, with a status that is not 0 if something failed.
 set -euo pipefail
 cd "$(dirname "$0")"
 
-# Prints the packages that are wanted and not there.
-list_wanted() {
+# Whether a header is there.
+has_header() {
+    echo "#include <$1>" | cc -E - >/dev/null 2>&1
+}
+
+# Prints the packages that are wanted and not there: those of the tools, of nghttp3, of ngtcp2.
+list_tools() {
     command -v cc >/dev/null || echo gcc libc6-dev
     command -v c++ >/dev/null || echo g++
     command -v make >/dev/null || echo make
     command -v pkg-config >/dev/null || echo pkg-config
-    echo '#include <nghttp3/nghttp3.h>' | cc -E - >/dev/null 2>&1 || echo libnghttp3-dev
+}
+list_nghttp3() {
+    has_header nghttp3/nghttp3.h || echo libnghttp3-dev
+}
+list_ngtcp2() {
+    has_header ngtcp2/ngtcp2.h || echo libngtcp2-dev
+    has_header ngtcp2/ngtcp2_crypto_gnutls.h || echo libngtcp2-crypto-gnutls-dev
+    has_header gnutls/gnutls.h || echo libgnutls28-dev
 }
 
-# Installs them, if that can be done here.
+# Installs what a list prints, if that can be done here.
 install_wanted() {
     local wanted
-    wanted=$(list_wanted)
+    wanted=$("$1")
     [ -n "$wanted" ] || return 0
     if [ "$(id -u)" != 0 ] || ! command -v apt-get >/dev/null; then
         echo "c/check.sh: wanted and not installed here:" $wanted
@@ -35,22 +48,24 @@ install_wanted() {
     fi
 }
 
-# Leaves out what needs nghttp3, where that is all that can't be had.
+# Leaves out what needs nghttp3 or ngtcp2, where they can't be had.
 choose_tests() {
-    tests="calls interop http3 memory"
+    tests="calls interop http3 quic memory"
     peer=-lnghttp3
-    case $(list_wanted | tr '\n' ' ') in
-        "") ;;
-        "libnghttp3-dev ")
-            tests=""
-            peer=
-            echo "c/check.sh: without nghttp3, so without the tests, which all hold the library against it"
-            ;;
-        *)
-            echo "c/check.sh: install these first:" $(list_wanted) >&2
-            exit 1
-            ;;
-    esac
+    left_out=
+    if [ -n "$(list_tools)" ]; then
+        echo "c/check.sh: install these first:" $(list_tools) >&2
+        exit 1
+    fi
+    if [ -n "$(list_ngtcp2)" ]; then
+        tests="calls interop http3 memory"
+        left_out=", without the connection over QUIC: ngtcp2 could not be had"
+    fi
+    if [ -n "$(list_nghttp3)" ]; then
+        tests=
+        peer=
+        left_out=", of the symbols and the example alone: nghttp3 could not be had"
+    fi
 }
 
 # Whether the archive is there, and no source of a crate below it is newer.
@@ -74,7 +89,16 @@ build_archive() {
 compile() {
     local name=$1 source=$2
     shift 2
-    cc -std=c11 -D_GNU_SOURCE -Wall -Wextra -Werror "$@" "$source" $flags $peer -lpthread -o "$room/$name"
+    cc -std=c11 -D_GNU_SOURCE -Wall -Wextra -Werror "$@" "$source" $flags $peer $more -lpthread -o "$room/$name"
+}
+
+# What the program of a test is linked with beside nghttp3, or is told to the linker.
+choose_more() {
+    case $1 in
+        memory) more="-Wl,--wrap=malloc,--wrap=realloc" ;;
+        quic) more="-lngtcp2_crypto_gnutls -lngtcp2 -lgnutls" ;;
+        *) more= ;;
+    esac
 }
 
 # Runs a command, and keeps its last line for the end.
@@ -101,7 +125,7 @@ room=$(mktemp -d)
 trap 'rm -rf "$room"' EXIT
 archive=../crates/h3_qpack_c/out/libh3_qpack_c.a
 corpus=../crates/qpack_bench/data/corpus.qif
-install_wanted
+for list in list_tools list_nghttp3 list_ngtcp2; do install_wanted "$list"; done
 choose_tests
 build_archive
 make -s BUILD="$room/build" PREFIX="$room/usr" install
@@ -113,16 +137,15 @@ cc -std=c99 -pedantic -Wall -Wextra -Werror examples/roundtrip.c $flags -o "$roo
 c++ -x c++ -std=c++11 -pedantic -Wall -Wextra -Werror -fsyntax-only $flags ../include/h3_qpack.h
 run "$room/roundtrip"
 for test in $tests; do
-    wraps=
-    [ "$test" != memory ] || wraps=-Wl,--wrap=malloc,--wrap=realloc
-    compile "$test" "tests/$test.c" -O2 $wraps
+    choose_more "$test"
+    compile "$test" "tests/$test.c" -O2
     run "$room/$test" "$corpus"
     cat "$room/told"
-    compile "$test.sanitized" "tests/$test.c" -g -fsanitize=address,undefined -fno-sanitize-recover $wraps
+    compile "$test.sanitized" "tests/$test.c" -g -fsanitize=address,undefined -fno-sanitize-recover
     run "$room/$test.sanitized" "$corpus"
 done
-if [ -z "$peer" ]; then
-    echo "c/check.sh: $passed runs passed, of the symbols and the example alone: nghttp3 could not be had"
+if [ -z "$tests" ]; then
+    echo "c/check.sh: $passed runs passed$left_out"
     exit
 fi
 with="with the address and undefined sanitizers"
@@ -132,6 +155,7 @@ if command -v valgrind >/dev/null; then
     done
     with="$with and valgrind"
 fi
+more=
 compile bench bench.c -O2
 run "$room/bench" "$corpus" 3
-echo "c/check.sh: $passed runs passed, $with"
+echo "c/check.sh: $passed runs passed, $with$left_out"
