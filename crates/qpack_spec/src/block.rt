@@ -3,7 +3,7 @@
 ghost use Rattle.qpack_spec.specs.BlockLaws.{ReadingFindsPrefixes, CountsHaveOneReading, CountsAreRead};
 ghost use Rattle.qpack_spec.specs.LengthLaws.{ReadSectionsAreShort, StatelessSectionsAreShort};
 ghost use Rattle.qpack_spec.specs.BlockLaws.{ReadingLinesFindsFields};
-ghost use Rattle.qpack_spec.specs.MarkedLaws.{MarkedLinesAreSpellings, MarkedSectionsAreRead};
+ghost use Rattle.qpack_spec.specs.MarkedLaws.{MarkedLinesAreSpellings, MarkedSectionsAreRead, MarkedSectionsAreBlocked};
 ghost use Rattle.qpack_spec.specs.StrictReading.{StrictReadingsAreReadings, StrictReadingsAreWithin};
 ghost use Rattle.qpack_spec.specs.StrictReading.{StrictSectionsAreRead};
 ghost use Rattle.qpack_spec.specs.WrittenLaws.{WrittenPrefixesAreSpellings, WrittenBlocksAreRead};
@@ -44,9 +44,10 @@ pub fn strict_readings_are_readings()
 {}
 
 /// And it reads every section that is written so, keeps to its required insert count, and is within the limit, with the
-/// marks of its fields.
+/// marks of its fields; or says that it is blocked, while it requires more than was received.
 pub fn strict_sections_are_read()
     ensures plain { StrictSectionsAreRead }
     ensures spelled { MarkedLinesAreSpellings }
     ensures marked { MarkedSectionsAreRead }
+    ensures blocked { MarkedSectionsAreBlocked }
 {}

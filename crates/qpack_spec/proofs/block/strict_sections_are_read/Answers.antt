@@ -1,5 +1,5 @@
 use Rattle.qpack_spec.proofs.MarkedForms.{marked_lines_spelled}
-use Rattle.qpack_spec.proofs.StrictWritten.{strict_sections_read, marked_sections_read}
+use Rattle.qpack_spec.proofs.StrictWritten.{strict_sections_read, marked_sections_read, marked_sections_blocked}
 use Rattle.qpack_spec.proofs.block.strict_sections_are_read.Goals as goal
 
 pub returns-clause-plain : goal.returns-clause-plain
@@ -10,3 +10,6 @@ returns-clause-spelled c = marked_lines_spelled
 
 pub returns-clause-marked : goal.returns-clause-marked
 returns-clause-marked c = marked_sections_read
+
+pub returns-clause-blocked : goal.returns-clause-blocked
+returns-clause-blocked c = marked_sections_blocked
