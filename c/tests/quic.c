@@ -27,6 +27,7 @@ typedef struct {
   ngtcp2_conn *conn; /* of a server: none before the first datagram */
   ngtcp2_crypto_conn_ref ref;
   gnutls_session_t tls;
+  int has_streams; /* its own three are open */
   size_t datagrams;
 } quic_end;
 
@@ -190,12 +191,12 @@ static int64_t next_pieces(quic_end *e, nghttp3_vec *pieces, size_t *number, int
   side *x = e->x;
   int64_t id = -1;
   if (!e->is_ours) {
-    nghttp3_ssize n = is_ready(e) ? nghttp3_conn_writev_stream(x->peer, &id, fin, pieces, 8) : 0;
+    nghttp3_ssize n = e->has_streams ? nghttp3_conn_writev_stream(x->peer, &id, fin, pieces, 8) : 0;
     CHECK(n >= 0);
     *number = (size_t)n;
     return id;
   }
-  for (id = 0; is_ready(e) && id < STREAMS; id++) {
+  for (id = 0; e->has_streams && id < STREAMS; id++) {
     pipe_t *b = &x->out[id];
     if (b->seen == b->len) continue;
     CHECK(b->room == STREAM_ROOM);
@@ -274,11 +275,11 @@ static void exchange(quic_end ends[2], int lossy) {
   for (int i = 0; i < 2; i++) receive_datagrams(&ends[i], lossy);
 }
 
-/* The three streams of each end: its own, and those of nghttp3. */
-static void open_streams(quic_end ends[2]) {
-  for (int i = 0; i < 2; i++)
-    for (int64_t wanted = ends[i].is_client ? 2 : 3, id = -1; wanted < 12; wanted += 4)
-      CHECK(!ngtcp2_conn_open_uni_stream(ends[i].conn, &id, NULL) && id == wanted);
+/* Opens the three streams that an end has of its own: control, encoder and decoder stream. */
+static void open_streams(quic_end *e) {
+  for (int64_t wanted = e->is_client ? 2 : 3, id = -1; wanted < 12; wanted += 4)
+    CHECK(!ngtcp2_conn_open_uni_stream(e->conn, &id, NULL) && id == wanted);
+  e->has_streams = 1;
 }
 
 static void send_requests(side *x, quic_end *client) {
@@ -321,7 +322,6 @@ static void reserve_streams(side *x) {
 static void connect_over_quic(int is_client, size_t capacity, size_t blocked) {
   static side x;
   quic_end ends[2] = {{.is_client = 1, .is_ours = is_client}, {.is_client = 0, .is_ours = !is_client}};
-  int is_open = 0;
   uint64_t begun = now();
   begin(&x, is_client, capacity, blocked);
   reserve_streams(&x);
@@ -333,11 +333,9 @@ static void connect_over_quic(int is_client, size_t capacity, size_t blocked) {
   begin_quic(&ends[0], NULL);
   while (x.heard_by_peer < REQUESTS || x.heard < REQUESTS) {
     CHECK(now() - begun < 60 * NGTCP2_SECONDS);
-    if (!is_open && is_ready(&ends[0]) && is_ready(&ends[1])) {
-      open_streams(ends);
-      is_open = 1;
-    }
-    exchange(ends, is_open);
+    for (int i = 0; i < 2; i++)
+      if (!ends[i].has_streams && is_ready(&ends[i])) open_streams(&ends[i]);
+    exchange(ends, ends[0].has_streams && ends[1].has_streams);
     take_arrived(&x, &ends[0]);
   }
   printf("quic: as %s, table %zu, limit %zu: %d requests in %zu datagrams, of which one in ten was lost; "
@@ -352,7 +350,7 @@ int main(int argc, char **argv) {
   read_corpus(argv[1], 1);
   for (size_t i = 0; i < sizeof body; i++) body[i] = (uint8_t)i;
   make_credentials();
-  for (int is_client = 0; is_client < 2; is_client++) connect_over_quic(is_client, 4096, 100);
+  for (int i = 0; i < 6; i++) connect_over_quic(i & 1, 4096, 100);
   for (int i = 0; i < 2; i++) gnutls_certificate_free_credentials(credentials[i]);
   free_lists();
   return 0;
