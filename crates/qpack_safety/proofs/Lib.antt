@@ -28,3 +28,4 @@ pub mod FourParts
 pub mod StreamMarks
 pub mod Headline
 pub mod HistoryRows
+pub mod LawfulFlights

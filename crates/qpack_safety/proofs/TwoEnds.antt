@@ -60,7 +60,7 @@ strict_started capacity maximum limit =
 
 -- ---- the steps that are one small step
 
-strict_takes : (capacity maximum limit : ℕ) (w : AbstractSession) (is : List EncoderInstruction) → w.in_flight ≡ is
+pub strict_takes : (capacity maximum limit : ℕ) (w : AbstractSession) (is : List EncoderInstruction) → w.in_flight ≡ is
     → Invariant capacity maximum limit w → Strict w → Strict (take_next w is)
 strict_takes capacity maximum limit w [] e k t = t
 strict_takes capacity maximum limit w (i ∷ rest) e k t =
@@ -69,7 +69,7 @@ strict_takes capacity maximum limit w (i ∷ rest) e k t =
     subst (λ (r : Result Window TableRefusal). Strict (after_take w i rest r)) (sym made.applies)
     (strict_taken w i rest _ e made.applies t)
 
-strict_hearing : (capacity maximum limit : ℕ) (w : AbstractSession) (rs : List DecoderInstruction)
+pub strict_hearing : (capacity maximum limit : ℕ) (w : AbstractSession) (rs : List DecoderInstruction)
     → w.decoder_in_flight ≡ rs → Invariant capacity maximum limit w → Strict w → Strict (hear_next w rs)
 strict_hearing capacity maximum limit w [] e k t = t
 strict_hearing capacity maximum limit w (r ∷ rest) e k t =
@@ -235,23 +235,35 @@ strict_step capacity maximum limit w (Cancel s) k t = strict_cancelling w s t
 strict_step capacity maximum limit w (Forget s) k t = strict_forgotten w s t
 
 -- the invariant, and what strict ends rely on
-record Holds (capacity maximum limit : ℕ) (w : AbstractSession) : Type 0 where
+pub record Holds (capacity maximum limit : ℕ) (w : AbstractSession) : Type 0 where
   pub invariant : Invariant capacity maximum limit w
   pub strict : Strict w
 
-holds_behind : (capacity maximum limit : ℕ) (es : List EndStep) (w : AbstractSession) → Holds capacity maximum limit w
-    → Holds capacity maximum limit (after_end_steps es w)
-holds_behind capacity maximum limit [] w h = h
-holds_behind capacity maximum limit (e ∷ es) w h =
-    holds_behind capacity maximum limit es (after_end_step w e)
-    (record {
+pub holds_started : (capacity maximum limit : ℕ) → capacity ≤ maximum
+    → Holds capacity maximum limit (abstract_start capacity maximum limit)
+holds_started capacity maximum limit within =
+    record {
+      invariant = inv_started capacity maximum limit within;
+      strict = strict_started capacity maximum limit;
+    }
+
+pub holds_step : (capacity maximum limit : ℕ) (e : EndStep) (w : AbstractSession) → Holds capacity maximum limit w
+    → Holds capacity maximum limit (after_end_step w e)
+holds_step capacity maximum limit e w h =
+    record {
       invariant = inv_run capacity maximum limit (small_steps w e) w h.invariant;
       strict = strict_step capacity maximum limit w e h.invariant h.strict;
-    })
+    }
+
+pub holds_behind : (capacity maximum limit : ℕ) (es : List EndStep) (w : AbstractSession)
+    → Holds capacity maximum limit w → Holds capacity maximum limit (after_end_steps es w)
+holds_behind capacity maximum limit [] w h = h
+holds_behind capacity maximum limit (e ∷ es) w h =
+    holds_behind capacity maximum limit es (after_end_step w e) (holds_step capacity maximum limit e w h)
 
 -- ---- the theorem
 
-strictly_takes : (w : AbstractSession) (i : EncoderInstruction) (rest : List EncoderInstruction)
+pub strictly_takes : (w : AbstractSession) (i : EncoderInstruction) (rest : List EncoderInstruction)
     → w.in_flight ≡ i ∷ rest → Strict w
     → strict_apply (table_of w.decoder) i ≡ apply_encoder_instruction (table_of w.decoder) i
 unfolding strict_apply table_of
@@ -269,10 +281,7 @@ strictly_takes w i rest e t = both (nat_eq w.decoder.capacity 0) refl
 pub strict_ends_safe : StrictEndsAreSafe
 strict_ends_safe capacity maximum limit within steps =
     let h = holds_behind capacity maximum limit steps (abstract_start capacity maximum limit)
-    (record {
-      invariant = inv_started capacity maximum limit within;
-      strict = strict_started capacity maximum limit;
-    }) in
+    (holds_started capacity maximum limit within) in
     let w = after_end_steps steps (abstract_start capacity maximum limit) in (
       inv_safe capacity maximum limit w h.invariant,
       record {

@@ -4,3 +4,4 @@ pub mod TwoEnds
 pub mod Refines
 pub mod Headline
 pub mod SessionSafety
+pub mod LawfulFlights
