@@ -29,3 +29,4 @@ pub mod StreamMarks
 pub mod Headline
 pub mod HistoryRows
 pub mod LawfulFlights
+pub mod HandedSections

@@ -33,7 +33,7 @@ use Rattle.qpack_safety.proofs.Taking.{taking, Taking}
 use Rattle.qpack_safety.proofs.Hearing.{ack_finds}
 
 -- the entries of the oldest undecoded block are live at the encoder
-undecoded_live : (capacity maximum limit : ℕ) (w : AbstractSession) (k : Invariant capacity maximum limit w) (s : ℕ)
+pub undecoded_live : (capacity maximum limit : ℕ) (w : AbstractSession) (k : Invariant capacity maximum limit w) (s : ℕ)
     (b : AbstractBlock) → (stream_at w.streams s).cancelled ≡ false
     → slice_get (stream_at w.streams s).blocks (stream_at w.streams s).decoded ≡ Some b → 0 < greatest_of b.referenced
     → AllByRecursion (IsLive w.encoder) b.referenced
@@ -54,11 +54,11 @@ undecoded_live capacity maximum limit w k s b live there dynamic =
     (drop st.acknowledged (filter is_dynamic st.blocks)) held')
     ok.acknowledged there (ap not (ne_eqb (greatest_of b.referenced) 0 (λ e. absurd (omega arith))))
 
-dropped_same : (t : Table) (h : History) → window t ≡ window_of h → t.dropped ≡ h.dropped
+pub dropped_same : (t : Table) (h : History) → window t ≡ window_of h → t.dropped ≡ h.dropped
 unfolding window window_of
 dropped_same t h e = ap (λ (w : Window). w.dropped) e
 
-maximum_window : (w : Window) (h : History) (most : ℕ) → w ≡ window_of h → Agreed most h → maximum_of w ≡ most
+pub maximum_window : (w : Window) (h : History) (most : ℕ) → w ≡ window_of h → Agreed most h → maximum_of w ≡ most
 unfolding window_of
 maximum_window w h most e a =
     let o : w.agreed_max ≡ Some most = ap (λ (x : Window). x.agreed_max) e ∙ a.is_agreed in
@@ -97,7 +97,7 @@ taken_in_time capacity maximum h made taken in_flight b l ok le =
     )
 
 -- the window of counts
-in_reach : (capacity maximum limit : ℕ) (w : AbstractSession) (k : Invariant capacity maximum limit w) (r : ℕ)
+pub in_reach : (capacity maximum limit : ℕ) (w : AbstractSession) (k : Invariant capacity maximum limit w) (r : ℕ)
     → IsLive w.encoder r
     → 0 < r → InReach (window_insert_count w.decoder) maximum r
 in_reach capacity maximum limit w k r live positive =
@@ -119,7 +119,7 @@ in_reach capacity maximum limit w k r live positive =
       small = omega (arith, live.1, n, s.few);
     }
 
-block_reads : (capacity maximum received agreed_max : ℕ) (made : History) (encoder_stream : List EncoderInstruction)
+pub block_reads : (capacity maximum received agreed_max : ℕ) (made : History) (encoder_stream : List EncoderInstruction)
     (b : AbstractBlock)
     (ok : KeepsBlock capacity maximum made encoder_stream b) → agreed_max ≡ maximum
     → (0 < greatest_of b.referenced → InReach received maximum (greatest_of b.referenced))

@@ -45,7 +45,7 @@ pub record RefinesSome (capacity maximum limit : ℕ) (v : Session) : Type 0 whe
   pub refines : Refines v abstract
   pub keeps : Invariant capacity maximum limit abstract
 
-few_insertions : (capacity maximum limit : ℕ) (w : AbstractSession) → Invariant capacity maximum limit w
+pub few_insertions : (capacity maximum limit : ℕ) (w : AbstractSession) → Invariant capacity maximum limit w
     → insert_count w.encoder
     ≤ 2 ^ 62
 few_insertions capacity maximum limit w k =

@@ -5,3 +5,4 @@ pub mod Refines
 pub mod Headline
 pub mod SessionSafety
 pub mod LawfulFlights
+pub mod HandedSections

@@ -192,13 +192,13 @@ pub written_not_below : (maximum base : ℕ) → (prefix_for maximum 0 base).sig
 written_not_below maximum base = ap (λ (p : Prefix). p.sign) (written_none maximum base)
 
 -- the whole prefix
-prefix_dynamic : (received maximum required base : ℕ) (p : Prefix) → ReadsAs received maximum required base p
+pub prefix_dynamic : (received maximum required base : ℕ) (p : Prefix) → ReadsAs received maximum required base p
     → 0 < required → read_prefix received maximum p ≡ Ok (required, base)
 unfolding read_prefix
 prefix_dynamic received maximum required base p a positive =
     rw (a.reads_count, ne_eqb required 0 (λ e. absurd (omega arith)), a.reads_base positive) refl
 
-prefix_plain : (received maximum base : ℕ) (p : Prefix) → ReadsAs received maximum 0 base p
+pub prefix_plain : (received maximum base : ℕ) (p : Prefix) → ReadsAs received maximum 0 base p
     → read_prefix received maximum p ≡ Ok (0, 0)
 unfolding read_prefix
 prefix_plain received maximum base p a = rw (a.reads_count, a.not_below refl) refl

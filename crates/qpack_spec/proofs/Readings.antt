@@ -142,7 +142,7 @@ line_plain w w' base base' (NamedDynamic i v) h = absurd (cc)
 line_plain w w' base base' (NamedPostBase i v) h = absurd (cc)
 line_plain w w' base base' (Literal n v) h = refl
 
-nil_parts : {X : Type 0} (xs ys : List X) → xs ++ ys ≡ [] → (xs ≡ []) × (ys ≡ [])
+pub nil_parts : {X : Type 0} (xs ys : List X) → xs ++ ys ≡ [] → (xs ≡ []) × (ys ≡ [])
 nil_parts [] ys h = (refl, h)
 nil_parts (x ∷ xs) ys h = absurd (cc)
 

@@ -145,7 +145,7 @@ written_short w limit required base b fs k prefix received means low =
     )
 
 -- marks take no byte
-lines_length : (fs : List FieldLine) (ls : List Line)
+pub lines_length : (fs : List FieldLine) (ls : List Line)
     → length (written_marked_lines fs ls) ≡ length (written_lines ls)
 unfolding written_marked_lines written_lines
 lines_length [] ls = refl
