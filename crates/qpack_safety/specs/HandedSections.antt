@@ -1,5 +1,5 @@
 -- What the sections that the encoder of two strict ends wrote are read to in bytes (RFC 9204, sections 2.2.1, 4.5 and
--- 7.1.3). No contract names it.
+-- 7.1.3).
 use Rattle.std.specs.Prelude.{◌≡◌, ◌<◌, ◌≤◌, ◌^◌, ℕ, false, if◌then◌else◌, nat_eq, List, [], ◌∷◌, ◌++◌, length, Some}
 use Rattle.std.specs.Prelude.{slice_get}
 use Rattle.std.specs.List.{AllByRecursion}

@@ -1,6 +1,5 @@
 -- All that two strict ends have under way is lawful to its end: what was written on the encoder stream is a stream that
--- a strict decoder applies whole, and so is what is under way on the decoder stream (RFC 9204, sections 4.3 and 4.4). No
--- contract names it.
+-- a strict decoder applies whole, and so is what is under way on the decoder stream (RFC 9204, sections 4.3 and 4.4).
 use Rattle.std.specs.Prelude.{◌≡◌, ◌≤◌, ℕ, List, ◌++◌, Some, Ok}
 use Rattle.qpack_spec.specs.StrictInstructions.{strict_apply, hear_in_turn}
 use Rattle.qpack_spec.specs.Table.{Table, empty_table, table_of}

@@ -4,6 +4,8 @@
 #![tactic(auto)]
 
 ghost use Rattle.qpack_safety.specs.Headline.{SessionsAnswerWhatWasHanded};
+ghost use Rattle.qpack_safety.specs.HandedSections.{BlocksAreOfWhatWasHanded, SectionsAreReadStrictly};
+ghost use Rattle.qpack_safety.specs.LawfulFlights.{FlightsAreLawful};
 ghost use Rattle.qpack_safety.specs.SessionSafety.{SessionsAreSafe};
 ghost use Rattle.qpack_safety.specs.TwoEnds.{StrictEndsAreSafe};
 
@@ -22,4 +24,17 @@ pub fn sessions_answer_what_was_handed()
 /// the increments for all that it received, never send what the other refuses, and each section is decoded exactly.
 pub fn strict_ends_are_safe()
     ensures { StrictEndsAreSafe }
+{}
+
+/// And of what such ends have under way: the whole encoder stream is one that a strict decoder applies, and what is under
+/// way on the decoder stream is heard by a strict encoder.
+pub fn strict_flights_are_lawful()
+    ensures { FlightsAreLawful }
+{}
+
+/// And of the bytes of their sections: each stream's blocks are of the fields that were handed to it, in order; and its
+/// next section is read to exactly its fields with their marks, or is blocked while it requires more than was received.
+pub fn strict_sections_are_read_exactly()
+    ensures handed { BlocksAreOfWhatWasHanded }
+    ensures read { SectionsAreReadStrictly }
 {}
