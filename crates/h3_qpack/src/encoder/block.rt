@@ -1,8 +1,8 @@
 //! A block in progress: the lines of its fields, and then its prefix in front of them (RFC 9204, sections 2.1 and
 //! 4.5.1).
 
-ghost use Rattle.std.specs.Prelude.{◌≡◌, ◌≤◌, [], ◌++◌, map, take, drop, IfOk, IfErr, OnOk, OnErr, vec_len};
-ghost use Rattle.std.specs.Prelude.{vec_capacity};
+ghost use Rattle.std.specs.Prelude.{◌≡◌, ◌-◌, ◌≤◌, [], ◌++◌, length, map, take, drop, IfOk, IfErr, OnOk, OnErr};
+ghost use Rattle.std.specs.Prelude.{vec_len, vec_capacity};
 ghost use Rattle.qpack_spec.specs.Field.{fields_of_lines};
 ghost use Rattle.qpack_spec.specs.Prefix.{written_prefix};
 ghost use Rattle.qpack_spec.specs.Table.{insert_count, without_references};
@@ -101,6 +101,22 @@ fn put_in_front<A: Allocator>(
     let end = block.len();
     prefix.encode(block)?;
     let written = block.len() - end;
-    block[len..].rotate_right(written);
+    move_to_front(&mut block[len..], written);
     Ok(())
+}
+
+/// Moves so many bytes from the end to the front. Two, as most prefixes have, are moved one by one: to move more at
+/// once takes room on the stack, which is cleared first.
+fn move_to_front(bytes: &mut [u8], count: usize)
+    requires { count ≤ length bytes.old }
+    ensures len { length bytes.new ≡ length bytes.old }
+    ensures after { bytes.new
+        ≡ drop (length bytes.old - count) bytes.old ++ take (length bytes.old - count) bytes.old }
+{
+    if count == 2 {
+        bytes.rotate_right(1);
+        bytes.rotate_right(1);
+        return;
+    }
+    bytes.rotate_right(count);
 }
