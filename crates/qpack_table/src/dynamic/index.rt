@@ -24,7 +24,11 @@ use std::alloc::{AllocError, Global};
 use std::collections::VecDeque;
 
 /// The least number of rows, once there are any.
-const LEAST_ROWS: usize = 8;
+const LEAST_ROWS: usize = 32;
+
+/// How many times as many rows there are where they would be fewer than the entries. With 32 rows first, a table of 4096
+/// bytes, which has at most 128 entries, makes its rows anew once.
+const GROWTH: usize = 4;
 
 /// The newest live entry of each different field, and of each different name. There are at least as many rows of
 /// either as entries.
@@ -119,9 +123,13 @@ impl Index {
         if entries.len() < count {
             return self.make_room(hashes);
         }
-        let mut doubled = self.with_rows(entries, dropped, (2 * count).max(LEAST_ROWS))?;
-        doubled.make_room(hashes)?;
-        *self = doubled;
+        let mut grown = self.with_rows(
+            entries,
+            dropped,
+            count.saturating_mul(GROWTH).max(LEAST_ROWS),
+        )?;
+        grown.make_room(hashes)?;
+        *self = grown;
         Ok(())
     }
 
