@@ -1,13 +1,11 @@
 -- Encoder instructions as a strict decoder takes them.
-use Rattle.std.proofs.Common.{◌≡◌, ℕ, ◌+◌, ◌<◌, ◌≤◌, List, ◌++◌, length, drop, Bool, true, false, Option, None}
-use Rattle.std.proofs.Common.{Some, Result, Ok, Err, refl, sym, ap, subst, ◌∙◌, inl, inr, arith, length-append}
-use Rattle.std.specs.Prelude.{⊤, nat_lt, nat_le}
-use Rattle.std.proofs.lemmas.Bool.{cond_both, ltb-true, ltb-false, le-ltb, le-leb}
+use Rattle.std.proofs.Common.{◌≡◌, ℕ, ◌+◌, List, ◌++◌, length, drop, Bool, true, false}
+use Rattle.std.proofs.Common.{Result, Ok, Err, refl, ap, ◌∙◌, inl, inr, arith, length-append}
+use Rattle.std.specs.Prelude.{⊤}
 use Rattle.std.proofs.Math.Seq.{drop-append_seam}
-use Rattle.qpack_spec.specs.Form.{Form, Index, IndexAndValue, NameAndValue, SpellsForm}
-use Rattle.qpack_spec.specs.Instruction.{EncoderInstruction, InsertStaticName, encoder_instruction_form}
-use Rattle.qpack_spec.specs.Instruction.{SpellsEncoderInstruction}
+use Rattle.qpack_spec.specs.Instruction.{EncoderInstruction, encoder_instruction_form}
 use Rattle.qpack_spec.specs.Table.{Table, apply_encoder_instruction}
+use Rattle.qpack_spec.proofs.LawfulStreams.{inserts_by}
 use Rattle.h3_qpack.specs.Receiving.{Stops, no_memory, TakesNext}
 use Rattle.h3_qpack.specs.Receiving as decoder
 use Rattle.h3_qpack.specs.Taking.{EndsTakingOf}
@@ -15,47 +13,6 @@ use Rattle.h3_qpack.specs.declared.decoder.DecoderError.{DecoderError}
 use Rattle.qpack_connection.specs.declared.place.Place.{Place}
 use Rattle.qpack_connection.specs.Receiving.{inserts, strict_apply, begins_insertion, begins_unlawfully, bad_bytes}
 use Rattle.qpack_connection.specs.Receiving.{bad_instruction, StopsStrictly, TakesNextStrictly, TakesAllStrictly}
-
--- ---- the first byte tells whether a field is inserted
-
-AgreesIn : ℕ → Form EncoderInstruction → Type 0
-AgreesIn b (Index n make) = (index : ℕ) → inserts (make index) ≡ nat_le 64 b
-AgreesIn b (IndexAndValue n make) = (index : ℕ) (value : List ℕ) → inserts (make index value) ≡ nat_le 64 b
-AgreesIn b (NameAndValue n make) = (name value : List ℕ) → inserts (make name value) ≡ nat_le 64 b
-
-abbrev Agrees : ℕ → Option (Form EncoderInstruction) → Type 0
-Agrees b None = Unit {0}
-Agrees b (Some form) = AgreesIn b form
-
-below : (b : ℕ) → b < 64 → false ≡ nat_le 64 b
-below b less = sym (le-ltb 63 b (omega (arith, less)))
-
-above : (b : ℕ) → 64 ≤ b → true ≡ nat_le 64 b
-above b least = sym (le-leb 64 b least)
-
-agrees : (b : ℕ) → Agrees b (encoder_instruction_form b)
-unfolding encoder_instruction_form AgreesIn
-agrees b =
-    cond_both (nat_lt b 32) _ _ (Agrees b) (λ t. λ index. below b (omega (arith, ltb-true b 32 t)))
-    (λ _. cond_both (nat_lt b 64) _ _ (Agrees b) (λ t. λ index. below b (ltb-true b 64 t))
-    (λ f. cond_both (nat_lt b 128) _ _ (Agrees b) (λ _. λ name value. above b (ltb-false b 64 f))
-    (λ _. cond_both (nat_lt b 192) _ _ (Agrees b) (λ _. λ index value. above b (ltb-false b 64 f))
-    (λ _. cond_both (nat_lt b 256) (Some (IndexAndValue 6 InsertStaticName)) None (Agrees b)
-    (λ _. λ index value. above b (ltb-false b 64 f)) (λ _. tt)))))
-
-form_agrees : (b : ℕ) (form : Form EncoderInstruction) (encoding : List ℕ) (i : EncoderInstruction) → AgreesIn b form
-    → SpellsForm form encoding i → inserts i ≡ nat_le 64 b
-unfolding AgreesIn
-form_agrees b (Index n make) encoding i has s = ap inserts s.2 ∙ has s.0
-form_agrees b (IndexAndValue n make) encoding i has s = ap inserts s.3 ∙ has s.0 s.1
-form_agrees b (NameAndValue n make) encoding i has s = ap inserts s.3 ∙ has s.0 s.1
-
-inserts_by : (encoding rest left : List ℕ) (i : EncoderInstruction) → rest ≡ encoding ++ left
-    → SpellsEncoderInstruction encoding i → inserts i ≡ begins_insertion rest
-inserts_by encoding rest left i cut s =
-    form_agrees s.first s.form encoding i
-    (subst (λ (o : Option (Form EncoderInstruction)). Agrees s.first o) s.names (agrees s.first)) s.spells
-    ∙ sym (ap begins_insertion (cut ∙ ap (λ (x : List ℕ). x ++ left) s.begins))
 
 -- ---- an instruction that begins lawfully
 

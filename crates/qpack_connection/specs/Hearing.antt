@@ -1,17 +1,14 @@
 -- What a strict encoder makes of the bytes of the decoder stream, which are handed in once and cut anywhere (RFC 9204,
 -- section 4.4).
-use Rattle.std.specs.Prelude.{◌≡◌, ℕ, ⊤, Bool, true, false, if◌then◌else◌, nat_eq, nat_lt, ◌+◌, ◌-◌, List, [], ◌∷◌}
+use Rattle.std.specs.Prelude.{◌≡◌, ℕ, ⊤, Bool, true, false, List, []}
 use Rattle.std.specs.Prelude.{◌++◌, Option, None, Some, Result, Ok, Err}
-use Rattle.std.specs.Option.{unwrap_or}
-use Rattle.qpack_spec.specs.Bytes.{Begins, ◌>>=◌}
+use Rattle.qpack_spec.specs.Bytes.{Begins}
 use Rattle.qpack_spec.specs.Integer.{Overflow}
 use Rattle.qpack_spec.specs.Form.{BadInteger, Truncates}
-use Rattle.qpack_spec.specs.Instruction.{DecoderInstruction, Acknowledgment, Cancellation, Increment}
+use Rattle.qpack_spec.specs.Instruction.{DecoderInstruction}
 use Rattle.qpack_spec.specs.Instruction.{decoder_instruction_form, SpellsDecoderInstruction, RefusesDecoderInstruction}
 use Rattle.qpack_spec.specs.Stream.{SpellsAll}
-use Rattle.qpack_spec.specs.Table.{Table, insert_count, with_increment, apply_decoder_instruction}
-use Rattle.qpack_spec.specs.Window.{TableRefusal}
-use Rattle.qpack_table.specs.Tables.{oldest_required}
+use Rattle.qpack_spec.specs.Table.{Table}
 use Rattle.qpack_connection.specs.Places.{behind}
 use Rattle.qpack_connection.specs.declared.hearing.DecoderStreamError.{DecoderStreamError}
 use Rattle.qpack_connection.specs.declared.hearing.HearingError.{HearingError}
@@ -19,9 +16,9 @@ use Rattle.qpack_connection.specs.declared.hearing.HearingError.TheVariants as e
 use Rattle.qpack_connection.specs.declared.place.Place.{Place}
 -- ---- one instruction
 
--- what a strict encoder makes of an instruction, and why it refuses one
+-- what a strict encoder makes of an instruction, why it refuses one, and what it makes of some in turn
 pub use Rattle.qpack_spec.specs.StrictInstructions.{HearingRefusal, ZeroIncrement, PastInsertions, UnknownStream}
-pub use Rattle.qpack_spec.specs.StrictInstructions.{or_unknown, known_at_least}
+pub use Rattle.qpack_spec.specs.StrictInstructions.{or_unknown, known_at_least, hear_in_turn}
 unfoldable pub use Rattle.qpack_spec.specs.StrictInstructions.{strict_hear}
 
 -- the refusal that an error tells
@@ -62,11 +59,6 @@ HearsNext old new bytes (Ok false) = Truncates decoder_instruction_form bytes ×
 HearsNext old new bytes (Err e) = Refuses old bytes e × (new ≡ old)
 
 -- ---- the stream
-
--- the table behind some instructions
-abbrev pub hear_in_turn : Table → List DecoderInstruction → Result Table HearingRefusal
-hear_in_turn t [] = Ok t
-hear_in_turn t (i ∷ is) = strict_hear t i >>= λ u. hear_in_turn u is
 
 -- a stream that is received: the bytes that wait, and where the next instruction stands
 pub record StreamView : Type 0 where

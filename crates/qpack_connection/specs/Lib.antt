@@ -7,3 +7,5 @@ pub mod Blocked
 pub mod Decoders
 pub mod Hearing
 pub mod Encoders
+pub mod LawfulPieces
+pub mod Connections

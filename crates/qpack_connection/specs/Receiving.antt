@@ -1,12 +1,12 @@
 -- What a strict decoder makes of the bytes of the encoder stream, which are handed in once and cut anywhere (RFC 9204,
 -- section 4.3).
-use Rattle.std.specs.Prelude.{◌≡◌, ◌≢◌, ◌<◌, ◌≤◌, ℕ, ⊤, ◌⊎◌, Bool, true, false, ◌&&◌, if◌then◌else◌, nat_eq}
-use Rattle.std.specs.Prelude.{◌+◌, ◌-◌, ◌*◌, List, [], ◌∷◌, ◌++◌, length, Option, None, Some, Result, Ok, Err, nat_le}
+use Rattle.std.specs.Prelude.{◌≡◌, ◌≢◌, ◌<◌, ◌≤◌, ℕ, ⊤, ◌⊎◌, Bool, true, ◌&&◌, nat_eq}
+use Rattle.std.specs.Prelude.{◌+◌, ◌-◌, ◌*◌, List, [], ◌++◌, length, Option, None, Some, Result, Ok, Err}
 use Rattle.qpack_spec.specs.Bytes.{Begins}
 use Rattle.qpack_spec.specs.Form.{FormFault, Truncates}
-use Rattle.qpack_spec.specs.Instruction.{EncoderInstruction, InsertStaticName, InsertDynamicName, InsertLiteralName}
+use Rattle.qpack_spec.specs.Instruction.{EncoderInstruction}
 use Rattle.qpack_spec.specs.Instruction.{encoder_instruction_form, SpellsEncoderInstruction, RefusesEncoderInstruction}
-use Rattle.qpack_spec.specs.Table.{Table, apply_encoder_instruction}
+use Rattle.qpack_spec.specs.Table.{Table}
 use Rattle.qpack_spec.specs.Taking.{TakesAllOf}
 use Rattle.qpack_spec.specs.Wanted.{wanted, least_field_size}
 use Rattle.qpack_spec.specs.Window.{TableRefusal, DoesNotFit}
@@ -21,14 +21,11 @@ use Rattle.qpack_connection.specs.declared.receiving.EncoderStreamError.{Encoder
 use Rattle.qpack_connection.specs.declared.receiving.EncoderStreamError.TheVariants.{Refused, Memory}
 -- ---- one instruction
 
--- what a strict decoder makes of an instruction, and which of them insert
+-- what a strict decoder makes of an instruction, which of them insert, whether bytes begin one that does, and what waits
+-- of the stream
+pub use Rattle.qpack_spec.specs.LawfulStreams.{begins_insertion, MayGrow}
 pub use Rattle.qpack_spec.specs.StrictInstructions.{inserts}
 unfoldable pub use Rattle.qpack_spec.specs.StrictInstructions.{strict_apply}
-
--- the bytes begin such an insertion: their first bits are 01, 10 or 11 (sections 4.3.2 and 4.3.3)
-abbrev pub begins_insertion : List ℕ → Bool
-begins_insertion [] = false
-begins_insertion (b ∷ bytes) = nat_le 64 b
 
 -- the bytes begin an insertion, and none is lawful
 abbrev pub begins_unlawfully : Table → List ℕ → Bool
@@ -107,11 +104,6 @@ stream_code_of (Refused place e) = Some encoder_stream_error
 stream_code_of Memory = None
 
 -- ---- what waits
-
--- what waits of the stream: bytes of an instruction that is not whole and whose field may fit
-pub record MayGrow (t : Table) (pending : List ℕ) : Type 0 where
-  pub cut : Truncates encoder_instruction_form pending
-  pub fits : least_field_size pending ≤ t.capacity
 
 -- what waits is short: fewer than four bytes for each byte of the capacity, and ten more
 abbrev pub IsShort : Table → List ℕ → Type 0

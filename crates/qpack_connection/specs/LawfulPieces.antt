@@ -1,0 +1,33 @@
+-- A strict end refuses nothing of a stream that is lawful to its end, however the stream is cut: what the contracts of
+-- both streams come to for a lawful peer (RFC 9204, sections 4.2 to 4.4).
+use Rattle.std.specs.Prelude.{◌≡◌, ℕ, List, ◌++◌, Ok, Err}
+use Rattle.qpack_spec.specs.Instruction.{EncoderInstruction, DecoderInstruction, SpellsDecoderInstruction}
+use Rattle.qpack_spec.specs.LawfulStreams.{IsLawfulStream}
+use Rattle.qpack_spec.specs.Stream.{SpellsAll}
+use Rattle.qpack_spec.specs.Table.{Table}
+use Rattle.h3_qpack.specs.declared.decoder.DecoderError.{DecoderError}
+use Rattle.qpack_connection.specs.declared.hearing.DecoderStreamError.{DecoderStreamError}
+use Rattle.qpack_connection.specs.declared.place.Place.{Place}
+use Rattle.qpack_connection.specs.declared.receiving.EncoderStreamError.TheVariants.{Refused}
+use Rattle.qpack_connection.specs.Hearing as hearing
+use Rattle.qpack_connection.specs.Hearing.{hear_in_turn}
+use Rattle.qpack_connection.specs.Receiving as receiving
+
+-- the bytes that were handed in and those that are to come are a lawful encoder stream: the call does not answer that it
+-- is refused
+abbrev pub EncoderStreamsAreNeverRefused : Type 0
+EncoderStreamsAreNeverRefused =
+    (start old new last : Table) (before bytes behind left : List ℕ) (sent : List EncoderInstruction)
+    (s u : receiving.StreamView) (place : Place) (e : DecoderError)
+    → IsLawfulStream start last ((before ++ bytes) ++ behind) sent
+    → receiving.ReceivesMore start old new before bytes left s u (Err (Refused place e)) → ⊥
+
+-- the same of the decoder stream, of which some instructions were heard before, and the encoder's table hears all that
+-- is under way
+abbrev pub DecoderStreamsAreNeverRefused : Type 0
+DecoderStreamsAreNeverRefused =
+    (old new last : Table) (heard in_flight : List DecoderInstruction) (before bytes behind : List ℕ)
+    (u : hearing.StreamView) (e : DecoderStreamError)
+    → SpellsAll SpellsDecoderInstruction ((before ++ bytes) ++ behind) (heard ++ in_flight)
+    → hear_in_turn old in_flight ≡ Ok last
+    → hearing.ReceivesMore old new heard before bytes u (Err e) → ⊥
