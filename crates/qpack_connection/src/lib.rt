@@ -8,6 +8,7 @@ pub mod decoder;
 pub mod encoder;
 pub mod field_section;
 pub mod hearing;
+pub mod laws;
 pub mod place;
 pub mod receiving;
 pub mod section;
