@@ -1,0 +1,54 @@
+//! The two ends of a connection (RFC 9204, section 2): an encoder, made from the settings that the peer sent, and a
+//! decoder, made from those that this side sent. They share nothing, and may live in different threads.
+//!
+//! Each has a stream of instructions that it writes, and one that it reads; what came may be cut anywhere. An end whose
+//! error has a [`code`](DecodingError::code) is over: the connection is to be closed with that code, and each call of
+//! the end that can fail answers such an error from then on.
+//!
+//! ```
+//! use h3_qpack::connection::{
+//!     ConnectionDecoder, ConnectionEncoder, DecoderSettings, EncoderSettings, FieldLine, Reading,
+//! };
+//!
+//! let settings = DecoderSettings { max_capacity: 4096, max_blocked: 16, max_section_size: 65_536 };
+//! let mut decoder = ConnectionDecoder::new(settings)?;
+//! let mut encoder = ConnectionEncoder::new(EncoderSettings::new(4096, 16))?;
+//!
+//! // The section comes first, so its stream is blocked until the instructions are there.
+//! let (mut section, mut instructions, mut answers) = (Vec::new(), Vec::new(), Vec::new());
+//! encoder.encode(4, [("foo", "bar")], &mut section)?;
+//! encoder.take_encoder_stream(&mut instructions)?;
+//! assert_eq!(decoder.decode(4, &section)?, Reading::Blocked { required: 1 });
+//! decoder.receive(&instructions)?;
+//! assert_eq!(decoder.next_ready(), Some(4));
+//! assert_eq!(decoder.decode(4, &section)?, Reading::Fields { count: 1, required: 1 });
+//! assert_eq!(decoder.fields()?.next(), Some(FieldLine::new("foo", "bar")));
+//!
+//! // What the decoder answers goes back.
+//! decoder.take_decoder_stream(&mut answers)?;
+//! encoder.receive(&answers)?;
+//! assert_eq!(encoder.blocked(), 0);
+//! # Ok::<(), Box<dyn std::error::Error>>(())
+//! ```
+
+mod decoder;
+mod encoder;
+mod error;
+
+pub use crate::field::FieldLine;
+pub use decoder::{ConnectionDecoder, DecoderSettings, Fields, Reading};
+pub use encoder::{ConnectionEncoder, EncoderSettings};
+pub use error::{
+    DecodingError, EncodingError, NoMemory, Place, SettingsError, QPACK_DECODER_STREAM_ERROR,
+    QPACK_DECOMPRESSION_FAILED, QPACK_ENCODER_STREAM_ERROR,
+};
+
+/// Adds all bytes that a stream has to `out`, in room that is made first.
+fn take_all(out: &mut Vec<u8>, many: usize, take: impl FnOnce(&mut [u8]) -> usize) -> Result<usize, NoMemory> {
+    out.try_reserve(many).map_err(|_| NoMemory)?;
+    let len = out.len();
+    out.resize(len + many, 0);
+    let taken = take(&mut out[len..]);
+    out.truncate(len + taken);
+    Ok(taken)
+}

@@ -1,0 +1,236 @@
+//! Why the ends of a connection refuse.
+
+use crate::sys;
+use std::fmt;
+
+/// The decoder failed to interpret a section (RFC 9204, section 6).
+pub const QPACK_DECOMPRESSION_FAILED: u64 = 0x200;
+/// The decoder failed to interpret the encoder stream (RFC 9204, section 6).
+pub const QPACK_ENCODER_STREAM_ERROR: u64 = 0x201;
+/// The encoder failed to interpret the decoder stream (RFC 9204, section 6).
+pub const QPACK_DECODER_STREAM_ERROR: u64 = 0x202;
+
+/// Where a line of a section, or an instruction of a stream, was refused.
+#[derive(Debug, Clone, Copy, PartialEq, Eq)]
+pub struct Place {
+    /// Which one it is, from 1.
+    pub number: u64,
+    /// Where it begins: in bytes from the start of the section, or of the stream behind its type.
+    pub offset: u64,
+}
+
+impl Place {
+    /// The place that was told, if one was.
+    pub(crate) fn told(number: u64, offset: u64) -> Option<Place> {
+        if number == 0 {
+            None
+        } else {
+            Some(Place { number, offset })
+        }
+    }
+}
+
+impl fmt::Display for Place {
+    fn fmt(&self, f: &mut fmt::Formatter<'_>) -> fmt::Result {
+        write!(f, "{}, at byte {}", self.number, self.offset)
+    }
+}
+
+/// The allocator refused. The call can be made again.
+#[derive(Debug, Clone, Copy, PartialEq, Eq)]
+pub struct NoMemory;
+
+impl fmt::Display for NoMemory {
+    fn fmt(&self, f: &mut fmt::Formatter<'_>) -> fmt::Result {
+        f.write_str("out of memory")
+    }
+}
+
+impl std::error::Error for NoMemory {}
+
+/// Why an end can't be made.
+#[derive(Debug, Clone, Copy, PartialEq, Eq)]
+#[non_exhaustive]
+pub enum SettingsError {
+    /// A setting is out of its range. For a peer's maximum capacity of 2^30 bytes or more, make an encoder of 0.
+    OutOfRange,
+    /// The allocator refused.
+    NoMemory,
+    /// A status that this crate does not know: the archive is of another version.
+    Unknown(i32),
+}
+
+impl SettingsError {
+    /// The error of a status.
+    pub(crate) fn of(status: i32) -> SettingsError {
+        match status {
+            sys::INVALID => SettingsError::OutOfRange,
+            sys::NO_MEMORY => SettingsError::NoMemory,
+            status => SettingsError::Unknown(status),
+        }
+    }
+}
+
+impl fmt::Display for SettingsError {
+    fn fmt(&self, f: &mut fmt::Formatter<'_>) -> fmt::Result {
+        match self {
+            SettingsError::OutOfRange => f.write_str("a setting is out of its range"),
+            SettingsError::NoMemory => f.write_str("out of memory"),
+            SettingsError::Unknown(status) => write!(f, "unknown status {status}"),
+        }
+    }
+}
+
+impl std::error::Error for SettingsError {}
+
+/// Why an encoder refuses.
+#[derive(Debug, Clone, Copy, PartialEq, Eq)]
+#[non_exhaustive]
+pub enum EncodingError {
+    /// The decoder stream can't be interpreted, and the encoder is over. The instruction that was refused, where this
+    /// call read it.
+    DecoderStream {
+        /// Its place on the stream.
+        instruction: Option<Place>,
+    },
+    /// The number of the stream is 2^62 or more; nothing was done.
+    StreamId,
+    /// The capacity is above the peer's maximum; nothing was done.
+    CapacityTooLarge,
+    /// For that capacity entries would have to go that may still be referenced; nothing was done. Try again later.
+    EntriesHeld,
+    /// The allocator refused; the call can be made again.
+    NoMemory,
+    /// A status that this crate does not know: the archive is of another version.
+    Unknown(i32),
+}
+
+impl EncodingError {
+    /// The code of RFC 9204, section 6, to close the connection with; `None` where the encoder can go on.
+    pub fn code(&self) -> Option<u64> {
+        match self {
+            EncodingError::DecoderStream { .. } => Some(QPACK_DECODER_STREAM_ERROR),
+            _ => None,
+        }
+    }
+
+    /// The error of a status, `invalid` being what the call answers for an argument out of its range.
+    pub(crate) fn of(status: i32, invalid: EncodingError, instruction: Option<Place>) -> EncodingError {
+        match status {
+            DECODER_STREAM_ERROR => EncodingError::DecoderStream { instruction },
+            sys::INVALID => invalid,
+            sys::HELD => EncodingError::EntriesHeld,
+            sys::NO_MEMORY => EncodingError::NoMemory,
+            status => EncodingError::Unknown(status),
+        }
+    }
+}
+
+impl fmt::Display for EncodingError {
+    fn fmt(&self, f: &mut fmt::Formatter<'_>) -> fmt::Result {
+        match self {
+            EncodingError::DecoderStream { instruction: None } => f.write_str("the decoder stream was refused"),
+            EncodingError::DecoderStream { instruction: Some(place) } => {
+                write!(f, "the decoder stream is refused at instruction {place}")
+            }
+            EncodingError::StreamId => f.write_str("no stream has that number"),
+            EncodingError::CapacityTooLarge => f.write_str("the capacity is above the peer's maximum"),
+            EncodingError::EntriesHeld => f.write_str("entries may still be referenced"),
+            EncodingError::NoMemory => f.write_str("out of memory"),
+            EncodingError::Unknown(status) => write!(f, "unknown status {status}"),
+        }
+    }
+}
+
+impl std::error::Error for EncodingError {}
+
+impl From<NoMemory> for EncodingError {
+    fn from(_: NoMemory) -> EncodingError {
+        EncodingError::NoMemory
+    }
+}
+
+/// Why a decoder refuses.
+#[derive(Debug, Clone, Copy, PartialEq, Eq)]
+#[non_exhaustive]
+pub enum DecodingError {
+    /// A section can't be interpreted, or blocks a stream too many, and the decoder is over. The line that was refused,
+    /// where this call read it; `None` also for the prefix, and for a stream too many.
+    DecompressionFailed {
+        /// Its place in the section.
+        line: Option<Place>,
+    },
+    /// The encoder stream can't be interpreted, and the decoder is over. The instruction that was refused, where this
+    /// call read it.
+    EncoderStream {
+        /// Its place on the stream.
+        instruction: Option<Place>,
+    },
+    /// The sizes of the section's fields sum to more than the limit: an error of its stream alone.
+    TooLarge,
+    /// The number of the stream is 2^62 or more; nothing was done.
+    StreamId,
+    /// The allocator refused; the call can be made again. Of the bytes that were handed to
+    /// [`receive`](crate::connection::ConnectionDecoder::receive) some were taken: hand in the others, be it none.
+    NoMemory {
+        /// How many were taken; 0 of any other call.
+        taken: usize,
+    },
+    /// A status that this crate does not know: the archive is of another version.
+    Unknown(i32),
+}
+
+impl DecodingError {
+    /// The code of RFC 9204, section 6, to close the connection with; `None` where the decoder can go on.
+    pub fn code(&self) -> Option<u64> {
+        match self {
+            DecodingError::DecompressionFailed { .. } => Some(QPACK_DECOMPRESSION_FAILED),
+            DecodingError::EncoderStream { .. } => Some(QPACK_ENCODER_STREAM_ERROR),
+            _ => None,
+        }
+    }
+
+    /// The error of a status, with the place that was told beside it, and how many bytes were taken.
+    pub(crate) fn of(status: i32, place: Option<Place>, taken: usize) -> DecodingError {
+        match status {
+            DECOMPRESSION_FAILED => DecodingError::DecompressionFailed { line: place },
+            ENCODER_STREAM_ERROR => DecodingError::EncoderStream { instruction: place },
+            sys::TOO_LARGE => DecodingError::TooLarge,
+            sys::INVALID => DecodingError::StreamId,
+            sys::NO_MEMORY => DecodingError::NoMemory { taken },
+            status => DecodingError::Unknown(status),
+        }
+    }
+}
+
+impl fmt::Display for DecodingError {
+    fn fmt(&self, f: &mut fmt::Formatter<'_>) -> fmt::Result {
+        match self {
+            DecodingError::DecompressionFailed { line: None } => f.write_str("a section is refused"),
+            DecodingError::DecompressionFailed { line: Some(place) } => {
+                write!(f, "a section is refused at line {place}")
+            }
+            DecodingError::EncoderStream { instruction: None } => f.write_str("the encoder stream was refused"),
+            DecodingError::EncoderStream { instruction: Some(place) } => {
+                write!(f, "the encoder stream is refused at instruction {place}")
+            }
+            DecodingError::TooLarge => f.write_str("the fields of the section are too large"),
+            DecodingError::StreamId => f.write_str("no stream has that number"),
+            DecodingError::NoMemory { .. } => f.write_str("out of memory"),
+            DecodingError::Unknown(status) => write!(f, "unknown status {status}"),
+        }
+    }
+}
+
+impl std::error::Error for DecodingError {}
+
+impl From<NoMemory> for DecodingError {
+    fn from(_: NoMemory) -> DecodingError {
+        DecodingError::NoMemory { taken: 0 }
+    }
+}
+
+/// The codes as statuses.
+const DECOMPRESSION_FAILED: i32 = QPACK_DECOMPRESSION_FAILED as i32;
+const ENCODER_STREAM_ERROR: i32 = QPACK_ENCODER_STREAM_ERROR as i32;
+const DECODER_STREAM_ERROR: i32 = QPACK_DECODER_STREAM_ERROR as i32;

@@ -1,0 +1,39 @@
+//! QPACK, the header compression of HTTP/3 (RFC 9204), over a library that is proved: what its calls do is what their
+//! contracts say, on every input. This crate has two layers:
+//!
+//! - [`encode_stateless`] and [`decode_stateless`], in the names of the `qpack` module of the crate `h3`: a field
+//!   section without a dynamic table;
+//! - [`connection`]: both ends of a connection with its dynamic table and its two instruction streams.
+//!
+//! It wants no other crate. `build.rs` links the archive of the proved library; the file `README.md` in `rust/` tells
+//! how it is made.
+//!
+//! ```
+//! use h3_qpack::{decode_stateless, encode_stateless, HeaderField};
+//!
+//! let mut section = Vec::new();
+//! encode_stateless(&mut section, [HeaderField::new(":method", "GET")])?;
+//! assert_eq!(section, [0x00, 0x00, 0xd1]);
+//!
+//! let decoded = decode_stateless(&section, 16_384)?;
+//! assert_eq!(decoded.fields, [HeaderField::new(":method", "GET")]);
+//! # Ok::<(), h3_qpack::Error>(())
+//! ```
+#![deny(missing_docs)]
+#![deny(unsafe_op_in_unsafe_fn)]
+#![deny(unsafe_code)]
+
+pub mod connection;
+mod field;
+mod stateless;
+#[allow(unsafe_code)]
+mod sys;
+
+pub use field::{HeaderField, ESTIMATED_OVERHEAD_BYTES};
+pub use stateless::{decode_stateless, encode_stateless, Decoded, DecoderError, EncoderError, Error};
+
+/// The version of the archive that is linked: it breaks with the first number, and grows with the second.
+pub fn library_version() -> (u16, u16) {
+    let version = sys::version();
+    ((version >> 16) as u16, version as u16)
+}

@@ -1,0 +1,202 @@
+//! Field sections without a dynamic table, in the names of h3.
+
+use crate::connection::{ConnectionDecoder, DecoderSettings, DecodingError, Place, Reading, SettingsError};
+use crate::connection::{FieldLine, QPACK_DECOMPRESSION_FAILED};
+use crate::sys::{self, Lent};
+use crate::HeaderField;
+use std::fmt;
+
+/// What [`encode_stateless`] answers where it can't encode.
+#[derive(Debug, Clone, Copy, PartialEq, Eq)]
+#[non_exhaustive]
+pub enum EncoderError {
+    /// The allocator refused. Nothing was written; the call can be made again.
+    Memory,
+}
+
+impl fmt::Display for EncoderError {
+    fn fmt(&self, f: &mut fmt::Formatter<'_>) -> fmt::Result {
+        f.write_str("out of memory")
+    }
+}
+
+impl std::error::Error for EncoderError {}
+
+/// What [`decode_stateless`] answers where it can't decode.
+#[derive(Debug, Clone, Copy, PartialEq, Eq)]
+#[non_exhaustive]
+pub enum DecoderError {
+    /// The section is none that means fields without a dynamic table (RFC 9204, section 2.2). The line that was
+    /// refused, or `None` where it is the prefix.
+    Decompression(Option<Place>),
+    /// The sizes of the fields sum to more than the limit. The sum is at least this number, in bytes.
+    HeaderTooLong(u64),
+    /// The allocator refused; the call can be made again.
+    Memory,
+}
+
+impl DecoderError {
+    /// The code of RFC 9204, section 6, to close the connection with; `None` where the connection can go on.
+    pub fn code(&self) -> Option<u64> {
+        match self {
+            DecoderError::Decompression(_) => Some(QPACK_DECOMPRESSION_FAILED),
+            DecoderError::HeaderTooLong(_) | DecoderError::Memory => None,
+        }
+    }
+}
+
+impl fmt::Display for DecoderError {
+    fn fmt(&self, f: &mut fmt::Formatter<'_>) -> fmt::Result {
+        match self {
+            DecoderError::Decompression(None) => f.write_str("the prefix of the section is refused"),
+            DecoderError::Decompression(Some(place)) => write!(f, "the section is refused at line {place}"),
+            DecoderError::HeaderTooLong(size) => write!(f, "the fields are too large: {size} bytes or more"),
+            DecoderError::Memory => f.write_str("out of memory"),
+        }
+    }
+}
+
+impl std::error::Error for DecoderError {}
+
+/// An error of either.
+#[derive(Debug, Clone, Copy, PartialEq, Eq)]
+pub enum Error {
+    /// Of [`encode_stateless`].
+    Encoder(EncoderError),
+    /// Of [`decode_stateless`].
+    Decoder(DecoderError),
+}
+
+impl fmt::Display for Error {
+    fn fmt(&self, f: &mut fmt::Formatter<'_>) -> fmt::Result {
+        match self {
+            Error::Encoder(error) => write!(f, "encoder: {error}"),
+            Error::Decoder(error) => write!(f, "decoder: {error}"),
+        }
+    }
+}
+
+impl std::error::Error for Error {}
+
+impl From<EncoderError> for Error {
+    fn from(error: EncoderError) -> Error {
+        Error::Encoder(error)
+    }
+}
+
+impl From<DecoderError> for Error {
+    fn from(error: DecoderError) -> Error {
+        Error::Decoder(error)
+    }
+}
+
+/// Encodes fields as a section without a dynamic table (RFC 9204, section 4.5), which is added to `block`, and answers
+/// the sum of their sizes, in bytes. `block` is a `Vec<u8>`, or a `BytesMut`, or what else takes bytes.
+///
+/// No field is marked as one that is never to be indexed: for those use [`connection`](crate::connection).
+///
+/// # Errors
+/// [`EncoderError::Memory`] alone; nothing was added then.
+///
+/// ```
+/// use h3_qpack::{encode_stateless, HeaderField};
+///
+/// let mut block = Vec::new();
+/// let size = encode_stateless(&mut block, [HeaderField::new(":status", "201")])?;
+/// assert_eq!((size, block), (42, vec![0x00, 0x00, 0x5f, 0x09, 0x82, 0x10, 0x03]));
+/// # Ok::<(), h3_qpack::EncoderError>(())
+/// ```
+pub fn encode_stateless<W, T, H>(block: &mut W, fields: T) -> Result<u64, EncoderError>
+where
+    W: for<'b> Extend<&'b u8>,
+    T: IntoIterator<Item = H>,
+    H: AsRef<HeaderField>,
+{
+    let fields: Vec<H> = fields.into_iter().collect();
+    let mut lent = Vec::new();
+    lent.try_reserve_exact(fields.len()).map_err(|_| EncoderError::Memory)?;
+    lent.extend(fields.iter().map(|field| {
+        let field = field.as_ref();
+        Lent::new(&field.name, &field.value, false)
+    }));
+    let size = fields.iter().map(|field| field.as_ref().mem_size() as u64).sum();
+    let mut section = Vec::new();
+    write_stateless(&lent, &mut section, size)?;
+    block.extend(&section);
+    Ok(size)
+}
+
+/// Encodes fields whose sizes sum to this to a vector that holds nothing. A section is rarely longer than that sum;
+/// where it is, room is made, and it is encoded again.
+fn write_stateless(fields: &[Lent<'_>], section: &mut Vec<u8>, size: u64) -> Result<(), EncoderError> {
+    let mut room = usize::try_from(size).map_or(usize::MAX, |size| size.saturating_add(2));
+    loop {
+        section.try_reserve_exact(room).map_err(|_| EncoderError::Memory)?;
+        let written = sys::encode_stateless(fields, section);
+        match written.status {
+            sys::OK => return Ok(()),
+            sys::NO_ROOM => room = written.len,
+            _ => return Err(EncoderError::Memory),
+        }
+    }
+}
+
+/// What [`decode_stateless`] answers.
+#[derive(Debug, Clone, PartialEq, Eq)]
+pub struct Decoded {
+    /// The fields, in their order.
+    pub fields: Vec<HeaderField>,
+    /// Whether the section references the dynamic table: without one it does not.
+    pub dyn_ref: bool,
+    /// The sum of the fields' sizes, in bytes (RFC 9204, section 3.2.1).
+    pub mem_size: u64,
+}
+
+/// Decodes a whole section without a dynamic table (RFC 9204, section 4.5), the sizes of whose fields may sum to
+/// `max_size` bytes. `buf` is whatever lends bytes, as a vector, a slice, or `Bytes`.
+///
+/// Whether a field is never to be indexed is not told: for that use [`connection`](crate::connection).
+///
+/// # Errors
+/// A section that references a dynamic table, or that is none, is refused; so is one past the limit, of which what lies
+/// behind the field that passes it is not read.
+///
+/// ```
+/// use h3_qpack::{decode_stateless, DecoderError};
+///
+/// assert_eq!(decode_stateless(b"\x00\x00\xd1", 42)?.mem_size, 42);
+/// assert_eq!(decode_stateless(b"\x00\x00\xd1", 41), Err(DecoderError::HeaderTooLong(42)));
+/// # Ok::<(), DecoderError>(())
+/// ```
+pub fn decode_stateless<T: AsRef<[u8]> + ?Sized>(buf: &T, max_size: u64) -> Result<Decoded, DecoderError> {
+    let settings = DecoderSettings { max_capacity: 0, max_blocked: 0, max_section_size: max_size };
+    let mut decoder = ConnectionDecoder::new(settings).map_err(|error| match error {
+        SettingsError::NoMemory => DecoderError::Memory,
+        error => unreachable!("a capacity of 0 and no blocked stream are in range: {error}"),
+    })?;
+    match decoder.decode(0, buf.as_ref()) {
+        Ok(Reading::Fields { .. }) => own_fields(&mut decoder),
+        Ok(Reading::Blocked { .. }) => Err(DecoderError::Decompression(None)),
+        Err(error) => Err(refusal_of(error, max_size)),
+    }
+}
+
+/// The fields that a decoder lends, owned.
+fn own_fields(decoder: &mut ConnectionDecoder) -> Result<Decoded, DecoderError> {
+    let lent = decoder.fields().map_err(|_| DecoderError::Memory)?;
+    let mut fields = Vec::new();
+    fields.try_reserve_exact(lent.len()).map_err(|_| DecoderError::Memory)?;
+    fields.extend(lent.map(|FieldLine { name, value, .. }| HeaderField::new(name, value)));
+    let mem_size = fields.iter().map(|field: &HeaderField| field.mem_size() as u64).sum();
+    Ok(Decoded { fields, dyn_ref: false, mem_size })
+}
+
+/// The refusal of a section, of a decoder with this limit.
+fn refusal_of(error: DecodingError, max_size: u64) -> DecoderError {
+    match error {
+        DecodingError::TooLarge => DecoderError::HeaderTooLong(max_size.saturating_add(1)),
+        DecodingError::NoMemory { .. } => DecoderError::Memory,
+        DecodingError::DecompressionFailed { line } => DecoderError::Decompression(line),
+        error => unreachable!("a decoder that reads one section of stream 0 refuses no otherwise: {error}"),
+    }
+}

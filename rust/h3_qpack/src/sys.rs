@@ -1,0 +1,382 @@
+//! The exports of the proved library, as `include/h3_qpack.h` declares them, behind calls that are safe: all of this
+//! crate's unsafe code. What the header asks of a caller is kept here:
+//!
+//! - an end is what its `_new` wrote, is freed once, by `Drop`, and is never copied, for its handle is private;
+//! - null, memory that ends too early and lengths above `isize::MAX` can't be, for all memory that is lent is a slice,
+//!   or the room of a vector;
+//! - what is lent to be written is lent by `&mut`, so it overlaps nothing else;
+//! - an end is used by one thread at a time, for the ends are `Send` and not `Sync`.
+
+use std::cell::UnsafeCell;
+use std::ffi::c_void;
+use std::marker::PhantomData;
+use std::ptr;
+
+/// The call did what it was asked to.
+pub(crate) const OK: i32 = 0;
+/// The allocator refused; the call can be made again.
+pub(crate) const NO_MEMORY: i32 = -1;
+/// The memory that was lent is too small.
+pub(crate) const NO_ROOM: i32 = -2;
+/// The section waits for insertions.
+pub(crate) const BLOCKED: i32 = -3;
+/// An argument is out of its range.
+pub(crate) const INVALID: i32 = -4;
+/// The section passes the limit on its fields' sizes.
+pub(crate) const TOO_LARGE: i32 = -5;
+/// Entries would have to go that may still be referenced.
+pub(crate) const HELD: i32 = -6;
+
+/// The flag of a field that is never to be indexed.
+const NEVER_INDEX: u8 = 1;
+
+/// A field that is lent: `h3_qpack_nv`.
+#[repr(C)]
+pub(crate) struct Lent<'a> {
+    name: *const u8,
+    name_len: usize,
+    value: *const u8,
+    value_len: usize,
+    flags: u8,
+    lent: PhantomData<&'a [u8]>,
+}
+
+impl<'a> Lent<'a> {
+    /// A field of these parts.
+    pub(crate) fn new(name: &'a [u8], value: &'a [u8], never_indexed: bool) -> Lent<'a> {
+        Lent {
+            name: name.as_ptr(),
+            name_len: name.len(),
+            value: value.as_ptr(),
+            value_len: value.len(),
+            flags: if never_indexed { NEVER_INDEX } else { 0 },
+            lent: PhantomData,
+        }
+    }
+}
+
+/// What encoding answers: `h3_qpack_encoded`.
+#[repr(C)]
+pub(crate) struct Encoded {
+    pub(crate) status: i32,
+    pub(crate) len: usize,
+    pub(crate) required: usize,
+}
+
+/// A status and a number of bytes: `h3_qpack_written`.
+#[repr(C)]
+pub(crate) struct Written {
+    pub(crate) status: i32,
+    pub(crate) len: usize,
+}
+
+/// What receiving answers: `h3_qpack_received`.
+#[repr(C)]
+pub(crate) struct Received {
+    pub(crate) status: i32,
+    pub(crate) taken: usize,
+    pub(crate) number: u64,
+    pub(crate) offset: u64,
+}
+
+/// What decoding answers: `h3_qpack_decoded`.
+#[repr(C)]
+pub(crate) struct Decoded {
+    pub(crate) status: i32,
+    pub(crate) fields: usize,
+    pub(crate) required: usize,
+    pub(crate) number: u64,
+    pub(crate) offset: u64,
+}
+
+/// What is told of a field: `h3_qpack_field`.
+#[repr(C)]
+pub(crate) struct Given {
+    pub(crate) status: i32,
+    pub(crate) flags: u32,
+    pub(crate) name_len: usize,
+    pub(crate) value_len: usize,
+}
+
+impl Given {
+    /// Whether the field is never to be indexed.
+    pub(crate) fn is_never_indexed(&self) -> bool {
+        self.flags & u32::from(NEVER_INDEX) != 0
+    }
+}
+
+/// `h3_qpack_encoder` and `h3_qpack_decoder`, which are alike.
+#[repr(C)]
+#[derive(Clone, Copy)]
+struct Handle {
+    at: *mut c_void,
+}
+
+extern "C" {
+    fn h3q_version() -> u32;
+    fn h3q_encoder_new(
+        max_capacity: usize,
+        max_blocked: usize,
+        capacity: usize,
+        most_unacknowledged: usize,
+        at: *mut *mut c_void,
+    ) -> i32;
+    fn h3q_encoder_free(encoder: Handle);
+    fn h3q_encoder_encode(
+        encoder: *mut Handle,
+        stream_id: u64,
+        fields: *const Lent<'_>,
+        fields_len: usize,
+        section: *mut u8,
+        section_len: usize,
+    ) -> Encoded;
+    fn h3q_encoder_section(encoder: *mut Handle, section: *mut u8, section_len: usize) -> Written;
+    fn h3q_encoder_stream(encoder: *mut Handle, out: *mut u8, out_len: usize) -> usize;
+    fn h3q_encoder_stream_len(encoder: *mut Handle) -> usize;
+    fn h3q_encoder_read(encoder: *mut Handle, bytes: *const u8, bytes_len: usize) -> Received;
+    fn h3q_encoder_set_capacity(encoder: *mut Handle, capacity: usize) -> i32;
+    fn h3q_encoder_blocked(encoder: *mut Handle) -> usize;
+    fn h3q_decoder_new(max_capacity: usize, max_blocked: usize, max_section_size: u64, at: *mut *mut c_void) -> i32;
+    fn h3q_decoder_free(decoder: Handle);
+    fn h3q_decoder_decode(decoder: *mut Handle, stream_id: u64, section: *const u8, section_len: usize) -> Decoded;
+    fn h3q_decoder_field(decoder: *mut Handle, index: usize, out: *mut u8, out_len: usize) -> Given;
+    fn h3q_decoder_read(decoder: *mut Handle, bytes: *const u8, bytes_len: usize) -> Received;
+    fn h3q_decoder_insert_count(decoder: *mut Handle) -> usize;
+    fn h3q_decoder_blocked(decoder: *mut Handle) -> usize;
+    fn h3q_decoder_next_ready(decoder: *mut Handle, stream_id: *mut u64) -> u32;
+    fn h3q_decoder_stream(decoder: *mut Handle, out: *mut u8, out_len: usize) -> usize;
+    fn h3q_decoder_stream_len(decoder: *mut Handle) -> usize;
+    fn h3q_decoder_cancel(decoder: *mut Handle, stream_id: u64) -> i32;
+    fn h3q_encode_stateless(
+        fields: *const Lent<'_>,
+        fields_len: usize,
+        section: *mut u8,
+        section_len: usize,
+    ) -> Written;
+}
+
+/// The version of the archive: 65,536 for each breaking change, and 1 for each addition.
+pub(crate) fn version() -> u32 {
+    // SAFETY: the call takes nothing, and reads nothing but a constant.
+    unsafe { h3q_version() }
+}
+
+/// The room behind what a vector holds, to be written by a call. It may not be initialised; no call reads it.
+fn room_of(bytes: &mut Vec<u8>) -> (*mut u8, usize) {
+    let room = bytes.spare_capacity_mut();
+    (room.as_mut_ptr().cast(), room.len())
+}
+
+/// Takes so many bytes for written that a call wrote to the room behind what a vector holds.
+///
+/// # Safety
+/// The first `len` bytes of that room are initialised.
+unsafe fn take_written(bytes: &mut Vec<u8>, len: usize) {
+    let len = bytes.len() + len;
+    assert!(len <= bytes.capacity(), "a call wrote past its room");
+    // SAFETY: so many lie within the capacity, and the caller says that they are initialised.
+    unsafe { bytes.set_len(len) }
+}
+
+/// Encodes fields without a table, to the room behind what a vector holds.
+pub(crate) fn encode_stateless(fields: &[Lent<'_>], section: &mut Vec<u8>) -> Written {
+    let (room, room_len) = room_of(section);
+    // SAFETY: the fields and the room are lent for the length of the call, and do not overlap. At status OK the call
+    // wrote `len` bytes to the room.
+    unsafe {
+        let written = h3q_encode_stateless(fields.as_ptr(), fields.len(), room, room_len);
+        if written.status == OK {
+            take_written(section, written.len);
+        }
+        written
+    }
+}
+
+/// An encoding end. Its cell makes it no `Sync`: a call that only asks is handed the end to itself, too.
+pub(crate) struct Encoder {
+    handle: UnsafeCell<Handle>,
+}
+
+// SAFETY: an end owns what lies behind its pointer, which came of malloc, and free may be called by another thread. The
+// library has no state beside its ends, and nothing that belongs to a thread.
+unsafe impl Send for Encoder {}
+
+impl Encoder {
+    /// Makes an end, or answers the status of the refusal.
+    pub(crate) fn new(
+        max_capacity: usize,
+        max_blocked: usize,
+        capacity: usize,
+        most_unacknowledged: usize,
+    ) -> Result<Encoder, i32> {
+        let mut at = ptr::null_mut();
+        // SAFETY: `at` is there for the call, which writes to it.
+        match unsafe { h3q_encoder_new(max_capacity, max_blocked, capacity, most_unacknowledged, &mut at) } {
+            OK => Ok(Encoder { handle: UnsafeCell::new(Handle { at }) }),
+            status => Err(status),
+        }
+    }
+
+    /// Encodes fields for a stream, to the room behind what a vector holds.
+    pub(crate) fn encode(&mut self, stream_id: u64, fields: &[Lent<'_>], section: &mut Vec<u8>) -> Encoded {
+        let (room, room_len) = room_of(section);
+        let handle = self.handle.get_mut();
+        // SAFETY: the end is one that `new` made; the fields and the room are lent for the length of the call, and do
+        // not overlap. At status OK the call wrote `len` bytes to the room.
+        unsafe {
+            let encoded = h3q_encoder_encode(handle, stream_id, fields.as_ptr(), fields.len(), room, room_len);
+            if encoded.status == OK {
+                take_written(section, encoded.len);
+            }
+            encoded
+        }
+    }
+
+    /// Writes the section that was encoded last once more, to the room behind what a vector holds.
+    pub(crate) fn section(&mut self, section: &mut Vec<u8>) -> Written {
+        let (room, room_len) = room_of(section);
+        // SAFETY: the end is one that `new` made, and the room is lent for the length of the call, which at status OK
+        // wrote `len` bytes to it.
+        unsafe {
+            let written = h3q_encoder_section(self.handle.get_mut(), room, room_len);
+            if written.status == OK {
+                take_written(section, written.len);
+            }
+            written
+        }
+    }
+
+    /// Takes bytes of the encoder stream, as many as there is room for.
+    pub(crate) fn stream(&mut self, out: &mut [u8]) -> usize {
+        // SAFETY: the end is one that `new` made, and `out` is lent for the length of the call.
+        unsafe { h3q_encoder_stream(self.handle.get_mut(), out.as_mut_ptr(), out.len()) }
+    }
+
+    /// How many bytes of the encoder stream are to be taken.
+    pub(crate) fn stream_len(&self) -> usize {
+        // SAFETY: the end is one that `new` made; it is no `Sync`, so no other call has it, and this one keeps it as
+        // it is.
+        unsafe { h3q_encoder_stream_len(self.handle.get()) }
+    }
+
+    /// Takes bytes of the decoder stream.
+    pub(crate) fn read(&mut self, bytes: &[u8]) -> Received {
+        // SAFETY: the end is one that `new` made, and the bytes are lent for the length of the call.
+        unsafe { h3q_encoder_read(self.handle.get_mut(), bytes.as_ptr(), bytes.len()) }
+    }
+
+    /// Sets the capacity, and answers a status.
+    pub(crate) fn set_capacity(&mut self, capacity: usize) -> i32 {
+        // SAFETY: the end is one that `new` made.
+        unsafe { h3q_encoder_set_capacity(self.handle.get_mut(), capacity) }
+    }
+
+    /// How many sections may be blocked.
+    pub(crate) fn blocked(&self) -> usize {
+        // SAFETY: as for `stream_len`.
+        unsafe { h3q_encoder_blocked(self.handle.get()) }
+    }
+}
+
+impl Drop for Encoder {
+    fn drop(&mut self) {
+        // SAFETY: the end is one that `new` made, and nothing can use it behind its `drop`.
+        unsafe { h3q_encoder_free(*self.handle.get_mut()) }
+    }
+}
+
+/// A decoding end. Its cell makes it no `Sync`: a call that only asks is handed the end to itself, too.
+pub(crate) struct Decoder {
+    handle: UnsafeCell<Handle>,
+}
+
+// SAFETY: as for `Encoder`.
+unsafe impl Send for Decoder {}
+
+impl Decoder {
+    /// Makes an end, or answers the status of the refusal.
+    pub(crate) fn new(max_capacity: usize, max_blocked: usize, max_section_size: u64) -> Result<Decoder, i32> {
+        let mut at = ptr::null_mut();
+        // SAFETY: `at` is there for the call, which writes to it.
+        match unsafe { h3q_decoder_new(max_capacity, max_blocked, max_section_size, &mut at) } {
+            OK => Ok(Decoder { handle: UnsafeCell::new(Handle { at }) }),
+            status => Err(status),
+        }
+    }
+
+    /// Decodes a section of a stream.
+    pub(crate) fn decode(&mut self, stream_id: u64, section: &[u8]) -> Decoded {
+        // SAFETY: the end is one that `new` made, and the section is lent for the length of the call.
+        unsafe { h3q_decoder_decode(self.handle.get_mut(), stream_id, section.as_ptr(), section.len()) }
+    }
+
+    /// Writes a field of the section that was decoded last to the room behind what a vector holds, if it fits.
+    pub(crate) fn field(&mut self, index: usize, bytes: &mut Vec<u8>) -> Given {
+        let (room, room_len) = room_of(bytes);
+        // SAFETY: the end is one that `new` made, and the room is lent for the length of the call, which at status OK
+        // wrote the name and the value to it.
+        unsafe {
+            let given = h3q_decoder_field(self.handle.get_mut(), index, room, room_len);
+            if given.status == OK {
+                take_written(bytes, given.name_len + given.value_len);
+            }
+            given
+        }
+    }
+
+    /// Takes bytes of the encoder stream.
+    pub(crate) fn read(&mut self, bytes: &[u8]) -> Received {
+        // SAFETY: the end is one that `new` made, and the bytes are lent for the length of the call.
+        unsafe { h3q_decoder_read(self.handle.get_mut(), bytes.as_ptr(), bytes.len()) }
+    }
+
+    /// How many insertions were ever received.
+    pub(crate) fn insert_count(&self) -> usize {
+        // SAFETY: the end is one that `new` made; it is no `Sync`, so no other call has it, and this one keeps it as
+        // it is.
+        unsafe { h3q_decoder_insert_count(self.handle.get()) }
+    }
+
+    /// How many streams are blocked.
+    pub(crate) fn blocked(&self) -> usize {
+        // SAFETY: as for `insert_count`.
+        unsafe { h3q_decoder_blocked(self.handle.get()) }
+    }
+
+    /// A stream whose section waits no more.
+    pub(crate) fn next_ready(&self) -> Option<u64> {
+        let mut stream_id = 0;
+        // SAFETY: as for `insert_count`; `stream_id` is there for the call, which may write to it.
+        let is_one = unsafe { h3q_decoder_next_ready(self.handle.get(), &mut stream_id) } != 0;
+        if is_one {
+            Some(stream_id)
+        } else {
+            None
+        }
+    }
+
+    /// Takes bytes of the decoder stream, as many as there is room for.
+    pub(crate) fn stream(&mut self, out: &mut [u8]) -> usize {
+        // SAFETY: the end is one that `new` made, and `out` is lent for the length of the call.
+        unsafe { h3q_decoder_stream(self.handle.get_mut(), out.as_mut_ptr(), out.len()) }
+    }
+
+    /// How many bytes of the decoder stream are to be taken.
+    pub(crate) fn stream_len(&self) -> usize {
+        // SAFETY: as for `insert_count`.
+        unsafe { h3q_decoder_stream_len(self.handle.get()) }
+    }
+
+    /// Gives a stream up, and answers a status.
+    pub(crate) fn cancel(&mut self, stream_id: u64) -> i32 {
+        // SAFETY: the end is one that `new` made.
+        unsafe { h3q_decoder_cancel(self.handle.get_mut(), stream_id) }
+    }
+}
+
+impl Drop for Decoder {
+    fn drop(&mut self) {
+        // SAFETY: the end is one that `new` made, and nothing can use it behind its `drop`.
+        unsafe { h3q_decoder_free(*self.handle.get_mut()) }
+    }
+}

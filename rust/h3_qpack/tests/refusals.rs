@@ -1,0 +1,129 @@
+//! Each refusal, its code, and what an end answers from then on.
+
+mod common;
+
+use common::{decoder, prefix};
+use h3_qpack::connection::{
+    ConnectionDecoder, ConnectionEncoder, DecoderSettings, DecodingError, EncoderSettings, EncodingError, FieldLine,
+    Place, Reading, SettingsError,
+};
+use h3_qpack::{decode_stateless, DecoderError};
+
+fn encoder() -> ConnectionEncoder {
+    ConnectionEncoder::new(EncoderSettings::new(4096, 1)).unwrap()
+}
+
+#[test]
+fn the_archive_is_of_the_version_that_this_crate_knows() {
+    assert_eq!(h3_qpack::library_version().0, 1);
+}
+
+#[test]
+fn settings_out_of_range() {
+    let too_much = 1 << 30;
+    let encoder = ConnectionEncoder::new(EncoderSettings::new(too_much, 0));
+    assert_eq!(encoder.err(), Some(SettingsError::OutOfRange));
+    for (max_capacity, max_blocked) in [(too_much, 0), (0, 65_535)] {
+        let decoder = ConnectionDecoder::new(DecoderSettings { max_capacity, max_blocked, max_section_size: 0 });
+        assert_eq!(decoder.err(), Some(SettingsError::OutOfRange));
+    }
+}
+
+#[test]
+fn an_encoder_refuses_and_goes_on() {
+    let (mut encoder, mut section) = (encoder(), vec![7]);
+    assert_eq!(encoder.encode(1 << 62, [("a", "b")], &mut section), Err(EncodingError::StreamId));
+    assert_eq!(encoder.set_capacity(4097), Err(EncodingError::CapacityTooLarge));
+    assert_eq!(section, [7]);
+    assert_eq!(encoder.encode(0, [("foo", "bar")], &mut section), Ok(1));
+    assert_eq!(encoder.set_capacity(0), Err(EncodingError::EntriesHeld));
+    assert_eq!(EncodingError::EntriesHeld.code(), None);
+    assert_eq!(encoder.receive(b"\x01\x80"), Ok(()));
+    assert_eq!(encoder.set_capacity(0), Ok(()));
+}
+
+#[test]
+fn an_encoder_is_over_behind_its_decoder_stream() {
+    let (mut encoder, mut section) = (encoder(), vec![7]);
+    let instruction = Some(Place { number: 2, offset: 1 });
+    let error = encoder.receive(b"\x44\x84").unwrap_err();
+    assert_eq!(error, EncodingError::DecoderStream { instruction });
+    assert_eq!((error.code(), error.to_string()), (Some(0x202), told("decoder", "2, at byte 1")));
+    let over = EncodingError::DecoderStream { instruction: None };
+    assert_eq!(encoder.encode(0, [("a", "b")], &mut section), Err(over));
+    assert_eq!((encoder.set_capacity(0), section), (Err(over), vec![7]));
+}
+
+fn told(stream: &str, place: &str) -> String {
+    format!("the {stream} stream is refused at instruction {place}")
+}
+
+#[test]
+fn a_decoder_is_over_behind_its_encoder_stream() {
+    let mut decoder = decoder(4096, 1);
+    let instruction = Some(Place { number: 2, offset: 3 });
+    let error = decoder.receive(b"\x3f\xe1\x1f\x02").unwrap_err();
+    assert_eq!(error, DecodingError::EncoderStream { instruction });
+    assert_eq!((error.code(), error.to_string()), (Some(0x201), told("encoder", "2, at byte 3")));
+    let over = DecodingError::EncoderStream { instruction: None };
+    assert_eq!((decoder.decode(0, b"\x00\x00\xd1"), decoder.cancel(0)), (Err(over), Err(over)));
+}
+
+#[test]
+fn a_decoder_is_over_behind_a_section_that_means_nothing() {
+    let mut decoder = decoder(4096, 1);
+    let line = Some(Place { number: 2, offset: 3 });
+    let error = decoder.decode(0, b"\x00\x00\xd1\xff\x3f").unwrap_err();
+    assert_eq!((error, error.code()), (DecodingError::DecompressionFailed { line }, Some(0x200)));
+    assert_eq!(decoder.fields().unwrap().len(), 0);
+    assert_eq!(decoder.cancel(0).unwrap_err().code(), Some(0x200));
+}
+
+#[test]
+fn a_decoder_refuses_a_section_past_its_limit_and_goes_on() {
+    let settings = DecoderSettings { max_capacity: 0, max_blocked: 0, max_section_size: 50 };
+    let mut decoder = ConnectionDecoder::new(settings).unwrap();
+    let refused = decoder.decode(0, b"\x00\x00\xd1\xd1");
+    assert_eq!((refused, DecodingError::TooLarge.code()), (Err(DecodingError::TooLarge), None));
+    assert_eq!(decoder.decode(1 << 62, b"\x00\x00\xd1"), Err(DecodingError::StreamId));
+    assert_eq!(decoder.cancel(1 << 62), Err(DecodingError::StreamId));
+    assert_eq!(decoder.decode(0, b"\x00\x00\xd1"), Ok(Reading::Fields { count: 1, required: 0 }));
+    assert!(decoder.fields().unwrap().eq([FieldLine::new(":method", "GET")]));
+    assert!(decoder.fields().unwrap().eq([FieldLine::new(":method", "GET")]));
+}
+
+#[test]
+fn a_stream_that_waits_is_given_up_and_one_too_many_ends_the_decoder() {
+    let (mut decoder, section) = (decoder(4096, 1), [prefix(2, 2, 4096), vec![0x80]].concat());
+    assert_eq!(decoder.decode(8, &section), Ok(Reading::Blocked { required: 2 }));
+    assert_eq!((decoder.blocked(), decoder.next_ready(), decoder.fields().unwrap().len()), (1, None, 0));
+    assert_eq!(decoder.cancel(8), Ok(()));
+    let mut stream = vec![7];
+    assert_eq!(decoder.take_decoder_stream(&mut stream), Ok(1));
+    assert_eq!((decoder.blocked(), stream), (0, vec![7, 0x48]));
+    assert_eq!(decoder.decode(12, &section), Ok(Reading::Blocked { required: 2 }));
+    assert_eq!(decoder.decode(16, &section), Err(DecodingError::DecompressionFailed { line: None }));
+}
+
+#[test]
+fn sections_that_mean_nothing_without_a_table() {
+    let line = |offset| DecoderError::Decompression(Some(Place { number: 1, offset }));
+    let refused: [(&[u8], DecoderError); 12] = [
+        (b"", DecoderError::Decompression(None)),
+        (b"\x00", DecoderError::Decompression(None)),
+        (b"\x05\x00", DecoderError::Decompression(None)),
+        (b"\x00\x00\xff", line(2)),
+        (b"\x00\x00\xff\x24", line(2)),
+        (b"\x00\x00\x10", line(2)),
+        (b"\x00\x00\x00\x00", line(2)),
+        (b"\x00\x00\x80", line(2)),
+        (b"\x00\x00\x40\x00", line(2)),
+        (b"\x00\x00\x2a\x94", line(2)),
+        (b"\x00\x00\x27\xff\xff\xff\xff\xff\xff\xff\xff\xff", line(2)),
+        (b"\x00\x00\x51\x81\x00", line(2)),
+    ];
+    for (section, error) in refused {
+        assert_eq!(decode_stateless(section, 4096), Err(error), "{section:?}");
+        assert_eq!(error.code(), Some(0x200));
+    }
+}
