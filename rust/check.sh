@@ -2,7 +2,7 @@
 # Tests the Rust crate. It needs cargo and rustc, 1.63 or later, make and a C linker (Debian: cargo, rustc, make and gcc),
 # and installs by apt-get what is not there, which only root can; where they can't be had nothing is tested, and that is
 # a failure. No other crate is wanted, and no network. The archive is made by make -C c, over what rt lib or the gate
-# left. clippy is run where it is there. Ends in a line of what passed, with a status that is not 0 if something failed.
+# left. valgrind and clippy are used where they are there. Ends in a line of what passed, with a status that is not 0 if something failed.
 set -euo pipefail
 cd "$(dirname "$0")"
 
@@ -57,6 +57,17 @@ build_archive() {
     export H3_QPACK_LIB=$room/c
 }
 
+# Runs the programs of the tests, which cargo named, beneath valgrind: no access that is not allowed, nothing lost.
+check_memory() {
+    local program
+    run cargo test --offline --tests --no-run
+    for program in $(sed -n 's/.*Executable tests.*(\(.*\))$/\1/p' "$room/told"); do
+        run valgrind -q --error-exitcode=9 --leak-check=full --errors-for-leak-kinds=definite,indirect "$program"
+        programs=$((programs + 1))
+    done
+    [ "$programs" -gt 0 ] || { echo "rust/check.sh: cargo named no program" >&2; exit 1; }
+}
+
 # Adds the tests that passed, as cargo told them.
 count_tests() {
     tests=$((tests + $(awk '/^test result: ok/ { sum += $4 } END { print sum + 0 }' "$room/told")))
@@ -66,6 +77,7 @@ room=$(mktemp -d)
 trap 'rm -rf "$room"' EXIT
 proved=../crates/h3_qpack_c/out/libh3_qpack_c.a
 tests=0
+programs=0
 install_wanted
 build_archive
 export CARGO_TARGET_DIR=$room/target
@@ -84,8 +96,12 @@ for example in examples/*.rs; do
     examples=$((examples + 1))
 done
 with=
+if command -v valgrind >/dev/null; then
+    check_memory
+    with=", $programs programs of tests beneath valgrind"
+fi
 if cargo clippy --version >/dev/null 2>&1; then
     run cargo clippy --offline --all-targets -- -D warnings
-    with=", and clippy has nothing to say"
+    with="$with, and clippy has nothing to say"
 fi
 echo "rust/check.sh: $tests tests and $examples examples passed with $(rustc --version | cut -d ' ' -f 1,2)$with"

@@ -89,6 +89,12 @@ fn header_prefix() {
 }
 
 #[test]
+fn header_prefix_table_size_0() {
+    let mut decoder = decoder(0, 0);
+    assert_eq!(decoder.decode(0, &prefix(0, 0, 0)), Ok(Reading::Fields { count: 0, required: 0 }));
+}
+
+#[test]
 fn base_index_too_small() {
     let section = [int(0, 8, 2 % (2 * TABLE_SIZE / 32) + 1), int(0x80, 7, 2)].concat();
     let refused = decoder_with(2).decode(0, &section);
