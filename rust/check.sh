@@ -1,8 +1,9 @@
 #!/usr/bin/env bash
-# Tests the Rust crate. It needs cargo and rustc, 1.63 or later, make and a C linker (Debian: cargo, rustc, make and gcc),
-# and installs by apt-get what is not there, which only root can; where they can't be had nothing is tested, and that is
-# a failure. No other crate is wanted, and no network. The archive is made by make -C c, over what rt lib or the gate
-# left. valgrind and clippy are used where they are there. Ends in a line of what passed, with a status that is not 0 if something failed.
+# Tests the Rust crate. It needs cargo and rustc, 1.63 or later, make and a C linker (Debian: cargo, rustc, make and
+# gcc), and installs by apt-get what is not there, which only root can; where they can't be had nothing is tested, and
+# that is a failure. No other crate is wanted, and no network. The archive is made by make -C c, over what rt lib or the
+# gate left. valgrind and clippy are used where they are there, and quic/run.sh is run where it can be. Ends in a line
+# of what passed, with a status that is not 0 if something failed.
 set -euo pipefail
 cd "$(dirname "$0")"
 
@@ -99,6 +100,10 @@ with=
 if command -v valgrind >/dev/null; then
     check_memory
     with=", $programs programs of tests beneath valgrind"
+fi
+if ../quic/run.sh --can; then
+    run ../quic/run.sh
+    with="$with, HTTP/3 over quinn"
 fi
 if cargo clippy --version >/dev/null 2>&1; then
     run cargo clippy --offline --all-targets -- -D warnings

@@ -1,5 +1,5 @@
-//! `bench ROUNDS`: nanoseconds a field over the repository's corpus, the best of so many rounds: the stateless pair, and
-//! both ends of a connection with a table of 4,096 bytes, each section acknowledged. Nothing is promised of time.
+//! `bench ROUNDS`: nanoseconds a field over the repository's corpus, the best of so many rounds: the stateless pair,
+//! and both ends of a connection with a table of 4,096 bytes, each section acknowledged. Nothing is promised of time.
 
 use h3_qpack::connection::{
     ConnectionDecoder, ConnectionEncoder, DecoderSettings, EncoderSettings, FieldLine, Reading,

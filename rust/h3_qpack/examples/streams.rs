@@ -2,248 +2,9 @@
 //! that each side opens) with this crate for QPACK, the dynamic table on. Each of two hosts is the other's client in a
 //! connection of its own. What is sent arrives in pieces, the messages first, so that sections wait for instructions.
 
-use h3_qpack::connection::{
-    ConnectionDecoder, ConnectionEncoder, DecoderSettings, EncoderSettings, FieldLine, Reading,
-};
-use std::collections::{BTreeMap, BTreeSet};
-use std::error::Error;
+mod framing;
 
-type Outcome<T> = Result<T, Box<dyn Error>>;
-
-/// The types of frames (RFC 9114, section 7.2).
-const DATA: u64 = 0x00;
-const HEADERS: u64 = 0x01;
-const SETTINGS: u64 = 0x04;
-/// The types of the streams that a side opens (RFC 9114, section 6.2, and RFC 9204, section 4.2).
-const CONTROL_STREAM: u64 = 0x00;
-const ENCODER_STREAM: u64 = 0x02;
-const DECODER_STREAM: u64 = 0x03;
-/// The settings of QPACK (RFC 9204, section 5), and of HTTP/3 (RFC 9114, section 7.2.4.1).
-const MAX_TABLE_CAPACITY: u64 = 0x01;
-const MAX_FIELD_SECTION_SIZE: u64 = 0x06;
-const BLOCKED_STREAMS: u64 = 0x07;
-
-/// What each side sends as its settings.
-const OWN: DecoderSettings = DecoderSettings { max_capacity: 4096, max_blocked: 16, max_section_size: 16_384 };
-
-/// Adds an integer of QUIC (RFC 9000, section 16).
-fn add_number(out: &mut Vec<u8>, number: u64) {
-    match number {
-        0..=0x3f => out.push(number as u8),
-        0x40..=0x3fff => out.extend((number as u16 | 0x4000).to_be_bytes()),
-        0x4000..=0x3fff_ffff => out.extend((number as u32 | 0x8000_0000).to_be_bytes()),
-        _ => out.extend((number | 0xc000_0000_0000_0000).to_be_bytes()),
-    }
-}
-
-/// Takes an integer of QUIC from the front, if it is whole.
-fn take_number(bytes: &mut &[u8]) -> Option<u64> {
-    let len = 1 << (bytes.first()? >> 6);
-    let (number, rest) = (bytes.get(..len)?, bytes.get(len..)?);
-    *bytes = rest;
-    Some(number[1..].iter().fold(u64::from(number[0] & 0x3f), |sum, byte| sum << 8 | u64::from(*byte)))
-}
-
-fn add_frame(out: &mut Vec<u8>, kind: u64, payload: &[u8]) {
-    add_number(out, kind);
-    add_number(out, payload.len() as u64);
-    out.extend(payload);
-}
-
-/// Takes a frame from the front, if it is whole.
-fn take_frame<'a>(bytes: &mut &'a [u8]) -> Option<(u64, &'a [u8])> {
-    let mut rest = *bytes;
-    let (kind, len) = (take_number(&mut rest)?, take_number(&mut rest)? as usize);
-    let payload = rest.get(..len)?;
-    *bytes = &rest[len..];
-    Some((kind, payload))
-}
-
-/// A message as it was received.
-#[derive(Default)]
-struct Message {
-    fields: Vec<(String, String)>,
-    body: Vec<u8>,
-}
-
-/// What arrived on a stream and was not read yet, and the type of one that a side opened.
-#[derive(Default)]
-struct Incoming {
-    unread: Vec<u8>,
-    kind: Option<u64>,
-}
-
-/// One side of the connection. Streams whose second bit is set have one direction (RFC 9000, section 2.1).
-struct Side {
-    name: &'static str,
-    /// The lowest bit of the streams that it opens.
-    parity: u64,
-    encoder: Option<ConnectionEncoder>,
-    decoder: ConnectionDecoder,
-    incoming: BTreeMap<u64, Incoming>,
-    /// Bytes to be sent, by their streams.
-    outgoing: BTreeMap<u64, Vec<u8>>,
-    messages: BTreeMap<u64, Message>,
-    /// Streams of which a section waits.
-    waiting: BTreeSet<u64>,
-    waited: usize,
-}
-
-impl Side {
-    /// A side that has its settings, and the types of its streams, to send.
-    fn new(name: &'static str, parity: u64) -> Outcome<Side> {
-        let mut settings = Vec::new();
-        for (id, value) in [
-            (MAX_TABLE_CAPACITY, OWN.max_capacity as u64),
-            (BLOCKED_STREAMS, OWN.max_blocked as u64),
-            (MAX_FIELD_SECTION_SIZE, OWN.max_section_size),
-        ] {
-            add_number(&mut settings, id);
-            add_number(&mut settings, value);
-        }
-        let mut control = vec![CONTROL_STREAM as u8];
-        add_frame(&mut control, SETTINGS, &settings);
-        let outgoing = BTreeMap::from([
-            (2 + parity, control),
-            (6 + parity, vec![ENCODER_STREAM as u8]),
-            (10 + parity, vec![DECODER_STREAM as u8]),
-        ]);
-        let decoder = ConnectionDecoder::new(OWN)?;
-        Ok(Side {
-            name,
-            parity,
-            encoder: None,
-            decoder,
-            incoming: BTreeMap::new(),
-            outgoing,
-            messages: BTreeMap::new(),
-            waiting: BTreeSet::new(),
-            waited: 0,
-        })
-    }
-
-    fn send(&mut self, stream_id: u64, bytes: &[u8]) {
-        self.outgoing.entry(stream_id).or_default().extend(bytes);
-    }
-
-    /// Sends what both ends of QPACK have for their streams.
-    fn send_instructions(&mut self) -> Outcome<()> {
-        if let Some(encoder) = &mut self.encoder {
-            encoder.take_encoder_stream(self.outgoing.entry(6 + self.parity).or_default())?;
-        }
-        self.decoder.take_decoder_stream(self.outgoing.entry(10 + self.parity).or_default())?;
-        Ok(())
-    }
-
-    /// Sends a message on a stream, once the peer's settings are there.
-    fn send_message(&mut self, stream_id: u64, fields: &[FieldLine<'_>], body: &[u8]) -> Outcome<()> {
-        let encoder = self.encoder.as_mut().ok_or("the peer's settings did not come")?;
-        let (mut section, mut frames) = (Vec::new(), Vec::new());
-        encoder.encode(stream_id, fields, &mut section)?;
-        add_frame(&mut frames, HEADERS, &section);
-        if !body.is_empty() {
-            add_frame(&mut frames, DATA, body);
-        }
-        self.send(stream_id, &frames);
-        self.send_instructions()
-    }
-
-    /// Takes bytes that arrived on a stream.
-    fn arrive(&mut self, stream_id: u64, bytes: &[u8]) -> Outcome<()> {
-        self.incoming.entry(stream_id).or_default().unread.extend(bytes);
-        if stream_id & 2 != 0 {
-            self.read_own_stream(stream_id)?;
-        } else if !self.waiting.contains(&stream_id) {
-            self.read_message(stream_id)?;
-        }
-        while let Some(ready) = self.decoder.next_ready() {
-            self.waiting.remove(&ready);
-            self.read_message(ready)?;
-        }
-        self.send_instructions()
-    }
-
-    /// Reads a stream that the peer opened for itself.
-    fn read_own_stream(&mut self, stream_id: u64) -> Outcome<()> {
-        let mut incoming = self.incoming.remove(&stream_id).unwrap_or_default();
-        let mut rest = &incoming.unread[..];
-        if incoming.kind.is_none() {
-            incoming.kind = take_number(&mut rest);
-        }
-        match incoming.kind {
-            Some(CONTROL_STREAM) => {
-                while let Some((kind, payload)) = take_frame(&mut rest) {
-                    if kind == SETTINGS {
-                        self.take_settings(payload)?;
-                    }
-                }
-            }
-            Some(ENCODER_STREAM) => {
-                self.decoder.receive(rest)?;
-                rest = &[];
-            }
-            Some(DECODER_STREAM) => {
-                self.encoder.as_mut().ok_or("instructions before the settings")?.receive(rest)?;
-                rest = &[];
-            }
-            _ => {}
-        }
-        incoming.unread = rest.to_vec();
-        self.incoming.insert(stream_id, incoming);
-        Ok(())
-    }
-
-    /// Makes the encoder from the peer's settings.
-    fn take_settings(&mut self, mut payload: &[u8]) -> Outcome<()> {
-        let mut settings = EncoderSettings::new(0, 0);
-        while let (Some(id), Some(value)) = (take_number(&mut payload), take_number(&mut payload)) {
-            match id {
-                MAX_TABLE_CAPACITY => settings.max_capacity = value as usize,
-                BLOCKED_STREAMS => settings.max_blocked = value as usize,
-                _ => {}
-            }
-        }
-        self.encoder = Some(ConnectionEncoder::new(settings)?);
-        Ok(())
-    }
-
-    /// Reads the frames of a message that are whole, up to a section that waits.
-    fn read_message(&mut self, stream_id: u64) -> Outcome<()> {
-        let mut incoming = self.incoming.remove(&stream_id).unwrap_or_default();
-        let mut rest = &incoming.unread[..];
-        loop {
-            let before = rest;
-            match take_frame(&mut rest) {
-                Some((HEADERS, section)) => {
-                    if !self.take_section(stream_id, section)? {
-                        rest = before;
-                        break;
-                    }
-                }
-                Some((DATA, data)) => self.messages.entry(stream_id).or_default().body.extend(data),
-                Some(_) => {}
-                None => break,
-            }
-        }
-        incoming.unread = rest.to_vec();
-        self.incoming.insert(stream_id, incoming);
-        Ok(())
-    }
-
-    /// Decodes a section; whether it did not wait.
-    fn take_section(&mut self, stream_id: u64, section: &[u8]) -> Outcome<bool> {
-        if let Reading::Blocked { required } = self.decoder.decode(stream_id, section)? {
-            println!("{}: stream {stream_id} is blocked until insertion {required}", self.name);
-            self.waiting.insert(stream_id);
-            self.waited += 1;
-            return Ok(false);
-        }
-        let text = |bytes| String::from_utf8_lossy(bytes).into_owned();
-        let fields = self.decoder.fields()?.map(|field| (text(field.name), text(field.value)));
-        self.messages.entry(stream_id).or_default().fields.extend(fields);
-        Ok(true)
-    }
-}
+use framing::{Outcome, Side};
 
 /// Moves what one side sent to the other in pieces of so many bytes, the streams of messages first. Answers whether
 /// there was any.
@@ -265,47 +26,21 @@ fn settle(one: &mut Side, other: &mut Side) -> Outcome<()> {
     Ok(())
 }
 
-/// A GET of a side's, and the answer to it.
-fn get(client: &mut Side, server: &mut Side, stream_id: u64, path: &str) -> Outcome<()> {
-    let request = [
-        FieldLine::new(":method", "GET"),
-        FieldLine::new(":scheme", "https"),
-        FieldLine::new(":authority", "example.org"),
-        FieldLine::new(":path", path),
-        FieldLine::new("user-agent", "h3_qpack"),
-        FieldLine::never_indexed("authorization", "Basic Og=="),
-    ];
-    client.send_message(stream_id, &request, b"")?;
-    settle(client, server)?;
-    let asked = server.messages.remove(&stream_id).ok_or("no request came")?;
-    assert_eq!((asked.fields.len(), &asked.fields[3].1[..], asked.body.len()), (6, path, 0));
-
-    let body = format!("{} has {path}", server.name);
-    let response = [
-        FieldLine::new(":status", "200"),
-        FieldLine::new("content-type", "text/plain"),
-        FieldLine::new("server", server.name),
-    ];
-    server.send_message(stream_id, &response, body.as_bytes())?;
-    settle(client, server)?;
-    let answer = client.messages.remove(&stream_id).ok_or("no answer came")?;
-    assert_eq!((&answer.fields[0].1[..], answer.fields.len()), ("200", 3));
-    assert_eq!(answer.body, body.as_bytes());
-    println!("{}: {path} on stream {stream_id}: {body}", client.name);
-    Ok(())
-}
-
 /// A connection in which one host asks another four times.
 fn converse(client: &'static str, server: &'static str) -> Outcome<()> {
     let (mut client, mut server) = (Side::new(client, 0)?, Side::new(server, 1)?);
     settle(&mut client, &mut server)?;
     for (round, path) in ["/", "/style.css", "/", "/image.png"].into_iter().enumerate() {
-        get(&mut client, &mut server, 4 * round as u64, path)?;
+        let stream_id = 4 * round as u64;
+        client.ask(stream_id, path)?;
+        settle(&mut client, &mut server)?;
+        assert!(server.answer(stream_id)?);
+        settle(&mut client, &mut server)?;
+        client.check_answer(stream_id, server.name, path)?;
     }
     for side in [&client, &server] {
-        assert!(side.waited > 0 && side.decoder.insert_count() > 0);
-        assert_eq!((side.decoder.blocked(), side.encoder.as_ref().map(|end| end.blocked())), (0, Some(0)));
-        println!("{}: {} insertions received, {} sections waited", side.name, side.decoder.insert_count(), side.waited);
+        assert!(side.waited > 0);
+        side.check_end();
     }
     Ok(())
 }
