@@ -67,7 +67,7 @@ impl Index {
         })
     }
 
-    /// The newest entry with the field.
+    /// The newest entry with the field. Where there is no entry, nothing is hashed.
     pub(super) fn newest_equal(
         &self,
         entries: &VecDeque<Entry>,
@@ -79,6 +79,9 @@ impl Index {
         ensures found { IsNewestIn dropped (entries_of entries.now.items) (is_field (line_of field.now).field) result }
         ensures steps { Counts (length entries.now.items) steps.old.count steps.new.count }
     {
+        if entries.is_empty() {
+            return None;
+        }
         let sought = Sought {
             part: Part::Whole,
             line: *field,
@@ -87,7 +90,7 @@ impl Index {
         self.fields.newest(entries, dropped, &sought, steps)
     }
 
-    /// The newest entry with the name.
+    /// The newest entry with the name. Where there is no entry, nothing is hashed.
     pub(super) fn newest_of_name(
         &self,
         entries: &VecDeque<Entry>,
@@ -99,6 +102,9 @@ impl Index {
         ensures found { IsNewestIn dropped (entries_of entries.now.items) (has_name name.now) result }
         ensures steps { Counts (length entries.now.items) steps.old.count steps.new.count }
     {
+        if entries.is_empty() {
+            return None;
+        }
         let sought = Sought {
             part: Part::Name,
             line: FieldLine::new(name, &[]),

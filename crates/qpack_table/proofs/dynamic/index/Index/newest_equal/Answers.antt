@@ -1,6 +1,18 @@
+use Rattle.std.proofs.Common.{◌≡◌, length, rules, arith}
+use Rattle.std.specs.Prelude.{None}
 use Rattle.qpack_base.specs.HeaderFields.{line_of}
-use Rattle.qpack_table.proofs.NewestEntries.{newest_field}
+use Rattle.qpack_table.specs.Tables.{live_fields}
+use Rattle.qpack_table.specs.declared.dynamic.index.row.Part.TheVariants.{Whole}
+use Rattle.qpack_table.proofs.Lookups.{fields_long}
+use Rattle.qpack_table.proofs.NewestEntries.{newest_field, newest_of_none}
 use Rattle.qpack_table.proofs.dynamic.index.Index.newest_equal.Goals as goal
+
+pub returns-then-is_empty-clause-found : goal.returns-then-is_empty-clause-found
+returns-then-is_empty-clause-found c =
+    let len : 0 ≡ length c.args.entries.now.items = search rules in
+    newest_field c.args.dropped c.args.entries.now.items (line_of c.args.field.now).field None
+    (newest_of_none Whole c.args.dropped (live_fields c.args.entries.now.items) (line_of c.args.field.now).field
+    (λ some. omega (arith, len, some, fields_long c.args.entries.now.items)))
 
 pub returns-clause-found : goal.returns-clause-found
 returns-clause-found c =

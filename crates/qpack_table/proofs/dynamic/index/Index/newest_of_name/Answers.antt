@@ -1,11 +1,21 @@
-use Rattle.std.proofs.Common.{subst}
+use Rattle.std.proofs.Common.{◌≡◌, [], length, rules, arith, subst}
+use Rattle.std.specs.Prelude.{None}
 use Rattle.qpack_spec.specs.Field.{FieldLine}
 use Rattle.qpack_table.specs.Indexes.{FindsNewest}
 use Rattle.qpack_table.specs.Rows.{part_of}
 use Rattle.qpack_table.specs.Tables.{live_fields}
 use Rattle.qpack_table.specs.declared.dynamic.index.row.Part.TheVariants.{Name}
-use Rattle.qpack_table.proofs.NewestEntries.{newest_name}
+use Rattle.qpack_table.proofs.Lookups.{fields_long}
+use Rattle.qpack_table.proofs.NewestEntries.{newest_name, newest_of_none}
 use Rattle.qpack_table.proofs.dynamic.index.Index.newest_of_name.Goals as goal
+
+pub returns-then-is_empty-clause-found : goal.returns-then-is_empty-clause-found
+returns-then-is_empty-clause-found c =
+    let len : 0 ≡ length c.args.entries.now.items = search rules in
+    newest_name c.args.dropped c.args.entries.now.items c.args.name.now None
+    (newest_of_none Name c.args.dropped (live_fields c.args.entries.now.items)
+    (record { name = c.args.name.now; value = [] })
+    (λ some. omega (arith, len, some, fields_long c.args.entries.now.items)))
 
 pub returns-clause-found : goal.returns-clause-found
 returns-clause-found c =
