@@ -7,7 +7,7 @@ ghost use Rattle.qpack_base.specs.HeaderFields.{field_of};
 ghost use Rattle.qpack_spec.specs.Field.{field_size, total_size};
 ghost use Rattle.qpack_spec.specs.Table.{fields_in};
 ghost use Rattle.qpack_table.specs.Tables.{entries_of, uses_of, flags_of, AreFlagged, AreUsed, AreCounted};
-ghost use Rattle.qpack_table.specs.Indexes.{IsIndexOf, HasRoomForEntry};
+ghost use Rattle.qpack_table.specs.Indexes.{AreHashesOf, IsIndexOf, HasRoomForEntry};
 ghost use Rattle.qpack_table.specs.Tables.{live_fields};
 ghost use Rattle.qpack_table.specs.declared.dynamic.index.hash.Hashes.{Hashes};
 
@@ -130,7 +130,8 @@ fn make_room(entries: &mut VecDeque<Entry>) -> Result<(), AllocError>
 }
 
 /// The oldest entries go, and another comes in behind the newest; the sum of their sizes is counted along. Refused,
-/// which is for memory alone, none goes and none comes in. With free room for it the list is not grown.
+/// which is for memory alone, none goes and none comes in. With free room for it the list is not grown. The hashes are
+/// those of the entry's field.
 pub(super) fn replace_oldest(
     entries: &mut VecDeque<Entry>,
     index: &mut Index,
@@ -138,6 +139,7 @@ pub(super) fn replace_oldest(
     mem_size: &mut usize,
     evicted: usize,
     entry: Entry,
+    hashes: Hashes,
 ) -> Result<(), AllocError>
     requires there { evicted ≤ length entries.old.items }
     requires counted { vas.old.total ≡ vas.old.dropped + length entries.old.items }
@@ -146,6 +148,7 @@ pub(super) fn replace_oldest(
     requires sum { mem_size.old ≡ total_size (fields_in (entries_of entries.old.items)) }
     requires small { mem_size.old < 2 ^ 63 }
     requires small_entry { field_size (field_of entry.field) < 2 ^ 63 }
+    requires hashes { AreHashesOf hashes (field_of entry.field) }
     ensures entered { OnOk result (entries.new.items ≡ drop evicted entries.old.items ++ entry ∷ []) }
     ensures dropped { OnOk result (vas.new.dropped ≡ vas.old.dropped + evicted) }
     ensures inserted { OnOk result (vas.new.total ≡ vas.old.total + 1) }
@@ -158,7 +161,6 @@ pub(super) fn replace_oldest(
     ensures still { length entries.old.items + 1 ≤ deque_capacity entries.old
         → deque_capacity entries.new ≡ deque_capacity entries.old }
 {
-    let hashes = Hashes::of(&entry.field.as_line());
     let size = entry.field.mem_size();
     make_room(entries)?;
     index.reserve(entries, vas.total_dropped(), hashes)?;

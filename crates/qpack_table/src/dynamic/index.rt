@@ -82,10 +82,27 @@ impl Index {
         if entries.is_empty() {
             return None;
         }
+        self.newest_hashed(entries, dropped, field, Hashes::of(field), steps)
+    }
+
+    /// The newest entry with a field that has such hashes.
+    pub(super) fn newest_hashed(
+        &self,
+        entries: &VecDeque<Entry>,
+        dropped: usize,
+        field: &FieldLine<'_>,
+        hashes: Hashes,
+        steps: &mut Steps,
+    ) -> Option<usize>
+        requires index { IsIndexOf dropped (live_fields entries.now.items) (length entries.now.items) self.now }
+        requires hashes { AreHashesOf hashes (line_of field.now).field }
+        ensures found { IsNewestIn dropped (entries_of entries.now.items) (is_field (line_of field.now).field) result }
+        ensures steps { Counts (length entries.now.items) steps.old.count steps.new.count }
+    {
         let sought = Sought {
             part: Part::Whole,
             line: *field,
-            hash: Hashes::of(field).field,
+            hash: hashes.field,
         };
         self.fields.newest(entries, dropped, &sought, steps)
     }

@@ -12,9 +12,11 @@ ghost use Rattle.qpack_spec.specs.Table.{with_reference, with_entry, sent_entry,
 ghost use Rattle.qpack_table.specs.declared.dynamic.Error.TheVariants.{Memory as NoRoom};
 ghost use Rattle.qpack_spec.specs.Handle as handle;
 ghost use Rattle.qpack_table.specs.Handles.{Finds, Inserts, lookup_of, insertion_of, kept_index};
+ghost use Rattle.qpack_table.specs.Indexes.{AreHashesOf};
 
 use crate::dynamic::Error;
 use crate::dynamic::encoder::{DynamicInsertionResult, DynamicLookupResult};
+use crate::dynamic::index::Hashes;
 use crate::dynamic::table::{DynamicTable, MOST_INSERTIONS};
 use qpack_base::coding::NoMemory;
 use qpack_base::field::{FieldLine, HeaderField};
@@ -151,10 +153,11 @@ impl DynamicTable {
             (with_entry self.old (sent_entry (line_of field.now).field)) (insert_count self.old + 1)) }
         ensures err { IfErr result (λ e. (e ≡ NoRoom) × (self.new ≡ self.old)) }
     {
+        let hashes = Hashes::of(field);
         let static_name = StaticTable::find_name(field.name);
-        let insertion = self.insertion_of(base, field, static_name, evicted);
+        let insertion = self.insertion_of(base, field, hashes, static_name, evicted);
         let copy = stored(self.allocator(), field, static_name)?;
-        self.insert_sent(copy, evicted)?;
+        self.insert_sent(copy, hashes, evicted)?;
         Ok(insertion)
     }
 
@@ -164,9 +167,11 @@ impl DynamicTable {
         &self,
         base: usize,
         field: &FieldLine<'_>,
+        hashes: Hashes,
         static_name: Option<usize>,
         evicted: usize,
     ) -> DynamicInsertionResult
+        requires hashes { AreHashesOf hashes (line_of field.now).field }
         requires static_name { static_name ≡ static_name_index (line_of field.now).field.name }
         requires few { insert_count self.now < 2 ^ 62 }
         requires evicted { evicted ≤ length self.now.live }
@@ -177,7 +182,7 @@ impl DynamicTable {
         let total = self.total_inserted();
         let (postbase, absolute) = (total.saturating_sub(base), total + 1);
         let dropped = self.vas.total_dropped() + evicted;
-        if let Some(newest) = above(self.newest_field(field), dropped) {
+        if let Some(newest) = above(self.newest_hashed(field, hashes), dropped) {
             return DynamicInsertionResult::Duplicated {
                 relative: total - newest,
                 postbase,

@@ -4,8 +4,10 @@ ghost use Rattle.std.specs.Prelude.{◌≡◌, length};
 ghost use Rattle.qpack_base.specs.HeaderFields.{field_of, line_of};
 ghost use Rattle.qpack_spec.specs.Field.{is_field, has_name};
 ghost use Rattle.qpack_spec.specs.Table.{newest_index};
+ghost use Rattle.qpack_table.specs.Indexes.{AreHashesOf};
 ghost use Rattle.qpack_table.specs.Rows.{Counts};
 
+use crate::dynamic::index::Hashes;
 use crate::dynamic::steps::Steps;
 use crate::dynamic::table::DynamicTable;
 use crate::vas::AbsoluteIndex;
@@ -35,6 +37,24 @@ impl DynamicTable {
         ensures { result ≡ newest_index self.now (is_field (line_of field.now).field) }
     {
         self.newest_line(field, &mut Steps::new())
+    }
+
+    /// The same of a field with such hashes.
+    pub(super) fn newest_hashed(
+        &self,
+        field: &FieldLine<'_>,
+        hashes: Hashes,
+    ) -> Option<AbsoluteIndex>
+        requires { AreHashesOf hashes (line_of field.now).field }
+        ensures { result ≡ newest_index self.now (is_field (line_of field.now).field) }
+    {
+        self.index.newest_hashed(
+            &self.entries,
+            self.vas.total_dropped(),
+            field,
+            hashes,
+            &mut Steps::new(),
+        )
     }
 
     /// The absolute index of the newest live entry with the name, whose comparisons are bounded and counted as those of

@@ -11,6 +11,7 @@ ghost use Rattle.qpack_spec.specs.Table.{with_entry, with_reference, sent_entry}
 ghost use Rattle.qpack_spec.specs.Table.{put, with_capacity};
 ghost use Rattle.qpack_spec.specs.Reading.{relative_field, post_base_field};
 ghost use Rattle.qpack_spec.specs.Window.{eviction_count, relative_entry, greatest_capacity, maximum_capacity};
+ghost use Rattle.qpack_table.specs.Indexes.{AreHashesOf};
 ghost use Rattle.qpack_table.specs.Positions.{positions_of};
 ghost use Rattle.qpack_table.specs.Tables.{IsEvictableAt, LooksUp, IsInserted, entries_of, Changes, ChangesWithMemory};
 ghost use Rattle.qpack_table.specs.Tables.{refusal_of};
@@ -21,7 +22,7 @@ ghost use Rattle.qpack_table.specs.declared.dynamic.Error.TheVariants.{MaximumTa
 use crate::dynamic::Error;
 use crate::dynamic::capacities::{Capacities, GREATEST_CAPACITY};
 use crate::dynamic::entry::{Entry, UnacknowledgedBlock, drop_oldest, replace_oldest};
-use crate::dynamic::index::Index;
+use crate::dynamic::index::{Hashes, Index};
 use crate::vas::VirtualAddressSpace;
 use qpack_base::field::HeaderField;
 use std::alloc::{AllocError, Global};
@@ -242,6 +243,7 @@ impl DynamicTable {
         ensures ok { OnOk result (self.new ≡ with_entry self.old (record { field = field_of field; sent = sent })) }
         ensures err { OnErr result (self.new ≡ self.old) }
     {
+        let hashes = Hashes::of(&field.as_line());
         let entry = Entry {
             field,
             sent,
@@ -255,17 +257,20 @@ impl DynamicTable {
             &mut self.mem_size,
             evicted,
             entry,
+            hashes,
         )?;
         Ok(())
     }
 
-    /// Inserts a field that an encoder sends, and the block in progress references it. Refused, which is for memory
-    /// alone, nothing changes.
+    /// Inserts a field that an encoder sends, which has such hashes, and the block in progress references it. Refused,
+    /// which is for memory alone, nothing changes.
     pub(super) fn insert_sent(
         &mut self,
         field: HeaderField,
+        hashes: Hashes,
         evicted: usize,
     ) -> Result<(), AllocError>
+        requires hashes { AreHashesOf hashes (field_of field) }
         requires few { insert_count self.old < 2 ^ 62 }
         requires fits { field_size (field_of field) ≤ self.old.capacity }
         requires evicted { evicted ≡ eviction_count_for self.old (field_of field) }
@@ -287,6 +292,7 @@ impl DynamicTable {
             &mut self.mem_size,
             evicted,
             entry,
+            hashes,
         )?;
         self.referenced.push_reserved(self.vas.total_inserted());
         Ok(())

@@ -1,9 +1,8 @@
-use Rattle.std.proofs.Common.{◌≡◌, ◌+◌, ◌∷◌, [], ◌++◌, List, drop, length, ap, subst, ◌∙◌, arith}
+use Rattle.std.proofs.Common.{◌≡◌, ◌+◌, ◌∷◌, [], ◌++◌, List, drop, length, ap, ◌∙◌, arith}
 use Rattle.std.proofs.lemmas.List.{length-append}
 use Rattle.qpack_base.specs.HeaderFields.{field_of}
-use Rattle.qpack_spec.specs.Field.{FieldLine, field_size, total_size}
+use Rattle.qpack_spec.specs.Field.{field_size, total_size}
 use Rattle.qpack_spec.specs.Table.{fields_in}
-use Rattle.qpack_table.specs.Indexes.{AreHashesOf}
 use Rattle.qpack_table.specs.Positions.{Positions}
 use Rattle.qpack_table.specs.Tables.{entries_of}
 use Rattle.qpack_table.specs.declared.dynamic.entry.Entry.{Entry}
@@ -31,7 +30,7 @@ enter-requires-clause-index c =
     (c.total_dropped-2.ensures.exact ∙ ap (λ (p : Positions). p.dropped) c.add-absolute.ensures.added) at
 
 pub enter-requires-clause-room : goal.enter-requires-clause-room
-enter-requires-clause-room c = c.drop_oldest-freed.ensures.room c.of-hashes.result c.in_ok-reserve.ensures.room
+enter-requires-clause-room c = c.drop_oldest-freed.ensures.room c.args.hashes c.in_ok-reserve.ensures.room
 
 pub enter-requires-clause-hashes : goal.enter-requires-clause-hashes
 enter-requires-clause-hashes c =
@@ -39,9 +38,7 @@ enter-requires-clause-hashes c =
     ∙ ap (λ (l : List Entry). drop c.args.evicted l) c.in_ok-make_room.ensures.items) c.requires.there
     c.drop_oldest-freed.ensures.dropped c.add-absolute.ensures.index c.add-absolute.ensures.added
     c.total_dropped-2.ensures.exact in
-    let hashes = subst (λ (l : FieldLine). AreHashesOf c.of-hashes.result l.field) c.as_line.ensures
-    (c.of-hashes.ensures.name, c.of-hashes.ensures.field) in
-    hashes_joined _ _ _ c.args.entry _ _ hashes c.push_back_reserved.ensures.items at.is
+    hashes_joined _ _ _ c.args.entry _ _ c.requires.hashes c.push_back_reserved.ensures.items at.is
 
 pub returns-clause-entered : goal.returns-clause-entered
 returns-clause-entered c =

@@ -13,8 +13,3 @@ returns-then-is_empty-clause-found c =
     newest_field c.args.dropped c.args.entries.now.items (line_of c.args.field.now).field None
     (newest_of_none Whole c.args.dropped (live_fields c.args.entries.now.items) (line_of c.args.field.now).field
     (λ some. omega (arith, len, some, fields_long c.args.entries.now.items)))
-
-pub returns-clause-found : goal.returns-clause-found
-returns-clause-found c =
-    newest_field c.args.dropped c.args.entries.now.items (line_of c.args.field.now).field c.newest.result
-    c.newest.ensures.found

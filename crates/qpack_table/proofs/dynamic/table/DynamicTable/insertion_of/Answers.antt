@@ -13,7 +13,7 @@ overflow_sub-result c =
     let f : Field = (line_of c.args.field.now).field in
     let at : c.total_dropped.result + c.args.evicted ≡ c.args.self.now.dropped + c.args.evicted =
     ap (λ (n : ℕ). n + c.args.evicted) (c.total_dropped.ensures.exact ∙ ap (λ (t : Table). t.dropped) c.self.view_is) in
-    let equal = stays c.args.self.now (is_field f) c.args.evicted c.in-Some.newest _ _ _ at c.newest_field.ensures
+    let equal = stays c.args.self.now (is_field f) c.args.evicted c.in-Some.newest _ _ _ at c.newest_hashed.ensures
     c.above.ensures c.in-Some.is in
     stays_inserted c.args.self.now (is_field f) c.args.evicted _ _ equal c.requires.evicted
     c.total_inserted-total.ensures
@@ -23,7 +23,7 @@ returns-in-Some c =
     let f : Field = (line_of c.args.field.now).field in
     let at : c.total_dropped.result + c.args.evicted ≡ c.args.self.now.dropped + c.args.evicted =
     ap (λ (n : ℕ). n + c.args.evicted) (c.total_dropped.ensures.exact ∙ ap (λ (t : Table). t.dropped) c.self.view_is) in
-    let equal = stays c.args.self.now (is_field f) c.args.evicted c.in-Some.newest _ _ _ at c.newest_field.ensures
+    let equal = stays c.args.self.now (is_field f) c.args.evicted c.in-Some.newest _ _ _ at c.newest_hashed.ensures
     c.above.ensures c.in-Some.is in
     as_duplicate c.args.self.now f c.args.evicted _ _ c.args.base _ _ equal c.requires.evicted
     c.total_inserted-total.ensures c.saturating_sub-postbase.ensures refl
@@ -33,7 +33,7 @@ returns-in-Some-static_name c =
     let f : Field = (line_of c.args.field.now).field in
     let at : c.total_dropped.result + c.args.evicted ≡ c.args.self.now.dropped + c.args.evicted =
     ap (λ (n : ℕ). n + c.args.evicted) (c.total_dropped.ensures.exact ∙ ap (λ (t : Table). t.dropped) c.self.view_is) in
-    let none = none_stays c.args.self.now (is_field f) c.args.evicted _ _ _ at c.newest_field.ensures c.above.ensures
+    let none = none_stays c.args.self.now (is_field f) c.args.evicted _ _ _ at c.newest_hashed.ensures c.above.ensures
     c.in_default.is in
     let known : static_name_index f.name ≡ Some c.in-Some-static_name.index =
     sym c.requires.static_name ∙ c.in-Some-static_name.is in
@@ -57,7 +57,7 @@ returns-in-Some-above c =
     let f : Field = (line_of c.args.field.now).field in
     let at : c.total_dropped.result + c.args.evicted ≡ c.args.self.now.dropped + c.args.evicted =
     ap (λ (n : ℕ). n + c.args.evicted) (c.total_dropped.ensures.exact ∙ ap (λ (t : Table). t.dropped) c.self.view_is) in
-    let none = none_stays c.args.self.now (is_field f) c.args.evicted _ _ _ at c.newest_field.ensures c.above.ensures
+    let none = none_stays c.args.self.now (is_field f) c.args.evicted _ _ _ at c.newest_hashed.ensures c.above.ensures
     c.in_default.is in
     let unknown : static_name_index f.name ≡ None =
     sym c.requires.static_name ∙ c.in_default-static_name.is in
@@ -73,7 +73,7 @@ returns-in-None c =
     let f : Field = (line_of c.args.field.now).field in
     let at : c.total_dropped.result + c.args.evicted ≡ c.args.self.now.dropped + c.args.evicted =
     ap (λ (n : ℕ). n + c.args.evicted) (c.total_dropped.ensures.exact ∙ ap (λ (t : Table). t.dropped) c.self.view_is) in
-    let none = none_stays c.args.self.now (is_field f) c.args.evicted _ _ _ at c.newest_field.ensures c.above.ensures
+    let none = none_stays c.args.self.now (is_field f) c.args.evicted _ _ _ at c.newest_hashed.ensures c.above.ensures
     c.in_default.is in
     let unknown : static_name_index f.name ≡ None =
     sym c.requires.static_name ∙ c.in_default-static_name.is in
