@@ -61,7 +61,7 @@ unfolding all_evictable
 none_held t = refl
 
 -- a table in which nothing is takes a capacity that is within its maximum
-takes_capacity : (t : Table) (n most : ℕ) → n ≤ most → most < 2 ^ 30 → t.agreed_max ≡ Some most → t.live ≡ []
+pub takes_capacity : (t : Table) (n most : ℕ) → n ≤ most → most < 2 ^ 30 → t.agreed_max ≡ Some most → t.live ≡ []
     → with_capacity t n ≡ Ok (record t { capacity = n })
 takes_capacity t n most within small agreed nothing =
     let evicted = none_evicted t n nothing in

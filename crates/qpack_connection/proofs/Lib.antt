@@ -15,3 +15,4 @@ pub mod StrictHearing
 pub mod HeardBytes
 pub mod HeardStreams
 pub mod LawfulPieces
+pub mod RefinedConnections

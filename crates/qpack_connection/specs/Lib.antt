@@ -9,3 +9,4 @@ pub mod Hearing
 pub mod Encoders
 pub mod LawfulPieces
 pub mod Connections
+pub mod RefinedConnections

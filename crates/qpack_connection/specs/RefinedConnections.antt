@@ -1,0 +1,48 @@
+-- A connection in bytes refines a session of values of two strict ends (RFC 9204, section 2).
+use Rattle.std.specs.Prelude.{◌≡◌, ◌≤◌, ℕ, List, [], ◌++◌, length, take, Some}
+use Rattle.qpack_spec.specs.Instruction.{DecoderInstruction, SpellsEncoderInstruction, SpellsDecoderInstruction}
+use Rattle.qpack_spec.specs.Session.{RequestStream, stream_at}
+use Rattle.qpack_spec.specs.Stream.{SpellsAll}
+use Rattle.qpack_spec.specs.Table.{empty_table, table_of}
+use Rattle.qpack_safety.specs.AbstractSession.{AbstractBlock, required_count, AbstractStream, AbstractSession}
+use Rattle.qpack_safety.specs.HandedSections.{section_of}
+use Rattle.qpack_safety.specs.Refines.{Agrees}
+use Rattle.qpack_connection.specs.Connections.{Wire, SentSection, Connection}
+use Rattle.qpack_connection.specs.Decoders.{unreported}
+use Rattle.qpack_connection.specs.Hearing as hearing
+use Rattle.qpack_connection.specs.Receiving as receiving
+
+-- what came of a stream
+abbrev pub received_of : Wire → List ℕ
+received_of w = take w.received w.written
+
+-- a section's bytes are those of its block, and so is its count
+pub record RefinesSection (k : SentSection) (b : AbstractBlock) : Type 0 where
+  pub bytes_are : k.bytes ≡ section_of k.fields b
+  pub required_is : k.required ≡ required_count b
+
+-- a request stream's sections are those, and it stands where that one does
+pub record RefinesStream (k : RequestStream SentSection) (st : AbstractStream) : Type 0 where
+  pub sections : Agrees RefinesSection k.blocks st.blocks
+  pub decoded_is : k.decoded ≡ st.decoded
+  pub acknowledged_is : k.acknowledged ≡ st.acknowledged
+  pub cancelled_is : k.cancelled ≡ st.cancelled
+
+-- both tables are those of the session, all bytes are sent, and of both streams they are the instructions that were
+-- taken and those under way; the decoder received so much of its stream as the session's decoder took
+pub record RefinesSession (maximum : ℕ) (c : Connection) (w : AbstractSession) : Type 0 where
+  pub encoder_is : c.encoder.table ≡ w.encoder
+  pub decoder_is : c.decoder.table ≡ table_of w.decoder
+  pub unreported_is : unreported c.decoder ≡ w.unreported
+  pub encoder_sent : c.encoder.unsent ≡ []
+  pub decoder_sent : c.decoder.unsent ≡ []
+  pub encoder_stream : SpellsAll SpellsEncoderInstruction c.encoder_stream.written (w.taken ++ w.in_flight)
+  pub encoder_stream_order : c.encoder_stream.received ≤ length c.encoder_stream.written
+  pub received : receiving.Receives (empty_table 0 (Some maximum) 0) c.decoder.table (received_of c.encoder_stream)
+      c.decoder.stream
+  pub taken_are : received.0.lines ≡ w.taken
+  pub heard : List DecoderInstruction
+  pub decoder_stream : SpellsAll SpellsDecoderInstruction c.decoder_stream.written (heard ++ w.decoder_in_flight)
+  pub decoder_stream_order : c.decoder_stream.received ≤ length c.decoder_stream.written
+  pub hears : hearing.Receives heard (received_of c.decoder_stream) c.encoder.stream
+  pub streams : (s : ℕ) → RefinesStream (stream_at c.streams s) (stream_at w.streams s)
