@@ -1,33 +1,38 @@
 -- A section that is encoded on a connection in bytes is one that the session of values writes.
 use Rattle.std.proofs.Common.{◌≡◌, ◌<◌, ◌^◌, ℕ, Bool, true, false, cond, List, [], ◌∷◌, ◌++◌, length}
-use Rattle.std.proofs.Common.{Some, Ok, refl, sym, ap, subst, ◌∙◌, arith}
-use Rattle.std.proofs.Common.{length-append}
+use Rattle.std.proofs.Common.{Option, None, Some, Result, Ok, refl, sym, ap, subst, ◌∙◌, arith, inl, inr}
+use Rattle.std.proofs.Common.{length-append, IfSome}
 use Rattle.std.specs.List.{AllByRecursion}
 use Rattle.std.specs.Prelude.{nat_eq}
-use Rattle.std.proofs.lemmas.List.{append_assoc, take-append-le}
+use Rattle.std.proofs.lemmas.List.{append_assoc, append-nil, take-append-le}
 use Rattle.qpack_spec.specs.Field.{FieldLine, fields_of_lines}
-use Rattle.qpack_spec.specs.Instruction.{EncoderInstruction, SpellsEncoderInstruction}
-use Rattle.qpack_spec.specs.Instruction.{written_encoder_instructions}
+use Rattle.qpack_spec.specs.Instruction.{EncoderInstruction, SetCapacity, SpellsEncoderInstruction}
+use Rattle.qpack_spec.specs.Instruction.{written_encoder_instruction, written_encoder_instructions}
 use Rattle.qpack_spec.specs.Marked.{marked_rule, written_marked_block}
 use Rattle.qpack_spec.specs.Reading.{greatest_of}
 use Rattle.qpack_spec.specs.Rule.{block_of, committed_table}
 use Rattle.qpack_spec.specs.Session.{RequestStream, stream_at, with_stream}
 use Rattle.qpack_spec.specs.Stream.{SpellsAll}
-use Rattle.qpack_spec.specs.Table.{Table, empty_table}
+use Rattle.qpack_spec.specs.Table.{Table, with_capacity, empty_table}
+use Rattle.qpack_spec.specs.Window.{TableRefusal}
 use Rattle.qpack_spec.specs.WrittenLaws.{IsByteField, IsWritableEncoderInstruction}
 use Rattle.qpack_spec.proofs.Cuttings.{joined_append}
 use Rattle.qpack_spec.proofs.MarkedDrafts.{marked_written}
 use Rattle.qpack_spec.proofs.WrittenDrafts.{instructions_fit}
-use Rattle.qpack_safety.specs.AbstractSession.{AbstractBlock, AbstractStream, AbstractSession}
-use Rattle.qpack_safety.specs.TwoEnds.{Encode, after_end_step}
+use Rattle.qpack_safety.specs.AbstractSession.{AbstractBlock, AbstractStream, AbstractSession, abstract_start}
+use Rattle.qpack_safety.specs.AbstractSession.{after_resize}
+use Rattle.qpack_safety.specs.TwoEnds.{EndStep, Encode, EncodeAlone, Resize, after_end_step, after_end_steps}
 use Rattle.qpack_safety.proofs.Invariant.{Invariant}
 use Rattle.qpack_safety.proofs.Shown.{agrees_push, instructions_joined}
+use Rattle.qpack_safety.proofs.TwoEnds.{holds_started, holds_behind}
 use Rattle.qpack_safety.proofs.WritingEvents.{few_insertions}
 use Rattle.qpack_connection.specs.Connections.{SentSection, Connection, with_encoder, with_section}
-use Rattle.qpack_connection.specs.Encoders.{EncodingEnd, WritesSection}
+use Rattle.qpack_connection.specs.Encoders.{EncodingEnd, IsToBeTold, begun, begun_with, WritesSection, WritesAlone}
 use Rattle.qpack_connection.specs.Hearing as hearing
 use Rattle.qpack_connection.specs.Receiving as receiving
 use Rattle.qpack_connection.specs.RefinedConnections.{received_of, RefinesSection, RefinesStream, RefinesSession}
+use Rattle.qpack_connection.specs.RefinedConnections.{EncodesAreRefined}
+use Rattle.qpack_connection.proofs.Encoders.{takes_capacity}
 
 -- ---- the encoder writes
 
@@ -127,3 +132,149 @@ section_refined maximum limit c w e s fields section required k r are short writ
       required_is = x.required_is
           ∙ ap (λ (t : Table). greatest_of (marked_rule t fields).table.referenced) r.encoder_is;
     }) r.streams)
+
+-- a section without references
+alone_refined : (maximum : ℕ) (c : Connection) (w : AbstractSession) (e : EncodingEnd) (s : ℕ)
+    (fields : List FieldLine) (section : List ℕ) (required : ℕ) → RefinesSession maximum c w
+    → WritesAlone c.encoder e fields [] section required
+    → RefinesSession maximum (with_section s fields section (Ok required) (with_encoder e c))
+    (after_end_step w (EncodeAlone s fields))
+unfolding written_encoder_instructions greatest_of
+alone_refined maximum c w e s fields section required r writes =
+    written_more maximum c w e w.encoder [] w.in_flight _ _ r
+    (ap (λ (y : EncodingEnd). y.table) writes.new_is ∙ r.encoder_is)
+    (ap (λ (y : EncodingEnd). y.stream) writes.new_is)
+    (ap (λ (y : EncodingEnd). y.unsent) writes.new_is ∙ r.encoder_sent) tt (sym (append-nil w.in_flight))
+    (section_more s (record { fields = fields; bytes = section; required = required }) _ c.streams w.streams
+    (record { bytes_are = writes.section; required_is = writes.required_is }) r.streams)
+
+-- ---- a capacity that is to be told first
+
+-- the session behind the capacity that is told before the first section, if one is
+told_refined : (maximum : ℕ) (c : Connection) (w : AbstractSession) (o : Option ℕ)
+    → IfSome o (λ n. IsToBeTold c.encoder n) → RefinesSession maximum c w
+    → (steps : List EndStep) × RefinesSession maximum (with_encoder (begun_with o c.encoder) c)
+    (after_end_steps steps w)
+unfolding written_encoder_instructions
+told_refined maximum c w None k r = (
+  [],
+  written_more maximum c w c.encoder w.encoder [] w.in_flight c.streams w.streams r r.encoder_is refl r.encoder_sent tt
+      (sym (append-nil w.in_flight)) r.streams,
+)
+told_refined maximum c w (Some n) k r =
+    let t : Table = record w.encoder { capacity = n } in
+    let takes : with_capacity w.encoder n ≡ Ok t =
+    subst (λ (x : Table). with_capacity x n ≡ Ok (record x { capacity = n })) r.encoder_is
+    (takes_capacity c.encoder.table n c.encoder.settings.max_capacity k.within k.small k.agreed k.nothing_live) in (
+      Resize n ∷ [],
+      subst (λ (x : Result Table TableRefusal). RefinesSession maximum (with_encoder (begun_with (Some n) c.encoder) c)
+          (after_resize w n x)) (sym takes)
+          (written_more maximum c w (begun_with (Some n) c.encoder) t (SetCapacity n ∷ [])
+          (w.in_flight ++ SetCapacity n ∷ []) c.streams w.streams r
+          (ap (λ (x : Table). let y : Table = record x { capacity = n } in y) r.encoder_is) refl
+          (ap (λ (x : List ℕ). x ++ written_encoder_instruction (SetCapacity n)) r.encoder_sent
+          ∙ sym (append-nil (written_encoder_instruction (SetCapacity n))))
+          (omega (arith, k.within, k.small), tt) refl r.streams),
+    )
+
+-- ---- a call
+
+-- the steps of an end, and one behind them
+after_last : (es : List EndStep) (e : EndStep) (w : AbstractSession)
+    → after_end_steps (es ++ e ∷ []) w ≡ after_end_step (after_end_steps es w) e
+after_last [] e w = refl
+after_last (x ∷ es) e w = after_last es e (after_end_step w x)
+
+after_more : (es more : List EndStep) (w : AbstractSession)
+    → after_end_steps (es ++ more) w ≡ after_end_steps more (after_end_steps es w)
+after_more [] more w = refl
+after_more (e ∷ es) more w = after_more es more (after_end_step w e)
+
+-- the call as one behind the capacity, of which all bytes are sent
+begun_first : (c : Connection) (e : EncodingEnd) (s : ℕ) (fields : List FieldLine) (section written : List ℕ)
+    (required : ℕ) → e.unsent ≡ (begun c.encoder).unsent ++ written
+    → with_section s fields section (Ok required)
+    (with_encoder (record e { unsent = written }) (with_encoder (begun c.encoder) c))
+    ≡ with_section s fields section (Ok required) (with_encoder e c)
+begun_first c e s fields section written required unsent =
+    ap (λ (b : List ℕ). let x : Connection =
+    with_section s fields section (Ok required) (record (with_encoder e c) {
+      encoder_stream = record c.encoder_stream { written = b };
+    }) in x)
+    (append_assoc c.encoder_stream.written (begun c.encoder).unsent written
+    ∙ ap (λ (b : List ℕ). c.encoder_stream.written ++ b) (sym unsent))
+
+-- the section of a call behind the capacity
+rule_behind : (c : Connection) (e : EncodingEnd) (s : ℕ) (fields : List FieldLine) (section : List ℕ) (required : ℕ)
+    → WritesSection (begun c.encoder) e s fields [] section required
+    → (written : List ℕ) × (e.unsent ≡ (begun c.encoder).unsent ++ written)
+    × WritesSection (with_encoder (begun c.encoder) c).encoder (record e { unsent = written }) s fields [] section
+    required
+rule_behind c e s fields section required writes =
+    let written = written_encoder_instructions (marked_rule (begun c.encoder).table fields).instructions in (
+      written,
+      writes.section.written,
+      record {
+        room = writes.room;
+        section = record {
+          required_is = writes.section.required_is;
+          table = writes.section.table;
+          block = writes.section.block;
+          written = refl;
+        };
+        new_is = ap (λ (x : EncodingEnd). let y : EncodingEnd = record x { unsent = written } in y) writes.new_is;
+      },
+    )
+
+alone_behind : (c : Connection) (e : EncodingEnd) (fields : List FieldLine) (section : List ℕ) (required : ℕ)
+    → WritesAlone (begun c.encoder) e fields [] section required
+    → (e.unsent ≡ (begun c.encoder).unsent ++ [])
+    × WritesAlone (with_encoder (begun c.encoder) c).encoder (record e { unsent = [] }) fields [] section required
+alone_behind c e fields section required writes = (
+  ap (λ (x : EncodingEnd). x.unsent) writes.new_is ∙ sym (append-nil (begun c.encoder).unsent),
+  record {
+    full = writes.full;
+    required_is = writes.required_is;
+    section = writes.section;
+    new_is = ap (λ (x : EncodingEnd). let y : EncodingEnd = record x { unsent = [] } in y) writes.new_is;
+  },
+)
+
+pub encodes_refined : EncodesAreRefined
+encodes_refined maximum limit c new steps s fields required r sound are short call =
+    let start = abstract_start 0 maximum limit in
+    let w = after_end_steps steps start in
+    let first = told_refined maximum c w c.encoder.wanted sound.wanted r in
+    let w1 = after_end_steps first.0 w in
+    let c1 = with_encoder (begun c.encoder) c in
+    let e = call.encoder in
+    let k = (holds_behind 0 maximum limit first.0 w (holds_behind 0 maximum limit steps start
+    (holds_started 0 maximum limit (omega arith)))).invariant in
+    elim call.call.1 [
+      | inl writes ↦
+          let b = rule_behind c e s fields call.section required writes in
+          let same = begun_first c e s fields call.section b.0 required b.1 in
+          let few : length (c1.encoder_stream.written ++ b.0) < 2 ^ 63 =
+          rw (append_assoc c.encoder_stream.written (begun c.encoder).unsent b.0, ← b.1)
+          (subst (λ (x : Connection). length x.encoder_stream.written < 2 ^ 63) call.new_is short) in (
+            first.0 ++ Encode s fields ∷ [],
+            subst (λ (x : AbstractSession). RefinesSession maximum new x)
+                (sym (after_last first.0 (Encode s fields) w)
+                ∙ sym (after_more steps (first.0 ++ Encode s fields ∷ []) start))
+                (subst (λ (x : Connection). RefinesSession maximum x (after_end_step w1 (Encode s fields)))
+                (same ∙ sym call.new_is)
+                (section_refined maximum limit c1 w1 (record e { unsent = b.0 }) s fields call.section required k first.1
+                are few b.2)),
+          )
+      | inr writes ↦
+          let b = alone_behind c e fields call.section required writes in
+          let same = begun_first c e s fields call.section [] required b.0 in (
+            first.0 ++ EncodeAlone s fields ∷ [],
+            subst (λ (x : AbstractSession). RefinesSession maximum new x)
+                (sym (after_last first.0 (EncodeAlone s fields) w)
+                ∙ sym (after_more steps (first.0 ++ EncodeAlone s fields ∷ []) start))
+                (subst (λ (x : Connection). RefinesSession maximum x (after_end_step w1 (EncodeAlone s fields)))
+                (same ∙ sym call.new_is)
+                (alone_refined maximum c1 w1 (record e { unsent = [] }) s fields call.section required first.1 b.1)),
+          )
+    ]

@@ -1,14 +1,20 @@
 -- A connection in bytes refines a session of values of two strict ends (RFC 9204, section 2).
-use Rattle.std.specs.Prelude.{◌≡◌, ◌≤◌, ℕ, List, [], ◌++◌, length, take, Some}
+use Rattle.std.specs.Prelude.{◌≡◌, ◌<◌, ◌≤◌, ◌^◌, ℕ, List, [], ◌++◌, length, take, Some, Ok}
+use Rattle.std.specs.List.{AllByRecursion}
+use Rattle.qpack_spec.specs.Field.{FieldLine, fields_of_lines}
 use Rattle.qpack_spec.specs.Instruction.{DecoderInstruction, SpellsEncoderInstruction, SpellsDecoderInstruction}
 use Rattle.qpack_spec.specs.Session.{RequestStream, stream_at}
 use Rattle.qpack_spec.specs.Stream.{SpellsAll}
 use Rattle.qpack_spec.specs.Table.{empty_table, table_of}
+use Rattle.qpack_spec.specs.WrittenLaws.{IsByteField}
 use Rattle.qpack_safety.specs.AbstractSession.{AbstractBlock, required_count, AbstractStream, AbstractSession}
+use Rattle.qpack_safety.specs.AbstractSession.{abstract_start}
 use Rattle.qpack_safety.specs.HandedSections.{section_of}
 use Rattle.qpack_safety.specs.Refines.{Agrees}
-use Rattle.qpack_connection.specs.Connections.{Wire, SentSection, Connection}
+use Rattle.qpack_safety.specs.TwoEnds.{EndStep, after_end_steps}
+use Rattle.qpack_connection.specs.Connections.{Wire, SentSection, Connection, EncodesOn}
 use Rattle.qpack_connection.specs.Decoders.{unreported}
+use Rattle.qpack_connection.specs.Encoders.{IsSound}
 use Rattle.qpack_connection.specs.Hearing as hearing
 use Rattle.qpack_connection.specs.Receiving as receiving
 
@@ -46,3 +52,14 @@ pub record RefinesSession (maximum : ℕ) (c : Connection) (w : AbstractSession)
   pub decoder_stream_order : c.decoder_stream.received ≤ length c.decoder_stream.written
   pub hears : hearing.Receives heard (received_of c.decoder_stream) c.encoder.stream
   pub streams : (s : ℕ) → RefinesStream (stream_at c.streams s) (stream_at w.streams s)
+
+-- a section that is encoded is one that the session writes, behind the capacity that is to be told; its fields are bytes,
+-- and what was written of the stream takes fewer than 2^63
+abbrev pub EncodesAreRefined : Type 0
+EncodesAreRefined =
+    (maximum limit : ℕ) (c new : Connection) (steps : List EndStep) (s : ℕ) (fields : List FieldLine) (required : ℕ)
+    → RefinesSession maximum c (after_end_steps steps (abstract_start 0 maximum limit)) → IsSound c.encoder
+    → AllByRecursion IsByteField (fields_of_lines fields) → length new.encoder_stream.written < 2 ^ 63
+    → EncodesOn c new s fields (Ok required)
+    → (more : List EndStep)
+    × RefinesSession maximum new (after_end_steps (steps ++ more) (abstract_start 0 maximum limit))
