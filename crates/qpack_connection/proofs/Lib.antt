@@ -16,3 +16,4 @@ pub mod HeardBytes
 pub mod HeardStreams
 pub mod LawfulPieces
 pub mod RefinedConnections
+pub mod RefinedCapacities

@@ -37,7 +37,7 @@ use Rattle.qpack_connection.proofs.Encoders.{takes_capacity}
 -- ---- the encoder writes
 
 -- the encoder wrote instructions, and all is sent
-written_more : (maximum : ℕ) (c : Connection) (w : AbstractSession) (e : EncodingEnd) (t : Table)
+pub written_more : (maximum : ℕ) (c : Connection) (w : AbstractSession) (e : EncodingEnd) (t : Table)
     (is flight : List EncoderInstruction) (ps : List (ℕ × RequestStream SentSection)) (qs : List (ℕ × AbstractStream))
     → RefinesSession maximum c w → e.table ≡ t → e.stream ≡ c.encoder.stream
     → e.unsent ≡ written_encoder_instructions is → AllByRecursion IsWritableEncoderInstruction is
@@ -185,7 +185,7 @@ after_last : (es : List EndStep) (e : EndStep) (w : AbstractSession)
 after_last [] e w = refl
 after_last (x ∷ es) e w = after_last es e (after_end_step w x)
 
-after_more : (es more : List EndStep) (w : AbstractSession)
+pub after_more : (es more : List EndStep) (w : AbstractSession)
     → after_end_steps (es ++ more) w ≡ after_end_steps more (after_end_steps es w)
 after_more [] more w = refl
 after_more (e ∷ es) more w = after_more es more (after_end_step w e)

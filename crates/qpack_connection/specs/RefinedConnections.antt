@@ -1,5 +1,5 @@
 -- A connection in bytes refines a session of values of two strict ends (RFC 9204, section 2).
-use Rattle.std.specs.Prelude.{◌≡◌, ◌<◌, ◌≤◌, ◌^◌, ℕ, List, [], ◌++◌, length, take, Some, Ok}
+use Rattle.std.specs.Prelude.{◌≡◌, ◌<◌, ◌≤◌, ◌^◌, ℕ, min, List, [], ◌++◌, length, take, Some, Ok}
 use Rattle.std.specs.List.{AllByRecursion}
 use Rattle.qpack_spec.specs.Field.{FieldLine, fields_of_lines}
 use Rattle.qpack_spec.specs.Instruction.{DecoderInstruction, SpellsEncoderInstruction, SpellsDecoderInstruction}
@@ -12,7 +12,7 @@ use Rattle.qpack_safety.specs.AbstractSession.{abstract_start}
 use Rattle.qpack_safety.specs.HandedSections.{section_of}
 use Rattle.qpack_safety.specs.Refines.{Agrees}
 use Rattle.qpack_safety.specs.TwoEnds.{EndStep, after_end_steps}
-use Rattle.qpack_connection.specs.Connections.{Wire, SentSection, Connection, EncodesOn}
+use Rattle.qpack_connection.specs.Connections.{Wire, SentSection, Connection, IsNew, EncodesOn, SetsCapacityOn}
 use Rattle.qpack_connection.specs.Decoders.{unreported}
 use Rattle.qpack_connection.specs.Encoders.{IsSound}
 use Rattle.qpack_connection.specs.Hearing as hearing
@@ -61,5 +61,21 @@ EncodesAreRefined =
     → RefinesSession maximum c (after_end_steps steps (abstract_start 0 maximum limit)) → IsSound c.encoder
     → AllByRecursion IsByteField (fields_of_lines fields) → length new.encoder_stream.written < 2 ^ 63
     → EncodesOn c new s fields (Ok required)
+    → (more : List EndStep)
+    × RefinesSession maximum new (after_end_steps (steps ++ more) (abstract_start 0 maximum limit))
+
+-- a new connection is the session at its beginning: capacity 0, and the maximum and the limit that were agreed on
+abbrev pub NewConnectionsAreRefined : Type 0
+NewConnectionsAreRefined =
+    (c : Connection) (k : IsNew c)
+    → RefinesSession k.encoder_settings.max_capacity c
+    (abstract_start 0 k.encoder_settings.max_capacity (min k.encoder_settings.max_blocked 65534))
+
+-- a capacity that is set is one that the session sets, or nothing is done
+abbrev pub CapacitiesAreRefined : Type 0
+CapacitiesAreRefined =
+    (maximum limit : ℕ) (c new : Connection) (steps : List EndStep) (capacity : ℕ)
+    → RefinesSession maximum c (after_end_steps steps (abstract_start 0 maximum limit))
+    → SetsCapacityOn c new capacity (Ok tt)
     → (more : List EndStep)
     × RefinesSession maximum new (after_end_steps (steps ++ more) (abstract_start 0 maximum limit))
