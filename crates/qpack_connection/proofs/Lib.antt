@@ -17,3 +17,4 @@ pub mod HeardStreams
 pub mod LawfulPieces
 pub mod RefinedConnections
 pub mod RefinedCapacities
+pub mod RefinedCancellations

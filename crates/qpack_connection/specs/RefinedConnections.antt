@@ -13,6 +13,7 @@ use Rattle.qpack_safety.specs.HandedSections.{section_of}
 use Rattle.qpack_safety.specs.Refines.{Agrees}
 use Rattle.qpack_safety.specs.TwoEnds.{EndStep, after_end_steps}
 use Rattle.qpack_connection.specs.Connections.{Wire, SentSection, Connection, IsNew, EncodesOn, SetsCapacityOn}
+use Rattle.qpack_connection.specs.Connections.{CancelsOn}
 use Rattle.qpack_connection.specs.Decoders.{unreported}
 use Rattle.qpack_connection.specs.Encoders.{IsSound}
 use Rattle.qpack_connection.specs.Hearing as hearing
@@ -77,5 +78,14 @@ CapacitiesAreRefined =
     (maximum limit : ℕ) (c new : Connection) (steps : List EndStep) (capacity : ℕ)
     → RefinesSession maximum c (after_end_steps steps (abstract_start 0 maximum limit))
     → SetsCapacityOn c new capacity (Ok tt)
+    → (more : List EndStep)
+    × RefinesSession maximum new (after_end_steps (steps ++ more) (abstract_start 0 maximum limit))
+
+-- a stream that is cancelled is one that the session cancels, or forgets where no cancellation is written
+abbrev pub CancellationsAreRefined : Type 0
+CancellationsAreRefined =
+    (maximum limit : ℕ) (c new : Connection) (steps : List EndStep) (s : ℕ)
+    → RefinesSession maximum c (after_end_steps steps (abstract_start 0 maximum limit))
+    → CancelsOn c new s (Ok tt)
     → (more : List EndStep)
     × RefinesSession maximum new (after_end_steps (steps ++ more) (abstract_start 0 maximum limit))
