@@ -127,17 +127,3 @@ fn sections_that_mean_nothing_without_a_table() {
         assert_eq!(error.code(), Some(0x200));
     }
 }
-
-#[test]
-fn the_last_section_can_be_had_again() {
-    let mut encoder = ConnectionEncoder::new(EncoderSettings::new(4096, 16)).unwrap();
-    // Codes of 30 bits, and no entry fits: the section is longer than what is reserved for it at first.
-    let value = vec![0x0a; 5000];
-    let mut section = Vec::new();
-    let required = encoder.encode(0, [(&b"x"[..], &value[..])], &mut section).unwrap();
-    assert_eq!(required, 0);
-    assert!(section.len() > 5000 * 3);
-    let mut again = vec![7];
-    assert_eq!(encoder.last_section(&mut again), Ok(section.len()));
-    assert_eq!((again[0], &again[1..]), (7, &section[..]));
-}

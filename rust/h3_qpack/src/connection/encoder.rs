@@ -59,7 +59,7 @@ impl ConnectionEncoder {
     ///
     /// # Errors
     /// A stream's number of 2^62 or more is refused, want of memory, and any call behind an error that has a code.
-    /// `section` is as before then. The section is kept where [`EncodingError::SectionKept`] says so.
+    /// `section` is as before then.
     ///
     /// ```
     /// # use h3_qpack::connection::{ConnectionEncoder, EncoderSettings, FieldLine};
@@ -88,27 +88,18 @@ impl ConnectionEncoder {
         let encoded = self.end.encode(stream_id, &lent, section);
         match encoded.status {
             sys::OK => Ok(encoded.required),
-            sys::NO_ROOM => match self.write_last(encoded.len, section) {
-                Ok(_) => Ok(encoded.required),
-                Err(NoMemory) => Err(EncodingError::SectionKept { len: encoded.len, required: encoded.required }),
-            },
+            sys::NO_ROOM => self.write_last(encoded.len, section).map(|()| encoded.required),
             status => Err(EncodingError::of(status, EncodingError::StreamId, None)),
         }
     }
 
-    /// Adds the section that was encoded last to `section` once more, and answers its length, in bytes.
-    ///
-    /// # Errors
-    /// Want of memory; `section` is as before then.
-    pub fn last_section(&mut self, section: &mut Vec<u8>) -> Result<usize, NoMemory> {
-        let len = self.end.section(&mut Vec::new()).len;
-        self.write_last(len, section)
-    }
-
-    /// The same, of this length.
-    fn write_last(&mut self, len: usize, section: &mut Vec<u8>) -> Result<usize, NoMemory> {
+    /// Adds the section that was encoded last, of this length, to `section`.
+    fn write_last(&mut self, len: usize, section: &mut Vec<u8>) -> Result<(), EncodingError> {
         section.try_reserve(len).map_err(|_| NoMemory)?;
-        Ok(self.end.section(section).len)
+        match self.end.section(section).status {
+            sys::OK => Ok(()),
+            status => Err(EncodingError::Unknown(status)),
+        }
     }
 
     /// How many bytes are to be sent on the encoder stream.

@@ -101,15 +101,6 @@ pub enum EncodingError {
     EntriesHeld,
     /// The allocator refused; the call can be made again.
     NoMemory,
-    /// The section was encoded, and the allocator refused the room for it:
-    /// [`last_section`](crate::connection::ConnectionEncoder::last_section) adds it. It is to be sent, or its stream
-    /// reset.
-    SectionKept {
-        /// Its length, in bytes.
-        len: usize,
-        /// Its required insert count.
-        required: usize,
-    },
     /// A status that this crate does not know: the archive is of another version.
     Unknown(i32),
 }
@@ -146,7 +137,6 @@ impl fmt::Display for EncodingError {
             EncodingError::CapacityTooLarge => f.write_str("the capacity is above the peer's maximum"),
             EncodingError::EntriesHeld => f.write_str("entries may still be referenced"),
             EncodingError::NoMemory => f.write_str("out of memory"),
-            EncodingError::SectionKept { len, .. } => write!(f, "out of memory for a section of {len} bytes"),
             EncodingError::Unknown(status) => write!(f, "unknown status {status}"),
         }
     }
