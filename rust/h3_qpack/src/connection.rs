@@ -43,9 +43,11 @@ pub use error::{
     QPACK_DECOMPRESSION_FAILED, QPACK_ENCODER_STREAM_ERROR,
 };
 
+use crate::room::make_room;
+
 /// Adds all bytes that a stream has to `out`, in room that is made first.
 fn take_all(out: &mut Vec<u8>, many: usize, take: impl FnOnce(&mut [u8]) -> usize) -> Result<usize, NoMemory> {
-    out.try_reserve(many).map_err(|_| NoMemory)?;
+    make_room(out, many)?;
     let len = out.len();
     out.resize(len + many, 0);
     let taken = take(&mut out[len..]);

@@ -25,6 +25,7 @@
 
 pub mod connection;
 mod field;
+mod room;
 mod stateless;
 #[allow(unsafe_code)]
 mod sys;

@@ -1,7 +1,8 @@
 //! Field sections without a dynamic table, in the names of h3.
 
 use crate::connection::{ConnectionDecoder, DecoderSettings, DecodingError, Place, Reading, SettingsError};
-use crate::connection::{FieldLine, QPACK_DECOMPRESSION_FAILED};
+use crate::connection::{FieldLine, NoMemory, QPACK_DECOMPRESSION_FAILED};
+use crate::room::{copy_of, gather, make_room};
 use crate::sys::{self, Lent};
 use crate::HeaderField;
 use std::fmt;
@@ -21,6 +22,12 @@ impl fmt::Display for EncoderError {
 }
 
 impl std::error::Error for EncoderError {}
+
+impl From<NoMemory> for EncoderError {
+    fn from(_: NoMemory) -> EncoderError {
+        EncoderError::Memory
+    }
+}
 
 /// What [`decode_stateless`] answers where it can't decode.
 #[derive(Debug, Clone, Copy, PartialEq, Eq)]
@@ -57,6 +64,12 @@ impl fmt::Display for DecoderError {
 }
 
 impl std::error::Error for DecoderError {}
+
+impl From<NoMemory> for DecoderError {
+    fn from(_: NoMemory) -> DecoderError {
+        DecoderError::Memory
+    }
+}
 
 /// An error of either.
 #[derive(Debug, Clone, Copy, PartialEq, Eq)]
@@ -96,7 +109,8 @@ impl From<DecoderError> for Error {
 /// No field is marked as one that is never to be indexed: for those use [`connection`](crate::connection).
 ///
 /// # Errors
-/// [`EncoderError::Memory`] alone; nothing was added then.
+/// [`EncoderError::Memory`] alone; nothing was added then. Where `block` itself can't grow, it does what its `Extend`
+/// does.
 ///
 /// ```
 /// use h3_qpack::{encode_stateless, HeaderField};
@@ -112,13 +126,11 @@ where
     T: IntoIterator<Item = H>,
     H: AsRef<HeaderField>,
 {
-    let fields: Vec<H> = fields.into_iter().collect();
-    let mut lent = Vec::new();
-    lent.try_reserve_exact(fields.len()).map_err(|_| EncoderError::Memory)?;
-    lent.extend(fields.iter().map(|field| {
+    let fields = gather(fields.into_iter())?;
+    let lent = gather(fields.iter().map(|field| {
         let field = field.as_ref();
         Lent::new(&field.name, &field.value, false)
-    }));
+    }))?;
     let size = fields.iter().map(|field| field.as_ref().mem_size() as u64).sum();
     let mut section = Vec::new();
     write_stateless(&lent, &mut section, size)?;
@@ -131,7 +143,7 @@ where
 fn write_stateless(fields: &[Lent<'_>], section: &mut Vec<u8>, size: u64) -> Result<(), EncoderError> {
     let mut room = usize::try_from(size).map_or(usize::MAX, |size| size.saturating_add(2));
     loop {
-        section.try_reserve_exact(room).map_err(|_| EncoderError::Memory)?;
+        make_room(section, room)?;
         let written = sys::encode_stateless(fields, section);
         match written.status {
             sys::OK => return Ok(()),
@@ -183,12 +195,15 @@ pub fn decode_stateless<T: AsRef<[u8]> + ?Sized>(buf: &T, max_size: u64) -> Resu
 
 /// The fields that a decoder lends, owned.
 fn own_fields(decoder: &mut ConnectionDecoder) -> Result<Decoded, DecoderError> {
-    let lent = decoder.fields().map_err(|_| DecoderError::Memory)?;
-    let mut fields = Vec::new();
-    fields.try_reserve_exact(lent.len()).map_err(|_| DecoderError::Memory)?;
-    fields.extend(lent.map(|FieldLine { name, value, .. }| HeaderField::new(name, value)));
-    let mem_size = fields.iter().map(|field: &HeaderField| field.mem_size() as u64).sum();
-    Ok(Decoded { fields, dyn_ref: false, mem_size })
+    let lent = decoder.fields()?;
+    let mut decoded = Decoded { fields: Vec::new(), dyn_ref: false, mem_size: 0 };
+    make_room(&mut decoded.fields, lent.len())?;
+    for FieldLine { name, value, .. } in lent {
+        let field = HeaderField::new(copy_of(name)?, copy_of(value)?);
+        decoded.mem_size += field.mem_size() as u64;
+        decoded.fields.push(field);
+    }
+    Ok(decoded)
 }
 
 /// The refusal of a section, of a decoder with this limit.

@@ -3,6 +3,7 @@
 use super::error::{DecodingError, NoMemory, Place, SettingsError};
 use super::take_all;
 use crate::field::FieldLine;
+use crate::room::make_room;
 use crate::sys;
 use std::fmt;
 use std::iter::FusedIterator;
@@ -105,8 +106,9 @@ impl ConnectionDecoder {
     /// # Errors
     /// Want of memory to copy them to; the call can be made again.
     pub fn fields(&mut self) -> Result<Fields<'_>, NoMemory> {
-        self.copied.lines.try_reserve(self.count - self.copied.lines.len()).map_err(|_| NoMemory)?;
-        for index in self.copied.lines.len()..self.count {
+        let copied = self.copied.lines.len();
+        make_room(&mut self.copied.lines, self.count - copied)?;
+        for index in copied..self.count {
             self.copied.copy(&mut self.end, index)?;
         }
         Ok(Fields { lines: self.copied.lines.iter(), bytes: &self.copied.bytes })
@@ -192,7 +194,7 @@ impl Copied {
         let mut given = end.field(index, &mut self.bytes);
         if given.status == sys::NO_ROOM {
             let wanted = given.name_len.saturating_add(given.value_len).max(FIRST_ROOM);
-            self.bytes.try_reserve(wanted).map_err(|_| NoMemory)?;
+            make_room(&mut self.bytes, wanted)?;
             given = end.field(index, &mut self.bytes);
         }
         assert_eq!(given.status, sys::OK, "the decoder has the fields that it told");

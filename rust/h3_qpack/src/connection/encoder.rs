@@ -3,6 +3,7 @@
 use super::error::{EncodingError, NoMemory, Place, SettingsError};
 use super::take_all;
 use crate::field::FieldLine;
+use crate::room::{gather, make_room};
 use crate::sys::{self, Lent};
 use std::fmt;
 
@@ -76,15 +77,12 @@ impl ConnectionEncoder {
         I::Item: Into<FieldLine<'f>>,
     {
         let mut size = SECTION_PREFIX;
-        let lent: Vec<Lent<'f>> = fields
-            .into_iter()
-            .map(|field| {
-                let FieldLine { name, value, never_indexed } = field.into();
-                size = size.saturating_add(name.len()).saturating_add(value.len()).saturating_add(LINE_LENGTHS);
-                Lent::new(name, value, never_indexed)
-            })
-            .collect();
-        section.try_reserve(size).map_err(|_| NoMemory)?;
+        let lent = gather(fields.into_iter().map(|field| {
+            let FieldLine { name, value, never_indexed } = field.into();
+            size = size.saturating_add(name.len()).saturating_add(value.len()).saturating_add(LINE_LENGTHS);
+            Lent::new(name, value, never_indexed)
+        }))?;
+        make_room(section, size)?;
         let encoded = self.end.encode(stream_id, &lent, section);
         match encoded.status {
             sys::OK => Ok(encoded.required),
@@ -95,7 +93,7 @@ impl ConnectionEncoder {
 
     /// Adds the section that was encoded last, of this length, to `section`.
     fn write_last(&mut self, len: usize, section: &mut Vec<u8>) -> Result<(), EncodingError> {
-        section.try_reserve(len).map_err(|_| NoMemory)?;
+        make_room(section, len)?;
         match self.end.section(section).status {
             sys::OK => Ok(()),
             status => Err(EncodingError::Unknown(status)),
