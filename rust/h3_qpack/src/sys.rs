@@ -130,7 +130,6 @@ extern "C" {
         section: *mut u8,
         section_len: usize,
     ) -> Encoded;
-    fn h3q_encoder_section(encoder: *mut Handle, section: *mut u8, section_len: usize) -> Written;
     fn h3q_encoder_stream(encoder: *mut Handle, out: *mut u8, out_len: usize) -> usize;
     fn h3q_encoder_stream_len(encoder: *mut Handle) -> usize;
     fn h3q_encoder_read(encoder: *mut Handle, bytes: *const u8, bytes_len: usize) -> Received;
@@ -229,20 +228,6 @@ impl Encoder {
                 take_written(section, encoded.len);
             }
             encoded
-        }
-    }
-
-    /// Writes the section that was encoded last once more, to the room behind what a vector holds.
-    pub(crate) fn section(&mut self, section: &mut Vec<u8>) -> Written {
-        let (room, room_len) = room_of(section);
-        // SAFETY: the end is one that `new` made, and the room is lent for the length of the call, which at status OK
-        // wrote `len` bytes to it.
-        unsafe {
-            let written = h3q_encoder_section(self.handle.get_mut(), room, room_len);
-            if written.status == OK {
-                take_written(section, written.len);
-            }
-            written
         }
     }
 

@@ -58,20 +58,23 @@ fn ends() -> (ConnectionEncoder, ConnectionDecoder) {
 
 /// A section goes over a connection whose allocation of this number is refused; how many refusals were told.
 fn connect(number: isize) -> usize {
-    let fields = [FieldLine::new("foo", "bar"), FieldLine::never_indexed("x", "y"), FieldLine::new(":path", "/")];
+    // The code of a line feed has 30 bits, so the section is longer than the fields.
+    let fields = [FieldLine::new("foo", "bar"), FieldLine::never_indexed("x", &[b'\n'; 900]), FieldLine::new("y", "z")];
     let ((mut encoder, mut decoder), mut refused) = (ends(), 0);
     let (mut section, mut stream) = (Vec::new(), Vec::new());
     GRANTED.with(|granted| granted.set(number));
     let is_refusal = |error: &EncodingError| *error == EncodingError::NoMemory;
-    assert_eq!(again(&mut refused, || encoder.encode(4, &fields, &mut section), is_refusal), 1);
+    assert_eq!(again(&mut refused, || encoder.encode(4, &fields, &mut section), is_refusal), 2);
     again(&mut refused, || encoder.take_encoder_stream(&mut stream), |_| true);
     decoder.receive(&stream).unwrap();
-    assert_eq!(decoder.decode(4, &section), Ok(Reading::Fields { count: 3, required: 1 }));
+    assert_eq!(decoder.decode(4, &section), Ok(Reading::Fields { count: 3, required: 2 }));
     again(&mut refused, || decoder.fields().map(|lent| assert!(lent.eq(fields))), |_| true);
     let mut answers = Vec::new();
     assert_eq!(again(&mut refused, || decoder.take_decoder_stream(&mut answers), |_| true), 2);
     GRANTED.with(|granted| granted.set(-1));
     assert_eq!((encoder.receive(&answers), encoder.blocked()), (Ok(()), 0));
+    assert!(section.len() > 3 * 900);
+    assert_eq!(encoder.set_capacity(0), Ok(()), "no section that was refused references an entry");
     assert_eq!(DecodingError::from(h3_qpack::connection::NoMemory), DecodingError::NoMemory { taken: 0 });
     refused
 }

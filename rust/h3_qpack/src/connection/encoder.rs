@@ -57,6 +57,8 @@ impl ConnectionEncoder {
 
     /// Encodes fields for a stream, as a section that is added to `section` (RFC 9204, section 4.5), and answers its
     /// required insert count: above 0 the peer will acknowledge it. What is inserted is added to the encoder stream.
+    /// Room is made first, for the longest section that there can be, so that no section is lost for want of it: four
+    /// bytes for each byte of the fields.
     ///
     /// # Errors
     /// A stream's number of 2^62 or more is refused, want of memory, and any call behind an error that has a code.
@@ -79,24 +81,15 @@ impl ConnectionEncoder {
         let mut size = SECTION_PREFIX;
         let lent = gather(fields.into_iter().map(|field| {
             let FieldLine { name, value, never_indexed } = field.into();
-            size = size.saturating_add(name.len()).saturating_add(value.len()).saturating_add(LINE_LENGTHS);
+            let text = name.len().saturating_add(value.len());
+            size = size.saturating_add(text.saturating_mul(MOST_CODED)).saturating_add(LINE_LENGTHS);
             Lent::new(name, value, never_indexed)
         }))?;
         make_room(section, size)?;
         let encoded = self.end.encode(stream_id, &lent, section);
         match encoded.status {
             sys::OK => Ok(encoded.required),
-            sys::NO_ROOM => self.write_last(encoded.len, section).map(|()| encoded.required),
             status => Err(EncodingError::of(status, EncodingError::StreamId, None)),
-        }
-    }
-
-    /// Adds the section that was encoded last, of this length, to `section`.
-    fn write_last(&mut self, len: usize, section: &mut Vec<u8>) -> Result<(), EncodingError> {
-        make_room(section, len)?;
-        match self.end.section(section).status {
-            sys::OK => Ok(()),
-            status => Err(EncodingError::Unknown(status)),
         }
     }
 
@@ -160,5 +153,7 @@ impl fmt::Debug for ConnectionEncoder {
 
 /// Room for the prefix of a section, in bytes: two integers of 64 bits.
 const SECTION_PREFIX: usize = 20;
-/// Room for the lengths of a line's name and value, in bytes; longer strings leave some where they are coded.
-const LINE_LENGTHS: usize = 8;
+/// Room for the lengths of a line's name and value, in bytes: two integers of 64 bits.
+const LINE_LENGTHS: usize = 20;
+/// The most bytes that a byte of a name or a value takes: its code has up to 30 bits (RFC 7541, appendix B).
+const MOST_CODED: usize = 4;
