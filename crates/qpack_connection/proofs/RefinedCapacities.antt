@@ -6,7 +6,8 @@ use Rattle.std.proofs.lemmas.Bool.{leb-true}
 use Rattle.std.proofs.lemmas.List.{append-nil}
 use Rattle.qpack_spec.specs.History.{initial_history, window_of}
 use Rattle.qpack_spec.specs.Instruction.{EncoderInstruction, SetCapacity, written_encoder_instruction}
-use Rattle.qpack_spec.specs.Instruction.{SpellsEncoderInstruction, encoder_instruction_form, written_encoder_instructions}
+use Rattle.qpack_spec.specs.Instruction.{SpellsEncoderInstruction, encoder_instruction_form}
+use Rattle.qpack_spec.specs.Instruction.{written_encoder_instructions}
 use Rattle.qpack_spec.specs.Stream.{SpellsAll}
 use Rattle.qpack_spec.specs.Table.{Table, with_capacity, empty_table, table_of, insert_count}
 use Rattle.qpack_spec.specs.Window.{TableRefusal, AboveMaximum, greatest_capacity}
@@ -30,7 +31,8 @@ nothing_spelled : (front : List ℕ) (lines : List EncoderInstruction) → Spell
 nothing_spelled front [] joined none = refl
 nothing_spelled front (l ∷ lines) joined none =
     absurd ((wire encoder_instruction_form).spells_some l
-    (subst (λ (b : List ℕ). SpellsEncoderInstruction b l) (nil_append joined.0 joined.1 (sym joined.2 ∙ none)) joined.3))
+    (subst (λ (b : List ℕ). SpellsEncoderInstruction b l) (nil_append joined.0 joined.1 (sym joined.2 ∙ none))
+    joined.3))
 
 -- the table of a decoder at the beginning
 empty_decoder : (maximum : ℕ) → (let t : Table = empty_table 0 (Some maximum) 0 in t)
@@ -97,7 +99,8 @@ unfolding written_encoder_instructions
 told_refined maximum c w e n r tells =
     let takes : with_capacity w.encoder n ≡ Ok e.table =
     ap (λ (t : Table). with_capacity t n) (sym r.encoder_is) ∙ tells.0 in
-    subst (λ (x : Result Table TableRefusal). RefinesSession maximum (with_encoder e c) (after_resize w n x)) (sym takes)
+    subst (λ (x : Result Table TableRefusal). RefinesSession maximum (with_encoder e c) (after_resize w n x))
+    (sym takes)
     (written_more maximum c w e e.table (SetCapacity n ∷ []) (w.in_flight ++ SetCapacity n ∷ []) c.streams w.streams r
     refl (ap (λ (x : EncodingEnd). x.stream) tells.1)
     (ap (λ (x : EncodingEnd). x.unsent) tells.1

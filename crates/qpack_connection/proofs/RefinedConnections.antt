@@ -263,7 +263,8 @@ encodes_refined maximum limit c new steps s fields required r sound are short ca
                 ∙ sym (after_more steps (first.0 ++ Encode s fields ∷ []) start))
                 (subst (λ (x : Connection). RefinesSession maximum x (after_end_step w1 (Encode s fields)))
                 (same ∙ sym call.new_is)
-                (section_refined maximum limit c1 w1 (record e { unsent = b.0 }) s fields call.section required k first.1
+                (section_refined maximum limit c1 w1 (record e { unsent = b.0 }) s fields call.section required k
+                first.1
                 are few b.2)),
           )
       | inr writes ↦

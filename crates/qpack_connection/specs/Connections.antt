@@ -1,6 +1,6 @@
--- A connection in bytes: an encoding end and the decoding end of its peer, the two instruction streams between them, and
--- the sections of each request stream (RFC 9204, sections 2 and 4.2). A step is a call of an end, and what it makes of
--- that end is what the call's contract says.
+-- A connection in bytes: an encoding end and the decoding end of its peer, the two instruction streams between them,
+-- and the sections of each request stream (RFC 9204, sections 2 and 4.2). A step is a call of an end, and what it makes
+-- of that end is what the call's contract says.
 use Rattle.std.specs.Prelude.{◌≡◌, ℕ, ⊤, ◌+◌, ◌-◌, nat_lt, true, false, if◌then◌else◌, List, [], ◌∷◌, ◌++◌}
 use Rattle.std.specs.Prelude.{length, take, drop, None, Some, Result, Ok, Err}
 use Rattle.std.specs.Option.{IfSome}
@@ -41,14 +41,15 @@ behind_written more w = record w { written = w.written ++ more }
 abbrev pub behind_received : ℕ → Wire → Wire
 behind_received many w = record w { received = w.received + many }
 
--- a section that was written: the fields that were handed to its encode, its bytes, and its required insert count, which
--- was answered
+-- a section that was written: the fields that were handed to its encode, its bytes, and its required insert count,
+-- which was answered
 pub record SentSection : Type 0 where
   pub fields : List FieldLine
   pub bytes : List ℕ
   pub required : ℕ
 
--- the two ends, whose bytes are sent behind each call; the encoder stream and the decoder stream; and the request streams
+-- the two ends, whose bytes are sent behind each call; the encoder stream and the decoder stream; and the request
+-- streams
 pub record Connection : Type 0 where
   pub encoder : EncodingEnd
   pub decoder : DecodingEnd

@@ -13,8 +13,8 @@ use Rattle.qpack_connection.specs.Hearing as hearing
 use Rattle.qpack_connection.specs.Hearing.{hear_in_turn}
 use Rattle.qpack_connection.specs.Receiving as receiving
 
--- the bytes that were handed in and those that are to come are a lawful encoder stream: the call does not answer that it
--- is refused
+-- the bytes that were handed in and those that are to come are a lawful encoder stream: the call does not answer that
+-- it is refused
 abbrev pub EncoderStreamsAreNeverRefused : Type 0
 EncoderStreamsAreNeverRefused =
     (start old new last : Table) (before bytes behind left : List ℕ) (sent : List EncoderInstruction)

@@ -21,8 +21,8 @@ use Rattle.qpack_connection.specs.declared.receiving.EncoderStreamError.{Encoder
 use Rattle.qpack_connection.specs.declared.receiving.EncoderStreamError.TheVariants.{Refused, Memory}
 -- ---- one instruction
 
--- what a strict decoder makes of an instruction, which of them insert, whether bytes begin one that does, and what waits
--- of the stream
+-- what a strict decoder makes of an instruction, which of them insert, whether bytes begin one that does, and what
+-- waits of the stream
 pub use Rattle.qpack_spec.specs.LawfulStreams.{begins_insertion, MayGrow}
 pub use Rattle.qpack_spec.specs.StrictInstructions.{inserts}
 unfoldable pub use Rattle.qpack_spec.specs.StrictInstructions.{strict_apply}

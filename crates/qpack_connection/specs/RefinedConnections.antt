@@ -54,8 +54,8 @@ pub record RefinesSession (maximum : ℕ) (c : Connection) (w : AbstractSession)
   pub hears : hearing.Receives heard (received_of c.decoder_stream) c.encoder.stream
   pub streams : (s : ℕ) → RefinesStream (stream_at c.streams s) (stream_at w.streams s)
 
--- a section that is encoded is one that the session writes, behind the capacity that is to be told; its fields are bytes,
--- and what was written of the stream takes fewer than 2^63
+-- a section that is encoded is one that the session writes, behind the capacity that is to be told; its fields are
+-- bytes, and what was written of the stream takes fewer than 2^63
 abbrev pub EncodesAreRefined : Type 0
 EncodesAreRefined =
     (maximum limit : ℕ) (c new : Connection) (steps : List EndStep) (s : ℕ) (fields : List FieldLine) (required : ℕ)

@@ -30,14 +30,16 @@ use Rattle.qpack_spec.proofs.Readings.{fields_kept, fields_plain, below_greatest
 use Rattle.qpack_spec.proofs.StrictWritten.{marked_sections_read, marked_sections_blocked, lines_length}
 use Rattle.qpack_spec.proofs.Windows.{sound_start, leads_sound, leads_grows, Grows, Kept, kept_received}
 use Rattle.qpack_spec.proofs.WrittenDrafts.{lines_fit}
-use Rattle.qpack_safety.specs.AbstractSession.{AbstractBlock, required_count, is_dynamic, AbstractStream, AbstractSession}
+use Rattle.qpack_safety.specs.AbstractSession.{AbstractBlock, required_count, is_dynamic, AbstractStream}
+use Rattle.qpack_safety.specs.AbstractSession.{AbstractSession}
 use Rattle.qpack_safety.specs.AbstractSession.{abstract_start, next_reading, waits_for_acknowledgment, after_resize}
 use Rattle.qpack_safety.specs.AbstractSession.{after_take, take_next, after_hear, hear_next, after_step, after_steps}
 use Rattle.qpack_safety.specs.AbstractSession as small
 use Rattle.qpack_safety.specs.HandedSections.{handed_by, handed_on, IsBlockOf, BlocksAreOfWhatWasHanded, section_of}
 use Rattle.qpack_safety.specs.HandedSections.{SectionsAreReadStrictly}
 use Rattle.qpack_safety.specs.Refines.{Agrees}
-use Rattle.qpack_safety.specs.TwoEnds.{EndStep, Encode, Abandon, EncodeAlone, Resize, Take, Report, Hear, Decode, Cancel}
+use Rattle.qpack_safety.specs.TwoEnds.{EndStep, Encode, Abandon, EncodeAlone, Resize, Take, Report, Hear, Decode}
+use Rattle.qpack_safety.specs.TwoEnds.{Cancel}
 use Rattle.qpack_safety.specs.TwoEnds.{Forget, decode_steps, after_end_step, after_end_steps}
 use Rattle.qpack_safety.proofs.Invariant.{KeepsBlock, Invariant, sound_received, agreed_received, total_window}
 use Rattle.qpack_safety.proofs.Safely.{undecoded_live, dropped_same, in_reach, block_reads, maximum_window}
@@ -136,8 +138,8 @@ decoded_handed : (s t : ℕ) (handed : List (List FieldLine)) (w : AbstractSessi
     → HasHanded s handed (after_step w (small.Decode t))
 decoded_handed s t handed w h =
     cond_both (is_read (next_reading w t)) _ w (HasHanded s handed)
-    (λ _. none_more s t handed w.streams (record (stream_at w.streams t) { decoded = (stream_at w.streams t).decoded + 1 })
-    refl h) (λ _. h)
+    (λ _. none_more s t handed w.streams
+    (record (stream_at w.streams t) { decoded = (stream_at w.streams t).decoded + 1 }) refl h) (λ _. h)
 
 acknowledged_handed : (s t : ℕ) (handed : List (List FieldLine)) (w : AbstractSession) → HasHanded s handed w
     → HasHanded s handed (after_step w (small.Acknowledge t))
@@ -185,12 +187,15 @@ step_handed capacity maximum limit s handed w Report k h =
 step_handed capacity maximum limit s handed w Hear k h =
     none_handed s handed (after_end_step w Hear) (hearing_handed s handed w w.decoder_in_flight h)
 step_handed capacity maximum limit s handed w (Decode t) k h =
-    none_handed s handed (after_end_step w (Decode t)) (decoding_handed s t handed w (oldest_undecoded (stream_at w.streams t)) h)
+    none_handed s handed (after_end_step w (Decode t))
+    (decoding_handed s t handed w (oldest_undecoded (stream_at w.streams t)) h)
 step_handed capacity maximum limit s handed w (Cancel t) k h =
-    none_handed s handed (after_end_step w (Cancel t)) (cond_both (stream_at w.streams t).cancelled w _ (HasHanded s handed) (λ _. h)
+    none_handed s handed (after_end_step w (Cancel t))
+    (cond_both (stream_at w.streams t).cancelled w _ (HasHanded s handed) (λ _. h)
     (λ _. none_more s t handed w.streams (record (stream_at w.streams t) { cancelled = true }) refl h))
 step_handed capacity maximum limit s handed w (Forget t) k h =
-    none_handed s handed (after_end_step w (Forget t)) (none_more s t handed w.streams (record (stream_at w.streams t) { cancelled = true }) refl h)
+    none_handed s handed (after_end_step w (Forget t))
+    (none_more s t handed w.streams (record (stream_at w.streams t) { cancelled = true }) refl h)
 
 handed_behind : (capacity maximum limit : ℕ) (s : ℕ) (handed : List (List FieldLine)) (es : List EndStep)
     (w : AbstractSession) → Holds capacity maximum limit w → HasHanded s handed w

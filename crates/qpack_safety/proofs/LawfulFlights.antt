@@ -15,11 +15,13 @@ use Rattle.qpack_spec.proofs.PutTables.{applied_put}
 use Rattle.qpack_spec.proofs.Results.{bind_ok, ok_is}
 use Rattle.qpack_spec.proofs.Taking.{applied_last}
 use Rattle.qpack_safety.specs.AbstractSession.{AbstractBlock, is_dynamic, AbstractSession, abstract_start, next_reading}
-use Rattle.qpack_safety.specs.AbstractSession.{waits_for_acknowledgment, after_resize, after_take, take_next, after_hear}
+use Rattle.qpack_safety.specs.AbstractSession.{waits_for_acknowledgment, after_resize, after_take, take_next}
+use Rattle.qpack_safety.specs.AbstractSession.{after_hear}
 use Rattle.qpack_safety.specs.AbstractSession.{hear_next, after_step, after_steps}
 use Rattle.qpack_safety.specs.AbstractSession as small
 use Rattle.qpack_safety.specs.LawfulFlights.{IsLawfulToItsEnd, FlightsAreLawful}
-use Rattle.qpack_safety.specs.TwoEnds.{EndStep, Encode, Abandon, EncodeAlone, Resize, Take, Report, Hear, Decode, Cancel}
+use Rattle.qpack_safety.specs.TwoEnds.{EndStep, Encode, Abandon, EncodeAlone, Resize, Take, Report, Hear, Decode}
+use Rattle.qpack_safety.specs.TwoEnds.{Cancel}
 use Rattle.qpack_safety.specs.TwoEnds.{Forget, decode_steps, after_end_step, after_end_steps}
 use Rattle.qpack_safety.proofs.Hearing.{inv_hears}
 use Rattle.qpack_safety.proofs.Invariant.{Invariant, sound_received}

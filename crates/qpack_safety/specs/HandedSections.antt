@@ -58,8 +58,8 @@ pub record IsNext (steps : List EndStep) (w : AbstractSession) (s : ℕ) (fields
   pub block : oldest_undecoded (stream_at w.streams s) ≡ Some b
   pub handed : slice_get (handed_on s steps) (stream_at w.streams s).decoded ≡ Some fields
 
--- so is the next section of each stream at every moment, if its fields are bytes, fewer than 2^63 are written of it, and
--- its fields are within the limit of the decoder
+-- so is the next section of each stream at every moment, if its fields are bytes, fewer than 2^63 are written of it,
+-- and its fields are within the limit of the decoder
 abbrev pub SectionsAreReadStrictly : Type 0
 SectionsAreReadStrictly =
     (capacity maximum limit size : ℕ) → capacity ≤ maximum

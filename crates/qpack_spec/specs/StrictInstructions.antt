@@ -1,6 +1,7 @@
 -- What a strict end of a connection makes of an instruction: it refuses what a lawful peer never sends (RFC 9204,
 -- sections 3.2.2 and 4.4).
-use Rattle.std.specs.Prelude.{ℕ, Bool, true, false, if◌then◌else◌, ◌&&◌, nat_eq, nat_lt, ◌+◌, ◌-◌, List, [], ◌∷◌, Option}
+use Rattle.std.specs.Prelude.{ℕ, Bool, true, false, if◌then◌else◌, ◌&&◌, nat_eq, nat_lt, ◌+◌, ◌-◌, List, [], ◌∷◌}
+use Rattle.std.specs.Prelude.{Option}
 use Rattle.std.specs.Prelude.{Result, Ok, Err, find}
 use Rattle.std.specs.Option.{option_map, unwrap_or}
 use Rattle.qpack_spec.specs.Bytes.{◌>>=◌}
