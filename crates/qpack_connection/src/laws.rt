@@ -1,6 +1,8 @@
-//! Laws of the two instruction streams, for a peer that keeps to the standard.
+//! Laws of the two instruction streams, for a peer that keeps to the standard, and of two ends in bytes.
 
 ghost use Rattle.qpack_connection.specs.LawfulPieces.{EncoderStreamsAreNeverRefused, DecoderStreamsAreNeverRefused};
+ghost use Rattle.qpack_connection.specs.RefinedConnections.{NewConnectionsAreRefined, EncodesAreRefined};
+ghost use Rattle.qpack_connection.specs.RefinedConnections.{CapacitiesAreRefined, CancellationsAreRefined};
 
 /// What [`EncoderStream::receive`](crate::EncoderStream::receive) and
 /// [`DecoderStream::receive`](crate::DecoderStream::receive) promise comes to this: of a stream whose instructions a
@@ -8,4 +10,13 @@ ghost use Rattle.qpack_connection.specs.LawfulPieces.{EncoderStreamsAreNeverRefu
 pub fn lawful_streams_are_never_refused()
     ensures encoder_stream { EncoderStreamsAreNeverRefused }
     ensures decoder_stream { DecoderStreamsAreNeverRefused }
+{}
+
+/// A connection of two ends in bytes is a session of two strict ends in values (RFC 9204, section 2): a new one, and
+/// behind each section that is encoded, each capacity that is set, and each stream that is cancelled.
+pub fn connections_are_sessions()
+    ensures new { NewConnectionsAreRefined }
+    ensures encodes { EncodesAreRefined }
+    ensures capacities { CapacitiesAreRefined }
+    ensures cancellations { CancellationsAreRefined }
 {}

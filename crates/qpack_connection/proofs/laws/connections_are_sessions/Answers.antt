@@ -1,0 +1,16 @@
+use Rattle.qpack_connection.proofs.RefinedCancellations.{cancellations_refined}
+use Rattle.qpack_connection.proofs.RefinedCapacities.{new_refined, capacities_refined}
+use Rattle.qpack_connection.proofs.RefinedConnections.{encodes_refined}
+use Rattle.qpack_connection.proofs.laws.connections_are_sessions.Goals as goal
+
+pub returns-clause-new : goal.returns-clause-new
+returns-clause-new c = new_refined
+
+pub returns-clause-encodes : goal.returns-clause-encodes
+returns-clause-encodes c = encodes_refined
+
+pub returns-clause-capacities : goal.returns-clause-capacities
+returns-clause-capacities c = capacities_refined
+
+pub returns-clause-cancellations : goal.returns-clause-cancellations
+returns-clause-cancellations c = cancellations_refined
