@@ -4,10 +4,12 @@
 # libgnutls28-dev), and installs by apt-get what is not there, which only root can. Where nghttp3 can't be had, all but
 # the symbols and the example is left out, and where ngtcp2 can't, the connection over QUIC; the last line says so.
 # Without a compiler nothing is tested, and that is a failure. valgrind is used where it is there. The library is built
-# by rt lib, over what the gate left of the crates below it, if it was not built from the sources as they stand. Ends in
-# a line of what passed, with a status that is not 0 if something failed.
+# by rt lib, with the crates below it, if it was not built from the sources as they stand. Ends in a line of what passed,
+# with a status that is not 0 if something failed.
 set -euo pipefail
 cd "$(dirname "$0")"
+script=c/check.sh
+. ./archive
 
 # Whether a header is there.
 has_header() {
@@ -30,24 +32,6 @@ list_ngtcp2() {
     has_header gnutls/gnutls.h || echo libgnutls28-dev
 }
 
-# Installs what a list prints, if that can be done here.
-install_wanted() {
-    local wanted
-    wanted=$("$1")
-    [ -n "$wanted" ] || return 0
-    if [ "$(id -u)" != 0 ] || ! command -v apt-get >/dev/null; then
-        echo "c/check.sh: wanted and not installed here:" $wanted
-        return 0
-    fi
-    export DEBIAN_FRONTEND=noninteractive
-    if { apt-get update && apt-get install -y --no-install-recommends $wanted; } >"$room/apt.log" 2>&1; then
-        echo "c/check.sh: installed:" $wanted
-    else
-        tail -n 5 "$room/apt.log"
-        echo "c/check.sh: could not install:" $wanted
-    fi
-}
-
 # Leaves out what needs nghttp3 or ngtcp2, where they can't be had.
 choose_tests() {
     tests="calls interop http3 quic memory"
@@ -65,23 +49,6 @@ choose_tests() {
         tests=
         peer=
         left_out=", of the symbols and the example alone: nghttp3 could not be had"
-    fi
-}
-
-# Whether the archive is there, and no source of a crate below it is newer.
-is_built() {
-    [ -f "$archive" ] || return 1
-    local sources=(../crates.txt ../crates/{qpack_*,h3_qpack*}/{src,specs,proofs})
-    [ -z "$(find "${sources[@]}" -newer "$archive" -print -quit 2>/dev/null)" ]
-}
-
-build_archive() {
-    is_built && return
-    echo "c/check.sh: building the static library"
-    if ! (cd ../crates/h3_qpack_c && rt lib) >"$room/lib.log" 2>&1; then
-        cat "$room/lib.log" >&2
-        echo "c/check.sh: crates/h3_qpack_c was not proved or not built" >&2
-        exit 1
     fi
 }
 
@@ -123,9 +90,8 @@ check_symbols() {
 
 room=$(mktemp -d)
 trap 'rm -rf "$room"' EXIT
-archive=../crates/h3_qpack_c/out/libh3_qpack_c.a
 corpus=../crates/qpack_bench/data/corpus.qif
-for list in list_tools list_nghttp3 list_ngtcp2; do install_wanted "$list"; done
+for list in list_tools list_nghttp3 list_ngtcp2; do install_packages $("$list") || true; done
 choose_tests
 build_archive
 make -s BUILD="$room/build" PREFIX="$room/usr" install

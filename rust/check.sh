@@ -1,11 +1,13 @@
 #!/usr/bin/env bash
 # Tests the Rust crate. It needs cargo and rustc, 1.63 or later, make and a C linker (Debian: cargo, rustc, make and
 # gcc), and installs by apt-get what is not there, which only root can; where they can't be had nothing is tested, and
-# that is a failure. No other crate is wanted, and no network. The archive is made by make -C c, over what rt lib or the
-# gate left. valgrind and clippy are used where they are there, and quic/run.sh is run where it can be. Ends in a line
-# of what passed, with a status that is not 0 if something failed.
+# that is a failure. No other crate is wanted, and no network. The archive is made by rt lib and make -C c. valgrind and
+# clippy are used where they are there, and quic/run.sh is run where it can be. Ends in a line of what passed, with a
+# status that is not 0 if something failed.
 set -euo pipefail
 cd "$(dirname "$0")"
+script=rust/check.sh
+. ../c/archive
 
 # Prints the packages that are wanted and not there.
 list_wanted() {
@@ -15,31 +17,6 @@ list_wanted() {
     command -v cc >/dev/null || echo gcc libc6-dev
 }
 
-# Installs them, or ends the script.
-install_wanted() {
-    local wanted
-    wanted=$(list_wanted)
-    [ -n "$wanted" ] || return 0
-    if [ "$(id -u)" != 0 ] || ! command -v apt-get >/dev/null; then
-        echo "rust/check.sh: install these first:" $wanted >&2
-        exit 1
-    fi
-    export DEBIAN_FRONTEND=noninteractive
-    if ! { apt-get update && apt-get install -y --no-install-recommends $wanted; } >"$room/told" 2>&1; then
-        tail -n 5 "$room/told" >&2
-        echo "rust/check.sh: could not install:" $wanted >&2
-        exit 1
-    fi
-    echo "rust/check.sh: installed:" $wanted
-}
-
-# Whether the archive of rt lib is there, and no source of a crate below it is newer.
-is_built() {
-    [ -f "$proved" ] || return 1
-    local sources=(../crates.txt ../crates/{qpack_*,h3_qpack*}/{src,specs,proofs})
-    [ -z "$(find "${sources[@]}" -newer "$proved" -print -quit 2>/dev/null)" ]
-}
-
 # Runs a command, and shows what it printed if it fails.
 run() {
     if ! "$@" >"$room/told" 2>&1; then
@@ -47,15 +24,6 @@ run() {
         echo "rust/check.sh: failed: ${*//$room/ROOM}" >&2
         exit 1
     fi
-}
-
-build_archive() {
-    if ! is_built; then
-        echo "rust/check.sh: building the static library"
-        (cd ../crates/h3_qpack_c && run rt lib)
-    fi
-    run make -s -C ../c BUILD="$room/c"
-    export H3_QPACK_LIB=$room/c
 }
 
 # Runs the programs of the tests, which cargo named, beneath valgrind: no access that is not allowed, nothing lost.
@@ -76,11 +44,12 @@ count_tests() {
 
 room=$(mktemp -d)
 trap 'rm -rf "$room"' EXIT
-proved=../crates/h3_qpack_c/out/libh3_qpack_c.a
 tests=0
 programs=0
-install_wanted
+install_packages $(list_wanted) || exit 1
 build_archive
+run make -s -C ../c BUILD="$room/c"
+export H3_QPACK_LIB=$room/c
 export CARGO_TARGET_DIR=$room/target
 cd h3_qpack
 run cargo test --offline --all-targets
