@@ -1,12 +1,20 @@
 /* bench CORPUS ROUNDS: ns a field across the boundary, this library and nghttp3 in turn in one run over the corpus, the
- * best of so many rounds; and ns of calls that do nothing. Of both, what is decoded is copied to memory of the caller. */
+ * least of so many rounds; and ns of calls that do nothing. Each list is on a stream of its own, and acknowledged. Of
+ * both, what is decoded is copied to memory of the caller. */
 #include <time.h>
 #include "tests/common.h"
 
 static uint8_t section[1 << 16], stream[1 << 16], bytes[1 << 16];
+static h3_qpack_field fields[1 << 10];
+
+/* Of each phase, in its order: a list is encoded, the encoder stream received, the section decoded, and what the decoder
+ * answers heard; and of both calls without a table. */
+enum { ENCODE, RECEIVE, DECODE, HEAR, PHASES };
+static const char *const phases[] = {"encode", "receive", "decode", "hear"};
 
 typedef struct {
-  double encode, decode;
+  double phase[PHASES];
+  size_t written; /* bytes of sections and of the encoder stream */
 } times;
 
 static double now(void) {
@@ -15,40 +23,73 @@ static double now(void) {
   return (double)t.tv_sec * 1e9 + (double)t.tv_nsec;
 }
 
-static void keep_best(times *best, times t) {
-  if (t.encode < best->encode) best->encode = t.encode;
-  if (t.decode < best->decode) best->decode = t.decode;
+/* Adds the time since |*since| to a phase, which ends now, as the next begins. */
+static void end_phase(times *t, int phase, double *since) {
+  double until = now();
+  t->phase[phase] += until - *since;
+  *since = until;
+}
+
+static void keep_least(times *least, times t) {
+  for (int p = 0; p < PHASES; p++)
+    if (t.phase[p] < least->phase[p]) least->phase[p] = t.phase[p];
+  least->written = t.written;
 }
 
 static times run_ours(size_t capacity) {
   h3_qpack_encoder e;
   h3_qpack_decoder d;
-  times t = {0, 0};
+  times t = {{0}, 0};
   CHECK(!h3_qpack_encoder_new_with(&e, capacity, 100, capacity, 1000));
   CHECK(!h3_qpack_decoder_new(&d, capacity, 100, 1 << 20));
   for (size_t i = 0; i < nlists; i++) {
-    double t0 = now();
+    double since = now();
     h3_qpack_encoded a = h3_qpack_encoder_encode(&e, 4 * i, lists[i].nv, lists[i].len, section, sizeof section);
     size_t len = h3_qpack_encoder_write_encoder(&e, stream, sizeof stream);
-    double t1 = now();
-    CHECK(a.status == H3_QPACK_OK);
+    end_phase(&t, ENCODE, &since);
     h3_qpack_received r = h3_qpack_decoder_read_encoder(&d, stream, len);
+    end_phase(&t, RECEIVE, &since);
     h3_qpack_decoded got = h3_qpack_decoder_decode(&d, 4 * i, section, a.len);
-    for (size_t k = 0, at = 0; k < got.fields; k++) {
-      h3_qpack_field f = h3_qpack_decoder_field(&d, k, bytes + at, sizeof bytes - at);
-      at += f.namelen + f.valuelen;
-    }
+    h3_qpack_written w = h3_qpack_decoder_fields(&d, fields, sizeof fields / sizeof *fields, bytes, sizeof bytes);
+    end_phase(&t, DECODE, &since);
+    CHECK(a.status == H3_QPACK_OK && r.status == H3_QPACK_OK && got.status == H3_QPACK_OK && w.status == H3_QPACK_OK);
+    CHECK(got.fields == lists[i].len);
+    t.written += a.len + len;
+    since = now();
     len = h3_qpack_decoder_write_decoder(&d, stream, sizeof stream);
-    double t2 = now();
-    CHECK(r.status == H3_QPACK_OK && got.status == H3_QPACK_OK && got.fields == lists[i].len);
     h3_qpack_encoder_read_decoder(&e, stream, len);
-    double t3 = now();
-    t.encode += t1 - t0 + t3 - t2;
-    t.decode += t2 - t1;
+    end_phase(&t, HEAR, &since);
   }
   h3_qpack_encoder_del(&e);
   h3_qpack_decoder_del(&d);
   return t;
+}
+
+/* Decodes a section by nghttp3, copies its fields to |bytes|, and answers how many there are. */
+static size_t decode_theirs(nghttp3_qpack_decoder *d, int64_t stream_id, const uint8_t *p, size_t left) {
+  nghttp3_qpack_stream_context *context;
+  size_t count = 0, at = 0;
+  nghttp3_qpack_stream_context_new(&context, stream_id, nghttp3_mem_default());
+  for (;;) {
+    nghttp3_qpack_nv nv;
+    uint8_t flags;
+    nghttp3_ssize taken = nghttp3_qpack_decoder_read_request(d, context, &nv, &flags, p, left, 1);
+    CHECK(taken >= 0);
+    p += taken;
+    left -= (size_t)taken;
+    if (flags & NGHTTP3_QPACK_DECODE_FLAG_EMIT) {
+      nghttp3_vec name = nghttp3_rcbuf_get_buf(nv.name), value = nghttp3_rcbuf_get_buf(nv.value);
+      memcpy(bytes + at, name.base, name.len);
+      memcpy(bytes + at + name.len, value.base, value.len);
+      at += name.len + value.len;
+      nghttp3_rcbuf_decref(nv.name);
+      nghttp3_rcbuf_decref(nv.value);
+      count++;
+    }
+    if (flags & NGHTTP3_QPACK_DECODE_FLAG_FINAL) break;
+  }
+  nghttp3_qpack_stream_context_del(context);
+  return count;
 }
 
 static times run_theirs(size_t capacity) {
@@ -56,7 +97,7 @@ static times run_theirs(size_t capacity) {
   nghttp3_qpack_encoder *e;
   nghttp3_qpack_decoder *d;
   nghttp3_buf prefix, lines, instructions, answer;
-  times t = {0, 0};
+  times t = {{0}, 0};
   CHECK(!nghttp3_qpack_encoder_new(&e, capacity, mem) && !nghttp3_qpack_decoder_new(&d, capacity, 100, mem));
   nghttp3_qpack_encoder_set_max_blocked_streams(e, 100);
   nghttp3_qpack_encoder_set_max_dtable_capacity(e, capacity);
@@ -65,54 +106,51 @@ static times run_theirs(size_t capacity) {
   nghttp3_buf_init(&lines);
   nghttp3_buf_init(&instructions);
   for (size_t i = 0; i < nlists; i++) {
-    double t0 = now();
+    int64_t stream_id = (int64_t)(4 * i);
+    double since = now();
     nghttp3_buf_reset(&prefix);
     nghttp3_buf_reset(&lines);
     nghttp3_buf_reset(&instructions);
-    CHECK(!nghttp3_qpack_encoder_encode(e, &prefix, &lines, &instructions, (int64_t)(4 * i), lists[i].ng,
-                                        lists[i].len));
-    double t1 = now();
-    size_t front = nghttp3_buf_len(&prefix), left = front + nghttp3_buf_len(&lines), fields = 0, at = 0;
+    CHECK(!nghttp3_qpack_encoder_encode(e, &prefix, &lines, &instructions, stream_id, lists[i].ng, lists[i].len));
+    end_phase(&t, ENCODE, &since);
+    size_t front = nghttp3_buf_len(&prefix), len = front + nghttp3_buf_len(&lines);
     memcpy(section, prefix.pos, front);
-    memcpy(section + front, lines.pos, left - front);
-    double t2 = now();
+    memcpy(section + front, lines.pos, len - front);
+    t.written += len + nghttp3_buf_len(&instructions);
+    since = now();
     nghttp3_qpack_decoder_read_encoder(d, instructions.pos, nghttp3_buf_len(&instructions));
-    nghttp3_qpack_stream_context *context;
-    nghttp3_qpack_stream_context_new(&context, (int64_t)(4 * i), mem);
-    for (const uint8_t *p = section;;) {
-      nghttp3_qpack_nv nv;
-      uint8_t flags;
-      nghttp3_ssize taken = nghttp3_qpack_decoder_read_request(d, context, &nv, &flags, p, left, 1);
-      CHECK(taken >= 0);
-      p += taken;
-      left -= (size_t)taken;
-      if (flags & NGHTTP3_QPACK_DECODE_FLAG_EMIT) {
-        nghttp3_vec name = nghttp3_rcbuf_get_buf(nv.name), value = nghttp3_rcbuf_get_buf(nv.value);
-        memcpy(bytes + at, name.base, name.len);
-        memcpy(bytes + at + name.len, value.base, value.len);
-        at += name.len + value.len;
-        nghttp3_rcbuf_decref(nv.name);
-        nghttp3_rcbuf_decref(nv.value);
-        fields++;
-      }
-      if (flags & NGHTTP3_QPACK_DECODE_FLAG_FINAL) break;
-    }
-    nghttp3_qpack_stream_context_del(context);
+    end_phase(&t, RECEIVE, &since);
+    size_t count = decode_theirs(d, stream_id, section, len);
+    end_phase(&t, DECODE, &since);
+    CHECK(count == lists[i].len);
+    since = now();
     answer.begin = answer.pos = answer.last = stream;
     answer.end = stream + sizeof stream;
     nghttp3_qpack_decoder_write_decoder(d, &answer);
-    double t3 = now();
-    CHECK(fields == lists[i].len);
     nghttp3_qpack_encoder_read_decoder(e, stream, nghttp3_buf_len(&answer));
-    double t4 = now();
-    t.encode += t1 - t0 + t4 - t3;
-    t.decode += t3 - t2;
+    end_phase(&t, HEAR, &since);
   }
   nghttp3_buf_free(&prefix, mem);
   nghttp3_buf_free(&lines, mem);
   nghttp3_buf_free(&instructions, mem);
   nghttp3_qpack_encoder_del(e);
   nghttp3_qpack_decoder_del(d);
+  return t;
+}
+
+/* Both calls without a table; nghttp3 has none such, and its ends of capacity 0 stand for them. */
+static times run_alone(void) {
+  times t = {{0}, 0};
+  for (size_t i = 0; i < nlists; i++) {
+    double since = now();
+    h3_qpack_written a = h3_qpack_encode_stateless(lists[i].nv, lists[i].len, section, sizeof section);
+    end_phase(&t, ENCODE, &since);
+    h3_qpack_decoded_alone got = h3_qpack_decode_stateless(section, a.len, 1 << 20, fields,
+                                                           sizeof fields / sizeof *fields, bytes, sizeof bytes);
+    end_phase(&t, DECODE, &since);
+    CHECK(a.status == H3_QPACK_OK && got.status == H3_QPACK_OK && got.fields == lists[i].len);
+    t.written += a.len;
+  }
   return t;
 }
 
@@ -136,21 +174,42 @@ static void time_boundary(int rounds) {
   h3_qpack_decoder_del(&d);
 }
 
+/* A phase's ns a field of both, and their ratio. */
+static void print_phase(const char *what, double ours, double theirs) {
+  double n = (double)nfields;
+  printf("  %-8s %5.0f ns a field, nghttp3 %5.0f (%.2f)\n", what, ours / n, theirs / n, ours / theirs);
+}
+
+static void print_times(times ours, times theirs) {
+  double all = 0, their_all = 0;
+  for (int p = 0; p < PHASES; p++) {
+    all += ours.phase[p];
+    their_all += theirs.phase[p];
+    if (ours.phase[p] > 0) print_phase(phases[p], ours.phase[p], theirs.phase[p]);
+  }
+  if (ours.phase[HEAR] > 0) print_phase("all", all, their_all);
+  printf("  %zu bytes, nghttp3 %zu\n", ours.written, theirs.written);
+}
+
 int main(int argc, char **argv) {
   static const size_t capacities[] = {0, 4096, 65536};
+  times none = {{1e18, 1e18, 1e18, 1e18}, 0};
   CHECK(argc == 3);
   read_corpus(argv[1], 0);
   int rounds = atoi(argv[2]);
   for (int c = 0; c < 3; c++) {
-    times ours = {1e18, 1e18}, theirs = {1e18, 1e18};
+    times ours = none, theirs = none, alone = none;
     for (int r = 0; r < rounds; r++) {
-      keep_best(&ours, run_ours(capacities[c]));
-      keep_best(&theirs, run_theirs(capacities[c]));
+      keep_least(&ours, run_ours(capacities[c]));
+      keep_least(&theirs, run_theirs(capacities[c]));
+      if (c == 0) keep_least(&alone, run_alone());
     }
-    double n = (double)nfields;
-    printf("capacity %5zu: encode %4.0f ns a field, nghttp3 %4.0f (%.2f); decode %4.0f, nghttp3 %4.0f (%.2f)\n",
-           capacities[c], ours.encode / n, theirs.encode / n, ours.encode / theirs.encode, ours.decode / n,
-           theirs.decode / n, ours.decode / theirs.decode);
+    printf("capacity %zu\n", capacities[c]);
+    print_times(ours, theirs);
+    if (c == 0) {
+      printf("without an end\n");
+      print_times(alone, theirs);
+    }
   }
   time_boundary(rounds);
   free_lists();

@@ -1,7 +1,8 @@
 #!/usr/bin/env bash
-# bench_h3.sh H3_SRC ROUNDS: the stateless pair of this crate beside h3's own. H3_SRC is the folder src of the crate h3
-# 0.0.8, of which the module qpack with proto/coding.rs and proto/varint.rs is copied to a folder that is removed at the
-# end. It needs the crate bytes, from Debian's librust-bytes-dev, and the archive, as the crate does.
+# bench_h3.sh H3_SRC ROUNDS: the stateless pair of this crate beside h3's own, and beside nghttp3. H3_SRC is the folder
+# src of the crate h3 0.0.8, of which the module qpack with proto/coding.rs and proto/varint.rs is copied to a folder that
+# is removed at the end. It needs the crate bytes, from Debian's librust-bytes-dev, nghttp3, from libnghttp3-dev, and the
+# archive, as the crate does.
 set -euo pipefail
 [ $# = 2 ] || { echo "usage: bench_h3.sh H3_SRC ROUNDS" >&2; exit 2; }
 sources=$(cd "$1" && pwd)
@@ -47,6 +48,15 @@ h3_theirs = { path = "theirs" }
 [workspace]
 END
 cp "$here/bench_h3.rs" "$room/src/main.rs"
+cc -O2 -Wall -Wextra -Werror -c "$here/bench_nghttp3.c" -o "$room/bench_nghttp3.o"
+ar rcs "$room/libbench_nghttp3.a" "$room/bench_nghttp3.o"
+cat >"$room/build.rs" <<END
+fn main() {
+    println!("cargo:rustc-link-search=native=$room");
+    println!("cargo:rustc-link-lib=static=bench_nghttp3");
+    println!("cargo:rustc-link-lib=nghttp3");
+}
+END
 cd "$room"
 CARGO_TARGET_DIR=$room/target cargo build -q --offline --release
 target/release/bench_h3 "$here/../crates/qpack_bench/data/corpus.qif" "$2"

@@ -2,7 +2,8 @@
 #include <pthread.h>
 #include "common.h"
 
-static uint8_t section[1 << 16], stream[1 << 16], bytes[256];
+static uint8_t section[1 << 16], stream[1 << 16], bytes[1 << 12];
+static h3_qpack_field fields[1 << 6];
 
 static const h3_qpack_nv get = {(const uint8_t *)":method", 7, (const uint8_t *)"GET", 3, 0};
 static const h3_qpack_nv custom = {(const uint8_t *)"foo", 3, (const uint8_t *)"bar", 3, 0};
@@ -53,8 +54,16 @@ static void refuse_arguments(void) {
   CHECK(h3_qpack_decoder_decode(&d, (uint64_t)1 << 62, section, 0).status == H3_QPACK_ERR_INVALID);
   CHECK(h3_qpack_decoder_cancel_stream(&d, (uint64_t)1 << 62) == H3_QPACK_ERR_INVALID);
   CHECK(h3_qpack_decoder_field(&d, 0, bytes, sizeof bytes).status == H3_QPACK_ERR_INVALID);
+  CHECK(h3_qpack_decoder_fields(&d, NULL, 1, bytes, 9).status == H3_QPACK_ERR_INVALID);
+  CHECK(h3_qpack_decoder_fields(&d, fields, much / sizeof *fields, bytes, 9).status == H3_QPACK_ERR_INVALID);
+  CHECK(h3_qpack_decoder_fields(&d, fields, 1, NULL, 9).status == H3_QPACK_ERR_INVALID);
+  CHECK(h3_qpack_decoder_fields(&d, NULL, 0, NULL, 0).status == H3_QPACK_OK);
   CHECK(!h3_qpack_decoder_next_ready(&d, NULL));
   CHECK(h3_qpack_encode_stateless(NULL, 1, section, 9).status == H3_QPACK_ERR_INVALID);
+  CHECK(h3_qpack_decode_stateless(NULL, 1, 9, fields, 1, bytes, 9).status == H3_QPACK_ERR_INVALID);
+  CHECK(h3_qpack_decode_stateless(section, 2, 9, NULL, 1, bytes, 9).status == H3_QPACK_ERR_INVALID);
+  CHECK(h3_qpack_decode_stateless(section, 2, 9, fields, 1, NULL, 9).status == H3_QPACK_ERR_INVALID);
+  CHECK(h3_qpack_decode_stateless(section, much, 9, fields, 1, bytes, 9).status == H3_QPACK_ERR_INVALID);
   h3_qpack_encoder_del(&e);
   h3_qpack_encoder_del(&e);
   h3_qpack_decoder_del(&d);
@@ -93,6 +102,30 @@ static void ask_for_room(void) {
   CHECK(h3_qpack_encoder_encode(&e, 8, NULL, 0, section, 2).len == 2);
   h3_qpack_encoder_del(&e);
   h3_qpack_decoder_del(&d);
+}
+
+/* Each list without an end, in room that is just large enough, or too small; and each refusal. */
+static void decode_alone(void) {
+  for (size_t i = 0; i < nlists; i++) {
+    const list *l = &lists[i];
+    h3_qpack_written w = h3_qpack_encode_stateless(l->nv, l->len, section, sizeof section);
+    h3_qpack_decoded_alone r = h3_qpack_decode_stateless(section, w.len, 1 << 20, fields, l->len, bytes, sizeof bytes);
+    CHECK(w.status == H3_QPACK_OK && r.status == H3_QPACK_OK && r.fields == l->len && !r.number && !r.offset);
+    check_written(fields, bytes, r.len, l->nv, l->len);
+    h3_qpack_decoded_alone s = h3_qpack_decode_stateless(section, w.len, 1 << 20, NULL, 0, NULL, 0);
+    CHECK(s.status == (l->len ? H3_QPACK_ERR_NO_ROOM : H3_QPACK_OK) && s.fields == l->len && s.len == r.len);
+  }
+  h3_qpack_decoded_alone r = h3_qpack_decode_stateless((const uint8_t *)"\0\0\xd1", 3, 42, fields, 1, bytes, 10);
+  CHECK(r.status == H3_QPACK_OK && r.fields == 1 && r.len == 10 && !memcmp(bytes, ":methodGET", 10));
+  bytes[0] = 0xee;
+  r = h3_qpack_decode_stateless((const uint8_t *)"\0\0\xd1", 3, 42, fields, 1, bytes, 9);
+  CHECK(r.status == H3_QPACK_ERR_NO_ROOM && r.fields == 1 && r.len == 10 && bytes[0] == 0xee);
+  r = h3_qpack_decode_stateless((const uint8_t *)"\0\0\xd1", 3, 41, fields, 1, bytes, 10);
+  CHECK(r.status == H3_QPACK_ERR_TOO_LARGE && r.number == 1 && r.offset == 2 && !r.fields && !r.len);
+  r = h3_qpack_decode_stateless((const uint8_t *)"\0\0\xd1\x80", 4, 99, fields, 9, bytes, 99);
+  CHECK(r.status == H3_QPACK_DECOMPRESSION_FAILED && r.number == 2 && r.offset == 3 && bytes[0] == 0xee);
+  r = h3_qpack_decode_stateless((const uint8_t *)"\x02\0\x80", 3, 99, fields, 9, bytes, 99);
+  CHECK(r.status == H3_QPACK_DECOMPRESSION_FAILED && !r.number && !r.offset);
 }
 
 /* What ends a connection: the code, where the fault stood, and the same answer from then on. */
@@ -171,7 +204,7 @@ static void *run_connection(void *rounds) {
       CHECK(h3_qpack_decoder_read_encoder(&d, instructions, len).status == H3_QPACK_OK);
       h3_qpack_decoded r = h3_qpack_decoder_decode(&d, 4 * i, own, a.len);
       CHECK(r.status == H3_QPACK_OK && r.fields == lists[i].len);
-      for (size_t k = 0; k < lists[i].len; k++) check_field(&d, k, &lists[i].nv[k]);
+      check_fields(&d, lists[i].nv, lists[i].len);
       len = h3_qpack_decoder_write_decoder(&d, instructions, sizeof instructions);
       CHECK(h3_qpack_encoder_read_decoder(&e, instructions, len).status == H3_QPACK_OK);
     }
@@ -188,6 +221,7 @@ int main(int argc, char **argv) {
   CHECK(h3_qpack_version() == 65536);
   refuse_arguments();
   ask_for_room();
+  decode_alone();
   end_connections();
   wait_for_insertions();
   pthread_t threads[2];

@@ -126,4 +126,37 @@ static inline void check_field(h3_qpack_decoder *d, size_t index, const h3_qpack
   CHECK(!memcmp(bytes, nv->name, nv->namelen) && !memcmp(bytes + f.namelen, nv->value, nv->valuelen));
 }
 
+/* Fields that were written in one call, and their text of so many bytes, are these. */
+static inline void check_written(const h3_qpack_field *fields, const uint8_t *text, size_t textlen,
+                                 const h3_qpack_nv *nva, size_t nvlen) {
+  size_t at = 0;
+  for (size_t k = 0; k < nvlen; k++) {
+    const h3_qpack_nv *nv = &nva[k];
+    CHECK(fields[k].status == H3_QPACK_OK && fields[k].flags == nv->flags);
+    CHECK(fields[k].namelen == nv->namelen && fields[k].valuelen == nv->valuelen);
+    CHECK(textlen - at >= nv->namelen + nv->valuelen);
+    CHECK(!memcmp(text + at, nv->name, nv->namelen));
+    CHECK(!memcmp(text + at + nv->namelen, nv->value, nv->valuelen));
+    at += nv->namelen + nv->valuelen;
+  }
+  CHECK(at == textlen);
+}
+
+/* The fields of a decoder are these, one by one, and in one call, whose room is just large enough, or too small. */
+static inline void check_fields(h3_qpack_decoder *d, const h3_qpack_nv *nva, size_t nvlen) {
+  static _Thread_local uint8_t text[1 << 16];
+  static _Thread_local h3_qpack_field fields[1 << 10];
+  CHECK(nvlen <= sizeof fields / sizeof *fields);
+  for (size_t k = 0; k < nvlen; k++) check_field(d, k, &nva[k]);
+  h3_qpack_written w = h3_qpack_decoder_fields(d, fields, nvlen, text, sizeof text);
+  CHECK(w.status == H3_QPACK_OK);
+  check_written(fields, text, w.len, nva, nvlen);
+  CHECK(h3_qpack_decoder_fields(d, fields, nvlen, text, w.len).status == H3_QPACK_OK);
+  if (nvlen) {
+    h3_qpack_written few = h3_qpack_decoder_fields(d, fields, nvlen - 1, text, sizeof text);
+    CHECK(few.status == H3_QPACK_ERR_NO_ROOM && few.len == w.len);
+  }
+  if (w.len) CHECK(h3_qpack_decoder_fields(d, fields, nvlen, text, w.len - 1).status == H3_QPACK_ERR_NO_ROOM);
+}
+
 #endif

@@ -155,7 +155,7 @@ static inline int take_section(side *x, int64_t id, const uint8_t *p, size_t len
   x->is_waiting[id] = 0;
   CHECK(r.status == H3_QPACK_OK && r.fields == l->len && !x->is_decoded[id]);
   x->is_decoded[id] = 1;
-  for (size_t k = 0; k < l->len; k++) check_field(&x->decoder, k, &l->nv[k]);
+  check_fields(&x->decoder, l->nv, l->len);
   return 1;
 }
 

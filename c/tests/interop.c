@@ -34,7 +34,7 @@ static void answer_theirs(h3_qpack_decoder *d, nghttp3_qpack_encoder *e) {
 
 static void check_list(h3_qpack_decoder *d, const h3_qpack_decoded *r, const list *l) {
   CHECK(r->status == H3_QPACK_OK && r->fields == l->len);
-  for (size_t k = 0; k < l->len; k++) check_field(d, k, &l->nv[k]);
+  check_fields(d, l->nv, l->len);
   sections++;
   dynamic += r->required > 0;
 }

@@ -53,13 +53,23 @@ static void send_list(h3_qpack_encoder *e, h3_qpack_decoder *d, size_t i) {
       while (is_short(r.status));
   }
   CHECK(r.status == H3_QPACK_OK && r.fields == lists[i].len);
-  for (size_t k = 0; k < lists[i].len; k++) check_field(d, k, &lists[i].nv[k]);
+  check_fields(d, lists[i].nv, lists[i].len);
   int status;
   do status = h3_qpack_decoder_cancel_stream(d, 4 * i + 400);
   while (is_short(status));
   CHECK(status == H3_QPACK_OK);
   len = h3_qpack_decoder_write_decoder(d, stream, sizeof stream);
   CHECK(h3_qpack_encoder_read_decoder(e, stream, len).status == H3_QPACK_OK);
+}
+
+static void decode_alone(const uint8_t *section, size_t len) {
+  static uint8_t text[1 << 12];
+  static h3_qpack_field fields[1 << 6];
+  h3_qpack_decoded_alone r;
+  do r = h3_qpack_decode_stateless(section, len, 1 << 20, fields, sizeof fields / sizeof *fields, text, sizeof text);
+  while (is_short(r.status));
+  CHECK(r.status == H3_QPACK_OK && r.fields == lists[0].len);
+  check_written(fields, text, r.len, lists[0].nv, lists[0].len);
 }
 
 /* A connection of which the allocation of this number, from 0, is refused; answers whether there was one. */
@@ -80,6 +90,7 @@ static int run_connection(long number) {
   do w = h3_qpack_encode_stateless(lists[0].nv, lists[0].len, section, sizeof section);
   while (is_short(w.status));
   CHECK(w.status == H3_QPACK_OK && w.len > 2);
+  decode_alone(section, w.len);
   int was_refused = granted < 0;
   granted = -1;
   h3_qpack_encoder_del(&e);

@@ -1,8 +1,7 @@
 -- Fields, and bytes, as they cross to C and from it.
-use Rattle.std.specs.Prelude.{◌≡◌, ◌%◌, nat_eq, nat_le, ℕ, ℤ, if◌then◌else◌, ◌⊎◌, List, ◌++◌, length, drop}
-use Rattle.std.specs.Prelude.{Option, None, Some}
+use Rattle.std.specs.Prelude.{◌≡◌, ◌%◌, ◌-◌, ◌^◌, nat_eq, nat_le, min, ℕ, ℤ, if◌then◌else◌, ◌⊎◌, ◌&&◌, Bool}
+use Rattle.std.specs.Prelude.{List, [], ◌∷◌, ◌++◌, length, map, drop, Option, None, Some}
 use Rattle.h3_qpack_c.specs.declared.answers.Given.{Given}
-use denote.RawPtr.{Ptr}
 use Rattle.qpack_spec.specs.Field.{FieldLine}
 use Rattle.h3_qpack_c.specs.declared.answers.Written.{Written}
 use Rattle.h3_qpack_c.specs.declared.fields.Field.{Field}
@@ -13,9 +12,9 @@ abbrev pub line_of_lent : Field → FieldLine
 line_of_lent f =
     record { field = record { name = f.name.now; value = f.value.now }; never_indexed = nat_eq (f.flags % 2) 1 }
 
--- memory with bytes at its front
-abbrev pub written_over : List ℕ → List ℕ → List ℕ
-written_over bytes old = bytes ++ drop (length bytes) old
+-- memory with bytes, or what else it has, at its front
+abbrev pub written_over : {A : Type 0} → List A → List A → List A
+written_over front old = front ++ drop (length front) old
 
 -- memory behind a call that copies bytes to its front if they fit
 abbrev pub copied : List ℕ → List ℕ → List ℕ
@@ -50,10 +49,38 @@ Gives (Some f) old new told =
     })
     × (new ≡ copied (f.field.name ++ f.field.value) old)
 
--- an end was made, of which the settings are in range; or memory was refused for it, or the settings are out of range,
--- and what the caller keeps is as before
-abbrev pub Makes : Type 0 → ℤ → Ptr → Ptr → Type 0
-Makes InRange status old new =
-    ((status ≡ done) × InRange)
-    ⊎ ((status ≡ no_memory) × InRange × (new ≡ old))
-    ⊎ ((status ≡ invalid) × (InRange → ⊥) × (new ≡ old))
+-- a field's name, and its value behind it
+abbrev pub text_of_field : FieldLine → List ℕ
+text_of_field f = f.field.name ++ f.field.value
+
+-- the names and values of fields, one behind the other
+abbrev pub text_of : List FieldLine → List ℕ
+text_of [] = []
+text_of (f ∷ fs) = text_of_field f ++ text_of fs
+
+-- what is told of a field that is copied
+abbrev pub told_of_field : FieldLine → Given
+told_of_field f =
+    record { status = done; flags = flags_of f; name = length f.field.name; value = length f.field.value }
+
+-- whether there is room for what is told of each field, and for their text
+abbrev pub fit : List FieldLine → List Given → List ℕ → Bool
+fit fs told old = nat_le (length fs) (length told) && nat_le (length (text_of fs)) (length old)
+
+-- the fields are copied to the caller's memory if all fit, and else none; how many bytes their text has is told, held
+-- at the greatest number
+pub record GivesAll (fields : List FieldLine) (told_before told_after : List Given) (before after : List ℕ)
+    (answer : Written) : Type 0 where
+  pub status_is : answer.status ≡ (if fit fields told_before before then done else no_room)
+  pub len_is : answer.len ≡ min (length (text_of fields)) (2 ^ 64 - 1)
+  pub told_is : told_after
+      ≡ (if fit fields told_before before then written_over (map told_of_field fields) told_before else told_before)
+  pub text_is : after ≡ (if fit fields told_before before then written_over (text_of fields) before else before)
+
+-- an end was made, as the settings ask, which are in range; or memory was refused for it, or the settings are out of
+-- range, and what the caller keeps is as before
+abbrev pub Makes : Type 0 → Type 0 → Type 0 → ℤ → Type 0
+Makes InRange IsMade AsBefore status =
+    ((status ≡ done) × InRange × IsMade)
+    ⊎ ((status ≡ no_memory) × InRange × AsBefore)
+    ⊎ ((status ≡ invalid) × (InRange → ⊥) × AsBefore)

@@ -1,6 +1,6 @@
 -- What the calls of a decoding end do in C.
 use Rattle.std.specs.Prelude.{◌≡◌, ◌<◌, ◌^◌, ◌-◌, ℕ, ℤ, ⊤, min}
-use Rattle.std.specs.Prelude.{List, length, take, drop, Option, None, Some, Result, Ok, Err}
+use Rattle.std.specs.Prelude.{List, [], length, take, drop, Option, None, Some, Result, Ok, Err}
 use Rattle.std.specs.Option.{IfSome}
 use Rattle.qpack_spec.specs.Field.{FieldLine}
 use Rattle.qpack_spec.specs.StrictReading.{strict_reading}
@@ -10,7 +10,8 @@ use Rattle.qpack_connection.specs.declared.decoder.DecodingError.TheVariants.{En
 use Rattle.qpack_connection.specs.declared.section.SectionError.TheVariants.{Line}
 use Rattle.qpack_connection.specs.declared.section.Reading.{Reading}
 use Rattle.qpack_connection.specs.declared.section.Reading.TheVariants.{Fields, Blocked}
-use Rattle.qpack_connection.specs.Decoders.{Decodes, Cancels, ReceivesBytes, AsksToDecode}
+use Rattle.qpack_connection.specs.declared.decoder.DecoderSettings.{DecoderSettings}
+use Rattle.qpack_connection.specs.Decoders.{Begins, Decodes, Cancels, ReceivesBytes, AsksToDecode}
 use Rattle.qpack_connection.specs.Receiving.{Receives}
 use Rattle.h3_qpack_c.specs.declared.answers.Decoding.{Decoding}
 use Rattle.h3_qpack_c.specs.declared.answers.Received.{Received}
@@ -21,6 +22,14 @@ use Rattle.h3_qpack_c.specs.Statuses.{done, blocked, of_decoding, of_decoding_ca
 -- the settings that an end takes
 abbrev pub InRange : ℕ → ℕ → Type 0
 InRange max_capacity max_blocked = (max_capacity < 2 ^ 30) × (max_blocked < 65535)
+
+-- an end at which nothing happened yet, and no field
+abbrev pub IsNew : DecoderSettings → State → Type 0
+IsNew settings s = Begins settings s.end × (s.fields ≡ [])
+
+-- such an end is kept
+abbrev pub KeepsNew : DecoderSettings → Option State → Type 0
+KeepsNew settings kept = (s : State) × (kept ≡ Some s) × IsNew settings s
 
 -- what is told of a section that is refused: the status, and where a line was refused
 abbrev pub told_of_refusal : DecodingError → Decoding

@@ -1,17 +1,27 @@
 -- What the calls of an encoding end do in C.
-use Rattle.std.specs.Prelude.{◌≡◌, ℕ, ℤ, ⊤, min, List, [], length, take, drop, None, Result, Ok, Err}
+use Rattle.std.specs.Prelude.{◌≡◌, ℕ, ℤ, ⊤, min, List, [], length, take, drop, Option, None, Some}
+use Rattle.std.specs.Prelude.{Result, Ok, Err}
 use Rattle.std.specs.Option.{IfSome}
 use Rattle.qpack_spec.specs.Field.{FieldLine}
 use Rattle.qpack_spec.specs.Instruction.{DecoderInstruction}
 use Rattle.qpack_connection.specs.declared.encoder.EncodingError.{EncodingError}
 use Rattle.qpack_connection.specs.declared.encoder.EncodingError.TheVariants.{DecoderStream}
-use Rattle.qpack_connection.specs.Encoders.{Encodes, ReceivesBytes, SetsCapacity}
+use Rattle.qpack_connection.specs.declared.encoder.EncoderSettings.{EncoderSettings}
+use Rattle.qpack_connection.specs.Encoders.{Starts, Encodes, ReceivesBytes, SetsCapacity}
 use Rattle.qpack_connection.specs.Hearing.{Receives}
 use Rattle.h3_qpack_c.specs.declared.answers.Encoded.{Encoded}
 use Rattle.h3_qpack_c.specs.declared.answers.Received.{Received}
 use Rattle.h3_qpack_c.specs.declared.encoder.State.{State}
 use Rattle.h3_qpack_c.specs.Crossing.{copied, status_of_copy, written_over}
 use Rattle.h3_qpack_c.specs.Statuses.{done, of_encoding, of_encoding_call}
+
+-- an end at which nothing happened yet, and no section
+abbrev pub IsNew : EncoderSettings → State → Type 0
+IsNew settings s = Starts settings s.end × (s.section.items ≡ [])
+
+-- such an end is kept
+abbrev pub KeepsNew : EncoderSettings → Option State → Type 0
+KeepsNew settings kept = (s : State) × (kept ≡ Some s) × IsNew settings s
 
 -- what is told of an encoding, of which the section is these bytes, and the caller's memory these
 abbrev pub told_of_encoding : Result ℕ EncodingError → List ℕ → List ℕ → Encoded

@@ -3,5 +3,8 @@ pub mod Tokens
 pub mod Crossing
 pub mod Encoding
 pub mod Decoding
+pub mod Alone
+pub mod EncoderSlots
+pub mod DecoderSlots
 pub mod EncoderFollows
 pub mod DecoderFollows

@@ -59,3 +59,18 @@ pub struct Given {
     pub name: usize,
     pub value: usize,
 }
+
+/// What decoding without an end answers.
+#[repr(C)]
+#[derive(Drop)]
+pub struct DecodedAlone {
+    pub status: i32,
+    /// How many fields there are.
+    pub fields: usize,
+    /// How many bytes their names and values have, held at the greatest number.
+    pub len: usize,
+    /// Where a line was refused: its number in the section, from 1, else 0.
+    pub number: u64,
+    /// And where it begins, in bytes from the section's start.
+    pub offset: u64,
+}

@@ -4,13 +4,14 @@ ghost use Rattle.h3_qpack_c.specs.declared.decoder.State.{State};
 ghost use Rattle.std.specs.Prelude.{◌≡◌, ◌<◌, ◌≤◌, ◌^◌, length, slice_get, IfOk, IfErr, [], ℕ};
 ghost use Rattle.qpack_spec.specs.Table.{insert_count};
 ghost use Rattle.qpack_connection.specs.Blocked.{ready};
-ghost use Rattle.qpack_connection.specs.Decoders.{Begins, FailsSettings, blocked_streams};
-ghost use Rattle.h3_qpack_c.specs.Crossing.{Makes, Gives};
+ghost use Rattle.qpack_connection.specs.Decoders.{FailsSettings, blocked_streams};
+ghost use Rattle.qpack_connection.specs.declared.decoder.DecoderSettings.{DecoderSettings};
+ghost use Rattle.h3_qpack_c.specs.Crossing.{Makes, Gives, GivesAll};
 ghost use Rattle.h3_qpack_c.specs.Decoding.{DecodesTo, ReceivesTo, CancelsTo, TakesStream, TellsReady, InRange};
-ghost use Rattle.h3_qpack_c.specs.Decoding.{told_of_refusal, told_of_receiving};
+ghost use Rattle.h3_qpack_c.specs.Decoding.{told_of_refusal, told_of_receiving, IsNew, KeepsNew};
 
-use crate::answers::{Decoding, Given, Received};
-use crate::fields::{copy_front, give, no_field};
+use crate::answers::{Decoding, Given, Received, Written};
+use crate::fields::{copy_front, give, give_all, no_field};
 use crate::statuses::{
     BLOCKED, DONE, ENCODER_STREAM_ERROR, INVALID, NO_MEMORY, status_of_decoding,
 };
@@ -23,8 +24,10 @@ use std::alloc::Global;
 use std::marker::Model;
 
 mod lend;
+mod slot;
 
 use lend::state;
+use slot::{Slot, put};
 
 /// A decoding end, and the fields of the section that it decoded last.
 #[derive(Drop)]
@@ -60,7 +63,7 @@ impl Handle {
 
 /// An end at which nothing happened yet.
 fn begin(alloc: Global, settings: DecoderSettings) -> Result<State, SettingsError>
-    ensures ok { IfOk result (λ s. Begins settings s.end × (s.fields ≡ [])) }
+    ensures ok { IfOk result (IsNew settings) }
     ensures err { IfErr result (FailsSettings settings) }
 {
     let end = ConnectionDecoder::new(alloc, settings)?;
@@ -78,9 +81,13 @@ pub extern "C" fn h3q_decoder_new(
     max_capacity: usize,
     max_blocked: usize,
     max_section_size: u64,
-    out: &mut *mut u8,
+    out: &mut Slot,
 ) -> i32
-    ensures { Makes (InRange max_capacity max_blocked) result out.old out.new }
+    ensures { let settings : DecoderSettings = record {
+      max_capacity = max_capacity;
+      max_blocked = max_blocked;
+      max_section_size = max_section_size;
+    } in Makes (InRange max_capacity max_blocked) (KeepsNew settings out.new.value) (out.new ≡ out.old) result }
 {
     let settings = DecoderSettings {
         max_capacity,
@@ -92,7 +99,7 @@ pub extern "C" fn h3q_decoder_new(
     };
     match Box::new(alloc, state) {
         Ok(kept) => {
-            *out = Box::into_raw(kept) as *mut u8;
+            put(kept, out);
             DONE
         }
         Err(_) => NO_MEMORY,
@@ -178,6 +185,22 @@ pub extern "C" fn h3q_decoder_field(handle: &mut Handle, index: usize, out: &mut
         Some(field) => give(&field, out),
         None => no_field(),
     };
+    answer
+}
+
+/// Copies the fields of the section that was decoded last to the caller's memory, if there is room for what is told of
+/// each, and for their names and values one behind the other.
+#[unsafe(no_mangle)]
+pub extern "C" fn h3q_decoder_fields(
+    handle: &mut Handle,
+    told: &mut [Given],
+    out: &mut [u8],
+) -> Written
+    ensures same { handle.new.value ≡ handle.old.value }
+    ensures gives { GivesAll handle.old.value.fields told.old told.new out.old out.new result }
+{
+    let state = state(handle);
+    let answer = give_all(&state.fields, told, out);
     answer
 }
 

@@ -2,10 +2,11 @@
 
 ghost use Rattle.h3_qpack_c.specs.declared.encoder.State.{State};
 ghost use Rattle.std.specs.Prelude.{◌≡◌, ◌<◌, ◌≤◌, ◌^◌, pos, length, map, IfOk, IfErr, ℤ};
-ghost use Rattle.qpack_connection.specs.Encoders.{Starts};
 ghost use Rattle.qpack_connection.specs.declared.decoder.SettingsError.TheVariants.{CapacityTooLarge};
 ghost use Rattle.h3_qpack_c.specs.Crossing.{line_of_lent, copied, told_of_copy, Makes};
 ghost use Rattle.h3_qpack_c.specs.Encoding.{EncodesTo, HearsTo, SetsCapacityTo, TakesStream, told_of_hearing};
+ghost use Rattle.h3_qpack_c.specs.Encoding.{IsNew, KeepsNew};
+ghost use Rattle.qpack_connection.specs.declared.encoder.EncoderSettings.{EncoderSettings};
 
 use crate::answers::{Encoded, Received, Written};
 use crate::fields::{Field, copy_front, write};
@@ -16,8 +17,10 @@ use std::alloc::Global;
 use std::marker::Model;
 
 mod lend;
+mod slot;
 
 use lend::state;
+use slot::{Slot, put};
 
 /// An encoding end, and the section that it encoded last.
 #[derive(Drop)]
@@ -53,7 +56,7 @@ impl Handle {
 
 /// An end at which nothing happened yet.
 fn begin(alloc: Global, settings: EncoderSettings) -> Result<State, SettingsError>
-    ensures ok { IfOk result (λ s. Starts settings s.end) }
+    ensures ok { IfOk result (IsNew settings) }
     ensures err { IfErr result (λ e. (e ≡ CapacityTooLarge) × (2 ^ 30 ≤ settings.max_capacity)) }
 {
     let end = ConnectionEncoder::new(alloc, settings)?;
@@ -72,9 +75,14 @@ pub extern "C" fn h3q_encoder_new(
     max_blocked: usize,
     capacity: usize,
     most_unacknowledged: usize,
-    out: &mut *mut u8,
+    out: &mut Slot,
 ) -> i32
-    ensures { Makes (max_capacity < 2 ^ 30) result out.old out.new }
+    ensures { let settings : EncoderSettings = record {
+      max_capacity = max_capacity;
+      max_blocked = max_blocked;
+      capacity = capacity;
+      most_unacknowledged = most_unacknowledged;
+    } in Makes (max_capacity < 2 ^ 30) (KeepsNew settings out.new.value) (out.new ≡ out.old) result }
 {
     let settings = EncoderSettings {
         max_capacity,
@@ -87,7 +95,7 @@ pub extern "C" fn h3q_encoder_new(
     };
     match Box::new(alloc, state) {
         Ok(kept) => {
-            *out = Box::into_raw(kept) as *mut u8;
+            put(kept, out);
             DONE
         }
         Err(_) => NO_MEMORY,

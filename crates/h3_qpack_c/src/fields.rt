@@ -1,13 +1,14 @@
 //! Fields, and bytes, as they cross to C and from it.
 
-ghost use Rattle.std.specs.Prelude.{◌≡◌, ◌≤◌, length, min, take, Some};
+ghost use Rattle.std.specs.Prelude.{◌≡◌, ◌≤◌, ◌+◌, ◌-◌, ◌^◌, ◌++◌, length, map, min, take, drop, Some};
 ghost use Rattle.qpack_base.specs.HeaderFields.{line_of};
 ghost use Rattle.h3_qpack_c.specs.Crossing.{written_over, copied, told_of_copy, Gives, no_such_field};
+ghost use Rattle.h3_qpack_c.specs.Crossing.{text_of, text_of_field, told_of_field, GivesAll};
 
 use crate::answers::{Given, Written};
 use crate::statuses::{DONE, INVALID, NO_ROOM};
 use h3_qpack::encoder::AsField;
-use qpack_connection::FieldLine;
+use qpack_connection::{FieldLine, FieldSection};
 
 /// A field that is lent: its name, its value, and its flags, of which the lowest says that it is never to be indexed
 /// (RFC 9204, section 7.1.3).
@@ -97,4 +98,77 @@ pub(crate) fn give(field: &FieldLine, out: &mut [u8]) -> Given
         name,
         value,
     }
+}
+
+/// What is told of a field whose name and value are copied.
+fn told_of(field: &FieldLine) -> Given
+    ensures { result ≡ told_of_field (line_of field.now) }
+{
+    Given {
+        status: DONE,
+        flags: if field.never_indexed { 1 } else { 0 },
+        name: field.name.len(),
+        value: field.value.len(),
+    }
+}
+
+/// Copies the fields of a section to a caller's memory, if there is room for what is told of each, and for their names
+/// and values one behind the other. It answers how many bytes these have, held at the greatest number.
+pub(crate) fn give_all(section: &FieldSection, told: &mut [Given], out: &mut [u8]) -> Written
+    ensures { GivesAll section.now told.old told.new out.old out.new result }
+{
+    let len = text_len(section);
+    if section.len() > told.len() || len > out.len() {
+        return Written {
+            status: NO_ROOM,
+            len,
+        };
+    }
+    put_all(section, told, out);
+    Written { status: DONE, len }
+}
+
+/// How many bytes the names and values have, held at the greatest number.
+fn text_len(section: &FieldSection) -> usize
+    ensures { result ≡ min (length (text_of section.now)) (2 ^ 64 - 1) }
+{
+    let mut len = 0usize;
+    for index in 0..section.len() {
+        if let Some(field) = section.get(index) {
+            len = len
+                .saturating_add(field.name.len())
+                .saturating_add(field.value.len());
+        }
+    }
+    len
+}
+
+/// Copies the fields of a section to memory that has room for them.
+fn put_all(section: &FieldSection, told: &mut [Given], out: &mut [u8])
+    requires places { length section.now ≤ length told.old }
+    requires text { length (text_of section.now) ≤ length out.old }
+    ensures told { told.new ≡ written_over (map told_of_field section.now) told.old }
+    ensures text { out.new ≡ written_over (text_of section.now) out.old }
+{
+    let mut at = 0;
+    for index in 0..section.len() {
+        if let Some(field) = section.get(index) {
+            told[index] = told_of(&field);
+            at = put(&field, at, out);
+        }
+    }
+}
+
+/// Copies the name and the value of a field to memory, from a place on, and answers where they end.
+fn put(field: &FieldLine, at: usize, out: &mut [u8]) -> usize
+    requires { at + length (text_of_field (line_of field.now)) ≤ length out.old }
+    ensures end { result ≡ at + length (text_of_field (line_of field.now)) }
+    ensures written { out.new ≡ take at out.old ++ text_of_field (line_of field.now) ++ drop result out.old }
+{
+    let (name, value) = (field.name.len(), field.value.len());
+    let (_, rest) = out.split_at_mut(at);
+    let (front, rest) = rest.split_at_mut(name);
+    front.copy_from_slice(field.name);
+    copy_over(field.value, rest);
+    at + name + value
 }

@@ -1,15 +1,24 @@
 //! Sections without a dynamic table, and without an end.
 
 ghost use Rattle.std.specs.Prelude.{◌≡◌, ◌⊎◌, map};
+ghost use Rattle.h3_qpack_c.specs.Alone.{DecodesAlone, GivesAlone, told_of_refusal};
 ghost use Rattle.qpack_connection.specs.Encoders.{written_alone};
 ghost use Rattle.h3_qpack_c.specs.Crossing.{line_of_lent, copied, told_of_copy};
 ghost use Rattle.h3_qpack_c.specs.Statuses.{no_memory};
 
-use crate::answers::Written;
-use crate::fields::{Field, write};
-use crate::statuses::NO_MEMORY;
+use crate::answers::{DecodedAlone, Given, Written};
+use crate::fields::{Field, give_all, write};
+use crate::statuses::{BLOCKED, NO_MEMORY, status_of_line, status_of_section};
 use h3_qpack::encoder::encode_section_stateless;
+use qpack_connection::{FieldSection, Reading, SectionError, read_section};
+use qpack_table::dynamic::DynamicTable;
 use std::alloc::Global;
+
+/// The most room that is made before a section is written, in bytes.
+const MOST_ROOM: usize = 4096;
+
+/// How many bytes of a section are taken for a line, where room is made before it is read.
+const LINE_LEN: usize = 4;
 
 /// Encodes fields without a dynamic table, and copies the section to the caller's memory if it fits there.
 #[unsafe(no_mangle)]
@@ -23,6 +32,8 @@ pub extern "C" fn h3q_encode_stateless(
         ⊎ ((result ≡ record { status = no_memory; len = 0 }) × (section.new ≡ section.old)) }
 {
     let mut bytes = Vec::new(alloc);
+    // As much as the caller expects; where that is refused, the section may find less.
+    let _is_made = bytes.reserve(section.len().min(MOST_ROOM)).is_ok();
     if encode_section_stateless(&mut bytes, fields).is_err() {
         return Written {
             status: NO_MEMORY,
@@ -30,4 +41,69 @@ pub extern "C" fn h3q_encode_stateless(
         };
     }
     write(&bytes, section)
+}
+
+/// Decodes a section without a dynamic table, up to a limit on the sum of its fields' sizes, and copies its fields to the
+/// caller's memory if all fit there.
+#[unsafe(no_mangle)]
+pub extern "C" fn h3q_decode_stateless(
+    alloc: Global,
+    section: &[u8],
+    max_section_size: u64,
+    told: &mut [Given],
+    out: &mut [u8],
+) -> DecodedAlone
+    ensures { DecodesAlone section.now max_section_size told.old told.new out.old out.new result }
+{
+    let table = DynamicTable::new(alloc);
+    let mut fields = FieldSection::new(alloc);
+    let (lines, bytes) = (section.len() / LINE_LEN, section.len().saturating_mul(2));
+    fields.expect(lines.min(told.len()), bytes.min(out.len()));
+    let answer = read_section(&table, section, max_section_size, &mut fields);
+    tell(&answer, &fields, told, out)
+}
+
+/// What is told of a section that was read, or is refused; the fields of one that was read are copied.
+fn tell(
+    answer: &Result<Reading, SectionError>,
+    fields: &FieldSection,
+    told: &mut [Given],
+    out: &mut [u8],
+) -> DecodedAlone
+    ensures { GivesAlone answer.now fields.now told.old told.new out.old out.new result }
+{
+    match answer {
+        Ok(Reading::Fields { .. }) => {
+            let Written { status, len } = give_all(fields, told, out);
+            DecodedAlone {
+                status,
+                fields: fields.len(),
+                len,
+                number: 0,
+                offset: 0,
+            }
+        }
+        Ok(Reading::Blocked { .. }) => refused(BLOCKED, 0, 0),
+        Err(
+            SectionError::Line {
+                number,
+                offset,
+                error,
+            },
+        ) => refused(status_of_line(error), *number as u64, *offset as u64),
+        Err(error) => refused(status_of_section(error), 0, 0),
+    }
+}
+
+/// What is told of a section that has no fields: a status, and where a line was refused.
+fn refused(status: i32, number: u64, offset: u64) -> DecodedAlone
+    ensures { result ≡ told_of_refusal status number offset }
+{
+    DecodedAlone {
+        status,
+        fields: 0,
+        len: 0,
+        number,
+        offset,
+    }
 }

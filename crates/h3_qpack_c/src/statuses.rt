@@ -61,7 +61,7 @@ pub(crate) fn status_of_decoding(error: &DecodingError) -> i32
 }
 
 /// The status of an error of a section.
-fn status_of_section(error: &SectionError) -> i32
+pub(crate) fn status_of_section(error: &SectionError) -> i32
     ensures { result ≡ of_section error.now }
 {
     match error {
@@ -73,7 +73,7 @@ fn status_of_section(error: &SectionError) -> i32
 }
 
 /// The status of an error of a line.
-fn status_of_line(error: &LineError) -> i32
+pub(crate) fn status_of_line(error: &LineError) -> i32
     ensures { result ≡ of_line error.now }
 {
     match error {

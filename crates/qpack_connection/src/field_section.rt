@@ -107,6 +107,14 @@ impl FieldSection {
         }
     }
 
+    /// Makes room for so many fields more, and for so many bytes more of their names and values, as far as there is
+    /// memory. It changes how often memory is asked for later, and nothing else.
+    pub fn expect(&mut self, fields: usize, bytes: usize)
+        ensures { self.new ≡ self.old }
+    {
+        let _is_made = self.spans.reserve(fields).is_ok() && self.text.reserve(bytes).is_ok();
+    }
+
     /// Drops every field; the memory is kept.
     pub fn clear(&mut self)
         ensures { self.new ≡ [] }

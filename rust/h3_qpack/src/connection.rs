@@ -35,13 +35,16 @@ mod decoder;
 mod encoder;
 mod error;
 
+pub use crate::copied::Fields;
 pub use crate::field::FieldLine;
-pub use decoder::{ConnectionDecoder, DecoderSettings, Fields, Reading};
+pub use decoder::{ConnectionDecoder, DecoderSettings, Reading};
 pub use encoder::{ConnectionEncoder, EncoderSettings};
 pub use error::{
     DecodingError, EncodingError, NoMemory, Place, SettingsError, QPACK_DECODER_STREAM_ERROR,
     QPACK_DECOMPRESSION_FAILED, QPACK_ENCODER_STREAM_ERROR,
 };
+
+pub(crate) use error::DECOMPRESSION_FAILED;
 
 use crate::room::make_room;
 

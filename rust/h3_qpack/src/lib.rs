@@ -24,6 +24,7 @@
 #![deny(unsafe_code)]
 
 pub mod connection;
+mod copied;
 mod field;
 mod room;
 mod stateless;

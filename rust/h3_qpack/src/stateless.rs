@@ -1,7 +1,7 @@
 //! Field sections without a dynamic table, in the names of h3.
 
-use crate::connection::{ConnectionDecoder, DecoderSettings, DecodingError, Place, Reading, SettingsError};
-use crate::connection::{FieldLine, NoMemory, QPACK_DECOMPRESSION_FAILED};
+use crate::connection::{FieldLine, Fields, NoMemory, Place, DECOMPRESSION_FAILED, QPACK_DECOMPRESSION_FAILED};
+use crate::copied::Copied;
 use crate::room::{copy_of, gather, make_room};
 use crate::sys::{self, Lent};
 use crate::HeaderField;
@@ -181,21 +181,25 @@ pub struct Decoded {
 /// # Ok::<(), DecoderError>(())
 /// ```
 pub fn decode_stateless<T: AsRef<[u8]> + ?Sized>(buf: &T, max_size: u64) -> Result<Decoded, DecoderError> {
-    let settings = DecoderSettings { max_capacity: 0, max_blocked: 0, max_section_size: max_size };
-    let mut decoder = ConnectionDecoder::new(settings).map_err(|error| match error {
-        SettingsError::NoMemory => DecoderError::Memory,
-        error => unreachable!("a capacity of 0 and no blocked stream are in range: {error}"),
-    })?;
-    match decoder.decode(0, buf.as_ref()) {
-        Ok(Reading::Fields { .. }) => own_fields(&mut decoder),
-        Ok(Reading::Blocked { .. }) => Err(DecoderError::Decompression(None)),
-        Err(error) => Err(refusal_of(error, max_size)),
+    let section = buf.as_ref();
+    let mut copied = Copied::default();
+    let (mut fields, mut bytes) = (section.len() / LINE_LEN + 1, section.len().saturating_mul(2));
+    loop {
+        copied.make_room(fields, bytes)?;
+        let decoded = sys::decode_stateless(section, max_size, &mut copied.told, &mut copied.bytes);
+        match decoded.status {
+            sys::OK => return own_fields(copied.fields()),
+            sys::NO_ROOM => (fields, bytes) = (decoded.fields, decoded.len),
+            status => return Err(refusal_of(status, Place::told(decoded.number, decoded.offset), max_size)),
+        }
     }
 }
 
-/// The fields that a decoder lends, owned.
-fn own_fields(decoder: &mut ConnectionDecoder) -> Result<Decoded, DecoderError> {
-    let lent = decoder.fields()?;
+/// How many bytes of a section are taken for a line, where room is made before it is decoded.
+const LINE_LEN: usize = 4;
+
+/// Fields that are lent, owned.
+fn own_fields(lent: Fields<'_>) -> Result<Decoded, DecoderError> {
     let mut decoded = Decoded { fields: Vec::new(), dyn_ref: false, mem_size: 0 };
     make_room(&mut decoded.fields, lent.len())?;
     for FieldLine { name, value, .. } in lent {
@@ -206,12 +210,12 @@ fn own_fields(decoder: &mut ConnectionDecoder) -> Result<Decoded, DecoderError> 
     Ok(decoded)
 }
 
-/// The refusal of a section, of a decoder with this limit.
-fn refusal_of(error: DecodingError, max_size: u64) -> DecoderError {
-    match error {
-        DecodingError::TooLarge => DecoderError::HeaderTooLong(max_size.saturating_add(1)),
-        DecodingError::NoMemory { .. } => DecoderError::Memory,
-        DecodingError::DecompressionFailed { line } => DecoderError::Decompression(line),
-        error => unreachable!("a decoder that reads one section of stream 0 refuses no otherwise: {error}"),
+/// The refusal of a section with this status, at this line, where the limit is this one.
+fn refusal_of(status: i32, line: Option<Place>, max_size: u64) -> DecoderError {
+    match status {
+        sys::TOO_LARGE => DecoderError::HeaderTooLong(max_size.saturating_add(1)),
+        sys::NO_MEMORY => DecoderError::Memory,
+        DECOMPRESSION_FAILED => DecoderError::Decompression(line),
+        status => unreachable!("a section that is read alone is not refused with {status}"),
     }
 }

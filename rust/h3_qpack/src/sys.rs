@@ -89,11 +89,22 @@ pub(crate) struct Decoded {
     pub(crate) offset: u64,
 }
 
+/// What decoding without an end answers: `h3_qpack_decoded_alone`.
+#[repr(C)]
+pub(crate) struct DecodedAlone {
+    pub(crate) status: i32,
+    pub(crate) fields: usize,
+    pub(crate) len: usize,
+    pub(crate) number: u64,
+    pub(crate) offset: u64,
+}
+
 /// What is told of a field: `h3_qpack_field`.
 #[repr(C)]
+#[derive(Clone, Copy)]
 pub(crate) struct Given {
-    pub(crate) status: i32,
-    pub(crate) flags: u32,
+    status: i32,
+    flags: u32,
     pub(crate) name_len: usize,
     pub(crate) value_len: usize,
 }
@@ -138,7 +149,13 @@ extern "C" {
     fn h3q_decoder_new(max_capacity: usize, max_blocked: usize, max_section_size: u64, at: *mut *mut c_void) -> i32;
     fn h3q_decoder_free(decoder: Handle);
     fn h3q_decoder_decode(decoder: *mut Handle, stream_id: u64, section: *const u8, section_len: usize) -> Decoded;
-    fn h3q_decoder_field(decoder: *mut Handle, index: usize, out: *mut u8, out_len: usize) -> Given;
+    fn h3q_decoder_fields(
+        decoder: *mut Handle,
+        fields: *mut Given,
+        fields_len: usize,
+        out: *mut u8,
+        out_len: usize,
+    ) -> Written;
     fn h3q_decoder_read(decoder: *mut Handle, bytes: *const u8, bytes_len: usize) -> Received;
     fn h3q_decoder_insert_count(decoder: *mut Handle) -> usize;
     fn h3q_decoder_blocked(decoder: *mut Handle) -> usize;
@@ -152,6 +169,15 @@ extern "C" {
         section: *mut u8,
         section_len: usize,
     ) -> Written;
+    fn h3q_decode_stateless(
+        section: *const u8,
+        section_len: usize,
+        max_section_size: u64,
+        fields: *mut Given,
+        fields_len: usize,
+        out: *mut u8,
+        out_len: usize,
+    ) -> DecodedAlone;
 }
 
 /// The version of the archive: 65,536 for each breaking change, and 1 for each addition.
@@ -161,20 +187,20 @@ pub(crate) fn version() -> u32 {
 }
 
 /// The room behind what a vector holds, to be written by a call. It may not be initialised; no call reads it.
-fn room_of(bytes: &mut Vec<u8>) -> (*mut u8, usize) {
-    let room = bytes.spare_capacity_mut();
+fn room_of<T>(items: &mut Vec<T>) -> (*mut T, usize) {
+    let room = items.spare_capacity_mut();
     (room.as_mut_ptr().cast(), room.len())
 }
 
-/// Takes so many bytes for written that a call wrote to the room behind what a vector holds.
+/// Takes so many items for written that a call wrote to the room behind what a vector holds.
 ///
 /// # Safety
-/// The first `len` bytes of that room are initialised.
-unsafe fn take_written(bytes: &mut Vec<u8>, len: usize) {
-    let len = bytes.len() + len;
-    assert!(len <= bytes.capacity(), "a call wrote past its room");
+/// The first `len` items of that room are initialised.
+unsafe fn take_written<T>(items: &mut Vec<T>, len: usize) {
+    let len = items.len() + len;
+    assert!(len <= items.capacity(), "a call wrote past its room");
     // SAFETY: so many lie within the capacity, and the caller says that they are initialised.
-    unsafe { bytes.set_len(len) }
+    unsafe { items.set_len(len) }
 }
 
 /// Encodes fields without a table, to the room behind what a vector holds.
@@ -188,6 +214,35 @@ pub(crate) fn encode_stateless(fields: &[Lent<'_>], section: &mut Vec<u8>) -> Wr
             take_written(section, written.len);
         }
         written
+    }
+}
+
+/// Decodes a section without a table, to the room behind what two vectors hold: what is told of each field, and their
+/// names and values one behind the other.
+pub(crate) fn decode_stateless(
+    section: &[u8],
+    max_section_size: u64,
+    told: &mut Vec<Given>,
+    bytes: &mut Vec<u8>,
+) -> DecodedAlone {
+    let ((fields, fields_len), (room, room_len)) = (room_of(told), room_of(bytes));
+    // SAFETY: the section and both rooms are lent for the length of the call, and do not overlap. At status OK the call
+    // wrote `fields` items and `len` bytes to the rooms.
+    unsafe {
+        let decoded = h3q_decode_stateless(
+            section.as_ptr(),
+            section.len(),
+            max_section_size,
+            fields,
+            fields_len,
+            room,
+            room_len,
+        );
+        if decoded.status == OK {
+            take_written(told, decoded.fields);
+            take_written(bytes, decoded.len);
+        }
+        decoded
     }
 }
 
@@ -295,17 +350,19 @@ impl Decoder {
         unsafe { h3q_decoder_decode(self.handle.get_mut(), stream_id, section.as_ptr(), section.len()) }
     }
 
-    /// Writes a field of the section that was decoded last to the room behind what a vector holds, if it fits.
-    pub(crate) fn field(&mut self, index: usize, bytes: &mut Vec<u8>) -> Given {
-        let (room, room_len) = room_of(bytes);
-        // SAFETY: the end is one that `new` made, and the room is lent for the length of the call, which at status OK
-        // wrote the name and the value to it.
+    /// Writes the fields of the section that was decoded last, of which there are so many, to the room behind what two
+    /// vectors hold, if all fit: what is told of each, and their names and values one behind the other.
+    pub(crate) fn fields(&mut self, count: usize, told: &mut Vec<Given>, bytes: &mut Vec<u8>) -> Written {
+        let ((fields, fields_len), (room, room_len)) = (room_of(told), room_of(bytes));
+        // SAFETY: the end is one that `new` made, and both rooms are lent for the length of the call, and do not overlap.
+        // At status OK the call wrote an item for each field, of which the end told `count`, and `len` bytes.
         unsafe {
-            let given = h3q_decoder_field(self.handle.get_mut(), index, room, room_len);
-            if given.status == OK {
-                take_written(bytes, given.name_len + given.value_len);
+            let written = h3q_decoder_fields(self.handle.get_mut(), fields, fields_len, room, room_len);
+            if written.status == OK {
+                take_written(told, count);
+                take_written(bytes, written.len);
             }
-            given
+            written
         }
     }
 

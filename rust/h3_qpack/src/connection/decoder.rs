@@ -2,11 +2,9 @@
 
 use super::error::{DecodingError, NoMemory, Place, SettingsError};
 use super::take_all;
-use crate::field::FieldLine;
-use crate::room::make_room;
+use crate::copied::{Copied, Fields};
 use crate::sys;
 use std::fmt;
-use std::iter::FusedIterator;
 
 /// What a decoder is made from: the settings that this side sends.
 #[derive(Debug, Clone, Copy, PartialEq, Eq)]
@@ -52,24 +50,12 @@ pub struct ConnectionDecoder {
     end: sys::Decoder,
     /// How many fields the section has that was decoded last.
     count: usize,
-    /// Those of its fields that were copied already.
+    /// Its fields, if they were copied already.
     copied: Copied,
 }
 
-/// Fields that were copied: the names and values one behind the other, and what is told of each field.
-#[derive(Default)]
-struct Copied {
-    bytes: Vec<u8>,
-    lines: Vec<Line>,
-}
-
-/// The lengths of a field's parts, in bytes, and its mark.
-#[derive(Clone, Copy)]
-struct Line {
-    name_len: usize,
-    value_len: usize,
-    never_indexed: bool,
-}
+/// The room that is made at first for the names and values of a section, in bytes.
+const FIRST_ROOM: usize = 1024;
 
 impl ConnectionDecoder {
     /// Makes a decoder.
@@ -106,12 +92,24 @@ impl ConnectionDecoder {
     /// # Errors
     /// Want of memory to copy them to; the call can be made again.
     pub fn fields(&mut self) -> Result<Fields<'_>, NoMemory> {
-        let copied = self.copied.lines.len();
-        make_room(&mut self.copied.lines, self.count - copied)?;
-        for index in copied..self.count {
-            self.copied.copy(&mut self.end, index)?;
+        if self.copied.told.len() < self.count {
+            self.copy_fields(FIRST_ROOM)?;
         }
-        Ok(Fields { lines: self.copied.lines.iter(), bytes: &self.copied.bytes })
+        Ok(self.copied.fields())
+    }
+
+    /// Copies the fields of the section that was decoded last, in room for so many bytes of their names and values, or
+    /// in as much as they want.
+    fn copy_fields(&mut self, bytes: usize) -> Result<(), NoMemory> {
+        let copied = &mut self.copied;
+        copied.make_room(self.count, bytes)?;
+        let mut written = self.end.fields(self.count, &mut copied.told, &mut copied.bytes);
+        if written.status == sys::NO_ROOM {
+            copied.make_room(self.count, written.len)?;
+            written = self.end.fields(self.count, &mut copied.told, &mut copied.bytes);
+        }
+        assert_eq!(written.status, sys::OK, "the fields fit in the room that was told");
+        Ok(())
     }
 
     /// Receives the next bytes of the encoder stream, behind its type. Afterwards [`next_ready`](Self::next_ready)
@@ -179,64 +177,5 @@ impl ConnectionDecoder {
 impl fmt::Debug for ConnectionDecoder {
     fn fmt(&self, f: &mut fmt::Formatter<'_>) -> fmt::Result {
         f.debug_struct("ConnectionDecoder").finish_non_exhaustive()
-    }
-}
-
-impl Copied {
-    /// Forgets the fields, and keeps the memory.
-    fn clear(&mut self) {
-        self.bytes.clear();
-        self.lines.clear();
-    }
-
-    /// Copies a field of the section that an end decoded last, for whose line there is room.
-    fn copy(&mut self, end: &mut sys::Decoder, index: usize) -> Result<(), NoMemory> {
-        let mut given = end.field(index, &mut self.bytes);
-        if given.status == sys::NO_ROOM {
-            let wanted = given.name_len.saturating_add(given.value_len).max(FIRST_ROOM);
-            make_room(&mut self.bytes, wanted)?;
-            given = end.field(index, &mut self.bytes);
-        }
-        assert_eq!(given.status, sys::OK, "the decoder has the fields that it told");
-        let never_indexed = given.is_never_indexed();
-        self.lines.push(Line { name_len: given.name_len, value_len: given.value_len, never_indexed });
-        Ok(())
-    }
-}
-
-/// The least room that is made for fields, in bytes.
-const FIRST_ROOM: usize = 1024;
-
-/// The fields of a section, which a decoder lends until its next call.
-#[derive(Clone)]
-pub struct Fields<'a> {
-    lines: std::slice::Iter<'a, Line>,
-    /// The names and values of the fields that are left.
-    bytes: &'a [u8],
-}
-
-impl<'a> Iterator for Fields<'a> {
-    type Item = FieldLine<'a>;
-
-    fn next(&mut self) -> Option<FieldLine<'a>> {
-        let line = self.lines.next()?;
-        let (name, rest) = self.bytes.split_at(line.name_len);
-        let (value, rest) = rest.split_at(line.value_len);
-        self.bytes = rest;
-        Some(FieldLine { name, value, never_indexed: line.never_indexed })
-    }
-
-    fn size_hint(&self) -> (usize, Option<usize>) {
-        self.lines.size_hint()
-    }
-}
-
-impl ExactSizeIterator for Fields<'_> {}
-
-impl FusedIterator for Fields<'_> {}
-
-impl fmt::Debug for Fields<'_> {
-    fn fmt(&self, f: &mut fmt::Formatter<'_>) -> fmt::Result {
-        f.debug_list().entries(self.clone()).finish()
     }
 }
