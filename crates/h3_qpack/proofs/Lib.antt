@@ -10,6 +10,7 @@ pub mod Instructions
 pub mod Increments
 pub mod Counts
 pub mod Hearing
+pub mod StaticMatches
 pub mod Additions
 pub mod Rooms
 pub mod Stills

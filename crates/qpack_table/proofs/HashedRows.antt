@@ -1,14 +1,14 @@
 -- The row of a part among the rows.
-use Rattle.std.proofs.Common.{◌≡◌, ℕ, ◌+◌, ◌-◌, ◌<◌, ◌≤◌, [], List, length, get_or, set, map, refl, sym, ap, true, false}
-use Rattle.std.proofs.Common.{subst, ◌∙◌, inl, inr, ◌⊎◌, arith, eqb}
-use Rattle.std.specs.Prelude.{Contains, vec_len, vec_capacity}
+use Rattle.std.proofs.Common.{◌≡◌, ℕ, ◌<◌, [], List, length, get_or, set, refl, sym, ap}
+use Rattle.std.proofs.Common.{subst, ◌∙◌, inl, inr, ◌⊎◌, arith}
+use Rattle.std.specs.Prelude.{Contains}
 use Rattle.std.proofs.lemmas.Bool.{cases_eq}
 use Rattle.std.specs.List.{All}
 use Rattle.std.proofs.lemmas.List.{length-set, get_or-set_other, get_or-set_same}
 use Rattle.std.proofs.lemmas.List.Elements.{All-get_or}
 use Rattle.qpack_spec.specs.Field.{Field}
 use Rattle.qpack_table.specs.Hashes.{position_among}
-use Rattle.qpack_table.specs.Rows.{hash_of, field_at, part_of, IsRow}
+use Rattle.qpack_table.specs.Rows.{hash_of, part_of, IsRow, HasRoom}
 use Rattle.qpack_table.specs.Indexes.{home, AreRowsOf, HasRoomFor}
 use Rattle.qpack_table.specs.declared.dynamic.index.row.Part.{Part}
 use Rattle.qpack_table.specs.declared.dynamic.index.row.Row.{Row}
@@ -33,30 +33,26 @@ row_there part dropped live entered rows are k r within read =
 -- ---- room
 
 pub room_there : (rows : List Row) (hash k : ℕ) (r : Row) → HasRoomFor rows hash → position_among (length rows) hash ≡ k
-    → r ≡ get_or rows k r → vec_len r.slots < vec_capacity r.slots
+    → r ≡ get_or rows k r → HasRoom r
 room_there rows hash k r has here read =
-    subst (λ (x : Row). vec_len x.slots < vec_capacity x.slots)
+    subst HasRoom
     (ap (λ (i : ℕ). get_or rows i r) here ∙ sym read) (has.room r)
 
--- a row that doesn't grow keeps its room
+-- a row that keeps its room leaves the others theirs
 pub room_left : (rows : List Row) (k : ℕ) (r new : Row) (hash : ℕ) → k < length rows → r ≡ get_or rows k r
-    → vec_len new.slots ≤ vec_len r.slots → vec_capacity new.slots ≡ vec_capacity r.slots
-    → HasRoomFor rows hash → HasRoomFor (set rows k new) hash
-room_left rows k r new hash within read shorter capacity has = record {
+    → (HasRoom r → HasRoom new) → HasRoomFor rows hash → HasRoomFor (set rows k new) hash
+room_left rows k r new hash within read keeps has = record {
   some = omega (arith, has.some, length-set rows k new);
   room = λ d. subst (λ (n : ℕ). HasRoom (get_or (set rows k new) (position_among n hash) d))
       (sym (length-set rows k new))
       (pick (position_among (length rows) hash) d refl (cases_eq (position_among (length rows) hash) k));
 }
   where
-    HasRoom : Row → Type 0
-    HasRoom x = vec_len x.slots < vec_capacity x.slots
-
     pick : (j : ℕ) (d : Row) → position_among (length rows) hash ≡ j → (j ≡ k) ⊎ (j ≡ k → ⊥) → HasRoom (get_or (set
         rows k new) j d)
     pick j d at (inl e) =
         let old = room_there rows hash k r has (at ∙ e) read in
-        let now : HasRoom new = omega (arith, old, shorter, capacity) in
+        let now : HasRoom new = keeps old in
         subst HasRoom (sym (ap (λ (i : ℕ). get_or (set rows k new) i d) e ∙ get_or-set_same rows k new d within)) now
     pick j d at (inr ne) =
         subst HasRoom (sym (get_or-set_other rows k j new d ne))

@@ -22,5 +22,6 @@ pub mod WholeIndexes
 pub mod Released
 pub mod Products
 pub mod Sent
+pub mod SoughtFields
 pub mod Insertions
 pub mod Greatest

@@ -1,12 +1,11 @@
 -- A row behind a change of the entries.
-use Rattle.std.proofs.Common.{◌≡◌, ℕ, ◌+◌, ◌-◌, ◌<◌, ◌≤◌, [], ◌∷◌, ◌++◌, List, length, get_or, drop, sym, ap}
+use Rattle.std.proofs.Common.{◌≡◌, ℕ, ◌+◌, ◌-◌, ◌<◌, [], ◌∷◌, ◌++◌, List, length, get_or, drop, sym, ap}
 use Rattle.std.proofs.Common.{◌∙◌, inl, inr, arith}
 use Rattle.std.specs.Prelude.{Contains}
-use Rattle.std.specs.declared.cmp.Ordering.TheVariants.{Less}
 use Rattle.std.proofs.lemmas.Bool.{cases_lt}
 use Rattle.std.proofs.lemmas.List.{length-drop, length-append, get_or-drop, get_or_append_left, get_or_default}
 use Rattle.qpack_spec.specs.Field.{Field}
-use Rattle.qpack_table.specs.Rows.{Key, key_cmp, key_at, part_of, hash_of, field_at, IsLiveIndex, IsSlot, IsRow}
+use Rattle.qpack_table.specs.Rows.{Key, key_cmp, part_of, hash_of, field_at, IsLiveIndex, IsRow}
 use Rattle.qpack_table.specs.declared.dynamic.index.row.Part.{Part}
 use Rattle.qpack_table.specs.declared.dynamic.index.row.Slot.{Slot}
 

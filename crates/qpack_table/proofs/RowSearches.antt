@@ -1,16 +1,14 @@
 -- A halving search in a row.
-use Rattle.std.proofs.Common.{◌≡◌, ℕ, ◌+◌, ◌-◌, ◌<◌, ◌≤◌, Bool, true, false, List, [], length, get_or}
-use Rattle.std.proofs.Common.{refl, sym, ap, subst, ◌∙◌, inl, inr, arith}
+use Rattle.std.proofs.Common.{◌≡◌, ℕ, ◌+◌, ◌-◌, ◌<◌, ◌≤◌, List, [], length, get_or}
+use Rattle.std.proofs.Common.{sym, ap, subst, ◌∙◌, inl, inr, arith}
 use Rattle.std.specs.Prelude.{Contains}
-use Rattle.std.specs.declared.cmp.Ordering.{Ordering}
 use Rattle.std.specs.declared.cmp.Ordering.TheVariants.{Less, Equal, Greater}
 use Rattle.std.proofs.lemmas.Bool.{cases_lt}
 use Rattle.std.proofs.lemmas.List.{get_or_default}
-use Rattle.std.proofs.lemmas.List.Elements.{Contains-get_or}
 use Rattle.qpack_base.specs.HeaderFields.{field_of}
 use Rattle.qpack_spec.specs.Field.{Field}
-use Rattle.qpack_table.specs.Rows.{Key, key_cmp, key_at, part_of, part_at, field_at, IsLiveIndex, IsSlot, IsRow, IsMatch}
-use Rattle.qpack_table.specs.Rows.{IsGap, FindsSlot, hash_of}
+use Rattle.qpack_table.specs.Rows.{Key, key_cmp, key_at, part_of, part_at, field_at, IsSlot, IsRow, IsMatch}
+use Rattle.qpack_table.specs.Rows.{IsGap, hash_of}
 use Rattle.qpack_table.specs.Tables.{live_fields}
 use Rattle.qpack_table.specs.declared.dynamic.entry.Entry.{Entry}
 use Rattle.qpack_table.specs.declared.dynamic.index.row.Part.{Part}
@@ -18,6 +16,13 @@ use Rattle.qpack_table.specs.declared.dynamic.index.row.Slot.{Slot}
 use Rattle.qpack_table.proofs.RowOrder.{before_less, behind_greater, same_part, same_hash, tie_of}
 use Rattle.qpack_table.proofs.RowOrder.{not_less_and_equal, not_greater_and_equal}
 use Rattle.qpack_table.proofs.Lookups.{fields_long, field_read}
+
+-- the slot that is read there
+pub slot_at : (row slots : List Slot) (position : ℕ) (d : Slot) → slots ≡ row → position < length row
+    → get_or slots position d ≡ get_or row position (get_or slots position d)
+slot_at row slots position d same within =
+    ap (λ (xs : List Slot). get_or xs position d) same
+    ∙ get_or_default row position d (get_or slots position d) within
 
 -- what is known between two positions: before the lower one all come before what is sought, and from the higher one
 -- on all come behind it

@@ -1,12 +1,12 @@
 -- Rows behind a change of the entries or of one row.
 use Rattle.std.proofs.Common.{◌≡◌, ℕ, ◌+◌, ◌-◌, ◌<◌, ◌≤◌, ◌∷◌, [], ◌++◌, List, length, get_or, set, drop, sym, ap}
-use Rattle.std.proofs.Common.{subst, ◌∙◌, refl}
+use Rattle.std.proofs.Common.{subst, ◌∙◌}
 use Rattle.std.proofs.Common.{inl, inr, ◌⊎◌, arith}
 use Rattle.std.specs.Prelude.{Contains}
 use Rattle.std.proofs.lemmas.Bool.{cases_lt, cases_eq}
 use Rattle.std.proofs.lemmas.List.{length-drop, length-append, length-set, get_or-set_other, get_or-set_same}
 use Rattle.qpack_spec.specs.Field.{Field}
-use Rattle.qpack_table.specs.Rows.{field_at, part_of, part_at, IsLiveIndex, IsRow, Enters, Leaves}
+use Rattle.qpack_table.specs.Rows.{field_at, part_of, part_at, IsRow, Enters, Leaves}
 use Rattle.qpack_table.specs.Indexes.{home, HasSlotOf, AreRowsOf}
 use Rattle.qpack_table.specs.declared.dynamic.index.row.Part.{Part}
 use Rattle.qpack_table.specs.declared.dynamic.index.row.Row.{Row}

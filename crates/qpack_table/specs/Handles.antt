@@ -1,7 +1,10 @@
 -- What the encoder's handle answers.
-use Rattle.std.specs.Prelude.{◌≡◌, ℕ, ◌<◌, ⊤, [], Result, Ok, Err, Option, Some, None}
+use Rattle.std.specs.Prelude.{◌≡◌, ℕ, ◌<◌, ⊤, [], Result, Ok, Err, Option, Some, None, IfSome}
 use Rattle.std.specs.Prelude.{if◌then◌else◌, nat_lt}
+use Rattle.qpack_spec.specs.Field.{Field, is_field}
+use Rattle.qpack_spec.specs.StaticTable.{static_name_index}
 use Rattle.qpack_spec.specs.Table as table
+use Rattle.qpack_spec.specs.Table.{newest_index}
 use Rattle.qpack_spec.specs.Handle.{Lookup, AtStatic, AtRelative, AtPostBase, Found, Insertion, Insertable}
 use Rattle.qpack_spec.specs.Handle as handle
 use Rattle.qpack_table.specs.declared.dynamic.Error.{Error}
@@ -14,6 +17,9 @@ use Rattle.qpack_table.specs.declared.dynamic.encoder.DynamicInsertionResult.The
 use Rattle.qpack_table.specs.declared.dynamic.encoder.DynamicInsertionResult.TheVariants.{InsertedWithNameRef}
 use Rattle.qpack_table.specs.declared.dynamic.encoder.DynamicInsertionResult.TheVariants.{InsertedWithStaticNameRef}
 use Rattle.qpack_table.specs.declared.dynamic.encoder.DynamicInsertionResult.TheVariants.{NotInserted}
+use Rattle.qpack_table.specs.declared.dynamic.sought.FoundField.{FoundField}
+use Rattle.qpack_table.specs.declared.dynamic.sought.SoughtField.{SoughtField}
+use Rattle.qpack_table.specs.Indexes.{AreHashesOf}
 
 -- where a field or its name was found
 abbrev pub lookup_of : DynamicLookupResult → Lookup
@@ -30,6 +36,22 @@ insertion_of (InsertedWithNameRef postbase relative absolute) = handle.InsertedW
 insertion_of (InsertedWithStaticNameRef postbase index absolute) =
     handle.InsertedWithStaticName postbase index absolute
 insertion_of (NotInserted lookup) = handle.NotInserted (lookup_of lookup)
+
+-- what is known of a field that was sought in a table: its hashes, unless there was no entry, the newest entry that is
+-- it, and the least static field of its name
+pub record IsSoughtIn (t : table.Table) (f : Field) (sought : SoughtField) : Type 0 where
+  pub hashes : IfSome sought.hashes (λ hashes. AreHashesOf hashes f)
+  pub newest : sought.newest ≡ newest_index t (is_field f)
+  pub static_name : sought.static_name ≡ static_name_index f.name
+
+-- the same of one that was found
+abbrev pub IsFoundIn : table.Table → Field → FoundField → Type 0
+IsFoundIn t f found = IsSoughtIn t f found.sought
+
+-- where a field was found that is sought for more than that
+abbrev pub lookup_in : Result FoundField Error → Result DynamicLookupResult Error
+lookup_in (Ok found) = Ok found.lookup
+lookup_in (Err e) = Err e
 
 -- an absolute index, unless the entry was dropped
 abbrev pub kept_index : Option ℕ → ℕ → Option ℕ

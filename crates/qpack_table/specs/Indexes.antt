@@ -1,12 +1,12 @@
 -- The index of the dynamic table's live entries: rows of absolute indexes, cut by a hash of a part of their fields.
-use Rattle.std.specs.Prelude.{◌≡◌, ◌≢◌, ℕ, ◌+◌, ◌-◌, ◌<◌, ◌≤◌, Bool, List, length, Option, MatchOption, Contains}
-use Rattle.std.specs.Prelude.{slice_index_or, vec_len, vec_capacity}
+use Rattle.std.specs.Prelude.{◌≡◌, ◌≢◌, ℕ, ◌+◌, ◌<◌, ◌≤◌, Bool, List, length, Option, MatchOption, Contains}
+use Rattle.std.specs.Prelude.{slice_index_or}
 use Rattle.std.specs.VecDeque.{deque_len, deque_capacity}
 use Rattle.qpack_spec.specs.Field.{Field}
 use Rattle.qpack_spec.specs.Table as table
 use Rattle.qpack_spec.specs.Table.{Table, newest_index}
 use Rattle.qpack_table.specs.Hashes.{field_hash, name_hash, position_among}
-use Rattle.qpack_table.specs.Rows.{field_at, part_at, hash_of, IsLiveIndex, IsRow}
+use Rattle.qpack_table.specs.Rows.{field_at, part_at, hash_of, IsLiveIndex, IsRow, HasRoom}
 use Rattle.qpack_table.specs.declared.dynamic.index.Index.{Index}
 use Rattle.qpack_table.specs.declared.dynamic.index.hash.Hashes.{Hashes}
 use Rattle.qpack_table.specs.declared.dynamic.index.row.Part.{Part}
@@ -40,8 +40,7 @@ pub record AreRowsOf (part : Part) (dropped : ℕ) (live : List Field) (entered 
 -- the row of a hash has room for one more
 pub record HasRoomFor (rows : List Row) (hash : ℕ) : Type 0 where
   pub some : 0 < length rows
-  pub room : (d : Row) → vec_len ((slice_index_or rows (position_among (length rows) hash) d).slots)
-      < vec_capacity ((slice_index_or rows (position_among (length rows) hash) d).slots)
+  pub room : (d : Row) → HasRoom (slice_index_or rows (position_among (length rows) hash) d)
 
 -- the newest live index with such a part, or none if no live entry has it
 abbrev pub FindsNewest : Part → ℕ → List Field → Field → Option ℕ → Type 0

@@ -6,11 +6,13 @@ use Rattle.std.specs.List.{AllPairs}
 use Rattle.std.specs.declared.cmp.Ordering.{Ordering}
 use Rattle.std.specs.declared.cmp.Ordering.TheVariants.{Less, Equal, Greater}
 use Rattle.std.specs.Ordering.{nat_cmp, ordering_then}
+use Rattle.smallvec.specs.SmallVec.{HasRoomFor}
 use Rattle.qpack_base.specs.HeaderFields.{field_cmp, line_of}
 use Rattle.qpack_spec.specs.Field.{Field}
 use Rattle.qpack_table.specs.Hashes.{field_hash, name_hash}
 use Rattle.qpack_table.specs.declared.dynamic.index.row.Part.{Part}
 use Rattle.qpack_table.specs.declared.dynamic.index.row.Part.TheVariants.{Name, Whole}
+use Rattle.qpack_table.specs.declared.dynamic.index.row.Row.{Row}
 use Rattle.qpack_table.specs.declared.dynamic.index.row.Slot.{Slot}
 use Rattle.qpack_table.specs.declared.dynamic.index.row.Sought.{Sought}
 
@@ -47,6 +49,10 @@ key_cmp k l = ordering_then (nat_cmp k.hash l.hash) (field_cmp k.field l.field)
 
 abbrev pub key_at : Part → ℕ → List Field → Slot → Key
 key_at part dropped live s = record { hash = s.hash; field = part_at part dropped live s.index }
+
+-- a row has room for one more slot
+abbrev pub HasRoom : Row → Type 0
+HasRoom row = HasRoomFor row.slots 1
 
 -- what is sought
 abbrev pub field_of_sought : Sought → Field

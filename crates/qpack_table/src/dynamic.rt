@@ -17,6 +17,7 @@ mod entry;
 mod index;
 mod lookups;
 mod newest;
+mod sought;
 mod steps;
 mod table;
 mod tracking;
@@ -24,6 +25,7 @@ mod tracking;
 pub use crate::dynamic::encoder::{
     DynamicInsertionResult, DynamicLookupResult, DynamicTableEncoder,
 };
+pub use crate::dynamic::sought::FoundField;
 pub use crate::dynamic::steps::Steps;
 pub use crate::dynamic::table::{DynamicTable, DynamicTableDecoder};
 

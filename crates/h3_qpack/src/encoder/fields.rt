@@ -1,7 +1,7 @@
 //! The fields of a block, one by one: a line for each, and an instruction for each that is inserted (RFC 9204, section
 //! 2.1).
 
-ghost use Rattle.std.specs.Prelude.{◌≡◌, ◌*◌, ◌≤◌, [], ◌∷◌, false, length, take, IfErr, OnOk, OnErr, vec_len};
+ghost use Rattle.std.specs.Prelude.{◌≡◌, ◌*◌, ◌≤◌, [], ◌∷◌, false, None, length, take, IfErr, OnOk, OnErr, vec_len};
 ghost use Rattle.std.specs.Prelude.{vec_capacity};
 ghost use Rattle.qpack_spec.specs.Field.{field_size};
 ghost use Rattle.qpack_spec.specs.Handle.{insert_field, with_insertion, with_found, find_field};
@@ -10,7 +10,8 @@ ghost use Rattle.qpack_spec.specs.Line.{written_line, written_marked_line};
 ghost use Rattle.qpack_base.specs.HeaderFields.{line_of};
 ghost use Rattle.qpack_base.specs.Writes.{Writes};
 ghost use Rattle.qpack_base.specs.declared.prefix_string.Error.TheVariants.{Memory as NoRoom};
-ghost use Rattle.qpack_table.specs.Handles.{insertion_of, lookup_of};
+ghost use Rattle.qpack_spec.specs.StaticTable.{static_index, static_name_index};
+ghost use Rattle.qpack_table.specs.Handles.{insertion_of, lookup_of, IsFoundIn};
 ghost use Rattle.h3_qpack.specs.Encoding.{written_insertion, draft_at, draft_of_field, Adds, GrowsWithin, StopsAdding};
 ghost use Rattle.h3_qpack.specs.Encoding.{draft_of_line, AddsLines};
 ghost use Rattle.h3_qpack.specs.declared.encoder.EncoderError.TheVariants.{Memory};
@@ -19,8 +20,10 @@ use crate::encoder::EncoderError;
 use crate::encoder::room::make_room;
 use qpack_base::field::FieldLine;
 use qpack_base::prefix_string;
-use qpack_base::static_::StaticTable;
-use qpack_table::dynamic::{DynamicInsertionResult, DynamicLookupResult, DynamicTableEncoder};
+use qpack_base::static_::{StaticMatch, StaticTable};
+use qpack_table::dynamic::{
+    DynamicInsertionResult, DynamicLookupResult, DynamicTableEncoder, FoundField,
+};
 use qpack_wire::block::{
     Indexed, IndexedWithPostBase, Literal, LiteralWithNameRef, LiteralWithPostBaseNameRef,
 };
@@ -83,23 +86,60 @@ fn append_field<A: Allocator, B: Allocator>(
         (vec_len lines.new ≤ vec_capacity lines.old → vec_capacity lines.new ≡ vec_capacity lines.old) }
     ensures instructions { GrowsWithin (4 * field_size (line_of field.now).field) encoder_buf.old encoder_buf.new }
 {
-    if let Some(index) = StaticTable::find_line(field) {
-        return Ok(Indexed::Static(index).encode(lines)?);
+    match StaticTable::lookup(field.name, field.value) {
+        Some(StaticMatch::Field(index)) => Ok(Indexed::Static(index).encode(lines)?),
+        Some(StaticMatch::Name(index)) => {
+            append_dynamic(block, field, Some(index), lines, encoder_buf)
+        }
+        None => append_dynamic(block, field, None, lines, encoder_buf),
     }
-    if let DynamicLookupResult::Relative { index, .. } = block.find_line(field)? {
-        return Ok(Indexed::Dynamic(index).encode(lines)?);
-    }
-    append_insertion(block, field, lines, encoder_buf)
 }
 
-/// Inserts a field, or writes it as a literal. Room for the instruction is made before the insertion.
-fn append_insertion<A: Allocator, B: Allocator>(
+/// Adds a field that no static field is equal to, and whose name the static table has at this index if at any: the
+/// newest equal entry, an insertion or a literal.
+fn append_dynamic<A: Allocator, B: Allocator>(
     block: &mut DynamicTableEncoder<'_>,
     field: &FieldLine<'_>,
+    static_name: Option<usize>,
     lines: &mut Vec<u8, A>,
     encoder_buf: &mut Vec<u8, B>,
 ) -> Result<(), EncoderError>
     requires unmarked { field.now.never_indexed ≡ false }
+    requires no_static { static_index (line_of field.now).field ≡ None }
+    requires static_name { static_name ≡ static_name_index (line_of field.now).field.name }
+    ensures same_table { block.new.table.ghost_name ≡ block.old.table.ghost_name }
+    ensures stream { block.new.stream_id ≡ block.old.stream_id }
+    ensures base { block.new.base ≡ block.old.base }
+    ensures ok { OnOk result (Adds (draft_of_field block.old.table.now block.old.base (line_of field.now).field)
+        block.new.table.now lines.old.items lines.new.items encoder_buf.old.items encoder_buf.new.items) }
+    ensures err { OnErr result (StopsAdding (draft_of_field block.old.table.now block.old.base (line_of
+        field.now).field)
+        block.old.table.now block.new.table.now encoder_buf.old.items encoder_buf.new.items) }
+    ensures as_before { OnErr result (take (vec_len lines.old) lines.new.items ≡ lines.old.items) }
+    ensures memory { IfErr result (λ e. e ≡ Memory) }
+    ensures capacity { vec_capacity lines.old ≤ vec_capacity lines.new }
+    ensures still { OnOk result
+        (vec_len lines.new ≤ vec_capacity lines.old → vec_capacity lines.new ≡ vec_capacity lines.old) }
+    ensures instructions { GrowsWithin (4 * field_size (line_of field.now).field) encoder_buf.old encoder_buf.new }
+{
+    let found = block.find_and_keep(field, static_name)?;
+    if let DynamicLookupResult::Relative { index, .. } = found.lookup {
+        return Ok(Indexed::Dynamic(index).encode(lines)?);
+    }
+    append_insertion(block, field, &found, lines, encoder_buf)
+}
+
+/// Inserts a field that was looked for, or writes it as a literal. Room for the instruction is made before the
+/// insertion.
+fn append_insertion<A: Allocator, B: Allocator>(
+    block: &mut DynamicTableEncoder<'_>,
+    field: &FieldLine<'_>,
+    found: &FoundField,
+    lines: &mut Vec<u8, A>,
+    encoder_buf: &mut Vec<u8, B>,
+) -> Result<(), EncoderError>
+    requires unmarked { field.now.never_indexed ≡ false }
+    requires found { IsFoundIn block.old.table.now (line_of field.now).field found.now }
     ensures same_table { block.new.table.ghost_name ≡ block.old.table.ghost_name }
     ensures stream { block.new.stream_id ≡ block.old.stream_id }
     ensures base { block.new.base ≡ block.old.base }
@@ -117,7 +157,7 @@ fn append_insertion<A: Allocator, B: Allocator>(
     ensures instructions { GrowsWithin (4 * field_size (line_of field.now).field) encoder_buf.old encoder_buf.new }
 {
     make_room(encoder_buf, instruction_room(block, field))?;
-    let insertion = block.insert_line(field)?;
+    let insertion = block.insert_found(field, found)?;
     write_instruction(field, &insertion, encoder_buf)?;
     Ok(append_inserted(field, insertion, lines)?)
 }

@@ -1,6 +1,6 @@
 //! An encoder's handle on the table: a block in progress, which references entries (RFC 9204, section 2.1).
 
-ghost use Rattle.std.specs.Prelude.{◌≡◌, ◌<◌, ◌≤◌, ◌^◌};
+ghost use Rattle.std.specs.Prelude.{◌≡◌, ◌<◌, ◌≤◌, ◌^◌, IfOk};
 ghost use Rattle.qpack_base.specs.HeaderFields.{field_of, line_of};
 ghost use Rattle.qpack_spec.specs.Field.{total_size};
 ghost use Rattle.qpack_spec.specs.Handle.{find_field, found_name, insert_field};
@@ -8,9 +8,10 @@ ghost use Rattle.qpack_spec.specs.Reading.{greatest_of};
 ghost use Rattle.qpack_spec.specs.StaticTable.{static_name_index};
 ghost use Rattle.qpack_spec.specs.Table.{fields_in, insert_count, without_references};
 ghost use Rattle.qpack_spec.specs.Window.{maximum_capacity};
-ghost use Rattle.qpack_table.specs.Handles.{Finds, Inserts, Commits};
+ghost use Rattle.qpack_table.specs.Handles.{Finds, Inserts, Commits, IsFoundIn, lookup_in};
 
 use crate::dynamic::Error;
+use crate::dynamic::sought::FoundField;
 use crate::dynamic::table::DynamicTable;
 use qpack_base::field::{FieldLine, HeaderField};
 
@@ -149,6 +150,24 @@ impl DynamicTableEncoder<'_> {
         self.table.find_field(self.base, field)
     }
 
+    /// The same of a field that is lent, whose name the static table has at this index if at any. What was sought is kept
+    /// with the answer, for `insert_found`.
+    pub fn find_and_keep(
+        &mut self,
+        field: &FieldLine<'_>,
+        static_name: Option<usize>,
+    ) -> Result<FoundField, Error>
+        requires { static_name ≡ static_name_index (line_of field.now).field.name }
+        ensures same_table { self.new.table.ghost_name ≡ self.old.table.ghost_name }
+        ensures stream { self.new.stream_id ≡ self.old.stream_id }
+        ensures base { self.new.base ≡ self.old.base }
+        ensures found { Finds (lookup_in result) (find_field self.old.table.now self.old.base (line_of field.now).field)
+            self.old.table.now self.new.table.now }
+        ensures kept { IfOk result (λ found. IsFoundIn self.new.table.now (line_of field.now).field found) }
+    {
+        self.table.find_and_keep(self.base, field, static_name)
+    }
+
     /// Looks for the name of a field that is lent, in the static table and then among the entries, of which the newest
     /// is referenced, if it may be. Refused, which is for memory alone, nothing changes.
     pub fn find_line_name(&mut self, field: &FieldLine<'_>) -> Result<DynamicLookupResult, Error>
@@ -183,6 +202,23 @@ impl DynamicTableEncoder<'_> {
             self.old.table.now self.new.table.now }
     {
         self.table.insert_field(self.base, field)
+    }
+
+    /// The same of a field that `find_and_keep` looked for and did not find among what may be referenced; since then
+    /// nothing was inserted. Nothing is looked for again.
+    pub fn insert_found(
+        &mut self,
+        field: &FieldLine<'_>,
+        found: &FoundField,
+    ) -> Result<DynamicInsertionResult, Error>
+        requires { IsFoundIn self.old.table.now (line_of field.now).field found.now }
+        ensures same_table { self.new.table.ghost_name ≡ self.old.table.ghost_name }
+        ensures stream { self.new.stream_id ≡ self.old.stream_id }
+        ensures base { self.new.base ≡ self.old.base }
+        ensures inserted { Inserts result (insert_field self.old.table.now self.old.base (line_of field.now).field)
+            self.old.table.now self.new.table.now }
+    {
+        self.table.insert_sought(self.base, field, found.sought())
     }
 
     /// Ends the block, whose required insert count is this. It waits for an acknowledgment if it references an entry,

@@ -7,6 +7,7 @@ ghost use Rattle.qpack_spec.specs.Field.{Field, is_field, has_name};
 ghost use Rattle.qpack_table.specs.Rows.{field_at, Counts};
 ghost use Rattle.qpack_table.specs.Tables.{entries_of, live_fields};
 ghost use Rattle.qpack_table.specs.declared.dynamic.index.hash.Hashes.{Hashes};
+ghost use Rattle.qpack_table.specs.Hashes.{name_hash};
 ghost use Rattle.qpack_table.specs.Indexes.{AreHashesOf, IsIndexOf, HasRoomForEntry, IsNewestIn};
 
 mod hash;
@@ -122,10 +123,27 @@ impl Index {
         if entries.is_empty() {
             return None;
         }
+        self.newest_hashed_name(entries, dropped, name, hash_name(name), steps)
+    }
+
+    /// The newest entry with a name that has such a hash.
+    pub(super) fn newest_hashed_name(
+        &self,
+        entries: &VecDeque<Entry>,
+        dropped: usize,
+        name: &[u8],
+        hash: u32,
+        steps: &mut Steps,
+    ) -> Option<usize>
+        requires index { IsIndexOf dropped (live_fields entries.now.items) (length entries.now.items) self.now }
+        requires hash { hash ≡ name_hash name.now }
+        ensures found { IsNewestIn dropped (entries_of entries.now.items) (has_name name.now) result }
+        ensures steps { Counts (length entries.now.items) steps.old.count steps.new.count }
+    {
         let sought = Sought {
             part: Part::Name,
             line: FieldLine::new(name, &[]),
-            hash: hash_name(name),
+            hash,
         };
         self.names.newest(entries, dropped, &sought, steps)
     }

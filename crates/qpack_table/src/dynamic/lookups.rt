@@ -11,12 +11,13 @@ ghost use Rattle.qpack_spec.specs.Table.{insert_count, has_room, eviction_count_
 ghost use Rattle.qpack_spec.specs.Table.{with_reference, with_entry, sent_entry, fields_in};
 ghost use Rattle.qpack_table.specs.declared.dynamic.Error.TheVariants.{Memory as NoRoom};
 ghost use Rattle.qpack_spec.specs.Handle as handle;
-ghost use Rattle.qpack_table.specs.Handles.{Finds, Inserts, lookup_of, insertion_of, kept_index};
+ghost use Rattle.qpack_table.specs.Handles.{Finds, Inserts, IsSoughtIn, lookup_of, insertion_of, kept_index};
 ghost use Rattle.qpack_table.specs.Indexes.{AreHashesOf};
 
 use crate::dynamic::Error;
 use crate::dynamic::encoder::{DynamicInsertionResult, DynamicLookupResult};
 use crate::dynamic::index::Hashes;
+use crate::dynamic::sought::SoughtField;
 use crate::dynamic::table::{DynamicTable, MOST_INSERTIONS};
 use qpack_base::coding::NoMemory;
 use qpack_base::field::{FieldLine, HeaderField};
@@ -53,8 +54,26 @@ impl DynamicTable {
         self.find_entry(base, newest)
     }
 
+    /// The same of a field that was sought.
+    fn find_sought_name(
+        &mut self,
+        base: usize,
+        field: &FieldLine<'_>,
+        sought: &SoughtField,
+    ) -> Result<DynamicLookupResult, Error>
+        requires sought { IsSoughtIn self.old (line_of field.now).field sought.now }
+        ensures { Finds result (found_name self.old base (line_of field.now).field
+            (static_name_index (line_of field.now).field.name)) self.old self.new }
+    {
+        if let Some(index) = sought.static_name {
+            return Ok(DynamicLookupResult::Static(index));
+        }
+        let newest = self.newest_sought_name(field.name, sought);
+        self.find_entry(base, newest)
+    }
+
     /// Finds a live entry, and references it, if there is one and it may be referenced.
-    fn find_entry(
+    pub(super) fn find_entry(
         &mut self,
         base: usize,
         newest: Option<usize>,
@@ -129,23 +148,39 @@ impl DynamicTable {
     ) -> Result<DynamicInsertionResult, Error>
         ensures { Inserts result (insert_field self.old base (line_of field.now).field) self.old self.new }
     {
+        let sought = self.seek(field, StaticTable::find_name(field.name));
+        self.insert_sought(base, field, &sought)
+    }
+
+    /// The same of a field that was sought.
+    pub(super) fn insert_sought(
+        &mut self,
+        base: usize,
+        field: &FieldLine<'_>,
+        sought: &SoughtField,
+    ) -> Result<DynamicInsertionResult, Error>
+        requires sought { IsSoughtIn self.old (line_of field.now).field sought.now }
+        ensures { Inserts result (insert_field self.old base (line_of field.now).field) self.old self.new }
+    {
         if let Some(evicted) = self.insertable(field) {
-            return self.insert_in_room(base, field, evicted);
+            return self.insert_in_room(base, field, sought, evicted);
         }
-        let lookup = self.find_name(base, field)?;
+        let lookup = self.find_sought_name(base, field, sought)?;
         Ok(DynamicInsertionResult::NotInserted(lookup))
     }
 
-    /// Inserts a field for which there is room, and references it. The search for an equal entry or one of its name
-    /// comes first, before what has to go is evicted. Refused, which is for memory alone, nothing changes.
+    /// Inserts a field for which there is room, and references it. What was sought of an equal entry or one of its name
+    /// is told first, before what has to go is evicted. Refused, which is for memory alone, nothing changes.
     fn insert_in_room(
         &mut self,
         base: usize,
         field: &FieldLine<'_>,
+        sought: &SoughtField,
         evicted: usize,
     ) -> Result<DynamicInsertionResult, Error>
         requires room { has_room self.old (line_of field.now).field ≡ true }
         requires evicted { evicted ≡ eviction_count_for self.old (line_of field.now).field }
+        requires sought { IsSoughtIn self.old (line_of field.now).field sought.now }
         ensures ok { IfOk result (λ r. insertion_of r ≡ answer_of
             (instruction_for (line_of field.now).field (entries_left self.old (line_of field.now).field))
             (insert_count self.old - base) (insert_count self.old + 1)) }
@@ -153,26 +188,25 @@ impl DynamicTable {
             (with_entry self.old (sent_entry (line_of field.now).field)) (insert_count self.old + 1)) }
         ensures err { IfErr result (λ e. (e ≡ NoRoom) × (self.new ≡ self.old)) }
     {
-        let hashes = Hashes::of(field);
-        let static_name = StaticTable::find_name(field.name);
-        let insertion = self.insertion_of(base, field, hashes, static_name, evicted);
-        let copy = stored(self.allocator(), field, static_name)?;
+        let hashes = sought.hashes_of(field);
+        let insertion = self.insertion_of(base, field, hashes, sought, evicted);
+        let copy = stored(self.allocator(), field, sought.static_name)?;
         self.insert_sent(copy, hashes, evicted)?;
         Ok(insertion)
     }
 
-    /// How a field is inserted once so many of the oldest entries are evicted: by the newest equal entry that stays,
-    /// by a static field's name, by the newest entry of its name that stays, or with a name of its own.
+    /// How a field that was sought is inserted once so many of the oldest entries are evicted: by the newest equal entry
+    /// that stays, by a static field's name, by the newest entry of its name that stays, or with a name of its own.
     fn insertion_of(
         &self,
         base: usize,
         field: &FieldLine<'_>,
         hashes: Hashes,
-        static_name: Option<usize>,
+        sought: &SoughtField,
         evicted: usize,
     ) -> DynamicInsertionResult
         requires hashes { AreHashesOf hashes (line_of field.now).field }
-        requires static_name { static_name ≡ static_name_index (line_of field.now).field.name }
+        requires sought { IsSoughtIn self.now (line_of field.now).field sought.now }
         requires few { insert_count self.now < 2 ^ 62 }
         requires evicted { evicted ≤ length self.now.live }
         ensures { insertion_of result ≡ answer_of
@@ -182,21 +216,21 @@ impl DynamicTable {
         let total = self.total_inserted();
         let (postbase, absolute) = (total.saturating_sub(base), total + 1);
         let dropped = self.vas.total_dropped() + evicted;
-        if let Some(newest) = above(self.newest_hashed(field, hashes), dropped) {
+        if let Some(newest) = above(sought.newest, dropped) {
             return DynamicInsertionResult::Duplicated {
                 relative: total - newest,
                 postbase,
                 absolute,
             };
         }
-        if let Some(index) = static_name {
+        if let Some(index) = sought.static_name {
             return DynamicInsertionResult::InsertedWithStaticNameRef {
                 postbase,
                 index,
                 absolute,
             };
         }
-        match above(self.newest_of_name(field.name), dropped) {
+        match above(self.newest_hashed_name(field.name, hashes), dropped) {
             Some(newest) => DynamicInsertionResult::InsertedWithNameRef {
                 postbase,
                 relative: total - newest,

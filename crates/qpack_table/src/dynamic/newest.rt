@@ -4,6 +4,7 @@ ghost use Rattle.std.specs.Prelude.{◌≡◌, length};
 ghost use Rattle.qpack_base.specs.HeaderFields.{field_of, line_of};
 ghost use Rattle.qpack_spec.specs.Field.{is_field, has_name};
 ghost use Rattle.qpack_spec.specs.Table.{newest_index};
+ghost use Rattle.qpack_table.specs.Hashes.{name_hash};
 ghost use Rattle.qpack_table.specs.Indexes.{AreHashesOf};
 ghost use Rattle.qpack_table.specs.Rows.{Counts};
 
@@ -72,5 +73,19 @@ impl DynamicTable {
         ensures { result ≡ newest_index self.now (has_name name.now) }
     {
         self.newest_named(name, &mut Steps::new())
+    }
+
+    /// The same of a name with such a hash.
+    pub(super) fn newest_hashed_name(&self, name: &[u8], hashes: Hashes) -> Option<AbsoluteIndex>
+        requires { hashes.name ≡ name_hash name.now }
+        ensures { result ≡ newest_index self.now (has_name name.now) }
+    {
+        self.index.newest_hashed_name(
+            &self.entries,
+            self.vas.total_dropped(),
+            name,
+            hashes.name,
+            &mut Steps::new(),
+        )
     }
 }

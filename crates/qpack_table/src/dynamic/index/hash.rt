@@ -19,7 +19,7 @@ const LOW_HALF: u128 = (1 << 64) - 1;
 #[derive(Debug, Clone, Copy)]
 pub(in crate::dynamic) struct Hashes {
     /// Of its name.
-    pub(super) name: u32,
+    pub(in crate::dynamic) name: u32,
     /// Of its name and its value.
     pub(super) field: u32,
 }

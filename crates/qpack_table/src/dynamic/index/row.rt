@@ -1,17 +1,18 @@
 //! A row of the index: slots that rise by the hash of a part of their entries' fields, then by that part. It is
 //! searched by halving.
 
-ghost use Rattle.std.specs.Prelude.{◌≡◌, ◌+◌, ◌-◌, ◌^◌, ◌<◌, ◌≤◌, [], min, length, OnOk, OnErr, IfSome, IfNone};
-ghost use Rattle.std.specs.Prelude.{ℕ, slice_index, vec_len, vec_capacity};
+ghost use Rattle.std.specs.Prelude.{◌≡◌, ◌+◌, ◌-◌, ◌^◌, ◌<◌, ◌≤◌, [], min, length, OnOk, IfSome, IfNone};
+ghost use Rattle.std.specs.Prelude.{ℕ, slice_index};
 ghost use Rattle.qpack_base.specs.HeaderFields.{field_of, line_of, field_cmp};
 ghost use Rattle.qpack_table.specs.Rows.{part_of, part_at, key_cmp, key_at, key_of, field_of_sought, IsHashed, IsSlot};
-ghost use Rattle.qpack_table.specs.Rows.{IsRow, IsPlace, FindsSlot, Enters, Leaves, HasIndexAt, HasNoIndex, Counts};
+ghost use Rattle.qpack_table.specs.Rows.{HasRoom, IsRow, IsPlace, FindsSlot, Enters, Leaves, HasIndexAt, HasNoIndex, Counts};
 ghost use Rattle.qpack_table.specs.Tables.{live_fields};
 ghost use Rattle.qpack_table.specs.declared.dynamic.index.row.Slot.{Slot};
 
 use crate::dynamic::entry::Entry;
 use crate::dynamic::steps::Steps;
 use qpack_base::field::FieldLine;
+use smallvec::SmallVec;
 use std::alloc::{AllocError, Global};
 use std::cmp::Ordering;
 use std::collections::VecDeque;
@@ -35,7 +36,7 @@ pub(super) struct Sought<'a> {
 }
 
 /// The absolute index of an entry, and the hash of its part.
-#[derive(Debug, Clone, Copy)]
+#[derive(Debug, Clone, Copy, Default)]
 pub(super) struct Slot {
     hash: u32,
     index: usize,
@@ -78,10 +79,11 @@ fn compare(
     }
 }
 
-/// Slots of live entries, rising by the hash and the part; no two have the same part.
+/// Slots of live entries, rising by the hash and the part; no two have the same part. Two stand in the row itself, so
+/// that hardly a row takes memory.
 #[derive(Debug, Drop)]
 pub(super) struct Row {
-    slots: Vec<Slot>,
+    slots: SmallVec<Slot, 2>,
 }
 
 impl Row {
@@ -90,15 +92,14 @@ impl Row {
         ensures { result.slots.items ≡ [] }
     {
         Row {
-            slots: Vec::new(alloc),
+            slots: SmallVec::new(alloc),
         }
     }
 
     /// Makes room for one slot more.
     pub(super) fn reserve(&mut self) -> Result<(), AllocError>
         ensures slots { self.new.slots.items ≡ self.old.slots.items }
-        ensures ok { OnOk result (vec_len self.new.slots < vec_capacity self.new.slots) }
-        ensures err { OnErr result (vec_capacity self.new.slots ≡ vec_capacity self.old.slots) }
+        ensures ok { OnOk result (HasRoom self.new) }
     {
         self.slots.reserve(1)
     }
@@ -162,7 +163,7 @@ impl Row {
         requires field { field_of_sought sought.now
             ≡ part_at sought.now.part dropped (live_fields entries.now.items) index }
         requires hashed { IsHashed sought.now }
-        requires room { vec_len self.old.slots < vec_capacity self.old.slots }
+        requires room { HasRoom self.old }
         ensures row { IsRow sought.now.part dropped (live_fields entries.now.items) self.new.slots.items }
         ensures slots { let slot : Slot = record { hash = sought.now.hash; index = index } in
             Enters sought.now.part dropped (live_fields entries.now.items) self.old.slots.items self.new.slots.items
@@ -193,8 +194,7 @@ impl Row {
         requires hashed { IsHashed sought.now }
         ensures row { IsRow sought.now.part dropped (live_fields entries.now.items) self.new.slots.items }
         ensures slots { Leaves self.old.slots.items self.new.slots.items index }
-        ensures capacity { vec_capacity self.new.slots ≡ vec_capacity self.old.slots }
-        ensures shorter { vec_len self.new.slots ≤ vec_len self.old.slots }
+        ensures room { HasRoom self.old → HasRoom self.new }
     {
         if let Some(position) = self.position_of(entries, dropped, index, sought) {
             self.slots.remove(position);

@@ -16,7 +16,7 @@ returns-in_err-append_inserted-clause-err g c =
     let f = (line_of c.args.field.now).field in
     rw p.1
     (stops_inserted f c.args.block.now.table.now (insert_field c.args.block.now.table.now c.args.block.now.base f)
-    (insertion_of c.in_ok-insertion.insertion) c.insert_line.new.self.table.now c.args.encoder_buf.now.items
+    (insertion_of c.in_ok-insertion.insertion) c.insert_found.new.self.table.now c.args.encoder_buf.now.items
     c.write_instruction.new.buf.items c.in_ok-insertion.ensures.inserted
     (c.in_ok-write_instruction.ensures.writes.ok
     ∙ ap (λ (x : List ℕ). x ++ written_insertion f (insertion_of c.in_ok-insertion.insertion))
@@ -26,7 +26,7 @@ pub returns-clause-ok : goal.returns-clause-ok
 returns-clause-ok g c =
     let f = (line_of c.args.field.now).field in
     adds_insertion f c.args.block.now.table.now (insert_field c.args.block.now.table.now c.args.block.now.base f)
-    (insertion_of c.in_ok-insertion.insertion) c.insert_line.new.self.table.now c.args.lines.now.items
+    (insertion_of c.in_ok-insertion.insertion) c.insert_found.new.self.table.now c.args.lines.now.items
     c.append_inserted.new.buf.items c.args.encoder_buf.now.items
     c.write_instruction.new.buf.items c.in_ok-insertion.ensures.inserted
     c.in_ok-append_inserted.ensures.writes.ok

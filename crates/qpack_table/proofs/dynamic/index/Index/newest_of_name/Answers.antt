@@ -1,8 +1,5 @@
-use Rattle.std.proofs.Common.{◌≡◌, [], length, rules, arith, subst}
+use Rattle.std.proofs.Common.{◌≡◌, [], length, rules, arith}
 use Rattle.std.specs.Prelude.{None}
-use Rattle.qpack_spec.specs.Field.{FieldLine}
-use Rattle.qpack_table.specs.Indexes.{FindsNewest}
-use Rattle.qpack_table.specs.Rows.{part_of}
 use Rattle.qpack_table.specs.Tables.{live_fields}
 use Rattle.qpack_table.specs.declared.dynamic.index.row.Part.TheVariants.{Name}
 use Rattle.qpack_table.proofs.Lookups.{fields_long}
@@ -16,9 +13,3 @@ returns-then-is_empty-clause-found c =
     (newest_of_none Name c.args.dropped (live_fields c.args.entries.now.items)
     (record { name = c.args.name.now; value = [] })
     (λ some. omega (arith, len, some, fields_long c.args.entries.now.items)))
-
-pub returns-clause-found : goal.returns-clause-found
-returns-clause-found c =
-    newest_name c.args.dropped c.args.entries.now.items c.args.name.now c.newest.result
-    (subst (λ (l : FieldLine). FindsNewest Name c.args.dropped (live_fields c.args.entries.now.items)
-    (part_of Name l.field) c.newest.result) c.new.ensures c.newest.ensures.found)

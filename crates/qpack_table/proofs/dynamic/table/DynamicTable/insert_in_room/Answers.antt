@@ -1,5 +1,6 @@
 use Rattle.qpack_spec.specs.Field.{Field, field_size}
 use Rattle.std.proofs.Common.{ap, arith}
+use Rattle.qpack_base.proofs.FirstIndexes.{name_found}
 use Rattle.qpack_table.proofs.Insertions.{room_fits, room_few, room_within}
 use Rattle.qpack_table.proofs.dynamic.table.DynamicTable.insert_in_room.Goals as goal
 
@@ -18,3 +19,6 @@ insert_sent-requires-clause-fits c = omega (
   room_fits _ _ c.requires.room,
   ap (λ (f : Field). field_size f) c.in_ok-copy.ensures,
 )
+
+pub stored-requires : goal.stored-requires
+stored-requires c = name_found c.args.field.now.name.now _ c.requires.sought.static_name

@@ -13,7 +13,7 @@ overflow_sub-result c =
     let f : Field = (line_of c.args.field.now).field in
     let at : c.total_dropped.result + c.args.evicted ≡ c.args.self.now.dropped + c.args.evicted =
     ap (λ (n : ℕ). n + c.args.evicted) (c.total_dropped.ensures.exact ∙ ap (λ (t : Table). t.dropped) c.self.view_is) in
-    let equal = stays c.args.self.now (is_field f) c.args.evicted c.in-Some.newest _ _ _ at c.newest_hashed.ensures
+    let equal = stays c.args.self.now (is_field f) c.args.evicted c.in-Some.newest _ _ _ at c.requires.sought.newest
     c.above.ensures c.in-Some.is in
     stays_inserted c.args.self.now (is_field f) c.args.evicted _ _ equal c.requires.evicted
     c.total_inserted-total.ensures
@@ -23,7 +23,7 @@ returns-in-Some c =
     let f : Field = (line_of c.args.field.now).field in
     let at : c.total_dropped.result + c.args.evicted ≡ c.args.self.now.dropped + c.args.evicted =
     ap (λ (n : ℕ). n + c.args.evicted) (c.total_dropped.ensures.exact ∙ ap (λ (t : Table). t.dropped) c.self.view_is) in
-    let equal = stays c.args.self.now (is_field f) c.args.evicted c.in-Some.newest _ _ _ at c.newest_hashed.ensures
+    let equal = stays c.args.self.now (is_field f) c.args.evicted c.in-Some.newest _ _ _ at c.requires.sought.newest
     c.above.ensures c.in-Some.is in
     as_duplicate c.args.self.now f c.args.evicted _ _ c.args.base _ _ equal c.requires.evicted
     c.total_inserted-total.ensures c.saturating_sub-postbase.ensures refl
@@ -33,10 +33,10 @@ returns-in-Some-static_name c =
     let f : Field = (line_of c.args.field.now).field in
     let at : c.total_dropped.result + c.args.evicted ≡ c.args.self.now.dropped + c.args.evicted =
     ap (λ (n : ℕ). n + c.args.evicted) (c.total_dropped.ensures.exact ∙ ap (λ (t : Table). t.dropped) c.self.view_is) in
-    let none = none_stays c.args.self.now (is_field f) c.args.evicted _ _ _ at c.newest_hashed.ensures c.above.ensures
+    let none = none_stays c.args.self.now (is_field f) c.args.evicted _ _ _ at c.requires.sought.newest c.above.ensures
     c.in_default.is in
     let known : static_name_index f.name ≡ Some c.in-Some-static_name.index =
-    sym c.requires.static_name ∙ c.in-Some-static_name.is in
+    sym c.requires.sought.static_name ∙ c.in-Some-static_name.is in
     with_static_name c.args.self.now f c.args.evicted _ _ c.args.base _ _ none known
     c.total_inserted-total.ensures c.saturating_sub-postbase.ensures refl
 
@@ -45,8 +45,8 @@ overflow_sub-result-in-Some-above c =
     let f : Field = (line_of c.args.field.now).field in
     let at : c.total_dropped.result + c.args.evicted ≡ c.args.self.now.dropped + c.args.evicted =
     ap (λ (n : ℕ). n + c.args.evicted) (c.total_dropped.ensures.exact ∙ ap (λ (t : Table). t.dropped) c.self.view_is) in
-    let newest : c.newest_of_name.result ≡ newest_index c.args.self.now (has_name f.name) =
-    c.newest_of_name.ensures in
+    let newest : c.newest_hashed_name.result ≡ newest_index c.args.self.now (has_name f.name) =
+    c.newest_hashed_name.ensures in
     let named = stays c.args.self.now (has_name f.name) c.args.evicted c.in-Some-above.newest _ _ _ at newest
     c.above-2.ensures c.in-Some-above.is in
     stays_inserted c.args.self.now (has_name f.name) c.args.evicted _ _ named c.requires.evicted
@@ -57,12 +57,12 @@ returns-in-Some-above c =
     let f : Field = (line_of c.args.field.now).field in
     let at : c.total_dropped.result + c.args.evicted ≡ c.args.self.now.dropped + c.args.evicted =
     ap (λ (n : ℕ). n + c.args.evicted) (c.total_dropped.ensures.exact ∙ ap (λ (t : Table). t.dropped) c.self.view_is) in
-    let none = none_stays c.args.self.now (is_field f) c.args.evicted _ _ _ at c.newest_hashed.ensures c.above.ensures
+    let none = none_stays c.args.self.now (is_field f) c.args.evicted _ _ _ at c.requires.sought.newest c.above.ensures
     c.in_default.is in
     let unknown : static_name_index f.name ≡ None =
-    sym c.requires.static_name ∙ c.in_default-static_name.is in
-    let newest : c.newest_of_name.result ≡ newest_index c.args.self.now (has_name f.name) =
-    c.newest_of_name.ensures in
+    sym c.requires.sought.static_name ∙ c.in_default-static_name.is in
+    let newest : c.newest_hashed_name.result ≡ newest_index c.args.self.now (has_name f.name) =
+    c.newest_hashed_name.ensures in
     let named = stays c.args.self.now (has_name f.name) c.args.evicted c.in-Some-above.newest _ _ _ at newest
     c.above-2.ensures c.in-Some-above.is in
     with_entry_name c.args.self.now f c.args.evicted _ _ c.args.base _ _ none unknown named c.requires.evicted
@@ -73,12 +73,12 @@ returns-in-None c =
     let f : Field = (line_of c.args.field.now).field in
     let at : c.total_dropped.result + c.args.evicted ≡ c.args.self.now.dropped + c.args.evicted =
     ap (λ (n : ℕ). n + c.args.evicted) (c.total_dropped.ensures.exact ∙ ap (λ (t : Table). t.dropped) c.self.view_is) in
-    let none = none_stays c.args.self.now (is_field f) c.args.evicted _ _ _ at c.newest_hashed.ensures c.above.ensures
+    let none = none_stays c.args.self.now (is_field f) c.args.evicted _ _ _ at c.requires.sought.newest c.above.ensures
     c.in_default.is in
     let unknown : static_name_index f.name ≡ None =
-    sym c.requires.static_name ∙ c.in_default-static_name.is in
-    let newest : c.newest_of_name.result ≡ newest_index c.args.self.now (has_name f.name) =
-    c.newest_of_name.ensures in
+    sym c.requires.sought.static_name ∙ c.in_default-static_name.is in
+    let newest : c.newest_hashed_name.result ≡ newest_index c.args.self.now (has_name f.name) =
+    c.newest_hashed_name.ensures in
     let other = none_stays c.args.self.now (has_name f.name) c.args.evicted _ _ _ at newest c.above-2.ensures
     c.in-None.is in
     with_own_name c.args.self.now f c.args.evicted _ c.args.base _ _ none unknown other

@@ -29,4 +29,4 @@ pub returns-clause-room : goal.returns-clause-room
 returns-clause-room c = λ other has.
     let len : c.len.result ≡ length c.args.self.now.rows.items = search rules in
     let within = home_within _ _ _ len c.position_of-home.ensures.within in
-    room_left _ _ _ _ other within c.index_mut.ensures.value c.leave.ensures.shorter c.leave.ensures.capacity has
+    room_left _ _ _ _ other within c.index_mut.ensures.value c.leave.ensures.room has

@@ -1,7 +1,7 @@
 use Rattle.std.proofs.lemmas.Result.{err_from_is_err_and}
 use Rattle.qpack_base.specs.HeaderFields.{line_of}
 use Rattle.qpack_table.proofs.Insertions.{inserted, not_inserted, not_found}
-use Rattle.qpack_table.proofs.dynamic.table.DynamicTable.insert_field.Goals as goal
+use Rattle.qpack_table.proofs.dynamic.table.DynamicTable.insert_sought.Goals as goal
 
 pub returns-in-Some : goal.returns-in-Some
 returns-in-Some c = inserted c.args.self.now _ c.args.base (line_of c.args.field.now).field _ c.in-Some.ensures.inserted

@@ -1,0 +1,113 @@
+//! A field that is sought once: what is asked of the table for it after that hashes and searches nothing again.
+
+ghost use Rattle.std.specs.Prelude.{◌≡◌, IfOk, IfSome};
+ghost use Rattle.qpack_base.specs.HeaderFields.{line_of};
+ghost use Rattle.qpack_spec.specs.Field.{has_name};
+ghost use Rattle.qpack_spec.specs.Handle.{find_field};
+ghost use Rattle.qpack_spec.specs.StaticTable.{static_name_index};
+ghost use Rattle.qpack_spec.specs.Table.{newest_index};
+ghost use Rattle.qpack_table.specs.Handles.{Finds, IsSoughtIn, IsFoundIn, lookup_in};
+ghost use Rattle.qpack_table.specs.Hashes.{name_hash};
+ghost use Rattle.qpack_table.specs.Indexes.{AreHashesOf};
+
+use crate::dynamic::Error;
+use crate::dynamic::encoder::DynamicLookupResult;
+use crate::dynamic::index::Hashes;
+use crate::dynamic::table::DynamicTable;
+use crate::vas::AbsoluteIndex;
+use qpack_base::field::FieldLine;
+
+/// What is known of a field that was sought.
+#[derive(Debug, Clone, Copy)]
+pub(super) struct SoughtField {
+    /// Its hashes, which are not taken where there is no entry.
+    pub(super) hashes: Option<Hashes>,
+    /// The absolute index of the newest live entry that is the field.
+    pub(super) newest: Option<AbsoluteIndex>,
+    /// The least index of a static field with its name.
+    pub(super) static_name: Option<usize>,
+}
+
+impl SoughtField {
+    /// Its hashes, which are taken now if they were not.
+    pub(super) fn hashes_of(&self, field: &FieldLine<'_>) -> Hashes
+        requires { IfSome self.now.hashes (λ hashes. AreHashesOf hashes (line_of field.now).field) }
+        ensures { AreHashesOf result (line_of field.now).field }
+    {
+        match self.hashes {
+            Some(hashes) => hashes,
+            None => Hashes::of(field),
+        }
+    }
+}
+
+/// A field that was sought, and where it was found.
+#[derive(Debug, Clone, Copy)]
+pub struct FoundField {
+    /// Where it was found.
+    pub lookup: DynamicLookupResult,
+    sought: SoughtField,
+}
+
+impl FoundField {
+    /// What is known of it.
+    pub(super) fn sought(&self) -> &SoughtField
+        ensures { result.now ≡ self.now.sought }
+    {
+        &self.sought
+    }
+}
+
+impl DynamicTable {
+    /// Seeks a field, whose name the static table has at this index if at any. Where there is no entry, nothing is
+    /// hashed.
+    pub(super) fn seek(&self, field: &FieldLine<'_>, static_name: Option<usize>) -> SoughtField
+        requires { static_name ≡ static_name_index (line_of field.now).field.name }
+        ensures { IsSoughtIn self.now (line_of field.now).field result }
+    {
+        if self.entries.is_empty() {
+            return SoughtField {
+                hashes: None,
+                newest: None,
+                static_name,
+            };
+        }
+        let hashes = Hashes::of(field);
+        SoughtField {
+            hashes: Some(hashes),
+            newest: self.newest_hashed(field, hashes),
+            static_name,
+        }
+    }
+
+    /// Seeks a field, and finds the newest entry that is it, which is referenced if it may be.
+    pub(super) fn find_and_keep(
+        &mut self,
+        base: usize,
+        field: &FieldLine<'_>,
+        static_name: Option<usize>,
+    ) -> Result<FoundField, Error>
+        requires { static_name ≡ static_name_index (line_of field.now).field.name }
+        ensures found { Finds (lookup_in result) (find_field self.old base (line_of field.now).field) self.old self.new }
+        ensures kept { IfOk result (λ found. IsFoundIn self.new (line_of field.now).field found) }
+    {
+        let sought = self.seek(field, static_name);
+        let lookup = self.find_entry(base, sought.newest)?;
+        Ok(FoundField { lookup, sought })
+    }
+
+    /// The absolute index of the newest live entry with the name of a field that was sought.
+    pub(super) fn newest_sought_name(
+        &self,
+        name: &[u8],
+        sought: &SoughtField,
+    ) -> Option<AbsoluteIndex>
+        requires { IfSome sought.now.hashes (λ hashes. hashes.name ≡ name_hash name.now) }
+        ensures { result ≡ newest_index self.now (has_name name.now) }
+    {
+        match sought.hashes {
+            Some(hashes) => self.newest_hashed_name(name, hashes),
+            None => self.newest_of_name(name),
+        }
+    }
+}
