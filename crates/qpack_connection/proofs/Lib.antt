@@ -18,3 +18,5 @@ pub mod LawfulPieces
 pub mod RefinedConnections
 pub mod RefinedCapacities
 pub mod RefinedCancellations
+pub mod RefinedHearings
+pub mod RefinedReceptions

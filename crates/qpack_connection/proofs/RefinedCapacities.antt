@@ -57,8 +57,7 @@ new_refined c k =
     record {
       encoder_is = k.encoder.table;
       decoder_is = table ∙ empty_decoder maximum;
-      unreported_is = ap (λ (t : Table). insert_count t - c.decoder.reported) table
-          ∙ ap (λ (n : ℕ). 0 - n) k.decoder.reported;
+      reported_is = omega (arith, k.decoder.reported, ap insert_count table);
       encoder_sent = k.encoder.unsent;
       decoder_sent = k.decoder.unsent;
       encoder_stream = ap (λ (w : Wire). w.written) k.encoder_stream;

@@ -53,7 +53,7 @@ written_more maximum c w e t is flight ps qs k table stream unsent are more stre
     record {
       encoder_is = table;
       decoder_is = k.decoder_is;
-      unreported_is = k.unreported_is;
+      reported_is = k.reported_is;
       encoder_sent = refl;
       decoder_sent = k.decoder_sent;
       encoder_stream =

@@ -10,3 +10,4 @@ pub mod Encoders
 pub mod LawfulPieces
 pub mod Connections
 pub mod RefinedConnections
+pub mod RefinedStreams

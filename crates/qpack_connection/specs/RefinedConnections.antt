@@ -1,11 +1,11 @@
 -- A connection in bytes refines a session of values of two strict ends (RFC 9204, section 2).
-use Rattle.std.specs.Prelude.{◌≡◌, ◌<◌, ◌≤◌, ◌^◌, ℕ, min, List, [], ◌++◌, length, take, Some, Ok}
+use Rattle.std.specs.Prelude.{◌≡◌, ◌<◌, ◌≤◌, ◌^◌, ◌+◌, ℕ, min, List, [], ◌++◌, length, take, Some, Ok}
 use Rattle.std.specs.List.{AllByRecursion}
 use Rattle.qpack_spec.specs.Field.{FieldLine, fields_of_lines}
 use Rattle.qpack_spec.specs.Instruction.{DecoderInstruction, SpellsEncoderInstruction, SpellsDecoderInstruction}
 use Rattle.qpack_spec.specs.Session.{RequestStream, stream_at}
 use Rattle.qpack_spec.specs.Stream.{SpellsAll}
-use Rattle.qpack_spec.specs.Table.{empty_table, table_of}
+use Rattle.qpack_spec.specs.Table.{empty_table, table_of, insert_count}
 use Rattle.qpack_spec.specs.WrittenLaws.{IsByteField}
 use Rattle.qpack_safety.specs.AbstractSession.{AbstractBlock, required_count, AbstractStream, AbstractSession}
 use Rattle.qpack_safety.specs.AbstractSession.{abstract_start}
@@ -14,7 +14,6 @@ use Rattle.qpack_safety.specs.Refines.{Agrees}
 use Rattle.qpack_safety.specs.TwoEnds.{EndStep, after_end_steps}
 use Rattle.qpack_connection.specs.Connections.{Wire, SentSection, Connection, IsNew, EncodesOn, SetsCapacityOn}
 use Rattle.qpack_connection.specs.Connections.{CancelsOn}
-use Rattle.qpack_connection.specs.Decoders.{unreported}
 use Rattle.qpack_connection.specs.Encoders.{IsSound}
 use Rattle.qpack_connection.specs.Hearing as hearing
 use Rattle.qpack_connection.specs.Receiving as receiving
@@ -36,11 +35,12 @@ pub record RefinesStream (k : RequestStream SentSection) (st : AbstractStream) :
   pub cancelled_is : k.cancelled ≡ st.cancelled
 
 -- both tables are those of the session, all bytes are sent, and of both streams they are the instructions that were
--- taken and those under way; the decoder received so much of its stream as the session's decoder took
+-- taken and those under way; the decoder received so much of its stream as the session's decoder took, and what it did
+-- not report of it is what that one did not
 pub record RefinesSession (maximum : ℕ) (c : Connection) (w : AbstractSession) : Type 0 where
   pub encoder_is : c.encoder.table ≡ w.encoder
   pub decoder_is : c.decoder.table ≡ table_of w.decoder
-  pub unreported_is : unreported c.decoder ≡ w.unreported
+  pub reported_is : c.decoder.reported + w.unreported ≡ insert_count c.decoder.table
   pub encoder_sent : c.encoder.unsent ≡ []
   pub decoder_sent : c.decoder.unsent ≡ []
   pub encoder_stream : SpellsAll SpellsEncoderInstruction c.encoder_stream.written (w.taken ++ w.in_flight)

@@ -3,6 +3,7 @@
 ghost use Rattle.qpack_connection.specs.LawfulPieces.{EncoderStreamsAreNeverRefused, DecoderStreamsAreNeverRefused};
 ghost use Rattle.qpack_connection.specs.RefinedConnections.{NewConnectionsAreRefined, EncodesAreRefined};
 ghost use Rattle.qpack_connection.specs.RefinedConnections.{CapacitiesAreRefined, CancellationsAreRefined};
+ghost use Rattle.qpack_connection.specs.RefinedStreams.{HearingsAreRefined, ReceptionsAreRefined};
 
 /// What [`EncoderStream::receive`](crate::EncoderStream::receive) and
 /// [`DecoderStream::receive`](crate::DecoderStream::receive) promise comes to this: of a stream whose instructions a
@@ -19,4 +20,6 @@ pub fn connections_are_sessions()
     ensures encodes { EncodesAreRefined }
     ensures capacities { CapacitiesAreRefined }
     ensures cancellations { CancellationsAreRefined }
+    ensures hearings { HearingsAreRefined }
+    ensures receptions { ReceptionsAreRefined }
 {}

@@ -30,3 +30,5 @@ pub mod Headline
 pub mod HistoryRows
 pub mod LawfulFlights
 pub mod HandedSections
+pub mod ManySteps
+pub mod Limits

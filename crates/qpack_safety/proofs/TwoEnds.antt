@@ -99,7 +99,7 @@ strict_reporting w t =
     (λ _. strict_reported w (pieces_of w.unreported) (pieces_positive w.unreported) t) (λ _. t)
 
 -- all is reported then
-reporting_is : (w : AbstractSession) → after_step w (small.Report (pieces_of w.unreported)) ≡ record w {
+pub reporting_is : (w : AbstractSession) → after_step w (small.Report (pieces_of w.unreported)) ≡ record w {
   decoder_in_flight = w.decoder_in_flight ++ increments (pieces_of w.unreported);
   unreported = 0;
 }
