@@ -20,3 +20,4 @@ pub mod RefinedCapacities
 pub mod RefinedCancellations
 pub mod RefinedHearings
 pub mod RefinedReceptions
+pub mod RefinedDecodes

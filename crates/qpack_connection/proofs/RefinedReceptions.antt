@@ -200,7 +200,7 @@ least_whole taken lines front rest longer others joined more same cut =
 -- ---- the end of a call
 
 -- the decoder wrote the increments for all that it did not report
-all_reported : (maximum : ℕ) (c : Connection) (w : AbstractSession) (d : DecodingEnd) → RefinesSession maximum c w
+pub all_reported : (maximum : ℕ) (c : Connection) (w : AbstractSession) (d : DecodingEnd) → RefinesSession maximum c w
     → d ≡ with_report c.decoder → RefinesSession maximum (with_decoder d c) (after_end_step w Report)
 all_reported maximum c w d r is =
     let table : d.table ≡ c.decoder.table = ap (λ (x : DecodingEnd). x.table) is in

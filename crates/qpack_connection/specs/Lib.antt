@@ -11,3 +11,4 @@ pub mod LawfulPieces
 pub mod Connections
 pub mod RefinedConnections
 pub mod RefinedStreams
+pub mod RefinedDecodes

@@ -3,6 +3,7 @@
 ghost use Rattle.qpack_connection.specs.LawfulPieces.{EncoderStreamsAreNeverRefused, DecoderStreamsAreNeverRefused};
 ghost use Rattle.qpack_connection.specs.RefinedConnections.{NewConnectionsAreRefined, EncodesAreRefined};
 ghost use Rattle.qpack_connection.specs.RefinedConnections.{CapacitiesAreRefined, CancellationsAreRefined};
+ghost use Rattle.qpack_connection.specs.RefinedDecodes.{DecodesAreRefined};
 ghost use Rattle.qpack_connection.specs.RefinedStreams.{HearingsAreRefined, ReceptionsAreRefined};
 
 /// What [`EncoderStream::receive`](crate::EncoderStream::receive) and
@@ -22,4 +23,5 @@ pub fn connections_are_sessions()
     ensures cancellations { CancellationsAreRefined }
     ensures hearings { HearingsAreRefined }
     ensures receptions { ReceptionsAreRefined }
+    ensures decodes { DecodesAreRefined }
 {}

@@ -3,6 +3,7 @@ use Rattle.qpack_connection.proofs.RefinedCapacities.{new_refined, capacities_re
 use Rattle.qpack_connection.proofs.RefinedConnections.{encodes_refined}
 use Rattle.qpack_connection.proofs.RefinedHearings.{hearings_refined}
 use Rattle.qpack_connection.proofs.RefinedReceptions.{receptions_refined}
+use Rattle.qpack_connection.proofs.RefinedDecodes.{decodes_refined}
 use Rattle.qpack_connection.proofs.laws.connections_are_sessions.Goals as goal
 
 pub returns-clause-new : goal.returns-clause-new
@@ -22,3 +23,6 @@ returns-clause-hearings c = hearings_refined
 
 pub returns-clause-receptions : goal.returns-clause-receptions
 returns-clause-receptions c = receptions_refined
+
+pub returns-clause-decodes : goal.returns-clause-decodes
+returns-clause-decodes c = decodes_refined
