@@ -144,12 +144,19 @@ pub answers_refused : (start old new : Table) (before bytes left : List ℕ) (s 
 answers_refused start old new before bytes left s u Memory k = absurd (never_memory new k.0.rest Memory k.0.ends refl)
 answers_refused start old new before bytes left s u e k = (never_memory new k.0.rest e k.0.ends, k)
 
+-- what is left of some bytes is no longer than they
+no_longer : (pending bytes front rest kept : List ℕ) → pending ++ bytes ≡ front ++ rest → kept ≡ rest
+    → length kept ≤ length pending + length bytes
+no_longer pending bytes front rest kept cut same =
+    omega (arith, ap length same, ap length cut, length-append pending bytes, length-append front rest)
+
 -- an instruction was not taken
 pub answers_not_taken : (start old new : Table) (place : Place) (before bytes left grown kept : List ℕ) (s : StreamView)
     (e : DecoderError) → Receives start old before s → grown ≡ s.pending ++ bytes
     → TakesAllStrictly old new s.place place grown kept (Err e) → left ≡ []
     → ReceivesMore start old new before bytes left s (record { pending = kept; wanted = 0; place = place })
     (Err (stream_error_at place e))
+unfolding taken_on
 answers_not_taken start old new place before bytes left grown kept s e k is takes none = by_stop m.0.ends
   where
     more : TakesAllStrictly old new s.place place (s.pending ++ bytes) kept (Err e)
@@ -157,15 +164,6 @@ answers_not_taken start old new place before bytes left grown kept s e k is take
 
     m : TakesUpTo start new (before ++ bytes) place (λ rest. StopsStrictly new rest kept e)
     m = taken_on start old new s.place place before bytes s.pending _ _ k k.0.ends.0 more
-
-    no_longer : kept ≡ m.0.rest → length kept ≤ length s.pending + length bytes
-    no_longer same = omega (
-      arith,
-      ap length same,
-      ap length more.0.cut,
-      length-append s.pending bytes,
-      length-append more.0.front more.0.rest,
-    )
 
     by_stop : StopsStrictly new m.0.rest kept e
         → ReceivesMore start old new before bytes left s (record { pending = kept; wanted = 0; place = place })
@@ -176,7 +174,7 @@ answers_not_taken start old new place before bytes left grown kept s e k is take
           none,
           subst (λ (x : List ℕ). AsksToTake new x) (sym stops.2) stops.0,
           ends_up _ _ _ m (sym stops.2, λ some. absurd (omega (arith, some))),
-          no_longer stops.2,
+          no_longer s.pending bytes more.0.front more.0.rest kept more.0.cut stops.2,
         ))
     by_stop (inr refuses) =
         answers_refused start old new before bytes left s (record { pending = kept; wanted = 0; place = place }) e

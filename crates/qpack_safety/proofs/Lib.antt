@@ -32,3 +32,4 @@ pub mod LawfulFlights
 pub mod HandedSections
 pub mod ManySteps
 pub mod Limits
+pub mod CountedBlocks
