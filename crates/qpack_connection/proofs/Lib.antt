@@ -21,3 +21,4 @@ pub mod RefinedCancellations
 pub mod RefinedHearings
 pub mod RefinedReceptions
 pub mod RefinedDecodes
+pub mod WaitingStreams

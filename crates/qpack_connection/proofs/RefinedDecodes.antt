@@ -48,12 +48,12 @@ use Rattle.qpack_connection.proofs.RefinedReceptions.{all_reported}
 -- ---- the next section
 
 -- the next section of a stream, and the session's block of it
-record NextBlock (c : Connection) (w : AbstractSession) (s : ℕ) (k : SentSection) : Type 0 where
+pub record NextBlock (c : Connection) (w : AbstractSession) (s : ℕ) (k : SentSection) : Type 0 where
   pub block : AbstractBlock
   pub next : oldest_undecoded (stream_at w.streams s) ≡ Some block
   pub refines : RefinesSection k block
 
-next_block : (maximum : ℕ) (c : Connection) (w : AbstractSession) (s : ℕ) (k : SentSection)
+pub next_block : (maximum : ℕ) (c : Connection) (w : AbstractSession) (s : ℕ) (k : SentSection)
     → RefinesSession maximum c w → oldest_undecoded (stream_at c.streams s) ≡ Some k → NextBlock c w s k
 next_block maximum c w s k r e =
     let st = r.streams s in

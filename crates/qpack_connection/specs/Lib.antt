@@ -12,3 +12,4 @@ pub mod Connections
 pub mod RefinedConnections
 pub mod RefinedStreams
 pub mod RefinedDecodes
+pub mod Waiting

@@ -264,7 +264,7 @@ one_waits n ps s b e more =
         both false l = l
 
 -- streams, each apart from those before it, each with a block that requires more than so many insertions
-pub AreWaiting : ℕ → List (ℕ × AbstractStream) → List ℕ → List ℕ → Type 0
+abbrev pub AreWaiting : ℕ → List (ℕ × AbstractStream) → List ℕ → List ℕ → Type 0
 AreWaiting n ps seen [] = Unit {0}
 AreWaiting n ps seen (s ∷ ss) =
     (has_number s seen ≡ false)
@@ -273,7 +273,6 @@ AreWaiting n ps seen (s ∷ ss) =
 
 waiting_counted : (n : ℕ) (ps : List (ℕ × AbstractStream)) (seen ss : List ℕ) → AreWaiting n ps seen ss
     → length ss ≤ blocked_among n seen (kept_all ps)
-unfolding AreWaiting
 waiting_counted n ps seen [] h = omega arith
 waiting_counted n ps seen (s ∷ ss) h =
     omega (
