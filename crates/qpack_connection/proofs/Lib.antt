@@ -22,3 +22,4 @@ pub mod RefinedHearings
 pub mod RefinedReceptions
 pub mod RefinedDecodes
 pub mod WaitingStreams
+pub mod RefinedRefusals

@@ -108,7 +108,7 @@ told_refined maximum c w e n r tells =
     (omega (arith, capacity_small w.encoder e.table n takes), tt) refl r.streams)
 
 -- nothing is done
-same_refined : (maximum : ℕ) (c : Connection) (w : AbstractSession) (e : EncodingEnd) → RefinesSession maximum c w
+pub same_refined : (maximum : ℕ) (c : Connection) (w : AbstractSession) (e : EncodingEnd) → RefinesSession maximum c w
     → e ≡ c.encoder → RefinesSession maximum (with_encoder e c) w
 unfolding written_encoder_instructions
 same_refined maximum c w e r same =

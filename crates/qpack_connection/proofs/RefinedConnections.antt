@@ -163,7 +163,7 @@ alone_refined maximum c w e s fields section required r are small writes =
 -- ---- a capacity that is to be told first
 
 -- the session behind the capacity that is told before the first section, if one is
-told_refined : (maximum : ℕ) (c : Connection) (w : AbstractSession) (o : Option ℕ)
+pub told_refined : (maximum : ℕ) (c : Connection) (w : AbstractSession) (o : Option ℕ)
     → IfSome o (λ n. IsToBeTold c.encoder n) → RefinesSession maximum c w
     → (steps : List EndStep) × RefinesSession maximum (with_encoder (begun_with o c.encoder) c)
     (after_end_steps steps w)
@@ -192,7 +192,7 @@ told_refined maximum c w (Some n) k r =
 -- ---- a call
 
 -- the steps of an end, and one behind them
-after_last : (es : List EndStep) (e : EndStep) (w : AbstractSession)
+pub after_last : (es : List EndStep) (e : EndStep) (w : AbstractSession)
     → after_end_steps (es ++ e ∷ []) w ≡ after_end_step (after_end_steps es w) e
 after_last [] e w = refl
 after_last (x ∷ es) e w = after_last es e (after_end_step w x)

@@ -13,3 +13,4 @@ pub mod RefinedConnections
 pub mod RefinedStreams
 pub mod RefinedDecodes
 pub mod Waiting
+pub mod RefinedRefusals

@@ -4,6 +4,8 @@ ghost use Rattle.qpack_connection.specs.LawfulPieces.{EncoderStreamsAreNeverRefu
 ghost use Rattle.qpack_connection.specs.RefinedConnections.{NewConnectionsAreRefined, EncodesAreRefined};
 ghost use Rattle.qpack_connection.specs.RefinedConnections.{CapacitiesAreRefined, CancellationsAreRefined};
 ghost use Rattle.qpack_connection.specs.RefinedDecodes.{DecodesAreRefined};
+ghost use Rattle.qpack_connection.specs.RefinedRefusals.{RefusedEncodesAreRefined, RefusedCapacitiesAreRefined};
+ghost use Rattle.qpack_connection.specs.RefinedRefusals.{RefusedCancellationsAreRefined};
 ghost use Rattle.qpack_connection.specs.RefinedStreams.{HearingsAreRefined, ReceptionsAreRefined};
 
 /// What [`EncoderStream::receive`](crate::EncoderStream::receive) and
@@ -24,4 +26,7 @@ pub fn connections_are_sessions()
     ensures hearings { HearingsAreRefined }
     ensures receptions { ReceptionsAreRefined }
     ensures decodes { DecodesAreRefined }
+    ensures refused_encodes { RefusedEncodesAreRefined }
+    ensures refused_capacities { RefusedCapacitiesAreRefined }
+    ensures refused_cancellations { RefusedCancellationsAreRefined }
 {}
