@@ -23,3 +23,5 @@ pub mod RefinedReceptions
 pub mod RefinedDecodes
 pub mod WaitingStreams
 pub mod RefinedRefusals
+pub mod KeptConnections
+pub mod TwoEndsHeadline

@@ -263,7 +263,7 @@ dynamic_refined maximum limit c w s many k d r h live n some within small is =
 -- ---- a call
 
 -- where memory is refused, nothing changed, or the increments were written
-stops_for_memory : (old new : DecodingEnd) (read : StrictReading) → StopsForMemory old new read
+pub stops_for_memory : (old new : DecodingEnd) (read : StrictReading) → StopsForMemory old new read
     → (new ≡ old) ⊎ (new ≡ with_report old)
 stops_for_memory old new (Read fields zero) same = inl same
 stops_for_memory old new (Read fields (suc required)) same = same

@@ -36,10 +36,10 @@ none_of s (b ∷ bs) h = both (nat_eq b.stream s) refl (none_of s bs) h
     both false e rest q = (e, rest q)
 
 -- those that wait are not among these
-abbrev Apart : ℕ → List ℕ → List BlockedStream → Type 0
+abbrev pub Apart : ℕ → List ℕ → List BlockedStream → Type 0
 Apart n seen bs = AllByRecursion (λ (b : BlockedStream). n < b.required → has_number b.stream seen ≡ false) bs
 
-apart_swap : (m n : ℕ) → nat_eq m n ≡ false → nat_eq n m ≡ false
+pub apart_swap : (m n : ℕ) → nat_eq m n ≡ false → nat_eq n m ≡ false
 apart_swap m n e = ne_eqb n m (λ same. eqb-false m n e (sym same))
 
 apart_more : (n s : ℕ) (seen : List ℕ) (bs : List BlockedStream)
@@ -70,7 +70,7 @@ not_waiting n s (b ∷ bs) h once = both (nat_eq b.stream s) refl (λ q. not_wai
     both false e rest q = (λ more. rw (apart_swap b.stream s e) refl, rest q)
 
 -- those that wait, as streams of the session
-are_waiting : (maximum n : ℕ) (c : Connection) (w : AbstractSession) (seen : List ℕ) (bs : List BlockedStream)
+pub are_waiting : (maximum n : ℕ) (c : Connection) (w : AbstractSession) (seen : List ℕ) (bs : List BlockedStream)
     → RefinesSession maximum c w → AreOfOneEach bs → AllByRecursion (IsNextOf c) bs → Apart n seen bs
     → AreWaiting n w.streams seen (map (λ (b : BlockedStream). b.stream) (filter (λ b. nat_lt n b.required) bs))
 are_waiting maximum n c w seen [] r once next apart = tt

@@ -14,3 +14,4 @@ pub mod RefinedStreams
 pub mod RefinedDecodes
 pub mod Waiting
 pub mod RefinedRefusals
+pub mod TwoEndsHeadline

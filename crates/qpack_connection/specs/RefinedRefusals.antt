@@ -38,11 +38,15 @@ RefusedCapacitiesAreRefined =
     → StopsTelling c.encoder.table capacity e × IsOpen new
     × RefinesSession maximum new (after_end_steps steps (abstract_start 0 maximum limit))
 
+-- why a stream is not cancelled
+abbrev pub StopsCancelling : ℕ → DecodingError → Type 0
+StopsCancelling s e = (e ≡ decoding.Memory) ⊎ ((e ≡ decoding.NoStream s) × (2 ^ 62 ≤ s))
+
 -- nor does a stream that is not cancelled
 abbrev pub RefusedCancellationsAreRefined : Type 0
 RefusedCancellationsAreRefined =
     (maximum limit : ℕ) (c new : Connection) (steps : List EndStep) (s : ℕ) (e : DecodingError)
     → RefinesSession maximum c (after_end_steps steps (abstract_start 0 maximum limit)) → IsOpen c
     → CancelsOn c new s (Err e)
-    → ((e ≡ decoding.Memory) ⊎ ((e ≡ decoding.NoStream s) × (2 ^ 62 ≤ s))) × IsOpen new
+    → StopsCancelling s e × IsOpen new
     × RefinesSession maximum new (after_end_steps steps (abstract_start 0 maximum limit))
