@@ -1,4 +1,3 @@
-use Rattle.qpack_connection.proofs.TwoEndsHeadline as headline
 use Rattle.qpack_connection.proofs.RefinedCancellations.{cancellations_refined}
 use Rattle.qpack_connection.proofs.RefinedCapacities.{new_refined, capacities_refined}
 use Rattle.qpack_connection.proofs.RefinedConnections.{encodes_refined}
