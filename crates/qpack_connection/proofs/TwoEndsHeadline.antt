@@ -2,12 +2,19 @@
 -- what was handed in.
 use Rattle.std.proofs.Common.{◌≡◌, ◌≤◌, ◌<◌, ◌^◌, ℕ, zero, suc, min, Bool, true, false, cond, List, [], ◌∷◌, ◌++◌, length, map, Option, None}
 use Rattle.std.proofs.Common.{Some, Result, Ok, Err, IfSome, refl, sym, ap, subst, ◌∙◌, arith, inl, inr, ◌⊎◌}
-use Rattle.std.proofs.lemmas.List.{append-nil, length-map}
+use Rattle.std.proofs.lemmas.List.{append-nil, append_cancel_left, length-map, take_all}
 use Rattle.std.specs.List.{AllByRecursion, filter}
 use Rattle.std.specs.Option.{IsSome}
 use Rattle.std.specs.Prelude.{⊤, nat_eq, nat_lt}
 use Rattle.qpack_spec.specs.Field.{FieldLine}
-use Rattle.qpack_spec.specs.Instruction.{DecoderInstruction}
+use Rattle.qpack_spec.specs.Form.{Truncates}
+use Rattle.qpack_spec.specs.Instruction.{EncoderInstruction, DecoderInstruction, SpellsEncoderInstruction}
+use Rattle.qpack_spec.specs.Instruction.{encoder_instruction_form}
+use Rattle.qpack_spec.specs.Stream.{SpellsAll}
+use Rattle.qpack_spec.specs.StrictInstructions.{strict_apply}
+use Rattle.qpack_spec.specs.Taking.{TakesAllOf}
+use Rattle.qpack_spec.proofs.Cuttings.{wire, reads_front}
+use Rattle.qpack_spec.proofs.Cuttings as cuttings
 use Rattle.qpack_spec.specs.Session.{RequestStream, stream_at, with_stream, oldest_undecoded}
 use Rattle.qpack_spec.specs.StrictReading.{StrictReading, strict_reading, Read, Blocked, Refused}
 use Rattle.qpack_spec.specs.Table.{Table, empty_table, insert_count, window}
@@ -16,7 +23,8 @@ use Rattle.qpack_spec.proofs.PutTables.{count_put}
 use Rattle.qpack_safety.specs.AbstractSession.{AbstractSession, abstract_start}
 use Rattle.qpack_safety.specs.TwoEnds.{EndStep, after_end_steps}
 use Rattle.qpack_safety.proofs.CountedBlocks.{waiting_within}
-use Rattle.qpack_safety.proofs.TwoEnds.{strict_ends_safe}
+use Rattle.qpack_safety.proofs.MadeInsertions.{required_made, all_taken}
+use Rattle.qpack_safety.proofs.TwoEnds.{holds_started, holds_behind, strict_ends_safe}
 use Rattle.qpack_connection.specs.declared.blocked.BlockedStream.{BlockedStream}
 use Rattle.qpack_connection.specs.declared.decoder.DecodingError.{DecodingError}
 use Rattle.qpack_connection.specs.declared.decoder.DecodingError.TheVariants as decoding
@@ -36,10 +44,12 @@ use Rattle.qpack_connection.specs.Encoders.{ReceivesBytes, Encodes, SetsIt, firs
 use Rattle.qpack_connection.specs.Encoders as encoders
 use Rattle.qpack_connection.specs.Decoders as decoders
 use Rattle.qpack_connection.specs.Hearing as hearing
+use Rattle.qpack_connection.specs.Receiving as receiving
 use Rattle.qpack_connection.specs.RefinedConnections.{received_of, RefinesSession}
 use Rattle.qpack_connection.specs.RefinedDecodes.{AnswersSection}
 use Rattle.qpack_connection.specs.RefinedStreams.{IsOpen}
-use Rattle.qpack_connection.specs.TwoEndsHeadline.{Answers, Fits, IsWithin, AllFit, AllAnswer, TwoEndsAnswerWhatWasHanded}
+use Rattle.qpack_connection.specs.TwoEndsHeadline.{HasAll, DoesNotWait, Answers, Fits, IsWithin, AllFit, AllAnswer}
+use Rattle.qpack_connection.specs.TwoEndsHeadline.{TwoEndsAnswerWhatWasHanded}
 use Rattle.qpack_connection.specs.Waiting.{AreOfOneEach, IsNextOf, BlockedAreNext}
 use Rattle.qpack_connection.proofs.Encoders.{received_sound}
 use Rattle.qpack_connection.proofs.KeptConnections.{sound_sent, sound_begun, sound_set, begun_failure, waiting_same}
@@ -47,7 +57,7 @@ use Rattle.qpack_connection.proofs.KeptConnections.{next_more, waiting_without, 
 use Rattle.qpack_connection.proofs.RefinedCancellations.{cancellations_refined}
 use Rattle.qpack_connection.proofs.RefinedCapacities.{new_refined, capacities_refined}
 use Rattle.qpack_connection.proofs.RefinedConnections.{encodes_refined}
-use Rattle.qpack_connection.proofs.RefinedDecodes.{decodes_refined, stops_for_memory}
+use Rattle.qpack_connection.proofs.RefinedDecodes.{next_block, decodes_refined, stops_for_memory}
 use Rattle.qpack_connection.proofs.RefinedHearings.{hearings_refined}
 use Rattle.qpack_connection.proofs.RefinedReceptions.{receptions_refined}
 use Rattle.qpack_connection.proofs.RefinedRefusals.{refused_encodes, refused_capacities, refused_cancellations}
@@ -275,6 +285,47 @@ ends_keep d0 d (Ok it) (Err e) ends =
 ends_keep d0 d (Err e) a ends =
     (ap (λ (y : DecodingEnd). y.settings) ends.1, ap (λ (y : DecodingEnd). y.blocked) ends.1)
 
+-- where all bytes were received, and none that are left are an instruction, none is under way
+none_under_way : (maximum : ℕ) (c : Connection) (w : AbstractSession) → (r : RefinesSession maximum c w)
+    → c.encoder_stream.received ≡ length c.encoder_stream.written
+    → Truncates encoder_instruction_form c.decoder.stream.pending → w.in_flight ≡ []
+none_under_way maximum c w r all cut = nothing x.still (x.left) same
+  where
+    k : TakesAllOf encoder_instruction_form strict_apply (empty_table 0 (Some maximum) 0) c.decoder.table
+        (received_of c.encoder_stream) (λ front rest. (rest ≡ c.decoder.stream.pending)
+        × receiving.Waits c.decoder.table c.decoder.stream)
+    k = r.received.0
+
+    written : c.encoder_stream.written ≡ k.front ++ (k.rest ++ [])
+    written =
+        sym (take_all c.encoder_stream.received c.encoder_stream.written (omega (arith, all))) ∙ k.cut
+        ∙ ap (λ (b : List ℕ). k.front ++ b) (sym (append-nil k.rest))
+
+    x : cuttings.Read EncoderInstruction SpellsEncoderInstruction k.lines (w.taken ++ w.in_flight) k.rest []
+    x = reads_front SpellsEncoderInstruction (wire encoder_instruction_form) k.lines (w.taken ++ w.in_flight) k.front
+        k.rest [] k.joined
+        (subst (λ (b : List ℕ). SpellsAll SpellsEncoderInstruction b (w.taken ++ w.in_flight)) written r.encoder_stream)
+
+    same : w.in_flight ≡ x.still
+    same =
+        append_cancel_left w.taken w.in_flight x.still
+        (x.goes_on ∙ ap (λ (ls : List EncoderInstruction). ls ++ x.still) r.taken_are)
+
+    nothing : (still : List EncoderInstruction) → SpellsAll SpellsEncoderInstruction (k.rest ++ []) still
+        → w.in_flight ≡ still → w.in_flight ≡ []
+    nothing [] left is = is
+    nothing (i ∷ still) left is =
+        absurd ((cut left.0 left.1 (sym k.ends.0 ∙ sym (append-nil k.rest) ∙ left.2)).0 i left.3)
+
+-- behind a call that answers how many insertions there are, no whole instruction waits
+cut_behind : (start old new : Table) (before bytes left : List ℕ) (s u : receiving.StreamView) (d0 d : DecodingEnd)
+    (taken : Result ⊤ EncoderStreamError) (total : ℕ)
+    → receiving.ReceivesMore start old new before bytes left s u taken → EndsReceiving d0 d taken (Ok total)
+    → Truncates encoder_instruction_form u.pending
+cut_behind start old new before bytes left s u d0 d (Ok it) total stream ends =
+    subst (λ (b : List ℕ). Truncates encoder_instruction_form b) stream.1.0.ends.0 stream.1.0.ends.1.cut
+cut_behind start old new before bytes left s u d0 d (Err e) total stream ends = absurd (let x = ends.0 in cc)
+
 reception_kept : (maximum limit most : ℕ) (old new : Connection) (many : ℕ) (answer : Result ℕ DecodingError)
     (steps : List EndStep) → IsKept maximum limit most old steps → (step : ReceivesOn old new many answer)
     → Behind maximum limit most (Receive many answer) old new step steps
@@ -284,13 +335,37 @@ reception_kept maximum limit most old new many answer steps k step =
     k.refines.received in
     let keeps = ends_keep (decoders.received step.decoder.table step.decoder.stream old.decoder) step.decoder x.taken
     answer x.ends in (
-      r.0,
+      (r.0, has_all r.2 r.3 answer x.taken x.stream x.ends),
       r.2,
       decoder_kept maximum limit most old new step.decoder steps r.2 k r.3 r.1
           (ap (λ (y : Connection). y.encoder) step.new_is) (ap (λ (y : Connection). y.decoder) step.new_is) keeps.0
           (waiting_same old new (ap (λ (y : Connection). y.decoder.blocked) step.new_is ∙ keeps.1)
           (stays old new (ap (λ (y : Connection). y.streams) step.new_is)) k.waiting),
     )
+  where
+    has_all : (more : List EndStep)
+        → RefinesSession maximum new (after_end_steps (steps ++ more) (abstract_start 0 maximum limit))
+        → (a : Result ℕ DecodingError) (taken : Result ⊤ EncoderStreamError)
+        → receiving.ReceivesMore (empty_table 0 (Some maximum) 0) old.decoder.table step.decoder.table
+        (received_of old.encoder_stream) (next_of many old.encoder_stream) step.left old.decoder.stream
+        step.decoder.stream taken
+        → EndsReceiving (decoders.received step.decoder.table step.decoder.stream old.decoder) step.decoder taken a
+        → HasAll new a
+    has_all more refines (Err e) taken stream ends = tt
+    has_all more refines (Ok total) taken stream ends = λ all.
+        (let w = after_end_steps (steps ++ more) (abstract_start 0 maximum limit) in
+        let cut : Truncates encoder_instruction_form step.decoder.stream.pending =
+        cut_behind (empty_table 0 (Some maximum) 0) old.decoder.table step.decoder.table
+        (received_of old.encoder_stream) (next_of many old.encoder_stream) step.left old.decoder.stream
+        step.decoder.stream (decoders.received step.decoder.table step.decoder.stream old.decoder) step.decoder taken
+        total stream ends in
+        let none : w.in_flight ≡ [] = none_under_way maximum new w refines all
+        (subst (λ (b : List ℕ). Truncates encoder_instruction_form b)
+        (sym (ap (λ (y : Connection). y.decoder.stream.pending) step.new_is)) cut) in
+        ap insert_count refines.decoder_is ∙ count_put w.decoder
+        ∙ all_taken 0 maximum limit w (holds_behind 0 maximum limit (steps ++ more) (abstract_start 0 maximum limit)
+        (holds_started 0 maximum limit (omega arith))).invariant none
+        ∙ sym (ap insert_count refines.encoder_is))
 
 cancellation_kept : (maximum limit most : ℕ) (old new : Connection) (s : ℕ) (steps : List EndStep)
     → IsKept maximum limit most old steps → (step : CancelsOn old new s (Ok tt))
@@ -363,7 +438,7 @@ decode_kept : (maximum limit most : ℕ) → limit ≤ most → (old new : Conne
     → (step : DecodesOn old new s fields answer)
     → Behind maximum limit most (Decode s fields answer) old new step steps
 decode_kept maximum limit most within old new s fields answer steps k step = (
-  r.0,
+  (r.0, λ all. no_wait all answer r.0),
   r.2,
   decoder_kept maximum limit most old new step.decoder steps r.2 k r.3 r.1 (same_encoder answer step.new_is)
       (new_decoder answer step.new_is) keeps.0 keeps.1,
@@ -377,6 +452,21 @@ decode_kept maximum limit most within old new s fields answer steps k step = (
     r = decodes_refined maximum limit old new steps s fields answer k.refines k.alive step
         (may_wait maximum limit old steps s step.section k.refines (omega (arith, within, k.settings)) k.waiting
         step.is_next)
+
+    made : step.section.required ≤ insert_count old.encoder.table
+    made =
+        let w = after_end_steps steps (abstract_start 0 maximum limit) in
+        let n = next_block maximum old w s step.section k.refines step.is_next in
+        let most = required_made 0 maximum limit w (holds_behind 0 maximum limit steps (abstract_start 0 maximum limit)
+        (holds_started 0 maximum limit (omega arith))).invariant s n.block
+        (sym (k.refines.streams s).cancelled_is ∙ step.live) n.next in
+        omega (arith, most, n.refines.required_is, ap insert_count k.refines.encoder_is)
+
+    no_wait : insert_count old.decoder.table ≡ insert_count old.encoder.table → (a : Result Reading DecodingError)
+        → AnswersSection old.decoder s step.section fields a → DoesNotWait a
+    no_wait all (Ok (reading.Fields n)) told = tt
+    no_wait all (Ok (reading.Blocked n)) told = absurd (let x = made in omega (arith, all, told.2, x))
+    no_wait all (Err e) told = tt
 
     same_encoder : (a : Result Reading DecodingError) → new ≡ with_reading s a (with_decoder d old)
         → new.encoder ≡ old.encoder

@@ -1,11 +1,14 @@
 -- The theorem of two ends, over calls and their answers: whatever calls are made of the two ends of a connection, in
 -- whatever order, and however the bytes of both streams are cut, neither end refuses what the other sent, and each
 -- section is decoded to exactly what was handed to its encode (RFC 9204, sections 2 to 4).
-use Rattle.std.specs.Prelude.{◌≡◌, ◌<◌, ◌≤◌, ◌^◌, ℕ, ◌⊎◌, List, [], ◌∷◌, length, Ok, Err}
+use Rattle.std.specs.Prelude.{◌≡◌, ◌<◌, ◌≤◌, ◌^◌, ℕ, ◌⊎◌, List, [], ◌∷◌, length, Result, Ok, Err}
 use Rattle.std.specs.List.{AllByRecursion}
 use Rattle.qpack_spec.specs.Field.{fields_of_lines}
 use Rattle.qpack_spec.specs.Table.{insert_count}
 use Rattle.qpack_spec.specs.WrittenLaws.{IsByteField}
+use Rattle.qpack_connection.specs.declared.decoder.DecodingError.{DecodingError}
+use Rattle.qpack_connection.specs.declared.section.Reading.{Reading}
+use Rattle.qpack_connection.specs.declared.section.Reading.TheVariants as reading
 use Rattle.qpack_connection.specs.Connections.{Connection, IsNew, Call, Encode, SetCapacity, Hear, Receive, Decode}
 use Rattle.qpack_connection.specs.Connections.{Cancel, Step, Run}
 use Rattle.qpack_connection.specs.Decoders.{blocked_streams}
@@ -14,18 +17,34 @@ use Rattle.qpack_connection.specs.RefinedDecodes.{AnswersSection}
 use Rattle.qpack_connection.specs.RefinedRefusals.{StopsEncoding, StopsCancelling}
 use Rattle.qpack_connection.specs.RefinedStreams.{IsOpen, AnswersTotal}
 
+-- a decoder that answers how many insertions it received, and received all bytes that were written so far, has all
+-- insertions that were made
+abbrev pub HasAll : Connection → Result ℕ DecodingError → Type 0
+HasAll new (Ok total) =
+    new.encoder_stream.received ≡ length new.encoder_stream.written
+    → insert_count new.decoder.table ≡ insert_count new.encoder.table
+HasAll new (Err e) = Unit {0}
+
+-- a section does not wait
+abbrev pub DoesNotWait : Result Reading DecodingError → Type 0
+DoesNotWait (Ok (reading.Blocked required)) = ⊥
+DoesNotWait answer = Unit {0}
+
 -- what a call answers. A section is encoded, unless memory is refused or no stream has its number; a capacity is set,
 -- unless it is above the maximum, or an entry would have to go that is still needed, or memory is refused; the encoder
 -- refuses nothing of the decoder stream; the decoder answers how many insertions it received, or that memory is refused;
--- a section is decoded to what was handed to it, or waits; a stream is cancelled, unless memory is refused
+-- a section is decoded to what was handed to it, or waits, but not once all insertions were received; a stream is
+-- cancelled, unless memory is refused or no stream has its number
 abbrev pub Answers : (call : Call) (old new : Connection) → Step call old new → Type 0
 Answers (Encode s fields (Ok required)) old new step = Unit {0}
 Answers (Encode s fields (Err e)) old new step = StopsEncoding s e
 Answers (SetCapacity capacity (Ok done)) old new step = Unit {0}
 Answers (SetCapacity capacity (Err e)) old new step = StopsTelling old.encoder.table capacity e
 Answers (Hear bytes answer) old new step = answer ≡ Ok tt
-Answers (Receive bytes answer) old new step = AnswersTotal new answer
-Answers (Decode s fields answer) old new step = AnswersSection old.decoder s step.section fields answer
+Answers (Receive bytes answer) old new step = AnswersTotal new answer × HasAll new answer
+Answers (Decode s fields answer) old new step =
+    AnswersSection old.decoder s step.section fields answer
+    × (insert_count old.decoder.table ≡ insert_count old.encoder.table → DoesNotWait answer)
 Answers (Cancel s (Ok done)) old new step = Unit {0}
 Answers (Cancel s (Err e)) old new step = StopsCancelling s e
 

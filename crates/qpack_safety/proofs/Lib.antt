@@ -32,4 +32,5 @@ pub mod LawfulFlights
 pub mod HandedSections
 pub mod ManySteps
 pub mod Limits
+pub mod MadeInsertions
 pub mod CountedBlocks
