@@ -1,10 +1,10 @@
 -- What is kept beside the session by each call of a connection in bytes: the encoder's soundness, and that the streams
 -- that the decoder counts as blocked wait with their next sections.
-use Rattle.std.proofs.Common.{◌≡◌, ◌≤◌, ◌<◌, ℕ, zero, suc, Bool, true, false, cond, List, [], ◌∷◌, ◌++◌, Option, None, Some}
-use Rattle.std.proofs.Common.{Result, Ok, Err, IfSome, refl, sym, ap, subst, ◌∙◌, arith}
-use Rattle.std.specs.List.{AllByRecursion, filter}
-use Rattle.std.specs.Option.{option_map, is_some, IsSome}
-use Rattle.std.specs.Prelude.{⊤, nat_eq, not, find, slice_get}
+use Rattle.std.proofs.Common.{◌≡◌, ℕ, zero, suc, Bool, true, false, cond, List, [], ◌∷◌, ◌++◌, Option, None, Some}
+use Rattle.std.proofs.Common.{IfSome, refl, sym, ap, subst, ◌∙◌}
+use Rattle.std.specs.List.{AllByRecursion}
+use Rattle.std.specs.Option.{IsSome}
+use Rattle.std.specs.Prelude.{nat_eq, not, slice_get}
 use Rattle.std.proofs.lemmas.Bool.{eqb-true}
 use Rattle.qpack_spec.specs.Session.{RequestStream, stream_at, with_stream, oldest_undecoded}
 use Rattle.qpack_spec.proofs.Lists.{every_weaker}

@@ -24,4 +24,6 @@ pub mod RefinedDecodes
 pub mod WaitingStreams
 pub mod RefinedRefusals
 pub mod KeptConnections
+pub mod KeptEncoderCalls
+pub mod KeptDecoderCalls
 pub mod TwoEndsHeadline

@@ -1,9 +1,8 @@
 -- What a connection in bytes decodes is what the session of values decodes.
-use Rattle.std.proofs.Common.{◌≡◌, ◌≤◌, ◌<◌, ◌^◌, ◌+◌, ◌-◌, ℕ, zero, suc, Bool, true, false, cond, List, [], ◌∷◌, ◌++◌}
+use Rattle.std.proofs.Common.{◌≡◌, ◌≤◌, ◌<◌, ◌^◌, ◌+◌, ℕ, zero, suc, Bool, true, false, cond, List, [], ◌∷◌, ◌++◌}
 use Rattle.std.proofs.Common.{length, Option, None, Some, Result, Ok, Err, refl, sym, ap, subst, ◌∙◌, arith, inl, inr, ◌⊎◌}
-use Rattle.std.specs.List.{AllByRecursion}
 use Rattle.std.specs.Option.{is_some}
-use Rattle.std.specs.Prelude.{⊤, nat_eq, nat_lt, not, slice_get}
+use Rattle.std.specs.Prelude.{nat_eq, nat_lt, not, slice_get}
 use Rattle.std.proofs.lemmas.Bool.{cases_lt, ne_eqb, eq-eqb, lt-ltb}
 use Rattle.std.proofs.lemmas.List.{append_assoc, append-nil}
 use Rattle.qpack_spec.specs.Field.{FieldLine, fields_of_lines, total_size}
@@ -12,7 +11,7 @@ use Rattle.qpack_spec.specs.Instruction.{written_decoder_instructions}
 use Rattle.qpack_spec.specs.Session.{RequestStream, stream_at, with_stream, oldest_undecoded, increments, pieces_of}
 use Rattle.qpack_spec.specs.StrictReading.{StrictReading, strict_reading, Read, Blocked, Refused}
 use Rattle.qpack_spec.specs.StrictReading as strict
-use Rattle.qpack_spec.specs.Table.{Table, table_of, window, insert_count}
+use Rattle.qpack_spec.specs.Table.{window, insert_count}
 use Rattle.qpack_spec.specs.Window.{Window, window_insert_count}
 use Rattle.qpack_spec.specs.WrittenLaws.{IsWritableDecoderInstruction}
 use Rattle.qpack_spec.proofs.Lists.{every_append}
@@ -34,11 +33,11 @@ use Rattle.qpack_connection.specs.declared.section.Reading.{Reading}
 use Rattle.qpack_connection.specs.declared.section.Reading.TheVariants as reading
 use Rattle.qpack_connection.specs.declared.section.SectionError.{SectionError}
 use Rattle.qpack_connection.specs.declared.section.SectionError.TheVariants as section
-use Rattle.qpack_connection.specs.Connections.{SentSection, Connection, with_decoder, with_reading, DecodesOn}
+use Rattle.qpack_connection.specs.Connections.{SentSection, Connection, with_decoder, with_reading}
 use Rattle.qpack_connection.specs.Decoders.{DecodingEnd, acknowledged, with_report, unreported, refused, Checks}
-use Rattle.qpack_connection.specs.Decoders.{IsNotAnswered, GivesReading, StopsForMemory, StopsDecoding, Decodes}
+use Rattle.qpack_connection.specs.Decoders.{IsNotAnswered, StopsForMemory, StopsDecoding, Decodes}
 use Rattle.qpack_connection.specs.RefinedConnections.{RefinesSection, RefinesStream, RefinesSession}
-use Rattle.qpack_connection.specs.RefinedDecodes.{AnswersSection, MayWait, DecodesAreRefined}
+use Rattle.qpack_connection.specs.RefinedDecodes.{AnswersSection, DecodesAreRefined}
 use Rattle.qpack_connection.specs.RefinedStreams.{IsOpen}
 use Rattle.qpack_connection.specs.Sections.{TellsReading, code_of}
 use Rattle.qpack_connection.proofs.RefinedCancellations.{written_back}

@@ -1,6 +1,6 @@
 -- What the encoder of a connection in bytes hears is what the encoder of the session hears.
-use Rattle.std.proofs.Common.{◌≡◌, ◌≤◌, ◌+◌, ◌-◌, ℕ, List, [], ◌∷◌, ◌++◌, length, take, drop, Option, None, Result, Ok}
-use Rattle.std.proofs.Common.{Err, refl, sym, ap, subst, ◌∙◌, arith, length-append, length-drop, take-add}
+use Rattle.std.proofs.Common.{◌≡◌, ◌≤◌, ◌+◌, ◌-◌, ℕ, List, [], ◌++◌, length, take, drop, Result, Ok}
+use Rattle.std.proofs.Common.{Err, refl, sym, ap, subst, ◌∙◌, arith, length-drop, take-add}
 use Rattle.std.specs.Prelude.{⊤}
 use Rattle.std.proofs.lemmas.List.{append_assoc, append-nil, append_cancel_left, take-append-drop, length-take, take_min}
 use Rattle.qpack_spec.specs.Instruction.{DecoderInstruction, SpellsDecoderInstruction, decoder_instruction_form}
@@ -16,7 +16,7 @@ use Rattle.qpack_safety.proofs.ManySteps.{heard_many}
 use Rattle.qpack_safety.proofs.TwoEnds.{Holds, holds_started, holds_behind}
 use Rattle.qpack_connection.specs.declared.encoder.EncodingError.{EncodingError}
 use Rattle.qpack_connection.specs.declared.encoder.EncodingError.TheVariants.{DecoderStream}
-use Rattle.qpack_connection.specs.Connections.{Wire, Connection, next_of, behind_received, with_encoder, HearsOn}
+use Rattle.qpack_connection.specs.Connections.{Wire, Connection, next_of, behind_received, with_encoder}
 use Rattle.qpack_connection.specs.Encoders.{EncodingEnd, ReceivesBytes, received}
 use Rattle.qpack_connection.specs.Hearing as hearing
 use Rattle.qpack_connection.specs.RefinedConnections.{received_of, RefinesSession}

@@ -1,19 +1,18 @@
 -- What the decoder of a connection in bytes receives is what the decoder of the session takes, and reports.
-use Rattle.std.proofs.Common.{◌≡◌, ◌≤◌, ◌+◌, ◌-◌, ℕ, List, [], ◌∷◌, ◌++◌, length, take, drop, Option, None, Some, Result}
+use Rattle.std.proofs.Common.{◌≡◌, ◌≤◌, ◌+◌, ◌-◌, ℕ, List, [], ◌∷◌, ◌++◌, length, take, drop, None, Some, Result}
 use Rattle.std.proofs.Common.{Ok, Err, refl, sym, ap, subst, ◌∙◌, arith, length-append, inl, inr}
 use Rattle.std.specs.Prelude.{⊤}
 use Rattle.std.proofs.lemmas.List.{append_assoc, append-nil, append_cancel_left, take-append-drop}
 use Rattle.qpack_spec.specs.Bytes.{◌>>=◌}
 use Rattle.qpack_spec.specs.Form.{Truncates}
-use Rattle.qpack_spec.specs.Instruction.{EncoderInstruction, DecoderInstruction, SpellsEncoderInstruction}
+use Rattle.qpack_spec.specs.Instruction.{EncoderInstruction, SpellsEncoderInstruction}
 use Rattle.qpack_spec.specs.Instruction.{encoder_instruction_form, written_decoder_instructions}
-use Rattle.qpack_spec.specs.LawfulStreams.{IsLawfulStream}
 use Rattle.qpack_spec.specs.Session.{increments, pieces_of}
 use Rattle.qpack_spec.specs.Stream.{SpellsAll}
 use Rattle.qpack_spec.specs.StrictInstructions.{strict_apply}
 use Rattle.qpack_spec.specs.Table.{Table, empty_table, table_of, insert_count}
 use Rattle.qpack_spec.specs.Taking.{apply_in_turn}
-use Rattle.qpack_spec.specs.Window.{Window, TableRefusal, window_insert_count}
+use Rattle.qpack_spec.specs.Window.{Window, TableRefusal}
 use Rattle.qpack_spec.proofs.Cuttings.{wire, reads_front, reads_delivered}
 use Rattle.qpack_spec.proofs.Lists.{front_of}
 use Rattle.qpack_spec.proofs.Pieces.{pieces_small}
@@ -30,7 +29,7 @@ use Rattle.qpack_connection.specs.declared.decoder.DecodingError.{DecodingError}
 use Rattle.qpack_connection.specs.declared.decoder.DecodingError.TheVariants as decoding
 use Rattle.qpack_connection.specs.declared.receiving.EncoderStreamError.{EncoderStreamError}
 use Rattle.qpack_connection.specs.declared.receiving.EncoderStreamError.TheVariants.{Refused, Memory}
-use Rattle.qpack_connection.specs.Connections.{Wire, Connection, next_of, behind_received, with_decoder, ReceivesOn}
+use Rattle.qpack_connection.specs.Connections.{Connection, next_of, behind_received, with_decoder}
 use Rattle.qpack_connection.specs.Decoders.{DecodingEnd, received, with_report, unreported, EndsReceiving, ReceivesBytes}
 use Rattle.qpack_connection.specs.Receiving as receiving
 use Rattle.qpack_connection.specs.Receiving.{StreamView, ReceivesMore}

@@ -1,12 +1,10 @@
 -- A call of a connection in bytes that is refused leaves a session of values.
-use Rattle.std.proofs.Common.{◌≡◌, ◌<◌, ◌≤◌, ◌^◌, ℕ, zero, suc, List, [], ◌∷◌, ◌++◌, length, take, Option, None, Some, Result}
+use Rattle.std.proofs.Common.{◌≡◌, ◌<◌, ◌≤◌, ◌^◌, ℕ, zero, suc, List, [], ◌∷◌, ◌++◌, length, take, Option, None, Some}
 use Rattle.std.proofs.Common.{Ok, Err, refl, sym, ap, subst, ◌∙◌, arith, inl, inr, ◌⊎◌, length-append}
 use Rattle.std.specs.List.{AllByRecursion}
-use Rattle.std.specs.Prelude.{⊤}
-use Rattle.std.specs.Option.{IsSome}
-use Rattle.std.proofs.lemmas.List.{append_assoc, append-nil}
+use Rattle.std.proofs.lemmas.List.{append_assoc}
 use Rattle.qpack_spec.specs.Field.{FieldLine, fields_of_lines}
-use Rattle.qpack_spec.specs.Instruction.{EncoderInstruction, written_encoder_instructions}
+use Rattle.qpack_spec.specs.Instruction.{written_encoder_instructions}
 use Rattle.qpack_spec.specs.Marked.{marked_rule}
 use Rattle.qpack_spec.specs.Table.{Table, without_references}
 use Rattle.qpack_spec.specs.WrittenLaws.{IsByteField}
@@ -17,8 +15,6 @@ use Rattle.qpack_safety.specs.TwoEnds.{EndStep, Abandon, after_end_step, after_e
 use Rattle.qpack_safety.proofs.Invariant.{Invariant}
 use Rattle.qpack_safety.proofs.TwoEnds.{holds_started, holds_behind}
 use Rattle.qpack_safety.proofs.WritingEvents.{few_insertions}
-use Rattle.qpack_connection.specs.declared.decoder.DecodingError.{DecodingError}
-use Rattle.qpack_connection.specs.declared.encoder.EncodingError.{EncodingError}
 use Rattle.qpack_connection.specs.declared.decoder.DecodingError.TheVariants as decoding
 use Rattle.qpack_connection.specs.declared.encoder.EncodingError.TheVariants as encoding
 use Rattle.qpack_connection.specs.Decoders as decoders

@@ -1,10 +1,10 @@
 -- No more streams of a connection in bytes wait than may.
-use Rattle.std.proofs.Common.{◌≡◌, ◌≤◌, ◌<◌, ◌+◌, ℕ, suc, Bool, true, false, cond, List, [], ◌∷◌, length, map}
-use Rattle.std.proofs.Common.{Option, None, Some, refl, sym, ap, subst, ◌∙◌, arith}
+use Rattle.std.proofs.Common.{◌≡◌, ◌≤◌, ◌<◌, ℕ, Bool, true, false, cond, List, [], ◌∷◌, map}
+use Rattle.std.proofs.Common.{Some, refl, sym, ap, ◌∙◌, arith}
 use Rattle.std.proofs.lemmas.List.{length-map}
 use Rattle.std.specs.List.{AllByRecursion, filter}
 use Rattle.std.specs.Option.{option_map, is_some}
-use Rattle.std.specs.Prelude.{nat_eq, nat_lt, find, ◌||◌}
+use Rattle.std.specs.Prelude.{nat_eq, nat_lt, find}
 use Rattle.std.proofs.lemmas.Bool.{eqb-true, eqb-false, ne_eqb, ltb-true, ltb-false}
 use Rattle.qpack_spec.specs.Session.{stream_at, oldest_undecoded}
 use Rattle.qpack_spec.specs.Table.{insert_count, has_number}
@@ -14,7 +14,7 @@ use Rattle.qpack_safety.specs.TwoEnds.{EndStep, after_end_steps}
 use Rattle.qpack_safety.proofs.CountedBlocks.{AreWaiting, waiting_within}
 use Rattle.qpack_safety.proofs.TwoEnds.{strict_ends_safe}
 use Rattle.qpack_connection.specs.declared.blocked.BlockedStream.{BlockedStream}
-use Rattle.qpack_connection.specs.Blocked.{is_listed, required_of, exceeds, blocked_among}
+use Rattle.qpack_connection.specs.Blocked.{is_listed, required_of, exceeds}
 use Rattle.qpack_connection.specs.Connections.{SentSection, Connection}
 use Rattle.qpack_connection.specs.RefinedConnections.{RefinesSession}
 use Rattle.qpack_connection.specs.RefinedDecodes.{MayWait}

@@ -1,13 +1,13 @@
 -- What a decode on a connection in bytes answers: the fields that were handed to the section, with their marks, or how
 -- many insertions it waits for, and else only what the decoder's own limit and memory are to blame for (RFC 9204,
 -- sections 2.1.2, 2.2 and 7.1.3).
-use Rattle.std.specs.Prelude.{◌≡◌, ◌<◌, ◌≤◌, ◌^◌, ℕ, ⊤, List, [], ◌++◌, None, Result, Ok, Err}
+use Rattle.std.specs.Prelude.{◌≡◌, ◌<◌, ◌≤◌, ◌^◌, ℕ, List, [], ◌++◌, None, Result, Ok, Err}
 use Rattle.qpack_spec.specs.Field.{FieldLine, fields_of_lines, total_size}
 use Rattle.qpack_spec.specs.Table.{insert_count}
 use Rattle.qpack_safety.specs.AbstractSession.{abstract_start}
 use Rattle.qpack_safety.specs.TwoEnds.{EndStep, after_end_steps}
 use Rattle.qpack_connection.specs.declared.decoder.DecodingError.{DecodingError}
-use Rattle.qpack_connection.specs.declared.decoder.DecodingError.TheVariants.{Section, TooManyBlocked, NoStream, Memory}
+use Rattle.qpack_connection.specs.declared.decoder.DecodingError.TheVariants.{Section, NoStream, Memory}
 use Rattle.qpack_connection.specs.declared.section.Reading.{Reading}
 use Rattle.qpack_connection.specs.declared.section.Reading.TheVariants as reading
 use Rattle.qpack_connection.specs.Connections.{SentSection, Connection, DecodesOn}

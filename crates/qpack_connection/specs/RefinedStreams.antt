@@ -1,6 +1,6 @@
 -- What comes of the two instruction streams of a connection in bytes is what the ends of a session of values take, and
 -- neither end refuses it (RFC 9204, sections 4.2 to 4.4).
-use Rattle.std.specs.Prelude.{◌≡◌, ◌≤◌, ℕ, ⊤, List, ◌++◌, None, Result, Ok, Err}
+use Rattle.std.specs.Prelude.{◌≡◌, ℕ, ⊤, List, ◌++◌, None, Result, Ok, Err}
 use Rattle.qpack_spec.specs.Table.{insert_count}
 use Rattle.qpack_safety.specs.AbstractSession.{abstract_start}
 use Rattle.qpack_safety.specs.TwoEnds.{EndStep, after_end_steps}

@@ -1,7 +1,7 @@
 -- The theorem of two ends, over calls and their answers: whatever calls are made of the two ends of a connection, in
 -- whatever order, and however the bytes of both streams are cut, neither end refuses what the other sent, and each
 -- section is decoded to exactly what was handed to its encode (RFC 9204, sections 2 to 4).
-use Rattle.std.specs.Prelude.{◌≡◌, ◌<◌, ◌≤◌, ◌^◌, ℕ, ◌⊎◌, List, [], ◌∷◌, length, Result, Ok, Err}
+use Rattle.std.specs.Prelude.{◌≡◌, ◌<◌, ◌≤◌, ◌^◌, ℕ, List, [], ◌∷◌, length, Result, Ok, Err}
 use Rattle.std.specs.List.{AllByRecursion}
 use Rattle.qpack_spec.specs.Field.{fields_of_lines}
 use Rattle.qpack_spec.specs.Table.{insert_count}
