@@ -1,7 +1,6 @@
 -- The encoder of two strict ends counts the blocked blocks of a session of values.
-use Rattle.std.proofs.Common.{ℕ, zero, suc, ◌+◌, ◌<◌, ◌≤◌, ◌≡◌, Bool, true, false, cond, List, [], ◌∷◌, ◌++◌, length, map}
+use Rattle.std.proofs.Common.{ℕ, zero, suc, ◌<◌, ◌≤◌, ◌≡◌, Bool, true, false, cond, List, [], ◌∷◌, ◌++◌, length, map}
 use Rattle.std.proofs.Common.{Option, None, Some, Result, Ok, Err, refl, sym, ap, ◌∙◌, subst, inl, inr, ◌⊎◌, arith}
-use Rattle.std.proofs.Common.{length-append}
 use Rattle.std.specs.List.{filter, slice_get}
 use Rattle.std.specs.Prelude.{nat_eq, nat_lt, not}
 use Rattle.std.proofs.lemmas.Bool.{cond_both, le-ltb, lt-ltb}
@@ -16,7 +15,6 @@ use Rattle.qpack_spec.specs.Session.{KeptBlock, KeptStream, stream_at, with_stre
 use Rattle.qpack_spec.specs.Session.{pieces_of, blocked_on, blocked_among}
 use Rattle.qpack_spec.specs.Table.{Table, has_number, without_references, with_capacity, apply_decoder_instruction}
 use Rattle.qpack_spec.specs.Window.{Window, TableRefusal, apply}
-use Rattle.qpack_spec.proofs.Drafts.{Drafting}
 use Rattle.qpack_spec.proofs.MarkedDrafts.{marked_drafts}
 use Rattle.qpack_safety.specs.AbstractSession.{AbstractBlock, required_count, is_dynamic, AbstractStream, AbstractSession}
 use Rattle.qpack_safety.specs.AbstractSession.{abstract_start, next_reading, waits_for_acknowledgment, after_encode}
@@ -28,7 +26,7 @@ use Rattle.qpack_safety.specs.TwoEnds.{Cancel, Forget, decode_steps, after_end_s
 use Rattle.qpack_safety.proofs.BlockedBlocks.{CountsBlocked, counts_table, counts_stream, counts_pushed, counts_heard}
 use Rattle.qpack_safety.proofs.BlockedBlocks.{among_changed, among_split}
 use Rattle.qpack_safety.proofs.CountedEvents.{unnamed_known, unnamed_waiting}
-use Rattle.qpack_safety.proofs.Invariant.{Invariant, sound_made}
+use Rattle.qpack_safety.proofs.Invariant.{sound_made}
 use Rattle.qpack_safety.proofs.Resizing.{CanResize, resized_table, resized_cases, same_resized}
 use Rattle.qpack_safety.proofs.TwoEnds.{Holds, holds_started, holds_step, holds_behind}
 

@@ -1,13 +1,13 @@
 -- A strict decoder with a smaller limit on the sizes of fields answers the same, or that a section is over its limit.
 use Rattle.std.proofs.Common.{ℕ, zero, suc, ◌+◌, ◌-◌, ◌≡◌, Bool, true, false, cond, List, [], ◌∷◌, length, Result, Ok, Err}
-use Rattle.std.proofs.Common.{refl, sym, ap, ◌∙◌, subst, inl, inr, ◌⊎◌}
+use Rattle.std.proofs.Common.{refl, ap, inl, inr, ◌⊎◌}
 use Rattle.std.specs.Prelude.{nat_lt, nat_eq, ◌&&◌}
 use Rattle.qpack_spec.specs.Bytes.{◌>>=◌}
 use Rattle.qpack_spec.specs.BlockReading.{or_bad_form}
 use Rattle.qpack_spec.specs.Field.{Field, FieldLine, field_size}
 use Rattle.qpack_spec.specs.Form.{FormFault, form_at}
 use Rattle.qpack_spec.specs.LengthLaws.{longest_section}
-use Rattle.qpack_spec.specs.Line.{Line, line_form}
+use Rattle.qpack_spec.specs.Line.{line_form}
 use Rattle.qpack_spec.specs.Prefix.{Prefix, PrefixFault, read_prefix, prefix_at}
 use Rattle.qpack_spec.specs.Stateless.{saturated_size}
 use Rattle.qpack_spec.specs.StrictReading.{LineFault, TooLarge, SectionFault, TooLong, InLine, CountAtZero, StrictReading}
