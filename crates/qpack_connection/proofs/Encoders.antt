@@ -96,7 +96,7 @@ begins_sound d new capacity r sound wanted tells =
 -- ---- what stays while the decoder stream is received
 
 -- the entries are the same, and the maximum capacity is
-abbrev Keeps : Table → Table → Type 0
+abbrev pub Keeps : Table → Table → Type 0
 Keeps t u = (u.live ≡ t.live) × (u.agreed_max ≡ t.agreed_max)
 
 kept_as : (t u v : Table) → Keeps t u → v ≡ u → Keeps t v
@@ -131,7 +131,7 @@ all_keep t u (i ∷ is) e =
     (last.0 ∙ first.0, last.1 ∙ first.1)
 
 -- a capacity that is to be told still is
-told_still : (d new : EncodingEnd) (o : Option ℕ) → new.settings ≡ d.settings → Keeps d.table new.table
+pub told_still : (d new : EncodingEnd) (o : Option ℕ) → new.settings ≡ d.settings → Keeps d.table new.table
     → IfSome o (λ c. IsToBeTold d c) → IfSome o (λ c. IsToBeTold new c)
 told_still d new None same keeps k = k
 told_still d new (Some c) same keeps k =

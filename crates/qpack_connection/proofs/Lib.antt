@@ -18,3 +18,12 @@ pub mod LawfulPieces
 pub mod RefinedConnections
 pub mod RefinedCapacities
 pub mod RefinedCancellations
+pub mod RefinedHearings
+pub mod RefinedReceptions
+pub mod RefinedDecodes
+pub mod WaitingStreams
+pub mod RefinedRefusals
+pub mod KeptConnections
+pub mod KeptEncoderCalls
+pub mod KeptDecoderCalls
+pub mod TwoEndsHeadline

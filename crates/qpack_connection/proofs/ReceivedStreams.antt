@@ -1,5 +1,5 @@
 -- An encoder stream that is received piece by piece.
-use Rattle.std.proofs.Common.{◌≡◌, ℕ, ◌<◌, List, [], ◌∷◌, ◌++◌, length, Result, Ok, Err, refl, sym, ap}
+use Rattle.std.proofs.Common.{◌≡◌, ℕ, ◌<◌, ◌≤◌, List, [], ◌∷◌, ◌++◌, length, Result, Ok, Err, refl, sym, ap}
 use Rattle.std.proofs.Common.{◌+◌, ◌-◌, subst, ◌∙◌, inl, inr, arith, append_assoc, length-append, drop}
 use Rattle.std.proofs.lemmas.List.{length-drop}
 use Rattle.std.specs.Prelude.{⊤}
@@ -144,17 +144,26 @@ pub answers_refused : (start old new : Table) (before bytes left : List ℕ) (s 
 answers_refused start old new before bytes left s u Memory k = absurd (never_memory new k.0.rest Memory k.0.ends refl)
 answers_refused start old new before bytes left s u e k = (never_memory new k.0.rest e k.0.ends, k)
 
+-- what is left of some bytes is no longer than they
+no_longer : (pending bytes front rest kept : List ℕ) → pending ++ bytes ≡ front ++ rest → kept ≡ rest
+    → length kept ≤ length pending + length bytes
+no_longer pending bytes front rest kept cut same =
+    omega (arith, ap length same, ap length cut, length-append pending bytes, length-append front rest)
+
 -- an instruction was not taken
 pub answers_not_taken : (start old new : Table) (place : Place) (before bytes left grown kept : List ℕ) (s : StreamView)
     (e : DecoderError) → Receives start old before s → grown ≡ s.pending ++ bytes
     → TakesAllStrictly old new s.place place grown kept (Err e) → left ≡ []
     → ReceivesMore start old new before bytes left s (record { pending = kept; wanted = 0; place = place })
     (Err (stream_error_at place e))
+unfolding taken_on
 answers_not_taken start old new place before bytes left grown kept s e k is takes none = by_stop m.0.ends
   where
+    more : TakesAllStrictly old new s.place place (s.pending ++ bytes) kept (Err e)
+    more = subst (λ (x : List ℕ). TakesAllStrictly old new s.place place x kept (Err e)) is takes
+
     m : TakesUpTo start new (before ++ bytes) place (λ rest. StopsStrictly new rest kept e)
-    m = taken_on start old new s.place place before bytes s.pending _ _ k k.0.ends.0
-        (subst (λ (x : List ℕ). TakesAllStrictly old new s.place place x kept (Err e)) is takes)
+    m = taken_on start old new s.place place before bytes s.pending _ _ k k.0.ends.0 more
 
     by_stop : StopsStrictly new m.0.rest kept e
         → ReceivesMore start old new before bytes left s (record { pending = kept; wanted = 0; place = place })
@@ -165,6 +174,7 @@ answers_not_taken start old new place before bytes left grown kept s e k is take
           none,
           subst (λ (x : List ℕ). AsksToTake new x) (sym stops.2) stops.0,
           ends_up _ _ _ m (sym stops.2, λ some. absurd (omega (arith, some))),
+          no_longer s.pending bytes more.0.front more.0.rest kept more.0.cut stops.2,
         ))
     by_stop (inr refuses) =
         answers_refused start old new before bytes left s (record { pending = kept; wanted = 0; place = place }) e

@@ -1,5 +1,5 @@
 -- A stream that is cancelled on a connection in bytes is one that the session of values cancels.
-use Rattle.std.proofs.Common.{◌≡◌, ◌<◌, ◌^◌, ℕ, Bool, true, false, cond, List, [], ◌∷◌, ◌++◌}
+use Rattle.std.proofs.Common.{◌≡◌, ◌<◌, ◌^◌, ◌+◌, ℕ, Bool, true, false, cond, List, [], ◌∷◌, ◌++◌}
 use Rattle.std.proofs.Common.{Some, Ok, refl, sym, ap, subst, ◌∙◌, arith, length-append}
 use Rattle.std.specs.List.{AllByRecursion}
 use Rattle.std.specs.Prelude.{nat_eq}
@@ -8,14 +8,14 @@ use Rattle.qpack_spec.specs.Instruction.{DecoderInstruction, Cancellation, Spell
 use Rattle.qpack_spec.specs.Instruction.{written_decoder_instruction, written_decoder_instructions}
 use Rattle.qpack_spec.specs.Session.{RequestStream, stream_at, with_stream}
 use Rattle.qpack_spec.specs.Stream.{SpellsAll}
-use Rattle.qpack_spec.specs.Table.{Table, empty_table}
+use Rattle.qpack_spec.specs.Table.{Table, empty_table, insert_count}
 use Rattle.qpack_spec.specs.WrittenLaws.{IsWritableDecoderInstruction}
 use Rattle.qpack_spec.proofs.Cuttings.{joined_append}
 use Rattle.qpack_safety.specs.AbstractSession.{AbstractStream, AbstractSession, abstract_start}
 use Rattle.qpack_safety.specs.TwoEnds.{EndStep, Cancel, Forget, after_end_steps}
 use Rattle.qpack_safety.proofs.Shown.{decoder_instructions_joined}
 use Rattle.qpack_connection.specs.Connections.{SentSection, Connection, with_decoder, with_cancelled}
-use Rattle.qpack_connection.specs.Decoders.{DecodingEnd, unreported}
+use Rattle.qpack_connection.specs.Decoders.{DecodingEnd}
 use Rattle.qpack_connection.specs.Hearing as hearing
 use Rattle.qpack_connection.specs.Receiving as receiving
 use Rattle.qpack_connection.specs.RefinedConnections.{received_of, RefinesStream, RefinesSession}
@@ -23,10 +23,10 @@ use Rattle.qpack_connection.specs.RefinedConnections.{CancellationsAreRefined}
 use Rattle.qpack_connection.proofs.RefinedConnections.{after_more}
 
 -- the decoder wrote instructions, and all is sent; its table and what waits are as before
-written_back : (maximum : ℕ) (c : Connection) (w : AbstractSession) (d : DecodingEnd)
+pub written_back : (maximum : ℕ) (c : Connection) (w : AbstractSession) (d : DecodingEnd)
     (rs flight : List DecoderInstruction) (n : ℕ) (ps : List (ℕ × RequestStream SentSection))
     (qs : List (ℕ × AbstractStream)) → RefinesSession maximum c w → d.table ≡ c.decoder.table
-    → d.stream ≡ c.decoder.stream → unreported d ≡ n → d.unsent ≡ written_decoder_instructions rs
+    → d.stream ≡ c.decoder.stream → d.reported + n ≡ insert_count d.table → d.unsent ≡ written_decoder_instructions rs
     → AllByRecursion IsWritableDecoderInstruction rs → flight ≡ w.decoder_in_flight ++ rs
     → ((s : ℕ) → RefinesStream (stream_at ps s) (stream_at qs s))
     → RefinesSession maximum (record (with_decoder d c) { streams = ps })
@@ -42,7 +42,7 @@ written_back maximum c w d rs flight n ps qs k table stream told unsent are more
     record {
       encoder_is = k.encoder_is;
       decoder_is = table ∙ k.decoder_is;
-      unreported_is = told;
+      reported_is = told;
       encoder_sent = k.encoder_sent;
       decoder_sent = refl;
       encoder_stream = k.encoder_stream;
@@ -109,8 +109,8 @@ cancellations_refined maximum limit c new steps s r call = both (nat_eq c.decode
         (stream_at (with_stream w.streams s (record (stream_at w.streams s) { cancelled = true })) q)
     streams = both_cancelled s c.streams w.streams r.streams
 
-    told : unreported call.decoder ≡ w.unreported
-    told = ap unreported call.call.1 ∙ r.unreported_is
+    told : call.decoder.reported + w.unreported ≡ insert_count call.decoder.table
+    told = subst (λ (d : DecodingEnd). d.reported + w.unreported ≡ insert_count d.table) (sym call.call.1) r.reported_is
 
     unsent : (b : Bool) → nat_eq c.decoder.settings.max_capacity 0 ≡ b
         → call.decoder.unsent ≡ written_decoder_instructions (cond b [] (Cancellation s ∷ []))

@@ -1,5 +1,5 @@
 -- A new connection in bytes is the session of values at its beginning, and a capacity that is set is one that it sets.
-use Rattle.std.proofs.Common.{◌≡◌, ◌≤◌, ◌<◌, ◌^◌, ◌-◌, ℕ, List, [], ◌∷◌, ◌++◌}
+use Rattle.std.proofs.Common.{◌≡◌, ◌≤◌, ◌<◌, ◌^◌, ℕ, List, [], ◌∷◌, ◌++◌}
 use Rattle.std.proofs.Common.{Option, None, Some, Result, Ok, Err, refl, sym, ap, subst, ◌∙◌, arith, inl, inr}
 use Rattle.std.specs.Prelude.{nat_le}
 use Rattle.std.proofs.lemmas.Bool.{leb-true}
@@ -57,8 +57,7 @@ new_refined c k =
     record {
       encoder_is = k.encoder.table;
       decoder_is = table ∙ empty_decoder maximum;
-      unreported_is = ap (λ (t : Table). insert_count t - c.decoder.reported) table
-          ∙ ap (λ (n : ℕ). 0 - n) k.decoder.reported;
+      reported_is = omega (arith, k.decoder.reported, ap insert_count table);
       encoder_sent = k.encoder.unsent;
       decoder_sent = k.decoder.unsent;
       encoder_stream = ap (λ (w : Wire). w.written) k.encoder_stream;
@@ -109,7 +108,7 @@ told_refined maximum c w e n r tells =
     (omega (arith, capacity_small w.encoder e.table n takes), tt) refl r.streams)
 
 -- nothing is done
-same_refined : (maximum : ℕ) (c : Connection) (w : AbstractSession) (e : EncodingEnd) → RefinesSession maximum c w
+pub same_refined : (maximum : ℕ) (c : Connection) (w : AbstractSession) (e : EncodingEnd) → RefinesSession maximum c w
     → e ≡ c.encoder → RefinesSession maximum (with_encoder e c) w
 unfolding written_encoder_instructions
 same_refined maximum c w e r same =

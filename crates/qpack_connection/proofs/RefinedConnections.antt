@@ -22,6 +22,7 @@ use Rattle.qpack_spec.proofs.WrittenDrafts.{instructions_fit}
 use Rattle.qpack_safety.specs.AbstractSession.{AbstractBlock, AbstractStream, AbstractSession, abstract_start}
 use Rattle.qpack_safety.specs.AbstractSession.{after_resize}
 use Rattle.qpack_safety.specs.TwoEnds.{EndStep, Encode, EncodeAlone, Resize, after_end_step, after_end_steps}
+use Rattle.qpack_safety.proofs.HandedSections.{marked_block, alone_block}
 use Rattle.qpack_safety.proofs.Invariant.{Invariant}
 use Rattle.qpack_safety.proofs.Shown.{agrees_push, instructions_joined}
 use Rattle.qpack_safety.proofs.TwoEnds.{holds_started, holds_behind}
@@ -53,7 +54,7 @@ written_more maximum c w e t is flight ps qs k table stream unsent are more stre
     record {
       encoder_is = table;
       decoder_is = k.decoder_is;
-      unreported_is = k.unreported_is;
+      reported_is = k.reported_is;
       encoder_sent = refl;
       decoder_sent = k.decoder_sent;
       encoder_stream =
@@ -106,10 +107,11 @@ section_more s k b ps qs is all q = both (nat_eq s q)
 section_refined : (maximum limit : ℕ) (c : Connection) (w : AbstractSession) (e : EncodingEnd) (s : ℕ)
     (fields : List FieldLine) (section : List ℕ) (required : ℕ) → Invariant 0 maximum limit w
     → RefinesSession maximum c w → AllByRecursion IsByteField (fields_of_lines fields)
-    → length (c.encoder_stream.written ++ e.unsent) < 2 ^ 63 → WritesSection c.encoder e s fields [] section required
+    → length (c.encoder_stream.written ++ e.unsent) < 2 ^ 63 → length section < 2 ^ 63
+    → WritesSection c.encoder e s fields [] section required
     → RefinesSession maximum (with_section s fields section (Ok required) (with_encoder e c))
     (after_end_step w (Encode s fields))
-section_refined maximum limit c w e s fields section required k r are short writes =
+section_refined maximum limit c w e s fields section required k r are short small writes =
     let d = marked_rule w.encoder fields in
     let x = writes.section in
     let table : e.table ≡ committed_table d s =
@@ -131,27 +133,37 @@ section_refined maximum limit c w e s fields section required k r are short writ
           ∙ ap (λ (t : Table). written_marked_block fields (block_of t (marked_rule t fields))) r.encoder_is;
       required_is = x.required_is
           ∙ ap (λ (t : Table). greatest_of (marked_rule t fields).table.referenced) r.encoder_is;
+      block_is = marked_block 0 maximum limit w s fields k _ refl refl;
+      are_bytes = are;
+      short = small;
     }) r.streams)
 
 -- a section without references
 alone_refined : (maximum : ℕ) (c : Connection) (w : AbstractSession) (e : EncodingEnd) (s : ℕ)
     (fields : List FieldLine) (section : List ℕ) (required : ℕ) → RefinesSession maximum c w
+    → AllByRecursion IsByteField (fields_of_lines fields) → length section < 2 ^ 63
     → WritesAlone c.encoder e fields [] section required
     → RefinesSession maximum (with_section s fields section (Ok required) (with_encoder e c))
     (after_end_step w (EncodeAlone s fields))
 unfolding written_encoder_instructions greatest_of
-alone_refined maximum c w e s fields section required r writes =
+alone_refined maximum c w e s fields section required r are small writes =
     written_more maximum c w e w.encoder [] w.in_flight _ _ r
     (ap (λ (y : EncodingEnd). y.table) writes.new_is ∙ r.encoder_is)
     (ap (λ (y : EncodingEnd). y.stream) writes.new_is)
     (ap (λ (y : EncodingEnd). y.unsent) writes.new_is ∙ r.encoder_sent) tt (sym (append-nil w.in_flight))
     (section_more s (record { fields = fields; bytes = section; required = required }) _ c.streams w.streams
-    (record { bytes_are = writes.section; required_is = writes.required_is }) r.streams)
+    (record {
+      bytes_are = writes.section;
+      required_is = writes.required_is;
+      block_is = alone_block fields _ refl refl;
+      are_bytes = are;
+      short = small;
+    }) r.streams)
 
 -- ---- a capacity that is to be told first
 
 -- the session behind the capacity that is told before the first section, if one is
-told_refined : (maximum : ℕ) (c : Connection) (w : AbstractSession) (o : Option ℕ)
+pub told_refined : (maximum : ℕ) (c : Connection) (w : AbstractSession) (o : Option ℕ)
     → IfSome o (λ n. IsToBeTold c.encoder n) → RefinesSession maximum c w
     → (steps : List EndStep) × RefinesSession maximum (with_encoder (begun_with o c.encoder) c)
     (after_end_steps steps w)
@@ -180,7 +192,7 @@ told_refined maximum c w (Some n) k r =
 -- ---- a call
 
 -- the steps of an end, and one behind them
-after_last : (es : List EndStep) (e : EndStep) (w : AbstractSession)
+pub after_last : (es : List EndStep) (e : EndStep) (w : AbstractSession)
     → after_end_steps (es ++ e ∷ []) w ≡ after_end_step (after_end_steps es w) e
 after_last [] e w = refl
 after_last (x ∷ es) e w = after_last es e (after_end_step w x)
@@ -241,7 +253,7 @@ alone_behind c e fields section required writes = (
 )
 
 pub encodes_refined : EncodesAreRefined
-encodes_refined maximum limit c new steps s fields required r sound are short call =
+encodes_refined maximum limit c new steps s fields required r sound are short call small =
     let start = abstract_start 0 maximum limit in
     let w = after_end_steps steps start in
     let first = told_refined maximum c w c.encoder.wanted sound.wanted r in
@@ -264,8 +276,7 @@ encodes_refined maximum limit c new steps s fields required r sound are short ca
                 (subst (λ (x : Connection). RefinesSession maximum x (after_end_step w1 (Encode s fields)))
                 (same ∙ sym call.new_is)
                 (section_refined maximum limit c1 w1 (record e { unsent = b.0 }) s fields call.section required k
-                first.1
-                are few b.2)),
+                first.1 are few small b.2)),
           )
       | inr writes ↦
           let b = alone_behind c e fields call.section required writes in
@@ -276,6 +287,7 @@ encodes_refined maximum limit c new steps s fields required r sound are short ca
                 ∙ sym (after_more steps (first.0 ++ EncodeAlone s fields ∷ []) start))
                 (subst (λ (x : Connection). RefinesSession maximum x (after_end_step w1 (EncodeAlone s fields)))
                 (same ∙ sym call.new_is)
-                (alone_refined maximum c1 w1 (record e { unsent = [] }) s fields call.section required first.1 b.1)),
+                (alone_refined maximum c1 w1 (record e { unsent = [] }) s fields call.section required first.1 are
+                small b.1)),
           )
     ]

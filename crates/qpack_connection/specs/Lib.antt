@@ -10,3 +10,8 @@ pub mod Encoders
 pub mod LawfulPieces
 pub mod Connections
 pub mod RefinedConnections
+pub mod RefinedStreams
+pub mod RefinedDecodes
+pub mod Waiting
+pub mod RefinedRefusals
+pub mod TwoEndsHeadline

@@ -136,11 +136,12 @@ abbrev pub Receives : Table → Table → List ℕ → StreamView → Type 0
 Receives start now bytes s = TakesUpTo start now bytes s.place (λ rest. (rest ≡ s.pending) × Waits now s)
 
 -- memory was refused: for the bytes, which are left, and nothing changed; or for the instruction at the front of what
--- waits, the bytes being taken in
+-- waits, the bytes being taken in, and nothing waits that was taken before
 abbrev pub WantsMemory : Table → Table → Table → List ℕ → List ℕ → List ℕ → StreamView → StreamView → Type 0
 WantsMemory start old new before bytes left s u =
     ((left ≡ bytes) × (new ≡ old) × (u ≡ s))
-    ⊎ ((left ≡ []) × AsksToTake new u.pending × Receives start new (before ++ bytes) u)
+    ⊎ ((left ≡ []) × AsksToTake new u.pending × Receives start new (before ++ bytes) u
+    × (length u.pending ≤ length s.pending + length bytes))
 
 -- the bytes up to an instruction are instructions that were taken, and there, at this place, the stream is refused
 abbrev pub HasRefused : Table → Table → List ℕ → Place → DecoderError → Type 0

@@ -1,20 +1,19 @@
 -- A connection in bytes refines a session of values of two strict ends (RFC 9204, section 2).
-use Rattle.std.specs.Prelude.{◌≡◌, ◌<◌, ◌≤◌, ◌^◌, ℕ, min, List, [], ◌++◌, length, take, Some, Ok}
+use Rattle.std.specs.Prelude.{◌≡◌, ◌<◌, ◌≤◌, ◌^◌, ◌+◌, ℕ, min, List, [], ◌++◌, length, take, Some, Ok}
 use Rattle.std.specs.List.{AllByRecursion}
 use Rattle.qpack_spec.specs.Field.{FieldLine, fields_of_lines}
 use Rattle.qpack_spec.specs.Instruction.{DecoderInstruction, SpellsEncoderInstruction, SpellsDecoderInstruction}
 use Rattle.qpack_spec.specs.Session.{RequestStream, stream_at}
 use Rattle.qpack_spec.specs.Stream.{SpellsAll}
-use Rattle.qpack_spec.specs.Table.{empty_table, table_of}
+use Rattle.qpack_spec.specs.Table.{empty_table, table_of, insert_count}
 use Rattle.qpack_spec.specs.WrittenLaws.{IsByteField}
 use Rattle.qpack_safety.specs.AbstractSession.{AbstractBlock, required_count, AbstractStream, AbstractSession}
 use Rattle.qpack_safety.specs.AbstractSession.{abstract_start}
-use Rattle.qpack_safety.specs.HandedSections.{section_of}
+use Rattle.qpack_safety.specs.HandedSections.{IsBlockOf, section_of}
 use Rattle.qpack_safety.specs.Refines.{Agrees}
 use Rattle.qpack_safety.specs.TwoEnds.{EndStep, after_end_steps}
 use Rattle.qpack_connection.specs.Connections.{Wire, SentSection, Connection, IsNew, EncodesOn, SetsCapacityOn}
 use Rattle.qpack_connection.specs.Connections.{CancelsOn}
-use Rattle.qpack_connection.specs.Decoders.{unreported}
 use Rattle.qpack_connection.specs.Encoders.{IsSound}
 use Rattle.qpack_connection.specs.Hearing as hearing
 use Rattle.qpack_connection.specs.Receiving as receiving
@@ -23,10 +22,14 @@ use Rattle.qpack_connection.specs.Receiving as receiving
 abbrev pub received_of : Wire → List ℕ
 received_of w = take w.received w.written
 
--- a section's bytes are those of its block, and so is its count
+-- a section's bytes are those of its block, and so is its count; the block is of its fields, which are bytes, and it
+-- takes fewer than 2^63
 pub record RefinesSection (k : SentSection) (b : AbstractBlock) : Type 0 where
   pub bytes_are : k.bytes ≡ section_of k.fields b
   pub required_is : k.required ≡ required_count b
+  pub block_is : IsBlockOf k.fields b
+  pub are_bytes : AllByRecursion IsByteField (fields_of_lines k.fields)
+  pub short : length k.bytes < 2 ^ 63
 
 -- a request stream's sections are those, and it stands where that one does
 pub record RefinesStream (k : RequestStream SentSection) (st : AbstractStream) : Type 0 where
@@ -36,11 +39,12 @@ pub record RefinesStream (k : RequestStream SentSection) (st : AbstractStream) :
   pub cancelled_is : k.cancelled ≡ st.cancelled
 
 -- both tables are those of the session, all bytes are sent, and of both streams they are the instructions that were
--- taken and those under way; the decoder received so much of its stream as the session's decoder took
+-- taken and those under way; the decoder received so much of its stream as the session's decoder took, and what it did
+-- not report of it is what that one did not
 pub record RefinesSession (maximum : ℕ) (c : Connection) (w : AbstractSession) : Type 0 where
   pub encoder_is : c.encoder.table ≡ w.encoder
   pub decoder_is : c.decoder.table ≡ table_of w.decoder
-  pub unreported_is : unreported c.decoder ≡ w.unreported
+  pub reported_is : c.decoder.reported + w.unreported ≡ insert_count c.decoder.table
   pub encoder_sent : c.encoder.unsent ≡ []
   pub decoder_sent : c.decoder.unsent ≡ []
   pub encoder_stream : SpellsAll SpellsEncoderInstruction c.encoder_stream.written (w.taken ++ w.in_flight)
@@ -55,13 +59,13 @@ pub record RefinesSession (maximum : ℕ) (c : Connection) (w : AbstractSession)
   pub streams : (s : ℕ) → RefinesStream (stream_at c.streams s) (stream_at w.streams s)
 
 -- a section that is encoded is one that the session writes, behind the capacity that is to be told; its fields are
--- bytes, and what was written of the stream takes fewer than 2^63
+-- bytes, and what was written of it and of the stream takes fewer than 2^63
 abbrev pub EncodesAreRefined : Type 0
 EncodesAreRefined =
     (maximum limit : ℕ) (c new : Connection) (steps : List EndStep) (s : ℕ) (fields : List FieldLine) (required : ℕ)
     → RefinesSession maximum c (after_end_steps steps (abstract_start 0 maximum limit)) → IsSound c.encoder
     → AllByRecursion IsByteField (fields_of_lines fields) → length new.encoder_stream.written < 2 ^ 63
-    → EncodesOn c new s fields (Ok required)
+    → (call : EncodesOn c new s fields (Ok required)) → length call.section < 2 ^ 63
     → (more : List EndStep)
     × RefinesSession maximum new (after_end_steps (steps ++ more) (abstract_start 0 maximum limit))
 

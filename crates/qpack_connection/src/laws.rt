@@ -3,6 +3,11 @@
 ghost use Rattle.qpack_connection.specs.LawfulPieces.{EncoderStreamsAreNeverRefused, DecoderStreamsAreNeverRefused};
 ghost use Rattle.qpack_connection.specs.RefinedConnections.{NewConnectionsAreRefined, EncodesAreRefined};
 ghost use Rattle.qpack_connection.specs.RefinedConnections.{CapacitiesAreRefined, CancellationsAreRefined};
+ghost use Rattle.qpack_connection.specs.RefinedDecodes.{DecodesAreRefined};
+ghost use Rattle.qpack_connection.specs.RefinedRefusals.{RefusedEncodesAreRefined, RefusedCapacitiesAreRefined};
+ghost use Rattle.qpack_connection.specs.RefinedRefusals.{RefusedCancellationsAreRefined};
+ghost use Rattle.qpack_connection.specs.RefinedStreams.{HearingsAreRefined, ReceptionsAreRefined};
+ghost use Rattle.qpack_connection.specs.TwoEndsHeadline.{TwoEndsAnswerWhatWasHanded};
 
 /// What [`EncoderStream::receive`](crate::EncoderStream::receive) and
 /// [`DecoderStream::receive`](crate::DecoderStream::receive) promise comes to this: of a stream whose instructions a
@@ -19,4 +24,19 @@ pub fn connections_are_sessions()
     ensures encodes { EncodesAreRefined }
     ensures capacities { CapacitiesAreRefined }
     ensures cancellations { CancellationsAreRefined }
+    ensures hearings { HearingsAreRefined }
+    ensures receptions { ReceptionsAreRefined }
+    ensures decodes { DecodesAreRefined }
+    ensures refused_encodes { RefusedEncodesAreRefined }
+    ensures refused_capacities { RefusedCapacitiesAreRefined }
+    ensures refused_cancellations { RefusedCancellationsAreRefined }
+{}
+
+/// The theorem of two ends, over calls and their answers: of a new connection, whatever is encoded, with whatever marks,
+/// however capacities are set, streams cancelled and the bytes of both streams cut, and wherever memory is refused,
+/// neither end refuses what the other sent; each section is decoded to exactly the fields that were handed to its encode,
+/// with their marks, or waits for as many insertions as that encode answered, while fewer were received; and no more
+/// streams are blocked than may be (RFC 9204, sections 2.1.2, 2.2, 3.2, 4.2 to 4.5 and 7.1.3).
+pub fn two_ends_answer_what_was_handed()
+    ensures { TwoEndsAnswerWhatWasHanded }
 {}

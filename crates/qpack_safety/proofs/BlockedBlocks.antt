@@ -43,7 +43,7 @@ swapped s a b seen = pick (nat_eq a s) (nat_eq b s)
     pick false false = refl
 
 -- a stream that isn't counted yet, and the others
-among_split : (n s : ℕ) (seen : List ℕ) (ps : List (ℕ × KeptStream)) → has_number s seen ≡ false
+pub among_split : (n s : ℕ) (seen : List ℕ) (ps : List (ℕ × KeptStream)) → has_number s seen ≡ false
     → blocked_among n seen ps ≡ blocked_on n (stream_at ps s) + blocked_among n (s ∷ seen) ps
 among_split n s seen [] h = refl
 among_split n s seen (p ∷ ps) h =
@@ -74,7 +74,7 @@ among_split n s seen (p ∷ ps) h =
         rw (apart, apart') (others (has_number p.0 seen) r (rest p.0 d))
 
 -- one stream changed
-among_changed : (n s : ℕ) (k : KeptStream) (ps : List (ℕ × KeptStream))
+pub among_changed : (n s : ℕ) (k : KeptStream) (ps : List (ℕ × KeptStream))
     → blocked_among n [] ((s, k) ∷ ps) + blocked_on n (stream_at ps s) ≡ blocked_on n k + blocked_among n [] ps
 among_changed n s k ps = omega (arith, among_split n s [] ps refl)
 
@@ -247,7 +247,7 @@ counts_raised t n ps c =
           ∙ c.counts m (omega (arith, le, more));
     }
 
-counts_heard : (t u : Table) (r : DecoderInstruction) (ps : List (ℕ × KeptStream)) → apply_decoder_instruction t r
+pub counts_heard : (t u : Table) (r : DecoderInstruction) (ps : List (ℕ × KeptStream)) → apply_decoder_instruction t r
     ≡ Ok u → CountsBlocked t ps
     → CountsBlocked u ps
 unfolding apply_decoder_instruction

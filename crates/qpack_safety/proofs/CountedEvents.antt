@@ -40,11 +40,11 @@ counted_block v s fs c =
     (record old { blocks = old.blocks ++ b ∷ [] }) b v.streams k.known_received_count k.blocked refl
     c
 
-unnamed_known : (t : Table) → (without_references t).known_received_count ≡ t.known_received_count
+pub unnamed_known : (t : Table) → (without_references t).known_received_count ≡ t.known_received_count
 unfolding without_references
 unnamed_known t = refl
 
-unnamed_waiting : (t : Table) → (without_references t).blocked ≡ t.blocked
+pub unnamed_waiting : (t : Table) → (without_references t).blocked ≡ t.blocked
 unfolding without_references
 unnamed_waiting t = refl
 

@@ -6,7 +6,7 @@ use Rattle.std.specs.List.{AllByRecursion}
 use Rattle.std.specs.Prelude.{nat_eq, not}
 use Rattle.std.proofs.lemmas.Bool.{cond_both, cases_lt, eqb-true, or_right}
 use Rattle.std.proofs.lemmas.List.{append-nil, append_assoc}
-use Rattle.qpack_spec.specs.Field.{FieldLine, fields_of_lines}
+use Rattle.qpack_spec.specs.Field.{FieldLine, fields_of_lines, total_size}
 use Rattle.qpack_spec.specs.History.{History, window_of, whole_window, initial_history}
 use Rattle.qpack_spec.specs.Instruction.{EncoderInstruction, DecoderInstruction}
 use Rattle.qpack_spec.specs.Line.{Line, IndexedStatic, IndexedDynamic, IndexedPostBase, NamedStatic, NamedDynamic}
@@ -36,7 +36,7 @@ use Rattle.qpack_safety.specs.AbstractSession.{abstract_start, next_reading, wai
 use Rattle.qpack_safety.specs.AbstractSession.{after_take, take_next, after_hear, hear_next, after_step, after_steps}
 use Rattle.qpack_safety.specs.AbstractSession as small
 use Rattle.qpack_safety.specs.HandedSections.{handed_by, handed_on, IsBlockOf, BlocksAreOfWhatWasHanded, section_of}
-use Rattle.qpack_safety.specs.HandedSections.{SectionsAreReadStrictly}
+use Rattle.qpack_safety.specs.HandedSections.{IsReadStrictly, SectionsAreReadStrictly}
 use Rattle.qpack_safety.specs.Refines.{Agrees}
 use Rattle.qpack_safety.specs.TwoEnds.{EndStep, Encode, Abandon, EncodeAlone, Resize, Take, Report, Hear, Decode}
 use Rattle.qpack_safety.specs.TwoEnds.{Cancel}
@@ -49,7 +49,7 @@ use Rattle.qpack_safety.proofs.WritingEvents.{few_insertions}
 
 -- ---- each block is of what was handed
 
-marked_block : (capacity maximum limit : ℕ) (w : AbstractSession) (s : ℕ) (fields : List FieldLine)
+pub marked_block : (capacity maximum limit : ℕ) (w : AbstractSession) (s : ℕ) (fields : List FieldLine)
     → Invariant capacity maximum limit w → (b : AbstractBlock) → b.fields ≡ fields_of_lines fields
     → b.block.lines ≡ (marked_rule w.encoder fields).lines → IsBlockOf fields b
 marked_block capacity maximum limit w s fields k b same lines =
@@ -61,7 +61,7 @@ marked_block capacity maximum limit w s fields k b same lines =
           (marked_written w.encoder fields (few_insertions capacity maximum limit w k) are).lines;
     }
 
-alone_block : (fields : List FieldLine) (b : AbstractBlock) → b.fields ≡ fields_of_lines fields
+pub alone_block : (fields : List FieldLine) (b : AbstractBlock) → b.fields ≡ fields_of_lines fields
     → b.block.lines ≡ (stateless_block_marked fields).lines → IsBlockOf fields b
 alone_block fields b same lines =
     let some : Window = window_of (initial_history 0 0) in
@@ -356,20 +356,18 @@ writable capacity maximum made stream fields b ok of are short =
       lines = lines_fit b.block.lines (of.bytes are) (fewer_lines fields b short);
     }
 
-pub sections_strict : SectionsAreReadStrictly
-sections_strict capacity maximum limit size within steps s fields b next are short low =
-    let w = after_end_steps steps (abstract_start capacity maximum limit) in
-    let k = (holds_behind capacity maximum limit steps (abstract_start capacity maximum limit)
-    (holds_started capacity maximum limit within)).invariant in
-    let found = agrees_get IsBlockOf (handed_on s steps) (stream_at w.streams s).blocks (stream_at w.streams s).decoded
-    fields (blocks_handed capacity maximum limit within steps s) next.handed in
-    let same : found.0 ≡ b = some_is found.0 b (sym found.1 ∙ next.block) in
-    let of : IsBlockOf fields b = subst (IsBlockOf fields) same found.2 in
+-- the next section of a stream, of these fields
+pub block_read : (capacity maximum limit size : ℕ) (w : AbstractSession) → Invariant capacity maximum limit w → (s : ℕ)
+    (fields : List FieldLine) (b : AbstractBlock) → (stream_at w.streams s).cancelled ≡ false
+    → oldest_undecoded (stream_at w.streams s) ≡ Some b → IsBlockOf fields b
+    → AllByRecursion IsByteField (fields_of_lines fields) → length (section_of fields b) < 2 ^ 63
+    → total_size (fields_of_lines fields) ≤ size → IsReadStrictly w.decoder size fields b
+block_read capacity maximum limit size w k s fields b live block of are short low =
     let ok : KeepsBlock capacity maximum k.made (w.taken ++ w.in_flight) b =
     every_get (KeepsBlock capacity maximum k.made (w.taken ++ w.in_flight)) (stream_at w.streams s).blocks
-    (stream_at w.streams s).decoded b next.block (k.streams s).blocks in
+    (stream_at w.streams s).decoded b block (k.streams s).blocks in
     let write = writable capacity maximum k.made (w.taken ++ w.in_flight) fields b ok of are short in
-    let r = reads_block capacity maximum limit w k s b next.live next.block in
+    let r = reads_block capacity maximum limit w k s b live block in
     record {
       blocked = λ missing.
           marked_sections_blocked w.decoder r.later size (required_count b) r.base b.block fields write r.prefix missing
@@ -378,6 +376,17 @@ sections_strict capacity maximum limit size within steps s fields b next are sho
           marked_sections_read w.decoder size (required_count b) r.base b.block fields write r.prefix received r.strict
           (r.means received ∙ ap Ok of.fields_are) of.literals low;
     }
+
+pub sections_strict : SectionsAreReadStrictly
+sections_strict capacity maximum limit size within steps s fields b next are short low =
+    let w = after_end_steps steps (abstract_start capacity maximum limit) in
+    let k = (holds_behind capacity maximum limit steps (abstract_start capacity maximum limit)
+    (holds_started capacity maximum limit within)).invariant in
+    let found = agrees_get IsBlockOf (handed_on s steps) (stream_at w.streams s).blocks (stream_at w.streams s).decoded
+    fields (blocks_handed capacity maximum limit within steps s) next.handed in
+    let same : found.0 ≡ b = some_is found.0 b (sym found.1 ∙ next.block) in
+    block_read capacity maximum limit size w k s fields b next.live next.block
+    (subst (IsBlockOf fields) same found.2) are short low
   where
     some_is : (x y : AbstractBlock) → Some x ≡ Some y → x ≡ y
     some_is x y e = cc

@@ -33,7 +33,7 @@ use Rattle.qpack_safety.proofs.TwoEnds.{Holds, holds_started, holds_step, strict
 -- ---- one instruction
 
 -- what the next instruction makes of the decoder's table
-applied_next : (capacity maximum limit : ℕ) (w : AbstractSession) (i : EncoderInstruction)
+pub applied_next : (capacity maximum limit : ℕ) (w : AbstractSession) (i : EncoderInstruction)
     (rest : List EncoderInstruction) → w.in_flight ≡ i ∷ rest → Invariant capacity maximum limit w → Strict w
     → (new : Window) × (apply w.decoder i ≡ Ok new) × (strict_apply (table_of w.decoder) i ≡ Ok (table_of new))
 applied_next capacity maximum limit w i rest e k t =

@@ -30,3 +30,7 @@ pub mod Headline
 pub mod HistoryRows
 pub mod LawfulFlights
 pub mod HandedSections
+pub mod ManySteps
+pub mod Limits
+pub mod MadeInsertions
+pub mod CountedBlocks

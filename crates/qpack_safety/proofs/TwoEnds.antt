@@ -99,7 +99,7 @@ strict_reporting w t =
     (λ _. strict_reported w (pieces_of w.unreported) (pieces_positive w.unreported) t) (λ _. t)
 
 -- all is reported then
-reporting_is : (w : AbstractSession) → after_step w (small.Report (pieces_of w.unreported)) ≡ record w {
+pub reporting_is : (w : AbstractSession) → after_step w (small.Report (pieces_of w.unreported)) ≡ record w {
   decoder_in_flight = w.decoder_in_flight ++ increments (pieces_of w.unreported);
   unreported = 0;
 }
@@ -213,6 +213,56 @@ strict_decoding capacity maximum limit w s (Some b) e k t = both (is_read (next_
         (small.Report (pieces_of w.unreported) ∷ small.Decode s ∷ small.Acknowledge s ∷ []) (small.Decode s ∷ []))) w)
     both true h = by_kind h (is_dynamic b) refl
     both false h = t
+
+-- ---- what a decode comes to
+
+-- the next section of a stream that isn't cancelled can be read once the insertions are received that it requires
+pub next_read : (capacity maximum limit : ℕ) (w : AbstractSession) (s : ℕ) (b : AbstractBlock)
+    → Invariant capacity maximum limit w → (stream_at w.streams s).cancelled ≡ false
+    → oldest_undecoded (stream_at w.streams s) ≡ Some b → required_count b ≤ window_insert_count w.decoder
+    → is_read (next_reading w s) ≡ true
+next_read capacity maximum limit w s b k live e within =
+    let exactly = ((inv_safe capacity maximum limit w k).decodes s b live e).exact within in
+    rw (live, e, exactly) refl
+
+-- one that requires no entry is decoded
+pub decoded_plain : (w : AbstractSession) (s : ℕ) (b : AbstractBlock)
+    → oldest_undecoded (stream_at w.streams s) ≡ Some b → is_read (next_reading w s) ≡ true → is_dynamic b ≡ false
+    → after_end_step w (Decode s) ≡ record w {
+      streams = with_stream w.streams s
+          (record (stream_at w.streams s) { decoded = (stream_at w.streams s).decoded + 1 });
+    }
+decoded_plain w s b e h plain =
+    ap (λ (o : Option AbstractBlock). after_steps (decode_steps w s o) w) e
+    ∙ rw (h, plain, h) refl
+
+-- one that does is decoded and acknowledged, behind the increments for all that was received
+pub decoded_dynamic : (capacity maximum limit : ℕ) (w : AbstractSession) (s : ℕ) (b : AbstractBlock)
+    → Strict w → oldest_undecoded (stream_at w.streams s) ≡ Some b → is_read (next_reading w s) ≡ true
+    → is_dynamic b ≡ true
+    → (let st = stream_at w.streams s in
+    after_end_step w (Decode s) ≡ record w {
+      decoder_in_flight = (w.decoder_in_flight ++ increments (pieces_of w.unreported)) ++ Acknowledgment s ∷ [];
+      unreported = 0;
+      streams = with_stream (with_stream w.streams s (record st { decoded = st.decoded + 1 })) s
+          (record st { decoded = st.decoded + 1; acknowledged = st.acknowledged + 1 });
+    })
+decoded_dynamic capacity maximum limit w s b t e h dynamic =
+    let st = stream_at w.streams s in
+    let live = read_live w s b e h in
+    let next : AbstractStream = record st { decoded = st.decoded + 1 } in
+    let ps = with_stream w.streams s next in
+    let here : stream_at ps s ≡ next = same_stream w.streams s next in
+    let waits : waits_for_acknowledgment (stream_at ps s) ≡ true =
+    ap waits_for_acknowledgment here
+    ∙ waits_next st b live.0 e dynamic ((t.answered s).acknowledged live.0) in
+    ap (λ (o : Option AbstractBlock). after_steps (decode_steps w s o) w) e
+    ∙ rw (h, dynamic) (ap (after_steps (small.Decode s ∷ small.Acknowledge s ∷ [])) (reporting_is w)
+    ∙ rw (h, waits) (ap (λ (v : AbstractStream). let x : AbstractSession = record w {
+      decoder_in_flight = (w.decoder_in_flight ++ increments (pieces_of w.unreported)) ++ Acknowledgment s ∷ [];
+      unreported = 0;
+      streams = with_stream ps s (record v { acknowledged = v.acknowledged + 1 });
+    } in x) here))
 
 -- ---- every step
 

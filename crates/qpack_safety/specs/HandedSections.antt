@@ -7,7 +7,8 @@ use Rattle.qpack_spec.specs.Field.{FieldLine, fields_of_lines, total_size}
 use Rattle.qpack_spec.specs.Marked.{written_marked_block}
 use Rattle.qpack_spec.specs.MarkedLaws.{AreLiteralsWhereMarked}
 use Rattle.qpack_spec.specs.Session.{stream_at, oldest_undecoded}
-use Rattle.qpack_spec.specs.StrictReading.{strict_reading, Read, Blocked}
+use Rattle.qpack_spec.specs.StrictReading.{StrictReading, strict_reading, Read, Blocked, Refused, TooLong, InLine}
+use Rattle.qpack_spec.specs.StrictReading.{TooLarge}
 use Rattle.qpack_spec.specs.Window.{Window, window_insert_count}
 use Rattle.qpack_spec.specs.WrittenLaws.{IsByteField, IsByteLine}
 use Rattle.qpack_safety.specs.AbstractSession.{AbstractBlock, required_count, AbstractSession, abstract_start}
@@ -50,6 +51,12 @@ pub record IsReadStrictly (w : Window) (size : ℕ) (fields : List FieldLine) (b
       → strict_reading w size (section_of fields b) ≡ Blocked (required_count b)
   pub read : required_count b ≤ window_insert_count w
       → strict_reading w size (section_of fields b) ≡ Read fields (required_count b)
+
+-- a section is over the limit of the decoder: it is longer than any within the limit, or the sizes of its fields pass it
+abbrev pub IsOverLimit : StrictReading → Type 0
+IsOverLimit (Refused TooLong) = Unit {0}
+IsOverLimit (Refused (InLine number offset (TooLarge sum))) = Unit {0}
+IsOverLimit read = ⊥
 
 -- the next section of a stream that isn't cancelled, and the fields that were handed to it
 pub record IsNext (steps : List EndStep) (w : AbstractSession) (s : ℕ) (fields : List FieldLine) (b : AbstractBlock) :

@@ -1,0 +1,243 @@
+-- What is kept between the calls of a connection in bytes, and by each call of the encoder.
+use Rattle.std.proofs.Common.{◌≡◌, ℕ, List, [], ◌++◌}
+use Rattle.std.proofs.Common.{Some, Result, Ok, Err, sym, ap, subst, ◌∙◌, inl, inr, ◌⊎◌}
+use Rattle.std.proofs.lemmas.List.{append-nil}
+use Rattle.std.specs.Prelude.{⊤}
+use Rattle.qpack_spec.specs.Field.{FieldLine}
+use Rattle.qpack_spec.specs.Instruction.{DecoderInstruction}
+use Rattle.qpack_spec.specs.Session.{RequestStream, stream_at, oldest_undecoded}
+use Rattle.qpack_spec.specs.Table.{Table}
+use Rattle.qpack_safety.specs.AbstractSession.{abstract_start}
+use Rattle.qpack_safety.specs.TwoEnds.{EndStep, after_end_steps}
+use Rattle.qpack_connection.specs.declared.encoder.EncodingError.{EncodingError}
+use Rattle.qpack_connection.specs.declared.encoder.EncodingError.TheVariants as encoding
+use Rattle.qpack_connection.specs.Connections.{SentSection, Connection, Call, Encode, SetCapacity, Hear}
+use Rattle.qpack_connection.specs.Connections.{Step, EncodesOn, SetsCapacityOn, HearsOn}
+use Rattle.qpack_connection.specs.Connections.{next_of}
+use Rattle.qpack_connection.specs.Decoders.{DecodingEnd}
+use Rattle.qpack_connection.specs.Encoders.{EncodingEnd, IsSound, IsToBeTold, begun, WritesSection, WritesAlone}
+use Rattle.qpack_connection.specs.Encoders.{ReceivesBytes, Encodes, SetsIt, first_capacity}
+use Rattle.qpack_connection.specs.Encoders as encoders
+use Rattle.qpack_connection.specs.Hearing as hearing
+use Rattle.qpack_connection.specs.RefinedConnections.{received_of, RefinesSession}
+use Rattle.qpack_connection.specs.RefinedStreams.{IsOpen}
+use Rattle.qpack_connection.specs.TwoEndsHeadline.{Answers, Fits}
+use Rattle.qpack_connection.specs.Waiting.{BlockedAreNext}
+use Rattle.qpack_connection.proofs.Encoders.{received_sound}
+use Rattle.qpack_connection.proofs.KeptConnections.{sound_sent, sound_begun, sound_set, begun_failure, waiting_same}
+use Rattle.qpack_connection.proofs.KeptConnections.{next_more}
+use Rattle.qpack_connection.proofs.RefinedCapacities.{capacities_refined}
+use Rattle.qpack_connection.proofs.RefinedConnections.{encodes_refined}
+use Rattle.qpack_connection.proofs.RefinedHearings.{hearings_refined}
+use Rattle.qpack_connection.proofs.RefinedRefusals.{refused_encodes, refused_capacities}
+
+-- ---- what is kept
+
+pub record IsKept (maximum limit most : ℕ) (c : Connection) (steps : List EndStep) : Type 0 where
+  pub refines : RefinesSession maximum c (after_end_steps steps (abstract_start 0 maximum limit))
+  pub alive : IsOpen c
+  pub sound : IsSound c.encoder
+  pub settings : c.decoder.settings.max_blocked ≡ most
+  pub waiting : BlockedAreNext c
+
+-- what a call answers, and what is kept behind it
+abbrev pub Behind : ℕ → ℕ → ℕ → (call : Call) (old new : Connection) → Step call old new → List EndStep → Type 0
+Behind maximum limit most call old new step steps =
+    Answers call old new step × (more : List EndStep) × IsKept maximum limit most new (steps ++ more)
+
+-- by a call of the encoder
+pub encoder_kept : (maximum limit most : ℕ) (old new : Connection) (e : EncodingEnd) (steps more : List EndStep)
+    → IsKept maximum limit most old steps
+    → RefinesSession maximum new (after_end_steps (steps ++ more) (abstract_start 0 maximum limit))
+    → new.encoder ≡ record e { unsent = [] } → new.decoder ≡ old.decoder → IsSound e
+    → e.failure ≡ old.encoder.failure
+    → ((s : ℕ) (k : SentSection) → oldest_undecoded (stream_at old.streams s) ≡ Some k
+    → oldest_undecoded (stream_at new.streams s) ≡ Some k)
+    → IsKept maximum limit most new (steps ++ more)
+encoder_kept maximum limit most old new e steps more k refines is same sound failure next =
+    record {
+      refines = refines;
+      alive = record {
+        encoder = ap (λ (y : EncodingEnd). y.failure) is ∙ failure ∙ k.alive.encoder;
+        decoder = ap (λ (y : DecodingEnd). y.failure) same ∙ k.alive.decoder;
+      };
+      sound = subst IsSound (sym is) (sound_sent e sound);
+      settings = ap (λ (y : DecodingEnd). y.settings.max_blocked) same ∙ k.settings;
+      waiting = waiting_same old new (ap (λ (y : DecodingEnd). y.blocked) same) next k.waiting;
+    }
+
+-- by a call of the decoder
+pub decoder_kept : (maximum limit most : ℕ) (old new : Connection) (d : DecodingEnd) (steps more : List EndStep)
+    → IsKept maximum limit most old steps
+    → RefinesSession maximum new (after_end_steps (steps ++ more) (abstract_start 0 maximum limit)) → IsOpen new
+    → new.encoder ≡ old.encoder → new.decoder ≡ record d { unsent = [] } → d.settings ≡ old.decoder.settings
+    → BlockedAreNext new → IsKept maximum limit most new (steps ++ more)
+decoder_kept maximum limit most old new d steps more k refines alive same is settings waiting =
+    record {
+      refines = refines;
+      alive = alive;
+      sound = subst IsSound (sym same) k.sound;
+      settings = ap (λ (y : DecodingEnd). y.settings.max_blocked) is
+          ∙ ap (λ s. s.max_blocked) settings ∙ k.settings;
+      waiting = waiting;
+    }
+
+-- the same steps
+pub none_more : (maximum limit : ℕ) (c : Connection) (steps : List EndStep)
+    → RefinesSession maximum c (after_end_steps steps (abstract_start 0 maximum limit))
+    → RefinesSession maximum c (after_end_steps (steps ++ []) (abstract_start 0 maximum limit))
+none_more maximum limit c steps =
+    subst (λ (es : List EndStep). RefinesSession maximum c (after_end_steps es (abstract_start 0 maximum limit)))
+    (sym (append-nil steps))
+
+-- ---- calls of the encoder
+
+-- an end that is as it was once the first capacity is told, in what counts here
+abbrev IsLike : EncodingEnd → EncodingEnd → Type 0
+IsLike e d = (e.wanted ≡ d.wanted) × (e.stream ≡ d.stream) × (e.failure ≡ d.failure)
+
+like_same : (e d : EncodingEnd) → e ≡ d → IsLike e d
+like_same e d is = (
+  ap (λ (y : EncodingEnd). y.wanted) is,
+  ap (λ (y : EncodingEnd). y.stream) is,
+  ap (λ (y : EncodingEnd). y.failure) is,
+)
+
+like_with : (e d : EncodingEnd) (t : Table) (b : List ℕ) → e ≡ encoders.with_section t b d → IsLike e d
+like_with e d t b is = like_same e (encoders.with_section t b d) is
+
+pub section_kept : (maximum limit most : ℕ) (old new : Connection) (s : ℕ) (fields : List FieldLine) (required : ℕ)
+    (steps : List EndStep) → IsKept maximum limit most old steps
+    → (step : EncodesOn old new s fields (Ok required)) → Fits (Encode s fields (Ok required)) old new step
+    → Behind maximum limit most (Encode s fields (Ok required)) old new step steps
+section_kept maximum limit most old new s fields required steps k step fits =
+    let r = encodes_refined maximum limit old new steps s fields required k.refines k.sound fits.0 fits.1 step fits.2 in
+    let like = by_kind step.call.1 in (
+      tt,
+      r.0,
+      encoder_kept maximum limit most old new step.encoder steps r.0 k r.1
+          (ap (λ (y : Connection). y.encoder) step.new_is) (ap (λ (y : Connection). y.decoder) step.new_is)
+          (sound_begun old.encoder step.encoder k.sound like.0 like.1 like.2)
+          (like.2 ∙ begun_failure old.encoder.wanted old.encoder)
+          (λ q x e. ap (λ (y : Connection). oldest_undecoded (stream_at y.streams q)) step.new_is
+          ∙ next_more old.streams s (record { fields = fields; bytes = step.section; required = required }) q x e),
+    )
+  where
+    by_kind : WritesSection (begun old.encoder) step.encoder s fields [] step.section required
+        ⊎ WritesAlone (begun old.encoder) step.encoder fields [] step.section required
+        → IsLike step.encoder (begun old.encoder)
+    by_kind (inl writes) = like_with step.encoder (begun old.encoder) step.encoder.table step.encoder.unsent writes.new_is
+    by_kind (inr writes) = like_same step.encoder (begun old.encoder) writes.new_is
+
+-- streams that stay
+pub stays : (old new : Connection) → new.streams ≡ old.streams → (s : ℕ) (k : SentSection)
+    → oldest_undecoded (stream_at old.streams s) ≡ Some k → oldest_undecoded (stream_at new.streams s) ≡ Some k
+stays old new same s k e =
+    ap (λ (ps : List (ℕ × RequestStream SentSection)). oldest_undecoded (stream_at ps s)) same ∙ e
+
+pub refused_section_kept : (maximum limit most : ℕ) (old new : Connection) (s : ℕ) (fields : List FieldLine)
+    (x : EncodingError) (steps : List EndStep) → IsKept maximum limit most old steps
+    → (step : EncodesOn old new s fields (Err x)) → Fits (Encode s fields (Err x)) old new step
+    → Behind maximum limit most (Encode s fields (Err x)) old new step steps
+refused_section_kept maximum limit most old new s fields x steps k step fits =
+    let r = refused_encodes maximum limit old new steps s fields x k.refines k.alive k.sound fits.0 fits.1 step in
+    let kept = by_call step.call.1 in (
+      r.0,
+      r.2,
+      encoder_kept maximum limit most old new step.encoder steps r.2 k r.3
+          (ap (λ (y : Connection). y.encoder) step.new_is) (ap (λ (y : Connection). y.decoder) step.new_is)
+          kept.0 kept.1 (stays old new (ap (λ (y : Connection). y.streams) step.new_is)),
+    )
+  where
+    e : EncodingEnd
+    e = step.encoder
+
+    like : IsLike e (begun old.encoder) → IsSound e × (e.failure ≡ old.encoder.failure)
+    like l = (
+      sound_begun old.encoder e k.sound l.0 l.1 l.2,
+      l.2 ∙ begun_failure old.encoder.wanted old.encoder,
+    )
+
+    same : e ≡ old.encoder → IsSound e × (e.failure ≡ old.encoder.failure)
+    same is = (subst IsSound (sym is) k.sound, ap (λ (y : EncodingEnd). y.failure) is)
+
+    by_call : (encoders.Checks old.encoder s (Err x) × (e ≡ old.encoder))
+        ⊎ (encoders.Checks old.encoder s (Ok tt)
+        × (x ≡ encoding.Memory)
+        × encoders.StopsForMemory old.encoder e fields)
+        → IsSound e × (e.failure ≡ old.encoder.failure)
+    by_call (inl none) = same none.1
+    by_call (inr (checks, memory, inl none)) = same none.1
+    by_call (inr (checks, memory, inr (inl full))) = like (like_same e (begun old.encoder) full.1)
+    by_call (inr (checks, memory, inr (inr g))) =
+        like (like_with e (begun old.encoder) e.table e.unsent g.new_is)
+
+pub capacity_kept : (maximum limit most : ℕ) (old new : Connection) (n : ℕ) (steps : List EndStep)
+    → IsKept maximum limit most old steps → (step : SetsCapacityOn old new n (Ok tt))
+    → Behind maximum limit most (SetCapacity n (Ok tt)) old new step steps
+capacity_kept maximum limit most old new n steps k step =
+    let r = capacities_refined maximum limit old new steps n k.refines step in
+    let kept = by_kind step.call.1 in (
+      tt,
+      r.0,
+      encoder_kept maximum limit most old new step.encoder steps r.0 k r.1
+          (ap (λ (y : Connection). y.encoder) step.new_is) (ap (λ (y : Connection). y.decoder) step.new_is)
+          kept.0 kept.1 (stays old new (ap (λ (y : Connection). y.streams) step.new_is)),
+    )
+  where
+    by_kind : SetsIt old.encoder step.encoder n
+        → IsSound step.encoder × (step.encoder.failure ≡ old.encoder.failure)
+    by_kind (inl none) = (subst IsSound (sym none.1) k.sound, ap (λ (y : EncodingEnd). y.failure) none.1)
+    by_kind (inr tells) = (
+      sound_set old.encoder step.encoder k.sound (ap (λ (y : EncodingEnd). y.wanted) tells.1.1)
+          (ap (λ (y : EncodingEnd). y.stream) tells.1.1) (ap (λ (y : EncodingEnd). y.failure) tells.1.1),
+      ap (λ (y : EncodingEnd). y.failure) tells.1.1,
+    )
+
+pub refused_capacity_kept : (maximum limit most : ℕ) (old new : Connection) (n : ℕ) (x : EncodingError)
+    (steps : List EndStep) → IsKept maximum limit most old steps → (step : SetsCapacityOn old new n (Err x))
+    → Behind maximum limit most (SetCapacity n (Err x)) old new step steps
+refused_capacity_kept maximum limit most old new n x steps k step =
+    let r = refused_capacities maximum limit old new steps n x k.refines k.alive step in
+    let same : step.encoder ≡ old.encoder = by_kind step.call in (
+      r.0,
+      [],
+      encoder_kept maximum limit most old new step.encoder steps [] k (none_more maximum limit new steps r.2)
+          (ap (λ (y : Connection). y.encoder) step.new_is) (ap (λ (y : Connection). y.decoder) step.new_is)
+          (subst IsSound (sym same) k.sound) (ap (λ (y : EncodingEnd). y.failure) same)
+          (stays old new (ap (λ (y : Connection). y.streams) step.new_is)),
+    )
+  where
+    by_kind : encoders.SetsCapacity old.encoder step.encoder n (Err x) → step.encoder ≡ old.encoder
+    by_kind (inl ended) = ended.1
+    by_kind (inr stops) = stops.1.1
+
+pub hearing_kept : (maximum limit most : ℕ) (old new : Connection) (many : ℕ) (answer : Result ⊤ EncodingError)
+    (steps : List EndStep) → IsKept maximum limit most old steps → (step : HearsOn old new many answer)
+    → Behind maximum limit most (Hear many answer) old new step steps
+hearing_kept maximum limit most old new many answer steps k step = (
+  r.0,
+  r.2,
+  encoder_kept maximum limit most old new e steps r.2 k r.3
+      (ap (λ (y : Connection). y.encoder) step.new_is) (ap (λ (y : Connection). y.decoder) step.new_is)
+      (subst IsSound (sym is) (received_sound old.encoder e.table e.stream (next_of many old.decoder_stream) k.sound
+      k.alive.encoder (λ heard before h. (hears heard before h).0)))
+      (ap (λ (y : EncodingEnd). y.failure) is)
+      (stays old new (ap (λ (y : Connection). y.streams) step.new_is)),
+)
+  where
+    e : EncodingEnd
+    e = step.encoder
+
+    r : (answer ≡ Ok tt) × IsOpen new × (more : List EndStep)
+        × RefinesSession maximum new (after_end_steps (steps ++ more) (abstract_start 0 maximum limit))
+    r = hearings_refined maximum limit old new steps many answer k.refines k.alive step
+
+    hears : (heard : List DecoderInstruction) (before : List ℕ) → hearing.Receives heard before old.encoder.stream
+        → ReceivesBytes heard before old.encoder e (next_of many old.decoder_stream) (Ok tt)
+    hears heard before h =
+        subst (λ (a : Result ⊤ EncodingError). ReceivesBytes heard before old.encoder e (next_of many old.decoder_stream) a)
+        r.0 (step.receives k.alive.encoder heard before h)
+
+    is : e ≡ encoders.received e.table e.stream old.encoder
+    is = (hears k.refines.heard (received_of old.decoder_stream) k.refines.hears).1

@@ -1,0 +1,195 @@
+-- A call of a connection in bytes that is refused leaves a session of values.
+use Rattle.std.proofs.Common.{◌≡◌, ◌<◌, ◌≤◌, ◌^◌, ℕ, zero, suc, List, [], ◌∷◌, ◌++◌, length, take, Option, None, Some}
+use Rattle.std.proofs.Common.{Ok, Err, refl, sym, ap, subst, ◌∙◌, arith, inl, inr, ◌⊎◌, length-append}
+use Rattle.std.specs.List.{AllByRecursion}
+use Rattle.std.proofs.lemmas.List.{append_assoc}
+use Rattle.qpack_spec.specs.Field.{FieldLine, fields_of_lines}
+use Rattle.qpack_spec.specs.Instruction.{written_encoder_instructions}
+use Rattle.qpack_spec.specs.Marked.{marked_rule}
+use Rattle.qpack_spec.specs.Table.{Table, without_references}
+use Rattle.qpack_spec.specs.WrittenLaws.{IsByteField}
+use Rattle.qpack_spec.proofs.MarkedDrafts.{marked_written}
+use Rattle.qpack_spec.proofs.WrittenDrafts.{instructions_fit}
+use Rattle.qpack_safety.specs.AbstractSession.{AbstractSession, abstract_start}
+use Rattle.qpack_safety.specs.TwoEnds.{EndStep, Abandon, after_end_step, after_end_steps}
+use Rattle.qpack_safety.proofs.Invariant.{Invariant}
+use Rattle.qpack_safety.proofs.TwoEnds.{holds_started, holds_behind}
+use Rattle.qpack_safety.proofs.WritingEvents.{few_insertions}
+use Rattle.qpack_connection.specs.declared.decoder.DecodingError.TheVariants as decoding
+use Rattle.qpack_connection.specs.declared.encoder.EncodingError.TheVariants as encoding
+use Rattle.qpack_connection.specs.Decoders as decoders
+use Rattle.qpack_connection.specs.Connections.{Connection, with_encoder, with_decoder}
+use Rattle.qpack_connection.specs.Decoders.{DecodingEnd}
+use Rattle.qpack_connection.specs.Encoders.{EncodingEnd, begun, begun_with, GivesUpSection, StopsForMemory, Checks}
+use Rattle.qpack_connection.specs.RefinedConnections.{RefinesSession}
+use Rattle.qpack_connection.specs.RefinedRefusals.{StopsEncoding, RefusedEncodesAreRefined}
+use Rattle.qpack_connection.specs.RefinedRefusals.{RefusedCapacitiesAreRefined, RefusedCancellationsAreRefined}
+use Rattle.qpack_connection.specs.RefinedStreams.{IsOpen}
+use Rattle.qpack_connection.proofs.RefinedCapacities.{same_refined}
+use Rattle.qpack_connection.proofs.RefinedConnections.{written_more, told_refined, after_more, after_last}
+use Rattle.qpack_connection.proofs.RefinedReceptions.{none_written}
+
+-- ---- the ends stay open
+
+open_encoder : (c new : Connection) (e : EncodingEnd) → IsOpen c → new ≡ with_encoder e c
+    → e.failure ≡ c.encoder.failure → IsOpen new
+open_encoder c new e alive is same =
+    record {
+      encoder = ap (λ (y : Connection). y.encoder.failure) is ∙ same ∙ alive.encoder;
+      decoder = ap (λ (y : Connection). y.decoder.failure) is ∙ alive.decoder;
+    }
+
+open_decoder : (c new : Connection) (d : DecodingEnd) → IsOpen c → new ≡ with_decoder d c
+    → d.failure ≡ c.decoder.failure → IsOpen new
+open_decoder c new d alive is same =
+    record {
+      encoder = ap (λ (y : Connection). y.encoder.failure) is ∙ alive.encoder;
+      decoder = ap (λ (y : Connection). y.decoder.failure) is ∙ same ∙ alive.decoder;
+    }
+
+-- ---- a section is given up
+
+first_bytes : (many : ℕ) (fields : List FieldLine) → AllByRecursion IsByteField (fields_of_lines fields)
+    → AllByRecursion IsByteField (fields_of_lines (take many fields))
+first_bytes zero fields are = tt
+first_bytes (suc many) [] are = tt
+first_bytes (suc many) (f ∷ fields) are = (are.0, first_bytes many fields are.1)
+
+given_up : (maximum limit : ℕ) (c : Connection) (w : AbstractSession) (e : EncodingEnd) (fields : List FieldLine)
+    → Invariant 0 maximum limit w → RefinesSession maximum c w → AllByRecursion IsByteField (fields_of_lines fields)
+    → length (c.encoder_stream.written ++ e.unsent) < 2 ^ 63 → (g : GivesUpSection c.encoder e fields)
+    → RefinesSession maximum (with_encoder e c) (after_end_step w (Abandon (take g.lines.many fields)))
+given_up maximum limit c w e fields k r are short g =
+    let some = take g.lines.many fields in
+    let d = marked_rule w.encoder some in
+    let unsent : e.unsent ≡ written_encoder_instructions d.instructions =
+    g.lines.written
+    ∙ ap (λ (b : List ℕ). b ++ written_encoder_instructions (marked_rule c.encoder.table some).instructions)
+    r.encoder_sent
+    ∙ ap (λ (t : Table). written_encoder_instructions (marked_rule t some).instructions) r.encoder_is in
+    let fits : length (written_encoder_instructions d.instructions) < 2 ^ 63 =
+    omega (arith, short, length-append c.encoder_stream.written e.unsent, ap length unsent) in
+    let wd = marked_written w.encoder some (few_insertions 0 maximum limit w k) (first_bytes g.lines.many fields are) in
+    written_more maximum c w e (without_references d.table) d.instructions (w.in_flight ++ d.instructions) c.streams
+    w.streams r
+    (g.lines.table ∙ ap (λ (t : Table). without_references (marked_rule t some).table) r.encoder_is)
+    (ap (λ (y : EncodingEnd). y.stream) g.new_is) unsent
+    (instructions_fit d.instructions wd.instructions fits) refl r.streams
+
+begun_failure : (o : Option ℕ) (d : EncodingEnd) → (begun_with o d).failure ≡ d.failure
+begun_failure None d = refl
+begun_failure (Some n) d = refl
+
+pub refused_encodes : RefusedEncodesAreRefined
+refused_encodes maximum limit c new steps s fields x r alive sound are short call = by_call call.call.1
+  where
+    start : AbstractSession
+    start = abstract_start 0 maximum limit
+
+    w : AbstractSession
+    w = after_end_steps steps start
+
+    e : EncodingEnd
+    e = call.encoder
+
+    now : new ≡ with_encoder e c
+    now = call.new_is
+
+    first : (more : List EndStep) × RefinesSession maximum (with_encoder (begun c.encoder) c) (after_end_steps more w)
+    first = told_refined maximum c w c.encoder.wanted sound.wanted r
+
+    behind : (more : List EndStep) → RefinesSession maximum (with_encoder e c) (after_end_steps more w)
+        → e.failure ≡ c.encoder.failure → StopsEncoding s x
+        → StopsEncoding s x × IsOpen new × (more : List EndStep)
+        × RefinesSession maximum new (after_end_steps (steps ++ more) start)
+    behind more k same stops = (
+      stops,
+      open_encoder c new e alive now same,
+      more,
+      subst (λ (y : Connection). RefinesSession maximum y (after_end_steps (steps ++ more) start)) (sym now)
+          (subst (λ (y : AbstractSession). RefinesSession maximum (with_encoder e c) y) (sym (after_more steps more start))
+          k),
+    )
+
+    by_memory : StopsEncoding s x → StopsForMemory c.encoder e fields
+        → StopsEncoding s x × IsOpen new × (more : List EndStep)
+        × RefinesSession maximum new (after_end_steps (steps ++ more) start)
+    by_memory stops (inl same) =
+        behind [] (same_refined maximum c w e r same.1) (ap (λ (y : EncodingEnd). y.failure) same.1) stops
+    by_memory stops (inr (inl full)) =
+        behind first.0
+        (subst (λ (y : EncodingEnd). RefinesSession maximum (with_encoder y c) (after_end_steps first.0 w)) (sym full.1)
+        first.1)
+        (ap (λ (y : EncodingEnd). y.failure) full.1 ∙ begun_failure c.encoder.wanted c.encoder) stops
+    by_memory stops (inr (inr g)) =
+        let some = take g.lines.many fields in
+        let written = written_encoder_instructions (marked_rule (begun c.encoder).table some).instructions in
+        let c1 = with_encoder (begun c.encoder) c in
+        let w1 = after_end_steps first.0 w in
+        let k = (holds_behind 0 maximum limit first.0 w (holds_behind 0 maximum limit steps start
+        (holds_started 0 maximum limit (omega arith)))).invariant in
+        let e1 : EncodingEnd = record e { unsent = written } in
+        let g1 : GivesUpSection c1.encoder e1 fields = record {
+          room = g.room;
+          lines = record { many = g.lines.many; table = g.lines.table; written = refl };
+          new_is = ap (λ (y : EncodingEnd). let z : EncodingEnd = record y { unsent = written } in z) g.new_is;
+        } in
+        let bytes : c1.encoder_stream.written ++ written ≡ c.encoder_stream.written ++ e.unsent =
+        append_assoc c.encoder_stream.written (begun c.encoder).unsent written
+        ∙ ap (λ (b : List ℕ). c.encoder_stream.written ++ b) (sym g.lines.written) in
+        let same : with_encoder e1 c1 ≡ with_encoder e c =
+        ap (λ (b : List ℕ). let y : Connection = record (with_encoder e c) {
+          encoder_stream = record c.encoder_stream { written = b };
+        } in y) bytes in
+        let few : length (c1.encoder_stream.written ++ written) < 2 ^ 63 =
+        subst (λ (b : List ℕ). length b < 2 ^ 63) (sym bytes)
+        (subst (λ (y : Connection). length y.encoder_stream.written < 2 ^ 63) now short) in
+        behind (first.0 ++ Abandon some ∷ [])
+        (subst (λ (y : AbstractSession). RefinesSession maximum (with_encoder e c) y)
+        (sym (after_last first.0 (Abandon some) w))
+        (subst (λ (y : Connection). RefinesSession maximum y (after_end_step w1 (Abandon some))) same
+        (given_up maximum limit c1 w1 e1 fields k first.1 are few g1)))
+        (ap (λ (y : EncodingEnd). y.failure) g.new_is ∙ begun_failure c.encoder.wanted c.encoder) stops
+
+    by_call : (Checks c.encoder s (Err x) × (e ≡ c.encoder))
+        ⊎ (Checks c.encoder s (Ok tt) × (x ≡ encoding.Memory)
+        × StopsForMemory c.encoder e fields)
+        → StopsEncoding s x × IsOpen new × (more : List EndStep)
+        × RefinesSession maximum new (after_end_steps (steps ++ more) start)
+    by_call (inl (inl ended, same)) = absurd (let q = sym alive.encoder ∙ ended in cc)
+    by_call (inl (inr number, same)) =
+        behind [] (same_refined maximum c w e r same) (ap (λ (y : EncodingEnd). y.failure) same)
+        (inr (number.2, number.1))
+    by_call (inr (checks, memory, stops)) = by_memory (inl memory) stops
+
+pub refused_capacities : RefusedCapacitiesAreRefined
+refused_capacities maximum limit c new steps n x r alive call = elim call.call [
+  | inl ended ↦ absurd (let q = sym alive.encoder ∙ ended.0 in cc)
+  | inr stops ↦ (
+    stops.1.0,
+    open_encoder c new call.encoder alive call.new_is (ap (λ (y : EncodingEnd). y.failure) stops.1.1),
+    subst (λ (y : Connection). RefinesSession maximum y (after_end_steps steps (abstract_start 0 maximum limit)))
+        (sym call.new_is)
+        (same_refined maximum c (after_end_steps steps (abstract_start 0 maximum limit)) call.encoder r stops.1.1),
+  )
+]
+
+pub refused_cancellations : RefusedCancellationsAreRefined
+refused_cancellations maximum limit c new steps s x r alive call = by_call call.call
+  where
+    w : AbstractSession
+    w = after_end_steps steps (abstract_start 0 maximum limit)
+
+    behind : call.decoder ≡ c.decoder → IsOpen new × RefinesSession maximum new w
+    behind same = (
+      open_decoder c new call.decoder alive call.new_is (ap (λ (y : DecodingEnd). y.failure) same),
+      subst (λ (y : Connection). RefinesSession maximum y w) (sym call.new_is)
+          (none_written maximum c w call.decoder r same),
+    )
+
+    by_call : decoders.Cancels c.decoder call.decoder s (Err x)
+        → ((x ≡ decoding.Memory) ⊎ ((x ≡ decoding.NoStream s) × (2 ^ 62 ≤ s))) × IsOpen new
+        × RefinesSession maximum new w
+    by_call (inl (inl ended, same)) = absurd (let q = sym alive.decoder ∙ ended in cc)
+    by_call (inl (inr number, same)) = let b = behind same in (inr (number.2, number.1), b.0, b.1)
+    by_call (inr (checks, memory, some, same)) = let b = behind same in (inl memory, b.0, b.1)

@@ -1,0 +1,24 @@
+-- The streams that the decoder of a connection counts as blocked wait with their next sections (RFC 9204, section
+-- 2.1.2).
+use Rattle.std.specs.Prelude.{◌≡◌, false, List, [], ◌∷◌, Some}
+use Rattle.std.specs.List.{AllByRecursion}
+use Rattle.qpack_spec.specs.Session.{stream_at, oldest_undecoded}
+use Rattle.qpack_connection.specs.declared.blocked.BlockedStream.{BlockedStream}
+use Rattle.qpack_connection.specs.Blocked.{is_listed}
+use Rattle.qpack_connection.specs.Connections.{SentSection, Connection}
+
+-- no two of them are of one stream
+abbrev pub AreOfOneEach : List BlockedStream → Type 0
+AreOfOneEach [] = Unit {0}
+AreOfOneEach (b ∷ bs) = (is_listed b.stream bs ≡ false) × AreOfOneEach bs
+
+-- the next section of the stream requires so many insertions
+pub record IsNextOf (c : Connection) (b : BlockedStream) : Type 0 where
+  pub section : SentSection
+  pub next : oldest_undecoded (stream_at c.streams b.stream) ≡ Some section
+  pub required_is : b.required ≡ section.required
+
+-- so is each of those that the decoder counts, and each is counted once
+pub record BlockedAreNext (c : Connection) : Type 0 where
+  pub once : AreOfOneEach c.decoder.blocked
+  pub next : AllByRecursion (IsNextOf c) c.decoder.blocked
