@@ -118,7 +118,8 @@ same_key k l h = both (ranked k.hash l.hash Equal (sym (first_ties _ _ h))) (sam
     both e f = λ i. record { hash = e i; field = f i }
 
 pub tie_of : (k l : Key) → k.hash ≡ l.hash → k.field ≡ l.field → key_cmp k l ≡ Equal
-tie_of k l hash field = (λ i. key_cmp k (record { hash = sym hash i; field = sym field i })) ∙ tied_itself key_cmp_total k
+tie_of k l hash field = (λ i. key_cmp k (record { hash = sym hash i; field = sym field i })) ∙ tied_itself
+    key_cmp_total k
 
 -- whether two fields are the same
 pub cases_field : (f g : Field) → (f ≡ g) ⊎ (f ≡ g → ⊥)

@@ -150,7 +150,8 @@ impl DynamicTableEncoder<'_> {
         self.table.find_field(self.base, field)
     }
 
-    /// The same of a field that is lent, whose name the static table has at this index if at any. What was sought is kept
+    /// The same of a field that is lent, whose name the static table has at this index if at any. What was sought is
+    /// kept
     /// with the answer, for `insert_found`.
     pub fn find_and_keep(
         &mut self,

@@ -27,7 +27,8 @@ use std::collections::VecDeque;
 /// The least number of rows, once there are any.
 const LEAST_ROWS: usize = 32;
 
-/// How many times as many rows there are where they would be fewer than the entries. With 32 rows first, a table of 4096
+/// How many times as many rows there are where they would be fewer than the entries. With 32 rows first, a table of
+/// 4096
 /// bytes, which has at most 128 entries, makes its rows anew once.
 const GROWTH: usize = 4;
 

@@ -195,7 +195,8 @@ impl DynamicTable {
         Ok(insertion)
     }
 
-    /// How a field that was sought is inserted once so many of the oldest entries are evicted: by the newest equal entry
+    /// How a field that was sought is inserted once so many of the oldest entries are evicted: by the newest equal
+    /// entry
     /// that stays, by a static field's name, by the newest entry of its name that stays, or with a name of its own.
     fn insertion_of(
         &self,

@@ -88,7 +88,8 @@ impl DynamicTable {
         static_name: Option<usize>,
     ) -> Result<FoundField, Error>
         requires { static_name ≡ static_name_index (line_of field.now).field.name }
-        ensures found { Finds (lookup_in result) (find_field self.old base (line_of field.now).field) self.old self.new }
+        ensures found { Finds (lookup_in result) (find_field self.old base (line_of field.now).field) self.old
+            self.new }
         ensures kept { IfOk result (λ found. IsFoundIn self.new (line_of field.now).field found) }
     {
         let sought = self.seek(field, static_name);

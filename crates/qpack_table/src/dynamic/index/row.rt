@@ -5,7 +5,8 @@ ghost use Rattle.std.specs.Prelude.{◌≡◌, ◌+◌, ◌-◌, ◌^◌, ◌<�
 ghost use Rattle.std.specs.Prelude.{ℕ, slice_index};
 ghost use Rattle.qpack_base.specs.HeaderFields.{field_of, line_of, field_cmp};
 ghost use Rattle.qpack_table.specs.Rows.{part_of, part_at, key_cmp, key_at, key_of, field_of_sought, IsHashed, IsSlot};
-ghost use Rattle.qpack_table.specs.Rows.{HasRoom, IsRow, IsPlace, FindsSlot, Enters, Leaves, HasIndexAt, HasNoIndex, Counts};
+ghost use Rattle.qpack_table.specs.Rows.{HasRoom, IsRow, IsPlace, FindsSlot, Enters, Leaves, HasIndexAt, HasNoIndex};
+ghost use Rattle.qpack_table.specs.Rows.{Counts};
 ghost use Rattle.qpack_table.specs.Tables.{live_fields};
 ghost use Rattle.qpack_table.specs.declared.dynamic.index.row.Slot.{Slot};
 

@@ -12,7 +12,8 @@ pub returns-in-Ok-clause-row : goal.returns-in-Ok-clause-row
 returns-in-Ok-clause-row c =
     subst (λ (xs : List Slot). IsRow c.args.sought.now.part c.args.dropped (live_fields c.args.entries.now.items) xs)
     (sym (written_there c.args.self.now.slots.items _ _ _ c.deref_mut.ensures.value))
-    (row_set _ _ _ _ c.requires.row _ (slot_entered _ _ c.args.entries.now.items _ _ (line_of c.args.sought.now.line).field
+    (row_set _ _ _ _ c.requires.row _ (slot_entered _ _ c.args.entries.now.items _ _ (line_of
+    c.args.sought.now.line).field
     c.requires.live c.requires.field c.requires.hashed) (key_of c.args.sought.now)
     (key_entered c.args.sought.now.part c.args.dropped
     (live_fields c.args.entries.now.items) c.args.index _ _ c.requires.field) _ c.in-Ok.ensures.place)
@@ -21,7 +22,8 @@ pub returns-in-Ok-clause-slots : goal.returns-in-Ok-clause-slots
 returns-in-Ok-clause-slots c =
     let slot : Slot = record { hash = c.args.sought.now.hash; index = c.args.index } in
     subst (λ (xs : List Slot). Enters c.args.sought.now.part c.args.dropped (live_fields c.args.entries.now.items)
-    c.args.self.now.slots.items xs slot) (sym (written_there c.args.self.now.slots.items _ _ _ c.deref_mut.ensures.value))
+    c.args.self.now.slots.items xs slot) (sym (written_there c.args.self.now.slots.items _ _ _
+    c.deref_mut.ensures.value))
     (enters_set _ _ _ _ c.requires.row _ (slot_entered _ _ c.args.entries.now.items _ _
     (line_of c.args.sought.now.line).field c.requires.live c.requires.field c.requires.hashed)
     (key_of c.args.sought.now) (key_entered c.args.sought.now.part c.args.dropped

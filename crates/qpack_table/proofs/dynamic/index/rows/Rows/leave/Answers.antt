@@ -22,7 +22,8 @@ returns-clause-rows c =
     rows_changed _ _ _ _ _ _ _ within (rows_left _ _ _ _ _ _ _ _ within c.index_mut.ensures.value c.requires.rows some
     c.requires.some
     (sym (home_chosen c.args.sought.now.part _ _ _ _ (line_of c.args.sought.now.line).field
-    (field_at c.args.dropped (live_fields c.args.entries.now.items) (c.args.dropped + 1)) c.requires.hashed c.requires.field c.position_of-home.ensures.position len))
+    (field_at c.args.dropped (live_fields c.args.entries.now.items) (c.args.dropped + 1)) c.requires.hashed
+    c.requires.field c.position_of-home.ensures.position len))
     c.leave.ensures.row c.leave.ensures.slots)
 
 pub returns-clause-room : goal.returns-clause-room
