@@ -67,7 +67,7 @@ module _ (part : Part) (dropped : ℕ) (live : List Field) (row : List Slot) (is
         pick : (j : ℕ) (d : Slot) → j < middle + 1 → key_cmp (key j d) k ≡ Less
         pick j d g = elim (cases_lt j middle) [
           | inl lt ↦ before_less (key j d) (key middle d) k (is.rises j middle d lt (omega (arith, to, h.within)))
-          (at d)
+              (at d)
           | inr le ↦
               let same : middle ≡ j = omega (arith, le, g) in
               subst (λ (i : ℕ). key_cmp (key i d) k ≡ Less) same (at d)
