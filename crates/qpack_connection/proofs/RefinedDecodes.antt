@@ -352,7 +352,11 @@ decodes_refined maximum limit c new steps s fields answer r alive call may =
           | inr over ↦ absurd (subst IsOverLimit e over.0)
         ]
         pick (inr within) = elim (reads.reads within) [
-          | inl b ↦ let x = sym e ∙ b in (read_fields fields k.fields required k.required x, read_count fields k.fields required k.required x, within)
+          | inl b ↦ let x = sym e ∙ b in (
+            read_fields fields k.fields required k.required x,
+            read_count fields k.fields required k.required x,
+            within,
+          )
           | inr over ↦ absurd (subst IsOverLimit e over.0)
         ]
 

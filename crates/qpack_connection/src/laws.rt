@@ -18,7 +18,8 @@ pub fn lawful_streams_are_never_refused()
 {}
 
 /// A connection of two ends in bytes is a session of two strict ends in values (RFC 9204, section 2): a new one, and
-/// behind each section that is encoded, each capacity that is set, and each stream that is cancelled.
+/// behind each section that is encoded, each capacity that is set, each stream that is cancelled, all bytes of either
+/// stream that are received, each section that is decoded, and each call that is refused.
 pub fn connections_are_sessions()
     ensures new { NewConnectionsAreRefined }
     ensures encodes { EncodesAreRefined }
