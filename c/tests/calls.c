@@ -55,7 +55,7 @@ static void refuse_arguments(void) {
   CHECK(h3_qpack_decoder_cancel_stream(&d, (uint64_t)1 << 62) == H3_QPACK_ERR_INVALID);
   CHECK(h3_qpack_decoder_field(&d, 0, bytes, sizeof bytes).status == H3_QPACK_ERR_INVALID);
   CHECK(h3_qpack_decoder_fields(&d, NULL, 1, bytes, 9).status == H3_QPACK_ERR_INVALID);
-  CHECK(h3_qpack_decoder_fields(&d, fields, much / sizeof *fields, bytes, 9).status == H3_QPACK_ERR_INVALID);
+  CHECK(h3_qpack_decoder_fields(&d, fields, much / sizeof *fields + 1, bytes, 9).status == H3_QPACK_ERR_INVALID);
   CHECK(h3_qpack_decoder_fields(&d, fields, 1, NULL, 9).status == H3_QPACK_ERR_INVALID);
   CHECK(h3_qpack_decoder_fields(&d, NULL, 0, NULL, 0).status == H3_QPACK_OK);
   CHECK(!h3_qpack_decoder_next_ready(&d, NULL));
