@@ -81,16 +81,16 @@ extern "C" {
         ends: *mut c_void,
         section: *const u8,
         len: usize,
-        list: *mut Owned,
-        take: extern "C" fn(*mut Owned, *const u8, usize, *const u8, usize),
+        list: *mut c_void,
+        take: extern "C" fn(*mut c_void, *const u8, usize, *const u8, usize),
     ) -> usize;
 }
 
 /// Takes a field that nghttp3 decoded, owned.
-extern "C" fn take(list: *mut Owned, name: *const u8, name_len: usize, value: *const u8, value_len: usize) {
+extern "C" fn take(list: *mut c_void, name: *const u8, name_len: usize, value: *const u8, value_len: usize) {
     // SAFETY: nghttp3 lends the field for the length of the call, and `decode` the list.
     let (list, name, value) = unsafe {
-        (&mut *list, std::slice::from_raw_parts(name, name_len), std::slice::from_raw_parts(value, value_len))
+        (&mut *list.cast::<Owned>(), std::slice::from_raw_parts(name, name_len), std::slice::from_raw_parts(value, value_len))
     };
     list.push((name.to_vec(), value.to_vec()));
 }
@@ -131,9 +131,10 @@ impl Nghttp3 {
     }
 
     fn decode(&mut self, len: usize, many: usize) -> Owned {
-        let mut list = Vec::with_capacity(many);
+        let mut list: Owned = Vec::with_capacity(many);
+        let lent: *mut Owned = &mut list;
         // SAFETY: all is lent for the length of the call.
-        unsafe { bench_decode(self.ends, self.section.as_ptr(), len, &mut list, take) };
+        unsafe { bench_decode(self.ends, self.section.as_ptr(), len, lent.cast(), take) };
         list
     }
 }
