@@ -11,7 +11,7 @@ use Rattle.qpack_spec.specs.Window.{eviction_count}
 use Rattle.qpack_table.specs.Positions.{Positions}
 use Rattle.qpack_table.specs.Tables.{entry_of, entries_of, flags_of, references_in, times, AreUsed, AreCounted}
 use Rattle.qpack_table.specs.Tables.{NoneTwice}
-use Rattle.qpack_table.specs.Tables.{IsKept, IsSized, CountsReferences, live_fields}
+use Rattle.qpack_table.specs.Tables.{IsKept, IsSized, IsIndexOfEntries, CountsReferences, live_fields}
 use Rattle.qpack_table.specs.Indexes.{IsIndexOf}
 use Rattle.qpack_table.specs.declared.dynamic.entry.Entry.{Entry}
 use Rattle.qpack_table.specs.declared.dynamic.index.Index.{Index}
@@ -20,14 +20,14 @@ use Rattle.qpack_table.proofs.References.{times_append, references_less, referen
 use Rattle.qpack_table.proofs.Marks.{used_counted}
 
 -- with fewer entries and another capacity
-pub kept_resized : {index shed : Index} (v w : Positions) (es now : List Entry) (size left capacity most : ℕ)
+pub kept_resized : {index shed : ℕ → List Entry → Type 0} (v w : Positions) (es now : List Entry) (size left capacity most : ℕ)
     (referenced : List ℕ)
     (unacknowledged : List table.UnacknowledgedBlock) (least : ℕ) (blocked : List ℕ) (k freed : ℕ)
     → IsKept v es size capacity referenced unacknowledged least blocked index
     → k ≡ eviction_count most (fields_in (entries_of es)) → most < 2 ^ 30 → now ≡ drop k es
     → freed + total_size (drop k (fields_in (entries_of es))) ≡ total_size (fields_in (entries_of es))
     → left ≡ size - freed → w.dropped ≡ v.dropped + k → w.total ≡ v.total
-    → IsIndexOf w.dropped (live_fields now) (length now) shed
+    → shed w.dropped now
     → IsKept w now left most referenced unacknowledged least blocked shed
 kept_resized v w es now size left capacity most referenced unacknowledged least blocked k freed kept evicted small items
     rest is dropped total indexed = record {
@@ -39,7 +39,7 @@ kept_resized v w es now size left capacity most referenced unacknowledged least 
     }
 
 -- with some entries less and one more, which nothing references
-pub kept_put : {index more : Index} (v w : Positions) (es now : List Entry) (size left capacity : ℕ)
+pub kept_put : {index more : ℕ → List Entry → Type 0} (v w : Positions) (es now : List Entry) (size left capacity : ℕ)
     (referenced : List ℕ)
     (unacknowledged : List table.UnacknowledgedBlock) (least : ℕ) (blocked : List ℕ) (e : Entry) (k : ℕ)
     → IsKept v es size capacity referenced unacknowledged least blocked index
@@ -49,7 +49,7 @@ pub kept_put : {index more : Index} (v w : Positions) (es now : List Entry) (siz
     → left ≡ total_size (drop k (fields_in (entries_of es))) + field_size (field_of e.field)
     → e.referenced ≡ false → e.uses ≡ 0
     → w.dropped ≡ v.dropped + k → w.total ≡ v.total + 1
-    → IsIndexOf w.dropped (live_fields now) (length now) more
+    → more w.dropped now
     → IsKept w now left capacity referenced unacknowledged least blocked more
 kept_put v w es now size left capacity referenced unacknowledged least blocked e k kept room evicted items sum unflagged
     unused dropped total indexed =
@@ -84,7 +84,7 @@ sized_as v es now size capacity same kept = record {
 
 -- the index is that of other entries with the same fields
 pub indexed_as : {index : Index} (dropped : ℕ) (es now : List Entry) → entries_of now ≡ entries_of es
-    → IsIndexOf dropped (live_fields es) (length es) index → IsIndexOf dropped (live_fields now) (length now) index
+    → IsIndexOfEntries index dropped es → IsIndexOfEntries index dropped now
 indexed_as {index} dropped es now same is =
     let long : length es ≡ length now =
     sym (length-map es entry_of) ∙ ap (λ (l : List table.Entry). length l) (sym same) ∙ length-map now entry_of in
@@ -94,20 +94,20 @@ indexed_as {index} dropped es now same is =
 -- with some blocks released
 pub kept_released : {index : Index} (v : Positions) (es now : List Entry) (size capacity : ℕ) (referenced : List ℕ)
     (unacknowledged left : List table.UnacknowledgedBlock) (least : ℕ) (blocked gone : List ℕ) (dropped : ℕ)
-    → IsKept v es size capacity referenced unacknowledged least blocked index → dropped ≡ v.dropped
+    → IsKept v es size capacity referenced unacknowledged least blocked (IsIndexOfEntries index) → dropped ≡ v.dropped
     → entries_of now ≡ entries_of es → flags_of now ≡ flags_of es
     → ((rest : List ℕ) → AreUsed dropped es (gone ++ rest) → AreUsed dropped now rest)
     → ((a : ℕ) → times a (references_in unacknowledged) ≡ times a gone + times a (references_in left))
     → AllByRecursion (λ b. NoneTwice b.entries) left
-    → IsKept v now size capacity referenced left least blocked index
-kept_released v es now size capacity referenced unacknowledged left least blocked gone dropped kept is live flags
+    → IsKept v now size capacity referenced left least blocked (IsIndexOfEntries index)
+kept_released {index} v es now size capacity referenced unacknowledged left least blocked gone dropped kept is live flags
     lowered parted once = record {
       sized = sized_as v es now size capacity live kept.sized;
       references = references_released v es now referenced unacknowledged left gone kept.references flags
           (subst (λ (d : ℕ). (rest : List ℕ) → AreUsed d es (gone ++ rest)
           → AreUsed d now rest) is lowered) parted once;
       least = kept.least;
-      indexed = indexed_as v.dropped es now live kept.indexed;
+      indexed = indexed_as {index = index} v.dropped es now live kept.indexed;
     }
 
 -- what some blocks reference is counted

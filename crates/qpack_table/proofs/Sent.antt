@@ -1,7 +1,7 @@
 -- An entry that is sent, and referenced by the block in progress.
 use Rattle.std.proofs.Common.{◌≡◌, ℕ, ◌+◌, ◌^◌, ◌<◌, ◌≤◌, Bool, true, false, List, [], ◌∷◌, ◌++◌}
 use Rattle.std.proofs.Common.{length, drop, Option, Some, None, refl, sym, ap, ◌∙◌, arith}
-use Rattle.std.specs.Prelude.{slice_set, nat_le, IfSome, IfNone}
+use Rattle.std.specs.Prelude.{⊤, slice_set, nat_le, IfSome, IfNone}
 use Rattle.std.proofs.lemmas.Bool.{lt-ltb, le-ltb, lt-leb, le-leb}
 use Rattle.std.proofs.lemmas.List.{length-drop}
 use Rattle.std.proofs.Math.Seq.{set-append_seam}
@@ -14,14 +14,12 @@ use Rattle.qpack_spec.specs.Table.{eviction_count_for, can_evict, has_room, belo
 use Rattle.qpack_spec.specs.Window.{eviction_count}
 use Rattle.qpack_spec.proofs.Lists.{get_append_end}
 use Rattle.qpack_table.specs.Positions.{Positions}
-use Rattle.qpack_table.specs.Tables.{entries_of, references_in, IsKept, CountsReferences, live_fields}
-use Rattle.qpack_table.specs.Indexes.{IsIndexOf}
-use Rattle.qpack_table.specs.declared.dynamic.index.Index.{Index}
+use Rattle.qpack_table.specs.Tables.{entries_of, references_in, IsKept, CountsReferences}
 use Rattle.qpack_table.specs.declared.dynamic.entry.Entry.{Entry}
 use Rattle.qpack_table.proofs.Changes.{entered}
 use Rattle.qpack_table.proofs.Evictions.{evicted_within, joined_entries}
 use Rattle.qpack_table.proofs.References.{times_append, not_among}
-use Rattle.qpack_table.proofs.Kept.{kept_put, sized_as, indexed_as}
+use Rattle.qpack_table.proofs.Kept.{kept_put, sized_as}
 use Rattle.qpack_table.proofs.InProgress.{references_of_block, with_new}
 
 -- an entry that is sent and referenced, and as if it were neither referenced nor used yet
@@ -31,7 +29,8 @@ sent_now f = record { field = f; sent = true; referenced = true; uses = 1 }
 abbrev sent_before : HeaderField → Entry
 sent_before f = record { field = f; sent = true; referenced = false; uses = 0 }
 
-pub kept_sent : {index shown : Index} (v w : Positions) (es now : List Entry) (size left capacity : ℕ)
+pub kept_sent : {index shown : ℕ → List Entry → Type 0} (v w : Positions) (es now : List Entry)
+    (size left capacity : ℕ)
     (referenced more : List ℕ) (unacknowledged : List table.UnacknowledgedBlock) (least : ℕ) (blocked : List ℕ)
     (f : HeaderField) (k n : ℕ)
     → IsKept v es size capacity referenced unacknowledged least blocked index
@@ -40,7 +39,7 @@ pub kept_sent : {index shown : Index} (v w : Positions) (es now : List Entry) (s
     → now ≡ drop k es ++ sent_now f ∷ []
     → left ≡ total_size (drop k (fields_in (entries_of es))) + field_size (field_of f)
     → w.dropped ≡ v.dropped + k → w.total ≡ v.total + 1 → n ≡ w.total → more ≡ referenced ++ n ∷ []
-    → IsIndexOf w.dropped (live_fields now) (length now) shown
+    → shown w.dropped now
     → IsKept w now left capacity more unacknowledged least blocked shown
 kept_sent {index} {shown} v w es now size left capacity referenced more unacknowledged least blocked f k n kept room
     evicted items sum dropped total new last indexed =
@@ -49,8 +48,8 @@ kept_sent {index} {shown} v w es now size left capacity referenced more unacknow
     let same : entries_of now ≡ entries_of mid =
     ap (λ (l : List Entry). entries_of l) items ∙ joined_entries (drop k es) (sent_now f)
     ∙ sym (joined_entries (drop k es) (sent_before f)) in
-    let put = kept_put v w es mid size left capacity referenced unacknowledged least blocked (sent_before f) k kept room
-    evicted refl sum refl refl dropped total (indexed_as w.dropped now mid (sym same) indexed) in
+    let put = kept_put {index = index} {more = λ _ _. ⊤} v w es mid size left capacity referenced unacknowledged least blocked
+    (sent_before f) k kept room evicted refl sum refl refl dropped total tt in
     let set : now ≡ slice_set mid (length (drop k es)) (sent_now f) =
     items ∙ sym (set-append_seam (drop k es) (sent_before f) [] (sent_now f)) in
     record {

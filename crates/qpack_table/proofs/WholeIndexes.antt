@@ -1,5 +1,5 @@
 -- The index as a whole.
-use Rattle.std.proofs.Common.{◌≡◌, ℕ, ◌+◌, ◌-◌, ◌<◌, ◌≤◌, [], ◌∷◌, ◌++◌, List, length, get_or, drop, sym, ap}
+use Rattle.std.proofs.Common.{refl, ◌≡◌, ℕ, ◌+◌, ◌-◌, ◌<◌, ◌≤◌, [], ◌∷◌, ◌++◌, List, length, get_or, drop, sym, ap}
 use Rattle.std.proofs.Common.{subst, ◌∙◌, inl, inr, ◌⊎◌, arith}
 use Rattle.std.proofs.lemmas.Bool.{cases_lt}
 use Rattle.std.proofs.lemmas.List.{length-drop, length-append, get_or_append_left, get_or-drop}
@@ -9,7 +9,7 @@ use Rattle.qpack_spec.specs.Field.{Field, FieldLine, unmarked}
 use Rattle.qpack_table.specs.Positions.{Positions}
 use Rattle.qpack_table.specs.Rows.{field_at, part_of, part_at}
 use Rattle.qpack_table.specs.Indexes.{AreHashesOf, AreAllHashesOf, IsIndexOf}
-use Rattle.qpack_table.specs.Tables.{live_fields}
+use Rattle.qpack_table.specs.Tables.{live_fields, IsIndexOfEntries}
 use Rattle.qpack_table.specs.declared.dynamic.entry.Entry.{Entry}
 use Rattle.qpack_table.specs.declared.dynamic.index.Index.{Index}
 use Rattle.qpack_table.specs.declared.dynamic.index.hash.Hashes.{Hashes}
@@ -111,7 +111,7 @@ line_read part dropped es index e l live read is =
 -- ---- as the table's entries come and go
 
 -- the oldest is popped
-pub index_shed : (from to : ℕ) (es rest : List Entry) (e : Entry) (index : Index)
+index_shed : (from to : ℕ) (es rest : List Entry) (e : Entry) (index : Index)
     → IsIndexOf (from + 1) (drop 1 (live_fields es)) (length es - 1) index → es ≡ e ∷ rest → to ≡ from + 1
     → IsIndexOf to (live_fields rest) (length rest) index
 index_shed from to es rest e index is items moved =
@@ -119,6 +119,20 @@ index_shed from to es rest e index is items moved =
     subst (λ (d : ℕ). IsIndexOf d (live_fields rest) (length rest) index) (sym moved)
     (subst (λ (n : ℕ). IsIndexOf (from + 1) (live_fields rest) n index) count
     (subst (λ (l : List Entry). IsIndexOf (from + 1) (drop 1 (live_fields l)) (length es - 1) index) items is))
+
+-- the oldest is about to be popped
+pub index_left : (from : ℕ) (es : List Entry) (index : Index)
+    → IsIndexOf (from + 1) (drop 1 (live_fields es)) (length es - 1) index
+    → IsIndexOfEntries index (from + 1) (drop 1 es)
+index_left from [] index is = is
+index_left from (e ∷ es) index is = index_shed from (from + 1) (e ∷ es) es e index is refl refl
+
+-- what finds the entries, once the oldest is popped
+pub entries_shed : (is_index_of : ℕ → List Entry → Type 0) (from to : ℕ) (es rest : List Entry) (e : Entry)
+    → is_index_of (from + 1) (drop 1 es) → es ≡ e ∷ rest → to ≡ from + 1 → is_index_of to rest
+entries_shed is_index_of from to es rest e is items moved =
+    subst (λ (d : ℕ). is_index_of d rest) (sym moved)
+    (subst (λ (l : List Entry). is_index_of (from + 1) (drop 1 l)) items is)
 
 -- one is pushed that has not come in yet
 index_joined : (dropped : ℕ) (es now : List Entry) (e : Entry) (index : Index)

@@ -14,6 +14,7 @@ mod block;
 mod capacities;
 mod encoder;
 mod entry;
+mod entry_index;
 mod index;
 mod lookups;
 mod newest;
@@ -25,9 +26,11 @@ mod tracking;
 pub use crate::dynamic::encoder::{
     DynamicInsertionResult, DynamicLookupResult, DynamicTableEncoder,
 };
+pub use crate::dynamic::entry_index::{EntryIndex, NoIndex};
+pub use crate::dynamic::index::Index;
 pub use crate::dynamic::sought::FoundField;
 pub use crate::dynamic::steps::Steps;
-pub use crate::dynamic::table::{DynamicTable, DynamicTableDecoder};
+pub use crate::dynamic::table::{DynamicTable, DynamicTableDecoder, ReceivedTable};
 
 /// Why the dynamic table did not do what it was asked for.
 #[derive(Clone, Copy, Debug, PartialEq, Drop, ThisError)]

@@ -16,7 +16,7 @@ use crate::decoder::DecoderError;
 use qpack_base::coding::{Cursor, NoMemory};
 use qpack_base::field::HeaderField;
 use qpack_base::static_::StaticTable;
-use qpack_table::dynamic::{self, DynamicTable};
+use qpack_table::dynamic::{self, DynamicTable, EntryIndex};
 use qpack_wire::stream::{
     Duplicate, DynamicTableSizeUpdate, EncoderLine, InsertCountIncrement, InsertWithNameRef,
     InsertWithoutNameRef, next_line,
@@ -41,8 +41,11 @@ pub(super) fn take_instructions(
 
 /// Takes the encoder instruction at the cursor and moves past it (RFC 9204, section 4.3); answers whether one stood
 /// whole. Refused, the table is as before; the cursor moves past the instruction exactly if the table refuses it for
-/// what it asks.
-pub fn take_instruction(table: &mut DynamicTable, buf: &mut Cursor) -> Result<bool, DecoderError>
+/// what it asks. The table may be one without an index.
+pub fn take_instruction<I: EntryIndex>(
+    table: &mut DynamicTable<I>,
+    buf: &mut Cursor,
+) -> Result<bool, DecoderError>
     ensures takes { TakesNext table.old table.new buf.old.rest buf.new.rest result }
     ensures total { buf.new.total ≡ buf.old.total }
 {
@@ -83,7 +86,7 @@ fn is_refused_by_table(e: &dynamic::Error) -> bool
 
 /// Applies an instruction to the table. Refused, nothing changes.
 #[tactic(auto, unfolding(qpack_spec::specs::Table::apply_encoder_instruction))]
-fn apply(table: &mut DynamicTable, line: EncoderLine) -> Result<(), DecoderError>
+fn apply<I: EntryIndex>(table: &mut DynamicTable<I>, line: EncoderLine) -> Result<(), DecoderError>
     ensures applies { Applies result (apply_encoder_instruction table.old (encoder_instruction_of line))
         table.old table.new }
     ensures memory { result ≡ Err Memory → IsSome (field_to_insert table.old (encoder_instruction_of line)) }
@@ -108,7 +111,10 @@ fn apply(table: &mut DynamicTable, line: EncoderLine) -> Result<(), DecoderError
 
 /// The field that an insertion with a name reference asks for (RFC 9204, section 4.3.2).
 #[tactic(auto, unfolding(qpack_spec::specs::Table::apply_encoder_instruction))]
-fn with_name(table: &DynamicTable, line: InsertWithNameRef) -> Result<HeaderField, DecoderError>
+fn with_name<I: EntryIndex>(
+    table: &DynamicTable<I>,
+    line: InsertWithNameRef,
+) -> Result<HeaderField, DecoderError>
     ensures { FindsField table.now (encoder_instruction_of_insert_with_name_ref line) result }
 {
     match line {
@@ -123,21 +129,27 @@ fn with_name(table: &DynamicTable, line: InsertWithNameRef) -> Result<HeaderFiel
 
 /// The field that a duplicate asks for (RFC 9204, section 4.3.4).
 #[tactic(auto, unfolding(qpack_spec::specs::Table::apply_encoder_instruction))]
-fn duplicated(table: &DynamicTable, index: usize) -> Result<HeaderField, DecoderError>
+fn duplicated<I: EntryIndex>(
+    table: &DynamicTable<I>,
+    index: usize,
+) -> Result<HeaderField, DecoderError>
     ensures { FindsField table.now (DuplicateOf index) result }
 {
     Ok(table.get_relative(index)?.clone()?)
 }
 
 /// Puts a field. Refused, nothing changes.
-fn insert(table: &mut DynamicTable, field: HeaderField) -> Result<(), DecoderError>
+fn insert<I: EntryIndex>(
+    table: &mut DynamicTable<I>,
+    field: HeaderField,
+) -> Result<(), DecoderError>
     ensures { Applies result (put table.old (field_of field)) table.old table.new }
 {
     Ok(table.put(field)?)
 }
 
 /// Sets the capacity. Refused, nothing changes; it takes no memory.
-fn set_capacity(table: &mut DynamicTable, size: usize) -> Result<(), DecoderError>
+fn set_capacity<I: EntryIndex>(table: &mut DynamicTable<I>, size: usize) -> Result<(), DecoderError>
     ensures applies { Applies result (with_capacity table.old size) table.old table.new }
     ensures no_memory { result ≡ Err Memory → ⊥ }
 {

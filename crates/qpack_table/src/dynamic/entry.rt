@@ -7,11 +7,8 @@ ghost use Rattle.qpack_base.specs.HeaderFields.{field_of};
 ghost use Rattle.qpack_spec.specs.Field.{field_size, total_size};
 ghost use Rattle.qpack_spec.specs.Table.{fields_in};
 ghost use Rattle.qpack_table.specs.Tables.{entries_of, uses_of, flags_of, AreFlagged, AreUsed, AreCounted};
-ghost use Rattle.qpack_table.specs.Indexes.{AreHashesOf, IsIndexOf, HasRoomForEntry};
-ghost use Rattle.qpack_table.specs.Tables.{live_fields};
-ghost use Rattle.qpack_table.specs.declared.dynamic.index.hash.Hashes.{Hashes};
 
-use crate::dynamic::index::{Hashes, Index};
+use crate::dynamic::entry_index::EntryIndex;
 use crate::vas::VirtualAddressSpace;
 use qpack_base::field::HeaderField;
 use std::alloc::AllocError;
@@ -19,7 +16,7 @@ use std::collections::VecDeque;
 
 /// A live entry.
 #[derive(Debug, Drop)]
-pub(super) struct Entry {
+pub struct Entry {
     pub(super) field: HeaderField,
     /// Whether an encoder's handle inserted it, and so sent it.
     pub(super) sent: bool,
@@ -84,20 +81,20 @@ pub(super) fn lower_uses(entries: &mut VecDeque<Entry>, dropped: usize, referenc
 }
 
 /// The oldest entries go; the sum of their sizes is answered.
-pub(super) fn drop_oldest(
+pub(super) fn drop_oldest<I: EntryIndex>(
     entries: &mut VecDeque<Entry>,
-    index: &mut Index,
+    index: &mut I,
     vas: &mut VirtualAddressSpace,
     evicted: usize,
 ) -> usize
     requires there { evicted ≤ length entries.old.items }
     requires counted { vas.old.total ≡ vas.old.dropped + length entries.old.items }
-    requires index { IsIndexOf vas.old.dropped (live_fields entries.old.items) (length entries.old.items) index.old }
+    requires index { I.is_index_of index.old vas.old.dropped entries.old.items }
     requires small { total_size (fields_in (entries_of entries.old.items)) < 2 ^ 63 }
     ensures left { entries.new.items ≡ drop evicted entries.old.items }
     ensures capacity { deque_capacity entries.new ≡ deque_capacity entries.old }
-    ensures index { IsIndexOf vas.new.dropped (live_fields entries.new.items) (length entries.new.items) index.new }
-    ensures room { (hashes : Hashes) → HasRoomForEntry hashes index.old → HasRoomForEntry hashes index.new }
+    ensures index { I.is_index_of index.new vas.new.dropped entries.new.items }
+    ensures room { (key : I.Key) → I.has_room key index.old → I.has_room key index.new }
     ensures dropped { vas.new ≡ record vas.old { dropped = vas.old.dropped + evicted } }
     ensures freed { result + total_size (drop evicted (fields_in (entries_of entries.old.items))) ≡
         total_size (fields_in (entries_of entries.old.items)) }
@@ -130,25 +127,25 @@ fn make_room(entries: &mut VecDeque<Entry>) -> Result<(), AllocError>
 }
 
 /// The oldest entries go, and another comes in behind the newest; the sum of their sizes is counted along. Refused,
-/// which is for memory alone, none goes and none comes in. With free room for it the list is not grown. The hashes are
-/// those of the entry's field.
-pub(super) fn replace_oldest(
+/// which is for memory alone, none goes and none comes in. With free room for it the list is not grown. The key is
+/// that of the entry's field.
+pub(super) fn replace_oldest<I: EntryIndex>(
     entries: &mut VecDeque<Entry>,
-    index: &mut Index,
+    index: &mut I,
     vas: &mut VirtualAddressSpace,
     mem_size: &mut usize,
     evicted: usize,
     entry: Entry,
-    hashes: Hashes,
+    key: I::Key,
 ) -> Result<(), AllocError>
     requires there { evicted ≤ length entries.old.items }
     requires counted { vas.old.total ≡ vas.old.dropped + length entries.old.items }
     requires few { vas.old.total < 2 ^ 62 }
-    requires index { IsIndexOf vas.old.dropped (live_fields entries.old.items) (length entries.old.items) index.old }
+    requires index { I.is_index_of index.old vas.old.dropped entries.old.items }
     requires sum { mem_size.old ≡ total_size (fields_in (entries_of entries.old.items)) }
     requires small { mem_size.old < 2 ^ 63 }
     requires small_entry { field_size (field_of entry.field) < 2 ^ 63 }
-    requires hashes { AreHashesOf hashes (field_of entry.field) }
+    requires key { I.is_key_of key (field_of entry.field) }
     ensures entered { OnOk result (entries.new.items ≡ drop evicted entries.old.items ++ entry ∷ []) }
     ensures dropped { OnOk result (vas.new.dropped ≡ vas.old.dropped + evicted) }
     ensures inserted { OnOk result (vas.new.total ≡ vas.old.total + 1) }
@@ -157,17 +154,17 @@ pub(super) fn replace_oldest(
     ensures same_sum { OnErr result (mem_size.new ≡ mem_size.old) }
     ensures same_entries { OnErr result (entries.new.items ≡ entries.old.items) }
     ensures same_space { OnErr result (vas.new ≡ vas.old) }
-    ensures index { IsIndexOf vas.new.dropped (live_fields entries.new.items) (length entries.new.items) index.new }
+    ensures index { I.is_index_of index.new vas.new.dropped entries.new.items }
     ensures still { length entries.old.items + 1 ≤ deque_capacity entries.old
         → deque_capacity entries.new ≡ deque_capacity entries.old }
 {
     let size = entry.field.mem_size();
     make_room(entries)?;
-    index.reserve(entries, vas.total_dropped(), hashes)?;
+    index.reserve(entries, vas.total_dropped(), key)?;
     let freed = drop_oldest(entries, index, vas, evicted);
     *mem_size = *mem_size - freed + size;
-    let absolute = vas.add();
+    vas.add();
     entries.push_back_reserved(entry);
-    index.enter(entries, vas.total_dropped(), absolute, hashes);
+    index.enter(entries, vas.total_dropped(), key);
     Ok(())
 }

@@ -35,7 +35,7 @@ const GROWTH: usize = 4;
 /// The newest live entry of each different field, and of each different name. There are at least as many rows of
 /// either as entries.
 #[derive(Debug, Drop)]
-pub(super) struct Index {
+pub struct Index {
     fields: Rows,
     names: Rows,
     /// The hashes of each live entry, the oldest first.

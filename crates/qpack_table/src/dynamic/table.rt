@@ -1,6 +1,6 @@
 //! The table: what it holds, its lookups, what is put into it and its capacity (RFC 9204, section 3.2).
 
-ghost use Rattle.std.specs.Prelude.{◌≡◌, ◌+◌, ◌-◌, ◌^◌, ◌<◌, ◌≤◌, Some, None, IfOk, IfErr, IfSome, IfNone, true};
+ghost use Rattle.std.specs.Prelude.{◌≡◌, ℕ, [], ◌+◌, ◌-◌, ◌^◌, ◌<◌, ◌≤◌, Some, None, IfOk, IfErr, IfSome, IfNone, true};
 ghost use Rattle.std.specs.Prelude.{false, IsOk, OnOk, OnErr, length};
 ghost use Rattle.std.specs.Prelude.{slice_get};
 ghost use Rattle.qpack_base.specs.HeaderFields.{field_of};
@@ -22,6 +22,7 @@ ghost use Rattle.qpack_table.specs.declared.dynamic.Error.TheVariants.{MaximumTa
 use crate::dynamic::Error;
 use crate::dynamic::capacities::{Capacities, GREATEST_CAPACITY};
 use crate::dynamic::entry::{Entry, UnacknowledgedBlock, drop_oldest, replace_oldest};
+use crate::dynamic::entry_index::{EntryIndex, NoIndex};
 use crate::dynamic::index::{Hashes, Index};
 use crate::vas::VirtualAddressSpace;
 use qpack_base::field::HeaderField;
@@ -35,9 +36,10 @@ const TOO_MANY_BLOCKED: usize = 65_535;
 /// The number of insertions at which no more are made.
 pub(super) const MOST_INSERTIONS: usize = 1 << 62;
 
-/// The dynamic table of one end.
+/// The dynamic table of one end, with what it keeps beside its entries to find them: an index, unless it only receives
+/// ([`ReceivedTable`]).
 #[derive(Debug, Drop)]
-pub struct DynamicTable {
+pub struct DynamicTable<I: EntryIndex = Index> {
     /// The live entries, the oldest first.
     pub(super) entries: VecDeque<Entry>,
     pub(super) vas: VirtualAddressSpace,
@@ -56,10 +58,13 @@ pub struct DynamicTable {
     /// At most each of them.
     pub(super) least_blocked: usize,
     /// Of the live entries.
-    pub(super) index: Index,
+    pub(super) index: I,
 }
 
-impl Model for DynamicTable {
+/// A table that only receives: its entries are asked for by their indexes alone, so it keeps no index of their fields.
+pub type ReceivedTable = DynamicTable<NoIndex>;
+
+impl<I: EntryIndex> Model for DynamicTable<I> {
     ghost use Rattle.qpack_spec.specs.Table.{Table};
     ghost use Rattle.qpack_table.specs.Tables.{IsKept, entries_of, blocks_of};
 
@@ -78,12 +83,79 @@ impl Model for DynamicTable {
     } };
 
     ghost invariant = { λ a. IsKept a.vas a.entries.items a.mem_size a.capacities.capacity a.referenced.items
-        (blocks_of a.unacknowledged.items) a.least_blocked a.blocked.items a.index };
+        (blocks_of a.unacknowledged.items) a.least_blocked a.blocked.items (I.is_index_of a.index) };
 }
 
 impl DynamicTable {
     /// An empty table, of capacity 0 and with no block that may be blocked.
     pub fn new(alloc: Global) -> DynamicTable
+        ensures { result ≡ empty_table 0 None 0 }
+    {
+        DynamicTable::with_index(alloc, Index::new(alloc))
+    }
+
+    /// Sets how many blocks may be blocked at once, at most 65,534 (RFC 9204, section 2.1.2).
+    pub fn set_max_blocked(&mut self, max: usize) -> Result<(), Error>
+        ensures ok { OnOk result ((max < 65535) × (self.new ≡ record self.old { limit = max })) }
+        ensures err { IfErr result (λ e. (e ≡ MaxBlockedStreamsTooLarge) × (65535 ≤ max) × (self.new ≡ self.old)) }
+    {
+        if max >= TOO_MANY_BLOCKED {
+            return Err(Error::MaxBlockedStreamsTooLarge);
+        }
+        self.max_blocked = max;
+        Ok(())
+    }
+
+    /// Inserts a field that an encoder sends, which has such hashes, and the block in progress references it. Refused,
+    /// which is for memory alone, nothing changes.
+    pub(super) fn insert_sent(
+        &mut self,
+        field: HeaderField,
+        hashes: Hashes,
+        evicted: usize,
+    ) -> Result<(), AllocError>
+        requires hashes { AreHashesOf hashes (field_of field) }
+        requires few { insert_count self.old < 2 ^ 62 }
+        requires fits { field_size (field_of field) ≤ self.old.capacity }
+        requires evicted { evicted ≡ eviction_count_for self.old (field_of field) }
+        ensures ok { OnOk result (self.new
+            ≡ with_reference (with_entry self.old (sent_entry (field_of field))) (insert_count self.old + 1)) }
+        ensures err { OnErr result (self.new ≡ self.old) }
+    {
+        self.referenced.reserve(1)?;
+        let entry = Entry {
+            field,
+            sent: true,
+            referenced: true,
+            uses: 1,
+        };
+        replace_oldest(
+            &mut self.entries,
+            &mut self.index,
+            &mut self.vas,
+            &mut self.mem_size,
+            evicted,
+            entry,
+            hashes,
+        )?;
+        self.referenced.push_reserved(self.vas.total_inserted());
+        Ok(())
+    }
+}
+
+impl DynamicTable<NoIndex> {
+    /// The same of a table that only receives.
+    pub fn without_index(alloc: Global) -> ReceivedTable
+        ensures { result ≡ empty_table 0 None 0 }
+    {
+        DynamicTable::with_index(alloc, NoIndex)
+    }
+}
+
+impl<I: EntryIndex> DynamicTable<I> {
+    /// An empty table, of capacity 0 and with no block that may be blocked, with an index of no entry.
+    fn with_index(alloc: Global, index: I) -> DynamicTable<I>
+        requires { (dropped : ℕ) → I.is_index_of index dropped [] }
         ensures { result ≡ empty_table 0 None 0 }
     {
         DynamicTable {
@@ -97,7 +169,7 @@ impl DynamicTable {
             unacknowledged: VecDeque::new(alloc),
             blocked: Vec::new(alloc),
             least_blocked: usize::MAX,
-            index: Index::new(alloc),
+            index,
         }
     }
 
@@ -123,23 +195,11 @@ impl DynamicTable {
     }
 
     /// The table under the base of a block.
-    pub fn decoder(&self, base: usize) -> DynamicTableDecoder<'_>
+    pub fn decoder(&self, base: usize) -> DynamicTableDecoder<'_, I>
         ensures table { result.table.now ≡ self.now }
         ensures base { result.base ≡ base }
     {
         DynamicTableDecoder { table: self, base }
-    }
-
-    /// Sets how many blocks may be blocked at once, at most 65,534 (RFC 9204, section 2.1.2).
-    pub fn set_max_blocked(&mut self, max: usize) -> Result<(), Error>
-        ensures ok { OnOk result ((max < 65535) × (self.new ≡ record self.old { limit = max })) }
-        ensures err { IfErr result (λ e. (e ≡ MaxBlockedStreamsTooLarge) × (65535 ≤ max) × (self.new ≡ self.old)) }
-    {
-        if max >= TOO_MANY_BLOCKED {
-            return Err(Error::MaxBlockedStreamsTooLarge);
-        }
-        self.max_blocked = max;
-        Ok(())
     }
 
     /// The live field of an instruction's relative index, 0 the newest (RFC 9204, section 3.2.5).
@@ -243,7 +303,7 @@ impl DynamicTable {
         ensures ok { OnOk result (self.new ≡ with_entry self.old (record { field = field_of field; sent = sent })) }
         ensures err { OnErr result (self.new ≡ self.old) }
     {
-        let hashes = Hashes::of(&field.as_line());
+        let key = I::key_of(&field.as_line());
         let entry = Entry {
             field,
             sent,
@@ -257,44 +317,8 @@ impl DynamicTable {
             &mut self.mem_size,
             evicted,
             entry,
-            hashes,
+            key,
         )?;
-        Ok(())
-    }
-
-    /// Inserts a field that an encoder sends, which has such hashes, and the block in progress references it. Refused,
-    /// which is for memory alone, nothing changes.
-    pub(super) fn insert_sent(
-        &mut self,
-        field: HeaderField,
-        hashes: Hashes,
-        evicted: usize,
-    ) -> Result<(), AllocError>
-        requires hashes { AreHashesOf hashes (field_of field) }
-        requires few { insert_count self.old < 2 ^ 62 }
-        requires fits { field_size (field_of field) ≤ self.old.capacity }
-        requires evicted { evicted ≡ eviction_count_for self.old (field_of field) }
-        ensures ok { OnOk result (self.new
-            ≡ with_reference (with_entry self.old (sent_entry (field_of field))) (insert_count self.old + 1)) }
-        ensures err { OnErr result (self.new ≡ self.old) }
-    {
-        self.referenced.reserve(1)?;
-        let entry = Entry {
-            field,
-            sent: true,
-            referenced: true,
-            uses: 1,
-        };
-        replace_oldest(
-            &mut self.entries,
-            &mut self.index,
-            &mut self.vas,
-            &mut self.mem_size,
-            evicted,
-            entry,
-            hashes,
-        )?;
-        self.referenced.push_reserved(self.vas.total_inserted());
         Ok(())
     }
 
@@ -396,12 +420,12 @@ impl DynamicTable {
 
 /// A table under the base of a block, whose lines name its entries.
 #[derive(Debug, Drop)]
-pub struct DynamicTableDecoder<'a> {
-    table: &'a DynamicTable,
+pub struct DynamicTableDecoder<'a, I: EntryIndex = Index> {
+    table: &'a DynamicTable<I>,
     base: usize,
 }
 
-impl DynamicTableDecoder<'_> {
+impl<I: EntryIndex> DynamicTableDecoder<'_, I> {
     /// The field that a line's relative index names (RFC 9204, section 3.2.5). A base above the total may name
     /// a position behind the newest entry, which is told as that.
     pub fn get_relative(&self, index: usize) -> Result<&HeaderField, Error>

@@ -17,7 +17,7 @@ const LOW_HALF: u128 = (1 << 64) - 1;
 
 /// The hashes of a field.
 #[derive(Debug, Clone, Copy)]
-pub(in crate::dynamic) struct Hashes {
+pub struct Hashes {
     /// Of its name.
     pub(in crate::dynamic) name: u32,
     /// Of its name and its value.

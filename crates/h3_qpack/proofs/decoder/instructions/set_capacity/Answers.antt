@@ -4,7 +4,7 @@ use Rattle.h3_qpack.proofs.Instructions.{change_fails}
 use Rattle.h3_qpack.proofs.decoder.instructions.set_capacity.Goals as goal
 
 pub returns-in_err-set_max_size-clause-applies : goal.returns-in_err-set_max_size-clause-applies
-returns-in_err-set_max_size-clause-applies c =
+returns-in_err-set_max_size-clause-applies g c =
     let p = err_from_is_err_and c.from_residual.result c.from_residual.ensures.1 in
     rw (p.1, p.2)
     (change_fails c.in_err-set_max_size.field-0.0 (with_capacity c.args.table.now c.args.size) c.args.table.now

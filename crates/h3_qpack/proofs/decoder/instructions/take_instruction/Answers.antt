@@ -11,7 +11,7 @@ use Rattle.h3_qpack.proofs.decoder.instructions.take_instruction.Goals as goal
 use Rattle.h3_qpack.proofs.decoder.instructions.take_instruction.Goals.{then-is_passed, else-is_passed}
 
 pub returns-in_err-line-clause-takes : goal.returns-in_err-line-clause-takes
-returns-in_err-line-clause-takes c =
+returns-in_err-line-clause-takes g c =
     let p = err_from_is_err_and c.from_residual.result c.from_residual.ensures.1 in
     rw (p.1, p.2) (
       line_refused c.args.table.now c.args.buf.now c.fork-ahead.result c.next_line.new.cursor c.in_err-line.field-0.0
@@ -20,7 +20,7 @@ returns-in_err-line-clause-takes c =
     )
 
 pub returns-in_default-clause-takes : goal.returns-in_default-clause-takes
-returns-in_default-clause-takes c = (
+returns-in_default-clause-takes g c = (
   no_line c.args.buf.now c.fork-ahead.result c.next_line.new.cursor c.in_ok-line.field-0 c.fork-ahead.ensures
       c.in_default.is c.in_ok-line.ensures.decodes,
   refl,
@@ -28,7 +28,7 @@ returns-in_default-clause-takes c = (
 )
 
 pub returns-in_err-answer-clause-takes : goal.returns-in_err-answer-clause-takes
-returns-in_err-answer-clause-takes c =
+returns-in_err-answer-clause-takes g c =
     let p = err_from_is_err_and c.from_residual-in_err-answer.result c.from_residual-in_err-answer.ensures.1 in
     let at = found_line c.args.buf.now c.fork-ahead.result c.next_line.new.cursor c.in_ok-line.field-0 c.in-Some.line
     c.fork-ahead.ensures c.in-Some.is c.in_ok-line.ensures.decodes.found in
@@ -52,7 +52,7 @@ returns-in_err-answer-clause-takes c =
     ])))
 
 pub returns-clause-takes : goal.returns-clause-takes
-returns-clause-takes c =
+returns-clause-takes g c =
     let at = found_line c.args.buf.now c.fork-ahead.result c.next_line.new.cursor c.in_ok-line.field-0 c.in-Some.line
     c.fork-ahead.ensures c.in-Some.is c.in_ok-line.ensures.decodes.found in
     let left = left_behind c.is_passed.result c.apply-answer.result (Ok c.in_ok-answer.field-0)

@@ -1,22 +1,20 @@
 use Rattle.std.proofs.Common.{◌≡◌, ℕ, ◌+◌, ◌-◌, length, ap, refl, sym, subst, ◌∙◌, rules, arith}
-use Rattle.qpack_table.specs.Indexes.{IsIndexOf}
-use Rattle.qpack_table.specs.Tables.{live_fields}
 use Rattle.qpack_base.specs.HeaderFields.{field_of}
 use Rattle.qpack_spec.specs.Field.{field_size}
 use Rattle.qpack_table.specs.Positions.{Positions}
 use Rattle.qpack_table.proofs.Evictions.{shed}
-use Rattle.qpack_table.proofs.WholeIndexes.{dropped_there, index_shed}
+use Rattle.qpack_table.proofs.WholeIndexes.{dropped_there, entries_shed}
 use Rattle.qpack_table.proofs.dynamic.entry.drop_oldest.Goals as goal
 
 pub overflow_add-freed : goal.overflow_add-freed
-overflow_add-freed c =
+overflow_add-freed g c =
     let one = shed c.args.entries.now.items c.loop.entries.items c.loop.counter _
     (field_size (field_of c.in-Some.entry.field)) c.in-Some.entry c.pop_front.new.self.items
     c.loop.invariant.items refl c.in-Some.ensures.items refl in
     omega (arith, one.fits, c.loop.invariant.freed, c.requires.small)
 
 pub loop-preserved : goal.loop-preserved
-loop-preserved c =
+loop-preserved g c =
     let i = c.loop.invariant in
     let one = shed c.args.entries.now.items c.loop.entries.items c.loop.counter _
     (field_size (field_of c.in-Some.entry.field)) c.in-Some.entry c.pop_front.new.self.items i.items refl
@@ -31,23 +29,23 @@ loop-preserved c =
       few = one.few;
       items = one.items;
       capacity = c.pop_front.ensures.capacity ∙ i.capacity;
-      index = index_shed (c.total_inserted.result - c.len.result) _ c.loop.entries.items c.pop_front.new.self.items
-          c.in-Some.entry _ c.leave.ensures.index c.in-Some.ensures.items
+      index = entries_shed (g.I.EntryIndex.is_index_of c.leave.new.self) (c.total_inserted.result - c.len.result) _
+          c.loop.entries.items c.pop_front.new.self.items c.in-Some.entry c.leave.ensures.index c.in-Some.ensures.items
           (ap (λ (p : Positions). p.dropped) c.drop.ensures ∙ ap (λ (n : ℕ). n + 1) (sym at.is));
-      room = λ hashes has. c.leave.ensures.room hashes (i.room hashes has);
+      room = λ key has. c.leave.ensures.room key (i.room key has);
       freed = omega (arith, exact, one.sum, one.fits, i.freed);
       dropped = omega (arith, i.dropped, ap (λ (p : Positions). p.dropped) c.drop.ensures);
       total = ap (λ (p : Positions). p.total) c.drop.ensures ∙ i.total;
     }
 
 pub overflow_sub-dropped : goal.overflow_sub-dropped
-overflow_sub-dropped c = (dropped_there c.loop.vas.total c.loop.vas.dropped c.args.vas.now.dropped
+overflow_sub-dropped g c = (dropped_there c.loop.vas.total c.loop.vas.dropped c.args.vas.now.dropped
     (length c.loop.entries.items) c.loop.counter c.args.entries.now.items c.loop.entries.items c.total_inserted.result
     c.len.result refl c.loop.invariant.items c.loop.invariant.few c.loop.invariant.dropped
     (c.loop.invariant.total ∙ c.requires.counted) c.total_inserted.ensures.total (search rules)).fits
 
 pub leave-requires-clause-few : goal.leave-requires-clause-few
-leave-requires-clause-few c =
+leave-requires-clause-few g c =
     let at = dropped_there c.loop.vas.total c.loop.vas.dropped c.args.vas.now.dropped
     (length c.loop.entries.items) c.loop.counter c.args.entries.now.items c.loop.entries.items
     c.total_inserted.result c.len.result refl c.loop.invariant.items c.loop.invariant.few c.loop.invariant.dropped
@@ -55,16 +53,15 @@ leave-requires-clause-few c =
     omega (arith, at.is, at.whole, c.total_inserted.ensures.most, c.total_inserted.ensures.total)
 
 pub leave-requires-clause-index : goal.leave-requires-clause-index
-leave-requires-clause-index c =
+leave-requires-clause-index g c =
     let at = dropped_there c.loop.vas.total c.loop.vas.dropped c.args.vas.now.dropped
     (length c.loop.entries.items) c.loop.counter c.args.entries.now.items c.loop.entries.items
     c.total_inserted.result c.len.result refl c.loop.invariant.items c.loop.invariant.few c.loop.invariant.dropped
     (c.loop.invariant.total ∙ c.requires.counted) c.total_inserted.ensures.total (search rules) in
-    subst (λ (n : ℕ). IsIndexOf n (live_fields c.loop.entries.items) (length c.loop.entries.items) c.loop.index)
-    (sym at.is) c.loop.invariant.index
+    subst (λ (n : ℕ). g.I.EntryIndex.is_index_of c.loop.index n c.loop.entries.items) (sym at.is) c.loop.invariant.index
 
 pub returns-after-loop-clause-index : goal.returns-after-loop-clause-index
-returns-after-loop-clause-index c = c.loop.invariant.index
+returns-after-loop-clause-index g c = c.loop.invariant.index
 
 pub returns-after-loop-clause-room : goal.returns-after-loop-clause-room
-returns-after-loop-clause-room c = c.loop.invariant.room
+returns-after-loop-clause-room g c = c.loop.invariant.room

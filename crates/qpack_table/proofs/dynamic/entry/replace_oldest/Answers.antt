@@ -1,4 +1,4 @@
-use Rattle.std.proofs.Common.{◌≡◌, ◌+◌, ◌∷◌, [], ◌++◌, List, drop, length, ap, ◌∙◌, arith}
+use Rattle.std.proofs.Common.{◌≡◌, ℕ, ◌+◌, ◌∷◌, [], ◌++◌, List, drop, length, ap, sym, subst, ◌∙◌, arith}
 use Rattle.std.proofs.lemmas.List.{length-append}
 use Rattle.qpack_base.specs.HeaderFields.{field_of}
 use Rattle.qpack_spec.specs.Field.{field_size, total_size}
@@ -7,56 +7,47 @@ use Rattle.qpack_table.specs.Positions.{Positions}
 use Rattle.qpack_table.specs.Tables.{entries_of}
 use Rattle.qpack_table.specs.declared.dynamic.entry.Entry.{Entry}
 use Rattle.qpack_table.proofs.Evictions.{left_is}
-use Rattle.qpack_table.proofs.WholeIndexes.{newest_there, index_before, index_behind, hashes_joined}
+use Rattle.qpack_table.proofs.WholeIndexes.{newest_there}
 use Rattle.qpack_table.proofs.dynamic.entry.replace_oldest.Goals as goal
 
-pub enter-requires-clause-live : goal.enter-requires-clause-live
-enter-requires-clause-live c =
+pub enter-requires-clause-few : goal.enter-requires-clause-few
+enter-requires-clause-few g c =
     let at = newest_there _ _ _ _ _ _ _ _ c.requires.counted (c.drop_oldest-freed.ensures.left
     ∙ ap (λ (l : List Entry). drop c.args.evicted l) c.in_ok-make_room.ensures.items) c.requires.there
-    c.drop_oldest-freed.ensures.dropped c.add-absolute.ensures.index c.add-absolute.ensures.added
+    c.drop_oldest-freed.ensures.dropped c.add.ensures.index c.add.ensures.added
     c.total_dropped-2.ensures.exact in
+    let total : c.add.result ≡ c.args.vas.now.total + 1 =
+    c.add.ensures.index ∙ ap (λ (p : Positions). p.total + 1) c.drop_oldest-freed.ensures.dropped in
     let long = ap (λ (l : List Entry). length l) c.push_back_reserved.ensures.items in
     let one = length-append c.drop_oldest-freed.new.entries.items (c.args.entry ∷ []) in
-    (at.above, omega (arith, at.is, long, one))
+    omega (arith, at.is, total, c.requires.few, long, one)
 
-pub enter-requires-clause-index : goal.enter-requires-clause-index
-enter-requires-clause-index c =
-    let at = newest_there _ _ _ _ _ _ _ _ c.requires.counted (c.drop_oldest-freed.ensures.left
-    ∙ ap (λ (l : List Entry). drop c.args.evicted l) c.in_ok-make_room.ensures.items) c.requires.there
-    c.drop_oldest-freed.ensures.dropped c.add-absolute.ensures.index c.add-absolute.ensures.added
-    c.total_dropped-2.ensures.exact in
-    index_before _ _ _ _ _ c.args.entry _ c.drop_oldest-freed.ensures.index c.push_back_reserved.ensures.items
-    (c.total_dropped-2.ensures.exact ∙ ap (λ (p : Positions). p.dropped) c.add-absolute.ensures.added) at
+pub enter-requires-clause-pushed : goal.enter-requires-clause-pushed
+enter-requires-clause-pushed g c =
+    let same = c.total_dropped-2.ensures.exact ∙ ap (λ (p : Positions). p.dropped) c.add.ensures.added in (
+      c.drop_oldest-freed.new.entries.items,
+      c.args.entry,
+      c.push_back_reserved.ensures.items,
+      subst (λ (d : ℕ). g.I.EntryIndex.is_index_of c.drop_oldest-freed.new.index d
+          c.drop_oldest-freed.new.entries.items) (sym same) c.drop_oldest-freed.ensures.index,
+      c.requires.key,
+    )
 
 pub enter-requires-clause-room : goal.enter-requires-clause-room
-enter-requires-clause-room c = c.drop_oldest-freed.ensures.room c.args.hashes c.in_ok-reserve.ensures.room
-
-pub enter-requires-clause-hashes : goal.enter-requires-clause-hashes
-enter-requires-clause-hashes c =
-    let at = newest_there _ _ _ _ _ _ _ _ c.requires.counted (c.drop_oldest-freed.ensures.left
-    ∙ ap (λ (l : List Entry). drop c.args.evicted l) c.in_ok-make_room.ensures.items) c.requires.there
-    c.drop_oldest-freed.ensures.dropped c.add-absolute.ensures.index c.add-absolute.ensures.added
-    c.total_dropped-2.ensures.exact in
-    hashes_joined _ _ _ c.args.entry _ _ c.requires.hashes c.push_back_reserved.ensures.items at.is
+enter-requires-clause-room g c = c.drop_oldest-freed.ensures.room c.args.key c.in_ok-reserve.ensures.room
 
 pub returns-clause-entered : goal.returns-clause-entered
-returns-clause-entered c =
+returns-clause-entered g c =
     c.push_back_reserved.ensures.items
     ∙ ap (λ (l : List Entry). l ++ c.args.entry ∷ []) (c.drop_oldest-freed.ensures.left
     ∙ ap (λ (l : List Entry). drop c.args.evicted l) c.in_ok-make_room.ensures.items)
 
 pub returns-clause-index : goal.returns-clause-index
-returns-clause-index c =
-    let at = newest_there _ _ _ _ _ _ _ _ c.requires.counted (c.drop_oldest-freed.ensures.left
-    ∙ ap (λ (l : List Entry). drop c.args.evicted l) c.in_ok-make_room.ensures.items) c.requires.there
-    c.drop_oldest-freed.ensures.dropped c.add-absolute.ensures.index c.add-absolute.ensures.added
-    c.total_dropped-2.ensures.exact in
-    index_behind _ _ _ _ _ c.args.entry _ c.enter.ensures.index c.push_back_reserved.ensures.items
-    c.total_dropped-2.ensures.exact at
+returns-clause-index g c = subst (λ (d : ℕ). g.I.EntryIndex.is_index_of c.enter.new.self d
+    c.push_back_reserved.new.self.items) c.total_dropped-2.ensures.exact c.enter.ensures.index
 
 pub returns-clause-sum : goal.returns-clause-sum
-returns-clause-sum c =
+returns-clause-sum g c =
     let freed : c.drop_oldest-freed.result
     + total_size (drop c.args.evicted (fields_in (entries_of c.args.entries.now.items)))
     ≡ total_size (fields_in (entries_of c.args.entries.now.items)) =
@@ -66,5 +57,5 @@ returns-clause-sum c =
     left_is _ _ _ _ _ _ c.requires.sum freed size
 
 pub returns-clause-still : goal.returns-clause-still
-returns-clause-still c room =
+returns-clause-still g c room =
     c.push_back_reserved.ensures.capacity ∙ c.drop_oldest-freed.ensures.capacity ∙ c.make_room.ensures.still room

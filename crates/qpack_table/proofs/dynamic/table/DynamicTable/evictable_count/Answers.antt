@@ -7,18 +7,18 @@ use Rattle.qpack_table.proofs.Walks.{walk_held, walk_more, walk_fits, walk_all, 
 use Rattle.qpack_table.proofs.dynamic.table.DynamicTable.evictable_count.Goals as goal
 
 pub returns-then-not-is_evictable-clause-held : goal.returns-then-not-is_evictable-clause-held
-returns-then-not-is_evictable-clause-held c =
+returns-then-not-is_evictable-clause-held g c =
     walk_held _ _ _ _ c.loop-evicted.evicted c.loop-evicted.invariant c.if-rest-room.true
     (subst (λ (b : Bool). IsEvictableAt c.args.self.now c.loop-evicted.evicted b) c.if-not-is_evictable.true
     c.is_evictable.ensures)
 
 pub overflow_sub-rest : goal.overflow_sub-rest
-overflow_sub-rest c =
+overflow_sub-rest g c =
     let first = first_size _ _ _ _ c.index.result.now (omega arith) c.index.ensures c.loop-evicted.invariant.gone in
     omega (arith, first)
 
 pub loop-evicted-preserved : goal.loop-evicted-preserved
-loop-evicted-preserved c =
+loop-evicted-preserved g c =
     let within : c.loop-evicted.evicted < length c.self.inside.entries.items = omega arith in
     let first = first_size _ _ _ _ c.index.result.now within c.index.ensures c.loop-evicted.invariant.gone in
     let least = evicted_bound _ _ _ _ _ c.self.invariant.sized.sum c.loop-evicted.invariant.gone in
@@ -29,15 +29,15 @@ loop-evicted-preserved c =
     c.is_evictable.ensures) c.index.ensures exact
 
 pub returns-else-rest-room-clause-least : goal.returns-else-rest-room-clause-least
-returns-else-rest-room-clause-least c = walk_fits _ _ _ _ _ c.loop-evicted.invariant c.if-rest-room.false
+returns-else-rest-room-clause-least g c = walk_fits _ _ _ _ _ c.loop-evicted.invariant c.if-rest-room.false
 
 pub returns-else-rest-room-clause-evictable : goal.returns-else-rest-room-clause-evictable
-returns-else-rest-room-clause-evictable c =
+returns-else-rest-room-clause-evictable g c =
     walk_free _ _ _ _ _ c.loop-evicted.invariant (walk_fits _ _ _ _ _ c.loop-evicted.invariant c.if-rest-room.false)
 
 pub returns-after-loop-evicted-clause-least : goal.returns-after-loop-evicted-clause-least
-returns-after-loop-evicted-clause-least c = walk_all _ _ _ _ _ c.loop-evicted.invariant (omega arith)
+returns-after-loop-evicted-clause-least g c = walk_all _ _ _ _ _ c.loop-evicted.invariant (omega arith)
 
 pub returns-after-loop-evicted-clause-evictable : goal.returns-after-loop-evicted-clause-evictable
-returns-after-loop-evicted-clause-evictable c =
+returns-after-loop-evicted-clause-evictable g c =
     walk_free _ _ _ _ _ c.loop-evicted.invariant (walk_all _ _ _ _ _ c.loop-evicted.invariant (omega arith))

@@ -9,7 +9,7 @@ use Rattle.qpack_table.proofs.Changes.{resized_above, resized_against_held}
 use Rattle.qpack_table.proofs.dynamic.table.DynamicTable.evicted_for_capacity.Goals as goal
 
 pub returns-then-size-greatest_capacity-clause-err : goal.returns-then-size-greatest_capacity-clause-err
-returns-then-size-greatest_capacity-clause-err c =
+returns-then-size-greatest_capacity-clause-err g c =
     resized_above c.args.self.now c.args.size (omega (arith, c.greatest_capacity.ensures.agreed_max))
 
 -- an entry that would have to go is held
@@ -20,7 +20,7 @@ held t n (Some evicted) most h = tt
 held t n None most h = resized_against_held t n most h
 
 pub returns-clause-err : goal.returns-clause-err
-returns-clause-err c =
+returns-clause-err g c =
     rw c.ok_or.ensures.value
     (held c.args.self.now c.args.size c.evictable_count.result
     (omega (arith, c.if-size-greatest_capacity.false, c.greatest_capacity.ensures.agreed_max))

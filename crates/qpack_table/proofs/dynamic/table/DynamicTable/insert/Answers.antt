@@ -10,13 +10,13 @@ use Rattle.qpack_table.proofs.Kept.{kept_put}
 use Rattle.qpack_table.proofs.dynamic.table.DynamicTable.insert.Goals as goal
 
 pub replace_oldest-requires-clause-there : goal.replace_oldest-requires-clause-there
-replace_oldest-requires-clause-there c =
+replace_oldest-requires-clause-there g c =
     let room = room_as _ _ _ _ c.self.view_is c.requires.fits c.requires.evicted in
     evicted_within c.self.inside.entries.items (field_of c.args.field) c.self.inside.capacities.capacity c.args.evicted
     room.fits room.evicted
 
 pub invariant_of-self-2 : goal.invariant_of-self-2
-invariant_of-self-2 c =
+invariant_of-self-2 g c =
     let room = room_as _ _ _ _ c.self.view_is c.requires.fits c.requires.evicted in
     let new : Entry = record { field = c.args.field; sent = c.args.sent; referenced = false; uses = 0 } in
     kept_put c.self.inside.vas c.replace_oldest.new.vas c.self.inside.entries.items
@@ -26,7 +26,7 @@ invariant_of-self-2 c =
     c.in_ok-replace_oldest.ensures.dropped c.in_ok-replace_oldest.ensures.inserted c.in_ok-replace_oldest.ensures.index
 
 pub returns-clause-ok : goal.returns-clause-ok
-returns-clause-ok c =
+returns-clause-ok g c =
     let room = room_as _ _ _ _ c.self.view_is c.requires.fits c.requires.evicted in
     let new : Entry = record { field = c.args.field; sent = c.args.sent; referenced = false; uses = 0 } in
     rw (← c.self.view_is) (entered _ (entry_of new) c.replace_oldest.new.vas.dropped

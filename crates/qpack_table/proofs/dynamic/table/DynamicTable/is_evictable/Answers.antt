@@ -7,7 +7,7 @@ use Rattle.qpack_table.proofs.EvictableEntries.{sent_received, not_sent}
 use Rattle.qpack_table.proofs.dynamic.table.DynamicTable.is_evictable.Goals as goal
 
 pub returns-then-entry-gt0 : goal.returns-then-entry-gt0
-returns-then-entry-gt0 c =
+returns-then-entry-gt0 g c =
     let within : c.args.position < length c.self.inside.entries.items =
     omega (
       arith,
@@ -22,7 +22,7 @@ returns-then-entry-gt0 c =
     c.index-entry.ensures (sym (evictable_used _ _ _ _ used (omega arith))))
 
 pub returns-then-not-entry : goal.returns-then-not-entry
-returns-then-not-entry c =
+returns-then-not-entry g c =
     let within : c.args.position < length c.self.inside.entries.items =
     omega (
       arith,
@@ -39,7 +39,7 @@ returns-then-not-entry c =
     ∙ sym (evictable_unused _ _ _ c.index-entry.result.now.sent used (omega arith))))
 
 pub returns-else-not-entry : goal.returns-else-not-entry
-returns-else-not-entry c =
+returns-else-not-entry g c =
     let within : c.args.position < length c.self.inside.entries.items =
     omega (
       arith,

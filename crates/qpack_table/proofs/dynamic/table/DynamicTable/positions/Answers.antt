@@ -4,6 +4,6 @@ use Rattle.qpack_table.proofs.Lookups.{kept_positions}
 use Rattle.qpack_table.proofs.dynamic.table.DynamicTable.positions.Goals as goal
 
 pub returns : goal.returns
-returns c =
+returns g c =
     kept_positions c.self.inside.vas c.args.self.now c.self.inside.entries.items c.self.invariant.sized.counted
     (ap (λ (t : Table). t.live) (sym c.self.view_is)) (ap (λ (t : Table). t.dropped) (sym c.self.view_is))

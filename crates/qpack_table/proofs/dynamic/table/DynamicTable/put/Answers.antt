@@ -5,11 +5,11 @@ use Rattle.qpack_table.proofs.Changes.{fits_table, put_against_held, put_behind,
 use Rattle.qpack_table.proofs.dynamic.table.DynamicTable.put.Goals as goal
 
 pub returns-in_default : goal.returns-in_default
-returns-in_default c = put_against_held _ _ (fits_table _ _ _ _ (omega arith) (omega arith) (omega arith) refl
+returns-in_default g c = put_against_held _ _ (fits_table _ _ _ _ (omega arith) (omega arith) (omega arith) refl
     (c.in_default.ensures.held (field_of c.args.field) (omega arith)))
 
 pub returns-in_err-insert : goal.returns-in_err-insert
-returns-in_err-insert c =
+returns-in_err-insert g c =
     let p = err_from_is_err_and c.from_residual.result c.from_residual.ensures.1 in
     rw (p.1, p.2) (
       is_inserted _ _ (fits_table _ _ c.in-Some.evicted _ (omega arith) (omega arith) (omega arith)
@@ -18,6 +18,6 @@ returns-in_err-insert c =
     )
 
 pub returns : goal.returns
-returns c = put_behind _ _ _ (fits_table _ _ c.in-Some.evicted _ (omega arith) (omega arith) (omega arith)
+returns g c = put_behind _ _ _ (fits_table _ _ c.in-Some.evicted _ (omega arith) (omega arith) (omega arith)
     (c.in-Some.ensures.least (field_of c.args.field) (omega arith)) c.in-Some.ensures.evictable)
     c.in_ok-insert.ensures.ok

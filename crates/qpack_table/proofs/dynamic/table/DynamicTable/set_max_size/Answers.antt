@@ -13,7 +13,7 @@ use Rattle.qpack_table.proofs.Kept.{kept_resized}
 use Rattle.qpack_table.proofs.dynamic.table.DynamicTable.set_max_size.Goals as goal
 
 pub drop_oldest-freed-requires-clause-there : goal.drop_oldest-freed-requires-clause-there
-drop_oldest-freed-requires-clause-there c =
+drop_oldest-freed-requires-clause-there g c =
     omega (
       arith,
       c.in_ok-evicted.ensures.least,
@@ -24,7 +24,7 @@ drop_oldest-freed-requires-clause-there c =
     )
 
 pub invariant_of-self : goal.invariant_of-self
-invariant_of-self c =
+invariant_of-self g c =
     let evicted : c.in_ok-evicted.evicted
     ≡ eviction_count c.args.size (fields_in (entries_of c.self.inside.entries.items)) =
     c.in_ok-evicted.ensures.least
@@ -40,7 +40,7 @@ invariant_of-self c =
     (ap (λ (p : Positions). p.total) c.drop_oldest-freed.ensures.dropped) c.drop_oldest-freed.ensures.index)
 
 pub returns : goal.returns
-returns c =
+returns g c =
     let evicted : c.in_ok-evicted.evicted
     ≡ eviction_count c.args.size (fields_in (entries_of c.self.inside.entries.items)) =
     c.in_ok-evicted.ensures.least

@@ -1,0 +1,14 @@
+use Rattle.std.proofs.Common.{◌≡◌, ◌+◌, [], ◌∷◌, List, length, refl, ap, ◌∙◌, arith}
+use Rattle.std.proofs.lemmas.List.{length-append}
+use Rattle.qpack_table.specs.declared.dynamic.entry.Entry.{Entry}
+use Rattle.qpack_table.proofs.WholeIndexes.{NewestThere, index_before, hashes_joined}
+use Rattle.qpack_table.proofs.dynamic.entry_index.IndexEntryIndex.enter.Goals as goal
+
+pub enter-requires-clause-index : goal.enter-requires-clause-index
+enter-requires-clause-index c =
+    let pushed = c.requires.pushed in
+    let long = ap (λ (l : List Entry). length l) pushed.2 ∙ length-append pushed.0 (pushed.1 ∷ []) in
+    let at : NewestThere c.args.dropped (c.args.dropped + c.len.result) (length pushed.0) =
+    record { above = omega (arith, long); is = omega (arith, long) } in
+    index_before c.args.dropped c.args.dropped (c.args.dropped + c.len.result) pushed.0 c.args.entries.now.items pushed.1
+    _ pushed.3 pushed.2 refl at

@@ -1,0 +1,122 @@
+//! What a table keeps beside its entries to find one by its field: an index, or nothing where it is never asked.
+
+ghost use Rattle.std.specs.Prelude.{◌≡◌, ℕ, ◌+◌, ◌^◌, ◌<◌, ◌≤◌, ⊤, List, [], ◌∷◌, ◌++◌, OnOk, length, drop};
+ghost use Rattle.qpack_base.specs.HeaderFields.{field_of, line_of};
+ghost use Rattle.qpack_spec.specs.Field.{Field};
+ghost use Rattle.qpack_table.specs.Indexes.{AreHashesOf, HasRoomForEntry};
+ghost use Rattle.qpack_table.specs.Tables.{IsIndexOfEntries};
+ghost use Rattle.qpack_table.specs.declared.dynamic.entry.Entry.{Entry};
+
+use crate::dynamic::entry::Entry;
+use crate::dynamic::index::{Hashes, Index};
+use qpack_base::field::FieldLine;
+use std::alloc::AllocError;
+use std::collections::VecDeque;
+
+/// What is kept beside the entries of a [`DynamicTable`](crate::dynamic::DynamicTable), as a map is over its hasher:
+/// [`Index`], by which an encoder finds them, or [`NoIndex`].
+pub trait EntryIndex: Drop {
+    /// What is known of a field where its entry comes in.
+    type Key: Copy;
+
+    // The live entries are in, of which the first has the absolute index behind so many dropped ones.
+    ghost is_index_of: { Self → ℕ → List Entry → Type 0 };
+
+    // The key is that of the field.
+    ghost is_key_of: { Self.Key → Field → Type 0 };
+
+    // There is room for one entry more, with such a key.
+    ghost has_room: { Self.Key → Self → Type 0 };
+
+    /// The key of a field.
+    fn key_of(field: &FieldLine<'_>) -> Self::Key
+        ensures { is_key_of result (line_of field.now).field };
+
+    /// Makes room for one entry more, with such a key. Refused, the same entries are in.
+    fn reserve(
+        &mut self,
+        entries: &VecDeque<Entry>,
+        dropped: usize,
+        key: Self::Key,
+    ) -> Result<(), AllocError>
+        requires index { is_index_of self.old dropped entries.now.items }
+        requires few { dropped + length entries.now.items ≤ 2 ^ 62 }
+        ensures index { is_index_of self.new dropped entries.now.items }
+        ensures room { OnOk result (has_room key self.new) };
+
+    /// The newest entry, which was pushed behind those that are in, comes in. There is room.
+    fn enter(&mut self, entries: &VecDeque<Entry>, dropped: usize, key: Self::Key)
+        requires few { dropped + length entries.now.items ≤ 2 ^ 62 }
+        requires pushed { (front : List Entry) × (newest : Entry) × (entries.now.items ≡ front ++ newest ∷ [])
+            × is_index_of self.old dropped front × is_key_of key (field_of newest.field) }
+        requires room { has_room key self.old }
+        ensures index { is_index_of self.new dropped entries.now.items };
+
+    /// The oldest entry, which is about to be popped, goes out. It takes no memory, and the room that was made stays.
+    fn leave(&mut self, entries: &VecDeque<Entry>, dropped: usize)
+        requires some { 0 < length entries.now.items }
+        requires few { dropped + length entries.now.items < 2 ^ 64 }
+        requires index { is_index_of self.old dropped entries.now.items }
+        ensures index { is_index_of self.new (dropped + 1) (drop 1 entries.now.items) }
+        ensures room { (key : Self.Key) → has_room key self.old → has_room key self.new };
+}
+
+impl EntryIndex for Index {
+    type Key = Hashes;
+
+    ghost is_index_of = { λ index dropped entries. IsIndexOfEntries index dropped entries };
+
+    ghost is_key_of = { λ hashes f. AreHashesOf hashes f };
+
+    ghost has_room = { λ hashes index. HasRoomForEntry hashes index };
+
+    fn key_of(field: &FieldLine<'_>) -> Hashes {
+        Hashes::of(field)
+    }
+
+    fn reserve(
+        &mut self,
+        entries: &VecDeque<Entry>,
+        dropped: usize,
+        key: Hashes,
+    ) -> Result<(), AllocError> {
+        Index::reserve(self, entries, dropped, key)
+    }
+
+    fn enter(&mut self, entries: &VecDeque<Entry>, dropped: usize, key: Hashes) {
+        Index::enter(self, entries, dropped, dropped + entries.len(), key);
+    }
+
+    fn leave(&mut self, entries: &VecDeque<Entry>, dropped: usize) {
+        Index::leave(self, entries, dropped);
+    }
+}
+
+/// No index: of a table that only receives, entries are asked for by their places alone.
+#[derive(Debug, Drop)]
+pub struct NoIndex;
+
+impl EntryIndex for NoIndex {
+    type Key = ();
+
+    ghost is_index_of = { λ _ _ _. ⊤ };
+
+    ghost is_key_of = { λ _ _. ⊤ };
+
+    ghost has_room = { λ _ _. ⊤ };
+
+    fn key_of(_field: &FieldLine<'_>) -> () {}
+
+    fn reserve(
+        &mut self,
+        _entries: &VecDeque<Entry>,
+        _dropped: usize,
+        _key: (),
+    ) -> Result<(), AllocError> {
+        Ok(())
+    }
+
+    fn enter(&mut self, _entries: &VecDeque<Entry>, _dropped: usize, _key: ()) {}
+
+    fn leave(&mut self, _entries: &VecDeque<Entry>, _dropped: usize) {}
+}
