@@ -15,6 +15,7 @@ use Rattle.qpack_spec.specs.Window.{maximum_capacity}
 use Rattle.qpack_spec.proofs.Marked.{handle_is_marked_rule}
 use Rattle.h3_qpack.specs.Encoding.{draft_at, draft_of_lines, AddsLines, StopsAmong, DraftsBlock}
 use Rattle.h3_qpack.specs.Encoding.{GivesUpLines, StopsEncodingLinesOf, EncodesLines}
+use Rattle.qpack_base.specs.declared.coding.NoMemory.{NoMemory}
 use Rattle.h3_qpack.specs.declared.encoder.EncoderError.{EncoderError}
 
 -- ---- the rule, where a block begins
@@ -129,7 +130,7 @@ gives_up_begun fs old begun new written_old written_new begins k =
     (subst (λ (t : Table). GivesUpLines fs t new written_old written_new) begins k)
 
 -- refused, behind lines that were written or before
-pub gives_up_section : (fs : List FieldLine) (r answer : Result ℕ EncoderError) (old begun mid new : Table)
+pub gives_up_section : (fs : List FieldLine) (r : Result ℕ NoMemory) (answer : Result ℕ EncoderError) (old begun mid new : Table)
     (before block written_old written_new : List ℕ)
     → begun ≡ without_references old
     → IfOk r (λ required. DraftsBlock fs begun mid before block written_old written_new required)
@@ -172,7 +173,7 @@ encodes_block fs old begun mid new stream given before block written_old written
     }
 
 -- the answer is the required insert count
-pub encodes : (fs : List FieldLine) (r answer : Result ℕ EncoderError) (old begun mid new : Table) (stream given : ℕ)
+pub encodes : (fs : List FieldLine) (r : Result ℕ NoMemory) (answer : Result ℕ EncoderError) (old begun mid new : Table) (stream given : ℕ)
     (before block written_old written_new : List ℕ)
     → begun ≡ without_references old → given ≡ stream
     → IfOk r (λ required. DraftsBlock fs begun mid before block written_old written_new required)
@@ -181,7 +182,7 @@ pub encodes : (fs : List FieldLine) (r answer : Result ℕ EncoderError) (old be
 encodes fs r (Err e) old begun mid new stream given before block written_old written_new begins same ok ends = tt
 encodes fs r (Ok required) old begun mid new stream given before block written_old written_new begins same ok ends =
     let drafted : DraftsBlock fs begun mid before block written_old written_new required =
-    subst (λ (x : Result ℕ EncoderError). IfOk x (λ n. DraftsBlock fs begun mid before block written_old written_new n))
+    subst (λ (x : Result ℕ NoMemory). IfOk x (λ n. DraftsBlock fs begun mid before block written_old written_new n))
     ends.0 ok in
     encodes_block fs old begun mid new stream given before block written_old written_new required begins same drafted
     ends.1

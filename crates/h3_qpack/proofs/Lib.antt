@@ -13,6 +13,7 @@ pub mod Hearing
 pub mod StaticMatches
 pub mod Additions
 pub mod AloneFields
+pub mod Alike
 pub mod Rooms
 pub mod Stills
 pub mod AddedFields

@@ -1,4 +1,5 @@
 -- What an encoder writes for fields, one by one (RFC 9204, section 2.1).
+use Rattle.std.specs.Prelude.{⊤, Result, Ok, Err}
 use Rattle.std.specs.Prelude.{◌≡◌, ℕ, ◌+◌, ◌*◌, ◌≤◌, ◌⊎◌, List, [], ◌++◌, take, map, Option, vec_len, vec_capacity, Some, None}
 use Rattle.std.specs.declared.vec.Vec.{Vec}
 use Rattle.std.specs.Borrow.{Bor}
@@ -31,6 +32,13 @@ written_insertion f (InsertedWithName relative post_base absolute) =
     written_encoder_instruction (InsertDynamicName relative f.value)
 written_insertion f (Inserted post_base absolute) = written_encoder_instruction (InsertLiteralName f.name f.value)
 written_insertion f (NotInserted lookup) = []
+
+-- both calls did what they were asked for, or neither
+abbrev pub AreAlike : {E F : Type 0} → Result ⊤ E → Result ⊤ F → Type 0
+AreAlike (Ok a) (Ok b) = Unit {0}
+AreAlike (Ok a) (Err f) = ⊥
+AreAlike (Err e) (Ok b) = ⊥
+AreAlike (Err e) (Err f) = Unit {0}
 
 -- ---- room for instructions
 

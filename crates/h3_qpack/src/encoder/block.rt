@@ -9,9 +9,7 @@ ghost use Rattle.qpack_spec.specs.Table.{insert_count, without_references};
 ghost use Rattle.qpack_wire.specs.Prefixes.{prefix_of};
 ghost use Rattle.h3_qpack.specs.Encoding.{AddsLines, StopsAmong, draft_of_lines, DraftsBlock};
 ghost use Rattle.h3_qpack.specs.Encoding.{GivesUpLines, GrowsWithin, instructions_room};
-ghost use Rattle.h3_qpack.specs.declared.encoder.EncoderError.TheVariants.{Memory};
 
-use crate::encoder::EncoderError;
 use crate::encoder::as_field::AsField;
 use crate::encoder::fields::append_field_line;
 use qpack_base::coding::NoMemory;
@@ -20,14 +18,14 @@ use qpack_wire::block::HeaderPrefix;
 use std::alloc::Allocator;
 
 /// Appends the block of the fields and the instructions of what is inserted, and answers the block's required insert
-/// count. The lines are written first, and then the prefix is put in front of them. Refused, which is for memory alone,
+/// count. The lines are written first, and then the prefix is put in front of them. Refused,
 /// what stood in the block's vector is still at its front.
 pub(super) fn append_block<A: Allocator, B: Allocator, H: AsField>(
     handle: &mut DynamicTableEncoder<'_>,
     block: &mut Vec<u8, A>,
     encoder_buf: &mut Vec<u8, B>,
     fields: &[H],
-) -> Result<usize, EncoderError>
+) -> Result<usize, NoMemory>
     requires base { handle.old.base ≡ insert_count handle.old.table.now }
     requires begins { handle.old.table.now.referenced ≡ [] }
     ensures same_table { handle.new.table.ghost_name ≡ handle.old.table.ghost_name }
@@ -37,7 +35,6 @@ pub(super) fn append_block<A: Allocator, B: Allocator, H: AsField>(
     ensures err { OnErr result (GivesUpLines (map H.line fields.now) handle.old.table.now
         (without_references handle.new.table.now) encoder_buf.old.items encoder_buf.new.items) }
     ensures as_before { OnErr result (take (vec_len block.old) block.new.items ≡ block.old.items) }
-    ensures memory { IfErr result (λ e. e ≡ Memory) }
     ensures capacity { vec_capacity block.old ≤ vec_capacity block.new }
     ensures still { OnOk result
         (vec_len block.new ≤ vec_capacity block.old → vec_capacity block.new ≡ vec_capacity block.old) }
@@ -53,14 +50,14 @@ pub(super) fn append_block<A: Allocator, B: Allocator, H: AsField>(
     Ok(required)
 }
 
-/// Adds the fields to a block in progress, one after the other. Refused, which is for memory alone, some of them were
+/// Adds the fields to a block in progress, one after the other. Refused, some of them were
 /// added: what they inserted stands, and its instructions are written.
 fn append_fields<A: Allocator, B: Allocator, H: AsField>(
     handle: &mut DynamicTableEncoder<'_>,
     fields: &[H],
     lines: &mut Vec<u8, A>,
     encoder_buf: &mut Vec<u8, B>,
-) -> Result<(), EncoderError>
+) -> Result<(), NoMemory>
     ensures same_table { handle.new.table.ghost_name ≡ handle.old.table.ghost_name }
     ensures stream { handle.new.stream_id ≡ handle.old.stream_id }
     ensures base { handle.new.base ≡ handle.old.base }
@@ -70,7 +67,6 @@ fn append_fields<A: Allocator, B: Allocator, H: AsField>(
     ensures err { OnErr result (StopsAmong (map H.line fields.now) handle.old.table.now handle.old.base
         handle.new.table.now encoder_buf.old.items encoder_buf.new.items) }
     ensures as_before { OnErr result (take (vec_len lines.old) lines.new.items ≡ lines.old.items) }
-    ensures memory { IfErr result (λ e. e ≡ Memory) }
     ensures capacity { vec_capacity lines.old ≤ vec_capacity lines.new }
     ensures still { OnOk result
         (vec_len lines.new ≤ vec_capacity lines.old → vec_capacity lines.new ≡ vec_capacity lines.old) }

@@ -9,17 +9,14 @@ ghost use Rattle.qpack_spec.specs.Handle.{line_of as line_of_insertion, literal_
 ghost use Rattle.qpack_spec.specs.Line.{written_line, written_marked_line};
 ghost use Rattle.qpack_base.specs.HeaderFields.{line_of};
 ghost use Rattle.qpack_base.specs.Writes.{Writes};
-ghost use Rattle.qpack_base.specs.declared.prefix_string.Error.TheVariants.{Memory as NoRoom};
 ghost use Rattle.qpack_spec.specs.StaticTable.{static_index, static_name_index};
 ghost use Rattle.qpack_table.specs.Handles.{insertion_of, lookup_of, IsFoundIn};
 ghost use Rattle.h3_qpack.specs.Encoding.{written_insertion, draft_at, draft_of_field, Adds, GrowsWithin, StopsAdding};
 ghost use Rattle.h3_qpack.specs.Encoding.{draft_of_line, AddsLines, lookup_alone};
-ghost use Rattle.h3_qpack.specs.declared.encoder.EncoderError.TheVariants.{Memory};
 
-use crate::encoder::EncoderError;
-use crate::encoder::room::make_room;
+use crate::encoder::room::{for_memory, make_room};
+use qpack_base::coding::NoMemory;
 use qpack_base::field::FieldLine;
-use qpack_base::prefix_string;
 use qpack_base::static_::{StaticMatch, StaticTable};
 use qpack_table::dynamic::{
     DynamicInsertionResult, DynamicLookupResult, DynamicTableEncoder, FoundField,
@@ -31,14 +28,14 @@ use qpack_wire::stream::{Duplicate, InsertWithNameRef, InsertWithoutNameRef};
 use std::alloc::Allocator;
 
 /// Adds a field line to a block in progress: a literal, if it is never to be indexed, and else as `append_field` does.
-/// Refused, which is for memory alone, either nothing was inserted and no instruction is written, or an entry was and
+/// Refused, either nothing was inserted and no instruction is written, or an entry was and
 /// its instruction is.
 pub(super) fn append_field_line<A: Allocator, B: Allocator>(
     block: &mut DynamicTableEncoder<'_>,
     field: &FieldLine<'_>,
     lines: &mut Vec<u8, A>,
     encoder_buf: &mut Vec<u8, B>,
-) -> Result<(), EncoderError>
+) -> Result<(), NoMemory>
     ensures same_table { block.new.table.ghost_name ≡ block.old.table.ghost_name }
     ensures stream { block.new.stream_id ≡ block.old.stream_id }
     ensures base { block.new.base ≡ block.old.base }
@@ -48,28 +45,29 @@ pub(super) fn append_field_line<A: Allocator, B: Allocator>(
     ensures err { OnErr result (StopsAdding (draft_of_line block.old.table.now block.old.base (line_of field.now))
         block.old.table.now block.new.table.now encoder_buf.old.items encoder_buf.new.items) }
     ensures as_before { OnErr result (take (vec_len lines.old) lines.new.items ≡ lines.old.items) }
-    ensures memory { IfErr result (λ e. e ≡ Memory) }
     ensures capacity { vec_capacity lines.old ≤ vec_capacity lines.new }
     ensures still { OnOk result
         (vec_len lines.new ≤ vec_capacity lines.old → vec_capacity lines.new ≡ vec_capacity lines.old) }
     ensures instructions { GrowsWithin (4 * field_size (line_of field.now).field) encoder_buf.old encoder_buf.new }
 {
     if field.never_indexed {
-        let lookup = block.find_line_name(field)?;
+        let Ok(lookup) = block.find_line_name(field) else {
+            return Err(NoMemory);
+        };
         return Ok(append_literal(field, lookup, lines)?);
     }
     append_field(block, field, lines, encoder_buf)
 }
 
 /// Adds a field to a block in progress: the first that applies of an equal static field, the newest equal entry, an
-/// insertion and a literal. Refused, which is for memory alone, either the entry was not inserted and no instruction
+/// insertion and a literal. Refused, either the entry was not inserted and no instruction
 /// is written, or it was and its instruction is.
 fn append_field<A: Allocator, B: Allocator>(
     block: &mut DynamicTableEncoder<'_>,
     field: &FieldLine<'_>,
     lines: &mut Vec<u8, A>,
     encoder_buf: &mut Vec<u8, B>,
-) -> Result<(), EncoderError>
+) -> Result<(), NoMemory>
     requires unmarked { field.now.never_indexed ≡ false }
     ensures same_table { block.new.table.ghost_name ≡ block.old.table.ghost_name }
     ensures stream { block.new.stream_id ≡ block.old.stream_id }
@@ -80,7 +78,6 @@ fn append_field<A: Allocator, B: Allocator>(
         field.now).field)
         block.old.table.now block.new.table.now encoder_buf.old.items encoder_buf.new.items) }
     ensures as_before { OnErr result (take (vec_len lines.old) lines.new.items ≡ lines.old.items) }
-    ensures memory { IfErr result (λ e. e ≡ Memory) }
     ensures capacity { vec_capacity lines.old ≤ vec_capacity lines.new }
     ensures still { OnOk result
         (vec_len lines.new ≤ vec_capacity lines.old → vec_capacity lines.new ≡ vec_capacity lines.old) }
@@ -103,7 +100,7 @@ fn append_dynamic<A: Allocator, B: Allocator>(
     static_name: Option<usize>,
     lines: &mut Vec<u8, A>,
     encoder_buf: &mut Vec<u8, B>,
-) -> Result<(), EncoderError>
+) -> Result<(), NoMemory>
     requires unmarked { field.now.never_indexed ≡ false }
     requires no_static { static_index (line_of field.now).field ≡ None }
     requires static_name { static_name ≡ static_name_index (line_of field.now).field.name }
@@ -116,7 +113,6 @@ fn append_dynamic<A: Allocator, B: Allocator>(
         field.now).field)
         block.old.table.now block.new.table.now encoder_buf.old.items encoder_buf.new.items) }
     ensures as_before { OnErr result (take (vec_len lines.old) lines.new.items ≡ lines.old.items) }
-    ensures memory { IfErr result (λ e. e ≡ Memory) }
     ensures capacity { vec_capacity lines.old ≤ vec_capacity lines.new }
     ensures still { OnOk result
         (vec_len lines.new ≤ vec_capacity lines.old → vec_capacity lines.new ≡ vec_capacity lines.old) }
@@ -125,7 +121,9 @@ fn append_dynamic<A: Allocator, B: Allocator>(
     if block.max_size() == 0 {
         return Ok(append_literal(field, static_lookup(static_name), lines)?);
     }
-    let found = block.find_and_keep(field, static_name)?;
+    let Ok(found) = block.find_and_keep(field, static_name) else {
+        return Err(NoMemory);
+    };
     if let DynamicLookupResult::Relative { index, .. } = found.lookup {
         return Ok(Indexed::Dynamic(index).encode(lines)?);
     }
@@ -150,7 +148,7 @@ fn append_insertion<A: Allocator, B: Allocator>(
     found: &FoundField,
     lines: &mut Vec<u8, A>,
     encoder_buf: &mut Vec<u8, B>,
-) -> Result<(), EncoderError>
+) -> Result<(), NoMemory>
     requires unmarked { field.now.never_indexed ≡ false }
     requires found { IsFoundIn block.old.table.now (line_of field.now).field found.now }
     ensures same_table { block.new.table.ghost_name ≡ block.old.table.ghost_name }
@@ -163,14 +161,15 @@ fn append_insertion<A: Allocator, B: Allocator>(
         (insert_field block.old.table.now block.old.base (line_of field.now).field))
         block.old.table.now block.new.table.now encoder_buf.old.items encoder_buf.new.items) }
     ensures as_before { OnErr result (take (vec_len lines.old) lines.new.items ≡ lines.old.items) }
-    ensures memory { IfErr result (λ e. e ≡ Memory) }
     ensures capacity { vec_capacity lines.old ≤ vec_capacity lines.new }
     ensures still { OnOk result
         (vec_len lines.new ≤ vec_capacity lines.old → vec_capacity lines.new ≡ vec_capacity lines.old) }
     ensures instructions { GrowsWithin (4 * field_size (line_of field.now).field) encoder_buf.old encoder_buf.new }
 {
     make_room(encoder_buf, instruction_room(block, field))?;
-    let insertion = block.insert_found(field, found)?;
+    let Ok(insertion) = block.insert_found(field, found) else {
+        return Err(NoMemory);
+    };
     write_instruction(field, &insertion, encoder_buf)?;
     Ok(append_inserted(field, insertion, lines)?)
 }
@@ -189,79 +188,81 @@ fn instruction_room(block: &DynamicTableEncoder<'_>, field: &FieldLine<'_>) -> u
     4 * size
 }
 
-/// Appends the instruction of an insertion. Refused, which is for memory alone, the vector is as before.
+/// Appends the instruction of an insertion. Refused, the vector is as before.
+#[tactic(auto, using(crate::proofs::Alike::writes_alike))]
 fn write_instruction<A: Allocator>(
     field: &FieldLine<'_>,
     insertion: &DynamicInsertionResult,
     buf: &mut Vec<u8, A>,
-) -> Result<(), prefix_string::Error>
+) -> Result<(), NoMemory>
     ensures writes { Writes (written_insertion (line_of field.now).field (insertion_of insertion.now)) buf.old buf.new
         result }
-    ensures memory { IfErr result (λ e. e ≡ NoRoom) }
 {
     let value = field.value;
     match *insertion {
-        DynamicInsertionResult::Duplicated { relative, .. } => Ok(Duplicate(relative).encode(buf)?),
+        DynamicInsertionResult::Duplicated { relative, .. } => Duplicate(relative).encode(buf),
         DynamicInsertionResult::InsertedWithStaticNameRef { index, .. } => {
-            InsertWithNameRef::write_static(index, value, buf)
+            for_memory(InsertWithNameRef::write_static(index, value, buf))
         }
         DynamicInsertionResult::InsertedWithNameRef { relative, .. } => {
-            InsertWithNameRef::write_dynamic(relative, value, buf)
+            for_memory(InsertWithNameRef::write_dynamic(relative, value, buf))
         }
         DynamicInsertionResult::Inserted { .. } => {
-            InsertWithoutNameRef::write(field.name, value, buf)
+            for_memory(InsertWithoutNameRef::write(field.name, value, buf))
         }
         DynamicInsertionResult::NotInserted(_) => Ok(()),
     }
 }
 
-/// Appends the line of a field that was inserted, or was not. Refused, which is for memory alone, the vector is as
+/// Appends the line of a field that was inserted, or was not. Refused, the vector is as
 /// before.
 fn append_inserted<A: Allocator>(
     field: &FieldLine<'_>,
     insertion: DynamicInsertionResult,
     buf: &mut Vec<u8, A>,
-) -> Result<(), prefix_string::Error>
+) -> Result<(), NoMemory>
     requires unmarked { field.now.never_indexed ≡ false }
     ensures writes { Writes (written_line (line_of_insertion (line_of field.now).field (insertion_of insertion)))
         buf.old
         buf.new result }
-    ensures memory { IfErr result (λ e. e ≡ NoRoom) }
 {
     match insertion {
         DynamicInsertionResult::Duplicated { postbase, .. }
         | DynamicInsertionResult::InsertedWithStaticNameRef { postbase, .. }
         | DynamicInsertionResult::InsertedWithNameRef { postbase, .. }
         | DynamicInsertionResult::Inserted { postbase, .. } => {
-            Ok(IndexedWithPostBase(postbase).encode(buf)?)
+            IndexedWithPostBase(postbase).encode(buf)
         }
         DynamicInsertionResult::NotInserted(lookup) => append_literal(field, lookup, buf),
     }
 }
 
-/// Appends a literal, by where its name was found. Refused, which is for memory alone, the vector is as before.
+/// Appends a literal, by where its name was found. Refused, the vector is as before.
+#[tactic(auto, using(crate::proofs::Alike::writes_alike))]
 fn append_literal<A: Allocator>(
     field: &FieldLine<'_>,
     lookup: DynamicLookupResult,
     buf: &mut Vec<u8, A>,
-) -> Result<(), prefix_string::Error>
+) -> Result<(), NoMemory>
     ensures writes { Writes (written_marked_line field.now.never_indexed
         (literal_at (line_of field.now).field (lookup_of lookup))) buf.old buf.new result }
-    ensures memory { IfErr result (λ e. e ≡ NoRoom) }
 {
     let (value, never_indexed) = (field.value, field.never_indexed);
     match lookup {
-        DynamicLookupResult::Static(index) => {
-            LiteralWithNameRef::write_static_marked(index, value, never_indexed, buf)
-        }
-        DynamicLookupResult::Relative { index, .. } => {
-            LiteralWithNameRef::write_dynamic_marked(index, value, never_indexed, buf)
-        }
-        DynamicLookupResult::PostBase { index, .. } => {
-            LiteralWithPostBaseNameRef::write_marked(index, value, never_indexed, buf)
-        }
+        DynamicLookupResult::Static(index) => for_memory(LiteralWithNameRef::write_static_marked(
+            index,
+            value,
+            never_indexed,
+            buf,
+        )),
+        DynamicLookupResult::Relative { index, .. } => for_memory(
+            LiteralWithNameRef::write_dynamic_marked(index, value, never_indexed, buf),
+        ),
+        DynamicLookupResult::PostBase { index, .. } => for_memory(
+            LiteralWithPostBaseNameRef::write_marked(index, value, never_indexed, buf),
+        ),
         DynamicLookupResult::NotFound => {
-            Literal::write_marked(field.name, value, never_indexed, buf)
+            for_memory(Literal::write_marked(field.name, value, never_indexed, buf))
         }
     }
 }

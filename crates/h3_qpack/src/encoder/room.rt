@@ -1,8 +1,10 @@
-//! Room in a vector, which is made before anything is done that can't be undone.
+//! Room in a vector, which is made before anything is done that can't be undone; and what is refused for want of it.
 
 ghost use Rattle.std.specs.Prelude.{◌≡◌, ◌+◌, ◌≤◌, OnOk, IsOk, vec_len, vec_capacity};
+ghost use Rattle.h3_qpack.specs.Encoding.{AreAlike};
 
 use qpack_base::coding::NoMemory;
+use qpack_base::prefix_string;
 use std::alloc::Allocator;
 
 /// Makes room for so many more bytes. Where it is free already, nothing changes and no memory is taken.
@@ -22,4 +24,15 @@ pub(super) fn make_room<A: Allocator>(
     }
     buf.reserve(additional)?;
     Ok(())
+}
+
+/// The same answer of a writer, which is refused for memory alone, with an error that comes back in a register.
+#[inline(always)]
+pub(super) fn for_memory(written: Result<(), prefix_string::Error>) -> Result<(), NoMemory>
+    ensures { AreAlike written result }
+{
+    match written {
+        Ok(()) => Ok(()),
+        Err(_) => Err(NoMemory),
+    }
 }

@@ -11,6 +11,7 @@ ghost use Rattle.h3_qpack.specs.declared.encoder.EncoderError.TheVariants.{Memor
 use crate::encoder::EncoderError;
 use crate::encoder::as_field::AsField;
 use crate::encoder::block::append_block;
+use qpack_base::coding::NoMemory;
 use qpack_table::dynamic::{DynamicTable, DynamicTableEncoder};
 use std::alloc::{AllocError, Allocator, Global};
 
@@ -92,9 +93,8 @@ impl WritesSections for EncoderTable {
 /// error.
 fn end_block(
     handle: DynamicTableEncoder<'_>,
-    appended: Result<usize, EncoderError>,
+    appended: Result<usize, NoMemory>,
 ) -> Result<usize, EncoderError>
-    requires { IfErr appended (λ e. e ≡ Memory) }
     ensures ok { IfOk result (λ required. (appended ≡ Ok required)
         × (handle.exit.0.now ≡ commit handle.entry.table.now handle.entry.stream_id required)) }
     ensures err { OnErr result (handle.exit.0.now ≡ without_references handle.entry.table.now) }
@@ -107,7 +107,7 @@ fn end_block(
         }
         Err(error) => {
             handle.release();
-            Err(error)
+            Err(EncoderError::from(error))
         }
     }
 }

@@ -7,13 +7,13 @@ ghost use Rattle.qpack_spec.specs.Stateless.{stateless_line, stateless_literal};
 ghost use Rattle.qpack_spec.specs.StaticTable.{static_name_index};
 ghost use Rattle.qpack_base.specs.HeaderFields.{line_of};
 ghost use Rattle.qpack_base.specs.Writes.{Writes};
-ghost use Rattle.qpack_base.specs.declared.prefix_string.Error.TheVariants.{Memory as NoRoom};
 ghost use Rattle.h3_qpack.specs.declared.encoder.EncoderError.TheVariants.{Memory};
 
 use crate::encoder::EncoderError;
 use crate::encoder::as_field::AsField;
+use crate::encoder::room::for_memory;
+use qpack_base::coding::NoMemory;
 use qpack_base::field::FieldLine;
-use qpack_base::prefix_string;
 use qpack_base::static_::{StaticMatch, StaticTable};
 use qpack_wire::block::{HeaderPrefix, Indexed, Literal, LiteralWithNameRef};
 use std::alloc::Allocator;
@@ -37,18 +37,17 @@ pub fn encode_section_stateless<A: Allocator, H: AsField>(
     if appended.is_err() {
         block.truncate(len);
     }
-    appended
+    Ok(appended?)
 }
 
 /// Appends the section; refused, what stood before is still at the front.
 fn append_section<A: Allocator, H: AsField>(
     block: &mut Vec<u8, A>,
     fields: &[H],
-) -> Result<(), EncoderError>
+) -> Result<(), NoMemory>
     ensures ok { OnOk result (block.new.items ≡ block.old.items
         ++ written_marked_block (map H.line fields.now) (stateless_block_marked (map H.line fields.now))) }
     ensures err { OnErr result (take (vec_len block.old) block.new.items ≡ block.old.items) }
-    ensures memory { IfErr result (λ e. e ≡ Memory) }
     ensures capacity { vec_capacity block.old ≤ vec_capacity block.new }
 {
     HeaderPrefix::new(0, 0, 0, 0).encode(block)?;
@@ -59,13 +58,9 @@ fn append_section<A: Allocator, H: AsField>(
 }
 
 /// Appends the line of a field. Refused, the vector is as before.
-fn append_line<A: Allocator>(
-    block: &mut Vec<u8, A>,
-    field: &FieldLine<'_>,
-) -> Result<(), prefix_string::Error>
+fn append_line<A: Allocator>(block: &mut Vec<u8, A>, field: &FieldLine<'_>) -> Result<(), NoMemory>
     ensures writes { Writes (written_marked_line field.now.never_indexed
         (stateless_line_marked (line_of field.now))) block.old block.new result }
-    ensures memory { IfErr result (λ e. e ≡ NoRoom) }
 {
     if field.never_indexed {
         return append_never_indexed(block, field.name, field.value);
@@ -75,34 +70,38 @@ fn append_line<A: Allocator>(
 
 /// Appends the line of a field that may be indexed: a static index, a static name with the value, or both in full.
 /// Refused, the vector is as before.
+#[tactic(auto, using(crate::proofs::Alike::writes_alike))]
 pub(super) fn append_unmarked<A: Allocator>(
     block: &mut Vec<u8, A>,
     name: &[u8],
     value: &[u8],
-) -> Result<(), prefix_string::Error>
+) -> Result<(), NoMemory>
     ensures writes { Writes (written_line (stateless_line (record { name = name.now; value = value.now })))
         block.old block.new result }
-    ensures memory { IfErr result (λ e. e ≡ NoRoom) }
 {
     match StaticTable::lookup(name, value) {
-        Some(StaticMatch::Field(index)) => Ok(Indexed::Static(index).encode(block)?),
-        Some(StaticMatch::Name(index)) => LiteralWithNameRef::write_static(index, value, block),
-        None => Literal::write(name, value, block),
+        Some(StaticMatch::Field(index)) => Indexed::Static(index).encode(block),
+        Some(StaticMatch::Name(index)) => {
+            for_memory(LiteralWithNameRef::write_static(index, value, block))
+        }
+        None => for_memory(Literal::write(name, value, block)),
     }
 }
 
 /// Appends the literal of a field that is never to be indexed. Refused, the vector is as before.
+#[tactic(auto, using(crate::proofs::Alike::writes_alike))]
 fn append_never_indexed<A: Allocator>(
     block: &mut Vec<u8, A>,
     name: &[u8],
     value: &[u8],
-) -> Result<(), prefix_string::Error>
+) -> Result<(), NoMemory>
     ensures writes { Writes (written_marked_line true (stateless_literal (record { name = name.now; value = value.now })
         (static_name_index name.now))) block.old block.new result }
-    ensures memory { IfErr result (λ e. e ≡ NoRoom) }
 {
     match StaticTable::find_name(name) {
-        Some(index) => LiteralWithNameRef::write_static_marked(index, value, true, block),
-        None => Literal::write_marked(name, value, true, block),
+        Some(index) => for_memory(LiteralWithNameRef::write_static_marked(
+            index, value, true, block,
+        )),
+        None => for_memory(Literal::write_marked(name, value, true, block)),
     }
 }

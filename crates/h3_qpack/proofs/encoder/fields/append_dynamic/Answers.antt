@@ -15,16 +15,16 @@ returns-in_err-encode-clause-err g c =
     let p = err_from_is_err_and c.from_residual-in_err-encode.result c.from_residual-in_err-encode.ensures.1 in
     let f = (line_of c.args.field.now).field in
     rw p.1
-    (stops_found c.args.block.now.table.now c.args.block.now.base f (lookup_of c.in_ok-found.found.lookup)
+    (stops_found c.args.block.now.table.now c.args.block.now.base f (lookup_of c.in-Ok.found.lookup)
     c.find_and_keep.new.self.table.now (draft_of_field c.args.block.now.table.now c.args.block.now.base f)
-    c.args.encoder_buf.now.items c.in_ok-found.ensures.found)
+    c.args.encoder_buf.now.items c.in-Ok.ensures.found)
 
 pub returns-in-Relative-clause-ok : goal.returns-in-Relative-clause-ok
 returns-in-Relative-clause-ok g c =
     adds_found c.args.block.now.table.now c.args.block.now.base (line_of c.args.field.now).field c.in-Relative.index
     c.in-Relative.absolute c.find_and_keep.new.self.table.now c.args.lines.now.items c.encode.new.buf.items
     c.args.encoder_buf.now.items (c.requires.no_static)
-    (c.in_ok-found.ensures.found
+    (c.in-Ok.ensures.found
     ∙ ap (λ (x : DynamicLookupResult). let found : Found =
     record { lookup = lookup_of x; table = c.find_and_keep.new.self.table.now } in found) c.in-Relative.is)
     c.in_ok-encode.ensures.writes.ok
@@ -41,7 +41,7 @@ returns-then-max_size-eq0-clause-ok g c =
 pub returns : goal.returns
 returns g c =
     let none = c.requires.no_static in
-    let no_line = no_relative c.in_ok-found.found.lookup c.in_default.not-Relative in
+    let no_line = no_relative c.in-Ok.found.lookup c.in_default-lookup.not-Relative in
     let f = (line_of c.args.field.now).field in
     record {
       same_table = c.append_insertion.ensures.same_table ∙ c.find_and_keep.ensures.same_table;
@@ -49,15 +49,14 @@ returns g c =
       base = c.append_insertion.ensures.base ∙ c.find_and_keep.ensures.base;
       ok = on_ok_adds c.append_insertion.result c.args.block.now.table.now c.find_and_keep.new.self.table.now
           c.append_insertion.new.block.table.now c.args.block.now.base c.find_and_keep.new.self.base f
-          (lookup_of c.in_ok-found.found.lookup) c.args.lines.now.items c.append_insertion.new.lines.items
+          (lookup_of c.in-Ok.found.lookup) c.args.lines.now.items c.append_insertion.new.lines.items
           c.args.encoder_buf.now.items c.append_insertion.new.encoder_buf.items c.find_and_keep.ensures.base none
-          c.in_ok-found.ensures.found no_line c.append_insertion.ensures.ok;
+          c.in-Ok.ensures.found no_line c.append_insertion.ensures.ok;
       err = on_err_stops c.append_insertion.result c.args.block.now.table.now c.find_and_keep.new.self.table.now
           c.append_insertion.new.block.table.now c.args.block.now.base c.find_and_keep.new.self.base f
-          (lookup_of c.in_ok-found.found.lookup) c.args.encoder_buf.now.items c.append_insertion.new.encoder_buf.items
-          c.find_and_keep.ensures.base none c.in_ok-found.ensures.found no_line c.append_insertion.ensures.err;
+          (lookup_of c.in-Ok.found.lookup) c.args.encoder_buf.now.items c.append_insertion.new.encoder_buf.items
+          c.find_and_keep.ensures.base none c.in-Ok.ensures.found no_line c.append_insertion.ensures.err;
       as_before = c.append_insertion.ensures.as_before;
-      memory = c.append_insertion.ensures.memory;
       capacity = c.append_insertion.ensures.capacity;
       still = c.append_insertion.ensures.still;
       instructions = c.append_insertion.ensures.instructions;

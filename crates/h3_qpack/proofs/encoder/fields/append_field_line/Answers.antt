@@ -7,19 +7,19 @@ use Rattle.h3_qpack.proofs.encoder.fields.append_field_line.Goals as goal
 
 pub returns-in_err-append_literal-clause-err : goal.returns-in_err-append_literal-clause-err
 returns-in_err-append_literal-clause-err g c =
-    let p = err_from_is_err_and c.from_residual-in_err-append_literal.result
-    c.from_residual-in_err-append_literal.ensures.1 in
+    let p = err_from_is_err_and c.from_residual.result
+    c.from_residual.ensures.1 in
     let l = line_of c.args.field.now in
     rw p.1
-    (stops_name c.args.block.now.table.now c.args.block.now.base l.field (lookup_of c.in_ok-lookup.lookup)
+    (stops_name c.args.block.now.table.now c.args.block.now.base l.field (lookup_of c.in-Ok.lookup)
     c.find_line_name.new.self.table.now (draft_of_line c.args.block.now.table.now c.args.block.now.base l)
-    c.args.encoder_buf.now.items c.in_ok-lookup.ensures.found)
+    c.args.encoder_buf.now.items c.in-Ok.ensures.found)
 
 pub returns-then-field-clause-ok : goal.returns-then-field-clause-ok
 returns-then-field-clause-ok g c =
     adds_literal c.args.block.now.table.now c.args.block.now.base (line_of c.args.field.now)
-    (lookup_of c.in_ok-lookup.lookup) c.find_line_name.new.self.table.now c.args.lines.now.items
-    c.append_literal.new.buf.items c.args.encoder_buf.now.items c.if-field.true c.in_ok-lookup.ensures.found
+    (lookup_of c.in-Ok.lookup) c.find_line_name.new.self.table.now c.args.lines.now.items
+    c.append_literal.new.buf.items c.args.encoder_buf.now.items c.if-field.true c.in-Ok.ensures.found
     c.in_ok-append_literal.ensures.writes.ok
 
 pub returns-clause-ok : goal.returns-clause-ok

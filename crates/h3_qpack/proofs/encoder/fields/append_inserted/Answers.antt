@@ -8,12 +8,14 @@ use Rattle.qpack_table.specs.declared.dynamic.encoder.DynamicInsertionResult.{Dy
 use Rattle.h3_qpack.proofs.MarkedFields.{written_unmarked}
 use Rattle.h3_qpack.proofs.encoder.fields.append_inserted.Goals as goal
 
-pub returns-in-NotInserted-clause-writes : goal.returns-in-NotInserted-clause-writes
-returns-in-NotInserted-clause-writes g c =
+pub returns-in-NotInserted : goal.returns-in-NotInserted
+returns-in-NotInserted g c =
     let f = (line_of c.args.field.now).field in
     let l = literal_at f (lookup_of c.in-NotInserted.lookup) in
-    subst (λ (e : List ℕ). Writes e c.args.buf.now c.append_literal.new.buf c.append_literal.result)
-    (ap (λ (b : Bool). written_marked_line b l) c.requires.unmarked ∙ written_unmarked f l
-    ∙ ap (λ (i : DynamicInsertionResult). written_line (line_of_insertion f (insertion_of i))) (sym
-    c.in-NotInserted.is))
-    c.append_literal.ensures.writes
+    record {
+      writes = subst (λ (e : List ℕ). Writes e c.args.buf.now c.append_literal.new.buf c.append_literal.result)
+          (ap (λ (b : Bool). written_marked_line b l) c.requires.unmarked ∙ written_unmarked f l
+          ∙ ap (λ (i : DynamicInsertionResult). written_line (line_of_insertion f (insertion_of i))) (sym
+          c.in-NotInserted.is))
+          c.append_literal.ensures.writes;
+    }

@@ -16,22 +16,22 @@ returns-in_err-append_inserted-clause-err g c =
     let f = (line_of c.args.field.now).field in
     rw p.1
     (stops_inserted f c.args.block.now.table.now (insert_field c.args.block.now.table.now c.args.block.now.base f)
-    (insertion_of c.in_ok-insertion.insertion) c.insert_found.new.self.table.now c.args.encoder_buf.now.items
-    c.write_instruction.new.buf.items c.in_ok-insertion.ensures.inserted
+    (insertion_of c.in-Ok.insertion) c.insert_found.new.self.table.now c.args.encoder_buf.now.items
+    c.write_instruction.new.buf.items c.in-Ok.ensures.inserted
     (c.in_ok-write_instruction.ensures.writes.ok
-    ∙ ap (λ (x : List ℕ). x ++ written_insertion f (insertion_of c.in_ok-insertion.insertion))
+    ∙ ap (λ (x : List ℕ). x ++ written_insertion f (insertion_of c.in-Ok.insertion))
     c.in_ok-make_room.ensures.items))
 
 pub returns-clause-ok : goal.returns-clause-ok
 returns-clause-ok g c =
     let f = (line_of c.args.field.now).field in
     adds_insertion f c.args.block.now.table.now (insert_field c.args.block.now.table.now c.args.block.now.base f)
-    (insertion_of c.in_ok-insertion.insertion) c.insert_found.new.self.table.now c.args.lines.now.items
+    (insertion_of c.in-Ok.insertion) c.insert_found.new.self.table.now c.args.lines.now.items
     c.append_inserted.new.buf.items c.args.encoder_buf.now.items
-    c.write_instruction.new.buf.items c.in_ok-insertion.ensures.inserted
+    c.write_instruction.new.buf.items c.in-Ok.ensures.inserted
     c.in_ok-append_inserted.ensures.writes.ok
     (c.in_ok-write_instruction.ensures.writes.ok
-    ∙ ap (λ (x : List ℕ). x ++ written_insertion f (insertion_of c.in_ok-insertion.insertion))
+    ∙ ap (λ (x : List ℕ). x ++ written_insertion f (insertion_of c.in-Ok.insertion))
     c.in_ok-make_room.ensures.items)
 
 pub returns-clause-still : goal.returns-clause-still
@@ -45,8 +45,8 @@ returns-in_err-make_room-clause-instructions g c =
     grows_made c.instruction_room.result _ c.args.encoder_buf.now c.make_room.new.buf c.instruction_room.ensures.most
     room.len room.still room.capacity
 
-pub returns-in_err-insertion-clause-instructions : goal.returns-in_err-insertion-clause-instructions
-returns-in_err-insertion-clause-instructions g c =
+pub returns-in_default-clause-instructions : goal.returns-in_default-clause-instructions
+returns-in_default-clause-instructions g c =
     let room = c.make_room.ensures in
     grows_made c.instruction_room.result _ c.args.encoder_buf.now c.make_room.new.buf c.instruction_room.ensures.most
     room.len room.still room.capacity
@@ -57,7 +57,7 @@ returns-in_err-write_instruction-clause-instructions g c =
     grows_written c.instruction_room.result _ _ c.args.encoder_buf.now c.make_room.new.buf c.write_instruction.new.buf
     c.write_instruction.result c.instruction_room.ensures.most room.len room.still room.capacity
     c.in_ok-make_room.ensures.ok
-    (inserted_fits c.instruction_room.result (line_of c.args.field.now).field _ _ _ c.in_ok-insertion.ensures.inserted
+    (inserted_fits c.instruction_room.result (line_of c.args.field.now).field _ _ _ c.in-Ok.ensures.inserted
     c.instruction_room.ensures.enough)
     c.write_instruction.ensures.writes
 
@@ -67,7 +67,7 @@ returns-in_err-append_inserted-clause-instructions g c =
     grows_written c.instruction_room.result _ _ c.args.encoder_buf.now c.make_room.new.buf c.write_instruction.new.buf
     c.write_instruction.result c.instruction_room.ensures.most room.len room.still room.capacity
     c.in_ok-make_room.ensures.ok
-    (inserted_fits c.instruction_room.result (line_of c.args.field.now).field _ _ _ c.in_ok-insertion.ensures.inserted
+    (inserted_fits c.instruction_room.result (line_of c.args.field.now).field _ _ _ c.in-Ok.ensures.inserted
     c.instruction_room.ensures.enough)
     c.write_instruction.ensures.writes
 
@@ -77,6 +77,6 @@ returns-clause-instructions g c =
     grows_written c.instruction_room.result _ _ c.args.encoder_buf.now c.make_room.new.buf c.write_instruction.new.buf
     c.write_instruction.result c.instruction_room.ensures.most room.len room.still room.capacity
     c.in_ok-make_room.ensures.ok
-    (inserted_fits c.instruction_room.result (line_of c.args.field.now).field _ _ _ c.in_ok-insertion.ensures.inserted
+    (inserted_fits c.instruction_room.result (line_of c.args.field.now).field _ _ _ c.in-Ok.ensures.inserted
     c.instruction_room.ensures.enough)
     c.write_instruction.ensures.writes

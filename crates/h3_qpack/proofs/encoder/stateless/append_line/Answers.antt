@@ -4,7 +4,9 @@ use Rattle.qpack_base.specs.Writes.{Writes}
 use Rattle.h3_qpack.proofs.MarkedFields.{alone_unmarked}
 use Rattle.h3_qpack.proofs.encoder.stateless.append_line.Goals as goal
 
-pub returns-clause-writes : goal.returns-clause-writes
-returns-clause-writes g c =
-    subst (λ (e : List ℕ). Writes e c.args.block.now c.append_unmarked.new.block c.append_unmarked.result)
-    (alone_unmarked (line_of c.args.field.now) c.if-field.false) c.append_unmarked.ensures.writes
+pub returns : goal.returns
+returns g c =
+    record {
+      writes = subst (λ (e : List ℕ). Writes e c.args.block.now c.append_unmarked.new.block c.append_unmarked.result)
+          (alone_unmarked (line_of c.args.field.now) c.if-field.false) c.append_unmarked.ensures.writes;
+    }
