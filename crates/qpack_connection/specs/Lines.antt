@@ -103,7 +103,7 @@ AppendsEntry old new (Err e) read = FailsLine e read × Extends old new
 -- ---- lines
 
 -- what the lines of a section of so many bytes are read under
-abbrev pub under : Lines → ℕ → LinesUnder
+abbrev pub under : {I Key : Type 0} → Lines I Key → ℕ → LinesUnder
 under l section =
     record { window = window l.table.now; required = l.required; base = l.base; limit = l.limit; section = section }
 

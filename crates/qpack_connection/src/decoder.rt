@@ -20,7 +20,7 @@ use crate::section::{DECOMPRESSION_FAILED, Reading, SectionError, read_section};
 use h3_qpack::DecoderError;
 use h3_qpack::decoder::{ack_header, stream_canceled, write_increments};
 use qpack_base::coding::{Cursor, NoMemory};
-use qpack_table::dynamic::DynamicTable;
+use qpack_table::dynamic::{DynamicTable, ReceivedTable};
 use std::alloc::Global;
 use std::marker::Model;
 use thiserror::Error;
@@ -135,7 +135,7 @@ impl From<NoMemory> for DecodingError {
 #[derive(Debug, Drop)]
 pub struct ConnectionDecoder {
     settings: DecoderSettings,
-    table: DynamicTable,
+    table: ReceivedTable,
     stream: EncoderStream,
     /// How many insertions increments have reported.
     reported: usize,
@@ -203,7 +203,7 @@ impl ConnectionDecoder {
     }
 
     /// The table.
-    pub fn table(&self) -> &DynamicTable
+    pub fn table(&self) -> &ReceivedTable
         ensures { result.now ≡ self.now.table }
     {
         &self.table
@@ -416,11 +416,11 @@ impl ConnectionDecoder {
 }
 
 /// An empty table of capacity 0, with this maximum capacity.
-fn new_table(alloc: Global, max_capacity: usize) -> Result<DynamicTable, SettingsError>
+fn new_table(alloc: Global, max_capacity: usize) -> Result<ReceivedTable, SettingsError>
     ensures ok { IfOk result (λ t. (max_capacity < 2 ^ 30) × (t ≡ empty_table 0 (Some max_capacity) 0)) }
     ensures err { IfErr result (λ e. (e ≡ CapacityTooLarge) × (2 ^ 30 ≤ max_capacity)) }
 {
-    let mut table = DynamicTable::new(alloc);
+    let mut table = DynamicTable::without_index(alloc);
     match table.set_agreed_max(max_capacity) {
         Ok(()) => Ok(table),
         Err(_) => Err(SettingsError::CapacityTooLarge),

@@ -15,6 +15,7 @@ ghost use Rattle.qpack_connection.specs.declared.section.SectionError.TheVariant
 use crate::section::{Lines, SectionError, read_lines};
 use qpack_base::coding::Cursor;
 use qpack_base::field::FieldLine;
+use qpack_table::dynamic::EntryIndex;
 use std::alloc::Global;
 use std::marker::Model;
 
@@ -124,7 +125,11 @@ impl FieldSection {
     }
 
     /// Reads the lines of a section to the end of the cursor, where there is no field.
-    pub(crate) fn read_lines(&mut self, lines: &Lines, buf: &mut Cursor) -> Result<(), SectionError>
+    pub(crate) fn read_lines<I: EntryIndex>(
+        &mut self,
+        lines: &Lines<I>,
+        buf: &mut Cursor,
+    ) -> Result<(), SectionError>
         requires { self.old ≡ [] }
         ensures exact { ReadsLines result self.new
             (strict_lines_at (length buf.old.rest) (under lines.now buf.old.total) 0 0 buf.old.rest) }

@@ -13,7 +13,7 @@ ghost use Rattle.h3_qpack.specs.declared.decoder.DecoderError.TheVariants.{Dynam
 use crate::place::Place;
 use h3_qpack::decoder::{DecoderError, take_instruction};
 use qpack_base::coding::Cursor;
-use qpack_table::dynamic::{self, DynamicTable};
+use qpack_table::dynamic::{self, DynamicTable, EntryIndex};
 use qpack_wire::stream;
 use std::alloc::Global;
 use std::marker::Model;
@@ -114,9 +114,9 @@ impl EncoderStream {
     /// unspecified. Where memory is refused for the bytes, nothing changes, and the cursor stays; for an instruction,
     /// the bytes are taken in and those before it stay applied. So after want of memory what the cursor has left is
     /// offered again, be it nothing.
-    pub fn receive(
+    pub fn receive<I: EntryIndex>(
         &mut self,
-        table: &mut DynamicTable,
+        table: &mut DynamicTable<I>,
         buf: &mut Cursor,
     ) -> Result<(), EncoderStreamError>
         ensures receives { (start : Table) (before : List ℕ) → Receives start table.old before self.old
@@ -131,9 +131,9 @@ impl EncoderStream {
     }
 
     /// The same; the instruction that is refused is the first one that was not taken.
-    fn receive_bytes(
+    fn receive_bytes<I: EntryIndex>(
         &mut self,
-        table: &mut DynamicTable,
+        table: &mut DynamicTable<I>,
         buf: &mut Cursor,
     ) -> Result<(), DecoderError>
         ensures receives { (start : Table) (before : List ℕ) → Receives start table.old before self.old
@@ -156,8 +156,8 @@ impl EncoderStream {
 
 /// Takes all instructions that stand whole at the front of the bytes, from this place, and drops their bytes. At the
 /// first one that is refused it ends, with its place; for memory, its bytes are kept.
-fn take_whole(
-    table: &mut DynamicTable,
+fn take_whole<I: EntryIndex>(
+    table: &mut DynamicTable<I>,
     place: &mut Place,
     pending: &mut Vec<u8>,
 ) -> Result<(), DecoderError>
@@ -172,8 +172,8 @@ fn take_whole(
 
 /// Takes all instructions that stand whole at the cursor, from this place, and moves past them. At the first one that
 /// is refused it ends, with its place; for memory, the cursor stays before that.
-fn take_all_strictly(
-    table: &mut DynamicTable,
+fn take_all_strictly<I: EntryIndex>(
+    table: &mut DynamicTable<I>,
     place: &mut Place,
     buf: &mut Cursor,
 ) -> Result<(), DecoderError>
@@ -185,8 +185,8 @@ fn take_all_strictly(
 }
 
 /// Takes the instruction at the cursor, and moves the cursor and the place past it; answers whether one stood whole.
-fn take_and_pass(
-    table: &mut DynamicTable,
+fn take_and_pass<I: EntryIndex>(
+    table: &mut DynamicTable<I>,
     place: &mut Place,
     buf: &mut Cursor,
 ) -> Result<bool, DecoderError>
@@ -204,7 +204,10 @@ fn take_and_pass(
 
 /// Takes the instruction at the cursor and moves past it; answers whether one stood whole. At capacity 0 an insertion
 /// is refused by its first byte.
-fn take_strictly(table: &mut DynamicTable, buf: &mut Cursor) -> Result<bool, DecoderError>
+fn take_strictly<I: EntryIndex>(
+    table: &mut DynamicTable<I>,
+    buf: &mut Cursor,
+) -> Result<bool, DecoderError>
     ensures takes { TakesNextStrictly table.old table.new buf.old.rest buf.new.rest result }
     ensures total { buf.new.total ≡ buf.old.total }
 {
@@ -215,7 +218,7 @@ fn take_strictly(table: &mut DynamicTable, buf: &mut Cursor) -> Result<bool, Dec
 }
 
 /// Whether the bytes begin an insertion at capacity 0 (RFC 9204, section 3.2.2).
-fn begins_unlawfully(table: &DynamicTable, bytes: &[u8]) -> bool
+fn begins_unlawfully<I: EntryIndex>(table: &DynamicTable<I>, bytes: &[u8]) -> bool
     ensures { result ≡ begins_unlawfully table.now bytes.now }
 {
     match bytes.first() {
@@ -226,7 +229,10 @@ fn begins_unlawfully(table: &DynamicTable, bytes: &[u8]) -> bool
 
 /// How many bytes there must be before an instruction can stand there that is truncated yet. Refused if its field can't
 /// fit.
-fn find_wanted(table: &DynamicTable, pending: &[u8]) -> Result<usize, DecoderError>
+fn find_wanted<I: EntryIndex>(
+    table: &DynamicTable<I>,
+    pending: &[u8],
+) -> Result<usize, DecoderError>
     ensures { Truncates encoder_instruction_form pending.now → FindsWanted table.now pending.now result }
 {
     if stream::least_field_size(pending) > table.max_mem_size() {

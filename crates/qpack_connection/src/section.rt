@@ -15,7 +15,7 @@ use crate::field_section::FieldSection;
 use h3_qpack::DecoderError;
 use qpack_base::coding::Cursor;
 use qpack_base::parse_error::ParseError;
-use qpack_table::dynamic::DynamicTable;
+use qpack_table::dynamic::{DynamicTable, EntryIndex};
 use qpack_wire::block::HeaderPrefix;
 use thiserror::Error;
 
@@ -151,8 +151,8 @@ pub fn longest_section(size: u64) -> u64
 /// 0 (`Prefix`); and line by line (`Line`) its bytes, a reference past the required insert count, what it references,
 /// and the sum of sizes. A section whose required insert count exceeds the insertions that were received is `Blocked`
 /// and not a refusal; its lines are not looked at.
-pub fn read_section(
-    table: &DynamicTable,
+pub fn read_section<I: EntryIndex>(
+    table: &DynamicTable<I>,
     section: &[u8],
     limit: u64,
     fields: &mut FieldSection,
@@ -171,8 +171,8 @@ pub fn read_section(
 
 /// The same into a field section without fields; refused, those that were read may stand in it.
 #[tactic(auto, unfolding(qpack_spec::specs::StrictReading::strict_reading))]
-fn read_into(
-    table: &DynamicTable,
+fn read_into<I: EntryIndex>(
+    table: &DynamicTable<I>,
     section: &[u8],
     limit: u64,
     fields: &mut FieldSection,
@@ -190,8 +190,8 @@ fn read_into(
 }
 
 /// Reads the lines behind the prefix, if it can be read so.
-fn read_behind(
-    table: &DynamicTable,
+fn read_behind<I: EntryIndex>(
+    table: &DynamicTable<I>,
     prefix: HeaderPrefix,
     limit: u64,
     buf: &mut Cursor,

@@ -20,8 +20,8 @@ use Rattle.qpack_table.proofs.References.{times_append, references_less, referen
 use Rattle.qpack_table.proofs.Marks.{used_counted}
 
 -- with fewer entries and another capacity
-pub kept_resized : {index shed : ℕ → List Entry → Type 0} (v w : Positions) (es now : List Entry) (size left capacity most : ℕ)
-    (referenced : List ℕ)
+pub kept_resized : {index shed : ℕ → List Entry → Type 0} (v w : Positions) (es now : List Entry)
+    (size left capacity most : ℕ) (referenced : List ℕ)
     (unacknowledged : List table.UnacknowledgedBlock) (least : ℕ) (blocked : List ℕ) (k freed : ℕ)
     → IsKept v es size capacity referenced unacknowledged least blocked index
     → k ≡ eviction_count most (fields_in (entries_of es)) → most < 2 ^ 30 → now ≡ drop k es
@@ -39,8 +39,8 @@ kept_resized v w es now size left capacity most referenced unacknowledged least 
     }
 
 -- with some entries less and one more, which nothing references
-pub kept_put : {index more : ℕ → List Entry → Type 0} (v w : Positions) (es now : List Entry) (size left capacity : ℕ)
-    (referenced : List ℕ)
+pub kept_put : {index more : ℕ → List Entry → Type 0} (v w : Positions) (es now : List Entry)
+    (size left capacity : ℕ) (referenced : List ℕ)
     (unacknowledged : List table.UnacknowledgedBlock) (least : ℕ) (blocked : List ℕ) (e : Entry) (k : ℕ)
     → IsKept v es size capacity referenced unacknowledged least blocked index
     → field_size (field_of e.field) ≤ capacity
@@ -94,14 +94,15 @@ indexed_as {index} dropped es now same is =
 -- with some blocks released
 pub kept_released : {index : Index} (v : Positions) (es now : List Entry) (size capacity : ℕ) (referenced : List ℕ)
     (unacknowledged left : List table.UnacknowledgedBlock) (least : ℕ) (blocked gone : List ℕ) (dropped : ℕ)
-    → IsKept v es size capacity referenced unacknowledged least blocked (IsIndexOfEntries index) → dropped ≡ v.dropped
+    → IsKept v es size capacity referenced unacknowledged least blocked (IsIndexOfEntries index)
+    → dropped ≡ v.dropped
     → entries_of now ≡ entries_of es → flags_of now ≡ flags_of es
     → ((rest : List ℕ) → AreUsed dropped es (gone ++ rest) → AreUsed dropped now rest)
     → ((a : ℕ) → times a (references_in unacknowledged) ≡ times a gone + times a (references_in left))
     → AllByRecursion (λ b. NoneTwice b.entries) left
     → IsKept v now size capacity referenced left least blocked (IsIndexOfEntries index)
-kept_released {index} v es now size capacity referenced unacknowledged left least blocked gone dropped kept is live flags
-    lowered parted once = record {
+kept_released {index} v es now size capacity referenced unacknowledged left least blocked gone dropped kept is live
+    flags lowered parted once = record {
       sized = sized_as v es now size capacity live kept.sized;
       references = references_released v es now referenced unacknowledged left gone kept.references flags
           (subst (λ (d : ℕ). (rest : List ℕ) → AreUsed d es (gone ++ rest)

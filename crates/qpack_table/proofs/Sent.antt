@@ -48,8 +48,8 @@ kept_sent {index} {shown} v w es now size left capacity referenced more unacknow
     let same : entries_of now ≡ entries_of mid =
     ap (λ (l : List Entry). entries_of l) items ∙ joined_entries (drop k es) (sent_now f)
     ∙ sym (joined_entries (drop k es) (sent_before f)) in
-    let put = kept_put {index = index} {more = λ _ _. ⊤} v w es mid size left capacity referenced unacknowledged least blocked
-    (sent_before f) k kept room evicted refl sum refl refl dropped total tt in
+    let put = kept_put {index = index} {more = λ _ _. ⊤} v w es mid size left capacity referenced unacknowledged
+    least blocked (sent_before f) k kept room evicted refl sum refl refl dropped total tt in
     let set : now ≡ slice_set mid (length (drop k es)) (sent_now f) =
     items ∙ sym (set-append_seam (drop k es) (sent_before f) [] (sent_now f)) in
     record {

@@ -2,7 +2,7 @@
 
 use crate::tables::{answer_to_put, put, table};
 use qpack_base::field::HeaderField;
-use qpack_table::dynamic::{DynamicTable, Error};
+use qpack_table::dynamic::{DynamicTable, EntryIndex, Error, ReceivedTable};
 use qpack_testing::same;
 use std::alloc::Global;
 use std::test::Fail;
@@ -15,7 +15,7 @@ fn table_of_two(alloc: Global, capacity: usize) -> Result<DynamicTable, Fail> {
 }
 
 /// Puts the two fields.
-fn put_two(alloc: Global, table: &mut DynamicTable) -> Result<(), Fail> {
+fn put_two<I: EntryIndex>(alloc: Global, table: &mut DynamicTable<I>) -> Result<(), Fail> {
     put(alloc, table, b"foo", b"bar")?;
     put(alloc, table, b"baz", b"bar")
 }
@@ -41,7 +41,7 @@ fn the_oldest_entries_go_for_the_newest(rt: HostRuntime) -> Result<(), Fail> {
 }
 
 /// A third field is put, for which the oldest goes.
-fn a_third_goes_in(alloc: Global, table: &mut DynamicTable) -> Result<(), Fail> {
+fn a_third_goes_in<I: EntryIndex>(alloc: Global, table: &mut DynamicTable<I>) -> Result<(), Fail> {
     finds(table.get_relative(1), b"foo", b"bar")?;
     put(alloc, table, b"foo", b"quxx")?;
     same(table.total_inserted(), 3)?;
@@ -58,7 +58,7 @@ fn a_field_is_put_only_within_the_capacity(rt: HostRuntime) -> Result<(), Fail> 
 }
 
 /// A field of 38 bytes is passed over at capacity 0, refused at 33, and goes in at 38.
-fn goes_in_at_38(alloc: Global, table: &mut DynamicTable) -> Result<(), Fail> {
+fn goes_in_at_38<I: EntryIndex>(alloc: Global, table: &mut DynamicTable<I>) -> Result<(), Fail> {
     same(answer_to_put(alloc, table, b"foo", b"bar")?, Ok(()))?;
     table.set_max_size(33)?;
     let refused = Err(Error::MaxTableSizeReached);
@@ -76,7 +76,7 @@ fn a_smaller_capacity_drops_the_oldest(rt: HostRuntime) -> Result<(), Fail> {
 }
 
 /// One of two entries is left, and then none.
-fn shrinks(table: &mut DynamicTable) -> Result<(), Fail> {
+fn shrinks<I: EntryIndex>(table: &mut DynamicTable<I>) -> Result<(), Fail> {
     same(table.set_max_size(38), Ok(()))?;
     finds(table.get_relative(0), b"baz", b"bar")?;
     misses(table.get_relative(1), Error::BadRelativeIndex(1))?;
@@ -103,7 +103,7 @@ fn lines_name_entries_under_a_base(rt: HostRuntime) -> Result<(), Fail> {
 }
 
 /// Each of two entries is named under a base that stands between them, and past both.
-fn names_both(table: &DynamicTable) -> Result<(), Fail> {
+fn names_both<I: EntryIndex>(table: &DynamicTable<I>) -> Result<(), Fail> {
     let under = table.decoder(1);
     finds(under.get_relative(0), b"foo", b"bar")?;
     finds(under.get_postbase(0), b"baz", b"bar")?;
@@ -119,4 +119,21 @@ fn the_limit_of_blocked_blocks_is_bounded(rt: HostRuntime) -> Result<(), Fail> {
     let mut table = DynamicTable::new(rt.alloc());
     let answers = (table.set_max_blocked(65_534), table.set_max_blocked(65_535));
     same(answers, (Ok(()), Err(Error::MaxBlockedStreamsTooLarge)))
+}
+
+/// A table without an index, of this capacity, in which the two fields were put.
+fn received_table_of_two(alloc: Global, capacity: usize) -> Result<ReceivedTable, Fail> {
+    let mut table = DynamicTable::without_index(alloc);
+    table.set_max_size(capacity)?;
+    put_two(alloc, &mut table)?;
+    Ok(table)
+}
+
+#[test]
+fn a_table_without_an_index_receives_the_same(rt: HostRuntime) -> Result<(), Fail> {
+    let alloc = rt.alloc();
+    goes_in_at_38(alloc, &mut DynamicTable::without_index(alloc))?;
+    a_third_goes_in(alloc, &mut received_table_of_two(alloc, 76)?)?;
+    names_both(&received_table_of_two(alloc, 4096)?)?;
+    shrinks(&mut received_table_of_two(alloc, 4096)?)
 }

@@ -2,7 +2,8 @@
 
 use qpack_base::field::HeaderField;
 use qpack_table::dynamic::{
-    DynamicInsertionResult, DynamicLookupResult, DynamicTable, DynamicTableEncoder, Error,
+    DynamicInsertionResult, DynamicLookupResult, DynamicTable, DynamicTableEncoder, EntryIndex,
+    Error,
 };
 use qpack_testing::{field, same};
 use std::alloc::Global;
@@ -22,14 +23,19 @@ fn set_bounds(table: &mut DynamicTable, capacity: usize, limit: usize) -> Result
 }
 
 /// Puts a field, which is not refused.
-pub fn put(alloc: Global, table: &mut DynamicTable, name: &[u8], value: &[u8]) -> Result<(), Fail> {
+pub fn put<I: EntryIndex>(
+    alloc: Global,
+    table: &mut DynamicTable<I>,
+    name: &[u8],
+    value: &[u8],
+) -> Result<(), Fail> {
     Ok(answer_to_put(alloc, table, name, value)??)
 }
 
 /// What putting a field answers; again after a refusal for memory, which must leave the table as it was.
-pub fn answer_to_put(
+pub fn answer_to_put<I: EntryIndex>(
     alloc: Global,
-    table: &mut DynamicTable,
+    table: &mut DynamicTable<I>,
     name: &[u8],
     value: &[u8],
 ) -> Result<Result<(), Error>, Fail> {

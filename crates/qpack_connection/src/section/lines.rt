@@ -30,7 +30,7 @@ use qpack_base::field::{ESTIMATED_OVERHEAD_BYTES, HeaderField};
 use qpack_base::parse_error::ParseError;
 use qpack_base::static_::{self, StaticTable};
 use qpack_base::{prefix_int, prefix_string};
-use qpack_table::dynamic::{self, DynamicTable};
+use qpack_table::dynamic::{self, DynamicTable, EntryIndex};
 use std::alloc::AllocError;
 
 // The prefixes of indexes, and of strings with the bit H above them, in bits (RFC 9204, sections 4.5.2 to 4.5.6).
@@ -80,9 +80,9 @@ impl From<AllocError> for LineError {
 
 /// What the lines of a section are read under.
 #[derive(Drop)]
-pub(crate) struct Lines<'a> {
+pub(crate) struct Lines<'a, I: EntryIndex> {
     /// The table.
-    pub(crate) table: &'a DynamicTable,
+    pub(crate) table: &'a DynamicTable<I>,
     /// The base of the section.
     pub(crate) base: usize,
     /// Its required insert count.
@@ -151,7 +151,7 @@ enum Reference {
     PostBase,
 }
 
-impl Lines<'_> {
+impl<I: EntryIndex> Lines<'_, I> {
     /// Refuses a relative index past the required insert count (RFC 9204, section 2.2.3).
     fn check_relative(&self, index: usize) -> Result<(), LineError>
         ensures { ChecksRequired result self.now.required (self.now.base - index) }
@@ -325,8 +325,8 @@ fn is_never_indexed(first: u8) -> bool
 
 /// Appends the field of the line at the cursor, which begins with this byte, unless the sizes pass the limit with it;
 /// those so far have this sum. Answers the sum with it. Refused, text and spans are as before.
-fn read_line(
-    lines: &Lines,
+fn read_line<I: EntryIndex>(
+    lines: &Lines<I>,
     first: u8,
     sum: u64,
     buf: &mut Cursor,
@@ -386,8 +386,8 @@ fn at_line(number: usize, offset: usize, error: LineError) -> SectionError
 }
 
 /// Reads the lines to the end of the cursor, each strictly, until one is refused.
-pub(crate) fn read_lines(
-    lines: &Lines,
+pub(crate) fn read_lines<I: EntryIndex>(
+    lines: &Lines<I>,
     buf: &mut Cursor,
     text: &mut Vec<u8>,
     spans: &mut Vec<Span>,

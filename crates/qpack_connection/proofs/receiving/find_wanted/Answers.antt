@@ -6,7 +6,7 @@ use Rattle.qpack_connection.proofs.WaitingLengths.{waiting_short}
 use Rattle.qpack_connection.proofs.receiving.find_wanted.Goals as goal
 
 pub returns : goal.returns
-returns c cut =
+returns g c cut =
     let grows : MayGrow c.args.table.now c.args.pending.now = record {
       cut = cut;
       fits = omega (

@@ -4,7 +4,7 @@ use Rattle.qpack_connection.proofs.StrictTaking.{next_strictly}
 use Rattle.qpack_connection.proofs.receiving.take_strictly.Goals as goal
 
 pub returns-clause-takes : goal.returns-clause-takes
-returns-clause-takes c =
+returns-clause-takes g c =
     next_strictly c.args.table.now c.take_instruction.new.table c.args.buf.now.rest c.take_instruction.new.buf.rest
     c.take_instruction.result
     (subst (λ (x : List ℕ). begins_unlawfully c.args.table.now x ≡ false) c.chunk.ensures

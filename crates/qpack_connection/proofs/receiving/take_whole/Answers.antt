@@ -4,7 +4,7 @@ use Rattle.qpack_connection.proofs.StrictTaking.{whole_taken}
 use Rattle.qpack_connection.proofs.receiving.take_whole.Goals as goal
 
 pub returns : goal.returns
-returns c =
+returns g c =
     let whole : c.new-buf.result.rest ≡ c.args.pending.now.items = c.new-buf.ensures.rest ∙ c.deref.ensures.value in
     whole_taken c.args.table.now c.take_all_strictly-taken.new.table c.args.place.now
     c.take_all_strictly-taken.new.place c.args.pending.now.items c.take_all_strictly-taken.new.buf.rest _

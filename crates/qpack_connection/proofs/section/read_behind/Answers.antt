@@ -11,7 +11,7 @@ use Rattle.qpack_connection.proofs.SectionParts.{count_is, most_is}
 use Rattle.qpack_connection.proofs.section.read_behind.Goals as goal
 
 pub returns-then-counts_at_zero-clause-exact : goal.returns-then-counts_at_zero-clause-exact
-returns-then-counts_at_zero-clause-exact c =
+returns-then-counts_at_zero-clause-exact g c =
     let p = prefix_of c.args.prefix in
     let counted : counts (window c.args.table.now) p ≡ true =
     ap (λ (m : ℕ). nat_eq m 0 && nat_lt 0 p.count) (sym (c.agreed_max-maximum.ensures.exact ∙ most_is c.args.table.now))
@@ -19,7 +19,7 @@ returns-then-counts_at_zero-clause-exact c =
     rw (behind_count (window c.args.table.now) c.args.limit c.args.buf.now.total p c.args.buf.now.rest counted) refl
 
 pub returns-in_err-required-clause-exact : goal.returns-in_err-required-clause-exact
-returns-in_err-required-clause-exact c =
+returns-in_err-required-clause-exact g c =
     let e = err_from_is_err_and c.from_residual.result c.from_residual.ensures.1 in
     let p = prefix_of c.args.prefix in
     let w = window c.args.table.now in
@@ -34,7 +34,7 @@ returns-in_err-required-clause-exact c =
     rw (e.1, e.2, behind_faulty w c.args.limit c.args.buf.now.total p c.args.buf.now.rest read.0 counted known) read.2
 
 pub returns-then-required-inserted-clause-exact : goal.returns-then-required-inserted-clause-exact
-returns-then-required-inserted-clause-exact c =
+returns-then-required-inserted-clause-exact g c =
     let p = prefix_of c.args.prefix in
     let w = window c.args.table.now in
     let counted : counts w p ≡ false =
@@ -53,7 +53,7 @@ returns-then-required-inserted-clause-exact c =
     )
 
 pub returns-in_err-read_lines-clause-exact : goal.returns-in_err-read_lines-clause-exact
-returns-in_err-read_lines-clause-exact c =
+returns-in_err-read_lines-clause-exact g c =
     let e = err_from_is_err_and c.from_residual-in_err-read_lines.result
     c.from_residual-in_err-read_lines.ensures.1 in
     let p = prefix_of c.args.prefix in
@@ -76,7 +76,7 @@ returns-in_err-read_lines-clause-exact c =
     ) (lines_fail _ c.in_ok-required.required _ c.in_err-read_lines.ensures.exact)
 
 pub returns-clause-exact : goal.returns-clause-exact
-returns-clause-exact c =
+returns-clause-exact g c =
     let p = prefix_of c.args.prefix in
     let w = window c.args.table.now in
     let counted : counts w p ≡ false =

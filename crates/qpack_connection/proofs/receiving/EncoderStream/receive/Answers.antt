@@ -4,7 +4,7 @@ use Rattle.qpack_connection.proofs.receiving.EncoderStream.receive.Goals as goal
 use Rattle.qpack_connection.proofs.receiving.EncoderStream.receive.Goals.{in-Ok, in-Err}
 
 pub returns-clause-receives : goal.returns-clause-receives
-returns-clause-receives c start before k =
+returns-clause-receives g c start before k =
     let is : c.match-receive_bytes.result ≡ answer_at c.receive_bytes.new.self.place c.receive_bytes.result =
     elim c.match-receive_bytes.branch [
       | in-Ok w ↦ w.result-is ∙ (rw w.in-Ok.is refl)

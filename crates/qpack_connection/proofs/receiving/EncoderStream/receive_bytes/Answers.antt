@@ -9,7 +9,7 @@ use Rattle.qpack_connection.proofs.receiving.EncoderStream.receive_bytes.Goals.{
 use Rattle.qpack_connection.proofs.receiving.EncoderStream.receive_bytes.Goals.{else-len-wanted}
 
 pub returns-in_err-take_whole-clause-receives : goal.returns-in_err-take_whole-clause-receives
-returns-in_err-take_whole-clause-receives c start before k =
+returns-in_err-take_whole-clause-receives g c start before k =
     let p = err_from_is_err_and c.from_residual-in_err-take_whole.result c.from_residual-in_err-take_whole.ensures.1 in
     let grown : c.extend_from_slice.new.self.items ≡ c.args.self.now.pending ++ c.args.buf.now.rest =
     c.in_ok-extend_from_slice.ensures.items
@@ -24,7 +24,7 @@ returns-in_err-take_whole-clause-receives c start before k =
     (rw (← ap (λ (v : StreamView). v.place) c.self.view_is) c.in_err-take_whole.ensures) none)
 
 pub returns-in_err-self-inside-clause-receives : goal.returns-in_err-self-inside-clause-receives
-returns-in_err-self-inside-clause-receives c start before k =
+returns-in_err-self-inside-clause-receives g c start before k =
     let p = err_from_is_err_and c.from_residual-in_err-self-inside.result
     c.from_residual-in_err-self-inside.ensures.1 in
     let grown : c.extend_from_slice.new.self.items ≡ c.args.self.now.pending ++ c.args.buf.now.rest =
@@ -56,7 +56,7 @@ returns-in_err-self-inside-clause-receives c start before k =
     ]) c.in_err-self-inside.ensures))
 
 pub returns-clause-receives : goal.returns-clause-receives
-returns-clause-receives c start before k =
+returns-clause-receives g c start before k =
     let grown : c.extend_from_slice.new.self.items ≡ c.args.self.now.pending ++ c.args.buf.now.rest =
     c.in_ok-extend_from_slice.ensures.items
     ∙ ap (λ (v : StreamView). v.pending ++ c.chunk.result.now) c.self.view_is
@@ -86,12 +86,12 @@ returns-clause-receives c start before k =
     rw (← c.deref.ensures.value) (none, waiting.0, waiting.1, waiting.2)
 
 pub returns-in_err-take_whole-clause-grows : goal.returns-in_err-take_whole-clause-grows
-returns-in_err-take_whole-clause-grows c =
+returns-in_err-take_whole-clause-grows g c =
     all_count c.in_err-take_whole.ensures.0.lines c.args.table.now c.take_whole.new.table
     c.in_err-take_whole.ensures.0.applies
 
 pub returns-in_err-self-inside-clause-grows : goal.returns-in_err-self-inside-clause-grows
-returns-in_err-self-inside-clause-grows c =
+returns-in_err-self-inside-clause-grows g c =
     elim c.if-len-wanted.branch [
       | then-len-wanted+in_ok-take_whole w ↦
           rw w.table-is (all_count w.in_ok-take_whole.ensures.0.lines c.args.table.now w.take_whole.new.table
@@ -100,7 +100,7 @@ returns-in_err-self-inside-clause-grows c =
     ]
 
 pub returns-clause-grows : goal.returns-clause-grows
-returns-clause-grows c =
+returns-clause-grows g c =
     elim c.if-len-wanted.branch [
       | then-len-wanted+in_ok-take_whole w ↦
           rw w.table-is (all_count w.in_ok-take_whole.ensures.0.lines c.args.table.now w.take_whole.new.table

@@ -7,7 +7,7 @@ use Rattle.qpack_connection.proofs.Asking.{field_held}
 use Rattle.qpack_connection.proofs.section.lines.read_line.Goals as goal
 
 pub returns-in-Err-clause-exact : goal.returns-in-Err-clause-exact
-returns-in-Err-clause-exact c all held =
+returns-in-Err-clause-exact g c all held =
     let h = c.in-Err.ensures.exact in (
       line_fails (under c.args.lines.now 0) all c.args.first c.args.buf.now.rest (drop 1 c.args.buf.now.rest) c.in-Err.e
           c.requires.at h.0,
@@ -18,7 +18,7 @@ returns-in-Err-clause-exact c all held =
     )
 
 pub returns-then-sum-lines-clause-exact : goal.returns-then-sum-lines-clause-exact
-returns-then-sum-lines-clause-exact c all held =
+returns-then-sum-lines-clause-exact g c all held =
     let h = c.in-Ok.ensures.exact in
     let sum = sum_is all c.args.sum c.saturating_add.result c.saturating_add-sum.result c.len-start.result
     c.len-end.result h.0 c.args.text.now.items c.append_line.new.text.items c.in-Ok.middle h.2
@@ -35,7 +35,7 @@ returns-then-sum-lines-clause-exact c all held =
     )
 
 pub returns-in-Ok-push-clause-exact : goal.returns-in-Ok-push-clause-exact
-returns-in-Ok-push-clause-exact c all held =
+returns-in-Ok-push-clause-exact g c all held =
     let h = c.in-Ok.ensures.exact in
     let sum = sum_is all c.args.sum c.saturating_add.result c.saturating_add-sum.result c.len-start.result
     c.len-end.result h.0 c.args.text.now.items c.append_line.new.text.items c.in-Ok.middle h.2
@@ -61,7 +61,7 @@ returns-in-Ok-push-clause-exact c all held =
     }
 
 pub returns-in-Err-push-clause-memory : goal.returns-in-Err-push-clause-memory
-returns-in-Err-push-clause-memory c e =
+returns-in-Err-push-clause-memory g c e =
     let h = c.in-Ok.ensures.exact in
     asks_held c.args.buf.now.rest
     (field_held (under c.args.lines.now 0) c.args.buf.now.rest h.0 c.append_line.new.buf.rest h.1)

@@ -12,7 +12,7 @@ use Rattle.qpack_connection.proofs.Asking.{held_begun, memory_at}
 use Rattle.qpack_connection.proofs.section.lines.read_lines.Goals as goal
 
 pub loop-byte-preserved : goal.loop-byte-preserved
-loop-byte-preserved c =
+loop-byte-preserved g c =
     let inv = c.loop-byte.invariant.lines in
     let rest = c.loop-byte.buf.rest in
     let at = first_is rest c.in-Some.byte.now
@@ -40,7 +40,7 @@ loop-byte-preserved c =
     }
 
 pub returns-in-Err-clause-exact : goal.returns-in-Err-clause-exact
-returns-in-Err-clause-exact c =
+returns-in-Err-clause-exact g c =
     let inv = c.loop-byte.invariant.lines in
     let rest = c.loop-byte.buf.rest in
     let at = first_is rest c.in-Some.byte.now
@@ -55,7 +55,7 @@ returns-in-Err-clause-exact c =
     (c.in-Err.ensures.exact inv.0 inv.1).0)
 
 pub returns-clause-exact : goal.returns-clause-exact
-returns-clause-exact c =
+returns-clause-exact g c =
     let inv = c.loop-byte.invariant.lines in
     goes_end (under c.args.lines.now c.args.buf.now.total) (length c.loop-byte.spans.items) inv.0 c.loop-byte.buf.rest
     (fields_in c.loop-byte.text.items c.loop-byte.spans.items) _ inv.2
@@ -63,7 +63,7 @@ returns-clause-exact c =
     (ap (λ (l : List ℕ). slice_get l 0) (sym c.chunk.ensures) ∙ sym c.in_default.ensures.value))
 
 pub returns-in-Err-clause-memory : goal.returns-in-Err-clause-memory
-returns-in-Err-clause-memory c e =
+returns-in-Err-clause-memory g c e =
     let is = c.at_line.ensures in
     let same = memory_at (c.len-number.result + 1) c.position-offset.result c.in-Err.error cc in
     asks_begun c.args.buf.now.rest c.loop-byte.buf.rest c.loop-byte.invariant.begun (c.in-Err.ensures.memory cc)

@@ -9,7 +9,7 @@ use Rattle.qpack_connection.proofs.SectionLines.{Goes}
 use Rattle.qpack_connection.proofs.section.lines.read_lines.Given as goal
 
 abbrev pub invariant-loop-byte : goal.invariant-loop-byte
-invariant-loop-byte l = record {
+invariant-loop-byte g l = record {
   lines :
       (all : ℕ) × (l.sum ≡ saturated_size all)
       × Goes (under l.fn.lines l.fn.buf.total) (length l.spans.items) all l.buf.rest
@@ -21,4 +21,4 @@ invariant-loop-byte l = record {
 }
 
 abbrev pub decreases-loop-byte : goal.decreases-loop-byte
-decreases-loop-byte l = length l.buf.rest
+decreases-loop-byte g l = length l.buf.rest

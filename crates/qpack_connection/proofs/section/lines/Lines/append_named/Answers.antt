@@ -11,7 +11,7 @@ use Rattle.qpack_connection.proofs.Asking.{asks_named}
 use Rattle.qpack_connection.proofs.section.lines.Lines.append_named.Goals as goal
 
 pub returns-in_err-index-clause-exact : goal.returns-in_err-index-clause-exact
-returns-in_err-index-clause-exact c =
+returns-in_err-index-clause-exact g c =
     let p = err_from_is_err_and c.from_residual.result c.from_residual.ensures.1 in
     rw (p.1, p.2) (
       fails_in_bytes _ (or_bad_integer (integer_at c.args.size c.args.buf.now.rest)) _ c.in_err-index.ensures.exact
@@ -20,7 +20,7 @@ returns-in_err-index-clause-exact c =
     )
 
 pub returns-in_err-append_string-clause-exact : goal.returns-in_err-append_string-clause-exact
-returns-in_err-append_string-clause-exact c =
+returns-in_err-append_string-clause-exact g c =
     let p = err_from_is_err_and c.from_residual-in_err-append_string.result
     c.from_residual-in_err-append_string.ensures.1 in
     let named = extends_named c.args.text.now.items c.append_name_of-named.new.text.items
@@ -35,7 +35,7 @@ returns-in_err-append_string-clause-exact c =
     )
 
 pub returns-in_err-named-clause-exact : goal.returns-in_err-named-clause-exact
-returns-in_err-named-clause-exact c =
+returns-in_err-named-clause-exact g c =
     let p = err_from_is_err_and c.from_residual-in_err-named.result c.from_residual-in_err-named.ensures.1 in
     let s = c.in_ok-append_string.ensures.exact in
     let rest = c.append_string.new.buf.rest in
@@ -54,7 +54,7 @@ returns-in_err-named-clause-exact c =
     )
 
 pub returns-clause-exact : goal.returns-clause-exact
-returns-clause-exact c =
+returns-clause-exact g c =
     let s = c.in_ok-append_string.ensures.exact in
     let n = c.in_ok-named.ensures in
     let rest = c.append_string.new.buf.rest in (
@@ -69,7 +69,7 @@ returns-clause-exact c =
     )
 
 pub returns-in_err-named-clause-memory : goal.returns-in_err-named-clause-memory
-returns-in_err-named-clause-memory c e =
+returns-in_err-named-clause-memory g c e =
     let s = c.in_ok-append_string.ensures.exact in
     asks_named c.args.size (named_line c.args.reference) c.args.buf.now.rest c.read_index.new.buf.rest
     c.append_string.new.buf.rest s.1 c.in_ok-index.ensures.exact.0.0 c.in_ok-index.index s.0

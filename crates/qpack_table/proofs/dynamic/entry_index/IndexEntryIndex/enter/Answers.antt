@@ -10,5 +10,5 @@ enter-requires-clause-index c =
     let long = ap (λ (l : List Entry). length l) pushed.2 ∙ length-append pushed.0 (pushed.1 ∷ []) in
     let at : NewestThere c.args.dropped (c.args.dropped + c.len.result) (length pushed.0) =
     record { above = omega (arith, long); is = omega (arith, long) } in
-    index_before c.args.dropped c.args.dropped (c.args.dropped + c.len.result) pushed.0 c.args.entries.now.items pushed.1
-    _ pushed.3 pushed.2 refl at
+    index_before c.args.dropped c.args.dropped (c.args.dropped + c.len.result) pushed.0 c.args.entries.now.items
+    pushed.1 _ pushed.3 pushed.2 refl at
