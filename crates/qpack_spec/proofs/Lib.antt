@@ -59,3 +59,4 @@ pub mod MarkedDrafts
 pub mod AloneSections
 pub mod MarkedInsertions
 pub mod LawfulStreams
+pub mod LawfulEncoders

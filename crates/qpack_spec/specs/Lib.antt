@@ -40,3 +40,4 @@ pub mod StrictInstructions
 pub mod Wanted
 pub mod WantedLaws
 pub mod LawfulStreams
+pub mod LawfulEncoders
