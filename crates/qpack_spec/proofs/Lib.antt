@@ -60,3 +60,4 @@ pub mod AloneSections
 pub mod MarkedInsertions
 pub mod LawfulStreams
 pub mod LawfulEncoders
+pub mod LawfulEncoderRows
