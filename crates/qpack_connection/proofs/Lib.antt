@@ -27,3 +27,5 @@ pub mod KeptConnections
 pub mod KeptEncoderCalls
 pub mod KeptDecoderCalls
 pub mod TwoEndsHeadline
+pub mod LawfulEncoders
+pub mod UnderstoodEncoders

@@ -15,3 +15,4 @@ pub mod RefinedDecodes
 pub mod Waiting
 pub mod RefinedRefusals
 pub mod TwoEndsHeadline
+pub mod LawfulEncoders

@@ -1,8 +1,10 @@
 -- A strict decoder reads what a lawful encoder wrote, whatever front of its instructions it has received.
 use Rattle.std.proofs.Common.{ℕ, zero, suc, ◌+◌, ◌-◌, ◌^◌, ◌<◌, ◌≤◌, ◌≡◌, Bool, true, false, List}
-use Rattle.std.proofs.Common.{[], ◌∷◌, ◌++◌, length, Some, Result, Ok, refl, sym, ap, ◌∙◌, subst, arith}
+use Rattle.std.proofs.Common.{[], ◌∷◌, ◌++◌, length, Some, Result, Ok, Err, refl, sym, ap, ◌∙◌, subst, arith}
 use Rattle.std.proofs.Common.{length-append, length-drop}
 use Rattle.std.specs.List.{AllByRecursion}
+use Rattle.std.proofs.Common.{inl, inr}
+use Rattle.std.specs.Prelude.{nat_eq, ◌&&◌}
 use Rattle.std.proofs.lemmas.Bool.{lt-ltb, le-ltb, le-leb}
 use Rattle.qpack_spec.specs.Field.{Field, FieldLine, field_size, total_size, fields_of_lines}
 use Rattle.qpack_spec.specs.Form.{form_at}
@@ -20,6 +22,14 @@ use Rattle.qpack_spec.specs.Stream.{SpellsAll}
 use Rattle.qpack_spec.specs.StrictReading.{LinesUnder, within_size, strict_field, strict_line_at, strict_lines_at}
 use Rattle.qpack_spec.specs.StrictReading.{is_never_indexed, strict_reading}
 use Rattle.qpack_spec.specs.Window.{Window, absolute_entry, maximum_capacity, window_insert_count}
+use Rattle.qpack_spec.specs.StrictInstructions.{inserts, strict_apply}
+use Rattle.qpack_spec.specs.Table.{Table, table_of, empty_table, apply_encoder_instruction}
+use Rattle.qpack_spec.specs.Taking.{apply_in_turn}
+use Rattle.qpack_spec.specs.Window.{DoesNotFit, Effect, effect, window_after, apply}
+use Rattle.qpack_spec.specs.History.{history_after}
+use Rattle.qpack_spec.proofs.PutTables.{applied_put}
+use Rattle.qpack_spec.proofs.Results.{bind_ok, chosen, ok_is}
+use Rattle.qpack_spec.proofs.Windows.{window_grown, sound_grown, allowed}
 use Rattle.qpack_spec.proofs.BlockReadings.{prefix_again, spelled_length}
 use Rattle.qpack_spec.proofs.FormLaws.{form_again}
 use Rattle.qpack_spec.proofs.Lists.{every_weaker}
@@ -375,3 +385,42 @@ lawful_sections_read maximum known limit required front others received made fie
     reads_so maximum limit required received made fields bytes
     (moment maximum known front others received made l
     (subst (λ (h : History). Leads h others made) same parts.2) e.evicted told) k low
+
+-- ---- what was taken strictly
+
+strict_leads_one : (h : History) (i : EncoderInstruction) (u : Table) → Sound h
+    → strict_apply (table_of (window_of h)) i ≡ Ok u
+    → (e : Effect) × (effect (window_of h) i ≡ Ok e) × (u ≡ table_of (window_of (history_after h e)))
+unfolding strict_apply
+strict_leads_one h i u sound applied =
+    elim (chosen (nat_eq (table_of (window_of h)).capacity 0 && inserts i) (Err DoesNotFit)
+    (apply_encoder_instruction (table_of (window_of h)) i) (Ok u) applied) [
+      | inl unlawful ↦ absurd (let l = unlawful.1 in cc)
+      | inr lawful ↦
+          let w = window_of h in
+          let x = bind_ok (apply w i) (λ y. Ok (table_of y)) u (sym (applied_put w i) ∙ lawful.1) in
+          let e = bind_ok (effect w i) (λ e. Ok (window_after w e)) x.0 x.1 in (
+            e.0,
+            e.1,
+            sym (ok_is (table_of x.0) u x.2)
+                ∙ ap table_of (sym (ok_is (window_after w e.0) x.0 e.2) ∙ sym (window_grown h e.0 sound.in_range)),
+          )
+    ]
+
+-- instructions that a strict decoder takes make the insertions that they lead to
+pub strict_leads : (h : History) (is : List EncoderInstruction) (t : Table) → Sound h
+    → apply_in_turn strict_apply (table_of (window_of h)) is ≡ Ok t
+    → (h' : History) × Leads h is h' × (t ≡ table_of (window_of h'))
+strict_leads h [] t sound e = (h, refl, sym (ok_is (table_of (window_of h)) t e))
+strict_leads h (i ∷ is) t sound e =
+    let first = bind_ok (strict_apply (table_of (window_of h)) i) (λ u. apply_in_turn strict_apply u is) t e in
+    let one = strict_leads_one h i first.0 sound first.1 in
+    let grown = sound_grown h one.0 sound (allowed (window_of h) i one.0 one.1) in
+    let more = strict_leads (history_after h one.0) is t grown
+    (subst (λ (u : Table). apply_in_turn strict_apply u is ≡ Ok t) one.2 first.2) in
+    (more.0, (one.0, one.1, more.1), more.2)
+
+-- a decoder's table as it begins
+pub begins_empty : (maximum : ℕ) → empty_table 0 (Some maximum) 0 ≡ table_of (window_of (initial_history 0 maximum))
+unfolding table_of window_of
+begins_empty maximum = refl
