@@ -61,3 +61,4 @@ pub mod MarkedInsertions
 pub mod LawfulStreams
 pub mod LawfulEncoders
 pub mod LawfulEncoderRows
+pub mod LawfulDecoders

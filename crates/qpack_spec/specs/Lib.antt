@@ -41,3 +41,4 @@ pub mod Wanted
 pub mod WantedLaws
 pub mod LawfulStreams
 pub mod LawfulEncoders
+pub mod LawfulDecoders
