@@ -29,3 +29,5 @@ pub mod KeptDecoderCalls
 pub mod TwoEndsHeadline
 pub mod LawfulEncoders
 pub mod UnderstoodEncoders
+pub mod CarefulTables
+pub mod UnderstoodDecoders

@@ -16,3 +16,4 @@ pub mod Waiting
 pub mod RefinedRefusals
 pub mod TwoEndsHeadline
 pub mod LawfulEncoders
+pub mod LawfulDecoders

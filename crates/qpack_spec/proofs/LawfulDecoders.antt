@@ -1,24 +1,30 @@
 -- What a lawful decoder writes is heard, and insertions go on where nothing is under way.
-use Rattle.std.proofs.Common.{ℕ, zero, suc, ◌+◌, ◌-◌, ◌^◌, ◌<◌, ◌≤◌, ◌≡◌, max, Bool, true, false, cond, List, []}
-use Rattle.std.proofs.Common.{◌∷◌, ◌++◌, length, take, Option, None, Some, Result, Ok, refl, sym, ap, ◌∙◌, subst}
-use Rattle.std.proofs.Common.{arith}
+use Rattle.std.proofs.Common.{ℕ, zero, suc, ◌+◌, ◌-◌, ◌^◌, ◌<◌, ◌≤◌, ◌≡◌, ◌⊎◌, inl, inr, max, Bool, true, false, cond}
+use Rattle.std.proofs.Common.{List, [], ◌∷◌, ◌++◌, length, take, Option, None, Some, Result, Ok, refl, sym, ap, ◌∙◌}
+use Rattle.std.proofs.Common.{subst, arith}
 use Rattle.std.specs.Option.{option_map}
-use Rattle.std.specs.Prelude.{nat_eq, not, ◌&&◌, find}
-use Rattle.std.proofs.lemmas.Bool.{lt-ltb, le-ltb, le-leb, ne_eqb}
+use Rattle.std.specs.Prelude.{nat_eq, nat_le, not, ◌&&◌, find}
+use Rattle.std.proofs.lemmas.Bool.{cond_both, lt-ltb, le-ltb, le-leb, ne_eqb}
 use Rattle.std.proofs.lemmas.List.Elements.{filter-append}
 use Rattle.qpack_spec.specs.Bytes.{◌>>=◌}
-use Rattle.qpack_spec.specs.Field.{Field, FieldLine, field_size}
+use Rattle.qpack_spec.specs.Field.{Field, FieldLine, field_size, has_name, is_field}
 use Rattle.qpack_spec.specs.Instruction.{DecoderInstruction, Acknowledgment, Cancellation, Increment}
 use Rattle.qpack_spec.specs.LawfulDecoders.{HasDecoded, MayWrite, IsQuiet, IsToBeInserted, LawfulInstructionsAreHeard}
 use Rattle.qpack_spec.specs.LawfulDecoders.{MoreSectionsChangeNothing, InsertionsGoOn}
+use Rattle.qpack_spec.specs.Line.{Line, IndexedDynamic, Literal}
 use Rattle.qpack_spec.specs.Marked.{marked_rule, marked_field, marked_fields}
-use Rattle.qpack_spec.specs.Rule.{Draft, empty_draft, with_new_entry}
+use Rattle.qpack_spec.specs.Reading.{greatest_of}
+use Rattle.qpack_spec.specs.Rule.{Draft, empty_draft, with_line, with_referencing_line, with_new_entry, literal}
+use Rattle.qpack_spec.specs.Rule.{literal_by_entry, name_reference_line, by_static, by_entry, insertion_or_literal}
 use Rattle.qpack_spec.specs.Rule.{rule_field}
+use Rattle.qpack_spec.specs.StaticTable.{static_index, static_name_index}
 use Rattle.qpack_spec.specs.StrictInstructions.{HearingRefusal, required_by, oldest_required, known_at_least}
 use Rattle.qpack_spec.specs.StrictInstructions.{strict_hear, hear_in_turn}
 use Rattle.qpack_spec.specs.Table.{Table, Entry, UnacknowledgedBlock, insert_count, without_oldest, without_stream}
 use Rattle.qpack_spec.specs.Table.{newest_index, with_increment, apply_decoder_instruction, is_evictable, all_evictable}
-use Rattle.qpack_spec.specs.Table.{eviction_count_for, has_room, without_references}
+use Rattle.qpack_spec.specs.Table.{eviction_count_for, has_room, below_limit, without_references, may_reference}
+use Rattle.qpack_spec.specs.Table.{with_reference, with_entry}
+use Rattle.qpack_spec.proofs.References.{greatest_track}
 
 -- ---- what is heard
 
@@ -192,10 +198,76 @@ first_inserted base d l quiet unnamed is below few =
       has_room_quiet d.table l.field quiet unnamed is.fits few,
     ) refl
 
-pub go_on : InsertionsGoOn
+-- what is referenced stays so
+abbrev Reaches : ℕ → Draft → Type 0
+Reaches n d = n ≤ greatest_of d.table.referenced
+
+reaches_referencing : (n : ℕ) (d : Draft) (a : ℕ) (l : Line) → Reaches n d → Reaches n (with_referencing_line d a l)
+unfolding with_reference
+reaches_referencing n d a l h = omega (arith, h, greatest_track d.table.referenced a)
+
+reaches_inserted : (n base : ℕ) (d : Draft) (f : Field) → Reaches n d ⊎ (n ≤ insert_count d.table + 1)
+    → Reaches n (with_new_entry base d f)
+unfolding with_reference with_entry
+reaches_inserted n base d f (inl h) =
+    omega (arith, h, greatest_track d.table.referenced (insert_count d.table + 1))
+reaches_inserted n base d f (inr h) =
+    omega (arith, h, greatest_track d.table.referenced (insert_count d.table + 1))
+
+reaches_by_name : (n base : ℕ) (d : Draft) (f : Field) (o : Option ℕ) → Reaches n d
+    → Reaches n (literal_by_entry base d f o)
+reaches_by_name n base d f None h = h
+reaches_by_name n base d f (Some a) h =
+    cond_both (may_reference d.table a) (with_referencing_line d a (name_reference_line base a f))
+    (with_line d (Literal f.name f.value)) (Reaches n)
+    (λ _. reaches_referencing n d a (name_reference_line base a f) h) (λ _. h)
+
+reaches_literal : (n base : ℕ) (d : Draft) (f : Field) (o : Option ℕ) → Reaches n d → Reaches n (literal base d f o)
+reaches_literal n base d f (Some i) h = h
+reaches_literal n base d f None h = reaches_by_name n base d f (newest_index d.table (has_name f.name)) h
+
+reaches_insertion : (n base : ℕ) (d : Draft) (f : Field) → Reaches n d → Reaches n (insertion_or_literal base d f)
+reaches_insertion n base d f h =
+    cond_both (below_limit d.table && has_room d.table f) (with_new_entry base d f)
+    (literal base d f (static_name_index f.name)) (Reaches n) (λ _. reaches_inserted n base d f (inl h))
+    (λ _. reaches_literal n base d f (static_name_index f.name) h)
+
+reaches_entry : (n base : ℕ) (d : Draft) (f : Field) (o : Option ℕ) → Reaches n d → Reaches n (by_entry base d f o)
+reaches_entry n base d f None h = reaches_insertion n base d f h
+reaches_entry n base d f (Some a) h =
+    cond_both (nat_le a base && may_reference d.table a) (with_referencing_line d a (IndexedDynamic (base - a)))
+    (insertion_or_literal base d f) (Reaches n) (λ _. reaches_referencing n d a (IndexedDynamic (base - a)) h)
+    (λ _. reaches_insertion n base d f h)
+
+reaches_static : (n base : ℕ) (d : Draft) (f : Field) (o : Option ℕ) → Reaches n d → Reaches n (by_static base d f o)
+reaches_static n base d f (Some i) h = h
+reaches_static n base d f None h = reaches_entry n base d f (newest_index d.table (is_field f)) h
+
+reaches_all : (n base : ℕ) (d : Draft) (ls : List FieldLine) → Reaches n d → Reaches n (marked_fields base d ls)
+unfolding rule_field
+reaches_all n base d [] h = h
+reaches_all n base d (l ∷ ls) h =
+    reaches_all n base (marked_field base d l) ls
+    (cond_both l.never_indexed (literal base d l.field (static_name_index l.field.name)) (rule_field base d l.field)
+    (Reaches n) (λ _. reaches_literal n base d l.field (static_name_index l.field.name) h)
+    (λ _. reaches_static n base d l.field (static_index l.field) h))
+
+first_is : (t : Table) (l : FieldLine) (more : List FieldLine) → IsQuiet t → IsToBeInserted t l
+    → length t.blocked < t.limit → insert_count t < 2 ^ 62
+    → marked_rule t (l ∷ more)
+    ≡ marked_fields (insert_count t) (with_new_entry (insert_count t) (empty_draft t) l.field) more
 unfolding marked_rule without_references newest_index
-go_on t l more quiet is below few =
+first_is t l more quiet is below few =
     ap (λ (d : Draft). marked_fields (insert_count t) d more)
     (first_inserted (insert_count t) (empty_draft t) l
     (record { acknowledged = quiet.acknowledged; known = quiet.known }) refl
     (record { indexable = is.indexable; fits = is.fits; not_static = is.not_static; not_there = is.not_there }) below few)
+
+pub go_on : InsertionsGoOn
+unfolding without_references
+go_on t l more quiet is below few =
+    let first = first_is t l more quiet is below few in
+    let reached = reaches_all (insert_count t + 1) (insert_count t)
+    (with_new_entry (insert_count t) (empty_draft t) l.field) more
+    (reaches_inserted (insert_count t + 1) (insert_count t) (empty_draft t) l.field (inr (omega arith))) in
+    (first, omega (arith, reached, ap (λ (d : Draft). greatest_of d.table.referenced) first))

@@ -5,7 +5,7 @@ use Rattle.std.specs.List.{AllByRecursion}
 use Rattle.qpack_spec.specs.Field.{FieldLine, field_size, is_field}
 use Rattle.qpack_spec.specs.Instruction.{DecoderInstruction, Acknowledgment, Cancellation, Increment}
 use Rattle.qpack_spec.specs.Marked.{marked_rule, marked_fields}
-use Rattle.qpack_spec.specs.Rule.{empty_draft, with_new_entry}
+use Rattle.qpack_spec.specs.Rule.{empty_draft, with_new_entry, required_insert_count}
 use Rattle.qpack_spec.specs.StaticTable.{static_index}
 use Rattle.qpack_spec.specs.StrictInstructions.{oldest_required, hear_in_turn}
 use Rattle.qpack_spec.specs.Table.{Table, UnacknowledgedBlock, insert_count, without_oldest, without_stream, newest_index}
@@ -76,11 +76,12 @@ MoreSectionsChangeNothing =
     → MayWrite received told sections more → MayWrite received told (sections ++ later) more
 
 -- where nothing is under way, and fewer sections are blocked than may be, the first field of a section is inserted if it
--- is one to be inserted, and referenced; so no decoder brings insertions to an end but by its own limits, up to 2^62 of
--- them
+-- is one to be inserted, and referenced, so that the section requires it; so no decoder brings insertions to an end but
+-- by its own limits, up to 2^62 of them
 abbrev pub InsertionsGoOn : Type 0
 InsertionsGoOn =
     (t : Table) (l : FieldLine) (more : List FieldLine) → IsQuiet t → IsToBeInserted t l
     → length t.blocked < t.limit → insert_count t < 2 ^ 62
-    → marked_rule t (l ∷ more)
-    ≡ marked_fields (insert_count t) (with_new_entry (insert_count t) (empty_draft t) l.field) more
+    → (marked_rule t (l ∷ more)
+    ≡ marked_fields (insert_count t) (with_new_entry (insert_count t) (empty_draft t) l.field) more)
+    × (insert_count t < required_insert_count (marked_rule t (l ∷ more)))
