@@ -261,7 +261,8 @@ first_is t l more quiet is below few =
     ap (λ (d : Draft). marked_fields (insert_count t) d more)
     (first_inserted (insert_count t) (empty_draft t) l
     (record { acknowledged = quiet.acknowledged; known = quiet.known }) refl
-    (record { indexable = is.indexable; fits = is.fits; not_static = is.not_static; not_there = is.not_there }) below few)
+    (record { indexable = is.indexable; fits = is.fits; not_static = is.not_static; not_there = is.not_there }) below
+    few)
 
 pub go_on : InsertionsGoOn
 unfolding without_references

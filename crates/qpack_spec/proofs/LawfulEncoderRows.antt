@@ -1,5 +1,5 @@
--- Worked rows of an encoder that keeps to the standard, and of sections that it may write: a capacity of 64 bytes, which
--- holds one entry of these, an insertion, and sections that reference it.
+-- Worked rows of an encoder that keeps to the standard, and of sections that it may write: a capacity of 64 bytes,
+-- which holds one entry of these, an insertion, and sections that reference it.
 use Rattle.std.proofs.Common.{ℕ, false, List, [], ◌∷◌, inl, refl, arith, lit≤}
 use Rattle.std.specs.Prelude.{codes}
 use Rattle.qpack_spec.specs.Field.{Field, FieldLine}
@@ -88,10 +88,14 @@ section_is_lawful =
             head = 2 ∷ [];
             tail = 0 ∷ [];
             parts = refl;
-            count = (0, record { stands = (refl, inl (record { alone = refl; below = lit≤ tt; is = refl })); few = lit≤ tt });
+            count = (
+              0,
+              record { stands = (refl, inl (record { alone = refl; below = lit≤ tt; is = refl })); few = lit≤ tt },
+            );
             sign = 0;
             is_sign = refl;
-            delta = record { stands = (refl, inl (record { alone = refl; below = lit≤ tt; is = refl })); few = lit≤ tt };
+            delta =
+                record { stands = (refl, inl (record { alone = refl; below = lit≤ tt; is = refl })); few = lit≤ tt };
           };
       tells =
           record {

@@ -278,7 +278,8 @@ in_reach maximum required received made m inserted held =
 -- ---- a section
 
 -- what a line is read as, behind the prefix
-field_under : (received made : History) (required base : ℕ) (u : LinesUnder) (maximum : ℕ) → Moment maximum received made
+field_under : (received made : History) (required base : ℕ) (u : LinesUnder) (maximum : ℕ)
+    → Moment maximum received made
     → required ≤ length received.inserted → u.window ≡ window_of received → u.required ≡ required
     → u.base ≡ base_read required base → (encoding : List ℕ) (f : FieldLine)
     → SpellsField made required base encoding f → IsReadUnder u encoding f

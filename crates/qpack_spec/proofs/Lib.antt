@@ -62,3 +62,4 @@ pub mod LawfulStreams
 pub mod LawfulEncoders
 pub mod LawfulEncoderRows
 pub mod LawfulDecoders
+pub mod LawfulDecoderRows

@@ -8,7 +8,8 @@ use Rattle.qpack_spec.specs.Marked.{marked_rule, marked_fields}
 use Rattle.qpack_spec.specs.Rule.{empty_draft, with_new_entry, required_insert_count}
 use Rattle.qpack_spec.specs.StaticTable.{static_index}
 use Rattle.qpack_spec.specs.StrictInstructions.{oldest_required, hear_in_turn}
-use Rattle.qpack_spec.specs.Table.{Table, UnacknowledgedBlock, insert_count, without_oldest, without_stream, newest_index}
+use Rattle.qpack_spec.specs.Table.{Table, UnacknowledgedBlock, insert_count, without_oldest, without_stream}
+use Rattle.qpack_spec.specs.Table.{newest_index}
 
 -- ---- what a decoder may write
 
@@ -75,9 +76,9 @@ MoreSectionsChangeNothing =
     (received told : ℕ) (sections later : List UnacknowledgedBlock) (more : List DecoderInstruction)
     → MayWrite received told sections more → MayWrite received told (sections ++ later) more
 
--- where nothing is under way, and fewer sections are blocked than may be, the first field of a section is inserted if it
--- is one to be inserted, and referenced, so that the section requires it; so no decoder brings insertions to an end but
--- by its own limits, up to 2^62 of them
+-- where nothing is under way, and fewer sections are blocked than may be, the first field of a section is inserted if
+-- it is one to be inserted, and referenced, so that the section requires it; so no decoder brings insertions to an end
+-- but by its own limits, up to 2^62 of them
 abbrev pub InsertionsGoOn : Type 0
 InsertionsGoOn =
     (t : Table) (l : FieldLine) (more : List FieldLine) → IsQuiet t → IsToBeInserted t l

@@ -13,8 +13,8 @@ pub fn lawful_sections_are_read()
     ensures read { LawfulSectionsAreRead }
 {}
 
-/// A strict encoder hears whatever a lawful decoder writes, also once it has written more sections; and where nothing is
-/// under way it inserts a field that is to be inserted, and references it, as far as the limit of blocked sections
+/// A strict encoder hears whatever a lawful decoder writes, also once it has written more sections; and where nothing
+/// is under way it inserts a field that is to be inserted, and references it, as far as the limit of blocked sections
 /// lets it.
 pub fn lawful_decoders_are_heard()
     ensures heard { LawfulInstructionsAreHeard }
