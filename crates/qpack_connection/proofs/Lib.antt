@@ -27,3 +27,7 @@ pub mod KeptConnections
 pub mod KeptEncoderCalls
 pub mod KeptDecoderCalls
 pub mod TwoEndsHeadline
+pub mod LawfulEncoders
+pub mod UnderstoodEncoders
+pub mod CarefulTables
+pub mod UnderstoodDecoders

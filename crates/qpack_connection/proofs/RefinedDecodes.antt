@@ -129,7 +129,7 @@ is_read_as maximum limit c w s k r h live n =
         pick (inr low) = inl (same size ∙ reads size low)
 
 -- an error that tells that a section is over the limit ends nothing
-over_code : (read : StrictReading) (e : SectionError) → IsOverLimit read → TellsReading e read → code_of e ≡ None
+pub over_code : (read : StrictReading) (e : SectionError) → IsOverLimit read → TellsReading e read → code_of e ≡ None
 over_code (Refused strict.TooLong) section.TooLong over tells = refl
 over_code (Refused strict.TooLong) (section.Prefix x) over tells = absurd tells
 over_code (Refused strict.TooLong) section.CountAtZero over tells = absurd (let t = tells in cc)
@@ -269,17 +269,17 @@ stops_for_memory old new (Read fields (suc required)) same = same
 stops_for_memory old new (Blocked required) same = inl same
 stops_for_memory old new (Refused fault) same = inl same
 
-read_fields : (fs gs : List FieldLine) (m n : ℕ) → Read fs m ≡ Read gs n → fs ≡ gs
+pub read_fields : (fs gs : List FieldLine) (m n : ℕ) → Read fs m ≡ Read gs n → fs ≡ gs
 read_fields fs gs m n e = cc
 
-read_count : (fs gs : List FieldLine) (m n : ℕ) → Read fs m ≡ Read gs n → m ≡ n
+pub read_count : (fs gs : List FieldLine) (m n : ℕ) → Read fs m ≡ Read gs n → m ≡ n
 read_count fs gs m n e = cc
 
-blocked_count : (m n : ℕ) → Blocked m ≡ Blocked n → m ≡ n
+pub blocked_count : (m n : ℕ) → Blocked m ≡ Blocked n → m ≡ n
 blocked_count m n e = cc
 
 -- an error without a code ends nothing
-not_ended : (d new : DecodingEnd) (s : ℕ) (e : SectionError) → code_of e ≡ None → new ≡ refused (Section s e) d
+pub not_ended : (d new : DecodingEnd) (s : ℕ) (e : SectionError) → code_of e ≡ None → new ≡ refused (Section s e) d
     → new ≡ d
 not_ended d new s e none is =
     is ∙ ap (λ (o : Option ℕ). let x : DecodingEnd = record d {

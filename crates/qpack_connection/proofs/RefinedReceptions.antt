@@ -43,7 +43,7 @@ use Rattle.qpack_connection.proofs.RefinedHearings.{whole_wire, came_all, within
 -- ---- the instructions that came
 
 -- the table behind the first of some instructions
-applied_front : (first now last : Table) (lines others : List EncoderInstruction)
+pub applied_front : (first now last : Table) (lines others : List EncoderInstruction)
     → apply_in_turn strict_apply first lines ≡ Ok now → apply_in_turn strict_apply first (lines ++ others) ≡ Ok last
     → apply_in_turn strict_apply now others ≡ Ok last
 applied_front first now last [] others h k =
@@ -79,7 +79,7 @@ further taken in_flight lines front rest behind written joined cut spelled least
     }
 
 -- a longer front has no fewer instructions
-no_fewer : (lines more : List EncoderInstruction) (front longer rest others : List ℕ)
+pub no_fewer : (lines more : List EncoderInstruction) (front longer rest others : List ℕ)
     → SpellsAll SpellsEncoderInstruction front lines → SpellsAll SpellsEncoderInstruction longer more
     → front ++ rest ≡ longer ++ others → length front ≤ length longer → length lines ≤ length more
 no_fewer lines more front longer rest others joined more_joined same least =
@@ -187,7 +187,7 @@ came_whole maximum c w t s many r k least =
     record { stream = at.0; least = at.1; order = within_wire c.encoder_stream many r.encoder_stream_order }
 
 -- nothing more that is whole waits
-least_whole : (taken lines : List EncoderInstruction) (front rest longer others : List ℕ)
+pub least_whole : (taken lines : List EncoderInstruction) (front rest longer others : List ℕ)
     → SpellsAll SpellsEncoderInstruction front taken → SpellsAll SpellsEncoderInstruction longer lines
     → front ++ rest ≡ longer ++ others → Truncates encoder_instruction_form others → length taken ≤ length lines
 least_whole taken lines front rest longer others joined more same cut =

@@ -15,10 +15,11 @@ use Rattle.qpack_safety.specs.TwoEnds.{EndStep, after_end_steps}
 use Rattle.qpack_safety.proofs.CountedBlocks.{waiting_within}
 use Rattle.qpack_safety.proofs.TwoEnds.{strict_ends_safe}
 use Rattle.qpack_connection.specs.declared.blocked.BlockedStream.{BlockedStream}
+use Rattle.qpack_connection.specs.declared.encoder.EncoderSettings.{EncoderSettings}
 use Rattle.qpack_connection.specs.declared.encoder.EncodingError.{EncodingError}
 use Rattle.qpack_connection.specs.Connections.{Connection, IsNew, Call, Encode, SetCapacity, Hear, Receive}
 use Rattle.qpack_connection.specs.Connections.{Decode, Cancel, Step, Run}
-use Rattle.qpack_connection.specs.Encoders.{EncodingEnd, IsSound, IsToBeTold, begun, WritesSection, WritesAlone}
+use Rattle.qpack_connection.specs.Encoders.{EncodingEnd, Starts, IsSound, IsToBeTold, begun, WritesSection, WritesAlone}
 use Rattle.qpack_connection.specs.Encoders.{ReceivesBytes, Encodes, SetsIt, first_capacity}
 use Rattle.qpack_connection.specs.Encoders as encoders
 use Rattle.qpack_connection.specs.TwoEndsHeadline.{Fits, IsWithin, AllFit, AllAnswer}
@@ -119,19 +120,20 @@ first_wanted d n most true within small settings agreed nothing = tt
 first_wanted d n most false within small settings agreed nothing =
     first_told d n most within small settings agreed nothing
 
-new_sound : (c : Connection) → IsNew c → IsSound c.encoder
-new_sound c k =
-    let s = k.encoder_settings in
-    let e = k.encoder in
+pub sound_first : (settings : EncoderSettings) (d : EncodingEnd) → Starts settings d → IsSound d
+sound_first s d e =
     record {
-      wanted = subst (λ (o : Option ℕ). IfSome o (λ m. IsToBeTold c.encoder m)) (sym e.wanted)
-          (first_wanted c.encoder (min s.capacity s.max_capacity) s.max_capacity
+      wanted = subst (λ (o : Option ℕ). IfSome o (λ m. IsToBeTold d m)) (sym e.wanted)
+          (first_wanted d (min s.capacity s.max_capacity) s.max_capacity
           (nat_eq (min s.capacity s.max_capacity) 0) (omega arith) e.capacity_in_range
           (ap (λ x. x.max_capacity) e.settings_are) (ap (λ (t : Table). t.agreed_max) e.table)
           (ap (λ (t : Table). t.live) e.table));
       stream = λ none. ([], [], e.stream);
       failure = subst (λ (o : Option EncodingError). IfSome o (λ x. IsSome (encoders.code_of x))) (sym e.failure) tt;
     }
+
+new_sound : (c : Connection) → IsNew c → IsSound c.encoder
+new_sound c k = sound_first k.encoder_settings c.encoder k.encoder
 
 new_kept : (c : Connection) (k : IsNew c)
     → IsKept k.encoder_settings.max_capacity (min k.encoder_settings.max_blocked 65534) k.decoder_settings.max_blocked c []

@@ -15,3 +15,5 @@ pub mod RefinedDecodes
 pub mod Waiting
 pub mod RefinedRefusals
 pub mod TwoEndsHeadline
+pub mod LawfulEncoders
+pub mod LawfulDecoders

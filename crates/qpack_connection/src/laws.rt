@@ -1,5 +1,7 @@
 //! Laws of the two instruction streams, for a peer that keeps to the standard, and of two ends in bytes.
 
+ghost use Rattle.qpack_connection.specs.LawfulDecoders.{EncodersAreCareful, LawfulDecodersAreUnderstood};
+ghost use Rattle.qpack_connection.specs.LawfulEncoders.{LawfulEncodersAreUnderstood};
 ghost use Rattle.qpack_connection.specs.LawfulPieces.{EncoderStreamsAreNeverRefused, DecoderStreamsAreNeverRefused};
 ghost use Rattle.qpack_connection.specs.RefinedConnections.{NewConnectionsAreRefined, EncodesAreRefined};
 ghost use Rattle.qpack_connection.specs.RefinedConnections.{CapacitiesAreRefined, CancellationsAreRefined};
@@ -40,4 +42,27 @@ pub fn connections_are_sessions()
 /// streams are blocked than may be (RFC 9204, sections 2.1.2, 2.2, 3.2, 4.2 to 4.5 and 7.1.3).
 pub fn two_ends_answer_what_was_handed()
     ensures { TwoEndsAnswerWhatWasHanded }
+{}
+
+/// What [`ConnectionDecoder`](crate::ConnectionDecoder) promises comes to this, with any encoder that keeps to the
+/// standard, in whatever spelling, however the bytes of its stream are cut, and wherever memory is refused: nothing of
+/// the encoder stream is refused; each section that is not acknowledged is decoded to exactly the fields that it means by
+/// the insertions that the encoder made, with their marks, or waits for as many insertions as it requires, while fewer
+/// were received; and no error ends the connection (RFC 9204, sections 2.1, 2.2, 3.2 and 4.3 to 4.5).
+pub fn lawful_encoders_are_understood()
+    ensures { LawfulEncodersAreUnderstood }
+{}
+
+/// What [`ConnectionEncoder`](crate::ConnectionEncoder) promises comes to this, with any decoder, whatever it writes:
+/// behind each call nothing is evicted that an unacknowledged section references or that is not known to be received,
+/// and no more sections are blocked than may be (RFC 9204, sections 2.1.1 and 2.1.2).
+pub fn encoders_are_careful()
+    ensures { EncodersAreCareful }
+{}
+
+/// And with any decoder that keeps to the standard, in whatever spelling, however the bytes of its stream are cut:
+/// nothing of the decoder stream is refused, no error ends the connection, and wherever nothing is under way the next
+/// field that is to be inserted is inserted (RFC 9204, sections 2.1, 2.2.2 and 4.4).
+pub fn lawful_decoders_are_understood()
+    ensures { LawfulDecodersAreUnderstood }
 {}

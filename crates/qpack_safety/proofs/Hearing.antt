@@ -32,7 +32,7 @@ released_kept h t s bs r k =
       held = r.every (λ (b : UnacknowledgedBlock). AllByRecursion (IsLive t) b.entries) k.held;
     }
 
-kept_opened : (h : History) (t : Table) (bs : List UnacknowledgedBlock)
+pub kept_opened : (h : History) (t : Table) (bs : List UnacknowledgedBlock)
     → AllByRecursion (λ (b : UnacknowledgedBlock). AllByRecursion (IsLive t) b.entries) bs → KeepsTable h t
     → KeepsTable h (record t { unacknowledged = bs })
 unfolding window
@@ -227,7 +227,7 @@ same_raised t n h =
       r_waiting = length_filter (λ r. nat_lt (min (t.known_received_count + n) (2 ^ 64 - 1)) r) t.blocked;
     }
 
-kept_raised : (h : History) (t : Table) (n : ℕ) → t.known_received_count + n ≤ 2 ^ 62 → KeepsTable h t
+pub kept_raised : (h : History) (t : Table) (n : ℕ) → t.known_received_count + n ≤ 2 ^ 62 → KeepsTable h t
     → KeepsTable h (with_increment t n)
 unfolding with_increment window
 kept_raised h t n le k =

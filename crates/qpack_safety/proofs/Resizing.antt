@@ -48,7 +48,7 @@ resized_cases t n =
     (λ _. inr (DoesNotFit, refl)))
     (λ _. inr (AboveMaximum, refl))
 
-resize_effect : (w : Window) (n : ℕ) → n ≤ greatest_capacity w.agreed_max → effect w (SetCapacity n) ≡ Ok (Resizes n)
+pub resize_effect : (w : Window) (n : ℕ) → n ≤ greatest_capacity w.agreed_max → effect w (SetCapacity n) ≡ Ok (Resizes n)
 unfolding effect
 resize_effect w n h = rw (le-leb n (greatest_capacity w.agreed_max) h) refl
 
@@ -81,7 +81,7 @@ pub resized_capacity : (t : Table) (n : ℕ) → (resized_table t n).capacity �
 unfolding resized_table
 resized_capacity t n = refl
 
-kept_resized : (h : History) (t : Table) (n : ℕ) → Sound h → KeepsTable h t → CanResize t n
+pub kept_resized : (h : History) (t : Table) (n : ℕ) → Sound h → KeepsTable h t → CanResize t n
     → KeepsTable (history_after h (Resizes n)) (resized_table t n)
 kept_resized h t n s k c =
     let evicted = eviction_count n (fields_in t.live) in
@@ -113,7 +113,7 @@ kept_resized h t n s k c =
           (λ x low high. (none x low high).unopened) k.held));
     }
 
-bound_same : (t : Table) (h : History) (n : ℕ) → window t ≡ window_of h → n ≤ greatest_capacity t.agreed_max
+pub bound_same : (t : Table) (h : History) (n : ℕ) → window t ≡ window_of h → n ≤ greatest_capacity t.agreed_max
     → n ≤ greatest_capacity (window_of h).agreed_max
 unfolding window window_of
 bound_same t h n e le = subst (λ (o : Option ℕ). n ≤ greatest_capacity o) (ap (λ (w : Window). w.agreed_max) e) le

@@ -59,3 +59,7 @@ pub mod MarkedDrafts
 pub mod AloneSections
 pub mod MarkedInsertions
 pub mod LawfulStreams
+pub mod LawfulEncoders
+pub mod LawfulEncoderRows
+pub mod LawfulDecoders
+pub mod LawfulDecoderRows

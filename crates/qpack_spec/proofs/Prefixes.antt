@@ -77,7 +77,7 @@ written_above maximum required base r a lt =
     ) refl
 
 -- the count that is written is read back
-reads_required : (received maximum required : ℕ) → 0 < required → InReach received maximum required
+pub reads_required : (received maximum required : ℕ) → 0 < required → InReach received maximum required
     → read_required received maximum (required % (2 * (maximum / 32)) + 1) ≡ Ok required
 unfolding read_required
 reads_required received maximum required r reach =
@@ -117,7 +117,7 @@ pub record ReadsAs (received maximum required base : ℕ) (p : Prefix) : Type 0 
   pub reads_base : 0 < required → read_base p.sign required p.delta ≡ Ok base
   pub not_below : required ≡ 0 → p.sign ≡ false
 
-reads_none : (received maximum : ℕ) → read_required received maximum 0 ≡ Ok 0
+pub reads_none : (received maximum : ℕ) → read_required received maximum 0 ≡ Ok 0
 unfolding read_required
 reads_none received maximum = rw (or_right (nat_eq maximum 0) (nat_eq 0 0) refl) refl
 

@@ -89,7 +89,7 @@ valued_ok : (v : List ℕ) (r : Result Field Fault) (f : Field) → field_with_v
 valued_ok v (Ok g) f h = (g, refl, cc)
 valued_ok v (Err e) f h = absurd (cc)
 
-valued_from : (v : List ℕ) (r : Result Field Fault) (g f : Field) → r ≡ Ok g → with_value v g ≡ f
+pub valued_from : (v : List ℕ) (r : Result Field Fault) (g f : Field) → r ≡ Ok g → with_value v g ≡ f
     → field_with_value v r ≡ Ok f
 valued_from v r g f e q = rw (e, q) refl
 
@@ -131,7 +131,7 @@ fields_kept w w' base (l ∷ ls) fs k h =
     rw (first, rest) (ap Ok r.4)
 
 -- lines that name nothing mean the same under any base
-line_plain : (w w' : Window) (base base' : ℕ) (l : Line) → references_of_line base l ≡ []
+pub line_plain : (w w' : Window) (base base' : ℕ) (l : Line) → references_of_line base l ≡ []
     → line_field w base l ≡ line_field w' base' l
 unfolding line_field references_of_line
 line_plain w w' base base' (IndexedStatic i) h = refl

@@ -37,7 +37,7 @@ greatest_above (x ∷ xs) a h = pick (or_cases (nat_eq x a) (has_number a xs) h)
     pick (inl e) rest = omega (arith, eqb-true x a e)
     pick (inr t) rest = omega (arith, rest t)
 
-greatest_track : (xs : List ℕ) (a : ℕ) → greatest_of (with_number xs a) ≡ max (greatest_of xs) a
+pub greatest_track : (xs : List ℕ) (a : ℕ) → greatest_of (with_number xs a) ≡ max (greatest_of xs) a
 unfolding with_number
 greatest_track xs a =
     cond_both (has_number a xs) xs (xs ++ a ∷ []) (λ l. greatest_of l ≡ max (greatest_of xs) a)

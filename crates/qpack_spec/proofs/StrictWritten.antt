@@ -125,7 +125,7 @@ lines_read (suc steps) u number sum (l ∷ ls) (f ∷ fs) w literal within means
 
 -- ---- sections
 
-count_free : (maximum count : ℕ) → (maximum ≡ 0 → count ≡ 0) → (nat_eq maximum 0 && nat_lt 0 count) ≡ false
+pub count_free : (maximum count : ℕ) → (maximum ≡ 0 → count ≡ 0) → (nat_eq maximum 0 && nat_lt 0 count) ≡ false
 count_free zero count h = rw (h refl) refl
 count_free (suc n) count h = rw (ne_eqb (suc n) 0 (λ e. absurd (omega (arith, e)))) refl
 

@@ -264,7 +264,7 @@ whole_entry h a f =
     (λ t q. (grind (arith, nat_tests), let e : a - 1 ≡ a - 0 - 1 = omega arith in rw e q))
     (λ _ q. absurd (cc))
 
-entry_whole : (h : History) (a : ℕ) (f : Field) → 0 < a → slice_get h.inserted (a - 1) ≡ Some f
+pub entry_whole : (h : History) (a : ℕ) (f : Field) → 0 < a → slice_get h.inserted (a - 1) ≡ Some f
     → absolute_entry (whole_window h) a ≡ Some f
 unfolding absolute_entry whole_window
 entry_whole h a f p q = rw (lt-ltb 0 a p) (let e : a - 0 - 1 ≡ a - 1 = omega arith in rw e q)

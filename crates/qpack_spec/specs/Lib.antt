@@ -40,3 +40,5 @@ pub mod StrictInstructions
 pub mod Wanted
 pub mod WantedLaws
 pub mod LawfulStreams
+pub mod LawfulEncoders
+pub mod LawfulDecoders

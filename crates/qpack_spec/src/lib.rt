@@ -7,6 +7,7 @@ pub mod block;
 pub mod form;
 pub mod huffman;
 pub mod integer;
+pub mod lawful;
 pub mod rule;
 pub mod session;
 pub mod stateless;

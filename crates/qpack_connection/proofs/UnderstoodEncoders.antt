@@ -1,0 +1,331 @@
+-- The decoding end of a connection understands any encoder that keeps to the standard, call for call.
+use Rattle.std.proofs.Common.{◌≡◌, ◌≤◌, ◌+◌, ◌⊎◌, ℕ, zero, suc, List, [], ◌∷◌, ◌++◌, length, None, Some, Result}
+use Rattle.std.proofs.Common.{Ok, Err, refl, sym, ap, subst, ◌∙◌, arith, length-append, inl, inr}
+use Rattle.std.specs.Prelude.{⊤, drop, IsOk}
+use Rattle.std.proofs.lemmas.List.{append_assoc, append-nil, append_cancel_right}
+use Rattle.qpack_spec.specs.Field.{FieldLine}
+use Rattle.qpack_spec.specs.Form.{Truncates}
+use Rattle.qpack_spec.specs.Instruction.{EncoderInstruction, SpellsEncoderInstruction, encoder_instruction_form}
+use Rattle.qpack_spec.specs.LawfulStreams.{IsLawfulStream}
+use Rattle.qpack_spec.specs.Stream.{SpellsAll}
+use Rattle.qpack_spec.specs.StrictInstructions.{strict_apply}
+use Rattle.qpack_spec.specs.StrictReading.{StrictReading, strict_reading}
+use Rattle.qpack_spec.specs.Table.{Table, empty_table, insert_count, window}
+use Rattle.qpack_spec.specs.Taking.{apply_in_turn}
+use Rattle.qpack_spec.proofs.Cuttings.{wire, reads_front}
+use Rattle.qpack_spec.proofs.Lists.{front_of}
+use Rattle.qpack_connection.specs.declared.decoder.DecodingError.{DecodingError}
+use Rattle.qpack_connection.specs.declared.decoder.DecodingError.TheVariants.{EncoderStream, Section, TooManyBlocked}
+use Rattle.qpack_connection.specs.declared.decoder.DecodingError.TheVariants.{NoStream, Memory}
+use Rattle.qpack_connection.specs.declared.section.Reading.{Reading}
+use Rattle.qpack_connection.specs.declared.section.Reading.TheVariants as reading
+use Rattle.qpack_connection.specs.Connections.{SentSection}
+use Rattle.qpack_connection.specs.declared.decoder.DecoderSettings.{DecoderSettings}
+use Rattle.qpack_connection.specs.Decoders.{DecodingEnd, Begins, acknowledged, with_report, Checks, blocked_behind}
+use Rattle.qpack_connection.specs.Decoders.{IsNotAnswered, StopsDecoding, Decodes, cancelled, Cancels}
+use Rattle.qpack_connection.specs.declared.receiving.EncoderStreamError.{EncoderStreamError}
+use Rattle.qpack_connection.specs.declared.receiving.EncoderStreamError.TheVariants as stream
+use Rattle.qpack_connection.specs.Decoders.{received, EndsReceiving, ReceivesBytes}
+use Rattle.qpack_connection.specs.Receiving.{ReceivesMore}
+use Rattle.qpack_connection.proofs.LawfulPieces.{encoder_streams_taken}
+use Rattle.qpack_connection.specs.LawfulEncoders.{Encoder, IsLawful, Decoder, Call, Receive, Decode, Cancel, Sent}
+use Rattle.qpack_connection.specs.LawfulEncoders.{Step, Run, IsLawfulCall, AreLawful, Answers, AllAnswer}
+use Rattle.qpack_connection.specs.LawfulEncoders.{LawfulEncodersAreUnderstood}
+use Rattle.qpack_connection.proofs.RefinedReceptions.{applied_front, no_fewer, least_whole}
+use Rattle.qpack_connection.proofs.StrictCounts.{all_count}
+use Rattle.qpack_connection.specs.Receiving.{StreamView, Receives}
+use Rattle.qpack_connection.specs.RefinedDecodes.{AnswersSection}
+use Rattle.qpack_connection.proofs.RefinedDecodes.{not_ended}
+use Rattle.qpack_connection.proofs.RefinedDecodes.{stops_for_memory}
+use Rattle.qpack_connection.proofs.LawfulEncoders.{taken, is_read_as, decode_answers}
+
+-- ---- between calls
+
+-- what holds between calls: no error ended the connection, what came of the encoder stream is received, no more
+-- insertions are reported than were made, and the settings are as they were
+record Stays (settings : DecoderSettings) (x : Decoder) : Type 0 where
+  pub alive : x.end.failure ≡ None
+  pub settings_are : x.end.settings ≡ settings
+  pub stream : Receives (empty_table 0 (Some settings.max_capacity) 0) x.end.table x.come x.end.stream
+  pub told : x.end.reported ≤ insert_count x.end.table
+
+stays_first : (settings : DecoderSettings) (x : Decoder) → Begins settings x.end → x.come ≡ [] → Stays settings x
+stays_first settings x b none =
+    record {
+      alive = b.failure;
+      settings_are = b.settings_are;
+      stream =
+          subst (λ (t : Table). Receives t x.end.table x.come x.end.stream) b.table
+          (subst (λ (c : List ℕ). Receives x.end.table x.end.table c x.end.stream) (sym none) b.stream);
+      told = omega (arith, b.reported);
+    }
+
+-- the parts that a call may have left as they were
+stays_same : (settings : DecoderSettings) (x y : Decoder) → Stays settings x → y.end.failure ≡ x.end.failure
+    → y.end.settings ≡ x.end.settings → y.end.table ≡ x.end.table → y.end.stream ≡ x.end.stream → y.come ≡ x.come
+    → y.end.reported ≤ insert_count x.end.table → Stays settings y
+stays_same settings x y k failure same table stream come told =
+    record {
+      alive = failure ∙ k.alive;
+      settings_are = same ∙ k.settings_are;
+      stream =
+          subst (λ (t : Table). Receives (empty_table 0 (Some settings.max_capacity) 0) t y.come y.end.stream) (sym table)
+          (subst (λ (s : StreamView). Receives (empty_table 0 (Some settings.max_capacity) 0) x.end.table y.come s)
+          (sym stream)
+          (subst (λ (c : List ℕ). Receives (empty_table 0 (Some settings.max_capacity) 0) x.end.table c x.end.stream)
+          (sym come) k.stream));
+      told = omega (arith, told, ap insert_count table);
+    }
+
+-- the same where the end is one that is known
+stays_as : (settings : DecoderSettings) (x y : Decoder) (d : DecodingEnd) → Stays settings x → y.end ≡ d
+    → y.come ≡ x.come → d.failure ≡ x.end.failure → d.settings ≡ x.end.settings → d.table ≡ x.end.table
+    → d.stream ≡ x.end.stream → d.reported ≤ insert_count x.end.table → Stays settings y
+stays_as settings x y d k is come failure same table stream told =
+    stays_same settings x y k (ap (λ (e : DecodingEnd). e.failure) is ∙ failure)
+    (ap (λ (e : DecodingEnd). e.settings) is ∙ same) (ap (λ (e : DecodingEnd). e.table) is ∙ table)
+    (ap (λ (e : DecodingEnd). e.stream) is ∙ stream) come
+    (omega (arith, ap (λ (e : DecodingEnd). e.reported) is, told))
+
+-- ---- a section is decoded
+
+stays_acknowledged : (settings : DecoderSettings) (x y : Decoder) (s required : ℕ) → Stays settings x
+    → y.come ≡ x.come → y.end ≡ acknowledged s required x.end → Stays settings y
+stays_acknowledged settings x y s zero k come is =
+    stays_as settings x y (acknowledged s 0 x.end) k is come refl refl refl refl k.told
+stays_acknowledged settings x y s (suc many) k come is =
+    stays_as settings x y (acknowledged s (suc many) x.end) k is come refl refl refl refl (omega arith)
+
+stays_told : (settings : DecoderSettings) (x y : Decoder) → Stays settings x → y.come ≡ x.come
+    → y.end ≡ with_report x.end → Stays settings y
+stays_told settings x y k come is =
+    stays_as settings x y (with_report x.end) k is come refl refl refl refl (omega arith)
+
+stays_still : (settings : DecoderSettings) (x y : Decoder) → Stays settings x → y.come ≡ x.come → y.end ≡ x.end
+    → Stays settings y
+stays_still settings x y k come is = stays_as settings x y x.end k is come refl refl refl refl k.told
+
+-- a call that answers what a section means leaves the end so
+stays_decoded : (settings : DecoderSettings) (x y : Decoder) (s : ℕ) (k : SentSection) (fields : List FieldLine)
+    (answer : Result Reading DecodingError) (read : StrictReading) → Stays settings x → y.come ≡ x.come
+    → AnswersSection x.end s k fields answer → Decodes x.end y.end s read fields answer → Stays settings y
+stays_decoded settings x y s k fields (Ok (reading.Fields required)) read h come answers call =
+    stays_acknowledged settings x y s required h come call.1.1
+stays_decoded settings x y s k fields (Ok (reading.Blocked required)) read h come answers call =
+    stays_as settings x y (blocked_behind s required x.end) h call.1.3 come refl refl refl refl h.told
+stays_decoded settings x y s k fields (Err e) read h come answers call = by_error e answers call.1
+  where
+    by_error : (e : DecodingError) → AnswersSection x.end s k fields (Err e)
+        → IsNotAnswered x.end y.end s e ⊎ (Checks x.end s (Ok tt) × StopsDecoding x.end y.end s read e)
+        → Stays settings y
+    by_error e answers (inl stopped) = stays_still settings x y h come stopped.1
+    by_error (Section q f) answers (inr stopped) =
+        stays_still settings x y h come (not_ended x.end y.end s f answers.2 stopped.1.2)
+    by_error (TooManyBlocked q) answers (inr stopped) = absurd answers
+    by_error Memory answers (inr stopped) = elim (stops_for_memory x.end y.end read stopped.1) [
+      | inl same ↦ stays_still settings x y h come same
+      | inr reported ↦ stays_told settings x y h come reported
+    ]
+    by_error (EncoderStream q f) answers (inr stopped) = absurd answers
+    by_error (NoStream q) answers (inr stopped) = absurd stopped.1
+
+-- ---- a stream is cancelled
+
+cancel_answers : (settings : DecoderSettings) (x y : Decoder) (s : ℕ) (answer : Result ⊤ DecodingError)
+    → Stays settings x → Cancels x.end y.end s answer → y.come ≡ x.come
+    → Answers (Cancel s answer) x y × Stays settings y
+cancel_answers settings x y s (Ok done) h call come =
+    (tt, stays_as settings x y (cancelled s x.end) h call.1 come refl refl refl refl h.told)
+cancel_answers settings x y s (Err e) h (inl (inl ended, same)) come = absurd (let z = sym h.alive ∙ ended in cc)
+cancel_answers settings x y s (Err e) h (inl (inr number, same)) come =
+    (inr (number.2, number.1), stays_still settings x y h come same)
+cancel_answers settings x y s (Err e) h (inr stopped) come =
+    (inl stopped.1, stays_still settings x y h come stopped.3)
+
+-- ---- bytes are received
+
+-- what came before is the first of what came now, so insertions are only added
+record Further (x : DecodingEnd) (t : Table) : Type 0 where
+  pub more : List EncoderInstruction
+  pub applies : apply_in_turn strict_apply x.table more ≡ Ok t
+
+further : (start : Table) (x y : DecodingEnd) (come bytes behind : List ℕ) (sent : List EncoderInstruction)
+    → SpellsAll SpellsEncoderInstruction ((come ++ bytes) ++ behind) sent
+    → (k : Receives start x.table come x.stream) → (r : Receives start y.table (come ++ bytes) y.stream)
+    → length k.0.lines ≤ length r.0.lines → Further x y.table
+further start x y come bytes behind sent spelled k r fewer =
+    let w = wire encoder_instruction_form in
+    let old = reads_front SpellsEncoderInstruction w k.0.lines sent k.0.front k.0.rest (bytes ++ behind) k.0.joined
+    (subst (λ (b : List ℕ). SpellsAll SpellsEncoderInstruction b sent)
+    (append_assoc come bytes behind ∙ ap (λ (b : List ℕ). b ++ (bytes ++ behind)) k.0.cut
+    ∙ append_assoc k.0.front k.0.rest (bytes ++ behind)) spelled) in
+    let new = reads_front SpellsEncoderInstruction w r.0.lines sent r.0.front r.0.rest behind r.0.joined
+    (subst (λ (b : List ℕ). SpellsAll SpellsEncoderInstruction b sent)
+    (ap (λ (b : List ℕ). b ++ behind) r.0.cut ∙ append_assoc r.0.front r.0.rest behind) spelled) in
+    let f = front_of k.0.lines old.still r.0.lines new.still (sym old.goes_on ∙ new.goes_on) fewer in
+    record {
+      more = f.0;
+      applies = applied_front start x.table y.table k.0.lines f.0 k.0.applies
+          (subst (λ (is : List EncoderInstruction). apply_in_turn strict_apply start is ≡ Ok y.table) (sym f.1)
+          r.0.applies);
+    }
+
+further_counts : (x : DecodingEnd) (t : Table) → Further x t → insert_count x.table ≤ insert_count t
+further_counts x t f = all_count f.more x.table t f.applies
+
+-- what came is the front of what a lawful encoder wrote
+ok_of : {X E : Type 0} (r : Result X E) → IsOk r → (x : X) × (r ≡ Ok x)
+ok_of (Ok x) is = (x, refl)
+ok_of (Err e) is = absurd cc
+
+lawful_stream : (settings : DecoderSettings) (p : Encoder) (d : DecodingEnd) (come : List ℕ) → d.settings ≡ settings
+    → (l : IsLawful p d come)
+    → (last : Table) × IsLawfulStream (empty_table 0 (Some settings.max_capacity) 0) last (come ++ l.behind) p.sent
+lawful_stream settings p d come same l =
+    let ok = ok_of (apply_in_turn strict_apply (empty_table 0 (Some d.settings.max_capacity) 0) p.sent) l.encoder.taken in (
+      ok.0,
+      record {
+        spelled = subst (λ (b : List ℕ). SpellsAll SpellsEncoderInstruction b p.sent) l.come_is l.spelled;
+        applied = subst (λ (s : DecoderSettings). apply_in_turn strict_apply (empty_table 0 (Some s.max_capacity) 0) p.sent
+            ≡ Ok ok.0) same ok.1;
+      },
+    )
+
+receive_answers : (settings : DecoderSettings) (x y : Decoder) (bytes left : List ℕ) (answer : Result ℕ DecodingError)
+    (p : Encoder) → Stays settings x → IsLawful p x.end (x.come ++ bytes) → Step (Receive bytes left answer) x y
+    → Answers (Receive bytes left answer) x y × Stays settings y
+receive_answers settings x y bytes left answer p k l step = by_taken answer call.taken call.stream call.ends
+  where
+    start : Table
+    start = empty_table 0 (Some settings.max_capacity) 0
+
+    call : ReceivesBytes start x.come x.end y.end bytes left answer
+    call = step.0 k.alive start x.come k.stream
+
+    sent : (last : Table) × IsLawfulStream start last ((x.come ++ bytes) ++ l.behind) p.sent
+    sent = lawful_stream settings p x.end (x.come ++ bytes) k.settings_are l
+
+    -- what came before is in front of what came now
+    behind_old : (r : Receives start y.end.table (x.come ++ bytes) y.end.stream)
+        → k.stream.0.front ++ (k.stream.0.rest ++ bytes) ≡ r.0.front ++ r.0.rest
+    behind_old r =
+        sym (append_assoc k.stream.0.front k.stream.0.rest bytes)
+        ∙ ap (λ (b : List ℕ). b ++ bytes) (sym k.stream.0.cut) ∙ r.0.cut
+
+    counts : (r : Receives start y.end.table (x.come ++ bytes) y.end.stream)
+        → length k.stream.0.lines ≤ length r.0.lines → insert_count x.end.table ≤ insert_count y.end.table
+    counts r fewer =
+        further_counts x.end y.end.table
+        (further start x.end y.end x.come bytes l.behind p.sent sent.1.spelled k.stream r fewer)
+
+    counts_whole : ReceivesMore start x.end.table y.end.table x.come bytes left x.end.stream y.end.stream (Ok tt)
+        → insert_count x.end.table ≤ insert_count y.end.table
+    counts_whole (none, whole, r, short) =
+        counts r (least_whole k.stream.0.lines r.0.lines k.stream.0.front (k.stream.0.rest ++ bytes) r.0.front r.0.rest
+        k.stream.0.joined r.0.joined (behind_old r)
+        (subst (λ (b : List ℕ). Truncates encoder_instruction_form b) (whole.0.ends.0 ∙ sym r.0.ends.0)
+        whole.0.ends.1.cut))
+
+    counts_longer : (r : Receives start y.end.table (x.come ++ bytes) y.end.stream)
+        → length y.end.stream.pending ≤ length x.end.stream.pending + length bytes
+        → insert_count x.end.table ≤ insert_count y.end.table
+    counts_longer r fewer =
+        counts r (no_fewer k.stream.0.lines r.0.lines k.stream.0.front r.0.front (k.stream.0.rest ++ bytes) r.0.rest
+        k.stream.0.joined r.0.joined (behind_old r)
+        (omega (
+          arith,
+          fewer,
+          ap length (behind_old r),
+          length-append k.stream.0.front (k.stream.0.rest ++ bytes),
+          length-append k.stream.0.rest bytes,
+          length-append r.0.front r.0.rest,
+          ap length k.stream.0.ends.0,
+          ap length r.0.ends.0,
+        )))
+
+    come_all : left ≡ [] → x.come ++ bytes ≡ y.come
+    come_all none = sym step.1 ∙ ap (λ (b : List ℕ). y.come ++ b) none ∙ append-nil y.come
+
+    came : left ≡ [] → Receives start y.end.table (x.come ++ bytes) y.end.stream → y.end.failure ≡ x.end.failure
+        → y.end.settings ≡ x.end.settings → y.end.reported ≤ insert_count y.end.table → Stays settings y
+    came none r failure same told =
+        record {
+          alive = failure ∙ k.alive;
+          settings_are = same ∙ k.settings_are;
+          stream = subst (λ (c : List ℕ). Receives start y.end.table c y.end.stream) (come_all none) r;
+          told = told;
+        }
+
+    by_memory : (a : Result ℕ DecodingError)
+        → ReceivesMore start x.end.table y.end.table x.come bytes left x.end.stream y.end.stream (Err stream.Memory)
+        → EndsReceiving (received y.end.table y.end.stream x.end) y.end (Err stream.Memory) a
+        → Answers (Receive bytes left a) x y × Stays settings y
+    by_memory a (inl same) ends = (
+      subst (λ (r : Result ℕ DecodingError). Answers (Receive bytes left r) x y) (sym ends.0) refl,
+      stays_same settings x y k (ap (λ (e : DecodingEnd). e.failure) ends.1)
+          (ap (λ (e : DecodingEnd). e.settings) ends.1) same.1 same.2
+          (append_cancel_right y.come x.come bytes (ap (λ (b : List ℕ). y.come ++ b) (sym same.0) ∙ step.1))
+          (omega (arith, ap (λ (e : DecodingEnd). e.reported) ends.1, k.told)),
+    )
+    by_memory a (inr more) ends = (
+      subst (λ (r : Result ℕ DecodingError). Answers (Receive bytes left r) x y) (sym ends.0) refl,
+      came more.0 more.2 (ap (λ (e : DecodingEnd). e.failure) ends.1) (ap (λ (e : DecodingEnd). e.settings) ends.1)
+          (omega (
+            arith,
+            ap (λ (e : DecodingEnd). e.reported) ends.1,
+            k.told,
+            counts_longer more.2 more.3,
+          )),
+    )
+
+    by_taken : (a : Result ℕ DecodingError) (taken : Result ⊤ EncoderStreamError)
+        → ReceivesMore start x.end.table y.end.table x.come bytes left x.end.stream y.end.stream taken
+        → EndsReceiving (received y.end.table y.end.stream x.end) y.end taken a
+        → Answers (Receive bytes left a) x y × Stays settings y
+    by_taken (Ok total) (Ok it) s ends = (
+      (ends.0, s.0),
+      came s.0 s.2 (ap (λ (e : DecodingEnd). e.failure) ends.1) (ap (λ (e : DecodingEnd). e.settings) ends.1)
+          (omega (arith, ap (λ (e : DecodingEnd). e.reported) ends.1)),
+    )
+    by_taken (Err e) (Ok it) s ends = (
+      ends.0,
+      came s.0 s.2 (ap (λ (d : DecodingEnd). d.failure) ends.2) (ap (λ (d : DecodingEnd). d.settings) ends.2)
+          (omega (arith, ap (λ (d : DecodingEnd). d.reported) ends.2, k.told, counts_whole s)),
+    )
+    by_taken a (Err stream.Memory) s ends = by_memory a s ends
+    by_taken a (Err (stream.Refused place e)) s ends =
+        absurd (encoder_streams_taken start x.end.table y.end.table sent.0 x.come bytes l.behind left p.sent x.end.stream
+        y.end.stream place e sent.1 s)
+
+-- ---- all calls
+
+step_answers : (settings : DecoderSettings) (call : Call) (x y : Decoder) → Stays settings x → Step call x y
+    → IsLawfulCall call x → Answers call x y × Stays settings y
+step_answers settings (Receive bytes left answer) x y k step asked =
+    receive_answers settings x y bytes left answer asked.0 k asked.1 step
+step_answers settings (Decode s section fields answer) x y k step asked =
+    let p = asked.0 in
+    let stream = subst (λ (c : DecoderSettings). Receives (empty_table 0 (Some c.max_capacity) 0) x.end.table x.come
+    x.end.stream) (sym k.settings_are) k.stream in
+    let read = strict_reading (window x.end.table) x.end.settings.max_section_size section.bytes in
+    let answers = decode_answers x.end y.end s section fields answer read
+    (is_read_as p x.end x.come section asked.1 (taken p x.end x.come asked.1 stream) k.told asked.2) asked.3 k.alive
+    step.0 in
+    (answers.0, stays_decoded settings x y s section fields answer read k step.1 answers.0 step.0)
+step_answers settings (Cancel s answer) x y k step asked = cancel_answers settings x y s answer k step.0 step.1
+step_answers settings (Sent bytes) x y k step asked = (
+  tt,
+  stays_as settings x y (record x.end { unsent = drop bytes x.end.unsent }) k step.0 step.1 refl refl refl refl
+      k.told,
+)
+
+all_answer : (settings : DecoderSettings) (calls : List Call) (x last : Decoder) (run : Run calls x last)
+    → Stays settings x → AreLawful calls x last run → AllAnswer calls x last run
+all_answer settings [] x last run k asked = tt
+all_answer settings (call ∷ calls) x last run k asked =
+    let one = step_answers settings call x run.0 k run.1 asked.0 in
+    (one.0, one.1.alive, all_answer settings calls run.0 last run.2 one.1 asked.1)
+
+pub encoders_understood : LawfulEncodersAreUnderstood
+encoders_understood settings calls first last b none run asked =
+    all_answer settings calls first last run (stays_first settings first b none) asked

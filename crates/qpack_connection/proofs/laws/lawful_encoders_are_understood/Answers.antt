@@ -1,0 +1,5 @@
+use Rattle.qpack_connection.proofs.UnderstoodEncoders.{encoders_understood}
+use Rattle.qpack_connection.proofs.laws.lawful_encoders_are_understood.Goals as goal
+
+pub returns : goal.returns
+returns c = encoders_understood

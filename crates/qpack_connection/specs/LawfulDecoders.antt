@@ -1,0 +1,116 @@
+-- What the encoding end of a connection promises, over calls and their answers: with any peer, that it evicts nothing
+-- that may still be needed and lets no more sections be blocked than may be; and with a peer that keeps to the
+-- standard, that it refuses nothing of the decoder stream, and goes on inserting (RFC 9204, sections 2.1, 2.2.2 and
+-- 4.4).
+use Rattle.std.specs.Prelude.{◌≡◌, ◌<◌, ◌≤◌, ◌^◌, ℕ, ⊤, false, List, [], ◌∷◌, ◌++◌, length, drop, None, Result, Ok, Err}
+use Rattle.std.specs.Option.{IfSome}
+use Rattle.qpack_spec.specs.Field.{FieldLine}
+use Rattle.qpack_spec.specs.Instruction.{DecoderInstruction, SpellsDecoderInstruction}
+use Rattle.qpack_spec.specs.LawfulDecoders.{MayWrite, KeepsNeeded, IsQuiet, IsToBeInserted}
+use Rattle.qpack_spec.specs.Stream.{SpellsAll}
+use Rattle.qpack_spec.specs.Table.{insert_count}
+use Rattle.qpack_connection.specs.declared.encoder.EncoderSettings.{EncoderSettings}
+use Rattle.qpack_connection.specs.declared.encoder.EncodingError.{EncodingError}
+use Rattle.qpack_connection.specs.Encoders.{EncodingEnd, Starts, begun, is_full, Encodes, SetsCapacity, StopsTelling}
+use Rattle.qpack_connection.specs.Encoders.{ReceivesBytes}
+use Rattle.qpack_connection.specs.Hearing.{Receives}
+use Rattle.qpack_connection.specs.RefinedRefusals.{StopsEncoding}
+
+-- ---- the calls
+
+-- a call of an encoding end, and what it answers
+pub data Call : Type 0 where
+  Encode : (stream : ℕ) (fields : List FieldLine) (section : List ℕ) (answer : Result ℕ EncodingError) → Call
+  SetCapacity : (capacity : ℕ) (answer : Result ⊤ EncodingError) → Call
+  Receive : (bytes : List ℕ) (answer : Result ⊤ EncodingError) → Call
+  Sent : (bytes : ℕ) → Call
+
+-- what a call makes of the end, as its contract says
+abbrev pub Step : Call → EncodingEnd → EncodingEnd → Type 0
+Step (Encode s fields section answer) old new = Encodes old new s fields [] section answer
+Step (SetCapacity capacity answer) old new = SetsCapacity old new capacity answer
+Step (Receive bytes answer) old new =
+    (old.failure ≡ None → (heard : List DecoderInstruction) (before : List ℕ) → Receives heard before old.stream
+    → ReceivesBytes heard before old new bytes answer)
+    × IfSome old.failure (λ e. (answer ≡ Err e) × (new ≡ old))
+Step (Sent bytes) old new = new ≡ record old { unsent = drop bytes old.unsent }
+
+-- what calls in turn make of it
+abbrev pub Run : List Call → EncodingEnd → EncodingEnd → Type 0
+Run [] old new = new ≡ old
+Run (call ∷ calls) old new = (now : EncodingEnd) × Step call old now × Run calls now new
+
+-- ---- with any peer
+
+-- what holds behind each call: nothing is evicted that may still be needed, and no more sections are blocked than the
+-- peer lets be (sections 2.1.1 and 2.1.2)
+pub record IsCareful (settings : EncoderSettings) (e : EncodingEnd) : Type 0 where
+  pub needed : KeepsNeeded e.table
+  pub blocked : length e.table.blocked ≤ settings.max_blocked
+
+abbrev pub AllCareful : EncoderSettings → (calls : List Call) (old new : EncodingEnd) → Run calls old new → Type 0
+AllCareful settings [] old new run = Unit {0}
+AllCareful settings (call ∷ calls) old new run = IsCareful settings run.0 × AllCareful settings calls run.0 new run.2
+
+-- for all calls from a new encoder on, whatever its peer writes
+abbrev pub EncodersAreCareful : Type 0
+EncodersAreCareful =
+    (settings : EncoderSettings) (calls : List Call) (first last : EncodingEnd) → Starts settings first
+    → (run : Run calls first last) → AllCareful settings calls first last run
+
+-- ---- with a lawful peer
+
+-- a decoder as it is when some bytes of it come: what the end has heard of it, and what is under way, in whatever
+-- spelling, of which these bytes come next; of the insertions that were made it has received some, and what is under
+-- way it may write (section 4.4)
+pub record IsLawful (e : EncodingEnd) (bytes : List ℕ) : Type 0 where
+  pub heard : List DecoderInstruction
+  pub before : List ℕ
+  pub receives : Receives heard before e.stream
+  pub under_way : List DecoderInstruction
+  pub behind : List ℕ
+  pub spelled : SpellsAll SpellsDecoderInstruction ((before ++ bytes) ++ behind) (heard ++ under_way)
+  pub received : ℕ
+  pub made : received ≤ insert_count e.table
+  pub known : e.table.known_received_count ≤ received
+  pub may : MayWrite received e.table.known_received_count e.table.unacknowledged under_way
+
+-- what is asked of a call: the bytes are the next that a lawful decoder wrote
+abbrev pub IsLawfulCall : Call → EncodingEnd → Type 0
+IsLawfulCall (Receive bytes answer) e = IsLawful e bytes
+IsLawfulCall call e = Unit {0}
+
+abbrev pub AreLawful : (calls : List Call) (old new : EncodingEnd) → Run calls old new → Type 0
+AreLawful [] old new run = Unit {0}
+AreLawful (call ∷ calls) old new run = IsLawfulCall call old × AreLawful calls run.0 new run.2
+
+-- a section whose first field is to be inserted requires an insertion that was not made before, if nothing is under way,
+-- some section may be blocked, and some may wait for its acknowledgment
+abbrev pub GoesOn : EncoderSettings → EncodingEnd → List FieldLine → ℕ → Type 0
+GoesOn settings e [] required = Unit {0}
+GoesOn settings e (l ∷ more) required =
+    IsQuiet e.table → IsToBeInserted e.table l → 0 < settings.max_blocked → is_full e ≡ false
+    → insert_count e.table < 2 ^ 62 → insert_count e.table < required
+
+-- what a call answers: a section is encoded, and insertions go on, or memory is refused or no stream has this number; a
+-- capacity is set, or it is above the maximum, or an entry would have to go that may be needed, or memory is refused;
+-- and nothing of the decoder stream is refused
+abbrev pub Answers : EncoderSettings → Call → EncodingEnd → Type 0
+Answers settings (Encode s fields section (Ok required)) old = GoesOn settings (begun old) fields required
+Answers settings (Encode s fields section (Err e)) old = StopsEncoding s e
+Answers settings (SetCapacity capacity (Ok done)) old = Unit {0}
+Answers settings (SetCapacity capacity (Err e)) old = StopsTelling old.table capacity e
+Answers settings (Receive bytes answer) old = answer ≡ Ok tt
+Answers settings (Sent bytes) old = Unit {0}
+
+-- each call in turn answers so, and no error ends the connection
+abbrev pub AllAnswer : EncoderSettings → (calls : List Call) (old new : EncodingEnd) → Run calls old new → Type 0
+AllAnswer settings [] old new run = Unit {0}
+AllAnswer settings (call ∷ calls) old new run =
+    Answers settings call old × (run.0.failure ≡ None) × AllAnswer settings calls run.0 new run.2
+
+-- for all calls from a new encoder on, with whatever lawful decoder
+abbrev pub LawfulDecodersAreUnderstood : Type 0
+LawfulDecodersAreUnderstood =
+    (settings : EncoderSettings) (calls : List Call) (first last : EncodingEnd) → Starts settings first
+    → (run : Run calls first last) → AreLawful calls first last run → AllAnswer settings calls first last run

@@ -1,0 +1,112 @@
+-- What the decoding end of a connection promises with any peer that keeps to the standard, over calls and their answers:
+-- it refuses nothing of the encoder stream, and decodes each section to exactly what it means (RFC 9204, sections 2.1,
+-- 2.2, 3.2, 4.3 and 4.5).
+use Rattle.std.specs.Prelude.{◌≡◌, ◌≤◌, ℕ, ⊤, List, [], ◌∷◌, ◌++◌, drop, None, Result, Ok, Err}
+use Rattle.qpack_spec.specs.Field.{FieldLine}
+use Rattle.qpack_spec.specs.History.{History}
+use Rattle.qpack_spec.specs.Instruction.{EncoderInstruction, SpellsEncoderInstruction}
+use Rattle.qpack_spec.specs.LawfulEncoders.{IsLawfulEncoder, IsLawfulSection}
+use Rattle.qpack_spec.specs.Stream.{SpellsAll}
+use Rattle.qpack_spec.specs.StrictReading.{strict_reading}
+use Rattle.qpack_spec.specs.Table.{Table, insert_count, window}
+use Rattle.qpack_connection.specs.declared.decoder.DecoderSettings.{DecoderSettings}
+use Rattle.qpack_connection.specs.declared.decoder.DecodingError.{DecodingError}
+use Rattle.qpack_connection.specs.declared.decoder.DecodingError.TheVariants.{Memory}
+use Rattle.qpack_connection.specs.declared.section.Reading.{Reading}
+use Rattle.qpack_connection.specs.Connections.{SentSection}
+use Rattle.qpack_connection.specs.Decoders.{DecodingEnd, Begins, Decodes, Cancels, ReceivesBytes}
+use Rattle.qpack_connection.specs.Receiving.{Receives}
+use Rattle.qpack_connection.specs.RefinedDecodes.{AnswersSection, MayWait}
+use Rattle.qpack_connection.specs.RefinedRefusals.{StopsCancelling}
+
+-- ---- what the peer keeps to
+
+-- an encoder as it is when a call is made: the instructions that it has written and their bytes, the insertions that
+-- they make, and how many of these it knows to be received
+pub record Encoder : Type 0 where
+  pub sent : List EncoderInstruction
+  pub bytes : List ℕ
+  pub made : History
+  pub known : ℕ
+
+-- it keeps to the standard, in whatever spelling; these bytes have come of what it wrote; and it knows of no more
+-- insertions than this decoder has reported (section 2.1.4)
+pub record IsLawful (p : Encoder) (d : DecodingEnd) (come : List ℕ) : Type 0 where
+  pub encoder : IsLawfulEncoder d.settings.max_capacity p.known p.sent p.made
+  pub spelled : SpellsAll SpellsEncoderInstruction p.bytes p.sent
+  pub behind : List ℕ
+  pub come_is : p.bytes ≡ come ++ behind
+  pub told : p.known ≤ d.reported
+
+-- ---- the calls
+
+-- a decoding end, and the bytes of the encoder stream that it has received
+pub record Decoder : Type 0 where
+  pub end : DecodingEnd
+  pub come : List ℕ
+
+-- a call of it, and what it answers; of the bytes that are received some may be left, which come again
+pub data Call : Type 0 where
+  Receive : (bytes left : List ℕ) (answer : Result ℕ DecodingError) → Call
+  Decode : (stream : ℕ) (section : SentSection) (fields : List FieldLine) (answer : Result Reading DecodingError) → Call
+  Cancel : (stream : ℕ) (answer : Result ⊤ DecodingError) → Call
+  Sent : (bytes : ℕ) → Call
+
+-- what a call makes of the decoder, as its contract says
+abbrev pub Step : Call → Decoder → Decoder → Type 0
+Step (Receive bytes left answer) old new =
+    (old.end.failure ≡ None → (start : Table) (before : List ℕ) → Receives start old.end.table before old.end.stream
+    → ReceivesBytes start before old.end new.end bytes left answer)
+    × (new.come ++ left ≡ old.come ++ bytes)
+Step (Decode s section fields answer) old new =
+    Decodes old.end new.end s (strict_reading (window old.end.table) old.end.settings.max_section_size section.bytes)
+    fields answer
+    × (new.come ≡ old.come)
+Step (Cancel s answer) old new = Cancels old.end new.end s answer × (new.come ≡ old.come)
+Step (Sent bytes) old new =
+    (new.end ≡ record old.end { unsent = drop bytes old.end.unsent }) × (new.come ≡ old.come)
+
+-- what calls in turn make of it
+abbrev pub Run : List Call → Decoder → Decoder → Type 0
+Run [] old new = new ≡ old
+Run (call ∷ calls) old new = (now : Decoder) × Step call old now × Run calls now new
+
+-- ---- what is asked, and what is promised
+
+-- what is asked of a call: the bytes are the next that a lawful encoder wrote; or the section is one that it may have
+-- written, and its stream is not one too many to wait (section 2.1.2)
+abbrev pub IsLawfulCall : Call → Decoder → Type 0
+IsLawfulCall (Receive bytes left answer) d = (p : Encoder) × IsLawful p d.end (d.come ++ bytes)
+IsLawfulCall (Decode s section fields answer) d =
+    (p : Encoder) × IsLawful p d.end d.come
+    × IsLawfulSection d.end.settings.max_capacity p.made section.required section.fields section.bytes
+    × MayWait d.end s section
+IsLawfulCall call d = Unit {0}
+
+abbrev pub AreLawful : (calls : List Call) (old new : Decoder) → Run calls old new → Type 0
+AreLawful [] old new run = Unit {0}
+AreLawful (call ∷ calls) old new run = IsLawfulCall call old × AreLawful calls run.0 new run.2
+
+-- what a call answers: how many insertions were received so far; exactly the fields that the section means, with their
+-- marks, or how many insertions it waits for; or that memory is refused, that no stream has this number, or that the
+-- sizes of the fields are past the decoder's own limit
+abbrev pub Answers : Call → Decoder → Decoder → Type 0
+Answers (Receive bytes left (Ok total)) old new = (total ≡ insert_count new.end.table) × (left ≡ [])
+Answers (Receive bytes left (Err e)) old new = e ≡ Memory
+Answers (Decode s section fields answer) old new = AnswersSection old.end s section fields answer
+Answers (Cancel s (Ok done)) old new = Unit {0}
+Answers (Cancel s (Err e)) old new = StopsCancelling s e
+Answers (Sent bytes) old new = Unit {0}
+
+-- each call in turn answers so, and no error ends the connection
+abbrev pub AllAnswer : (calls : List Call) (old new : Decoder) → Run calls old new → Type 0
+AllAnswer [] old new run = Unit {0}
+AllAnswer (call ∷ calls) old new run =
+    Answers call old run.0 × (run.0.end.failure ≡ None) × AllAnswer calls run.0 new run.2
+
+-- for all calls from a new decoder on, with whatever lawful encoder
+abbrev pub LawfulEncodersAreUnderstood : Type 0
+LawfulEncodersAreUnderstood =
+    (settings : DecoderSettings) (calls : List Call) (first last : Decoder) → Begins settings first.end
+    → first.come ≡ [] → (run : Run calls first last) → AreLawful calls first last run
+    → AllAnswer calls first last run
