@@ -3,6 +3,8 @@
 
 ghost use Rattle.std.specs.Prelude.{◌≡◌, ◌+◌, ◌-◌, ◌^◌, ◌<◌, ◌≤◌, [], min, length, OnOk, IfSome, IfNone};
 ghost use Rattle.std.specs.Prelude.{ℕ, slice_index};
+ghost use Rattle.std.specs.Cmp.Lexicographic.{slice_cmp};
+ghost use Rattle.std.specs.Ordering.{nat_cmp};
 ghost use Rattle.qpack_base.specs.HeaderFields.{field_of, line_of, field_cmp};
 ghost use Rattle.qpack_table.specs.Rows.{part_of, part_at, key_cmp, key_at, key_of, field_of_sought, IsHashed, IsSlot};
 ghost use Rattle.qpack_table.specs.Rows.{HasRoom, IsRow, IsPlace, FindsSlot, Enters, Leaves, HasIndexAt, HasNoIndex};
@@ -12,6 +14,7 @@ ghost use Rattle.qpack_table.specs.declared.dynamic.index.row.Slot.{Slot};
 
 use crate::dynamic::entry::Entry;
 use crate::dynamic::steps::Steps;
+use qpack_base::bytes::same;
 use qpack_base::field::FieldLine;
 use smallvec::SmallVec;
 use std::alloc::{AllocError, Global};
@@ -51,13 +54,24 @@ fn compare_entry(sought: &Sought<'_>, entry: &Entry, steps: &mut Steps) -> Order
     ensures grows { steps.old.count ≤ steps.new.count }
 {
     steps.raise();
-    match entry.field.name.as_slice().cmp(sought.line.name) {
+    match compare_bytes(entry.field.name.as_slice(), sought.line.name) {
         Ordering::Equal => match sought.part {
             Part::Name => Ordering::Equal,
-            Part::Whole => entry.field.value.as_slice().cmp(sought.line.value),
+            Part::Whole => compare_bytes(entry.field.value.as_slice(), sought.line.value),
         },
         apart => apart,
     }
+}
+
+/// How two byte strings stand to each other. Where hashes are the same they are mostly equal, which is found out eight
+/// bytes at a time.
+fn compare_bytes(a: &[u8], b: &[u8]) -> Ordering
+    ensures { result ≡ slice_cmp nat_cmp a.now b.now }
+{
+    if same(a, b) {
+        return Ordering::Equal;
+    }
+    a.cmp(b)
 }
 
 /// How a slot stands to what is sought: its entry is looked at only where the hashes are the same.
