@@ -197,7 +197,8 @@ encoders_careful settings calls first last s run =
 
 goes_on : (settings : EncoderSettings) (old new : EncodingEnd) (s : ℕ) (fields : List FieldLine) (section : List ℕ)
     (required : ℕ) → Stays settings old
-    → WritesSection (begun old) new s fields [] section required ⊎ WritesAlone (begun old) new fields [] section required
+    → WritesSection (begun old) new s fields [] section required
+    ⊎ WritesAlone (begun old) new fields [] section required
     → GoesOn settings (begun old) fields required
 goes_on settings old new s [] section required k writes = tt
 goes_on settings old new s (l ∷ more) section required k (inl writes) = λ quiet is some room few.

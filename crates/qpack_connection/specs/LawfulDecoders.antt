@@ -84,8 +84,8 @@ abbrev pub AreLawful : (calls : List Call) (old new : EncodingEnd) → Run calls
 AreLawful [] old new run = Unit {0}
 AreLawful (call ∷ calls) old new run = IsLawfulCall call old × AreLawful calls run.0 new run.2
 
--- a section whose first field is to be inserted requires an insertion that was not made before, if nothing is under way,
--- some section may be blocked, and some may wait for its acknowledgment
+-- a section whose first field is to be inserted requires an insertion that was not made before, if nothing is under
+-- way, some section may be blocked, and some may wait for its acknowledgment
 abbrev pub GoesOn : EncoderSettings → EncodingEnd → List FieldLine → ℕ → Type 0
 GoesOn settings e [] required = Unit {0}
 GoesOn settings e (l ∷ more) required =
