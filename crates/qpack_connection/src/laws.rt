@@ -54,8 +54,9 @@ pub fn lawful_encoders_are_understood()
 {}
 
 /// What [`ConnectionEncoder`](crate::ConnectionEncoder) promises comes to this, with any decoder, whatever it writes:
-/// behind each call nothing is evicted that an unacknowledged section references or that is not known to be received,
-/// and no more sections are blocked than may be (RFC 9204, sections 2.1.1 and 2.1.2).
+/// each section that is written counts as unacknowledged, with exactly the entries that its lines reference; and behind
+/// each call nothing is evicted that an unacknowledged section references or that is not known to be received, and no
+/// more sections are blocked than may be (RFC 9204, sections 2.1.1 and 2.1.2).
 pub fn encoders_are_careful()
     ensures { EncodersAreCareful }
 {}
