@@ -30,7 +30,8 @@ use Rattle.qpack_safety.proofs.Encoding.{same_committed, kept_committed, blocked
 use Rattle.qpack_safety.proofs.Fronts.{length_filter}
 use Rattle.qpack_safety.proofs.Hearing.{kept_opened, kept_raised}
 use Rattle.qpack_safety.proofs.OpenBlocks.{releases_stream}
-use Rattle.qpack_safety.proofs.Resizing.{resized_table, resized_cases, same_resized, kept_resized, bound_same, CanResize}
+use Rattle.qpack_safety.proofs.Resizing.{CanResize, resized_table, resized_cases, same_resized, kept_resized}
+use Rattle.qpack_safety.proofs.Resizing.{bound_same}
 
 -- a required insert count that is not known to be received, of insertions that were made
 abbrev pub Waits : ℕ → ℕ → ℕ → Type 0

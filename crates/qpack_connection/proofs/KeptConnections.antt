@@ -115,7 +115,7 @@ listed_none : (s : ℕ) (bs : List BlockedStream)
 listed_none s [] h = refl
 listed_none s (b ∷ bs) h = rw h.0 (listed_none s bs h.1)
 
-once_without : (s : ℕ) (bs : List BlockedStream) → AreOfOneEach bs → AreOfOneEach (without s bs)
+pub once_without : (s : ℕ) (bs : List BlockedStream) → AreOfOneEach bs → AreOfOneEach (without s bs)
 once_without s [] h = tt
 once_without s (b ∷ bs) h = both (nat_eq b.stream s) (once_without s bs h.1)
   where
@@ -169,7 +169,7 @@ all_with P b (x ∷ xs) p h = both (nat_eq x.stream b.stream) (all_with P b xs p
     both true rest = (p, h.1)
     both false rest = (h.0, rest)
 
-once_with : (b : BlockedStream) (bs : List BlockedStream) → AreOfOneEach bs → AreOfOneEach (with_blocked b bs)
+pub once_with : (b : BlockedStream) (bs : List BlockedStream) → AreOfOneEach bs → AreOfOneEach (with_blocked b bs)
 once_with b [] h = (refl, tt)
 once_with b (x ∷ xs) h = both (nat_eq x.stream b.stream) refl (once_with b xs h.1)
   where

@@ -134,7 +134,8 @@ is_read_as p d come k l t told section =
         pick (inr low) = inl (reads size low)
 
 -- what a decode answers, by what is read; and the end behind it
-abbrev pub AnswersSo : DecodingEnd → DecodingEnd → ℕ → SentSection → List FieldLine → Result Reading DecodingError → Type 0
+abbrev pub AnswersSo : DecodingEnd → DecodingEnd → ℕ → SentSection → List FieldLine → Result Reading DecodingError
+    → Type 0
 AnswersSo old new s k fields answer =
     AnswersSection old s k fields answer × (new.failure ≡ old.failure)
 

@@ -5,7 +5,14 @@ use Rattle.std.specs.Option.{IfSome}
 use Rattle.std.specs.Prelude.{⊤}
 use Rattle.qpack_spec.specs.Field.{FieldLine}
 use Rattle.qpack_spec.specs.Instruction.{DecoderInstruction}
-use Rattle.qpack_spec.specs.Table.{Table}
+use Rattle.qpack_spec.specs.Marked.{marked_rule, stateless_block_marked}
+use Rattle.qpack_spec.specs.Rule.{block_of, required_insert_count}
+use Rattle.qpack_spec.specs.Table.{Table, UnacknowledgedBlock, insert_count, window, with_numbers}
+use Rattle.qpack_spec.specs.Table.{with_unacknowledged}
+use Rattle.qpack_spec.proofs.AloneSections.{none_referenced}
+use Rattle.qpack_spec.proofs.MarkedDrafts.{marked_drafts}
+use Rattle.qpack_safety.proofs.Encoding.{same_committed}
+use Rattle.qpack_connection.specs.LawfulDecoders.{CountsSection, Counts}
 use Rattle.qpack_spec.proofs.LawfulDecoders.{instructions_heard, go_on}
 use Rattle.qpack_connection.specs.declared.encoder.EncoderSettings.{EncoderSettings}
 use Rattle.qpack_connection.specs.declared.encoder.EncodingError.{EncodingError}
@@ -182,12 +189,54 @@ careful settings e k =
       blocked = omega (arith, k.table.few, k.table.limit_is);
     }
 
+counts_section : (settings : EncoderSettings) (old new : EncodingEnd) (s : ℕ) (fields : List FieldLine)
+    (section : List ℕ) (required : ℕ) → Stays settings old
+    → WritesSection (begun old) new s fields [] section required
+    ⊎ WritesAlone (begun old) new fields [] section required → CountsSection (begun old) new s fields section
+counts_section settings old new s fields section required k (inl writes) =
+    let t = (begun old).table in
+    let careful = table_begun settings old k in
+    let p = marked_drafts t careful.history fields careful.sound careful.kept in
+    let d = marked_rule t fields in
+    record {
+      block = block_of t d;
+      written = writes.section.block;
+      counted =
+          ap (λ (x : Table). x.unacknowledged) writes.section.table
+          ∙ (same_committed d.table s (required_insert_count d)).c_opened
+          ∙ ap (λ (bs : List UnacknowledgedBlock). with_unacknowledged bs s d.table.referenced)
+          p.references.unacknowledged
+          ∙ ap (λ (rs : List ℕ). with_unacknowledged t.unacknowledged s rs) (sym p.references.refs);
+    }
+counts_section settings old new s fields section required k (inr writes) =
+    let t = (begun old).table in
+    record {
+      block = stateless_block_marked fields;
+      written = writes.section;
+      counted =
+          ap (λ (y : EncodingEnd). y.table.unacknowledged) writes.new_is
+          ∙ ap (λ (rs : List ℕ). with_unacknowledged t.unacknowledged s (with_numbers [] rs))
+          (sym (none_referenced (insert_count t) (window t) fields));
+    }
+
+call_counts : (settings : EncoderSettings) (call : Call) (old new : EncodingEnd) → Stays settings old
+    → Step call old new → Counts call old new
+call_counts settings (Encode s fields section (Ok required)) old new k step =
+    counts_section settings old new s fields section required k step.1
+call_counts settings (Encode s fields section (Err e)) old new k step = tt
+call_counts settings (SetCapacity n answer) old new k step = tt
+call_counts settings (Receive bytes answer) old new k step = tt
+call_counts settings (Sent many) old new k step = tt
+
 all_careful : (settings : EncoderSettings) (calls : List Call) (old last : EncodingEnd) (run : Run calls old last)
     → Stays settings old → AllCareful settings calls old last run
 all_careful settings [] old last run k = tt
 all_careful settings (call ∷ calls) old last run k =
-    let now = step_stays settings call old run.0 k run.1 in
-    (careful settings run.0 now, all_careful settings calls run.0 last run.2 now)
+    let now = step_stays settings call old run.0 k run.1 in (
+      call_counts settings call old run.0 k run.1,
+      careful settings run.0 now,
+      all_careful settings calls run.0 last run.2 now,
+    )
 
 pub encoders_careful : EncodersAreCareful
 encoders_careful settings calls first last s run =
@@ -197,7 +246,8 @@ encoders_careful settings calls first last s run =
 
 goes_on : (settings : EncoderSettings) (old new : EncodingEnd) (s : ℕ) (fields : List FieldLine) (section : List ℕ)
     (required : ℕ) → Stays settings old
-    → WritesSection (begun old) new s fields [] section required ⊎ WritesAlone (begun old) new fields [] section required
+    → WritesSection (begun old) new s fields [] section required
+    ⊎ WritesAlone (begun old) new fields [] section required
     → GoesOn settings (begun old) fields required
 goes_on settings old new s [] section required k writes = tt
 goes_on settings old new s (l ∷ more) section required k (inl writes) = λ quiet is some room few.

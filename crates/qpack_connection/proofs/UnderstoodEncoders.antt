@@ -28,6 +28,17 @@ use Rattle.qpack_connection.specs.declared.receiving.EncoderStreamError.TheVaria
 use Rattle.qpack_connection.specs.Decoders.{received, EndsReceiving, ReceivesBytes}
 use Rattle.qpack_connection.specs.Receiving.{ReceivesMore}
 use Rattle.qpack_connection.proofs.LawfulPieces.{encoder_streams_taken}
+use Rattle.qpack_connection.specs.declared.blocked.BlockedStream.{BlockedStream}
+use Rattle.qpack_connection.specs.LawfulEncoders.{IsUnderWay, IsAtRisk, Differ, KeepsToLimit}
+use Rattle.qpack_connection.specs.RefinedDecodes.{MayWait}
+use Rattle.qpack_connection.specs.Waiting.{AreOfOneEach}
+use Rattle.qpack_connection.proofs.KeptConnections.{once_without, once_with}
+use Rattle.qpack_connection.proofs.WaitingStreams.{none_of, Apart, apart_more, not_waiting}
+use Rattle.std.proofs.Common.{Bool, true, false, cond, map}
+use Rattle.std.proofs.lemmas.List.{length-map}
+use Rattle.std.specs.List.{AllByRecursion, filter}
+use Rattle.std.specs.Prelude.{nat_lt}
+use Rattle.std.proofs.lemmas.Bool.{ltb-true}
 use Rattle.qpack_connection.specs.LawfulEncoders.{Encoder, IsLawful, Decoder, Call, Receive, Decode, Cancel, Sent}
 use Rattle.qpack_connection.specs.LawfulEncoders.{Step, Run, IsLawfulCall, AreLawful, Answers, AllAnswer}
 use Rattle.qpack_connection.specs.LawfulEncoders.{LawfulEncodersAreUnderstood}
@@ -42,12 +53,13 @@ use Rattle.qpack_connection.proofs.LawfulEncoders.{taken, is_read_as, decode_ans
 -- ---- between calls
 
 -- what holds between calls: no error ended the connection, what came of the encoder stream is received, no more
--- insertions are reported than were made, and the settings are as they were
+-- insertions are reported than were made, each stream that waits is counted once, and the settings are as they were
 record Stays (settings : DecoderSettings) (x : Decoder) : Type 0 where
   pub alive : x.end.failure ≡ None
   pub settings_are : x.end.settings ≡ settings
   pub stream : Receives (empty_table 0 (Some settings.max_capacity) 0) x.end.table x.come x.end.stream
   pub told : x.end.reported ≤ insert_count x.end.table
+  pub once : AreOfOneEach x.end.blocked
 
 stays_first : (settings : DecoderSettings) (x : Decoder) → Begins settings x.end → x.come ≡ [] → Stays settings x
 stays_first settings x b none =
@@ -58,13 +70,14 @@ stays_first settings x b none =
           subst (λ (t : Table). Receives t x.end.table x.come x.end.stream) b.table
           (subst (λ (c : List ℕ). Receives x.end.table x.end.table c x.end.stream) (sym none) b.stream);
       told = omega (arith, b.reported);
+      once = subst AreOfOneEach (sym b.blocked) tt;
     }
 
 -- the parts that a call may have left as they were
 stays_same : (settings : DecoderSettings) (x y : Decoder) → Stays settings x → y.end.failure ≡ x.end.failure
     → y.end.settings ≡ x.end.settings → y.end.table ≡ x.end.table → y.end.stream ≡ x.end.stream → y.come ≡ x.come
-    → y.end.reported ≤ insert_count x.end.table → Stays settings y
-stays_same settings x y k failure same table stream come told =
+    → y.end.reported ≤ insert_count x.end.table → AreOfOneEach y.end.blocked → Stays settings y
+stays_same settings x y k failure same table stream come told once =
     record {
       alive = failure ∙ k.alive;
       settings_are = same ∙ k.settings_are;
@@ -75,17 +88,19 @@ stays_same settings x y k failure same table stream come told =
           (subst (λ (c : List ℕ). Receives (empty_table 0 (Some settings.max_capacity) 0) x.end.table c x.end.stream)
           (sym come) k.stream));
       told = omega (arith, told, ap insert_count table);
+      once = once;
     }
 
 -- the same where the end is one that is known
 stays_as : (settings : DecoderSettings) (x y : Decoder) (d : DecodingEnd) → Stays settings x → y.end ≡ d
     → y.come ≡ x.come → d.failure ≡ x.end.failure → d.settings ≡ x.end.settings → d.table ≡ x.end.table
-    → d.stream ≡ x.end.stream → d.reported ≤ insert_count x.end.table → Stays settings y
-stays_as settings x y d k is come failure same table stream told =
+    → d.stream ≡ x.end.stream → d.reported ≤ insert_count x.end.table → AreOfOneEach d.blocked → Stays settings y
+stays_as settings x y d k is come failure same table stream told once =
     stays_same settings x y k (ap (λ (e : DecodingEnd). e.failure) is ∙ failure)
     (ap (λ (e : DecodingEnd). e.settings) is ∙ same) (ap (λ (e : DecodingEnd). e.table) is ∙ table)
     (ap (λ (e : DecodingEnd). e.stream) is ∙ stream) come
     (omega (arith, ap (λ (e : DecodingEnd). e.reported) is, told))
+    (subst (λ (e : DecodingEnd). AreOfOneEach e.blocked) (sym is) once)
 
 -- ---- a section is decoded
 
@@ -93,17 +108,19 @@ stays_acknowledged : (settings : DecoderSettings) (x y : Decoder) (s required : 
     → y.come ≡ x.come → y.end ≡ acknowledged s required x.end → Stays settings y
 stays_acknowledged settings x y s zero k come is =
     stays_as settings x y (acknowledged s 0 x.end) k is come refl refl refl refl k.told
+    (once_without s x.end.blocked k.once)
 stays_acknowledged settings x y s (suc many) k come is =
     stays_as settings x y (acknowledged s (suc many) x.end) k is come refl refl refl refl (omega arith)
+    (once_without s x.end.blocked k.once)
 
 stays_told : (settings : DecoderSettings) (x y : Decoder) → Stays settings x → y.come ≡ x.come
     → y.end ≡ with_report x.end → Stays settings y
 stays_told settings x y k come is =
-    stays_as settings x y (with_report x.end) k is come refl refl refl refl (omega arith)
+    stays_as settings x y (with_report x.end) k is come refl refl refl refl (omega arith) k.once
 
 stays_still : (settings : DecoderSettings) (x y : Decoder) → Stays settings x → y.come ≡ x.come → y.end ≡ x.end
     → Stays settings y
-stays_still settings x y k come is = stays_as settings x y x.end k is come refl refl refl refl k.told
+stays_still settings x y k come is = stays_as settings x y x.end k is come refl refl refl refl k.told k.once
 
 -- a call that answers what a section means leaves the end so
 stays_decoded : (settings : DecoderSettings) (x y : Decoder) (s : ℕ) (k : SentSection) (fields : List FieldLine)
@@ -113,6 +130,7 @@ stays_decoded settings x y s k fields (Ok (reading.Fields required)) read h come
     stays_acknowledged settings x y s required h come call.1.1
 stays_decoded settings x y s k fields (Ok (reading.Blocked required)) read h come answers call =
     stays_as settings x y (blocked_behind s required x.end) h call.1.3 come refl refl refl refl h.told
+    (once_with (record { stream = s; required = required }) x.end.blocked h.once)
 stays_decoded settings x y s k fields (Err e) read h come answers call = by_error e answers call.1
   where
     by_error : (e : DecodingError) → AnswersSection x.end s k fields (Err e)
@@ -134,8 +152,11 @@ stays_decoded settings x y s k fields (Err e) read h come answers call = by_erro
 cancel_answers : (settings : DecoderSettings) (x y : Decoder) (s : ℕ) (answer : Result ⊤ DecodingError)
     → Stays settings x → Cancels x.end y.end s answer → y.come ≡ x.come
     → Answers (Cancel s answer) x y × Stays settings y
-cancel_answers settings x y s (Ok done) h call come =
-    (tt, stays_as settings x y (cancelled s x.end) h call.1 come refl refl refl refl h.told)
+cancel_answers settings x y s (Ok done) h call come = (
+  tt,
+  stays_as settings x y (cancelled s x.end) h call.1 come refl refl refl refl h.told
+      (once_without s x.end.blocked h.once),
+)
 cancel_answers settings x y s (Err e) h (inl (inl ended, same)) come = absurd (let z = sym h.alive ∙ ended in cc)
 cancel_answers settings x y s (Err e) h (inl (inr number, same)) come =
     (inr (number.2, number.1), stays_still settings x y h come same)
@@ -247,13 +268,15 @@ receive_answers settings x y bytes left answer p k l step = by_taken answer call
     come_all none = sym step.1 ∙ ap (λ (b : List ℕ). y.come ++ b) none ∙ append-nil y.come
 
     came : left ≡ [] → Receives start y.end.table (x.come ++ bytes) y.end.stream → y.end.failure ≡ x.end.failure
-        → y.end.settings ≡ x.end.settings → y.end.reported ≤ insert_count y.end.table → Stays settings y
-    came none r failure same told =
+        → y.end.settings ≡ x.end.settings → y.end.blocked ≡ x.end.blocked
+        → y.end.reported ≤ insert_count y.end.table → Stays settings y
+    came none r failure same waits told =
         record {
           alive = failure ∙ k.alive;
           settings_are = same ∙ k.settings_are;
           stream = subst (λ (c : List ℕ). Receives start y.end.table c y.end.stream) (come_all none) r;
           told = told;
+          once = subst AreOfOneEach (sym waits) k.once;
         }
 
     by_memory : (a : Result ℕ DecodingError)
@@ -265,11 +288,13 @@ receive_answers settings x y bytes left answer p k l step = by_taken answer call
       stays_same settings x y k (ap (λ (e : DecodingEnd). e.failure) ends.1)
           (ap (λ (e : DecodingEnd). e.settings) ends.1) same.1 same.2
           (append_cancel_right y.come x.come bytes (ap (λ (b : List ℕ). y.come ++ b) (sym same.0) ∙ step.1))
-          (omega (arith, ap (λ (e : DecodingEnd). e.reported) ends.1, k.told)),
+          (omega (arith, ap (λ (e : DecodingEnd). e.reported) ends.1, k.told))
+          (subst (λ (e : DecodingEnd). AreOfOneEach e.blocked) (sym ends.1) k.once),
     )
     by_memory a (inr more) ends = (
       subst (λ (r : Result ℕ DecodingError). Answers (Receive bytes left r) x y) (sym ends.0) refl,
       came more.0 more.2 (ap (λ (e : DecodingEnd). e.failure) ends.1) (ap (λ (e : DecodingEnd). e.settings) ends.1)
+          (ap (λ (e : DecodingEnd). e.blocked) ends.1)
           (omega (
             arith,
             ap (λ (e : DecodingEnd). e.reported) ends.1,
@@ -285,17 +310,61 @@ receive_answers settings x y bytes left answer p k l step = by_taken answer call
     by_taken (Ok total) (Ok it) s ends = (
       (ends.0, s.0),
       came s.0 s.2 (ap (λ (e : DecodingEnd). e.failure) ends.1) (ap (λ (e : DecodingEnd). e.settings) ends.1)
+          (ap (λ (e : DecodingEnd). e.blocked) ends.1)
           (omega (arith, ap (λ (e : DecodingEnd). e.reported) ends.1)),
     )
     by_taken (Err e) (Ok it) s ends = (
       ends.0,
       came s.0 s.2 (ap (λ (d : DecodingEnd). d.failure) ends.2) (ap (λ (d : DecodingEnd). d.settings) ends.2)
+          (ap (λ (d : DecodingEnd). d.blocked) ends.2)
           (omega (arith, ap (λ (d : DecodingEnd). d.reported) ends.2, k.told, counts_whole s)),
     )
     by_taken a (Err stream.Memory) s ends = by_memory a s ends
     by_taken a (Err (stream.Refused place e)) s ends =
         absurd (encoder_streams_taken start x.end.table y.end.table sent.0 x.come bytes l.behind left p.sent x.end.stream
         y.end.stream place e sent.1 s)
+
+-- ---- no stream is one too many
+
+-- those that wait are different streams
+waiting_differ : (n : ℕ) (seen : List ℕ) (bs : List BlockedStream) → AreOfOneEach bs → Apart n seen bs
+    → Differ seen (map (λ (b : BlockedStream). b.stream) (filter (λ b. nat_lt n b.required) bs))
+waiting_differ n seen [] once apart = tt
+waiting_differ n seen (b ∷ bs) once apart =
+    both (nat_lt n b.required) refl (waiting_differ n seen bs once.1 apart.1)
+    (waiting_differ n (b.stream ∷ seen) bs once.1 (apart_more n b.stream seen bs (none_of b.stream bs once.0) apart.1))
+  where
+    both : (t : Bool) → nat_lt n b.required ≡ t
+        → Differ seen (map (λ (x : BlockedStream). x.stream) (filter (λ x. nat_lt n x.required) bs))
+        → Differ (b.stream ∷ seen) (map (λ (x : BlockedStream). x.stream) (filter (λ x. nat_lt n x.required) bs))
+        → Differ seen (map (λ (x : BlockedStream). x.stream)
+        (cond t (b ∷ filter (λ x. nat_lt n x.required) bs) (filter (λ x. nat_lt n x.required) bs)))
+    both true e others behind = (apart.0 (ltb-true n b.required e), behind)
+    both false e others behind = others
+
+-- and each is at risk
+waiting_at_risk : (p : Encoder) (n : ℕ) (bs : List BlockedStream) → p.known ≤ n
+    → AllByRecursion (λ (b : BlockedStream). IsUnderWay p b.stream b.required) bs
+    → AllByRecursion (IsAtRisk p) (map (λ (b : BlockedStream). b.stream) (filter (λ b. nat_lt n b.required) bs))
+waiting_at_risk p n [] known h = tt
+waiting_at_risk p n (b ∷ bs) known h = both (nat_lt n b.required) refl (waiting_at_risk p n bs known h.1)
+  where
+    both : (t : Bool) → nat_lt n b.required ≡ t
+        → AllByRecursion (IsAtRisk p) (map (λ (x : BlockedStream). x.stream) (filter (λ x. nat_lt n x.required) bs))
+        → AllByRecursion (IsAtRisk p) (map (λ (x : BlockedStream). x.stream)
+        (cond t (b ∷ filter (λ x. nat_lt n x.required) bs) (filter (λ x. nat_lt n x.required) bs)))
+    both true e rest = ((b.required, h.0, omega (arith, ltb-true n b.required e, known)), rest)
+    both false e rest = rest
+
+may_wait : (p : Encoder) (d : DecodingEnd) (s : ℕ) (k : SentSection) → KeepsToLimit p d s k.required
+    → p.known ≤ insert_count d.table → AreOfOneEach d.blocked → MayWait d s k
+may_wait p d s k limit known once missing one =
+    let n = insert_count d.table in
+    let waiting = filter (λ (b : BlockedStream). nat_lt n b.required) d.blocked in
+    let few = limit.few (s ∷ map (λ (b : BlockedStream). b.stream) waiting)
+    (refl, waiting_differ n (s ∷ []) d.blocked once (not_waiting n s d.blocked one.0 once))
+    ((k.required, limit.this, omega (arith, missing, known)), waiting_at_risk p n d.blocked known limit.waiting) in
+    omega (arith, few, one.1, length-map waiting (λ (b : BlockedStream). b.stream))
 
 -- ---- all calls
 
@@ -309,14 +378,15 @@ step_answers settings (Decode s section fields answer) x y k step asked =
     x.end.stream) (sym k.settings_are) k.stream in
     let read = strict_reading (window x.end.table) x.end.settings.max_section_size section.bytes in
     let answers = decode_answers x.end y.end s section fields answer read
-    (is_read_as p x.end x.come section asked.1 (taken p x.end x.come asked.1 stream) k.told asked.2) asked.3 k.alive
+    (is_read_as p x.end x.come section asked.1 (taken p x.end x.come asked.1 stream) k.told asked.2)
+    (may_wait p x.end s section asked.3 (omega (arith, asked.1.told, k.told)) k.once) k.alive
     step.0 in
     (answers.0, stays_decoded settings x y s section fields answer read k step.1 answers.0 step.0)
 step_answers settings (Cancel s answer) x y k step asked = cancel_answers settings x y s answer k step.0 step.1
 step_answers settings (Sent bytes) x y k step asked = (
   tt,
   stays_as settings x y (record x.end { unsent = drop bytes x.end.unsent }) k step.0 step.1 refl refl refl refl
-      k.told,
+      k.told k.once,
 )
 
 all_answer : (settings : DecoderSettings) (calls : List Call) (x last : Decoder) (run : Run calls x last)

@@ -42,7 +42,7 @@ Apart n seen bs = AllByRecursion (λ (b : BlockedStream). n < b.required → has
 pub apart_swap : (m n : ℕ) → nat_eq m n ≡ false → nat_eq n m ≡ false
 apart_swap m n e = ne_eqb n m (λ same. eqb-false m n e (sym same))
 
-apart_more : (n s : ℕ) (seen : List ℕ) (bs : List BlockedStream)
+pub apart_more : (n s : ℕ) (seen : List ℕ) (bs : List BlockedStream)
     → AllByRecursion (λ (b : BlockedStream). nat_eq b.stream s ≡ false) bs → Apart n seen bs → Apart n (s ∷ seen) bs
 apart_more n s seen [] h k = tt
 apart_more n s seen (b ∷ bs) h k =
@@ -54,7 +54,7 @@ all_apart n s [] h = tt
 all_apart n s (b ∷ bs) h = (λ more. rw (apart_swap b.stream s h.0) refl, all_apart n s bs h.1)
 
 -- a stream that is not blocked is none of those that wait
-not_waiting : (n s : ℕ) (bs : List BlockedStream) → exceeds n (required_of s bs) ≡ false → AreOfOneEach bs
+pub not_waiting : (n s : ℕ) (bs : List BlockedStream) → exceeds n (required_of s bs) ≡ false → AreOfOneEach bs
     → Apart n (s ∷ []) bs
 not_waiting n s [] h once = tt
 not_waiting n s (b ∷ bs) h once = both (nat_eq b.stream s) refl (λ q. not_waiting n s bs q once.1) h

@@ -7,8 +7,10 @@ use Rattle.std.specs.Option.{IfSome}
 use Rattle.qpack_spec.specs.Field.{FieldLine}
 use Rattle.qpack_spec.specs.Instruction.{DecoderInstruction, SpellsDecoderInstruction}
 use Rattle.qpack_spec.specs.LawfulDecoders.{MayWrite, KeepsNeeded, IsQuiet, IsToBeInserted}
+use Rattle.qpack_spec.specs.Marked.{written_marked_block}
+use Rattle.qpack_spec.specs.Reading.{Block, references_of}
 use Rattle.qpack_spec.specs.Stream.{SpellsAll}
-use Rattle.qpack_spec.specs.Table.{insert_count}
+use Rattle.qpack_spec.specs.Table.{insert_count, with_numbers, with_unacknowledged}
 use Rattle.qpack_connection.specs.declared.encoder.EncoderSettings.{EncoderSettings}
 use Rattle.qpack_connection.specs.declared.encoder.EncodingError.{EncodingError}
 use Rattle.qpack_connection.specs.Encoders.{EncodingEnd, Starts, begun, is_full, Encodes, SetsCapacity, StopsTelling}
@@ -48,9 +50,24 @@ pub record IsCareful (settings : EncoderSettings) (e : EncodingEnd) : Type 0 whe
   pub needed : KeepsNeeded e.table
   pub blocked : length e.table.blocked ≤ settings.max_blocked
 
+-- a section that was written counts as not acknowledged, with exactly the entries that its lines reference; one that
+-- references none does not count (sections 2.1.1 and 2.2.2.1)
+pub record CountsSection (old new : EncodingEnd) (stream : ℕ) (fields : List FieldLine) (section : List ℕ) : Type 0 where
+  pub block : Block
+  pub written : section ≡ written_marked_block fields block
+  pub counted : new.table.unacknowledged
+      ≡ with_unacknowledged old.table.unacknowledged stream
+      (with_numbers [] (references_of (insert_count old.table) block.lines))
+
+-- so does each section that a call wrote
+abbrev pub Counts : Call → EncodingEnd → EncodingEnd → Type 0
+Counts (Encode s fields section (Ok required)) old new = CountsSection (begun old) new s fields section
+Counts call old new = Unit {0}
+
 abbrev pub AllCareful : EncoderSettings → (calls : List Call) (old new : EncodingEnd) → Run calls old new → Type 0
 AllCareful settings [] old new run = Unit {0}
-AllCareful settings (call ∷ calls) old new run = IsCareful settings run.0 × AllCareful settings calls run.0 new run.2
+AllCareful settings (call ∷ calls) old new run =
+    Counts call old run.0 × IsCareful settings run.0 × AllCareful settings calls run.0 new run.2
 
 -- for all calls from a new encoder on, whatever its peer writes
 abbrev pub EncodersAreCareful : Type 0
@@ -84,8 +101,8 @@ abbrev pub AreLawful : (calls : List Call) (old new : EncodingEnd) → Run calls
 AreLawful [] old new run = Unit {0}
 AreLawful (call ∷ calls) old new run = IsLawfulCall call old × AreLawful calls run.0 new run.2
 
--- a section whose first field is to be inserted requires an insertion that was not made before, if nothing is under way,
--- some section may be blocked, and some may wait for its acknowledgment
+-- a section whose first field is to be inserted requires an insertion that was not made before, if nothing is under
+-- way, some section may be blocked, and some may wait for its acknowledgment
 abbrev pub GoesOn : EncoderSettings → EncodingEnd → List FieldLine → ℕ → Type 0
 GoesOn settings e [] required = Unit {0}
 GoesOn settings e (l ∷ more) required =

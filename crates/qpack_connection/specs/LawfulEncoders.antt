@@ -1,14 +1,16 @@
--- What the decoding end of a connection promises with any peer that keeps to the standard, over calls and their answers:
--- it refuses nothing of the encoder stream, and decodes each section to exactly what it means (RFC 9204, sections 2.1,
--- 2.2, 3.2, 4.3 and 4.5).
-use Rattle.std.specs.Prelude.{◌≡◌, ◌≤◌, ℕ, ⊤, List, [], ◌∷◌, ◌++◌, drop, None, Result, Ok, Err}
+-- What the decoding end of a connection promises with any peer that keeps to the standard, over calls and their
+-- answers: it refuses nothing of the encoder stream, and decodes each section to exactly what it means (RFC 9204,
+-- sections 2.1, 2.2, 3.2, 4.3 and 4.5).
+use Rattle.std.specs.Prelude.{◌≡◌, ◌<◌, ◌≤◌, ℕ, ⊤, false, List, [], ◌∷◌, ◌++◌, length, drop, None, Some, Result, Ok}
+use Rattle.std.specs.Prelude.{Err, slice_get}
+use Rattle.std.specs.List.{AllByRecursion}
 use Rattle.qpack_spec.specs.Field.{FieldLine}
 use Rattle.qpack_spec.specs.History.{History}
 use Rattle.qpack_spec.specs.Instruction.{EncoderInstruction, SpellsEncoderInstruction}
 use Rattle.qpack_spec.specs.LawfulEncoders.{IsLawfulEncoder, IsLawfulSection}
 use Rattle.qpack_spec.specs.Stream.{SpellsAll}
 use Rattle.qpack_spec.specs.StrictReading.{strict_reading}
-use Rattle.qpack_spec.specs.Table.{Table, insert_count, window}
+use Rattle.qpack_spec.specs.Table.{Table, insert_count, window, has_number}
 use Rattle.qpack_connection.specs.declared.decoder.DecoderSettings.{DecoderSettings}
 use Rattle.qpack_connection.specs.declared.decoder.DecodingError.{DecodingError}
 use Rattle.qpack_connection.specs.declared.decoder.DecodingError.TheVariants.{Memory}
@@ -16,18 +18,25 @@ use Rattle.qpack_connection.specs.declared.section.Reading.{Reading}
 use Rattle.qpack_connection.specs.Connections.{SentSection}
 use Rattle.qpack_connection.specs.Decoders.{DecodingEnd, Begins, Decodes, Cancels, ReceivesBytes}
 use Rattle.qpack_connection.specs.Receiving.{Receives}
-use Rattle.qpack_connection.specs.RefinedDecodes.{AnswersSection, MayWait}
+use Rattle.qpack_connection.specs.RefinedDecodes.{AnswersSection}
 use Rattle.qpack_connection.specs.RefinedRefusals.{StopsCancelling}
 
 -- ---- what the peer keeps to
 
+-- a section that an encoder has written, and that is not acknowledged, nor its stream cancelled: the stream, and how
+-- many insertions it requires
+pub record UnderWay : Type 0 where
+  pub stream : ℕ
+  pub required : ℕ
+
 -- an encoder as it is when a call is made: the instructions that it has written and their bytes, the insertions that
--- they make, and how many of these it knows to be received
+-- they make, how many of these it knows to be received, and its sections that are under way
 pub record Encoder : Type 0 where
   pub sent : List EncoderInstruction
   pub bytes : List ℕ
   pub made : History
   pub known : ℕ
+  pub sections : List UnderWay
 
 -- it keeps to the standard, in whatever spelling; these bytes have come of what it wrote; and it knows of no more
 -- insertions than this decoder has reported (section 2.1.4)
@@ -37,6 +46,29 @@ pub record IsLawful (p : Encoder) (d : DecodingEnd) (come : List ℕ) : Type 0 w
   pub behind : List ℕ
   pub come_is : p.bytes ≡ come ++ behind
   pub told : p.known ≤ d.reported
+
+-- a section of a stream that requires so many insertions is under way
+abbrev pub IsUnderWay : Encoder → ℕ → ℕ → Type 0
+IsUnderWay p stream required =
+    (i : ℕ) × (slice_get p.sections i ≡ Some (record { stream = stream; required = required }))
+
+-- a stream may come to be blocked: a section of it requires an insertion that is not known to be received (section
+-- 2.1.2)
+abbrev pub IsAtRisk : Encoder → ℕ → Type 0
+IsAtRisk p stream = (required : ℕ) × IsUnderWay p stream required × (p.known < required)
+
+-- numbers that differ from each other, and from those that were seen
+abbrev pub Differ : List ℕ → List ℕ → Type 0
+Differ seen [] = Unit {0}
+Differ seen (n ∷ ns) = (has_number n seen ≡ false) × Differ (n ∷ seen) ns
+
+-- the encoder keeps to the limit of blocked streams: no more of them are at risk than may be blocked. A section that is
+-- decoded now is under way, and so are those that wait at the decoder, which has not acknowledged them (section 2.1.2)
+pub record KeepsToLimit (p : Encoder) (d : DecodingEnd) (stream required : ℕ) : Type 0 where
+  pub few : (streams : List ℕ) → Differ [] streams → AllByRecursion (IsAtRisk p) streams
+      → length streams ≤ d.settings.max_blocked
+  pub this : IsUnderWay p stream required
+  pub waiting : AllByRecursion (λ b. IsUnderWay p b.stream b.required) d.blocked
 
 -- ---- the calls
 
@@ -74,13 +106,13 @@ Run (call ∷ calls) old new = (now : Decoder) × Step call old now × Run calls
 -- ---- what is asked, and what is promised
 
 -- what is asked of a call: the bytes are the next that a lawful encoder wrote; or the section is one that it may have
--- written, and its stream is not one too many to wait (section 2.1.2)
+-- written, keeping to the limit of blocked streams
 abbrev pub IsLawfulCall : Call → Decoder → Type 0
 IsLawfulCall (Receive bytes left answer) d = (p : Encoder) × IsLawful p d.end (d.come ++ bytes)
 IsLawfulCall (Decode s section fields answer) d =
     (p : Encoder) × IsLawful p d.end d.come
     × IsLawfulSection d.end.settings.max_capacity p.made section.required section.fields section.bytes
-    × MayWait d.end s section
+    × KeepsToLimit p d.end s section.required
 IsLawfulCall call d = Unit {0}
 
 abbrev pub AreLawful : (calls : List Call) (old new : Decoder) → Run calls old new → Type 0

@@ -46,16 +46,17 @@ pub fn two_ends_answer_what_was_handed()
 
 /// What [`ConnectionDecoder`](crate::ConnectionDecoder) promises comes to this, with any encoder that keeps to the
 /// standard, in whatever spelling, however the bytes of its stream are cut, and wherever memory is refused: nothing of
-/// the encoder stream is refused; each section that is not acknowledged is decoded to exactly the fields that it means by
-/// the insertions that the encoder made, with their marks, or waits for as many insertions as it requires, while fewer
-/// were received; and no error ends the connection (RFC 9204, sections 2.1, 2.2, 3.2 and 4.3 to 4.5).
+/// the encoder stream is refused; each section that is not acknowledged is decoded to exactly the fields that it means
+/// by the insertions that the encoder made, with their marks, or waits for as many insertions as it requires, while
+/// fewer were received; and no error ends the connection (RFC 9204, sections 2.1, 2.2, 3.2 and 4.3 to 4.5).
 pub fn lawful_encoders_are_understood()
     ensures { LawfulEncodersAreUnderstood }
 {}
 
 /// What [`ConnectionEncoder`](crate::ConnectionEncoder) promises comes to this, with any decoder, whatever it writes:
-/// behind each call nothing is evicted that an unacknowledged section references or that is not known to be received,
-/// and no more sections are blocked than may be (RFC 9204, sections 2.1.1 and 2.1.2).
+/// each section that is written counts as unacknowledged, with exactly the entries that its lines reference; and behind
+/// each call nothing is evicted that an unacknowledged section references or that is not known to be received, and no
+/// more sections are blocked than may be (RFC 9204, sections 2.1.1 and 2.1.2).
 pub fn encoders_are_careful()
     ensures { EncodersAreCareful }
 {}
