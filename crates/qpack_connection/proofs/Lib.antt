@@ -27,3 +27,9 @@ pub mod KeptConnections
 pub mod KeptEncoderCalls
 pub mod KeptDecoderCalls
 pub mod TwoEndsHeadline
+pub mod FramedEncoderCalls
+pub mod FramedDecoderCalls
+pub mod ReachedConnections
+pub mod SentSections
+pub mod ConnectionCalls
+pub mod ConnectionRuns

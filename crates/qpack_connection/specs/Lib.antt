@@ -15,3 +15,6 @@ pub mod RefinedDecodes
 pub mod Waiting
 pub mod RefinedRefusals
 pub mod TwoEndsHeadline
+pub mod OwnedLines
+pub mod ConnectionEvents
+pub mod ConnectionRuns
