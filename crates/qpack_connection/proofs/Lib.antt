@@ -33,3 +33,4 @@ pub mod ReachedConnections
 pub mod SentSections
 pub mod ConnectionCalls
 pub mod ConnectionRuns
+pub mod HandedFields

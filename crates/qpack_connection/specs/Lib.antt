@@ -17,4 +17,5 @@ pub mod RefinedRefusals
 pub mod TwoEndsHeadline
 pub mod OwnedLines
 pub mod ConnectionEvents
+pub mod HandedFields
 pub mod ConnectionRuns

@@ -4,7 +4,8 @@
 ghost use Rattle.std.specs.Prelude.{◌≡◌, ◌+◌, ◌≤◌, length, vec_len, vec_capacity, IfOk, IfErr};
 ghost use Rattle.qpack_connection.specs.ConnectionEvents.{encoder_settings, BeginsWith, Goes, IsReached};
 ghost use Rattle.qpack_connection.specs.ConnectionRuns.{AnswersEvent, StepsAll, GoesFrom, RefusesRun};
-ghost use Rattle.qpack_connection.specs.ConnectionRuns.{AnswerWhatWasHanded};
+ghost use Rattle.qpack_connection.specs.ConnectionRuns.{AnswerWhatWasHanded, calls_of};
+ghost use Rattle.qpack_connection.specs.HandedFields.{DecodeInOrder};
 ghost use Rattle.qpack_connection.specs.declared.connection.RunError.TheVariants.{Settings, Memory};
 ghost use Rattle.qpack_connection.specs.Decoders.{FailsSettings};
 ghost use Rattle.qpack_connection.specs.TwoEndsHeadline.{IsWithin};
@@ -232,10 +233,13 @@ pub fn run(
     // The events in turn, each with its answer, lead from a new connection of these settings to the one that is
     // answered.
     ensures goes { IfOk result (λ p. GoesFrom settings events.items p.1.items p.0) }
+    // The headline, by events and answers alone: on each stream the fields that were decoded are the first of those
+    // that were handed to encodes, section by section and with their marks, in order.
+    ensures headline { IfOk result (λ p. DecodeInOrder (calls_of events.items p.1.items)) }
     // The theorem of two ends: neither end refuses what the other sent, each section is decoded exactly to what was
     // handed to its encode, or waits while fewer insertions were received than it requires, and no more streams are
     // blocked than may be.
-    ensures headline { IfOk result (λ p. AnswerWhatWasHanded settings events.items p.1.items p.0) }
+    ensures answers { IfOk result (λ p. AnswerWhatWasHanded settings events.items p.1.items p.0) }
 {
     let mut connection = Connection::new(alloc, settings)?;
     let mut outcomes = Vec::with_capacity(alloc, events.len())?;
