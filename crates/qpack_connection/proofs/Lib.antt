@@ -31,3 +31,10 @@ pub mod LawfulEncoders
 pub mod UnderstoodEncoders
 pub mod CarefulTables
 pub mod UnderstoodDecoders
+pub mod FramedEncoderCalls
+pub mod FramedDecoderCalls
+pub mod ReachedConnections
+pub mod SentSections
+pub mod ConnectionCalls
+pub mod ConnectionRuns
+pub mod HandedFields

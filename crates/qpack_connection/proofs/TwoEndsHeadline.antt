@@ -34,7 +34,7 @@ use Rattle.qpack_connection.proofs.KeptDecoderCalls.{decode_kept}
 
 -- ---- every call
 
-step_kept : (maximum limit most : ℕ) → limit ≤ most → (call : Call) (old new : Connection) (steps : List EndStep)
+pub step_kept : (maximum limit most : ℕ) → limit ≤ most → (call : Call) (old new : Connection) (steps : List EndStep)
     → IsKept maximum limit most old steps → (step : Step call old new) → Fits call old new step
     → Behind maximum limit most call old new step steps
 step_kept maximum limit most within (Encode s fields (Ok required)) old new steps k step fits =
@@ -62,7 +62,7 @@ apart_from_none : (n : ℕ) (bs : List BlockedStream) → Apart n [] bs
 apart_from_none n [] = tt
 apart_from_none n (b ∷ bs) = (λ more. refl, apart_from_none n bs)
 
-kept_within : (maximum limit most : ℕ) (c : Connection) (steps : List EndStep) → limit ≤ most
+pub kept_within : (maximum limit most : ℕ) (c : Connection) (steps : List EndStep) → limit ≤ most
     → IsKept maximum limit most c steps → IsWithin most c
 kept_within maximum limit most c steps within k =
     let w = after_end_steps steps (abstract_start 0 maximum limit) in
@@ -132,11 +132,17 @@ sound_first s d e =
       failure = subst (λ (o : Option EncodingError). IfSome o (λ x. IsSome (encoders.code_of x))) (sym e.failure) tt;
     }
 
+<<<<<<< HEAD
 new_sound : (c : Connection) → IsNew c → IsSound c.encoder
 new_sound c k = sound_first k.encoder_settings c.encoder k.encoder
 
 new_kept : (c : Connection) (k : IsNew c)
     → IsKept k.encoder_settings.max_capacity (min k.encoder_settings.max_blocked 65534) k.decoder_settings.max_blocked c []
+=======
+pub new_kept : (c : Connection) (k : IsNew c)
+    → IsKept k.encoder_settings.max_capacity (min k.encoder_settings.max_blocked 65534)
+    k.decoder_settings.max_blocked c []
+>>>>>>> 6a7308e84cc14a3de064803d669d56a0403ce9bf
 new_kept c k =
     record {
       refines = new_refined c k;

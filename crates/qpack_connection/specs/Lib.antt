@@ -17,3 +17,7 @@ pub mod RefinedRefusals
 pub mod TwoEndsHeadline
 pub mod LawfulEncoders
 pub mod LawfulDecoders
+pub mod OwnedLines
+pub mod ConnectionEvents
+pub mod HandedFields
+pub mod ConnectionRuns

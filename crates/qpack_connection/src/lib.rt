@@ -4,6 +4,7 @@
 #![tactic(auto)]
 
 pub mod blocked;
+pub mod connection;
 pub mod decoder;
 pub mod encoder;
 pub mod field_section;
@@ -14,6 +15,9 @@ pub mod receiving;
 pub mod section;
 
 pub use blocked::BlockedStream;
+pub use connection::{
+    Connection, ConnectionSettings, Event, Outcome, OwnedFieldLine, RunError, Skip, run,
+};
 pub use decoder::{ConnectionDecoder, DecoderSettings, DecodingError, SettingsError};
 pub use encoder::{ConnectionEncoder, EncoderSettings, EncodingError};
 pub use field_section::{FieldSection, Fields};

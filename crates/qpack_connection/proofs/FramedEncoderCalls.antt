@@ -1,0 +1,189 @@
+-- An encoding end that keeps all that it wrote: a call adds to that what it writes, as of an end of which all was sent.
+use Rattle.std.proofs.Common.{◌≡◌, ℕ, List, [], ◌++◌, Option, None, Some, Result, Ok, Err, ◌⊎◌, inl, inr, true, take}
+use Rattle.std.proofs.Common.{refl, sym, ap, subst, ◌∙◌, append_assoc}
+use Rattle.std.proofs.lemmas.List.{append-nil}
+use Rattle.std.specs.Prelude.{⊤}
+use Rattle.qpack_spec.specs.Field.{FieldLine}
+use Rattle.qpack_spec.specs.Instruction.{SetCapacity, written_encoder_instruction, written_encoder_instructions}
+use Rattle.qpack_spec.specs.Marked.{marked_rule}
+use Rattle.qpack_connection.specs.declared.encoder.EncodingError.{EncodingError}
+use Rattle.qpack_connection.specs.declared.encoder.EncodingError.TheVariants.{Memory}
+use Rattle.qpack_connection.specs.Encoders.{EncodingEnd, begun, begun_with, WritesSection, WritesAlone, GivesUpSection}
+use Rattle.qpack_connection.specs.Encoders.{StopsForMemory, Encodes, SetsIt, SetsCapacity, TellsCapacity}
+use Rattle.qpack_connection.specs.Encoders.{Checks, is_full}
+
+-- the end with other bytes that are to be sent
+abbrev pub with_unsent : List ℕ → EncodingEnd → EncodingEnd
+with_unsent unsent e = record e { unsent = unsent }
+
+-- a call adds so much to what was written, and is this call of an end of which all was sent
+pub record Adds (e e' : EncodingEnd) (Call : EncodingEnd → EncodingEnd → Type 0) : Type 0 where
+  pub more : List ℕ
+  pub written : e'.unsent ≡ e.unsent ++ more
+  pub call : Call (with_unsent [] e) (with_unsent more e')
+
+-- nothing is added where the end is as before
+pub unchanged_adds : (e e' : EncodingEnd) (Call : EncodingEnd → EncodingEnd → Type 0) → e' ≡ e
+    → (with_unsent [] e' ≡ with_unsent [] e → Call (with_unsent [] e) (with_unsent [] e')) → Adds e e' Call
+unchanged_adds e e' Call same call =
+    record {
+      more = [];
+      written = ap (λ (y : EncodingEnd). y.unsent) same ∙ sym (append-nil e.unsent);
+      call = call (ap (with_unsent []) same);
+    }
+
+-- ---- the capacity that is told before the first section
+
+record Begun (d : EncodingEnd) : Type 0 where
+  more : List ℕ
+  written : (begun d).unsent ≡ d.unsent ++ more
+  same : begun (with_unsent [] d) ≡ with_unsent more (begun d)
+
+begun_by : (o : Option ℕ) (d : EncodingEnd)
+    → (more : List ℕ) × ((begun_with o d).unsent ≡ d.unsent ++ more)
+    × (begun_with o (with_unsent [] d) ≡ with_unsent more (begun_with o d))
+begun_by None d = ([], sym (append-nil d.unsent), refl)
+begun_by (Some n) d = (written_encoder_instruction (SetCapacity n), refl, refl)
+
+begun_framed : (d : EncodingEnd) → Begun d
+begun_framed d = let b = begun_by d.wanted d in record { more = b.0; written = b.1; same = b.2 }
+
+-- ---- a section
+
+module _ (e e' : EncodingEnd) (s : ℕ) (fields : List FieldLine) (section : List ℕ) where
+  abbrev IsEncode : Result ℕ EncodingError → EncodingEnd → EncodingEnd → Type 0
+  IsEncode answer x y = Encodes x y s fields [] section answer
+
+  writes_framed : (required : ℕ) (b : Begun e) → WritesSection (begun e) e' s fields [] section required
+      → (more : List ℕ) × (e'.unsent ≡ e.unsent ++ more)
+      × WritesSection (begun (with_unsent [] e)) (with_unsent more e') s fields [] section required
+  writes_framed required b w =
+      let added = written_encoder_instructions (marked_rule (begun e).table fields).instructions in
+      let more = b.more ++ added in (
+        more,
+        w.section.written ∙ ap (λ (x : List ℕ). x ++ added) b.written ∙ append_assoc e.unsent b.more added,
+        subst (λ (x : EncodingEnd). WritesSection x (with_unsent more e') s fields [] section required) (sym b.same)
+            (record {
+              room = w.room;
+              section = record {
+                required_is = w.section.required_is;
+                table = w.section.table;
+                block = w.section.block;
+                written = refl;
+              };
+              new_is = ap (with_unsent more) w.new_is;
+            }),
+      )
+
+  alone_framed : (required : ℕ) (b : Begun e) → WritesAlone (begun e) e' fields [] section required
+      → (more : List ℕ) × (e'.unsent ≡ e.unsent ++ more)
+      × WritesAlone (begun (with_unsent [] e)) (with_unsent more e') fields [] section required
+  alone_framed required b w = (
+    b.more,
+    ap (λ (y : EncodingEnd). y.unsent) w.new_is ∙ b.written,
+    subst (λ (x : EncodingEnd). WritesAlone x (with_unsent b.more e') fields [] section required) (sym b.same)
+        (record {
+          full = w.full;
+          required_is = w.required_is;
+          section = w.section;
+          new_is = ap (with_unsent b.more) w.new_is;
+        }),
+  )
+
+  gives_up_framed : (b : Begun e) → GivesUpSection (begun e) e' fields
+      → (more : List ℕ) × (e'.unsent ≡ e.unsent ++ more)
+      × GivesUpSection (begun (with_unsent [] e)) (with_unsent more e') fields
+  gives_up_framed b w =
+      let added = written_encoder_instructions
+      (marked_rule (begun e).table (take w.lines.many fields)).instructions in
+      let more = b.more ++ added in (
+        more,
+        w.lines.written ∙ ap (λ (x : List ℕ). x ++ added) b.written ∙ append_assoc e.unsent b.more added,
+        subst (λ (x : EncodingEnd). GivesUpSection x (with_unsent more e') fields) (sym b.same)
+            (record {
+              room = w.room;
+              lines = record { many = w.lines.many; table = w.lines.table; written = refl };
+              new_is = ap (with_unsent more) w.new_is;
+            }),
+      )
+
+  full_framed : (b : Begun e) → e' ≡ begun e
+      → (more : List ℕ) × (e'.unsent ≡ e.unsent ++ more)
+      × (with_unsent more e' ≡ begun (with_unsent [] e))
+  full_framed b same = (
+    b.more,
+    ap (λ (y : EncodingEnd). y.unsent) same ∙ b.written,
+    ap (with_unsent b.more) same ∙ sym b.same,
+  )
+
+  full_still : (b : Begun e) → is_full (begun e) ≡ true → is_full (begun (with_unsent [] e)) ≡ true
+  full_still b full = subst (λ (x : EncodingEnd). is_full x ≡ true) (sym b.same) full
+
+  by_memory : (x : EncodingError) → x ≡ Memory → [] ≡ section → Checks e s (Ok tt) → StopsForMemory e e' fields
+      → Adds e e' (IsEncode (Err x))
+  by_memory x memory none checks (inl stops) =
+      unchanged_adds e e' (IsEncode (Err x)) stops.1
+      (λ same. (sym none, inr (checks, memory, inl (stops.0, same))))
+  by_memory x memory none checks (inr (inl stops)) =
+      let f = full_framed (begun_framed e) stops.1 in
+      record {
+        more = f.0;
+        written = f.1;
+        call = (sym none, inr (checks, memory, inr (inl (full_still (begun_framed e) stops.0, f.2))));
+      }
+  by_memory x memory none checks (inr (inr stops)) =
+      let f = gives_up_framed (begun_framed e) stops in
+      record { more = f.0; written = f.1; call = (sym none, inr (checks, memory, inr (inr f.2))) }
+
+  by_error : (x : EncodingError) → section ≡ []
+      → (Checks e s (Err x) × (e' ≡ e)) ⊎ (Checks e s (Ok tt) × (x ≡ Memory) × StopsForMemory e e' fields)
+      → Adds e e' (IsEncode (Err x))
+  by_error x none (inl stops) =
+      unchanged_adds e e' (IsEncode (Err x)) stops.1 (λ same. (none, inl (stops.0, same)))
+  by_error x none (inr stops) = by_memory x stops.1 (sym none) stops.0 stops.2
+
+  by_kind : (required : ℕ) → Checks e s (Ok tt)
+      → WritesSection (begun e) e' s fields [] section required ⊎ WritesAlone (begun e) e' fields [] section required
+      → Adds e e' (IsEncode (Ok required))
+  by_kind required checks (inl w) =
+      let f = writes_framed required (begun_framed e) w in
+      record { more = f.0; written = f.1; call = (checks, inl f.2) }
+  by_kind required checks (inr w) =
+      let f = alone_framed required (begun_framed e) w in
+      record { more = f.0; written = f.1; call = (checks, inr f.2) }
+
+  pub encode_framed : (answer : Result ℕ EncodingError) → Encodes e e' s fields [] section answer
+      → Adds e e' (IsEncode answer)
+  encode_framed (Ok required) call = by_kind required call.0 call.1
+  encode_framed (Err x) call = by_error x call.0 call.1
+
+-- ---- a capacity
+
+module _ (e e' : EncodingEnd) (n : ℕ) where
+  abbrev IsSetting : Result ⊤ EncodingError → EncodingEnd → EncodingEnd → Type 0
+  IsSetting answer x y = SetsCapacity x y n answer
+
+  set_framed : e.failure ≡ None → SetsIt e e' n → Adds e e' (IsSetting (Ok tt))
+  set_framed alive (inl none) =
+      unchanged_adds e e' (IsSetting (Ok tt)) none.1 (λ same. (alive, inl (none.0, same)))
+  set_framed alive (inr tells) =
+      record {
+        more = written_encoder_instruction (SetCapacity n);
+        written = ap (λ (y : EncodingEnd). y.unsent) tells.1.1;
+        call = (
+          alive,
+          inr (tells.0, (tells.1.0, ap (with_unsent (written_encoder_instruction (SetCapacity n))) tells.1.1)),
+        );
+      }
+
+  refused_set : (x : EncodingError)
+      → ((e.failure ≡ Some x) × (e' ≡ e)) ⊎ ((e.failure ≡ None) × TellsCapacity e e' n (Err x))
+      → Adds e e' (IsSetting (Err x))
+  refused_set x (inl ended) =
+      unchanged_adds e e' (IsSetting (Err x)) ended.1 (λ same. (inl (ended.0, same)))
+  refused_set x (inr stops) =
+      unchanged_adds e e' (IsSetting (Err x)) stops.1.1 (λ same. (inr (stops.0, (stops.1.0, same))))
+
+  pub capacity_framed : (answer : Result ⊤ EncodingError) → SetsCapacity e e' n answer → Adds e e' (IsSetting answer)
+  capacity_framed (Ok it) call = set_framed call.0 call.1
+  capacity_framed (Err x) call = refused_set x call

@@ -1,0 +1,248 @@
+//! Both ends of a connection, with the two instruction streams between them and the sections of each request stream
+//! (RFC 9204, section 2). Events are given one by one, and each answers what the end that it goes to answers.
+
+ghost use Rattle.std.specs.Prelude.{◌≡◌, ◌+◌, ◌≤◌, length, vec_len, vec_capacity, IfOk, IfErr};
+ghost use Rattle.qpack_connection.specs.ConnectionEvents.{encoder_settings, BeginsWith, Goes, IsReached};
+ghost use Rattle.qpack_connection.specs.ConnectionRuns.{AnswersEvent, StepsAll, GoesFrom, RefusesRun};
+ghost use Rattle.qpack_connection.specs.ConnectionRuns.{AnswerWhatWasHanded, calls_of};
+ghost use Rattle.qpack_connection.specs.HandedFields.{DecodeInOrder};
+ghost use Rattle.qpack_connection.specs.declared.connection.RunError.TheVariants.{Settings, Memory};
+ghost use Rattle.qpack_connection.specs.Decoders.{FailsSettings};
+ghost use Rattle.qpack_connection.specs.TwoEndsHeadline.{IsWithin};
+
+use crate::connection::ends::Ends;
+use crate::decoder::{ConnectionDecoder, DecoderSettings, DecodingError, SettingsError};
+use crate::encoder::{
+    ConnectionEncoder, DEFAULT_CAPACITY, DEFAULT_UNACKNOWLEDGED, EncoderSettings, EncodingError,
+};
+use crate::field_section::FieldSection;
+use crate::section::Reading;
+use std::alloc::{AllocError, Global};
+use std::marker::Model;
+use thiserror::Error;
+
+mod ends;
+mod fields;
+mod offered;
+mod stream;
+mod streams;
+
+pub use fields::OwnedFieldLine;
+
+/// What both ends of a connection are made from: what the decoding end sends as its settings, which the encoding end
+/// receives (RFC 9204, section 5), and what the encoding end wants of its table.
+#[derive(Clone, Copy, Debug, PartialEq, Eq, Drop)]
+pub struct ConnectionSettings {
+    /// What the decoding end sends.
+    pub decoder: DecoderSettings,
+    /// The capacity that the encoding end wants, in bytes; at most the maximum is taken (RFC 9204, section 3.2.3).
+    pub capacity: usize,
+    /// How many sections may wait for acknowledgments (RFC 9204, section 4.4.1) before sections are written without
+    /// references.
+    pub most_unacknowledged: usize,
+}
+
+impl ConnectionSettings {
+    /// What the decoding end sends; a capacity of 4,096 bytes is wanted, and 1,000 sections may wait for
+    /// acknowledgments.
+    pub fn new(decoder: DecoderSettings) -> ConnectionSettings
+        ensures { result ≡ record { decoder = decoder; capacity = 4096; most_unacknowledged = 1000 } }
+    {
+        ConnectionSettings {
+            decoder,
+            capacity: DEFAULT_CAPACITY,
+            most_unacknowledged: DEFAULT_UNACKNOWLEDGED,
+        }
+    }
+
+    /// What the encoding end is made from.
+    pub fn encoder(&self) -> EncoderSettings
+        ensures { result ≡ encoder_settings self.now }
+    {
+        EncoderSettings {
+            max_capacity: self.decoder.max_capacity,
+            max_blocked: self.decoder.max_blocked,
+            capacity: self.capacity,
+            most_unacknowledged: self.most_unacknowledged,
+        }
+    }
+}
+
+/// What may happen on a connection. Streams go by their numbers, which are below 2^62.
+#[derive(Debug, Drop)]
+pub enum Event {
+    /// A field section is encoded for a stream (RFC 9204, section 2.1).
+    Encode(u64, Vec<OwnedFieldLine>),
+    /// The encoding end sets the capacity of its table, in bytes (RFC 9204, section 4.3.1).
+    SetCapacity(usize),
+    /// So many more bytes of the encoder stream come to the decoding end, or all that are left.
+    ToDecoder(usize),
+    /// So many more bytes of the decoder stream come to the encoding end, or all that are left.
+    ToEncoder(usize),
+    /// The oldest section of a stream that was not decoded is handed to the decoding end (RFC 9204, section 2.2).
+    Decode(u64),
+    /// The decoding end gives a stream up (RFC 9204, section 4.4.2).
+    Cancel(u64),
+}
+
+/// Why an event is skipped.
+#[derive(Clone, Copy, Debug, PartialEq, Eq, Drop)]
+pub enum Skip {
+    /// The stream has no section that was not decoded.
+    NothingToDecode,
+    /// The stream is cancelled.
+    StreamCancelled,
+}
+
+/// What an event answers.
+#[derive(Debug, Drop)]
+pub enum Outcome {
+    /// The required insert count of the section, 0 if it references no entry; or why it was not encoded.
+    Encoded(Result<usize, EncodingError>),
+    /// The capacity was set, and is told; or why not.
+    CapacitySet(Result<(), EncodingError>),
+    /// How many insertions the decoding end received in all; or why it stopped.
+    Delivered(Result<usize, DecodingError>),
+    /// The encoding end received the bytes; or why it stopped.
+    Heard(Result<(), EncodingError>),
+    /// What the section read as, with its fields, of which there are none unless they are answered; or why it was not
+    /// decoded.
+    Decoded(Result<Reading, DecodingError>, FieldSection),
+    /// The stream was cancelled; or why not.
+    Cancelled(Result<(), DecodingError>),
+    /// The event is outside what the two ends of a connection do, and nothing changed.
+    Skipped(Skip),
+    /// There was no memory to keep a section or a stream: no end was called, and nothing changed.
+    NoRoom,
+}
+
+/// Why a run was not done.
+#[derive(Clone, Copy, Debug, PartialEq, Eq, Drop, Error)]
+pub enum RunError {
+    /// The settings are refused.
+    #[error("{0}")]
+    Settings(SettingsError),
+    /// There was no memory for what the events answer.
+    #[error("out of memory")]
+    Memory,
+}
+
+impl From<SettingsError> for RunError {
+    ghost from_gives = { λ e r. r ≡ Settings e };
+
+    fn from(e: SettingsError) -> RunError {
+        RunError::Settings(e)
+    }
+}
+
+impl From<AllocError> for RunError {
+    ghost from_gives = { λ _ r. r ≡ Memory };
+
+    fn from(_e: AllocError) -> RunError {
+        RunError::Memory
+    }
+}
+
+/// The two ends of a connection, and what is between them.
+#[derive(Debug, Drop)]
+pub struct Connection {
+    ends: Ends,
+}
+
+impl Model for Connection {
+    ghost use Rattle.qpack_connection.specs.Connections.{Connection as Ends};
+    ghost use Rattle.qpack_connection.specs.ConnectionEvents.{IsReached};
+
+    ghost Value = { Ends };
+
+    ghost view = { λ c. c.ends };
+
+    ghost invariant = { λ c. IsReached c.ends };
+}
+
+impl Connection {
+    /// A connection on which nothing has happened. Both tables have the capacity 0 until the encoding end tells one,
+    /// which it does before the first section (RFC 9204, section 3.2.3). Refused are a maximum capacity of 2^30 bytes
+    /// or more, and then a limit of 65,535 blocked streams or more. Takes no memory.
+    pub fn new(alloc: Global, settings: ConnectionSettings) -> Result<Connection, SettingsError>
+        ensures ok { IfOk result (λ c. BeginsWith settings c) }
+        ensures err { IfErr result (FailsSettings settings.decoder) }
+    {
+        let ends = Ends::new(alloc, settings)?;
+        Ok(Connection { ends })
+    }
+
+    /// Does what an event says, and tells what came of it. An event outside what the two ends do is skipped; one for
+    /// which there was no room, or whose answer tells want of memory, can be given again.
+    pub fn step(&mut self, event: Event) -> Outcome
+        // It is one call of an end, and what that makes of the connection; or it is skipped, exactly for its reason, or
+        // there was no room for what is kept of it, and nothing changes.
+        ensures goes { Goes self.old self.new event result }
+        // The call answers as the theorem of two ends has it: neither end refuses what the other sent, and a section is
+        // decoded exactly to what was handed to its encode, or waits while fewer insertions were received than it
+        // requires.
+        ensures answers { AnswersEvent self.old self.new event result }
+        // No error ended an end; no more sections are blocked, and no more streams wait, than may; and the encoding end
+        // takes no insertion for received that was not.
+        ensures within { IsWithin self.new.decoder.settings.max_blocked self.new }
+    {
+        self.is_reached();
+        self.ends.perform(event)
+    }
+
+    /// Does what the events say, one by one, and appends what each answers. There is room for that.
+    fn step_all(&mut self, events: Vec<Event>, outcomes: &mut Vec<Outcome>)
+        requires room { vec_len outcomes.old + length events.items ≤ vec_capacity outcomes.old }
+        ensures { StepsAll self.old self.new events.items outcomes.old.items outcomes.new.items }
+    {
+        for event in events {
+            outcomes.push_reserved(self.step(event));
+        }
+    }
+
+    /// Calls led to the connection: this is known of each.
+    fn is_reached(&self)
+        ensures { IsReached self.now }
+    {
+        let _ = &self.ends;
+    }
+
+    /// The encoding end. What it has to send is all of the encoder stream, from the start.
+    pub fn encoder(&self) -> &ConnectionEncoder
+        ensures { result.now ≡ record self.now.encoder { unsent = self.now.encoder_stream.written } }
+    {
+        self.ends.encoder()
+    }
+
+    /// The decoding end. What it has to send is all of the decoder stream, from the start.
+    pub fn decoder(&self) -> &ConnectionDecoder
+        ensures { result.now ≡ record self.now.decoder { unsent = self.now.decoder_stream.written } }
+    {
+        self.ends.decoder()
+    }
+}
+
+/// Begins a connection and gives it the events in turn; answers the connection behind them and what each answered.
+/// Refused are settings, as `Connection::new` refuses them, and want of memory for the answers.
+pub fn run(
+    alloc: Global,
+    settings: ConnectionSettings,
+    events: Vec<Event>,
+) -> Result<(Connection, Vec<Outcome>), RunError>
+    ensures err { IfErr result (RefusesRun settings) }
+    // The events in turn, each with its answer, lead from a new connection of these settings to the one that is
+    // answered.
+    ensures goes { IfOk result (λ p. GoesFrom settings events.items p.1.items p.0) }
+    // The headline, by events and answers alone: on each stream the fields that were decoded are the first of those
+    // that were handed to encodes, section by section and with their marks, in order.
+    ensures headline { IfOk result (λ p. DecodeInOrder (calls_of events.items p.1.items)) }
+    // The theorem of two ends: neither end refuses what the other sent, each section is decoded exactly to what was
+    // handed to its encode, or waits while fewer insertions were received than it requires, and no more streams are
+    // blocked than may be.
+    ensures answers { IfOk result (λ p. AnswerWhatWasHanded settings events.items p.1.items p.0) }
+{
+    let mut connection = Connection::new(alloc, settings)?;
+    let mut outcomes = Vec::with_capacity(alloc, events.len())?;
+    connection.step_all(events, &mut outcomes);
+    Ok((connection, outcomes))
+}

@@ -1,0 +1,81 @@
+//! Field lines that are owned, as a connection keeps those that were handed to its encoding end.
+
+ghost use Rattle.std.specs.Prelude.{◌≡◌, ◌<◌, ◌^◌, IfOk, length};
+ghost use Rattle.std.specs.List.{AllByRecursion};
+ghost use Rattle.qpack_spec.specs.Field.{fields_of_lines};
+ghost use Rattle.qpack_spec.specs.Huffman.{AreBytes};
+ghost use Rattle.qpack_spec.specs.WrittenLaws.{IsByteField};
+ghost use Rattle.qpack_base.specs.HeaderFields.{line_of};
+ghost use Rattle.qpack_connection.specs.OwnedLines.{line_of as line_of_owned, lines_of};
+
+use h3_qpack::encoder::AsField;
+use qpack_base::coding::NoMemory;
+use qpack_base::field::FieldLine;
+use std::alloc::Global;
+
+/// A field line that owns its name and its value (RFC 9110, section 5).
+#[derive(Debug, Drop)]
+pub struct OwnedFieldLine {
+    /// The name.
+    pub name: Vec<u8>,
+    /// The value.
+    pub value: Vec<u8>,
+    /// Whether the field is never to be indexed (RFC 9204, section 7.1.3).
+    pub never_indexed: bool,
+}
+
+impl OwnedFieldLine {
+    /// A copy of a field line.
+    pub fn copy(alloc: Global, line: FieldLine<'_>) -> Result<OwnedFieldLine, NoMemory>
+        ensures { IfOk result (λ owned. line_of_owned owned ≡ line_of line.entry) }
+    {
+        Ok(OwnedFieldLine {
+            name: Vec::from_slice(alloc, line.name)?,
+            value: Vec::from_slice(alloc, line.value)?,
+            never_indexed: line.never_indexed,
+        })
+    }
+}
+
+impl AsField for OwnedFieldLine {
+    ghost line = { λ x. line_of_owned x };
+
+    fn as_field(&self) -> FieldLine<'_> {
+        FieldLine {
+            name: &self.name,
+            value: &self.value,
+            never_indexed: self.never_indexed,
+        }
+    }
+}
+
+/// The fields are bytes. Their types say so of each once it is read, and what is proved of a connection rests on it.
+pub(super) fn read_fields(fields: &[OwnedFieldLine])
+    ensures { AllByRecursion IsByteField (fields_of_lines (lines_of fields.now)) }
+{
+    for field in fields {
+        read_field(field);
+    }
+}
+
+/// The field's name and its value are bytes.
+fn read_field(field: &OwnedFieldLine)
+    ensures { IsByteField (line_of_owned field.now).field }
+{
+    read_bytes(&field.name);
+    read_bytes(&field.value);
+}
+
+/// The numbers of the slice are bytes.
+fn read_bytes(bytes: &[u8])
+    ensures { AreBytes bytes.now }
+{
+    let _len = bytes.len();
+}
+
+/// What is in memory takes fewer than 2^63 bytes.
+pub(super) fn is_short(bytes: &[u8])
+    ensures { length bytes.now < 2 ^ 63 }
+{
+    let _len = bytes.len();
+}

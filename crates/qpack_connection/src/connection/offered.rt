@@ -1,0 +1,12 @@
+//! What of an instruction stream is offered to the end that receives it.
+
+ghost use Rattle.std.specs.Prelude.{◌≡◌, take, drop};
+
+/// The bytes that come next behind those that were received, so many of them or all.
+pub(super) fn next_of(stream: &[u8], received: usize, many: usize) -> &[u8]
+    ensures { result.now ≡ take many (drop received stream.now) }
+{
+    let start = received.min(stream.len());
+    let end = start.saturating_add(many).min(stream.len());
+    &stream[start..end]
+}
