@@ -1,4 +1,5 @@
 -- A section that a lawful encoder wrote is decoded to what it means.
+use Rattle.std.proofs.Common.{◌∷◌}
 use Rattle.std.proofs.Common.{◌≡◌, ◌≤◌, ◌<◌, ◌⊎◌, ℕ, zero, suc, List, [], ◌++◌, length, None, Some, Result}
 use Rattle.std.proofs.Common.{Ok, Err, refl, sym, ap, subst, ◌∙◌, arith, inl, inr}
 use Rattle.std.specs.Prelude.{IsOk}
@@ -32,6 +33,12 @@ use Rattle.qpack_connection.specs.Decoders.{IsNotAnswered, StopsDecoding, Decode
 use Rattle.qpack_connection.specs.LawfulEncoders.{Encoder, IsLawful}
 use Rattle.qpack_connection.specs.Receiving.{Receives}
 use Rattle.qpack_connection.specs.RefinedDecodes.{AnswersSection, MayWait}
+use Rattle.qpack_connection.specs.declared.place.Place.{Place}
+use Rattle.qpack_connection.specs.Receiving.{HasReceived}
+use Rattle.qpack_spec.specs.Form.{Truncates}
+use Rattle.qpack_spec.specs.LawfulEncoders.{IsLawfulEncoder}
+use Rattle.qpack_spec.proofs.Windows.{leads_unique}
+use Rattle.std.proofs.lemmas.List.{append-nil}
 use Rattle.qpack_connection.specs.Sections.{TellsReading}
 use Rattle.qpack_connection.proofs.RefinedDecodes.{over_code, not_ended, read_fields, read_count, blocked_count}
 use Rattle.qpack_connection.proofs.RefinedDecodes.{stops_for_memory}
@@ -67,6 +74,37 @@ sound_taken p d t =
 count_taken : (p : Encoder) (d : DecodingEnd) (t : Taken p d) → insert_count d.table ≡ length t.history.inserted
 count_taken p d t =
     ap insert_count t.table ∙ count_put (window_of t.history) ∙ all_counted t.history (sound_taken p d t)
+
+-- ---- all that was written
+
+-- nothing is behind whole instructions but one that is cut
+none_still : (rest : List ℕ) (still : List EncoderInstruction) → Truncates encoder_instruction_form rest
+    → SpellsAll SpellsEncoderInstruction (rest ++ []) still → still ≡ []
+none_still rest [] cut s = refl
+none_still rest (i ∷ is) cut s = absurd ((cut s.0 s.1 (sym (append-nil rest) ∙ s.2)).0 i s.3)
+
+-- once all bytes of an encoder are received, so are all its insertions
+pub all_made : (maximum : ℕ) (p : Encoder) (t : Table) (come : List ℕ) (place : Place) (pending : List ℕ)
+    → IsLawfulEncoder maximum p.known p.sent p.made → SpellsAll SpellsEncoderInstruction p.bytes p.sent
+    → p.bytes ≡ come → HasReceived (empty_table 0 (Some maximum) 0) t come place pending
+    → insert_count t ≡ length p.made.inserted
+all_made maximum p t come place pending e spelled all h =
+    let k = h.0 in
+    let start = initial_history 0 maximum in
+    let x = reads_front SpellsEncoderInstruction (wire encoder_instruction_form) k.lines p.sent k.front k.rest []
+    k.joined (subst (λ (b : List ℕ). SpellsAll SpellsEncoderInstruction b p.sent)
+    (all ∙ k.cut ∙ ap (λ (b : List ℕ). k.front ++ b) (sym (append-nil k.rest))) spelled) in
+    let none = none_still k.rest x.still k.ends.1.cut x.left in
+    let same : p.sent ≡ k.lines =
+    x.goes_on ∙ ap (λ (is : List EncoderInstruction). k.lines ++ is) none ∙ append-nil k.lines in
+    let l = strict_leads start k.lines t (sound_start 0 maximum)
+    (subst (λ (u : Table). apply_in_turn strict_apply u k.lines ≡ Ok t) (begins_empty maximum) k.applies) in
+    let made : l.0 ≡ p.made =
+    leads_unique start k.lines l.0 p.made l.1
+    (subst (λ (is : List EncoderInstruction). Leads start is p.made) same e.makes) in
+    ap insert_count l.2 ∙ count_put (window_of l.0)
+    ∙ all_counted l.0 (leads_sound start k.lines l.0 l.1 (sound_start 0 maximum))
+    ∙ ap (λ (h : History). length h.inserted) made
 
 -- ---- a section
 

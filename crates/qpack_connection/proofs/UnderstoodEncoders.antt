@@ -48,7 +48,8 @@ use Rattle.qpack_connection.specs.Receiving.{StreamView, Receives}
 use Rattle.qpack_connection.specs.RefinedDecodes.{AnswersSection}
 use Rattle.qpack_connection.proofs.RefinedDecodes.{not_ended}
 use Rattle.qpack_connection.proofs.RefinedDecodes.{stops_for_memory}
-use Rattle.qpack_connection.proofs.LawfulEncoders.{taken, is_read_as, decode_answers}
+use Rattle.qpack_spec.specs.LawfulEncoders.{IsLawfulEncoder}
+use Rattle.qpack_connection.proofs.LawfulEncoders.{all_made, taken, is_read_as, decode_answers}
 
 -- ---- between calls
 
@@ -151,7 +152,7 @@ stays_decoded settings x y s k fields (Err e) read h come answers call = by_erro
 
 cancel_answers : (settings : DecoderSettings) (x y : Decoder) (s : ℕ) (answer : Result ⊤ DecodingError)
     → Stays settings x → Cancels x.end y.end s answer → y.come ≡ x.come
-    → Answers (Cancel s answer) x y × Stays settings y
+    → Answers (Cancel s answer) x y tt × Stays settings y
 cancel_answers settings x y s (Ok done) h call come = (
   tt,
   stays_as settings x y (cancelled s x.end) h call.1 come refl refl refl refl h.told
@@ -213,8 +214,8 @@ lawful_stream settings p d come same l =
     )
 
 receive_answers : (settings : DecoderSettings) (x y : Decoder) (bytes left : List ℕ) (answer : Result ℕ DecodingError)
-    (p : Encoder) → Stays settings x → IsLawful p x.end (x.come ++ bytes) → Step (Receive bytes left answer) x y
-    → Answers (Receive bytes left answer) x y × Stays settings y
+    (p : Encoder) → Stays settings x → (l : IsLawful p x.end (x.come ++ bytes)) → Step (Receive bytes left answer) x y
+    → Answers (Receive bytes left answer) x y (p, l) × Stays settings y
 receive_answers settings x y bytes left answer p k l step = by_taken answer call.taken call.stream call.ends
   where
     start : Table
@@ -279,12 +280,21 @@ receive_answers settings x y bytes left answer p k l step = by_taken answer call
           once = subst AreOfOneEach (sym waits) k.once;
         }
 
+    -- all that the encoder wrote has come
+    all_came : p.bytes ≡ x.come ++ bytes
+        → ReceivesMore start x.end.table y.end.table x.come bytes left x.end.stream y.end.stream (Ok tt)
+        → insert_count y.end.table ≡ length p.made.inserted
+    all_came all s =
+        all_made settings.max_capacity p y.end.table (x.come ++ bytes) y.end.stream.place y.end.stream.pending
+        (subst (λ (c : DecoderSettings). IsLawfulEncoder c.max_capacity p.known p.sent p.made) k.settings_are l.encoder)
+        l.spelled all s.1
+
     by_memory : (a : Result ℕ DecodingError)
         → ReceivesMore start x.end.table y.end.table x.come bytes left x.end.stream y.end.stream (Err stream.Memory)
         → EndsReceiving (received y.end.table y.end.stream x.end) y.end (Err stream.Memory) a
-        → Answers (Receive bytes left a) x y × Stays settings y
+        → Answers (Receive bytes left a) x y (p, l) × Stays settings y
     by_memory a (inl same) ends = (
-      subst (λ (r : Result ℕ DecodingError). Answers (Receive bytes left r) x y) (sym ends.0) refl,
+      subst (λ (r : Result ℕ DecodingError). Answers (Receive bytes left r) x y (p, l)) (sym ends.0) refl,
       stays_same settings x y k (ap (λ (e : DecodingEnd). e.failure) ends.1)
           (ap (λ (e : DecodingEnd). e.settings) ends.1) same.1 same.2
           (append_cancel_right y.come x.come bytes (ap (λ (b : List ℕ). y.come ++ b) (sym same.0) ∙ step.1))
@@ -292,7 +302,7 @@ receive_answers settings x y bytes left answer p k l step = by_taken answer call
           (subst (λ (e : DecodingEnd). AreOfOneEach e.blocked) (sym ends.1) k.once),
     )
     by_memory a (inr more) ends = (
-      subst (λ (r : Result ℕ DecodingError). Answers (Receive bytes left r) x y) (sym ends.0) refl,
+      subst (λ (r : Result ℕ DecodingError). Answers (Receive bytes left r) x y (p, l)) (sym ends.0) refl,
       came more.0 more.2 (ap (λ (e : DecodingEnd). e.failure) ends.1) (ap (λ (e : DecodingEnd). e.settings) ends.1)
           (ap (λ (e : DecodingEnd). e.blocked) ends.1)
           (omega (
@@ -306,9 +316,9 @@ receive_answers settings x y bytes left answer p k l step = by_taken answer call
     by_taken : (a : Result ℕ DecodingError) (taken : Result ⊤ EncoderStreamError)
         → ReceivesMore start x.end.table y.end.table x.come bytes left x.end.stream y.end.stream taken
         → EndsReceiving (received y.end.table y.end.stream x.end) y.end taken a
-        → Answers (Receive bytes left a) x y × Stays settings y
+        → Answers (Receive bytes left a) x y (p, l) × Stays settings y
     by_taken (Ok total) (Ok it) s ends = (
-      (ends.0, s.0),
+      (ends.0, s.0, λ all. ends.0 ∙ all_came all s),
       came s.0 s.2 (ap (λ (e : DecodingEnd). e.failure) ends.1) (ap (λ (e : DecodingEnd). e.settings) ends.1)
           (ap (λ (e : DecodingEnd). e.blocked) ends.1)
           (omega (arith, ap (λ (e : DecodingEnd). e.reported) ends.1)),
@@ -369,7 +379,7 @@ may_wait p d s k limit known once missing one =
 -- ---- all calls
 
 step_answers : (settings : DecoderSettings) (call : Call) (x y : Decoder) → Stays settings x → Step call x y
-    → IsLawfulCall call x → Answers call x y × Stays settings y
+    → (asked : IsLawfulCall call x) → Answers call x y asked × Stays settings y
 step_answers settings (Receive bytes left answer) x y k step asked =
     receive_answers settings x y bytes left answer asked.0 k asked.1 step
 step_answers settings (Decode s section fields answer) x y k step asked =
@@ -390,7 +400,7 @@ step_answers settings (Sent bytes) x y k step asked = (
 )
 
 all_answer : (settings : DecoderSettings) (calls : List Call) (x last : Decoder) (run : Run calls x last)
-    → Stays settings x → AreLawful calls x last run → AllAnswer calls x last run
+    → Stays settings x → (asked : AreLawful calls x last run) → AllAnswer calls x last run asked
 all_answer settings [] x last run k asked = tt
 all_answer settings (call ∷ calls) x last run k asked =
     let one = step_answers settings call x run.0 k run.1 asked.0 in

@@ -119,26 +119,30 @@ abbrev pub AreLawful : (calls : List Call) (old new : Decoder) → Run calls old
 AreLawful [] old new run = Unit {0}
 AreLawful (call ∷ calls) old new run = IsLawfulCall call old × AreLawful calls run.0 new run.2
 
--- what a call answers: how many insertions were received so far; exactly the fields that the section means, with their
--- marks, or how many insertions it waits for; or that memory is refused, that no stream has this number, or that the
--- sizes of the fields are past the decoder's own limit
-abbrev pub Answers : Call → Decoder → Decoder → Type 0
-Answers (Receive bytes left (Ok total)) old new = (total ≡ insert_count new.end.table) × (left ≡ [])
-Answers (Receive bytes left (Err e)) old new = e ≡ Memory
-Answers (Decode s section fields answer) old new = AnswersSection old.end s section fields answer
-Answers (Cancel s (Ok done)) old new = Unit {0}
-Answers (Cancel s (Err e)) old new = StopsCancelling s e
-Answers (Sent bytes) old new = Unit {0}
+-- what a call answers: how many insertions were received so far, which are all that were made once all bytes have come
+-- that the encoder wrote; exactly the fields that the section means, with their marks, or how many insertions it waits
+-- for; or that memory is refused, that no stream has this number, or that the sizes of the fields are past the decoder's
+-- own limit
+abbrev pub Answers : (call : Call) (old new : Decoder) → IsLawfulCall call old → Type 0
+Answers (Receive bytes left (Ok total)) old new asked =
+    (total ≡ insert_count new.end.table) × (left ≡ [])
+    × (asked.0.bytes ≡ old.come ++ bytes → total ≡ length asked.0.made.inserted)
+Answers (Receive bytes left (Err e)) old new asked = e ≡ Memory
+Answers (Decode s section fields answer) old new asked = AnswersSection old.end s section fields answer
+Answers (Cancel s (Ok done)) old new asked = Unit {0}
+Answers (Cancel s (Err e)) old new asked = StopsCancelling s e
+Answers (Sent bytes) old new asked = Unit {0}
 
 -- each call in turn answers so, and no error ends the connection
-abbrev pub AllAnswer : (calls : List Call) (old new : Decoder) → Run calls old new → Type 0
-AllAnswer [] old new run = Unit {0}
-AllAnswer (call ∷ calls) old new run =
-    Answers call old run.0 × (run.0.end.failure ≡ None) × AllAnswer calls run.0 new run.2
+abbrev pub AllAnswer : (calls : List Call) (old new : Decoder) (run : Run calls old new) → AreLawful calls old new run
+    → Type 0
+AllAnswer [] old new run asked = Unit {0}
+AllAnswer (call ∷ calls) old new run asked =
+    Answers call old run.0 asked.0 × (run.0.end.failure ≡ None) × AllAnswer calls run.0 new run.2 asked.1
 
 -- for all calls from a new decoder on, with whatever lawful encoder
 abbrev pub LawfulEncodersAreUnderstood : Type 0
 LawfulEncodersAreUnderstood =
     (settings : DecoderSettings) (calls : List Call) (first last : Decoder) → Begins settings first.end
-    → first.come ≡ [] → (run : Run calls first last) → AreLawful calls first last run
-    → AllAnswer calls first last run
+    → first.come ≡ [] → (run : Run calls first last) → (asked : AreLawful calls first last run)
+    → AllAnswer calls first last run asked

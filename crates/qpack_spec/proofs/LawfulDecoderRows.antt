@@ -1,6 +1,6 @@
--- Worked rows of a decoder that keeps to the standard: what it may write where two sections are not acknowledged, one on
--- stream 4, which requires one insertion, and one on stream 8, which requires three, of which two were received; and of
--- a table at which insertions go on.
+-- Worked rows of a decoder that keeps to the standard: what it may write where two sections are not acknowledged, one
+-- on stream 4, which requires one insertion, and one on stream 8, which requires three, of which two were received; and
+-- of a table at which insertions go on.
 use Rattle.std.proofs.Common.{ℕ, ◌≡◌, false, List, [], ◌∷◌, Some, refl, arith, lit≤}
 use Rattle.std.specs.Prelude.{codes}
 use Rattle.qpack_spec.specs.Field.{FieldLine}
