@@ -34,3 +34,4 @@ pub mod SentSections
 pub mod ConnectionCalls
 pub mod ConnectionRuns
 pub mod HandedFields
+pub mod ArrivedSections

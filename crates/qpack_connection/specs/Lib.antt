@@ -19,3 +19,4 @@ pub mod OwnedLines
 pub mod ConnectionEvents
 pub mod HandedFields
 pub mod ConnectionRuns
+pub mod ArrivedSections

@@ -1,5 +1,6 @@
 //! Laws of the two instruction streams, for a peer that keeps to the standard, and of two ends in bytes.
 
+ghost use Rattle.qpack_connection.specs.ArrivedSections.{SectionsArrive};
 ghost use Rattle.qpack_connection.specs.LawfulPieces.{EncoderStreamsAreNeverRefused, DecoderStreamsAreNeverRefused};
 ghost use Rattle.qpack_connection.specs.RefinedConnections.{NewConnectionsAreRefined, EncodesAreRefined};
 ghost use Rattle.qpack_connection.specs.RefinedConnections.{CapacitiesAreRefined, CancellationsAreRefined};
@@ -40,4 +41,11 @@ pub fn connections_are_sessions()
 /// streams are blocked than may be (RFC 9204, sections 2.1.2, 2.2, 3.2, 4.2 to 4.5 and 7.1.3).
 pub fn two_ends_answer_what_was_handed()
     ensures { TwoEndsAnswerWhatWasHanded }
+{}
+
+/// A section is not blocked once the bytes were received that its own end had written by then, also where more was
+/// written since: behind a call that receives them and answers, all insertions are there that the section requires (RFC
+/// 9204, section 2.1.2).
+pub fn sections_arrive()
+    ensures { SectionsArrive }
 {}
