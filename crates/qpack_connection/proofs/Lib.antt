@@ -32,6 +32,7 @@ pub mod FramedDecoderCalls
 pub mod ReachedConnections
 pub mod SentSections
 pub mod ConnectionCalls
+pub mod ConnectionStarts
 pub mod ConnectionRuns
 pub mod HandedFields
 pub mod ArrivedSections
