@@ -20,9 +20,6 @@ use Rattle.qpack_connection.specs.declared.connection.Outcome.TheVariants as out
 use Rattle.qpack_connection.specs.declared.connection.Skip.{Skip}
 use Rattle.qpack_connection.specs.declared.connection.Skip.TheVariants.{StreamCancelled}
 use Rattle.qpack_connection.specs.declared.connection.fields.OwnedFieldLine.{OwnedFieldLine}
-use Rattle.qpack_connection.specs.declared.connection.ConnectionSettings.{ConnectionSettings}
-use Rattle.qpack_connection.specs.declared.decoder.DecoderSettings.{DecoderSettings}
-use Rattle.qpack_connection.specs.declared.encoder.EncoderSettings.{EncoderSettings}
 use Rattle.qpack_connection.specs.declared.decoder.DecodingError.{DecodingError}
 use Rattle.qpack_connection.specs.declared.decoder.DecodingError.TheVariants as decoding
 use Rattle.qpack_connection.specs.declared.encoder.EncodingError.{EncodingError}
@@ -32,7 +29,6 @@ use Rattle.qpack_connection.specs.declared.section.Reading.{Reading}
 use Rattle.qpack_connection.specs.declared.section.Reading.TheVariants as reading
 use Rattle.qpack_connection.specs.ConnectionEvents.{connection_of, Shows, IsReached, HasBytes, decoded_with}
 use Rattle.qpack_connection.specs.ConnectionEvents.{SendsAmong, decode_skip, cancel_skip, Makes, Goes}
-use Rattle.qpack_connection.specs.ConnectionEvents.{encoder_settings, BeginsWith}
 use Rattle.qpack_connection.specs.Connections.{Wire, SentSection, Connection, Encode, SetCapacity}
 use Rattle.qpack_connection.specs.Connections.{with_encoder, with_decoder, with_section, with_reading}
 use Rattle.qpack_connection.specs.Connections.{with_cancelled, behind_received}
@@ -50,7 +46,7 @@ use Rattle.qpack_connection.proofs.ReachedConnections.{reached_holds, cond_same}
 -- ---- streams
 
 -- all of a stream that was written, and so much of it received
-wire_is : (a b : List ℕ) (n : ℕ) → a ≡ b
+pub wire_is : (a b : List ℕ) (n : ℕ) → a ≡ b
     → (let v : Wire = record { written = a; received = n } in v) ≡ record { written = b; received = n }
 wire_is a b n same = ap (λ (x : List ℕ). let w : Wire = record { written = x; received = n } in w) same
 
@@ -475,53 +471,3 @@ pub offered_is : (all stream next rest : List ℕ) (received many : ℕ) → str
     → next ≡ take many (drop received stream) → rest ≡ next → rest ≡ take many (drop received all)
 offered_is all stream next rest received many same is rests =
     rests ∙ is ∙ ap (λ (x : List ℕ). take many (drop received x)) same
-
--- ---- the beginning
-
-starts_sent : (settings : EncoderSettings) (e : EncodingEnd) → encoders.Starts settings e
-    → encoders.Starts settings (encoder.with_unsent [] e)
-starts_sent settings e k =
-    record {
-      capacity_in_range = k.capacity_in_range;
-      settings_are = k.settings_are;
-      table = k.table;
-      wanted = k.wanted;
-      stream = k.stream;
-      unsent = refl;
-      failure = k.failure;
-    }
-
-begins_sent : (settings : DecoderSettings) (d : DecodingEnd) → decoders.Begins settings d
-    → decoders.Begins settings (decoder.with_unsent [] d)
-begins_sent settings d k =
-    record {
-      capacity_in_range = k.capacity_in_range;
-      blocked_in_range = k.blocked_in_range;
-      settings_are = k.settings_are;
-      table = k.table;
-      stream = k.stream;
-      reported = k.reported;
-      blocked = k.blocked;
-      unsent = refl;
-      failure = k.failure;
-    }
-
-pub begins_with : (settings : ConnectionSettings) (e : EncodingEnd) (d : DecodingEnd) (given : EncoderSettings)
-    (ps : List (ℕ × RequestStream SentSection)) → given ≡ encoder_settings settings → encoders.Starts given e
-    → decoders.Begins settings.decoder d → ps ≡ [] → BeginsWith settings (connection_of e d 0 0 ps)
-begins_with settings e d given ps is starts begins none =
-    record {
-      new = record {
-        encoder_settings = given;
-        decoder_settings = settings.decoder;
-        same_capacity = ap (λ (s : EncoderSettings). s.max_capacity) is;
-        same_blocked = ap (λ (s : EncoderSettings). s.max_blocked) is;
-        encoder = starts_sent given e starts;
-        decoder = begins_sent settings.decoder d begins;
-        encoder_stream = wire_is e.unsent [] 0 starts.unsent;
-        decoder_stream = wire_is d.unsent [] 0 begins.unsent;
-        streams = none;
-      };
-      encoder_is = is;
-      decoder_is = refl;
-    }

@@ -91,7 +91,7 @@ none_under_way maximum c w r all cut = nothing x.still (x.left) same
         absurd ((cut left.0 left.1 (sym k.ends.0 ∙ sym (append-nil k.rest) ∙ left.2)).0 i left.3)
 
 -- behind a call that answers how many insertions there are, no whole instruction waits
-cut_behind : (start old new : Table) (before bytes left : List ℕ) (s u : receiving.StreamView) (d0 d : DecodingEnd)
+pub cut_behind : (start old new : Table) (before bytes left : List ℕ) (s u : receiving.StreamView) (d0 d : DecodingEnd)
     (taken : Result ⊤ EncoderStreamError) (total : ℕ)
     → receiving.ReceivesMore start old new before bytes left s u taken → EndsReceiving d0 d taken (Ok total)
     → Truncates encoder_instruction_form u.pending

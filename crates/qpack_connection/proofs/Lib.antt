@@ -36,5 +36,7 @@ pub mod FramedDecoderCalls
 pub mod ReachedConnections
 pub mod SentSections
 pub mod ConnectionCalls
+pub mod ConnectionStarts
 pub mod ConnectionRuns
 pub mod HandedFields
+pub mod ArrivedSections

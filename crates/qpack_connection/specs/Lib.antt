@@ -21,3 +21,4 @@ pub mod OwnedLines
 pub mod ConnectionEvents
 pub mod HandedFields
 pub mod ConnectionRuns
+pub mod ArrivedSections

@@ -2,6 +2,7 @@
 
 ghost use Rattle.qpack_connection.specs.LawfulDecoders.{EncodersAreCareful, LawfulDecodersAreUnderstood};
 ghost use Rattle.qpack_connection.specs.LawfulEncoders.{LawfulEncodersAreUnderstood};
+ghost use Rattle.qpack_connection.specs.ArrivedSections.{SectionsArrive};
 ghost use Rattle.qpack_connection.specs.LawfulPieces.{EncoderStreamsAreNeverRefused, DecoderStreamsAreNeverRefused};
 ghost use Rattle.qpack_connection.specs.RefinedConnections.{NewConnectionsAreRefined, EncodesAreRefined};
 ghost use Rattle.qpack_connection.specs.RefinedConnections.{CapacitiesAreRefined, CancellationsAreRefined};
@@ -66,4 +67,11 @@ pub fn encoders_are_careful()
 /// field that is to be inserted is inserted (RFC 9204, sections 2.1, 2.2.2 and 4.4).
 pub fn lawful_decoders_are_understood()
     ensures { LawfulDecodersAreUnderstood }
+{}
+
+/// A section is not blocked once the bytes were received that its own end had written by then, also where more was
+/// written since: behind a call that receives them and answers, all insertions are there that the section requires (RFC
+/// 9204, section 2.1.2).
+pub fn sections_arrive()
+    ensures { SectionsArrive }
 {}

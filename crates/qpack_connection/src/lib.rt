@@ -1,6 +1,6 @@
-//! The two ends of a QPACK connection (RFC 9204), on the proved calls of `h3_qpack`, and what they are made of: field
-//! sections read strictly, up to a limit, into memory that the caller keeps, and the two instruction streams received
-//! strictly, however they are cut.
+//! The two ends of a QPACK connection (RFC 9204), on the proved calls of `h3_qpack`, both as one `Connection`, which
+//! carries the theorem of two ends, and what they are made of: field sections read strictly, up to a limit, into memory
+//! that the caller keeps, and the two instruction streams received strictly, however they are cut.
 #![tactic(auto)]
 
 pub mod blocked;

@@ -1,4 +1,4 @@
-use Rattle.qpack_connection.proofs.ConnectionCalls.{begins_with}
+use Rattle.qpack_connection.proofs.ConnectionStarts.{begins_with}
 use Rattle.qpack_connection.proofs.connection.ends.Ends.new.Goals as goal
 
 pub returns-clause-ok : goal.returns-clause-ok
