@@ -132,17 +132,12 @@ sound_first s d e =
       failure = subst (λ (o : Option EncodingError). IfSome o (λ x. IsSome (encoders.code_of x))) (sym e.failure) tt;
     }
 
-<<<<<<< HEAD
 new_sound : (c : Connection) → IsNew c → IsSound c.encoder
 new_sound c k = sound_first k.encoder_settings c.encoder k.encoder
 
-new_kept : (c : Connection) (k : IsNew c)
-    → IsKept k.encoder_settings.max_capacity (min k.encoder_settings.max_blocked 65534) k.decoder_settings.max_blocked c []
-=======
 pub new_kept : (c : Connection) (k : IsNew c)
     → IsKept k.encoder_settings.max_capacity (min k.encoder_settings.max_blocked 65534)
     k.decoder_settings.max_blocked c []
->>>>>>> 6a7308e84cc14a3de064803d669d56a0403ce9bf
 new_kept c k =
     record {
       refines = new_refined c k;
