@@ -12,4 +12,10 @@ writes_alike encoding old new (Ok a) (Ok b) alike w =
 writes_alike encoding old new (Ok a) (Err f) alike w = absurd alike
 writes_alike encoding old new (Err e) (Ok b) alike w = absurd alike
 writes_alike encoding old new (Err e) (Err f) alike w =
-    record { ok = tt; err = w.err; succeeds = λ room. absurd (let s = w.succeeds room in cc); still = w.still; capacity = w.capacity }
+    record {
+      ok = tt;
+      err = w.err;
+      succeeds = λ room. absurd (let s = w.succeeds room in cc);
+      still = w.still;
+      capacity = w.capacity;
+    }

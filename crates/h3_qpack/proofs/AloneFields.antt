@@ -1,10 +1,12 @@
 -- Fields that are added to a block in progress while no entry is live.
-use Rattle.std.proofs.Common.{◌≡◌, ℕ, ◌+◌, ◌<◌, ◌≤◌, List, [], ◌∷◌, ◌++◌, Option, Some, None, Bool, true, false, refl, sym}
+use Rattle.std.proofs.Common.{◌≡◌, ℕ, ◌+◌, ◌<◌, ◌≤◌, List, [], ◌∷◌, ◌++◌, Option, Some, None, Bool, true, false}
+use Rattle.std.proofs.Common.{refl, sym}
 use Rattle.std.proofs.Common.{append-nil, ap, subst, ◌∙◌, inl, inr, arith}
 use Rattle.std.specs.Prelude.{◌&&◌}
 use Rattle.std.proofs.lemmas.Bool.{lt-leb, cond_both}
 use Rattle.qpack_spec.specs.Field.{Field, field_size, total_size}
-use Rattle.qpack_spec.specs.Handle.{Found, Lookup, NotFound, NotInserted, Insertable, find_field, insert_field, found_name}
+use Rattle.qpack_spec.specs.Handle.{Found, Lookup, NotFound, NotInserted, Insertable, find_field, insert_field}
+use Rattle.qpack_spec.specs.Handle.{found_name}
 use Rattle.qpack_spec.specs.Handle.{found_instead, handle_field, with_insertion, literal_at}
 use Rattle.qpack_spec.specs.Line.{written_line, written_marked_line}
 use Rattle.qpack_spec.specs.Rule.{Draft}
@@ -49,11 +51,19 @@ not_inserted t base f zero =
 literal_alone : (t : Table) (base : ℕ) (f : Field) → t.capacity ≡ 0 → total_size (fields_in t.live) ≤ 0
     → static_index f ≡ None
     → draft_of_field t base f
-    ≡ with_insertion (draft_at t) f (record { insertion = NotInserted (lookup_alone (static_name_index f.name)); table = t })
+    ≡ with_insertion (draft_at t) f (record {
+      insertion = NotInserted (lookup_alone (static_name_index f.name));
+      table = t;
+    })
 unfolding handle_field
 literal_alone t base f zero most none =
     let empty = no_entries t.live most in
-    rw (none, no_field_found t base f empty, not_inserted t base f zero, name_alone t base f (static_name_index f.name) empty)
+    rw (
+      none,
+      no_field_found t base f empty,
+      not_inserted t base f zero,
+      name_alone t base f (static_name_index f.name) empty,
+    )
     refl
 
 pub adds_alone : (t : Table) (base capacity : ℕ) (f : Field) (o : Option ℕ) (marked : Bool) (lookup : Lookup)

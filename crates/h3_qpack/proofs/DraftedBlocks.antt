@@ -130,8 +130,8 @@ gives_up_begun fs old begun new written_old written_new begins k =
     (subst (λ (t : Table). GivesUpLines fs t new written_old written_new) begins k)
 
 -- refused, behind lines that were written or before
-pub gives_up_section : (fs : List FieldLine) (r : Result ℕ NoMemory) (answer : Result ℕ EncoderError) (old begun mid new : Table)
-    (before block written_old written_new : List ℕ)
+pub gives_up_section : (fs : List FieldLine) (r : Result ℕ NoMemory) (answer : Result ℕ EncoderError)
+    (old begun mid new : Table) (before block written_old written_new : List ℕ)
     → begun ≡ without_references old
     → IfOk r (λ required. DraftsBlock fs begun mid before block written_old written_new required)
     → OnErr r (GivesUpLines fs begun (without_references mid) written_old written_new)
@@ -173,8 +173,8 @@ encodes_block fs old begun mid new stream given before block written_old written
     }
 
 -- the answer is the required insert count
-pub encodes : (fs : List FieldLine) (r : Result ℕ NoMemory) (answer : Result ℕ EncoderError) (old begun mid new : Table) (stream given : ℕ)
-    (before block written_old written_new : List ℕ)
+pub encodes : (fs : List FieldLine) (r : Result ℕ NoMemory) (answer : Result ℕ EncoderError)
+    (old begun mid new : Table) (stream given : ℕ) (before block written_old written_new : List ℕ)
     → begun ≡ without_references old → given ≡ stream
     → IfOk r (λ required. DraftsBlock fs begun mid before block written_old written_new required)
     → IfOk answer (λ required. (r ≡ Ok required) × (new ≡ commit mid given required))

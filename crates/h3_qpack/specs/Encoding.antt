@@ -1,6 +1,6 @@
 -- What an encoder writes for fields, one by one (RFC 9204, section 2.1).
-use Rattle.std.specs.Prelude.{⊤, Result, Ok, Err}
-use Rattle.std.specs.Prelude.{◌≡◌, ℕ, ◌+◌, ◌*◌, ◌≤◌, ◌⊎◌, List, [], ◌++◌, take, map, Option, vec_len, vec_capacity, Some, None}
+use Rattle.std.specs.Prelude.{◌≡◌, ℕ, ◌+◌, ◌*◌, ◌≤◌, ◌⊎◌, ⊤, List, [], ◌++◌, take, map, Option, Some, None}
+use Rattle.std.specs.Prelude.{Result, Ok, Err, vec_len, vec_capacity}
 use Rattle.std.specs.declared.vec.Vec.{Vec}
 use Rattle.std.specs.Borrow.{Bor}
 use Rattle.std.specs.Iterator.{Drains}

@@ -30,7 +30,8 @@ use Rattle.qpack_connection.specs.declared.decoder.DecodingError.TheVariants as 
 use Rattle.qpack_connection.specs.declared.receiving.EncoderStreamError.{EncoderStreamError}
 use Rattle.qpack_connection.specs.declared.receiving.EncoderStreamError.TheVariants.{Refused, Memory}
 use Rattle.qpack_connection.specs.Connections.{Connection, next_of, behind_received, with_decoder}
-use Rattle.qpack_connection.specs.Decoders.{DecodingEnd, received, with_report, unreported, EndsReceiving, ReceivesBytes}
+use Rattle.qpack_connection.specs.Decoders.{DecodingEnd, received, with_report, unreported, EndsReceiving}
+use Rattle.qpack_connection.specs.Decoders.{ReceivesBytes}
 use Rattle.qpack_connection.specs.Receiving as receiving
 use Rattle.qpack_connection.specs.Receiving.{StreamView, ReceivesMore}
 use Rattle.qpack_connection.specs.RefinedConnections.{received_of, RefinesSession}

@@ -52,7 +52,8 @@ pub record IsCareful (settings : EncoderSettings) (e : EncodingEnd) : Type 0 whe
 
 -- a section that was written counts as not acknowledged, with exactly the entries that its lines reference; one that
 -- references none does not count (sections 2.1.1 and 2.2.2.1)
-pub record CountsSection (old new : EncodingEnd) (stream : ℕ) (fields : List FieldLine) (section : List ℕ) : Type 0 where
+pub record CountsSection (old new : EncodingEnd) (stream : ℕ) (fields : List FieldLine) (section : List ℕ) :
+    Type 0 where
   pub block : Block
   pub written : section ≡ written_marked_block fields block
   pub counted : new.table.unacknowledged

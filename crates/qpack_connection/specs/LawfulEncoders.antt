@@ -121,8 +121,8 @@ AreLawful (call ∷ calls) old new run = IsLawfulCall call old × AreLawful call
 
 -- what a call answers: how many insertions were received so far, which are all that were made once all bytes have come
 -- that the encoder wrote; exactly the fields that the section means, with their marks, or how many insertions it waits
--- for; or that memory is refused, that no stream has this number, or that the sizes of the fields are past the decoder's
--- own limit
+-- for; or that memory is refused, that no stream has this number, or that the sizes of the fields are past the
+-- decoder's own limit
 abbrev pub Answers : (call : Call) (old new : Decoder) → IsLawfulCall call old → Type 0
 Answers (Receive bytes left (Ok total)) old new asked =
     (total ≡ insert_count new.end.table) × (left ≡ [])

@@ -36,11 +36,11 @@ pub fn connections_are_sessions()
     ensures refused_cancellations { RefusedCancellationsAreRefined }
 {}
 
-/// The theorem of two ends, over calls and their answers: of a new connection, whatever is encoded, with whatever marks,
-/// however capacities are set, streams cancelled and the bytes of both streams cut, and wherever memory is refused,
-/// neither end refuses what the other sent; each section is decoded to exactly the fields that were handed to its encode,
-/// with their marks, or waits for as many insertions as that encode answered, while fewer were received; and no more
-/// streams are blocked than may be (RFC 9204, sections 2.1.2, 2.2, 3.2, 4.2 to 4.5 and 7.1.3).
+/// The theorem of two ends, over calls and their answers: of a new connection, whatever is encoded, with whatever
+/// marks, however capacities are set, streams cancelled and the bytes of both streams cut, and wherever memory is
+/// refused, neither end refuses what the other sent; each section is decoded to exactly the fields that were handed to
+/// its encode, with their marks, or waits for as many insertions as that encode answered, while fewer were received; and
+/// no more streams are blocked than may be (RFC 9204, sections 2.1.2, 2.2, 3.2, 4.2 to 4.5 and 7.1.3).
 pub fn two_ends_answer_what_was_handed()
     ensures { TwoEndsAnswerWhatWasHanded }
 {}

@@ -87,7 +87,8 @@ same_committed t s required =
       c_waiting = refl;
     }
 
-pub kept_committed : (h : History) (t : Table) (s required : ℕ) → KeepsTable h t → AllByRecursion (IsLive t) t.referenced
+pub kept_committed : (h : History) (t : Table) (s required : ℕ) → KeepsTable h t
+    → AllByRecursion (IsLive t) t.referenced
     → KeepsTable h (commit t s required)
 unfolding commit window
 kept_committed h t s required k n =
@@ -99,7 +100,8 @@ kept_committed h t s required k n =
           (IsLive t) b.entries) s t.referenced t.unacknowledged k.held n;
     }
 
-pub blocked_committed : (t0 t : Table) (s : ℕ) → t.known_received_count ≡ t0.known_received_count → t.blocked ≡ t0.blocked
+pub blocked_committed : (t0 t : Table) (s : ℕ) → t.known_received_count ≡ t0.known_received_count
+    → t.blocked ≡ t0.blocked
     → AllByRecursion (MayStand t0) t.referenced → length t0.blocked ≤ t0.limit
     → length (commit t s (greatest_of t.referenced)).blocked ≤ t0.limit
 blocked_committed t0 t s k e may b =

@@ -48,7 +48,8 @@ resized_cases t n =
     (λ _. inr (DoesNotFit, refl)))
     (λ _. inr (AboveMaximum, refl))
 
-pub resize_effect : (w : Window) (n : ℕ) → n ≤ greatest_capacity w.agreed_max → effect w (SetCapacity n) ≡ Ok (Resizes n)
+pub resize_effect : (w : Window) (n : ℕ) → n ≤ greatest_capacity w.agreed_max
+    → effect w (SetCapacity n) ≡ Ok (Resizes n)
 unfolding effect
 resize_effect w n h = rw (le-leb n (greatest_capacity w.agreed_max) h) refl
 

@@ -25,7 +25,8 @@ returns-in-Whole-clause-order c =
 pub returns-in_default : goal.returns-in_default
 returns-in_default c = record {
   order = decided_by_name c.args.sought.now.part (field_of c.args.entry.now.field)
-      (line_of c.args.sought.now.line).field _ _ _ c.as_slice.ensures.value refl c.compare_bytes.ensures c.in_default.not-Equal;
+      (line_of c.args.sought.now.line).field _ _ _ c.as_slice.ensures.value refl c.compare_bytes.ensures
+      c.in_default.not-Equal;
   raised = c.raise.ensures.raised;
   grows = c.raise.ensures.grows;
 }
