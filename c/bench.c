@@ -1,6 +1,7 @@
 /* bench CORPUS ROUNDS: ns a field across the boundary, this library and nghttp3 in turn in one run over the corpus, the
- * least of so many rounds; and ns of calls that do nothing. Each list is on a stream of its own, and acknowledged. Of
- * both, what is decoded is copied to memory of the caller. */
+ * least of so many rounds; the same, of a fiftieth of the rounds, with a table of 30,000 entries; and ns of calls that do
+ * nothing. Each list is on a stream of its own, and acknowledged. Of both, what is decoded is copied to memory of the
+ * caller. */
 #include <time.h>
 #include "tests/common.h"
 
@@ -16,6 +17,9 @@ typedef struct {
   double phase[PHASES];
   size_t written; /* bytes of sections and of the encoder stream */
 } times;
+
+/* How many lists fill the table before anything counts, and how many fields the others have. */
+static size_t filling, ncounted;
 
 static double now(void) {
   struct timespec t;
@@ -43,6 +47,7 @@ static times run_ours(size_t capacity) {
   CHECK(!h3_qpack_encoder_new_with(&e, capacity, 100, capacity, 1000));
   CHECK(!h3_qpack_decoder_new(&d, capacity, 100, 1 << 20));
   for (size_t i = 0; i < nlists; i++) {
+    if (i == filling) t = (times){{0}, 0};
     double since = now();
     h3_qpack_encoded a = h3_qpack_encoder_encode(&e, 4 * i, lists[i].nv, lists[i].len, section, sizeof section);
     size_t len = h3_qpack_encoder_write_encoder(&e, stream, sizeof stream);
@@ -107,6 +112,7 @@ static times run_theirs(size_t capacity) {
   nghttp3_buf_init(&instructions);
   for (size_t i = 0; i < nlists; i++) {
     int64_t stream_id = (int64_t)(4 * i);
+    if (i == filling) t = (times){{0}, 0};
     double since = now();
     nghttp3_buf_reset(&prefix);
     nghttp3_buf_reset(&lines);
@@ -176,7 +182,7 @@ static void time_boundary(int rounds) {
 
 /* A phase's ns a field of both, and their ratio. */
 static void print_phase(const char *what, double ours, double theirs) {
-  double n = (double)nfields;
+  double n = (double)ncounted;
   printf("  %-8s %5.0f ns a field, nghttp3 %5.0f (%.2f)\n", what, ours / n, theirs / n, ours / theirs);
 }
 
@@ -191,27 +197,79 @@ static void print_times(times ours, times theirs) {
   printf("  %zu bytes, nghttp3 %zu\n", ours.written, theirs.written);
 }
 
+/* Adds a field that none was before: a name of forty, and a value of its own. */
+static void add_new_field(list *l) {
+  static const char *named[] = {"cookie",   "referer",       "user-agent", ":path", "etag",
+                                "location", "authorization", "origin",     "link",  "if-none-match"};
+  char name[40], value[40];
+  size_t which = random_below(40);
+  if (which < 30)
+    snprintf(name, sizeof name, "x-custom-header-%zu", which);
+  else
+    snprintf(name, sizeof name, "%s", named[which - 30]);
+  snprintf(value, sizeof value, "value-%08zx-%06zu", random_below(0xffffffff), nfields);
+  add_field(l, name, strlen(name), value, strlen(value), 0);
+}
+
+/* Lists of new fields, half as many again as the table is to hold; and then, to be counted, a thousand lists of thirty
+ * fields, of which each fifth is new and the others are of the newer half of what the table holds. Answers a capacity
+ * that holds about so many entries. */
+static size_t add_growing_lists(size_t entries) {
+  size_t size = 0, count = 0;
+  const h3_qpack_nv **made = malloc((entries * 3 / 2 + 30 * 1001) * sizeof *made);
+  CHECK(made);
+  filling = entries * 3 / 2 / 30;
+  for (size_t i = 0; i < filling + 1000; i++) {
+    list *l = add_list();
+    size_t before = count;
+    l->room = 30;
+    l->nv = malloc(30 * sizeof *l->nv);
+    l->ng = malloc(30 * sizeof *l->ng);
+    CHECK(l->nv && l->ng);
+    for (size_t k = 0; k < 30; k++) {
+      if (i < filling || k % 5 == 4) {
+        add_new_field(l);
+        made[count++] = &l->nv[k];
+        size += l->nv[k].namelen + l->nv[k].valuelen + 32;
+      } else {
+        const h3_qpack_nv *nv = made[before - 1 - random_below(entries / 2)];
+        add_field(l, nv->name, nv->namelen, nv->value, nv->valuelen, 0);
+      }
+    }
+  }
+  free(made);
+  ncounted = 30 * 1000;
+  return size / count * entries;
+}
+
+/* The least times of so many rounds at a capacity, printed; at capacity 0 those without an end too. */
+static void compare(size_t capacity, int rounds) {
+  times none = {{1e18, 1e18, 1e18, 1e18}, 0}, ours = none, theirs = none, alone = none;
+  for (int r = 0; r < rounds; r++) {
+    keep_least(&ours, run_ours(capacity));
+    keep_least(&theirs, run_theirs(capacity));
+    if (!capacity) keep_least(&alone, run_alone());
+  }
+  printf("capacity %zu\n", capacity);
+  print_times(ours, theirs);
+  if (capacity) return;
+  printf("without an end\n");
+  print_times(alone, theirs);
+}
+
 int main(int argc, char **argv) {
-  static const size_t capacities[] = {0, 4096, 65536};
-  times none = {{1e18, 1e18, 1e18, 1e18}, 0};
   CHECK(argc == 3);
   read_corpus(argv[1], 0);
   int rounds = atoi(argv[2]);
-  for (int c = 0; c < 3; c++) {
-    times ours = none, theirs = none, alone = none;
-    for (int r = 0; r < rounds; r++) {
-      keep_least(&ours, run_ours(capacities[c]));
-      keep_least(&theirs, run_theirs(capacities[c]));
-      if (c == 0) keep_least(&alone, run_alone());
-    }
-    printf("capacity %zu\n", capacities[c]);
-    print_times(ours, theirs);
-    if (c == 0) {
-      printf("without an end\n");
-      print_times(alone, theirs);
-    }
-  }
-  time_boundary(rounds);
+  ncounted = nfields;
+  compare(0, rounds);
+  compare(4096, rounds);
+  compare(65536, rounds);
   free_lists();
+  size_t capacity = add_growing_lists(30000);
+  printf("30,000 entries, ");
+  compare(capacity, (rounds + 49) / 50);
+  free_lists();
+  time_boundary(rounds);
   return 0;
 }
