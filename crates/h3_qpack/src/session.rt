@@ -194,12 +194,12 @@ impl Session {
         ensures waits { Keeps self.old self.new (event_of event.now) result
             (λ capacity maximum limit events v. WaitsOnlyForInsertions events v) }
     {
-        self.is_reached();
+        self.recall_events();
         self.perform(event)
     }
 
-    /// Events led to the session: this is known of each.
-    fn is_reached(&self)
+    /// Events led to the session, as is known of each. It does nothing: a proof recalls its contract.
+    fn recall_events(&self)
         ensures { IsReached self.now }
     {
         let _ = &self.encoder;

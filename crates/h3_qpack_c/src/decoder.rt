@@ -271,8 +271,8 @@ pub extern "C" fn h3q_decoder_blocked(handle: &mut Handle) -> usize
     blocked
 }
 
-/// Tells a blocked stream of which the section can be decoded now, if there is one: of those, the one that came to be
-/// blocked first.
+/// Tells a blocked stream of which the section can be decoded now, if there is one: of those, the one that waited for
+/// the fewest insertions.
 #[unsafe(no_mangle)]
 pub extern "C" fn h3q_decoder_next_ready(handle: &mut Handle, stream: &mut u64) -> u32
     ensures same { handle.new.value ≡ handle.old.value }

@@ -9,13 +9,14 @@ use Rattle.std.proofs.lemmas.Bool.{eqb-true}
 use Rattle.qpack_spec.specs.Session.{RequestStream, stream_at, with_stream, oldest_undecoded}
 use Rattle.qpack_spec.proofs.Lists.{every_weaker}
 use Rattle.qpack_connection.specs.declared.blocked.BlockedStream.{BlockedStream}
-use Rattle.qpack_connection.specs.Blocked.{is_listed, without, with_blocked}
+use Rattle.qpack_connection.specs.Blocked.{without, with_blocked}
 use Rattle.qpack_connection.specs.Connections.{SentSection, Connection}
 use Rattle.qpack_connection.specs.Encoders.{EncodingEnd, IsSound, IsToBeTold, HasReceived, begun, begun_with, code_of}
 use Rattle.qpack_connection.specs.Waiting.{AreOfOneEach, IsNextOf, BlockedAreNext}
 use Rattle.qpack_connection.specs.declared.encoder.EncodingError.{EncodingError}
+use Rattle.qpack_connection.proofs.BlockedStreams.{once_without, once_with, all_with}
 use Rattle.qpack_connection.proofs.Encoders.{told_still}
-use Rattle.qpack_connection.proofs.WaitingStreams.{none_of, apart_swap}
+use Rattle.qpack_connection.proofs.WaitingStreams.{apart_swap}
 
 -- ---- the encoder stays sound
 
@@ -100,34 +101,6 @@ next_more ps s more q k e = both (nat_eq s q) refl
 
 -- ---- a stream that is counted no more
 
-all_without : (P : BlockedStream → Type 0) (s : ℕ) (bs : List BlockedStream) → AllByRecursion P bs
-    → AllByRecursion P (without s bs)
-all_without P s [] h = tt
-all_without P s (b ∷ bs) h = both (nat_eq b.stream s) (all_without P s bs h.1)
-  where
-    both : (t : Bool) → AllByRecursion P (without s bs)
-        → AllByRecursion P (cond (not t) (b ∷ without s bs) (without s bs))
-    both true rest = rest
-    both false rest = (h.0, rest)
-
-listed_none : (s : ℕ) (bs : List BlockedStream)
-    → AllByRecursion (λ (b : BlockedStream). nat_eq b.stream s ≡ false) bs → is_listed s bs ≡ false
-listed_none s [] h = refl
-listed_none s (b ∷ bs) h = rw h.0 (listed_none s bs h.1)
-
-pub once_without : (s : ℕ) (bs : List BlockedStream) → AreOfOneEach bs → AreOfOneEach (without s bs)
-once_without s [] h = tt
-once_without s (b ∷ bs) h = both (nat_eq b.stream s) (once_without s bs h.1)
-  where
-    both : (t : Bool) → AreOfOneEach (without s bs)
-        → AreOfOneEach (cond (not t) (b ∷ without s bs) (without s bs))
-    both true rest = rest
-    both false rest = (
-      listed_none b.stream (without s bs)
-          (all_without (λ x. nat_eq x.stream b.stream ≡ false) s bs (none_of b.stream bs h.0)),
-      rest,
-    )
-
 next_without : (old new : Connection) (s : ℕ) (bs : List BlockedStream)
     → ((q : ℕ) → nat_eq s q ≡ false → stream_at new.streams q ≡ stream_at old.streams q)
     → AllByRecursion (IsNextOf old) bs → AllByRecursion (IsNextOf new) (without s bs)
@@ -158,31 +131,6 @@ pub others_same : (ps : List (ℕ × RequestStream SentSection)) (s : ℕ) (v : 
 others_same ps s v q apart = rw apart refl
 
 -- ---- a stream that comes to be counted
-
-all_with : (P : BlockedStream → Type 0) (b : BlockedStream) (bs : List BlockedStream) → P b → AllByRecursion P bs
-    → AllByRecursion P (with_blocked b bs)
-all_with P b [] p h = (p, tt)
-all_with P b (x ∷ xs) p h = both (nat_eq x.stream b.stream) (all_with P b xs p h.1)
-  where
-    both : (t : Bool) → AllByRecursion P (with_blocked b xs)
-        → AllByRecursion P (cond t (b ∷ xs) (x ∷ with_blocked b xs))
-    both true rest = (p, h.1)
-    both false rest = (h.0, rest)
-
-pub once_with : (b : BlockedStream) (bs : List BlockedStream) → AreOfOneEach bs → AreOfOneEach (with_blocked b bs)
-once_with b [] h = (refl, tt)
-once_with b (x ∷ xs) h = both (nat_eq x.stream b.stream) refl (once_with b xs h.1)
-  where
-    both : (t : Bool) → nat_eq x.stream b.stream ≡ t → AreOfOneEach (with_blocked b xs)
-        → AreOfOneEach (cond t (b ∷ xs) (x ∷ with_blocked b xs))
-    both true e rest =
-        (ap (λ (s : ℕ). is_listed s xs) (sym (eqb-true x.stream b.stream e)) ∙ h.0, h.1)
-    both false e rest = (
-      listed_none x.stream (with_blocked b xs)
-          (all_with (λ y. nat_eq y.stream x.stream ≡ false) b xs (apart_swap x.stream b.stream e)
-          (none_of x.stream xs h.0)),
-      rest,
-    )
 
 pub waiting_with : (old new : Connection) (b : BlockedStream) → new.decoder.blocked ≡ with_blocked b old.decoder.blocked
     → new.streams ≡ old.streams → IsNextOf old b → BlockedAreNext old → BlockedAreNext new

@@ -32,7 +32,7 @@ use Rattle.qpack_connection.specs.declared.blocked.BlockedStream.{BlockedStream}
 use Rattle.qpack_connection.specs.LawfulEncoders.{IsUnderWay, IsAtRisk, Differ, KeepsToLimit}
 use Rattle.qpack_connection.specs.RefinedDecodes.{MayWait}
 use Rattle.qpack_connection.specs.Waiting.{AreOfOneEach}
-use Rattle.qpack_connection.proofs.KeptConnections.{once_without, once_with}
+use Rattle.qpack_connection.proofs.BlockedStreams.{once_without, once_with}
 use Rattle.qpack_connection.proofs.WaitingStreams.{none_of, Apart, apart_more, not_waiting}
 use Rattle.std.proofs.Common.{Bool, true, false, cond, map}
 use Rattle.std.proofs.lemmas.List.{length-map}

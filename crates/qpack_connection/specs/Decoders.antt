@@ -21,7 +21,7 @@ use Rattle.qpack_connection.specs.declared.section.Reading.{Reading}
 use Rattle.qpack_connection.specs.declared.section.Reading.TheVariants as reading
 use Rattle.qpack_connection.specs.declared.section.SectionError.{SectionError}
 use Rattle.qpack_connection.specs.declared.section.SectionError.TheVariants as section
-use Rattle.qpack_connection.specs.Blocked.{is_listed, is_blocked, blocked_among, with_blocked, without}
+use Rattle.qpack_connection.specs.Blocked.{IsCountedAnew, is_blocked, blocked_among, with_blocked, without}
 use Rattle.qpack_connection.specs.Receiving.{StreamView, Receives, ReceivesMore, encoder_stream_error}
 use Rattle.qpack_connection.specs.Sections.{decompression_failed, TellsReading, ReadsInto}
 use Rattle.qpack_connection.specs.Sections as sections
@@ -152,17 +152,18 @@ blocked_behind stream required d =
     record d { blocked = with_blocked (record { stream = stream; required = required }) d.blocked }
 
 -- why a stream was not counted as blocked: it would be one too many, or memory was refused
-abbrev pub StopsBlocking : DecodingEnd → DecodingEnd → ℕ → DecodingError → Type 0
-StopsBlocking old new stream (TooManyBlocked s) =
-    (s ≡ stream) × IsOneTooMany old stream × (new ≡ refused (TooManyBlocked stream) old)
-StopsBlocking old new stream Memory = (new ≡ old) × (is_listed stream old.blocked ≡ false)
-StopsBlocking old new stream e = ⊥
+abbrev pub StopsBlocking : DecodingEnd → DecodingEnd → BlockedStream → DecodingError → Type 0
+StopsBlocking old new b (TooManyBlocked s) =
+    (s ≡ b.stream) × IsOneTooMany old b.stream × (new ≡ refused (TooManyBlocked b.stream) old)
+StopsBlocking old new b Memory = (new ≡ old) × IsCountedAnew b old.blocked
+StopsBlocking old new b e = ⊥
 
 -- the stream was counted as blocked; or why not
 abbrev pub BlocksStream : DecodingEnd → DecodingEnd → ℕ → ℕ → Result ⊤ DecodingError → Type 0
 BlocksStream old new stream required (Ok done) =
     MayBlock old stream × (new ≡ blocked_behind stream required old)
-BlocksStream old new stream required (Err e) = StopsBlocking old new stream e
+BlocksStream old new stream required (Err e) =
+    StopsBlocking old new (record { stream = stream; required = required }) e
 
 -- ---- a section
 
@@ -215,10 +216,11 @@ Decodes old new stream read fields (Err e) =
     × (IsNotAnswered old new stream e ⊎ (Checks old stream (Ok tt) × StopsDecoding old new stream read e))
 
 -- memory may be asked for behind a reading: an acknowledgment is to be written, or a stream comes to be blocked that was
--- not among those that did
+-- not counted yet with what the section requires
 abbrev pub AsksBehind : DecodingEnd → ℕ → StrictReading → Type 0
 AsksBehind d stream (Read fields required) = 0 < required
-AsksBehind d stream (Blocked required) = is_listed stream d.blocked ≡ false
+AsksBehind d stream (Blocked required) =
+    IsCountedAnew (record { stream = stream; required = required }) d.blocked
 AsksBehind d stream read = ⊥
 
 -- memory may be asked for: by the section, or behind its reading

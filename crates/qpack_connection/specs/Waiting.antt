@@ -1,16 +1,11 @@
 -- The streams that the decoder of a connection counts as blocked wait with their next sections (RFC 9204, section
 -- 2.1.2).
-use Rattle.std.specs.Prelude.{◌≡◌, false, List, [], ◌∷◌, Some}
+use Rattle.std.specs.Prelude.{◌≡◌, Some}
 use Rattle.std.specs.List.{AllByRecursion}
 use Rattle.qpack_spec.specs.Session.{stream_at, oldest_undecoded}
 use Rattle.qpack_connection.specs.declared.blocked.BlockedStream.{BlockedStream}
-use Rattle.qpack_connection.specs.Blocked.{is_listed}
+pub use Rattle.qpack_connection.specs.Blocked.{AreOfOneEach}
 use Rattle.qpack_connection.specs.Connections.{SentSection, Connection}
-
--- no two of them are of one stream
-abbrev pub AreOfOneEach : List BlockedStream → Type 0
-AreOfOneEach [] = Unit {0}
-AreOfOneEach (b ∷ bs) = (is_listed b.stream bs ≡ false) × AreOfOneEach bs
 
 -- the next section of the stream requires so many insertions
 pub record IsNextOf (c : Connection) (b : BlockedStream) : Type 0 where

@@ -186,7 +186,7 @@ impl Connection {
         // takes no insertion for received that was not.
         ensures within { IsWithin self.new.decoder.settings.max_blocked self.new }
     {
-        self.is_reached();
+        self.recall_events();
         self.ends.perform(event)
     }
 
@@ -201,7 +201,7 @@ impl Connection {
     }
 
     /// Calls led to the connection: this is known of each.
-    fn is_reached(&self)
+    fn recall_events(&self)
         ensures { IsReached self.now }
     {
         let _ = &self.ends;

@@ -246,7 +246,8 @@ impl ConnectionDecoder {
         self.unsent.drain(..many);
     }
 
-    /// A blocked stream of which the section can be decoded now: of those, the one that came to be blocked first.
+    /// A blocked stream of which the section can be decoded now: of those, the one that waited for the fewest insertions,
+    /// and of those with as many the one with the lowest number.
     pub fn next_ready(&self) -> Option<u64>
         ensures { result ≡ ready (insert_count self.now.table) self.now.blocked }
     {
@@ -270,8 +271,8 @@ impl ConnectionDecoder {
     ) -> Result<Reading, DecodingError>
         ensures decodes { Decodes self.old self.new stream
             (strict_reading (window self.old.table) self.old.settings.max_section_size section.now) fields.new result }
-        // Memory is refused only where the section asks for it, where a stream comes to be blocked, or where an
-        // acknowledgment is written.
+        // Memory is refused only where the section asks for it, where a stream comes to be blocked that was not counted
+        // with this count, or where an acknowledgment is written.
         ensures memory { result ≡ Err Memory → AsksToDecode self.old stream section.now }
     {
         fields.clear();

@@ -9,24 +9,24 @@ ghost use Rattle.h3_qpack.specs.Stateless.{fields_in};
 use qpack_base::field::HeaderField;
 
 /// The fields are bytes.
-pub(super) fn read_fields(fields: &[HeaderField])
+pub(super) fn recall_fields(fields: &[HeaderField])
     ensures { AllByRecursion IsByteField (fields_in fields.now) }
 {
     for field in fields {
-        read_field(field);
+        recall_field(field);
     }
 }
 
 /// The field's name and its value are bytes.
-fn read_field(field: &HeaderField)
+fn recall_field(field: &HeaderField)
     ensures { IsByteField (field_of field.now) }
 {
-    read_bytes(field.name.as_slice());
-    read_bytes(field.value.as_slice());
+    recall_bytes(field.name.as_slice());
+    recall_bytes(field.value.as_slice());
 }
 
 /// The numbers of the slice are bytes.
-fn read_bytes(bytes: &[u8])
+fn recall_bytes(bytes: &[u8])
     ensures { AreBytes bytes.now }
 {
     let _len = bytes.len();

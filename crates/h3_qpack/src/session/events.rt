@@ -8,7 +8,7 @@ ghost use Rattle.h3_qpack.specs.SessionRuns.{PerformsAll};
 ghost use Rattle.h3_qpack.specs.Stateless.{fields_in};
 
 use crate::decoder::ack_header;
-use crate::session::bytes::read_fields;
+use crate::session::bytes::recall_fields;
 use crate::session::offered::{delivered_after, offered};
 use crate::session::{Event, Outcome, Session};
 use qpack_base::coding::Cursor;
@@ -46,7 +46,7 @@ impl Session {
         ensures goes { Follows self.old self.new (Encode number (fields_in fields.now)) result }
         ensures asks { IsAskedFor self.old self.new (Encode number (fields_in fields.now)) result }
     {
-        read_fields(fields);
+        recall_fields(fields);
         if let Some(reason) = self.streams.encode_skip(number) {
             return Outcome::Skipped(reason);
         }

@@ -50,31 +50,31 @@ impl AsField for OwnedFieldLine {
 }
 
 /// The fields are bytes. Their types say so of each once it is read, and what is proved of a connection rests on it.
-pub(super) fn read_fields(fields: &[OwnedFieldLine])
+pub(super) fn recall_fields(fields: &[OwnedFieldLine])
     ensures { AllByRecursion IsByteField (fields_of_lines (lines_of fields.now)) }
 {
     for field in fields {
-        read_field(field);
+        recall_field(field);
     }
 }
 
 /// The field's name and its value are bytes.
-fn read_field(field: &OwnedFieldLine)
+fn recall_field(field: &OwnedFieldLine)
     ensures { IsByteField (line_of_owned field.now).field }
 {
-    read_bytes(&field.name);
-    read_bytes(&field.value);
+    recall_bytes(&field.name);
+    recall_bytes(&field.value);
 }
 
 /// The numbers of the slice are bytes.
-fn read_bytes(bytes: &[u8])
+fn recall_bytes(bytes: &[u8])
     ensures { AreBytes bytes.now }
 {
     let _len = bytes.len();
 }
 
 /// What is in memory takes fewer than 2^63 bytes.
-pub(super) fn is_short(bytes: &[u8])
+pub(super) fn recall_length(bytes: &[u8])
     ensures { length bytes.now < 2 ^ 63 }
 {
     let _len = bytes.len();

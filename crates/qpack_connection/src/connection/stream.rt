@@ -5,7 +5,7 @@ ghost use Rattle.qpack_spec.specs.Session.{oldest_undecoded};
 ghost use Rattle.qpack_connection.specs.OwnedLines.{lines_of};
 ghost use Rattle.qpack_connection.specs.ConnectionEvents.{Sends, HasBytes, decoded_with};
 
-use crate::connection::fields::{OwnedFieldLine, is_short, read_fields};
+use crate::connection::fields::{OwnedFieldLine, recall_fields, recall_length};
 use crate::encoder::{ConnectionEncoder, EncodingError};
 use qpack_base::coding::NoMemory;
 use std::alloc::Global;
@@ -129,10 +129,10 @@ impl Stream {
         ensures not_called { OnErr result (encoder.new ≡ encoder.old) }
     {
         self.sections.reserve(1)?;
-        read_fields(&fields);
+        recall_fields(&fields);
         let mut bytes = Vec::new(alloc);
         let answer = encoder.encode(number, &fields, &mut bytes);
-        is_short(encoder.encoder_stream());
+        recall_length(encoder.encoder_stream());
         if let Ok(required) = answer {
             self.sections.push_reserved(Section {
                 fields,

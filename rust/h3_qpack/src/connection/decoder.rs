@@ -129,7 +129,7 @@ impl ConnectionDecoder {
         }
     }
 
-    /// A blocked stream whose section can be decoded now: of those, the one that came to be blocked first.
+    /// A blocked stream whose section can be decoded now: of those, the one that waited for the fewest insertions.
     pub fn next_ready(&self) -> Option<u64> {
         self.end.next_ready()
     }

@@ -15,7 +15,7 @@ pub returns-clause-waits : goal.returns-clause-waits
 returns-clause-waits c = keeps _ (λ capacity maximum limit events v safe. safe.waits) _ _ _ _ c.perform.ensures.goes
 
 pub returns-clause-unrefused : goal.returns-clause-unrefused
-returns-clause-unrefused c = unrefused_step _ _ _ _ c.is_reached.ensures c.perform.ensures.goes
+returns-clause-unrefused c = unrefused_step _ _ _ _ c.recall_events.ensures c.perform.ensures.goes
 
 pub returns-clause-exact : goal.returns-clause-exact
 returns-clause-exact c = exact_step _ _ _ _ c.perform.ensures.goes

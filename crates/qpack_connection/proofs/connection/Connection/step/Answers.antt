@@ -7,7 +7,7 @@ invariant_of-self c =
 
 pub returns-clause-answers : goal.returns-clause-answers
 returns-clause-answers c =
-    goes_so c.args.self.now c.perform.new.self c.args.event c.perform.result c.is_reached.ensures
+    goes_so c.args.self.now c.perform.new.self c.args.event c.perform.result c.recall_events.ensures
     (rw c.self.view_is at c.perform.ensures)
 
 pub returns-clause-within : goal.returns-clause-within
