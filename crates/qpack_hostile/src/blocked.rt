@@ -1,5 +1,6 @@
 //! The decoding end of a connection with as many blocked streams as may be: one more is refused, and what a call costs
-//! beside them. They stand in a list, which a call may walk, so each row is linear in the setting.
+//! beside them. They stand in the order of what they wait for, and are found by their numbers, so no row grows but
+//! with its logarithm.
 
 use crate::bounds::{capacity_and_insertion, new_end};
 use crate::meter::{Case, Meter};
@@ -77,7 +78,7 @@ fn tell_blocked(
     let start = meter.start()?;
     let blocked = block_streams(end, most, fields)?;
     let case = Case {
-        name: "streams come to be blocked, each linear in the setting",
+        name: "streams come to be blocked",
         size: most,
         calls: most,
         bytes: 0,
@@ -135,7 +136,7 @@ fn tell_offered_again(
     let start = meter.start()?;
     let blocked = offer_again(end, newest, fields)?;
     let case = Case {
-        name: "a blocked section offered again, linear in the setting",
+        name: "a blocked section offered again",
         size: most,
         calls: COUNT,
         bytes: 0,
@@ -159,7 +160,7 @@ fn tell_cancelled(meter: &Meter, most: usize, end: &mut ConnectionDecoder) -> Re
     let start = meter.start()?;
     cancel_behind(end, most as u64)?;
     let case = Case {
-        name: "cancellations beside blocked streams, linear in the setting",
+        name: "cancellations beside blocked streams",
         size: most,
         calls: COUNT,
         bytes: 0,
@@ -186,7 +187,7 @@ fn tell_ready(
     let start = meter.start()?;
     let decoded = decode_ready(end, most, fields)?;
     let case = Case {
-        name: "blocked sections decoded, each linear in the setting",
+        name: "blocked sections decoded",
         size: most,
         calls: most,
         bytes: 0,
