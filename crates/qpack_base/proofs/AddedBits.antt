@@ -5,9 +5,9 @@ use Rattle.std.specs.Prelude.{slice_index}
 use Rattle.std.proofs.lemmas.List.Concat.{flat_map-cons}
 use Rattle.std.proofs.lemmas.Grind.{flat_map-append}
 use Rattle.std.proofs.lemmas.Nat.{pow_pos}
-use Rattle.qpack_spec.specs.Huffman.{bits_of, bits_of_bytes, AreBytes}
+use Rattle.qpack_spec.specs.Huffman.{bits_of, bits_of_bytes, ones, AreBytes}
 use Rattle.qpack_spec.proofs.Bits.{bits_append, bits_push, bits_cut, ones_number, no_bits}
-use Rattle.qpack_base.specs.WrittenPayloads.{AddsBits, AddsLastBits, HasAdded}
+use Rattle.qpack_base.specs.WrittenPayloads.{AddsBits, AddsLast, HasAdded}
 use Rattle.qpack_base.proofs.LoadedBits.{IsFour, load_four}
 
 pub nothing_added : (old : List ℕ) → HasAdded [] 0 0 old old
@@ -96,10 +96,23 @@ pushed_four four bytes old one two three new fits e a b c d =
     (is.first, (is.second, (is.third, (is.fourth, tt)))) is
     (items ∙ simp append_assoc)
 
+-- two halves of a number
+pub added_halves : (eight : ℕ) (old mid new : List ℕ) → AddsBits 32 (eight / 4294967296) old mid
+    → AddsBits 32 (eight % 4294967296) mid new → AddsBits 64 eight old new
+added_halves eight old mid new a b = record {
+  bytes = a.bytes ++ b.bytes;
+  are = bytes_join a.bytes b.bytes a.are b.are;
+  items = b.items ∙ ap (λ (l : List ℕ). l ++ b.bytes) a.items ∙ append_assoc old a.bytes b.bytes;
+  bits = flat_map-append (bits_of 8) a.bytes b.bytes
+      ∙ ap (λ (l : List ℕ). l ++ bits_of_bytes b.bytes) a.bits
+      ∙ ap (λ (l : List ℕ). bits_of 32 (eight / 4294967296) ++ l) (b.bits ∙ bits_cut 32 eight)
+      ∙ sym (bits_append 32 32 64 eight refl);
+}
+
 -- ---- the end
 
 pub adds_last : (count loaded k filled : ℕ) (old new : List ℕ) → k < 8 → filled ≡ loaded * 2 ^ k + (2 ^ k - 1)
-    → HasAdded (bits_of (count + k) filled) 0 filled old new → AddsLastBits count loaded old new
+    → HasAdded (bits_of (count + k) filled) 0 filled old new → AddsLast (bits_of count loaded) old new
 adds_last count loaded k filled old new few e a =
     let pos = pow_pos k in
     let top : 2 ^ k - 1 < 2 ^ k = omega arith in
@@ -114,3 +127,17 @@ adds_last count loaded k filled old new few e a =
           ∙ ap (bits_of (count + k)) e ∙ bits_push count k loaded (2 ^ k - 1) top
           ∙ ap (λ (l : List ℕ). bits_of count loaded ++ l) (ones_number k (2 ^ k - 1) (omega arith));
     }
+
+-- the last bits behind those that were appended
+pub last_behind : (whole : List ℕ) (count loaded : ℕ) (old now new : List ℕ) → HasAdded whole count loaded old now
+    → AddsLast (bits_of count loaded) now new → AddsLast whole old new
+last_behind whole count loaded old now new a b = record {
+  bytes = a.bytes ++ b.bytes;
+  padding = b.padding;
+  are = bytes_join a.bytes b.bytes a.are b.are;
+  items = b.items ∙ ap (λ (l : List ℕ). l ++ b.bytes) a.items ∙ append_assoc old a.bytes b.bytes;
+  few = b.few;
+  bits = flat_map-append (bits_of 8) a.bytes b.bytes ∙ ap (λ (l : List ℕ). bits_of_bytes a.bytes ++ l) b.bits
+      ∙ sym (append_assoc (bits_of_bytes a.bytes) (bits_of count loaded) (ones b.padding))
+      ∙ ap (λ (l : List ℕ). l ++ ones b.padding) a.bits;
+}

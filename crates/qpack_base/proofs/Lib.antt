@@ -16,6 +16,7 @@ pub mod StringReaders
 pub mod WrittenCodes
 pub mod AddedBits
 pub mod PutCodes
+pub mod FilledWords
 pub mod WholeCodes
 pub mod CodeRoom
 pub mod PutStrings

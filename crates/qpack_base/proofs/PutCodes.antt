@@ -13,10 +13,10 @@ use Rattle.qpack_spec.proofs.Bits.{bits_length, bits_push, bits_cut}
 use Rattle.qpack_spec.proofs.WrittenPayloads.{payload_is, payload_length}
 use Rattle.qpack_base.specs.declared.prefix_string.encoding.Pending.{Pending}
 use Rattle.qpack_base.specs.HuffmanTables.{IsCodeOf}
-use Rattle.qpack_base.specs.WrittenPayloads.{AddsBits, AddsLastBits, AddsCodes, HasAdded}
+use Rattle.qpack_base.specs.WrittenPayloads.{AddsBits, AddsLast, AddsCodes, HasAdded}
 use Rattle.qpack_base.proofs.HighBits.{cut_product}
 use Rattle.qpack_base.proofs.WrittenCodes.{one_code, text_more}
-use Rattle.qpack_base.proofs.AddedBits.{bytes_join, nothing_added, added_more, added_cut}
+use Rattle.qpack_base.proofs.AddedBits.{bytes_join, nothing_added, added_more}
 
 -- ---- a code behind the bits
 
@@ -44,7 +44,7 @@ bits_low k m number le =
     ap (λ (j : ℕ). number % 2 ^ j % 2 ^ k) e ∙ mod-mod-pow number (m - k) k in
     sym (bits_cut k (number % 2 ^ m)) ∙ ap (bits_of k) cut ∙ bits_cut k number
 
-code_behind : (count number n code : ℕ) → count + n ≤ 64 → code < 2 ^ n
+pub code_behind : (count number n code : ℕ) → count + n ≤ 64 → code < 2 ^ n
     → bits_of (count + n) (number * 2 ^ n % 2 ^ 64 + code) ≡ bits_of count number ++ bits_of n code
 code_behind count number n code room fits =
     ap (bits_of (count + n)) ((shifted number n code (omega arith) fits).is)
@@ -214,37 +214,35 @@ put_room text rest part behind count number before after capacity old now a e ro
       length-append (bits_of_text part) (bits_of_text behind),
     )
 
--- all is written but the last bits
-pub all_done : (text : List ℕ) (count number before after : ℕ) (old now : List ℕ)
-    → IsPut text [] count number before after old now
-    → HasAdded (bits_of_text text) count (number % 2 ^ count) old now
-all_done text count number before after old now a =
-    added_cut (bits_of_text text) count number old now (subst (λ (l : List ℕ). HasAdded l count number old now)
-    (sym (a.parts ∙ append-nil a.done)) a.added)
-
-pub last_room : (text : List ℕ) (count number before after capacity : ℕ) (old now : List ℕ)
-    → IsPut text [] count number before after old now → before + length (payload_of text) ≤ capacity
-    → after + (count + 7) / 8 ≤ capacity
-last_room text count number before after capacity old now a room =
+-- there is room for the last bits
+pub last_room : (text rest : List ℕ) (count number before after capacity : ℕ) (old now : List ℕ)
+    → IsPut text rest count number before after old now → before + length (payload_of text) ≤ capacity
+    → after + (count + length (bits_of_text rest) + 7) / 8 ≤ capacity
+last_room text rest count number before after capacity old now a room =
     omega (
       arith,
       room,
       a.len,
       payload_length text,
-      ap (λ (l : List ℕ). length l) (a.parts ∙ append-nil a.done),
+      ap (λ (l : List ℕ). length l) a.parts,
+      length-append a.done (bits_of_text rest),
     )
 
-pub all_put : (text : List ℕ) (count loaded : ℕ) (old now new : List ℕ) → AreBytes text
-    → HasAdded (bits_of_text text) count loaded old now → AddsLastBits count loaded now new
-    → new ≡ old ++ payload_of text
-all_put text count loaded old now new ok a b =
+-- all is written with the last bits
+pub all_put : (text rest : List ℕ) (count number before after : ℕ) (old now new : List ℕ) → AreBytes text
+    → IsPut text rest count number before after old now
+    → AddsLast (bits_of count number ++ bits_of_text rest) now new → new ≡ old ++ payload_of text
+all_put text rest count number before after old now new ok p b =
+    let a = p.added in
     let m : PayloadMeans (a.bytes ++ b.bytes) text = record {
       bytes = ok;
       padding = b.padding;
       few = b.few;
       parts = flat_map-append (bits_of 8) a.bytes b.bytes ∙ ap (λ (l : List ℕ). bits_of_bytes a.bytes ++ l) b.bits
-          ∙ sym (append_assoc (bits_of_bytes a.bytes) (bits_of count loaded) (ones b.padding))
-          ∙ ap (λ (l : List ℕ). l ++ ones b.padding) a.bits;
+          ∙ sym (append_assoc (bits_of_bytes a.bytes) (bits_of count number ++ bits_of_text rest) (ones b.padding))
+          ∙ ap (λ (l : List ℕ). l ++ ones b.padding)
+          (sym (append_assoc (bits_of_bytes a.bytes) (bits_of count number) (bits_of_text rest))
+          ∙ ap (λ (l : List ℕ). l ++ bits_of_text rest) a.bits ∙ sym p.parts);
     } in
     b.items ∙ ap (λ (l : List ℕ). l ++ b.bytes) a.items ∙ append_assoc old a.bytes b.bytes
     ∙ ap (λ (l : List ℕ). old ++ l) (payload_is (a.bytes ++ b.bytes) text (bytes_join a.bytes b.bytes a.are b.are) m)

@@ -3,6 +3,7 @@ use Rattle.std.proofs.Common.{◌≡◌, ℕ, ◌+◌, ◌-◌, ◌*◌, ◌%◌
 use Rattle.std.proofs.Common.{append_assoc, refl}
 use Rattle.std.proofs.Math.Pow.{mod-mod-pow}
 use Rattle.std.proofs.Math.Seq.{set-append_seam}
+use Rattle.std.proofs.lemmas.List.{length-append}
 use Rattle.std.specs.Prelude.{slice_set}
 use Rattle.qpack_spec.specs.Integer.{written_integer}
 use Rattle.qpack_spec.specs.Huffman.{payload_of}
@@ -44,3 +45,26 @@ literal_headed n flags len start head value old pushed put s p q l h =
     literal_put n flags len value old (old ++ head ∷ []) (slice_set put start head) l
     (ap (λ (a : List ℕ). old ++ a) (sym h))
     (headed ∙ sym (append_assoc old (head ∷ []) payload))
+
+-- the same where the length is two bytes
+pub literal_paired : (n flags len start first second : ℕ) (value old one two put : List ℕ) → start ≡ length old
+    → one ≡ old ++ 0 ∷ [] → two ≡ one ++ 0 ∷ [] → put ≡ two ++ payload_of value → len ≡ length (payload_of value)
+    → written_integer (n - 1) (flags % 128 * 2 + 1) len ≡ first ∷ second ∷ []
+    → slice_set (slice_set put start first) (start + 1) second ≡ old ++ written_string n flags value
+literal_paired n flags len start first second value old one two put s p q r l h =
+    let payload = payload_of value in
+    let is : put ≡ old ++ 0 ∷ 0 ∷ payload =
+    r ∙ ap (λ (a : List ℕ). a ++ payload) (q ∙ ap (λ (a : List ℕ). a ++ 0 ∷ []) p) ∙ simp append_assoc in
+    let one_set : slice_set put start first ≡ (old ++ first ∷ []) ++ 0 ∷ payload =
+    ap (λ (a : List ℕ). slice_set a start first) is
+    ∙ ap (λ (k : ℕ). slice_set (old ++ 0 ∷ 0 ∷ payload) k first) s ∙ set-append_seam old 0 (0 ∷ payload) first
+    ∙ sym (append_assoc old (first ∷ []) (0 ∷ payload)) in
+    let next : start + 1 ≡ length (old ++ first ∷ []) = omega (arith, s, length-append old (first ∷ [])) in
+    let both : slice_set (slice_set put start first) (start + 1) second ≡ (old ++ first ∷ []) ++ second ∷ payload =
+    ap (λ (a : List ℕ). slice_set a (start + 1) second) one_set
+    ∙ ap (λ (k : ℕ). slice_set ((old ++ first ∷ []) ++ 0 ∷ payload) k second) next
+    ∙ set-append_seam (old ++ first ∷ []) 0 payload second in
+    literal_put n flags len value old (old ++ first ∷ second ∷ []) (slice_set (slice_set put start first) (start + 1)
+    second) l
+    (ap (λ (a : List ℕ). old ++ a) (sym h))
+    (both ∙ simp append_assoc)

@@ -10,14 +10,14 @@ pub record AddsBits (count loaded : ℕ) (old new : List ℕ) : Type 0 where
   pub items : new ≡ old ++ bytes
   pub bits : bits_of_bytes bytes ≡ bits_of count loaded
 
--- the same, filled up with fewer than eight ones
-pub record AddsLastBits (count loaded : ℕ) (old new : List ℕ) : Type 0 where
+-- the bytes appended are these bits, filled up with fewer than eight ones
+pub record AddsLast (whole : List ℕ) (old new : List ℕ) : Type 0 where
   pub bytes : List ℕ
   pub padding : ℕ
   pub are : AreBytes bytes
   pub items : new ≡ old ++ bytes
   pub few : padding < 8
-  pub bits : bits_of_bytes bytes ≡ bits_of count loaded ++ ones padding
+  pub bits : bits_of_bytes bytes ≡ whole ++ ones padding
 
 -- the bytes appended and then the lowest `left` bits of a number are these bits
 pub record HasAdded (whole : List ℕ) (left number : ℕ) (old new : List ℕ) : Type 0 where

@@ -188,6 +188,21 @@ pub(crate) fn short(size: u8, flags: u8, value: u64) -> Option<u8>
     Some(first_byte(size, flags, value))
 }
 
+/// The same, if it is two bytes.
+#[inline(always)]
+#[tactic(auto, unfolding(qpack_spec::specs::Integer::written_integer), using(crate::proofs::WrittenGroups::written_steps))]
+pub(crate) fn paired(size: u8, flags: u8, value: u64) -> Option<(u8, u8)>
+    requires least { 1 ≤ size }
+    requires most { size ≤ 8 }
+    ensures { IfSome result (λ bytes. written_integer size flags value ≡ bytes.0 ∷ bytes.1 ∷ []) }
+{
+    let most = power(size) - 1;
+    if value < most || value - most >= 128 {
+        return None;
+    }
+    Some((first_byte(size, flags, most), (value - most) as u8))
+}
+
 /// The prefix under the flags, which are cut to the bits above it.
 #[inline(always)]
 fn first_byte(size: u8, flags: u8, prefix: u64) -> u8

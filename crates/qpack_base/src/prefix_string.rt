@@ -206,22 +206,45 @@ fn append<A: Allocator>(
         vec_capacity buf.new ≡ vec_capacity buf.old }
     ensures capacity { vec_capacity buf.old ≤ vec_capacity buf.new }
 {
-    if has_ample_room(value, buf) && append_short(size, flags, value, buf) {
+    if has_ample_room(value, buf) && append_unmeasured(size, flags, value, buf) {
         return Ok(());
     }
     append_measured(size, flags, value, buf)
 }
 
-/// Whether there is room for a byte and the payload of this text, which has at most four bytes for each of the text.
+/// Whether there is room for two bytes and the payload of this text, which has at most four bytes for each of the text.
 #[inline(always)]
 fn has_ample_room<A: Allocator>(value: &[u8], buf: &Vec<u8, A>) -> bool
-    ensures { IsTrue result → vec_len buf.now + 4 * length value.now + 1 ≤ vec_capacity buf.now }
+    ensures { IsTrue result → vec_len buf.now + 4 * length value.now + 2 ≤ vec_capacity buf.now }
 {
     value.len() < buf.capacity().saturating_sub(buf.len()) / 4
 }
 
-/// Appends the literal of a text that is shorter than its prefix counts, if its length stands in one byte: that byte is
-/// written again when the payload stands behind it. Else the vector is as before.
+/// Appends the literal of a text whose payload is written first, with room in front of it for its length: as much as
+/// that takes if a code has six bits, which is about what one has in a field. Where it takes more or less, and where
+/// that is more than two bytes, the vector is as before.
+#[inline(always)]
+fn append_unmeasured<A: Allocator>(size: u8, flags: u8, value: &[u8], buf: &mut Vec<u8, A>) -> bool
+    requires least { 2 ≤ size }
+    requires most { size ≤ 8 }
+    requires room { vec_len buf.old + 4 * length value.now + 2 ≤ vec_capacity buf.old }
+    ensures done { IsTrue result → buf.new.items ≡ buf.old.items ++ written_string size flags value.now }
+    ensures undone { result ≡ false → buf.new.items ≡ buf.old.items }
+    ensures capacity { vec_capacity buf.new ≡ vec_capacity buf.old }
+{
+    let likely = value.len() - value.len() / 4;
+    let prefix = (1 << (size - 1)) - 1;
+    if likely < prefix {
+        return append_short(size, flags, value, buf);
+    }
+    if likely < prefix + 128 {
+        return append_paired(size, flags, value, buf);
+    }
+    false
+}
+
+/// Appends the literal, if its length stands in one byte: that byte is written again when the payload stands behind
+/// it. Else the vector is as before.
 #[inline(always)]
 #[tactic(auto, unfolding(qpack_spec::specs::Text::written_string))]
 fn append_short<A: Allocator>(size: u8, flags: u8, value: &[u8], buf: &mut Vec<u8, A>) -> bool
@@ -232,9 +255,6 @@ fn append_short<A: Allocator>(size: u8, flags: u8, value: &[u8], buf: &mut Vec<u
     ensures undone { result ≡ false → buf.new.items ≡ buf.old.items }
     ensures capacity { vec_capacity buf.new ≡ vec_capacity buf.old }
 {
-    if value.len() >= 1 << (size - 1) {
-        return false;
-    }
     let start = buf.len();
     buf.push_reserved(0);
     encoding::put_payload(value, buf);
@@ -244,6 +264,32 @@ fn append_short<A: Allocator>(size: u8, flags: u8, value: &[u8], buf: &mut Vec<u
         return false;
     };
     buf[start] = head;
+    true
+}
+
+/// The same, if its length takes two bytes.
+#[inline(always)]
+#[tactic(auto, unfolding(qpack_spec::specs::Text::written_string))]
+fn append_paired<A: Allocator>(size: u8, flags: u8, value: &[u8], buf: &mut Vec<u8, A>) -> bool
+    requires least { 2 ≤ size }
+    requires most { size ≤ 8 }
+    requires room { vec_len buf.old + 4 * length value.now + 2 ≤ vec_capacity buf.old }
+    ensures done { IsTrue result → buf.new.items ≡ buf.old.items ++ written_string size flags value.now }
+    ensures undone { result ≡ false → buf.new.items ≡ buf.old.items }
+    ensures capacity { vec_capacity buf.new ≡ vec_capacity buf.old }
+{
+    let start = buf.len();
+    buf.push_reserved(0);
+    buf.push_reserved(0);
+    encoding::put_payload(value, buf);
+    let len = buf.len() - start - 2;
+    let head = prefix_int::paired(size - 1, flags % 0x80 * 2 + 1, len as u64);
+    let Some((first, second)) = head else {
+        buf.truncate(start);
+        return false;
+    };
+    buf[start] = first;
+    buf[start + 1] = second;
     true
 }
 

@@ -3,7 +3,7 @@
 ghost use Rattle.std.specs.Prelude.{◌≡◌, ◌≢◌, ◌+◌, ◌*◌, ◌%◌, ◌/◌, ◌-◌, ◌^◌, ◌<◌, ◌≤◌, ◌++◌, List, [], ℕ, IfOk, OnErr};
 ghost use Rattle.std.specs.Prelude.{◌∷◌, length, min, vec_len, vec_capacity};
 ghost use Rattle.qpack_spec.specs.Huffman.{bits_of, bits_of_text, code_of, payload_of};
-ghost use Rattle.qpack_base.specs.WrittenPayloads.{AddsBits, AddsLastBits, AddsCodes, HasAdded};
+ghost use Rattle.qpack_base.specs.WrittenPayloads.{AddsBits, AddsLast, AddsCodes, HasAdded};
 
 use crate::prefix_string::encoding_table::codes;
 use core::mem::replace_with;
@@ -171,6 +171,36 @@ impl Pending {
         }
         replace_with(buf, (self, four), with_long_codes)
     }
+
+    /// With the codes of the last bytes of a text behind them.
+    #[inline(always)]
+    fn with_each(self, text: &[u8]) -> Pending
+        requires few { self.count < 32 }
+        requires short { length text.now < 4 }
+        ensures { AddsCodes text.now self result }
+    {
+        let mut pending = self;
+        for byte in text {
+            pending = pending.with(*byte);
+        }
+        pending
+    }
+
+    /// Appends them into the free room, filled up with ones. All eight bytes of a number are written, and those that
+    /// don't count are cut off again.
+    #[inline(always)]
+    fn put_filled<A: Allocator>(self, buf: &mut Vec<u8, A>)
+        requires few { self.count < 64 }
+        requires room { vec_len buf.old + 8 ≤ vec_capacity buf.old }
+        ensures items { AddsLast (bits_of self.count self.bits) buf.old.items buf.new.items }
+        ensures capacity { vec_capacity buf.new ≡ vec_capacity buf.old }
+    {
+        let end = buf.len() + ((self.count + 7) / 8) as usize;
+        let ones = 63 - self.count;
+        let marked = (self.bits << 1) + 1;
+        put_eight((marked << ones) + (power(ones) - 1), buf);
+        buf.truncate(end);
+    }
 }
 
 /// The vector with the codes of four bytes behind it, as `put_each` appends them, kept out of the loop of those whose
@@ -216,9 +246,53 @@ fn with_payload<A: Allocator>(mut buf: Vec<u8, A>, text: &[u8]) -> (Vec<u8, A>, 
         pending = pending.put_quad(four, &mut buf);
         rest = behind;
     }
+    with_end(buf, pending, rest)
+}
+
+/// The vector with the last bits of a payload behind it, and the codes of the last bytes of its text.
+#[inline(always)]
+fn with_end<A: Allocator>(mut buf: Vec<u8, A>, pending: Pending, rest: &[u8]) -> (Vec<u8, A>, ())
+    requires few { pending.count < 32 }
+    requires short { length rest.now < 4 }
+    requires room { vec_len buf + (pending.count + length (bits_of_text rest.now) + 7) / 8 ≤ vec_capacity buf }
+    ensures items { AddsLast (bits_of pending.count pending.bits ++ bits_of_text rest.now) buf.items result.0.items }
+    ensures capacity { vec_capacity result.0 ≡ vec_capacity buf }
+{
+    let last = pending.with_each(rest);
+    if last.count < 64 && buf.capacity() - buf.len() >= 8 {
+        last.put_filled(&mut buf);
+        return (buf, ());
+    }
+    with_narrow_end(buf, pending, rest)
+}
+
+/// The same where the codes are long or the room is narrow.
+#[inline(never)]
+fn with_narrow_end<A: Allocator>(
+    mut buf: Vec<u8, A>,
+    pending: Pending,
+    rest: &[u8],
+) -> (Vec<u8, A>, ())
+    requires few { pending.count < 32 }
+    requires room { vec_len buf + (pending.count + length (bits_of_text rest.now) + 7) / 8 ≤ vec_capacity buf }
+    ensures items { AddsLast (bits_of pending.count pending.bits ++ bits_of_text rest.now) buf.items result.0.items }
+    ensures capacity { vec_capacity result.0 ≡ vec_capacity buf }
+{
     let last = pending.put_each(rest, &mut buf);
     put_last(last.bits % power(last.count), last.count, &mut buf);
     (buf, ())
+}
+
+/// Appends 64 bits into the free room.
+#[inline(always)]
+fn put_eight<A: Allocator>(eight: u64, buf: &mut Vec<u8, A>)
+    requires room { vec_len buf.old + 8 ≤ vec_capacity buf.old }
+    ensures items { AddsBits 64 eight buf.old.items buf.new.items }
+    ensures len { vec_len buf.new ≡ vec_len buf.old + 8 }
+    ensures capacity { vec_capacity buf.new ≡ vec_capacity buf.old }
+{
+    put_four(eight / 0x1_0000_0000, buf);
+    put_four(eight % 0x1_0000_0000, buf);
 }
 
 /// Appends 32 bits into the free room.
@@ -243,7 +317,7 @@ fn put_last<A: Allocator>(loaded: u64, count: u32, buf: &mut Vec<u8, A>)
     requires fits { loaded < 2 ^ count }
     requires few { count < 32 }
     requires room { vec_len buf.old + (count + 7) / 8 ≤ vec_capacity buf.old }
-    ensures items { AddsLastBits count loaded buf.old.items buf.new.items }
+    ensures items { AddsLast (bits_of count loaded) buf.old.items buf.new.items }
     ensures capacity { vec_capacity buf.new ≡ vec_capacity buf.old }
 {
     let ones = (8 - count % 8) % 8;

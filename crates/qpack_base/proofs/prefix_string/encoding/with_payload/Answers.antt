@@ -1,7 +1,6 @@
-use Rattle.std.proofs.Common.{ℕ, ◌%◌, ◌^◌, List, [], ◌++◌, take, refl, sym, ap, subst, ◌∙◌, arith, append-nil}
+use Rattle.std.proofs.Common.{ℕ, List, ◌++◌, take, refl, sym, ap, ◌∙◌, arith}
 use Rattle.std.proofs.Common.{vec_len, vec_capacity, take-append-drop}
-use Rattle.qpack_base.specs.WrittenPayloads.{AddsLastBits}
-use Rattle.qpack_base.proofs.PutCodes.{none_put, more_put, put_room, last_room, all_done, all_put, bytes_from}
+use Rattle.qpack_base.proofs.PutCodes.{none_put, more_put, put_room, last_room, all_put, bytes_from}
 use Rattle.qpack_base.proofs.prefix_string.encoding.with_payload.Goals as goal
 
 pub loop-four-init : goal.loop-four-init
@@ -37,37 +36,16 @@ loop-four-preserved g c =
       capacity = next.ensures.capacity ∙ loop.invariant.capacity;
     }
 
-pub put_each-last-requires-clause-room : goal.put_each-last-requires-clause-room
-put_each-last-requires-clause-room g c =
+pub with_end-requires-clause-room : goal.with_end-requires-clause-room
+with_end-requires-clause-room g c =
     let loop = c.loop-four in
-    put_room c.args.text.now loop.rest.now loop.rest.now [] loop.pending.count loop.pending.bits
-    (vec_len c.args.buf) (vec_len loop.buf) (vec_capacity loop.buf) c.args.buf.items loop.buf.items
-    loop.invariant.put (sym (append-nil loop.rest.now)) (omega (arith, c.requires, loop.invariant.capacity))
-
-pub put_last-requires-clause-room : goal.put_last-requires-clause-room
-put_last-requires-clause-room g c =
-    let loop = c.loop-four in
-    let last = c.put_each-last in
-    let put = more_put c.args.text.now loop.rest.now loop.rest.now [] loop.pending.count loop.pending.bits
-    last.result.count last.result.bits (vec_len c.args.buf) (vec_len loop.buf) (vec_len last.new.buf)
-    c.args.buf.items loop.buf.items last.new.buf.items loop.invariant.put (sym (append-nil loop.rest.now))
-    last.ensures.added last.ensures.len in
-    last_room c.args.text.now last.result.count last.result.bits (vec_len c.args.buf) (vec_len last.new.buf)
-    (vec_capacity last.new.buf) c.args.buf.items last.new.buf.items put
-    (omega (arith, c.requires, loop.invariant.capacity, last.ensures.capacity))
+    last_room c.args.text.now loop.rest.now loop.pending.count loop.pending.bits (vec_len c.args.buf)
+    (vec_len loop.buf) (vec_capacity loop.buf) c.args.buf.items loop.buf.items loop.invariant.put
+    (omega (arith, c.requires, loop.invariant.capacity))
 
 pub returns-clause-items : goal.returns-clause-items
 returns-clause-items g c =
     let loop = c.loop-four in
-    let last = c.put_each-last in
-    let put = more_put c.args.text.now loop.rest.now loop.rest.now [] loop.pending.count loop.pending.bits
-    last.result.count last.result.bits (vec_len c.args.buf) (vec_len loop.buf) (vec_len last.new.buf)
-    c.args.buf.items loop.buf.items last.new.buf.items loop.invariant.put (sym (append-nil loop.rest.now))
-    last.ensures.added last.ensures.len in
-    let added = all_done c.args.text.now last.result.count last.result.bits (vec_len c.args.buf)
-    (vec_len last.new.buf) c.args.buf.items last.new.buf.items put in
-    let filled = subst (λ (n : ℕ). AddsLastBits last.result.count (last.result.bits % n) last.new.buf.items
-    c.put_last.new.buf.items) c.power.ensures c.put_last.ensures.items in
-    all_put c.args.text.now last.result.count (last.result.bits % 2 ^ last.result.count) c.args.buf.items
-    last.new.buf.items c.put_last.new.buf.items (bytes_from c.args.text.now (λ i. omega (arith, c.type_inv.text i)))
-    added filled
+    all_put c.args.text.now loop.rest.now loop.pending.count loop.pending.bits (vec_len c.args.buf)
+    (vec_len loop.buf) c.args.buf.items loop.buf.items c.with_end.result.0.items
+    (bytes_from c.args.text.now (λ i. omega (arith, c.type_inv.text i))) loop.invariant.put c.with_end.ensures.items

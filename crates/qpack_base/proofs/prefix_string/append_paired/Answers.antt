@@ -1,0 +1,44 @@
+use Rattle.std.proofs.Common.{◌≡◌, ◌-◌, length, ap, List, ℕ, arith}
+use Rattle.std.proofs.lemmas.List.{length-append}
+use Rattle.qpack_spec.specs.Huffman.{payload_of}
+use Rattle.qpack_base.proofs.CodeRoom.{payload_most}
+use Rattle.qpack_base.proofs.PutStrings.{literal_paired}
+use Rattle.qpack_base.proofs.prefix_string.append_paired.Goals as goal
+
+pub put_payload-requires : goal.put_payload-requires
+put_payload-requires g c =
+    let value = c.args.value.now in
+    omega (
+      arith,
+      payload_most value,
+      c.requires.room,
+      c.push_reserved.ensures.len,
+      c.push_reserved.ensures.capacity,
+      c.push_reserved-2.ensures.len,
+      c.push_reserved-2.ensures.capacity,
+    )
+
+pub returns-clause-done : goal.returns-clause-done
+returns-clause-done g c = λ done.
+    let value = c.args.value.now in
+    let old = c.args.buf.now in
+    let one = c.push_reserved.new.self in
+    let two = c.push_reserved-2.new.self in
+    let put = c.put_payload.new.buf in
+    let start : c.len-start.result ≡ length old.items = omega (arith, c.len-start.ensures, old.ok.0) in
+    let len : c.len.result - c.len-start.result - 2 ≡ length (payload_of value) =
+    omega (
+      arith,
+      c.len.ensures,
+      c.len-start.ensures,
+      c.push_reserved.ensures.len,
+      c.push_reserved-2.ensures.len,
+      two.ok.0,
+      put.ok.0,
+      ap (λ (l : List ℕ). length l) c.put_payload.ensures.items,
+      length-append two.items (payload_of value),
+    ) in
+    literal_paired c.args.size c.args.flags (c.len.result - c.len-start.result - 2) c.len-start.result
+    c.in-Some.first c.in-Some.second value old.items one.items two.items put.items start
+    c.push_reserved.ensures.items c.push_reserved-2.ensures.items c.put_payload.ensures.items len
+    c.in-Some.ensures
