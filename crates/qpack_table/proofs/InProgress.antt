@@ -1,5 +1,5 @@
 -- The block in progress: what it references, when it is given up, and when it ends.
-use Rattle.std.proofs.Common.{◌≡◌, ℕ, suc, ◌+◌, ◌<◌, ◌≤◌, Bool, true, false, List, [], ◌∷◌, ◌++◌, length}
+use Rattle.std.proofs.Common.{◌≡◌, ℕ, suc, ◌+◌, ◌^◌, ◌<◌, ◌≤◌, Bool, true, false, List, [], ◌∷◌, ◌++◌, length}
 use Rattle.std.proofs.Common.{Some, refl, sym, ap, subst, ◌∙◌, arith, inl, inr, min, get_or}
 use Rattle.std.specs.Prelude.{slice_get, slice_set, nat_lt, if◌then◌else◌}
 use Rattle.std.specs.List.{AllByRecursion}
@@ -14,7 +14,7 @@ use Rattle.qpack_table.specs.Tables.{AreCounted, CountsReferences, IsLeast, entr
 use Rattle.qpack_table.proofs.EvictableEntries.{item_there}
 use Rattle.qpack_table.proofs.Tracking.{least_with}
 use Rattle.qpack_table.specs.declared.dynamic.entry.Entry.{Entry}
-use Rattle.qpack_table.proofs.References.{times_append, is_among, same_map, flagged_as, used_as}
+use Rattle.qpack_table.proofs.References.{times_append, references_append, is_among, same_map, flagged_as, used_as}
 use Rattle.qpack_table.proofs.Marks.{map_written, There, Elsewhere, written, once_more, other_times, used_counted}
 
 used_same : (dropped : ℕ) (es now : List Entry) (references : List ℕ) → uses_of now ≡ uses_of es
@@ -59,19 +59,10 @@ references_given_up v es cleared now referenced unacknowledged first second drop
         kept.behind absolute above,
         times_append absolute referenced (references_in unacknowledged),
       );
+      few = kept.few;
     }
 
 -- ---- the block ends
-
-references_append : (a : ℕ) (bs cs : List table.UnacknowledgedBlock)
-    → times a (references_in (bs ++ cs)) ≡ times a (references_in bs) + times a (references_in cs)
-references_append a [] cs = omega arith
-references_append a (b ∷ bs) cs = omega (
-  arith,
-  references_append a bs cs,
-  times_append a b.entries (references_in bs),
-  times_append a b.entries (references_in (bs ++ cs)),
-)
 
 -- the references of a block that is opened are those of the block in progress
 times_opened : (a s : ℕ) (bs : List table.UnacknowledgedBlock) (xs : List ℕ)
@@ -94,8 +85,10 @@ pub references_opened : (v : Positions) (es now : List Entry) (referenced left :
     (unacknowledged opened : List table.UnacknowledgedBlock) (s dropped : ℕ)
     → CountsReferences v es referenced unacknowledged → dropped ≡ v.dropped → uses_of now ≡ uses_of es
     → (AreFlagged dropped es referenced → AreFlagged dropped now []) → left ≡ []
-    → opened ≡ with_unacknowledged unacknowledged s referenced → CountsReferences v now left opened
-references_opened v es now referenced left unacknowledged opened s dropped kept at uses clear none is = rw (none, is)
+    → opened ≡ with_unacknowledged unacknowledged s referenced
+    → (length unacknowledged ≤ 2 ^ 62 → length opened ≤ 2 ^ 62) → CountsReferences v now left opened
+references_opened v es now referenced left unacknowledged opened s dropped kept at uses clear none is few =
+    rw (none, is)
     (record {
       flagged = subst (λ (d : ℕ). AreFlagged d es referenced → AreFlagged d now []) at clear kept.flagged;
       used = used_as v.dropped now (referenced ++ references_in unacknowledged)
@@ -114,6 +107,7 @@ references_opened v es now referenced left unacknowledged opened s dropped kept 
         times_append absolute referenced (references_in unacknowledged),
         times_opened absolute s unacknowledged referenced,
       );
+      few = rw is at (few kept.few);
     })
 
 -- ---- one entry more is referenced
@@ -212,6 +206,7 @@ references_of_block v es now referenced left unacknowledged a position old new k
         times_append absolute (referenced ++ a ∷ []) (references_in unacknowledged),
         times_last a absolute referenced (λ f. omega (arith, above, inserted, f)),
       );
+      few = kept.few;
     })
 
 -- ---- what becomes of the table
@@ -241,7 +236,7 @@ committed t s required live referenced opened blocked is_blocked same none is te
 -- a live entry that is not referenced yet can be counted once more
 pub uses_fit : (v : Positions) (es : List Entry) (referenced : List ℕ) (unacknowledged : List table.UnacknowledgedBlock)
     (position : ℕ) (e : Entry) → CountsReferences v es referenced unacknowledged → slice_get es position ≡ Some e
-    → e.referenced ≡ false → e.uses ≤ length unacknowledged
+    → e.referenced ≡ false → e.uses ≤ 2 ^ 62
 uses_fit v es referenced unacknowledged position e kept at unflagged =
     let a = v.dropped + position + 1 in
     omega (
@@ -250,6 +245,7 @@ uses_fit v es referenced unacknowledged position e kept at unflagged =
       times_append a referenced (references_in unacknowledged),
       no_times a referenced (sym (kept.flagged position e at) ∙ unflagged),
       times_few a unacknowledged kept.each_once,
+      kept.few,
     )
 
 pub referenced_before : (t : table.Table) (a : ℕ) → has_number a t.referenced ≡ true → t ≡ with_reference t a

@@ -99,14 +99,14 @@ pub kept_released : {index : Index} (v : Positions) (es now : List Entry) (size 
     → entries_of now ≡ entries_of es → flags_of now ≡ flags_of es
     → ((rest : List ℕ) → AreUsed dropped es (gone ++ rest) → AreUsed dropped now rest)
     → ((a : ℕ) → times a (references_in unacknowledged) ≡ times a gone + times a (references_in left))
-    → AllByRecursion (λ b. NoneTwice b.entries) left
+    → AllByRecursion (λ b. NoneTwice b.entries) left → length left ≤ length unacknowledged
     → IsKept v now size capacity referenced left least blocked (IsIndexOfEntries index)
 kept_released {index} v es now size capacity referenced unacknowledged left least blocked gone dropped kept is live
-    flags lowered parted once = record {
+    flags lowered parted once fewer = record {
       sized = sized_as v es now size capacity live kept.sized;
       references = references_released v es now referenced unacknowledged left gone kept.references flags
           (subst (λ (d : ℕ). (rest : List ℕ) → AreUsed d es (gone ++ rest)
-          → AreUsed d now rest) is lowered) parted once;
+          → AreUsed d now rest) is lowered) parted once fewer;
       least = kept.least;
       indexed = indexed_as {index = index} v.dropped es now live kept.indexed;
     }

@@ -4,6 +4,8 @@ pub mod Evictions
 pub mod EvictableEntries
 pub mod Marks
 pub mod Kept
+pub mod Commits
+pub mod OpenBlocks
 pub mod Tracking
 pub mod InProgress
 pub mod Newest

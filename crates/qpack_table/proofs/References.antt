@@ -19,6 +19,17 @@ times_append a (x ∷ xs) ys =
     let one : ℕ = if nat_eq x a then 1 else 0 in
     let more : one + times a (xs ++ ys) ≡ one + times a xs + times a ys = omega (arith, times_append a xs ys) in more
 
+-- those of blocks and of others
+pub references_append : (a : ℕ) (bs cs : List table.UnacknowledgedBlock)
+    → times a (references_in (bs ++ cs)) ≡ times a (references_in bs) + times a (references_in cs)
+references_append a [] cs = omega arith
+references_append a (b ∷ bs) cs = omega (
+  arith,
+  references_append a bs cs,
+  times_append a b.entries (references_in bs),
+  times_append a b.entries (references_in (bs ++ cs)),
+)
+
 -- a number is among some if it is there once or more
 pub is_among : (a : ℕ) (xs : List ℕ) → has_number a xs ≡ nat_lt 0 (times a xs)
 is_among a [] = refl
@@ -92,6 +103,7 @@ references_less v w es now referenced unacknowledged k kept items dropped total 
   once = kept.once;
   each_once = kept.each_once;
   behind = λ absolute above. kept.behind absolute (omega (arith, above, total));
+  few = kept.few;
 }
   where
     there : (position : ℕ) (e : Entry) → slice_get now position ≡ Some e → slice_get es (k + position) ≡ Some e
@@ -148,6 +160,7 @@ references_put v w es now e referenced unacknowledged kept counted items unflagg
   once = kept.once;
   each_once = kept.each_once;
   behind = λ absolute above. kept.behind absolute (omega (arith, above, total));
+  few = kept.few;
 }
   where
     at_either : (position : ℕ) (x : Entry) → slice_get now position ≡ Some x → StandsAt es e x position
@@ -164,8 +177,9 @@ pub references_released : (v : Positions) (es now : List Entry) (referenced : Li
     → CountsReferences v es referenced unacknowledged → flags_of now ≡ flags_of es
     → ((rest : List ℕ) → AreUsed v.dropped es (gone ++ rest) → AreUsed v.dropped now rest)
     → ((a : ℕ) → times a (references_in unacknowledged) ≡ times a gone + times a (references_in left))
-    → AllByRecursion (λ b. NoneTwice b.entries) left → CountsReferences v now referenced left
-references_released v es now referenced unacknowledged left gone kept flags lowered parted once = record {
+    → AllByRecursion (λ b. NoneTwice b.entries) left → length left ≤ length unacknowledged
+    → CountsReferences v now referenced left
+references_released v es now referenced unacknowledged left gone kept flags lowered parted once fewer = record {
   flagged = flagged_as v.dropped es now referenced flags kept.flagged;
   used = lowered (referenced ++ references_in left) (used_as v.dropped es (referenced ++ references_in unacknowledged)
       (gone ++ (referenced ++ references_in left)) (λ a. omega (
@@ -184,4 +198,5 @@ references_released v es now referenced unacknowledged left gone kept flags lowe
     times_append absolute referenced (references_in unacknowledged),
     times_append absolute referenced (references_in left),
   );
+  few = omega (arith, kept.few, fewer);
 }

@@ -2,6 +2,8 @@ pub mod Capacities
 pub mod Positions
 pub mod PlaceLaws
 pub mod Errors
+pub mod Commits
+pub mod OpenBlocks
 pub mod Tables
 pub mod Rows
 pub mod Hashes

@@ -1,6 +1,6 @@
 -- The dynamic table as the code holds it.
 use Rattle.std.specs.Prelude.{◌≡◌, ℕ, ◌+◌, ◌≤◌, ◌<◌, ◌^◌, ⊤, Bool, IsTrue, nat_eq, if◌then◌else◌}
-use Rattle.std.specs.Prelude.{List, [], ◌∷◌, ◌++◌, map, filter, length}
+use Rattle.std.specs.Prelude.{List, [], ◌∷◌, ◌++◌, map, length}
 use Rattle.std.specs.Prelude.{Option, Some, None, IfSome, slice_get, Result, Ok, Err}
 use Rattle.std.specs.List.{AllByRecursion, find}
 use Rattle.std.specs.Option.{option_map}
@@ -21,7 +21,6 @@ use Rattle.qpack_table.specs.declared.dynamic.Error.TheVariants.{UnknownStreamId
 use Rattle.qpack_table.specs.Indexes.{IsIndexOf}
 use Rattle.qpack_table.specs.declared.dynamic.entry.Entry.{Entry}
 use Rattle.qpack_table.specs.declared.dynamic.index.Index.{Index}
-use Rattle.qpack_table.specs.declared.dynamic.entry.UnacknowledgedBlock.{UnacknowledgedBlock}
 
 -- a live entry
 abbrev pub entry_of : Entry → table.Entry
@@ -33,13 +32,6 @@ entries_of es = map (λ e. entry_of e) es
 -- the fields of live entries, the oldest first
 abbrev pub live_fields : List Entry → List Field
 live_fields es = fields_in (entries_of es)
-
--- an unacknowledged block
-abbrev pub block_of : UnacknowledgedBlock → table.UnacknowledgedBlock
-block_of b = record { stream = b.stream_id; entries = b.entries.items }
-
-abbrev pub blocks_of : List UnacknowledgedBlock → List table.UnacknowledgedBlock
-blocks_of bs = map (λ b. block_of b) bs
 
 -- how often a number is among some
 abbrev pub times : ℕ → List ℕ → ℕ
@@ -79,7 +71,8 @@ AreCounted dropped live references =
     (position : ℕ) (e : Entry) → slice_get live position ≡ Some e → times (dropped + position + 1) references ≤ e.uses
 
 -- what the table keeps of its references: each entry says whether the block in progress references it, and counts its
--- uses by that block and the unacknowledged ones; a block references an entry once, and none that was never inserted
+-- uses by that block and the unacknowledged ones, which are at most 2^62; a block references an entry once, and none
+-- that was never inserted
 pub record CountsReferences (positions : Positions) (live : List Entry) (referenced : List ℕ)
     (unacknowledged : List table.UnacknowledgedBlock) : Type 0 where
   pub flagged : AreFlagged positions.dropped live referenced
@@ -88,6 +81,7 @@ pub record CountsReferences (positions : Positions) (live : List Entry) (referen
   pub each_once : AllByRecursion (λ b. NoneTwice b.entries) unacknowledged
   pub behind : (absolute : ℕ) → positions.total < absolute
       → times absolute (referenced ++ references_in unacknowledged) ≡ 0
+  pub few : length unacknowledged ≤ 2 ^ 62
 
 -- the positions of the table are those of its entries, whose sizes are added up and fit the capacity
 pub record IsSized (positions : Positions) (live : List Entry) (size capacity : ℕ) : Type 0 where
@@ -119,11 +113,8 @@ pub record IsKept (positions : Positions) (live : List Entry) (size capacity : �
 pub record IsTaken (stream : ℕ) (block : table.UnacknowledgedBlock) (old new : List table.UnacknowledgedBlock) : Type 0
   where
     pub left : table.without_oldest stream old ≡ Some new
+    pub first : find (λ b. nat_eq b.stream stream) old ≡ Some block
     pub references : (a : ℕ) → times a (references_in old) ≡ times a block.entries + times a (references_in new)
-
--- the blocks of a stream
-abbrev pub of_stream : ℕ → List table.UnacknowledgedBlock → List table.UnacknowledgedBlock
-of_stream stream bs = filter (λ b. nat_eq b.stream stream) bs
 
 -- the required insert count of a block: the greatest absolute index that its lines reference (section 2.1.2)
 abbrev pub required_by : table.UnacknowledgedBlock → ℕ

@@ -12,12 +12,14 @@ use thiserror::Error as ThisError;
 
 mod block;
 mod capacities;
+mod commits;
 mod encoder;
 mod entry;
 mod entry_index;
 mod index;
 mod lookups;
 mod newest;
+mod open_blocks;
 mod sought;
 mod steps;
 mod table;

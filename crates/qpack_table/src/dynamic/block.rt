@@ -1,15 +1,16 @@
 //! The block in progress: what it references, and its end (RFC 9204, section 2.1).
 
-ghost use Rattle.std.specs.Prelude.{◌≡◌, ◌+◌, ◌<◌, ◌≤◌, [], ◌∷◌, ◌++◌, true, if◌then◌else◌};
+ghost use Rattle.std.specs.Prelude.{◌≡◌, ◌+◌, ◌^◌, ◌<◌, ◌≤◌, [], ◌∷◌, ◌++◌, length, true, if◌then◌else◌};
 ghost use Rattle.std.specs.Prelude.{OnOk, OnErr, vec_len, vec_capacity, min};
 ghost use Rattle.qpack_spec.specs.Reading.{greatest_of};
 ghost use Rattle.qpack_spec.specs.Table.{without_references, with_reference, with_unacknowledged, insert_count};
-ghost use Rattle.qpack_table.specs.Tables.{AreFlagged, entries_of, uses_of, blocks_of};
+ghost use Rattle.qpack_table.specs.Tables.{AreFlagged, entries_of, uses_of};
 ghost use Rattle.qpack_spec.specs.Table.{commit};
 ghost use Rattle.qpack_table.specs.Handles.{Commits, OpensOrBlocks};
 
 use crate::dynamic::Error;
-use crate::dynamic::entry::{Entry, UnacknowledgedBlock, clear_references, lower_uses};
+use crate::dynamic::entry::{Entry, clear_references, lower_uses};
+use crate::dynamic::open_blocks::OpenBlocks;
 use crate::dynamic::table::DynamicTable;
 use std::alloc::AllocError;
 use std::collections::VecDeque;
@@ -92,7 +93,7 @@ fn open_block(
     entries: &mut VecDeque<Entry>,
     dropped: usize,
     referenced: &mut Vec<usize>,
-    unacknowledged: &mut VecDeque<UnacknowledgedBlock>,
+    unacknowledged: &mut OpenBlocks,
     stream_id: u64,
 ) -> Result<(), AllocError>
     ensures live { entries_of entries.new.items ≡ entries_of entries.old.items }
@@ -100,23 +101,20 @@ fn open_block(
     ensures cleared { OnOk result (AreFlagged dropped entries.old.items referenced.old.items
         → AreFlagged dropped entries.new.items []) }
     ensures none { OnOk result (referenced.new.items ≡ []) }
-    ensures opened { OnOk result (blocks_of unacknowledged.new.items
-        ≡ with_unacknowledged (blocks_of unacknowledged.old.items) stream_id referenced.old.items) }
+    ensures opened { OnOk result (unacknowledged.new
+        ≡ with_unacknowledged unacknowledged.old stream_id referenced.old.items) }
+    ensures few { OnOk result (length unacknowledged.old ≤ 2 ^ 62 → length unacknowledged.new ≤ 2 ^ 62) }
     ensures err { OnErr result ((entries.new ≡ entries.old) × (referenced.new.items ≡ referenced.old.items)
-        × (unacknowledged.new.items ≡ unacknowledged.old.items)) }
+        × (unacknowledged.new ≡ unacknowledged.old)) }
     ensures asks { OnErr result (referenced.old.items ≡ [] → ⊥) }
 {
     if referenced.is_empty() {
         return Ok(());
     }
-    unacknowledged.reserve(1)?;
     let references = Vec::from_slice(*referenced.allocator(), referenced)?;
-    clear_references(entries, dropped, &references);
+    unacknowledged.push(stream_id, references)?;
+    clear_references(entries, dropped, referenced);
     referenced.clear();
-    unacknowledged.push_back_reserved(UnacknowledgedBlock {
-        stream_id,
-        entries: references,
-    });
     Ok(())
 }
 

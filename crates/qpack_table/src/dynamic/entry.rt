@@ -1,4 +1,4 @@
-//! The live entries of a table, and the blocks that reference them.
+//! The live entries of a table.
 
 ghost use Rattle.std.specs.Prelude.{◌≡◌, ℕ, ◌+◌, ◌^◌, ◌<◌, ◌≤◌, List, [], ◌∷◌, ◌++◌, length, drop, IfSome, IfNone};
 ghost use Rattle.std.specs.Prelude.{IsOk, OnOk, OnErr};
@@ -24,14 +24,6 @@ pub struct Entry {
     pub(super) referenced: bool,
     /// How many blocks reference it: unacknowledged ones, and the one in progress.
     pub(super) uses: usize,
-}
-
-/// A block that is to be acknowledged.
-#[derive(Debug, Drop)]
-pub(super) struct UnacknowledgedBlock {
-    pub(super) stream_id: u64,
-    /// The absolute indexes that its lines reference.
-    pub(super) entries: Vec<usize>,
 }
 
 /// The position of the live entry with an absolute index.

@@ -21,9 +21,10 @@ ghost use Rattle.qpack_table.specs.declared.dynamic.Error.TheVariants.{MaximumTa
 
 use crate::dynamic::Error;
 use crate::dynamic::capacities::{Capacities, GREATEST_CAPACITY};
-use crate::dynamic::entry::{Entry, UnacknowledgedBlock, drop_oldest, replace_oldest};
+use crate::dynamic::entry::{Entry, drop_oldest, replace_oldest};
 use crate::dynamic::entry_index::{EntryIndex, NoIndex};
 use crate::dynamic::index::{Hashes, Index};
+use crate::dynamic::open_blocks::OpenBlocks;
 use crate::vas::VirtualAddressSpace;
 use qpack_base::field::HeaderField;
 use std::alloc::{AllocError, Global};
@@ -51,8 +52,7 @@ pub struct DynamicTable<I: EntryIndex = Index> {
     pub(super) known_received_count: usize,
     /// The absolute indexes that the block in progress names.
     pub(super) referenced: Vec<usize>,
-    /// The oldest first.
-    pub(super) unacknowledged: VecDeque<UnacknowledgedBlock>,
+    pub(super) unacknowledged: OpenBlocks,
     /// The required insert counts above the known received count of committed blocks.
     pub(super) blocked: Vec<usize>,
     /// At most each of them.
@@ -66,7 +66,7 @@ pub type ReceivedTable = DynamicTable<NoIndex>;
 
 impl<I: EntryIndex> Model for DynamicTable<I> {
     ghost use Rattle.qpack_spec.specs.Table.{Table};
-    ghost use Rattle.qpack_table.specs.Tables.{IsKept, entries_of, blocks_of};
+    ghost use Rattle.qpack_table.specs.Tables.{IsKept, entries_of};
 
     ghost Value = { Table };
 
@@ -78,12 +78,12 @@ impl<I: EntryIndex> Model for DynamicTable<I> {
       live = entries_of a.entries.items;
       known_received_count = a.known_received_count;
       referenced = a.referenced.items;
-      unacknowledged = blocks_of a.unacknowledged.items;
+      unacknowledged = a.unacknowledged;
       blocked = a.blocked.items;
     } };
 
     ghost invariant = { λ a. IsKept a.vas a.entries.items a.mem_size a.capacities.capacity a.referenced.items
-        (blocks_of a.unacknowledged.items) a.least_blocked a.blocked.items (I.is_index_of a.index) };
+        a.unacknowledged a.least_blocked a.blocked.items (I.is_index_of a.index) };
 }
 
 impl DynamicTable {
@@ -166,7 +166,7 @@ impl<I: EntryIndex> DynamicTable<I> {
             max_blocked: 0,
             known_received_count: 0,
             referenced: Vec::new(alloc),
-            unacknowledged: VecDeque::new(alloc),
+            unacknowledged: OpenBlocks::new(alloc),
             blocked: Vec::new(alloc),
             least_blocked: usize::MAX,
             index,

@@ -11,7 +11,8 @@ invariant_of-self-2 c = record {
   references = references_opened c.self.inside.vas c.self.inside.entries.items _ c.self.inside.referenced.items _ _ _
       c.args.stream_id _ c.self.invariant.references c.total_dropped-dropped.ensures.exact
       c.in_ok-open_block.ensures.uses
-      c.in_ok-open_block.ensures.cleared c.in_ok-open_block.ensures.none c.in_ok-open_block.ensures.opened;
+      c.in_ok-open_block.ensures.cleared c.in_ok-open_block.ensures.none c.in_ok-open_block.ensures.opened
+      c.in_ok-open_block.ensures.few;
   least = least_pushed _ c.args.required (nat_lt c.self.inside.known_received_count c.args.required) _ _ _
       c.self.invariant.least (rw c.in_ok-reserve_if.ensures.items at c.push_if.ensures) c.min_if-self-inside.ensures;
   indexed = indexed_as c.self.inside.vas.dropped c.self.inside.entries.items _ c.in_ok-open_block.ensures.live

@@ -1,14 +1,14 @@
 use Rattle.std.proofs.Common.{ap, arith}
 use Rattle.std.proofs.lemmas.List.{length-map}
 use Rattle.qpack_spec.specs.Reading.{greatest_of}
-use Rattle.qpack_table.specs.Tables.{entry_of, blocks_of, references_in}
+use Rattle.qpack_table.specs.Tables.{entry_of, references_in}
 use Rattle.qpack_table.proofs.Greatest.{greatest_within}
 use Rattle.qpack_table.proofs.dynamic.block.DynamicTable.greatest_reference.Goals as goal
 
 pub returns-clause-inserted : goal.returns-clause-inserted
 returns-clause-inserted c =
     let within = greatest_within c.self.inside.vas.total c.self.inside.referenced.items
-    (references_in (blocks_of c.self.inside.unacknowledged.items)) c.self.invariant.references.behind in
+    (references_in c.self.inside.unacknowledged) c.self.invariant.references.behind in
     rw (← c.self.view_is) (omega (
       arith,
       within,

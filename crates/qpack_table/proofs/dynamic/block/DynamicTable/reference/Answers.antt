@@ -1,7 +1,7 @@
 use Rattle.std.proofs.Common.{◌≡◌, ◌+◌, ◌-◌, ◌<◌, length, refl, ap, ◌∙◌, arith}
 use Rattle.std.proofs.lemmas.List.{length-map}
 use Rattle.qpack_spec.specs.Table.{Table, insert_count}
-use Rattle.qpack_table.specs.Tables.{entry_of, block_of}
+use Rattle.qpack_table.specs.Tables.{entry_of}
 use Rattle.qpack_table.specs.declared.dynamic.entry.Entry.{Entry}
 use Rattle.qpack_table.proofs.EvictableEntries.{item_there, read_twice}
 use Rattle.qpack_table.proofs.Kept.{sized_as, indexed_as}
@@ -53,9 +53,6 @@ overflow_add-entry c =
       arith,
       uses_fit _ _ _ _ _ _ c.self.invariant.references (item_there _ _ _ within c.index_mut-entry.ensures.value)
           unflagged,
-      length-map c.self.inside.unacknowledged.items block_of,
-      c.self.inside.unacknowledged.small,
-      c.self.inside.unacknowledged.ok,
     )
 
 pub invariant_of-self-2 : goal.invariant_of-self-2

@@ -1,7 +1,7 @@
-use Rattle.std.proofs.Common.{◌≡◌, ◌+◌, [], ◌∷◌, List, length, refl, ap, ◌∙◌, arith}
+use Rattle.std.proofs.Common.{◌+◌, [], ◌∷◌, List, length, refl, ap, ◌∙◌, arith}
 use Rattle.std.proofs.lemmas.List.{length-append}
 use Rattle.qpack_table.specs.declared.dynamic.entry.Entry.{Entry}
-use Rattle.qpack_table.proofs.WholeIndexes.{NewestThere, index_before, hashes_joined}
+use Rattle.qpack_table.proofs.WholeIndexes.{NewestThere, index_before}
 use Rattle.qpack_table.proofs.dynamic.entry_index.IndexEntryIndex.enter.Goals as goal
 
 pub enter-requires-clause-index : goal.enter-requires-clause-index

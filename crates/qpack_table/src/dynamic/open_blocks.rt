@@ -1,0 +1,118 @@
+//! The blocks that are to be acknowledged, found by their streams (RFC 9204, section 2.1).
+
+ghost use Rattle.std.specs.Prelude.{◌≡◌, ◌^◌, ◌≤◌, [], ◌∷◌, ◌++◌, length, None, IfSome, IfNone, OnOk};
+ghost use Rattle.std.specs.Prelude.{OnErr, nat_eq};
+ghost use Rattle.std.specs.List.{find};
+ghost use Rattle.std.specs.Option.{option_map};
+ghost use Rattle.qpack_table.specs.Commits.{IsOldest, HasNone};
+
+use crate::dynamic::commits::CommitKey;
+use std::alloc::{AllocError, Global};
+use std::collections::BTreeMap;
+use std::marker::Model;
+
+/// The number of blocks at which no more are opened.
+const MOST_BLOCKS: u64 = 1 << 62;
+
+/// The blocks that are to be acknowledged, in the order of their commits.
+#[derive(Debug, Drop)]
+pub(super) struct OpenBlocks {
+    /// The absolute indexes that the lines of each reference, by its stream and order number.
+    references: BTreeMap<CommitKey, Vec<usize>>,
+    /// How many blocks were ever opened.
+    opened: u64,
+}
+
+impl Model for OpenBlocks {
+    ghost use Rattle.std.specs.Prelude.{List};
+    ghost use Rattle.qpack_spec.specs.Table.{UnacknowledgedBlock};
+    ghost use Rattle.qpack_table.specs.Commits.{AreNumbered};
+    ghost use Rattle.qpack_table.specs.OpenBlocks.{blocks_of};
+
+    ghost Value = { List UnacknowledgedBlock };
+
+    ghost view = { λ a. blocks_of a.opened a.references.entries };
+
+    ghost invariant = { λ a. AreNumbered a.opened a.references.entries };
+}
+
+impl OpenBlocks {
+    ghost use Rattle.qpack_spec.specs.Table.{without_oldest};
+    ghost use Rattle.qpack_table.specs.Tables.{IsTaken};
+
+    /// No blocks.
+    pub(super) fn new(alloc: Global) -> OpenBlocks
+        ensures { result ≡ [] }
+    {
+        OpenBlocks {
+            references: BTreeMap::new(alloc),
+            opened: 0,
+        }
+    }
+
+    /// How many there are.
+    pub(super) fn len(&self) -> usize
+        ensures { result ≡ length self.now }
+    {
+        self.references.len()
+    }
+
+    /// What the oldest block of a stream references.
+    pub(super) fn oldest(&self, stream_id: u64) -> Option<&[usize]>
+        ensures { option_map (λ references. references.now) result
+            ≡ option_map (λ b. b.entries) (find (λ b. nat_eq b.stream stream_id) self.now) }
+    {
+        let (_, references) = oldest_entry(&self.references, stream_id)?;
+        Some(references.as_slice())
+    }
+
+    /// Takes the oldest block of a stream out, if there is one: what it references. It takes no memory.
+    pub(super) fn take_oldest(&mut self, stream_id: u64) -> Option<Vec<usize>>
+        ensures taken { IfSome result (λ references.
+            IsTaken stream_id (record { stream = stream_id; entries = references.items }) self.old self.new) }
+        ensures none { IfNone result ((without_oldest stream_id self.old ≡ None) × (self.new ≡ self.old)) }
+    {
+        let (key, _) = oldest_entry(&self.references, stream_id)?;
+        self.references.remove(&key)
+    }
+
+    /// Opens a block. Refused, which is for memory alone, nothing changes.
+    pub(super) fn push(&mut self, stream_id: u64, references: Vec<usize>) -> Result<(), AllocError>
+        ensures ok { OnOk result
+            (self.new ≡ self.old ++ record { stream = stream_id; entries = references.items } ∷ []) }
+        ensures few { OnOk result (length self.new ≤ 2 ^ 62) }
+        ensures err { OnErr result (self.new ≡ self.old) }
+    {
+        let order = self.opened;
+        if order >= MOST_BLOCKS {
+            return Err(AllocError);
+        }
+        let key = CommitKey {
+            number: stream_id,
+            order,
+        };
+        self.references.insert(key, references)?;
+        self.opened = order + 1;
+        Ok(())
+    }
+}
+
+/// The oldest block of a stream: its key, and what it references.
+fn oldest_entry(
+    blocks: &BTreeMap<CommitKey, Vec<usize>>,
+    stream_id: u64,
+) -> Option<(CommitKey, &Vec<usize>)>
+    ensures found { IfSome result (λ e. IsOldest stream_id e.0 e.1.now blocks.now.entries) }
+    ensures none { IfNone result (HasNone stream_id blocks.now.entries) }
+{
+    let first = CommitKey {
+        number: stream_id,
+        order: 0,
+    };
+    let (key, references) = blocks.range(first..).next()?;
+    if key.number == stream_id {
+        Some((*key, references))
+    } else {
+        None
+    }
+}
