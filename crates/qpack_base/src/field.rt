@@ -44,7 +44,7 @@ impl HeaderField {
         Ok(HeaderField::new(name, value))
     }
 
-    /// The size of the field in a table, in bytes, held at the greatest number (RFC 9204, section 3.2.1).
+    /// The size of the field in a table, in bytes, at most 2^64 - 1 (RFC 9204, section 3.2.1).
     pub fn mem_size(&self) -> usize
         ensures { result ≡ min (field_size (field_of self.now)) (2 ^ 64 - 1) }
     {
@@ -127,7 +127,7 @@ impl<'a> FieldLine<'a> {
         }
     }
 
-    /// The size of the field in a table, in bytes, held at the greatest number (RFC 9204, section 3.2.1).
+    /// The size of the field in a table, in bytes, at most 2^64 - 1 (RFC 9204, section 3.2.1).
     pub fn mem_size(&self) -> usize
         ensures { result ≡ min (field_size (line_of self.now).field) (2 ^ 64 - 1) }
     {

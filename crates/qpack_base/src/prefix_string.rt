@@ -146,7 +146,7 @@ pub fn decode(alloc: Global, size: u8, buf: &mut Cursor) -> Result<Vec<u8>, Erro
 }
 
 /// Reads the string at the cursor, with a prefix of `size` bits, plain or coded, and appends its value to the text.
-/// Refused, the text is as before, and the cursor's position is unspecified. With free room for the text that any
+/// On error the text is as before, and the cursor's position is unspecified. With free room for the text that any
 /// payload of the bytes that are left could mean it takes no memory.
 pub fn decode_onto<A: Allocator>(
     size: u8,
@@ -166,7 +166,7 @@ pub fn decode_onto<A: Allocator>(
 }
 
 /// Appends the coded literal of the value with a prefix of `size` bits, under the flags, which are cut
-/// to the bits above it. Refused, the vector is as before; with free room for the literal it succeeds
+/// to the bits above it. On error the vector is as before; with free room for the literal it succeeds
 /// and takes no memory.
 #[inline(always)]
 pub fn encode<A: Allocator>(

@@ -39,7 +39,7 @@ pub enum StaticMatch {
 pub struct StaticTable;
 
 impl StaticTable {
-    /// The field at an index, from 0 to 98, lent for good.
+    /// The field at an index, from 0 to 98, borrowed for 'static.
     pub fn get(index: usize) -> Result<HeaderField, Error>
         ensures found { IfOk result (λ field. IsStaticAt index (field_of field)) }
         ensures unknown { IfErr result (λ e. (e ≡ Unknown index) × (length static_table ≤ index)) }

@@ -9,7 +9,7 @@ use std::cmp::Ordering;
 use std::hash::{DefaultHasher, Hasher};
 use std::test::Fail;
 
-/// A field that is lent for good.
+/// A field that is borrowed for 'static.
 fn lent(name: &'static [u8], value: &'static [u8]) -> HeaderField {
     HeaderField {
         name: CowSlice::Borrowed(name),

@@ -14,7 +14,7 @@ pub(crate) const VALUE_SIZE: u8 = 8;
 
 const VALUE_FLAGS: u8 = 0;
 
-/// Appends an index, with a prefix of `size` bits under the flags, and a value. Refused, the vector is
+/// Appends an index, with a prefix of `size` bits under the flags, and a value. On error the vector is
 /// as before.
 #[inline(always)]
 pub(crate) fn put_index_and_value<A: Allocator>(
@@ -38,7 +38,7 @@ pub(crate) fn put_index_and_value<A: Allocator>(
     answer
 }
 
-/// Appends a name, with a prefix of `size` bits under the flags, and a value. Refused, the vector is
+/// Appends a name, with a prefix of `size` bits under the flags, and a value. On error the vector is
 /// as before.
 #[inline(always)]
 pub(crate) fn put_name_and_value<A: Allocator>(

@@ -24,7 +24,7 @@ impl From<AllocError> for HuffmanEncodingError {
 /// Up to so many bytes the bits of their codes are summed in a number of 32 bits.
 const FEW: usize = 1 << 26;
 
-/// How many bytes the payload of a text has, held at the greatest number.
+/// How many bytes the payload of a text has, at most 2^64 - 1.
 pub(super) fn payload_len(text: &[u8]) -> usize
     ensures { result ≡ min (length (payload_of text.now)) (2 ^ 64 - 1) }
 {

@@ -48,7 +48,7 @@ impl Indexed {
         read_indexed(buf)
     }
 
-    /// Appends the written spelling of the line. Refused, the vector is as before; with free room for
+    /// Appends the written spelling of the line. On error the vector is as before; with free room for
     /// the spelling it succeeds and takes no memory.
     #[inline(always)]
     #[tactic(auto, unfolding(qpack_spec::specs::Line::written_line))]
@@ -106,7 +106,7 @@ impl IndexedWithPostBase {
         read_indexed_with_post_base(buf)
     }
 
-    /// Appends the written spelling of the line. Refused, the vector is as before; with free room for
+    /// Appends the written spelling of the line. On error the vector is as before; with free room for
     /// the spelling it succeeds and takes no memory.
     #[inline(always)]
     #[tactic(auto, unfolding(qpack_spec::specs::Line::written_line))]

@@ -86,7 +86,7 @@ impl BlockLine {
         read_line(alloc, buf)
     }
 
-    /// Appends the written spelling of the line. Refused, the vector is as before; with free room for
+    /// Appends the written spelling of the line. On error the vector is as before; with free room for
     /// the spelling it succeeds and takes no memory.
     pub fn encode<A: Allocator>(&self, buf: &mut Vec<u8, A>) -> Result<(), prefix_string::Error>
         ensures writes { Writes (written_line (line_of self.now)) buf.old buf.new result }

@@ -89,7 +89,7 @@ impl LiteralWithNameRef {
         read_literal_with_name_ref(alloc, buf)
     }
 
-    /// Appends the written spelling of the line, whose N is 0. Refused, the vector is as before; with
+    /// Appends the written spelling of the line, whose N is 0. On error the vector is as before; with
     /// free room for the spelling it succeeds and takes no memory.
     pub fn encode<A: Allocator>(&self, buf: &mut Vec<u8, A>) -> Result<(), prefix_string::Error>
         ensures writes { Writes (written_line (line_of_literal_with_name_ref self.now)) buf.old buf.new result }
@@ -249,7 +249,7 @@ impl LiteralWithPostBaseNameRef {
         read_literal_with_post_base_name_ref(alloc, buf)
     }
 
-    /// Appends the written spelling of the line, whose N is 0. Refused, the vector is as before; with
+    /// Appends the written spelling of the line, whose N is 0. On error the vector is as before; with
     /// free room for the spelling it succeeds and takes no memory.
     pub fn encode<A: Allocator>(&self, buf: &mut Vec<u8, A>) -> Result<(), prefix_string::Error>
         ensures writes { Writes (written_line (line_of_literal_with_post_base_name_ref self.now))
@@ -363,7 +363,7 @@ impl Literal {
         read_literal(alloc, buf)
     }
 
-    /// Appends the written spelling of the line, whose N is 0. Refused, the vector is as before; with
+    /// Appends the written spelling of the line, whose N is 0. On error the vector is as before; with
     /// free room for the spelling it succeeds and takes no memory.
     pub fn encode<A: Allocator>(&self, buf: &mut Vec<u8, A>) -> Result<(), prefix_string::Error>
         ensures writes { Writes (written_line (line_of_literal self.now)) buf.old buf.new result }

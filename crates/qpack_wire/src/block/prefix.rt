@@ -85,7 +85,7 @@ impl HeaderPrefix {
         read_header_prefix(buf)
     }
 
-    /// Appends the written spelling of the prefix. Refused, the vector is as before; with free room
+    /// Appends the written spelling of the prefix. On error the vector is as before; with free room
     /// for the spelling it succeeds and takes no memory.
     #[tactic(auto, unfolding(qpack_spec::specs::Prefix::written_prefix))]
     pub fn encode<A: Allocator>(&self, buf: &mut Vec<u8, A>) -> Result<(), NoMemory>

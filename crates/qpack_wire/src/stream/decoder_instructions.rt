@@ -46,7 +46,7 @@ impl InsertCountIncrement {
         or_none(read_insert_count_increment(buf))
     }
 
-    /// Appends the written spelling of the instruction. Refused, the vector is as before; with free
+    /// Appends the written spelling of the instruction. On error the vector is as before; with free
     /// room for the spelling it succeeds and takes no memory.
     #[tactic(auto, unfolding(qpack_spec::specs::Instruction::written_decoder_instruction))]
     pub fn encode<A: Allocator>(&self, buf: &mut Vec<u8, A>) -> Result<(), NoMemory>
@@ -99,7 +99,7 @@ impl HeaderAck {
         or_none(read_header_ack(buf))
     }
 
-    /// Appends the written spelling of the instruction. Refused, the vector is as before; with free
+    /// Appends the written spelling of the instruction. On error the vector is as before; with free
     /// room for the spelling it succeeds and takes no memory.
     #[tactic(auto, unfolding(qpack_spec::specs::Instruction::written_decoder_instruction))]
     pub fn encode<A: Allocator>(&self, buf: &mut Vec<u8, A>) -> Result<(), NoMemory>
@@ -149,7 +149,7 @@ impl StreamCancel {
         or_none(read_stream_cancel(buf))
     }
 
-    /// Appends the written spelling of the instruction. Refused, the vector is as before; with free
+    /// Appends the written spelling of the instruction. On error the vector is as before; with free
     /// room for the spelling it succeeds and takes no memory.
     #[tactic(auto, unfolding(qpack_spec::specs::Instruction::written_decoder_instruction))]
     pub fn encode<A: Allocator>(&self, buf: &mut Vec<u8, A>) -> Result<(), NoMemory>

@@ -86,7 +86,7 @@ impl InsertWithNameRef {
         or_none(read_insert_with_name_ref(alloc, buf))
     }
 
-    /// Appends the written spelling of the instruction. Refused, the vector is as before; with free
+    /// Appends the written spelling of the instruction. On error the vector is as before; with free
     /// room for the spelling it succeeds and takes no memory.
     pub fn encode<A: Allocator>(&self, buf: &mut Vec<u8, A>) -> Result<(), prefix_string::Error>
         ensures writes { Writes (written_encoder_instruction (encoder_instruction_of_insert_with_name_ref self.now))
@@ -207,7 +207,7 @@ impl InsertWithoutNameRef {
         or_none(read_insert_without_name_ref(alloc, buf))
     }
 
-    /// Appends the written spelling of the instruction. Refused, the vector is as before; with free
+    /// Appends the written spelling of the instruction. On error the vector is as before; with free
     /// room for the spelling it succeeds and takes no memory.
     pub fn encode<A: Allocator>(&self, buf: &mut Vec<u8, A>) -> Result<(), prefix_string::Error>
         ensures writes { Writes (written_encoder_instruction (encoder_instruction_of_insert_without_name_ref self.now))

@@ -46,7 +46,7 @@ pub trait Wire: Sized + Drop {
         // The same, as reading from left to right.
         ensures exact { ReadsStream line_of buf.old buf.new result (read buf.old.rest) };
 
-    /// Appends the written spelling of the line. Refused, the vector is as before; with free room for
+    /// Appends the written spelling of the line. On error the vector is as before; with free room for
     /// the spelling it succeeds and takes no memory.
     fn encode<A: Allocator>(&self, buf: &mut Vec<u8, A>) -> Result<(), NoMemory>
         ensures writes { Writes (written (line_of self.now)) buf.old buf.new result };

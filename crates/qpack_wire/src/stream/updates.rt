@@ -43,7 +43,7 @@ impl Duplicate {
         or_none(read_duplicate(buf))
     }
 
-    /// Appends the written spelling of the instruction. Refused, the vector is as before; with free
+    /// Appends the written spelling of the instruction. On error the vector is as before; with free
     /// room for the spelling it succeeds and takes no memory.
     #[tactic(auto, unfolding(qpack_spec::specs::Instruction::written_encoder_instruction))]
     pub fn encode<A: Allocator>(&self, buf: &mut Vec<u8, A>) -> Result<(), NoMemory>
@@ -92,7 +92,7 @@ impl DynamicTableSizeUpdate {
         or_none(read_dynamic_table_size_update(buf))
     }
 
-    /// Appends the written spelling of the instruction. Refused, the vector is as before; with free
+    /// Appends the written spelling of the instruction. On error the vector is as before; with free
     /// room for the spelling it succeeds and takes no memory.
     #[tactic(auto, unfolding(qpack_spec::specs::Instruction::written_encoder_instruction))]
     pub fn encode<A: Allocator>(&self, buf: &mut Vec<u8, A>) -> Result<(), NoMemory>
