@@ -12,7 +12,7 @@ pub mod Counts
 pub mod Hearing
 pub mod StaticMatches
 pub mod Additions
-pub mod AloneFields
+pub mod BareTables
 pub mod Alike
 pub mod Rooms
 pub mod Stills

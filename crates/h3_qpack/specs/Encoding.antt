@@ -1,5 +1,5 @@
 -- What an encoder writes for fields, one by one (RFC 9204, section 2.1).
-use Rattle.std.specs.Prelude.{◌≡◌, ℕ, ◌+◌, ◌*◌, ◌≤◌, ◌⊎◌, ⊤, List, [], ◌++◌, take, map, Option, Some, None}
+use Rattle.std.specs.Prelude.{◌≡◌, ℕ, ◌+◌, ◌*◌, ◌≤◌, ◌⊎◌, ⊤, List, [], ◌++◌, take, map, Option}
 use Rattle.std.specs.Prelude.{Result, Ok, Err, vec_len, vec_capacity}
 use Rattle.std.specs.declared.vec.Vec.{Vec}
 use Rattle.std.specs.Borrow.{Bor}
@@ -11,7 +11,6 @@ use Rattle.qpack_spec.specs.Line.{written_lines}
 use Rattle.qpack_spec.specs.BlockReading.{written_block}
 use Rattle.qpack_spec.specs.Table.{Table, without_references}
 use Rattle.qpack_spec.specs.Rule.{Draft, rule, required_insert_count, block_of, committed_table}
-use Rattle.qpack_spec.specs.Handle.{Lookup, AtStatic, NotFound}
 use Rattle.qpack_spec.specs.Handle.{Insertion, Duplicated, InsertedWithStaticName, InsertedWithName, Inserted}
 use Rattle.qpack_spec.specs.Handle.{NotInserted, handle_field}
 use Rattle.qpack_spec.specs.Marked.{marked_rule, written_marked_lines, written_marked_block, handle_line, handle_lines}
@@ -71,11 +70,6 @@ GrowsForFields steps it old new =
 -- a block in progress at a table, of which nothing is written yet
 abbrev pub draft_at : Table → Draft
 draft_at t = record { table = t; lines = []; instructions = [] }
-
--- where a name is found while no entry is live: in the static table, at this index if at any
-abbrev pub lookup_alone : Option ℕ → Lookup
-lookup_alone (Some index) = AtStatic index
-lookup_alone None = NotFound
 
 -- what one field makes of it
 abbrev pub draft_of_field : Table → ℕ → Field → Draft

@@ -12,7 +12,7 @@ ghost use Rattle.qpack_base.specs.Writes.{Writes};
 ghost use Rattle.qpack_spec.specs.StaticTable.{static_index, static_name_index};
 ghost use Rattle.qpack_table.specs.Handles.{insertion_of, lookup_of, IsFoundIn};
 ghost use Rattle.h3_qpack.specs.Encoding.{written_insertion, draft_at, draft_of_field, Adds, GrowsWithin, StopsAdding};
-ghost use Rattle.h3_qpack.specs.Encoding.{draft_of_line, AddsLines, lookup_alone};
+ghost use Rattle.h3_qpack.specs.Encoding.{draft_of_line, AddsLines};
 
 use crate::encoder::room::{for_memory, make_room};
 use qpack_base::coding::NoMemory;
@@ -93,7 +93,7 @@ fn append_field<A: Allocator, B: Allocator>(
 }
 
 /// Adds a field that no static field is equal to, and whose name the static table has at this index if at any: the
-/// newest equal entry, an insertion or a literal. At capacity 0, where no entry is, nothing is looked for.
+/// newest equal entry, an insertion or a literal.
 fn append_dynamic<A: Allocator, B: Allocator>(
     block: &mut DynamicTableEncoder<'_>,
     field: &FieldLine<'_>,
@@ -118,9 +118,6 @@ fn append_dynamic<A: Allocator, B: Allocator>(
         (vec_len lines.new ≤ vec_capacity lines.old → vec_capacity lines.new ≡ vec_capacity lines.old) }
     ensures instructions { GrowsWithin (4 * field_size (line_of field.now).field) encoder_buf.old encoder_buf.new }
 {
-    if block.max_size() == 0 {
-        return Ok(append_literal(field, static_lookup(static_name), lines)?);
-    }
     let Ok(found) = block.find_and_keep(field, static_name) else {
         return Err(NoMemory);
     };
@@ -128,16 +125,6 @@ fn append_dynamic<A: Allocator, B: Allocator>(
         return Ok(Indexed::Dynamic(index).encode(lines)?);
     }
     append_insertion(block, field, &found, lines, encoder_buf)
-}
-
-/// Where a name was found of which the static table has this index, if any.
-fn static_lookup(static_name: Option<usize>) -> DynamicLookupResult
-    ensures { lookup_of result ≡ lookup_alone static_name }
-{
-    match static_name {
-        Some(index) => DynamicLookupResult::Static(index),
-        None => DynamicLookupResult::NotFound,
-    }
 }
 
 /// Inserts a field that was looked for, or writes it as a literal. Room for the instruction is made before the

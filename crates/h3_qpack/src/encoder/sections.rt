@@ -1,8 +1,9 @@
 //! Field sections as an encoder writes them, and what it asks of its table for that (RFC 9204, section 2.1).
 
-ghost use Rattle.std.specs.Prelude.{◌≡◌, ◌≤◌, map, Ok, IfOk, IfErr, OnOk, OnErr, vec_len, vec_capacity};
+ghost use Rattle.std.specs.Prelude.{◌≡◌, ◌≤◌, ◌++◌, map, Ok, IfOk, IfErr, OnOk, OnErr, vec_len, vec_capacity};
 ghost use Rattle.std.specs.Iterator.{IsFinite, Drains};
 ghost use Rattle.qpack_spec.specs.Field.{fields_of_lines};
+ghost use Rattle.qpack_spec.specs.Marked.{stateless_block_marked, written_marked_block};
 ghost use Rattle.qpack_spec.specs.Table.{Table, commit, without_references};
 ghost use Rattle.h3_qpack.specs.Encoding.{DrainsLinesOf, EncodesLines, GivesUpLines, StopsEncodingLinesOf};
 ghost use Rattle.h3_qpack.specs.Encoding.{GrowsForLinesOf, GrowsWithin, instructions_room};
@@ -11,6 +12,7 @@ ghost use Rattle.h3_qpack.specs.declared.encoder.EncoderError.TheVariants.{Memor
 use crate::encoder::EncoderError;
 use crate::encoder::as_field::AsField;
 use crate::encoder::block::append_block;
+use crate::encoder::stateless::append_section;
 use qpack_base::coding::NoMemory;
 use qpack_table::dynamic::{DynamicTable, DynamicTableEncoder};
 use std::alloc::{AllocError, Allocator, Global};
@@ -74,6 +76,10 @@ impl WritesSections for EncoderTable {
         encoder_buf: &mut Vec<u8, B>,
         fields: &[H],
     ) -> Result<usize, EncoderError> {
+        if self.table.max_mem_size() == 0 {
+            self.give_up();
+            return append_alone(fields, block);
+        }
         let len = block.len();
         let mut handle = self.table.encoder(stream_id);
         let appended = append_block(&mut handle, block, encoder_buf, fields);
@@ -86,6 +92,30 @@ impl WritesSections for EncoderTable {
 
     fn give_up(&mut self) {
         self.table.encoder(0).release();
+    }
+}
+
+/// Appends the section of the fields where no entry is, since the table has the capacity 0, and answers its required
+/// insert count, which is 0.
+fn append_alone<A: Allocator, H: AsField>(
+    fields: &[H],
+    block: &mut Vec<u8, A>,
+) -> Result<usize, EncoderError>
+    ensures ok { IfOk result (λ required. (required ≡ 0) × (block.new.items ≡ block.old.items
+        ++ written_marked_block (map H.line fields.now) (stateless_block_marked (map H.line fields.now)))) }
+    ensures err { OnErr result (block.new.items ≡ block.old.items) }
+    ensures memory { IfErr result (λ e. e ≡ Memory) }
+    ensures capacity { vec_capacity block.old ≤ vec_capacity block.new }
+    ensures still { OnOk result
+        (vec_len block.new ≤ vec_capacity block.old → vec_capacity block.new ≡ vec_capacity block.old) }
+{
+    let len = block.len();
+    match append_section(block, fields) {
+        Ok(()) => Ok(0),
+        Err(error) => {
+            block.truncate(len);
+            Err(EncoderError::from(error))
+        }
     }
 }
 

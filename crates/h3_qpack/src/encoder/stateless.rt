@@ -41,7 +41,7 @@ pub fn encode_section_stateless<A: Allocator, H: AsField>(
 }
 
 /// Appends the section; refused, what stood before is still at the front.
-fn append_section<A: Allocator, H: AsField>(
+pub(super) fn append_section<A: Allocator, H: AsField>(
     block: &mut Vec<u8, A>,
     fields: &[H],
 ) -> Result<(), NoMemory>
@@ -49,6 +49,8 @@ fn append_section<A: Allocator, H: AsField>(
         ++ written_marked_block (map H.line fields.now) (stateless_block_marked (map H.line fields.now))) }
     ensures err { OnErr result (take (vec_len block.old) block.new.items ≡ block.old.items) }
     ensures capacity { vec_capacity block.old ≤ vec_capacity block.new }
+    ensures still { OnOk result
+        (vec_len block.new ≤ vec_capacity block.old → vec_capacity block.new ≡ vec_capacity block.old) }
 {
     HeaderPrefix::new(0, 0, 0, 0).encode(block)?;
     for field in fields {

@@ -201,6 +201,22 @@ impl Pending {
         put_eight((marked << ones) + (power(ones) - 1), buf);
         buf.truncate(end);
     }
+
+    /// Appends the last bits of a payload into the free room: these, and the codes of the last bytes of its text.
+    #[inline(always)]
+    fn put_end<A: Allocator>(self, rest: &[u8], buf: &mut Vec<u8, A>)
+        requires few { self.count < 32 }
+        requires short { length rest.now < 4 }
+        requires room { vec_len buf.old + (self.count + length (bits_of_text rest.now) + 7) / 8 ≤ vec_capacity buf.old }
+        ensures items { AddsLast (bits_of self.count self.bits ++ bits_of_text rest.now) buf.old.items buf.new.items }
+        ensures capacity { vec_capacity buf.new ≡ vec_capacity buf.old }
+    {
+        let last = self.with_each(rest);
+        if last.count < 64 && buf.capacity() - buf.len() >= 8 {
+            return last.put_filled(buf);
+        }
+        replace_with(buf, (self, rest), with_narrow_end)
+    }
 }
 
 /// The vector with the codes of four bytes behind it, as `put_each` appends them, kept out of the loop of those whose
@@ -246,38 +262,20 @@ fn with_payload<A: Allocator>(mut buf: Vec<u8, A>, text: &[u8]) -> (Vec<u8, A>, 
         pending = pending.put_quad(four, &mut buf);
         rest = behind;
     }
-    with_end(buf, pending, rest)
+    pending.put_end(rest, &mut buf);
+    (buf, ())
 }
 
-/// The vector with the last bits of a payload behind it, and the codes of the last bytes of its text.
-#[inline(always)]
-fn with_end<A: Allocator>(mut buf: Vec<u8, A>, pending: Pending, rest: &[u8]) -> (Vec<u8, A>, ())
-    requires few { pending.count < 32 }
-    requires short { length rest.now < 4 }
-    requires room { vec_len buf + (pending.count + length (bits_of_text rest.now) + 7) / 8 ≤ vec_capacity buf }
-    ensures items { AddsLast (bits_of pending.count pending.bits ++ bits_of_text rest.now) buf.items result.0.items }
-    ensures capacity { vec_capacity result.0 ≡ vec_capacity buf }
-{
-    let last = pending.with_each(rest);
-    if last.count < 64 && buf.capacity() - buf.len() >= 8 {
-        last.put_filled(&mut buf);
-        return (buf, ());
-    }
-    with_narrow_end(buf, pending, rest)
-}
-
-/// The same where the codes are long or the room is narrow.
+/// The vector with the last bits of a payload behind it, where the codes are long or the room is narrow.
 #[inline(never)]
-fn with_narrow_end<A: Allocator>(
-    mut buf: Vec<u8, A>,
-    pending: Pending,
-    rest: &[u8],
-) -> (Vec<u8, A>, ())
-    requires few { pending.count < 32 }
-    requires room { vec_len buf + (pending.count + length (bits_of_text rest.now) + 7) / 8 ≤ vec_capacity buf }
-    ensures items { AddsLast (bits_of pending.count pending.bits ++ bits_of_text rest.now) buf.items result.0.items }
+fn with_narrow_end<A: Allocator>(mut buf: Vec<u8, A>, from: (Pending, &[u8])) -> (Vec<u8, A>, ())
+    requires few { from.0.count < 32 }
+    requires room { vec_len buf + (from.0.count + length (bits_of_text from.1.now) + 7) / 8 ≤ vec_capacity buf }
+    ensures items { AddsLast (bits_of from.entry.0.count from.entry.0.bits ++ bits_of_text from.entry.1.now) buf.items
+        result.0.items }
     ensures capacity { vec_capacity result.0 ≡ vec_capacity buf }
 {
+    let (pending, rest) = from;
     let last = pending.put_each(rest, &mut buf);
     put_last(last.bits % power(last.count), last.count, &mut buf);
     (buf, ())

@@ -5,14 +5,13 @@ use Rattle.qpack_base.specs.HeaderFields.{line_of}
 use Rattle.qpack_table.specs.Handles.{lookup_of}
 use Rattle.qpack_table.specs.declared.dynamic.encoder.DynamicLookupResult.{DynamicLookupResult}
 use Rattle.h3_qpack.specs.Encoding.{draft_of_field}
-use Rattle.h3_qpack.proofs.AloneFields.{adds_alone}
 use Rattle.h3_qpack.proofs.Additions.{adds_found, stops_found, no_relative, on_ok_adds, on_err_stops}
 use Rattle.h3_qpack.proofs.Stills.{still_written}
 use Rattle.h3_qpack.proofs.encoder.fields.append_dynamic.Goals as goal
 
 pub returns-in_err-encode-clause-err : goal.returns-in_err-encode-clause-err
 returns-in_err-encode-clause-err g c =
-    let p = err_from_is_err_and c.from_residual-in_err-encode.result c.from_residual-in_err-encode.ensures.1 in
+    let p = err_from_is_err_and c.from_residual.result c.from_residual.ensures.1 in
     let f = (line_of c.args.field.now).field in
     rw p.1
     (stops_found c.args.block.now.table.now c.args.block.now.base f (lookup_of c.in-Ok.found.lookup)
@@ -28,15 +27,6 @@ returns-in-Relative-clause-ok g c =
     ∙ ap (λ (x : DynamicLookupResult). let found : Found =
     record { lookup = lookup_of x; table = c.find_and_keep.new.self.table.now } in found) c.in-Relative.is)
     c.in_ok-encode.ensures.writes.ok
-
-pub returns-then-max_size-eq0-clause-ok : goal.returns-then-max_size-eq0-clause-ok
-returns-then-max_size-eq0-clause-ok g c =
-    let size = c.max_size.ensures in
-    adds_alone c.args.block.now.table.now c.args.block.now.base c.max_size.result (line_of c.args.field.now).field
-    c.args.static_name c.args.field.now.never_indexed (lookup_of c.static_lookup.result) c.args.lines.now.items
-    c.append_literal.new.buf.items c.args.encoder_buf.now.items size.exact c.if-max_size-eq0.true size.fits
-    c.requires.no_static c.requires.static_name c.requires.unmarked c.static_lookup.ensures
-    c.in_ok-append_literal.ensures.writes.ok
 
 pub returns : goal.returns
 returns g c =

@@ -4,6 +4,7 @@ use Rattle.qpack_spec.specs.Prefix.{Prefix, written_prefix}
 use Rattle.qpack_base.specs.HeaderFields.{line_of}
 use Rattle.h3_qpack.proofs.MarkedFields.{written_stateless, stateless_begun, stateless_grown}
 use Rattle.h3_qpack.proofs.WrittenBlocks.{take-append_front}
+use Rattle.h3_qpack.proofs.Stills.{still_written, still_next, longer_written}
 use Rattle.h3_qpack.proofs.encoder.stateless.append_section.Goals as goal
 
 pub loop-field-init : goal.loop-field-init
@@ -12,6 +13,8 @@ loop-field-init g c = record {
       (c.in_ok-encode.ensures.writes.ok
       ∙ ap (λ (p : Prefix). c.args.block.now.items ++ written_prefix p) c.new.ensures);
   capacity = c.encode.ensures.writes.capacity;
+  still = still_written _ c.args.block.now c.encode.new.buf c.in_ok-encode.ensures.writes.ok
+      c.encode.ensures.writes.still;
 }
 
 pub returns-in_err-append_line-clause-err : goal.returns-in_err-append_line-clause-err
@@ -31,4 +34,9 @@ loop-field-preserved g c = record {
       (omega arith) c.field-item.is c.as_field.ensures c.loop-field.invariant.written
       c.in_ok-append_line.ensures.writes.ok;
   capacity = omega (arith, c.loop-field.invariant.capacity, c.append_line.ensures.writes.capacity);
+  still = still_next c.args.block.now c.loop-field.block c.append_line.new.block
+      (longer_written _ c.loop-field.block c.append_line.new.block c.in_ok-append_line.ensures.writes.ok)
+      c.loop-field.invariant.still
+      (still_written _ c.loop-field.block c.append_line.new.block c.in_ok-append_line.ensures.writes.ok
+      c.append_line.ensures.writes.still);
 }

@@ -1,4 +1,4 @@
-use Rattle.std.proofs.Common.{◌≡◌, ◌≤◌, ◌++◌, map, take, vec_capacity}
+use Rattle.std.proofs.Common.{◌≡◌, ◌≤◌, ◌++◌, map, take, vec_len, vec_capacity}
 use Rattle.h3_qpack.proofs.MarkedFields.{written_stateless}
 use Rattle.h3_qpack.proofs.encoder.stateless.append_section.Given as goal
 
@@ -7,4 +7,5 @@ invariant-loop-field g l = record {
   written : l.block.items ≡ l.fn.block.items
       ++ written_stateless (map g.H.AsField.line (take l.field-index l.fields));
   capacity : vec_capacity l.fn.block ≤ vec_capacity l.block;
+  still : vec_len l.block ≤ vec_capacity l.fn.block → vec_capacity l.block ≡ vec_capacity l.fn.block;
 }

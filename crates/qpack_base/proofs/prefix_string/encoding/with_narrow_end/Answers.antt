@@ -7,8 +7,8 @@ use Rattle.qpack_base.proofs.prefix_string.encoding.with_narrow_end.Goals as goa
 pub returns-clause-items : goal.returns-clause-items
 returns-clause-items g c =
     let last = c.put_each-last in
-    let pending = c.args.pending in
-    let whole = bits_of pending.count pending.bits ++ bits_of_text c.args.rest.now in
+    let pending = c.args.from.0 in
+    let whole = bits_of pending.count pending.bits ++ bits_of_text c.args.from.1.now in
     let filled = subst (λ (n : ℕ). AddsLast (bits_of last.result.count (last.result.bits % n)) last.new.buf.items
     c.put_last.new.buf.items) c.power.ensures c.put_last.ensures.items in
     last_behind whole last.result.count (last.result.bits % 2 ^ last.result.count) c.args.buf.items

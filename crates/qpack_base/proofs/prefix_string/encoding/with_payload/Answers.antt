@@ -36,8 +36,8 @@ loop-four-preserved g c =
       capacity = next.ensures.capacity ∙ loop.invariant.capacity;
     }
 
-pub with_end-requires-clause-room : goal.with_end-requires-clause-room
-with_end-requires-clause-room g c =
+pub put_end-requires-clause-room : goal.put_end-requires-clause-room
+put_end-requires-clause-room g c =
     let loop = c.loop-four in
     last_room c.args.text.now loop.rest.now loop.pending.count loop.pending.bits (vec_len c.args.buf)
     (vec_len loop.buf) (vec_capacity loop.buf) c.args.buf.items loop.buf.items loop.invariant.put
@@ -47,5 +47,5 @@ pub returns-clause-items : goal.returns-clause-items
 returns-clause-items g c =
     let loop = c.loop-four in
     all_put c.args.text.now loop.rest.now loop.pending.count loop.pending.bits (vec_len c.args.buf)
-    (vec_len loop.buf) c.args.buf.items loop.buf.items c.with_end.result.0.items
-    (bytes_from c.args.text.now (λ i. omega (arith, c.type_inv.text i))) loop.invariant.put c.with_end.ensures.items
+    (vec_len loop.buf) c.args.buf.items loop.buf.items c.put_end.new.buf.items
+    (bytes_from c.args.text.now (λ i. omega (arith, c.type_inv.text i))) loop.invariant.put c.put_end.ensures.items

@@ -1,4 +1,5 @@
 use Rattle.std.proofs.Common.{◌∙◌, map}
+use Rattle.h3_qpack.proofs.BareTables.{encodes_alone, gives_up_alone}
 use Rattle.h3_qpack.proofs.DraftedBlocks.{encodes, gives_up_section, count_begins, none_begins}
 use Rattle.h3_qpack.proofs.encoder.sections.EncoderTableWritesSections.write_section.Goals as goal
 
@@ -26,3 +27,16 @@ returns-else-is_err-clause-ok g c =
     c.append_block-appended.new.block.items c.args.encoder_buf.now.items c.append_block-appended.new.encoder_buf.items
     c.encoder-handle.ensures.table (c.append_block-appended.ensures.stream ∙ c.encoder-handle.ensures.stream)
     c.append_block-appended.ensures.ok c.end_block-answer.ensures.ok
+
+pub returns-then-max_mem_size-eq0-clause-ok : goal.returns-then-max_mem_size-eq0-clause-ok
+returns-then-max_mem_size-eq0-clause-ok g c =
+    let size = c.max_mem_size.ensures in
+    encodes_alone c.args.stream_id (map g.H.AsField.line c.args.fields.now) c.append_alone.result c.args.self.now.table
+    _ c.max_mem_size.result c.args.block.now.items c.append_alone.new.block.items
+    c.args.encoder_buf.now.items size.exact c.if-max_mem_size-eq0.true size.fits
+    c.give_up.ensures c.append_alone.ensures.ok
+
+pub returns-then-max_mem_size-eq0-clause-err : goal.returns-then-max_mem_size-eq0-clause-err
+returns-then-max_mem_size-eq0-clause-err g c =
+    gives_up_alone (map g.H.AsField.line c.args.fields.now) c.append_alone.result c.args.self.now.table _
+    c.args.encoder_buf.now.items c.give_up.ensures
