@@ -1,8 +1,8 @@
 -- What is kept of commits: what comes in last, and what is taken out.
 use Rattle.std.proofs.Common.{◌≡◌, ℕ, zero, suc, ◌+◌, ◌<◌, ◌≤◌, ◌^◌, Bool, true, false, List, [], ◌∷◌, ◌++◌, length}
-use Rattle.std.proofs.Common.{None, refl, sym, ap, ◌∙◌, arith, inl, inr, add-one, rules}
-use Rattle.std.proofs.lemmas.List.{length-append}
-use Rattle.std.proofs.lemmas.Bool.{ne_eqb, cases_eq}
+use Rattle.std.proofs.Common.{map, None, refl, sym, ap, ◌∙◌, arith, inl, inr, add-one, rules}
+use Rattle.std.proofs.lemmas.List.{length-append, map-append}
+use Rattle.std.proofs.lemmas.Bool.{eqb-true, ne_eqb, cases_eq}
 use Rattle.std.proofs.lemmas.Cmp.{ranked, tied_itself}
 use Rattle.std.specs.Cmp.{nat_cmp_total}
 use Rattle.std.specs.Prelude.{nat_eq, IsSome}
@@ -14,7 +14,7 @@ use Rattle.std.specs.declared.ops.Bound.TheVariants.{Included, Unbounded}
 use Rattle.std.specs.declared.cmp.Ordering.{Ordering}
 use Rattle.std.specs.declared.cmp.Ordering.TheVariants.{Less, Equal, Greater}
 use Rattle.std.specs.Ordering.{nat_cmp, is_eq, is_gt, ordering_then, MatchOrdering}
-use Rattle.qpack_spec.proofs.Lists.{every_weaker}
+use Rattle.qpack_spec.proofs.Lists.{every_append, every_weaker}
 use Rattle.qpack_table.specs.Commits.{at_order, in_order, AreNumbered, IsOldest, HasNone, key_cmp}
 use Rattle.qpack_table.specs.declared.dynamic.commits.CommitKey.{CommitKey}
 
@@ -54,7 +54,7 @@ key_itself k = rw (tied_itself nat_cmp_total k.number, tied_itself nat_cmp_total
 pub same_order : (n : ℕ) → nat_eq n n ≡ true
 same_order n = search rules
 
-le_number : (a b : CommitKey) → is_gt (key_cmp a b) ≡ false → a.number ≤ b.number
+pub le_number : (a b : CommitKey) → is_gt (key_cmp a b) ≡ false → a.number ≤ b.number
 le_number a b e =
     by (nat_cmp a.number b.number) (ranked a.number b.number (nat_cmp a.number b.number) refl) e
   where
@@ -308,7 +308,7 @@ module _ {X : Type 0} where
       let there : nat_eq e.0.order n ≡ false = ne_eqb e.0.order n (λ f. omega (arith, f, h)) in
       rw (before, there) refl
 
-  one_more : (n : ℕ) (e : CommitKey × X) (es : List (CommitKey × X)) → e.0.order < n
+  pub one_more : (n : ℕ) (e : CommitKey × X) (es : List (CommitKey × X)) → e.0.order < n
       → length (in_order n (e ∷ es)) ≡ suc (length (in_order n es))
   one_more zero e es h = absurd (omega (arith, h))
   one_more (suc n) e es h = elim (cases_eq e.0.order n) [
@@ -339,3 +339,26 @@ module _ {X : Type 0} where
       → length (in_order n es) ≡ length es
   length_in_order n [] h = rw (no_entries n) refl
   length_in_order n (e ∷ es) h = one_more n e es h.0 ∙ ap (λ (l : ℕ). suc l) (length_in_order n es h.1)
+
+  -- ---- what holds of each
+
+  every_there : {Y : Type 0} (f : CommitKey × X → Y) (Q : Y → Type 0) (n : ℕ) (es : List (CommitKey × X))
+      → AllByRecursion (λ e. e.0.order ≡ n → Q (f e)) es → AllByRecursion Q (map f (at_order n es))
+  every_there f Q n [] h = h
+  every_there f Q n (e ∷ es) h = first (nat_eq e.0.order n) refl (every_there f Q n es h.1)
+    where
+      first : (t : Bool) → nat_eq e.0.order n ≡ t → AllByRecursion Q (map f (at_order n es))
+          → AllByRecursion Q (map f (at_order n (e ∷ es)))
+      first true is rest = rw is (h.0 (eqb-true e.0.order n is), rest)
+      first false is rest = rw is rest
+
+  pub every_in_order : {Y : Type 0} (f : CommitKey × X → Y) (Q : Y → Type 0) (n : ℕ) (es : List (CommitKey × X))
+      → AllByRecursion (λ e. e.0.order < n → Q (f e)) es → AllByRecursion Q (map f (in_order n es))
+  every_in_order f Q zero es h = tt
+  every_in_order f Q (suc n) es h =
+      let before = every_in_order f Q n es (every_weaker (λ (e : CommitKey × X). e.0.order < suc n → Q (f e))
+      (λ (e : CommitKey × X). e.0.order < n → Q (f e)) (λ e q i. q (omega (arith, i))) es h) in
+      let here = every_there f Q n es (every_weaker (λ (e : CommitKey × X). e.0.order < suc n → Q (f e))
+      (λ (e : CommitKey × X). e.0.order ≡ n → Q (f e)) (λ e q i. q (omega (arith, i))) es h) in
+      rw (map-append f (in_order n es) (at_order n es))
+      (every_append Q (map f (in_order n es)) (map f (at_order n es)) before here)

@@ -1,6 +1,6 @@
 -- The block in progress: what it references, when it is given up, and when it ends.
 use Rattle.std.proofs.Common.{◌≡◌, ℕ, suc, ◌+◌, ◌^◌, ◌<◌, ◌≤◌, Bool, true, false, List, [], ◌∷◌, ◌++◌, length}
-use Rattle.std.proofs.Common.{Some, refl, sym, ap, subst, ◌∙◌, arith, inl, inr, min, get_or}
+use Rattle.std.proofs.Common.{Some, refl, sym, ap, subst, ◌∙◌, arith, inl, inr, get_or}
 use Rattle.std.specs.Prelude.{slice_get, slice_set, nat_lt, if◌then◌else◌}
 use Rattle.std.specs.List.{AllByRecursion}
 use Rattle.std.proofs.lemmas.Bool.{cases_lt, lt-ltb, cases_eq}
@@ -10,9 +10,8 @@ use Rattle.qpack_spec.specs.Table.{has_number, with_number, with_unacknowledged,
 use Rattle.qpack_spec.specs.Table.{commit}
 use Rattle.qpack_table.specs.Positions.{Positions}
 use Rattle.qpack_table.specs.Tables.{times, references_in, uses_of, flags_of, NoneTwice, AreUsed, AreFlagged}
-use Rattle.qpack_table.specs.Tables.{AreCounted, CountsReferences, IsLeast, entry_of, entries_of}
+use Rattle.qpack_table.specs.Tables.{AreCounted, CountsReferences, entry_of, entries_of}
 use Rattle.qpack_table.proofs.EvictableEntries.{item_there}
-use Rattle.qpack_table.proofs.Tracking.{least_with}
 use Rattle.qpack_table.specs.declared.dynamic.entry.Entry.{Entry}
 use Rattle.qpack_table.proofs.References.{times_append, references_append, is_among, same_map, flagged_as, used_as}
 use Rattle.qpack_table.proofs.Marks.{map_written, There, Elsewhere, written, once_more, other_times, used_counted}
@@ -215,12 +214,6 @@ pub given_up : (t : table.Table) (live : List table.Entry) (referenced : List �
     → record t { live = live; referenced = referenced } ≡ without_references t
 unfolding without_references
 given_up t live referenced same none = rw (same, none) refl
-
-pub least_pushed : (least required : ℕ) (is_blocked : Bool) (xs now : List ℕ) (new : ℕ) → IsLeast least xs
-    → now ≡ (if is_blocked then xs ++ required ∷ [] else xs)
-    → new ≡ (if is_blocked then min least required else least) → IsLeast new now
-least_pushed least required true xs now new h is e = rw (is, e) (least_with least required xs h)
-least_pushed least required false xs now new h is e = rw (is, e) h
 
 pub committed : (t : table.Table) (s required : ℕ) (live : List table.Entry) (referenced : List ℕ)
     (opened : List table.UnacknowledgedBlock) (blocked : List ℕ) (is_blocked : Bool) → live ≡ t.live → referenced ≡ []

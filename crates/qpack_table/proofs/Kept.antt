@@ -22,27 +22,26 @@ use Rattle.qpack_table.proofs.Marks.{used_counted}
 -- with fewer entries and another capacity
 pub kept_resized : {index shed : ℕ → List Entry → Type 0} (v w : Positions) (es now : List Entry)
     (size left capacity most : ℕ) (referenced : List ℕ)
-    (unacknowledged : List table.UnacknowledgedBlock) (least : ℕ) (blocked : List ℕ) (k freed : ℕ)
-    → IsKept v es size capacity referenced unacknowledged least blocked index
+    (unacknowledged : List table.UnacknowledgedBlock) (k freed : ℕ)
+    → IsKept v es size capacity referenced unacknowledged index
     → k ≡ eviction_count most (fields_in (entries_of es)) → most < 2 ^ 30 → now ≡ drop k es
     → freed + total_size (drop k (fields_in (entries_of es))) ≡ total_size (fields_in (entries_of es))
     → left ≡ size - freed → w.dropped ≡ v.dropped + k → w.total ≡ v.total
     → shed w.dropped now
-    → IsKept w now left most referenced unacknowledged least blocked shed
-kept_resized v w es now size left capacity most referenced unacknowledged least blocked k freed kept evicted small items
+    → IsKept w now left most referenced unacknowledged shed
+kept_resized v w es now size left capacity most referenced unacknowledged k freed kept evicted small items
     rest is dropped total indexed = record {
       sized = sized_resized v w es now size left capacity most k freed kept.sized evicted small items rest is dropped
           total;
       references = references_less v w es now referenced unacknowledged k kept.references items dropped total;
-      least = kept.least;
       indexed = indexed;
     }
 
 -- with some entries less and one more, which nothing references
 pub kept_put : {index more : ℕ → List Entry → Type 0} (v w : Positions) (es now : List Entry)
     (size left capacity : ℕ) (referenced : List ℕ)
-    (unacknowledged : List table.UnacknowledgedBlock) (least : ℕ) (blocked : List ℕ) (e : Entry) (k : ℕ)
-    → IsKept v es size capacity referenced unacknowledged least blocked index
+    (unacknowledged : List table.UnacknowledgedBlock) (e : Entry) (k : ℕ)
+    → IsKept v es size capacity referenced unacknowledged index
     → field_size (field_of e.field) ≤ capacity
     → k ≡ eviction_count capacity (fields_in (entries_of es) ++ field_of e.field ∷ [])
     → now ≡ drop k es ++ e ∷ []
@@ -50,8 +49,8 @@ pub kept_put : {index more : ℕ → List Entry → Type 0} (v w : Positions) (e
     → e.referenced ≡ false → e.uses ≡ 0
     → w.dropped ≡ v.dropped + k → w.total ≡ v.total + 1
     → more w.dropped now
-    → IsKept w now left capacity referenced unacknowledged least blocked more
-kept_put v w es now size left capacity referenced unacknowledged least blocked e k kept room evicted items sum unflagged
+    → IsKept w now left capacity referenced unacknowledged more
+kept_put v w es now size left capacity referenced unacknowledged e k kept room evicted items sum unflagged
     unused dropped total indexed =
     let m : Positions = record { total = v.total; dropped = v.dropped + k } in
     let few : k ≤ length es = evicted_within es (field_of e.field) capacity k room evicted in
@@ -62,7 +61,6 @@ kept_put v w es now size left capacity referenced unacknowledged least blocked e
       references = references_put m w (drop k es) now e referenced unacknowledged
           (references_less v m es (drop k es) referenced unacknowledged k kept.references refl refl refl) counted items
           unflagged unused dropped total;
-      least = kept.least;
       indexed = indexed;
     }
 
@@ -93,21 +91,20 @@ indexed_as {index} dropped es now same is =
 
 -- with some blocks released
 pub kept_released : {index : Index} (v : Positions) (es now : List Entry) (size capacity : ℕ) (referenced : List ℕ)
-    (unacknowledged left : List table.UnacknowledgedBlock) (least : ℕ) (blocked gone : List ℕ) (dropped : ℕ)
-    → IsKept v es size capacity referenced unacknowledged least blocked (IsIndexOfEntries index)
+    (unacknowledged left : List table.UnacknowledgedBlock) (gone : List ℕ) (dropped : ℕ)
+    → IsKept v es size capacity referenced unacknowledged (IsIndexOfEntries index)
     → dropped ≡ v.dropped
     → entries_of now ≡ entries_of es → flags_of now ≡ flags_of es
     → ((rest : List ℕ) → AreUsed dropped es (gone ++ rest) → AreUsed dropped now rest)
     → ((a : ℕ) → times a (references_in unacknowledged) ≡ times a gone + times a (references_in left))
     → AllByRecursion (λ b. NoneTwice b.entries) left → length left ≤ length unacknowledged
-    → IsKept v now size capacity referenced left least blocked (IsIndexOfEntries index)
-kept_released {index} v es now size capacity referenced unacknowledged left least blocked gone dropped kept is live
+    → IsKept v now size capacity referenced left (IsIndexOfEntries index)
+kept_released {index} v es now size capacity referenced unacknowledged left gone dropped kept is live
     flags lowered parted once fewer = record {
       sized = sized_as v es now size capacity live kept.sized;
       references = references_released v es now referenced unacknowledged left gone kept.references flags
           (subst (λ (d : ℕ). (rest : List ℕ) → AreUsed d es (gone ++ rest)
           → AreUsed d now rest) is lowered) parted once fewer;
-      least = kept.least;
       indexed = indexed_as {index = index} v.dropped es now live kept.indexed;
     }
 

@@ -6,6 +6,7 @@ pub mod Marks
 pub mod Kept
 pub mod Commits
 pub mod OpenBlocks
+pub mod BlockedBlocks
 pub mod Tracking
 pub mod InProgress
 pub mod Newest

@@ -9,7 +9,7 @@ use Rattle.std.specs.Option.{option_map}
 use Rattle.std.specs.Map.{lookup, remove_entry}
 use Rattle.std.specs.BTreeMap.{insert_entry, is_at}
 use Rattle.std.specs.Global.{Vec}
-use Rattle.qpack_spec.proofs.Lists.{every_append, every_weaker}
+use Rattle.qpack_spec.proofs.Lists.{every_weaker}
 use Rattle.qpack_spec.specs.Table as table
 use Rattle.qpack_spec.specs.Table.{without_oldest}
 use Rattle.qpack_table.specs.Tables.{references_in, IsTaken}
@@ -18,7 +18,7 @@ use Rattle.qpack_table.specs.OpenBlocks.{block_of, blocks_of}
 use Rattle.qpack_table.specs.declared.dynamic.commits.CommitKey.{CommitKey}
 use Rattle.qpack_table.proofs.References.{times_append, references_append}
 use Rattle.qpack_table.proofs.Commits.{same_key, found_key, key_itself, others_left, later_left}
-use Rattle.qpack_table.proofs.Commits.{last_in_order, length_in_order}
+use Rattle.qpack_table.proofs.Commits.{last_in_order, length_in_order, every_in_order}
 
 abbrev is_stream : ℕ → table.UnacknowledgedBlock → Bool
 is_stream s b = nat_eq b.stream s
@@ -104,27 +104,6 @@ taken_before s b old new more k = record {
 
 -- ---- the same among what the map holds
 
-every_there : (Q : table.UnacknowledgedBlock → Type 0) (n : ℕ) (es : List (CommitKey × Vec ℕ))
-    → AllByRecursion (λ e. e.0.order ≡ n → Q (block_of e)) es → AllByRecursion Q (map block_of (at_order n es))
-every_there Q n [] h = h
-every_there Q n (e ∷ es) h = first (nat_eq e.0.order n) refl (every_there Q n es h.1)
-  where
-    first : (t : Bool) → nat_eq e.0.order n ≡ t → AllByRecursion Q (map block_of (at_order n es))
-        → AllByRecursion Q (map block_of (at_order n (e ∷ es)))
-    first true is rest = rw is (h.0 (eqb-true e.0.order n is), rest)
-    first false is rest = rw is rest
-
-every_in_order : (Q : table.UnacknowledgedBlock → Type 0) (n : ℕ) (es : List (CommitKey × Vec ℕ))
-    → AllByRecursion (λ e. e.0.order < n → Q (block_of e)) es → AllByRecursion Q (blocks_of n es)
-every_in_order Q zero es h = tt
-every_in_order Q (suc n) es h =
-    let before = every_in_order Q n es (every_weaker (λ (e : CommitKey × Vec ℕ). e.0.order < suc n → Q (block_of e))
-    (λ (e : CommitKey × Vec ℕ). e.0.order < n → Q (block_of e)) (λ e q i. q (omega (arith, i))) es h) in
-    let here = every_there Q n es (every_weaker (λ (e : CommitKey × Vec ℕ). e.0.order < suc n → Q (block_of e))
-    (λ (e : CommitKey × Vec ℕ). e.0.order ≡ n → Q (block_of e)) (λ e q i. q (omega (arith, i))) es h) in
-    rw (map-append block_of (in_order n es) (at_order n es))
-    (every_append Q (blocks_of n es) (map block_of (at_order n es)) before here)
-
 taken_there : (s : ℕ) (k : CommitKey) (x : Vec ℕ) (es : List (CommitKey × Vec ℕ)) → k.number ≡ s
     → lookup (is_at (key_cmp k)) es ≡ Some x
     → IsTaken s (block_of (k, x)) (map block_of (at_order k.order es))
@@ -178,7 +157,7 @@ taken_in_order s k x (suc n) es oldest below =
       | inr h ↦
           let here : k.order ≡ n = omega (arith, h, below) in
           let before = others_left k n es h in
-          let others = every_in_order (λ b. b.stream ≡ s → ⊥) n es
+          let others = every_in_order block_of (λ b. b.stream ≡ s → ⊥) n es
           (every_weaker (λ (e : CommitKey × Vec ℕ). e.0.number ≡ s → k.order ≤ e.0.order)
           (λ (e : CommitKey × Vec ℕ). e.0.order < n → e.0.number ≡ s → ⊥)
           (λ e least i f. omega (arith, least f, i, h)) es oldest.least) in
@@ -200,7 +179,7 @@ none_among s (b ∷ bs) h =
 
 pub none_in_order : (s n : ℕ) (es : List (CommitKey × Vec ℕ)) → HasNone s es
     → (without_oldest s (blocks_of n es) ≡ None) × (find (is_stream s) (blocks_of n es) ≡ None)
-none_in_order s n es none = none_among s (blocks_of n es) (every_in_order (λ b. b.stream ≡ s → ⊥) n es
+none_in_order s n es none = none_among s (blocks_of n es) (every_in_order block_of (λ b. b.stream ≡ s → ⊥) n es
     (every_weaker (λ (e : CommitKey × Vec ℕ). e.0.number ≡ s → ⊥)
     (λ (e : CommitKey × Vec ℕ). e.0.order < n → e.0.number ≡ s → ⊥) (λ e h i. h) es none))
 

@@ -31,17 +31,17 @@ sent_before f = record { field = f; sent = true; referenced = false; uses = 0 }
 
 pub kept_sent : {index shown : ℕ → List Entry → Type 0} (v w : Positions) (es now : List Entry)
     (size left capacity : ℕ)
-    (referenced more : List ℕ) (unacknowledged : List table.UnacknowledgedBlock) (least : ℕ) (blocked : List ℕ)
+    (referenced more : List ℕ) (unacknowledged : List table.UnacknowledgedBlock)
     (f : HeaderField) (k n : ℕ)
-    → IsKept v es size capacity referenced unacknowledged least blocked index
+    → IsKept v es size capacity referenced unacknowledged index
     → field_size (field_of f) ≤ capacity
     → k ≡ eviction_count capacity (fields_in (entries_of es) ++ field_of f ∷ [])
     → now ≡ drop k es ++ sent_now f ∷ []
     → left ≡ total_size (drop k (fields_in (entries_of es))) + field_size (field_of f)
     → w.dropped ≡ v.dropped + k → w.total ≡ v.total + 1 → n ≡ w.total → more ≡ referenced ++ n ∷ []
     → shown w.dropped now
-    → IsKept w now left capacity more unacknowledged least blocked shown
-kept_sent {index} {shown} v w es now size left capacity referenced more unacknowledged least blocked f k n kept room
+    → IsKept w now left capacity more unacknowledged shown
+kept_sent {index} {shown} v w es now size left capacity referenced more unacknowledged f k n kept room
     evicted items sum dropped total new last indexed =
     let mid : List Entry = drop k es ++ sent_before f ∷ [] in
     let few : k ≤ length es = evicted_within es (field_of f) capacity k room evicted in
@@ -49,7 +49,7 @@ kept_sent {index} {shown} v w es now size left capacity referenced more unacknow
     ap (λ (l : List Entry). entries_of l) items ∙ joined_entries (drop k es) (sent_now f)
     ∙ sym (joined_entries (drop k es) (sent_before f)) in
     let put = kept_put {index = index} {more = λ _ _. ⊤} v w es mid size left capacity referenced unacknowledged
-    least blocked (sent_before f) k kept room evicted refl sum refl refl dropped total tt in
+    (sent_before f) k kept room evicted refl sum refl refl dropped total tt in
     let set : now ≡ slice_set mid (length (drop k es)) (sent_now f) =
     items ∙ sym (set-append_seam (drop k es) (sent_before f) [] (sent_now f)) in
     record {
@@ -58,7 +58,6 @@ kept_sent {index} {shown} v w es now size left capacity referenced more unacknow
           (sent_now f) put.references
           (omega (arith, new, total, dropped, kept.sized.counted, few, length-drop k es)) (omega (arith, new))
           (get_append_end (drop k es) (sent_before f)) refl refl set last;
-      least = put.least;
       indexed = indexed;
     }
 

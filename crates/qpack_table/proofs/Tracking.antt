@@ -1,18 +1,13 @@
 -- The blocks that are released, and those that are blocked no more.
-use Rattle.std.proofs.Common.{◌≡◌, ℕ, suc, ◌+◌, ◌<◌, ◌≤◌, Bool, true, false, List, [], ◌∷◌, ◌++◌}
-use Rattle.std.proofs.Common.{length, take, get_or, Option, Some, None, refl, sym, ap, subst, ◌∙◌, arith}
-use Rattle.std.proofs.Common.{min}
-use Rattle.std.proofs.Common.{add-one}
-use Rattle.std.proofs.Math.Seq.{take-suc}
-use Rattle.std.specs.Prelude.{filter, not, nat_eq, nat_lt}
+use Rattle.std.proofs.Common.{◌≡◌, ℕ, suc, ◌+◌, Bool, true, false, List, [], ◌∷◌}
+use Rattle.std.proofs.Common.{length, Option, Some, None, refl, sym, ap, subst, ◌∙◌}
+use Rattle.std.specs.Prelude.{filter, not, nat_eq}
 use Rattle.std.specs.Option.{option_map}
 use Rattle.std.specs.List.{AllByRecursion}
-use Rattle.std.proofs.lemmas.Bool.{lt-ltb}
 use Rattle.qpack_spec.specs.Table as table
 use Rattle.qpack_spec.specs.Table.{without_oldest, without_stream}
 use Rattle.qpack_spec.specs.Reading.{greatest_of}
-use Rattle.qpack_table.specs.Tables.{times, references_in, IsTaken, IsLeast, required_by}
-use Rattle.qpack_spec.proofs.Lists.{every_append, every_weaker}
+use Rattle.qpack_table.specs.Tables.{times, references_in, IsTaken, required_by}
 
 -- blocks that are left hold what held of all
 pub every_left_of : (P : table.UnacknowledgedBlock → Type 0) (s : ℕ) (bs new : List table.UnacknowledgedBlock)
@@ -94,25 +89,6 @@ none_go s (b ∷ bs) e = first (nat_eq b.stream s) refl (without_oldest s bs) re
     first true here o is go = let same = rw here at e in absurd cc
     first false here (Some rest) is go = let same = rw (here, is) at e in absurd cc
     first false here None is go = rw here (ap (λ (l : List table.UnacknowledgedBlock). b ∷ l) (go is))
-
--- ---- blocks that are blocked
-
-pub least_with : (least n : ℕ) (xs : List ℕ) → IsLeast least xs → IsLeast (min least n) (xs ++ n ∷ [])
-least_with least n xs h =
-    every_append (λ x. min least n ≤ x) xs (n ∷ [])
-    (every_weaker (λ x. least ≤ x) (λ x. min least n ≤ x) (λ x k. omega (arith, k)) xs h) (omega arith, tt)
-
--- nothing is covered by less than the least
-pub none_covered : (least count : ℕ) (xs : List ℕ) → IsLeast least xs → count < least
-    → xs ≡ filter (λ x. nat_lt count x) xs
-none_covered least count [] h below = refl
-none_covered least count (x ∷ xs) h below =
-    rw (lt-ltb count x (omega (arith, below, h.0))) (ap (λ (l : List ℕ). x ∷ l) (none_covered least count xs h.1 below))
-
-pub least_more : (least new i : ℕ) (xs : List ℕ) → IsLeast least (take i xs) → i < length xs
-    → new ≡ min least (get_or xs i 0) → IsLeast new (take (i + 1) xs)
-least_more least new i xs h within is =
-    rw (add-one, take-suc xs i 0 within, is) (least_with least (get_or xs i 0) (take i xs) h)
 
 pub taken_parted : (s : ℕ) (b : table.UnacknowledgedBlock) (old new : List table.UnacknowledgedBlock)
     (references : List ℕ) → IsTaken s b old new → references ≡ b.entries

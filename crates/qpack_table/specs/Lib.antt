@@ -4,6 +4,7 @@ pub mod PlaceLaws
 pub mod Errors
 pub mod Commits
 pub mod OpenBlocks
+pub mod BlockedBlocks
 pub mod Tables
 pub mod Rows
 pub mod Hashes

@@ -94,19 +94,12 @@ pub record IsSized (positions : Positions) (live : List Entry) (size capacity : 
 abbrev pub IsIndexOfEntries : Index → ℕ → List Entry → Type 0
 IsIndexOfEntries index dropped live = IsIndexOf dropped (live_fields live) (length live) index
 
--- a number is at most each of these
-abbrev pub IsLeast : ℕ → List ℕ → Type 0
-IsLeast least xs = AllByRecursion (λ x. least ≤ x) xs
-
--- what the table keeps: its sizes, its references, a number that is at most each required insert count of blocked
--- blocks, and what finds its entries, of which they are all
+-- what the table keeps: its sizes, its references, and what finds its entries, of which they are all
 pub record IsKept (positions : Positions) (live : List Entry) (size capacity : ℕ) (referenced : List ℕ)
-    (unacknowledged : List table.UnacknowledgedBlock) (least_blocked : ℕ) (blocked : List ℕ)
-    (is_index_of : ℕ → List Entry → Type 0) : Type 0
+    (unacknowledged : List table.UnacknowledgedBlock) (is_index_of : ℕ → List Entry → Type 0) : Type 0
   where
     pub sized : IsSized positions live size capacity
     pub references : CountsReferences positions live referenced unacknowledged
-    pub least : IsLeast least_blocked blocked
     pub indexed : is_index_of positions.dropped live
 
 -- a stream's oldest block is taken out: what the blocks reference is what it references and what the others do

@@ -11,6 +11,7 @@ use std::alloc::{AllocError, AllocFailed};
 use thiserror::Error as ThisError;
 
 mod block;
+mod blocked_blocks;
 mod capacities;
 mod commits;
 mod encoder;

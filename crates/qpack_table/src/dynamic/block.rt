@@ -1,14 +1,16 @@
 //! The block in progress: what it references, and its end (RFC 9204, section 2.1).
 
 ghost use Rattle.std.specs.Prelude.{◌≡◌, ◌+◌, ◌^◌, ◌<◌, ◌≤◌, [], ◌∷◌, ◌++◌, length, true, if◌then◌else◌};
-ghost use Rattle.std.specs.Prelude.{OnOk, OnErr, vec_len, vec_capacity, min};
+ghost use Rattle.std.specs.Prelude.{OnOk, OnErr};
 ghost use Rattle.qpack_spec.specs.Reading.{greatest_of};
 ghost use Rattle.qpack_spec.specs.Table.{without_references, with_reference, with_unacknowledged, insert_count};
 ghost use Rattle.qpack_table.specs.Tables.{AreFlagged, entries_of, uses_of};
+ghost use Rattle.qpack_table.specs.BlockedBlocks.{BlockedKeys, IsKeptIf, counts_of};
 ghost use Rattle.qpack_spec.specs.Table.{commit};
 ghost use Rattle.qpack_table.specs.Handles.{Commits, OpensOrBlocks};
 
 use crate::dynamic::Error;
+use crate::dynamic::blocked_blocks::BlockedBlocks;
 use crate::dynamic::entry::{Entry, clear_references, lower_uses};
 use crate::dynamic::open_blocks::OpenBlocks;
 use crate::dynamic::table::DynamicTable;
@@ -73,18 +75,22 @@ impl DynamicTable {
         ensures asks { OnErr result (OpensOrBlocks self.old required) }
     {
         let is_blocked = required > self.known_received_count;
-        reserve_if(&mut self.blocked, is_blocked)?;
+        push_if(&mut self.blocked, is_blocked, required)?;
         let dropped = self.vas.total_dropped();
-        open_block(
+        let opened = open_block(
             &mut self.entries,
             dropped,
             &mut self.referenced,
             &mut self.unacknowledged,
             stream_id,
-        )?;
-        push_if(&mut self.blocked, is_blocked, required);
-        self.least_blocked = min_if(self.least_blocked, is_blocked, required);
-        Ok(())
+        );
+        match opened {
+            Ok(()) => Ok(()),
+            Err(refused) => {
+                take_back_if(&mut self.blocked, is_blocked, required);
+                Err(refused)
+            }
+        }
     }
 }
 
@@ -129,31 +135,26 @@ pub(super) fn greatest_in(numbers: &[usize]) -> usize
     greatest
 }
 
-/// Makes room for one number more, if it is needed.
-fn reserve_if(numbers: &mut Vec<usize>, is_needed: bool) -> Result<(), AllocError>
-    ensures items { numbers.new.items ≡ numbers.old.items }
-    ensures room { OnOk result (is_needed ≡ true → vec_len numbers.new < vec_capacity numbers.new) }
-    ensures asks { OnErr result (is_needed ≡ true) }
+/// A block that requires so many insertions is blocked, if it is. Refused, which is for memory alone, nothing changes.
+fn push_if(blocked: &mut BlockedBlocks, is_blocked: bool, required: usize) -> Result<(), AllocError>
+    ensures kept { OnOk result (IsKeptIf is_blocked required blocked.old blocked.new) }
+    ensures counts { OnOk result (counts_of blocked.new
+        ≡ (if is_blocked then counts_of blocked.old ++ required ∷ [] else counts_of blocked.old)) }
+    ensures err { OnErr result (blocked.new ≡ blocked.old) }
+    ensures asks { OnErr result (is_blocked ≡ true) }
 {
-    if is_needed {
-        numbers.reserve(1)?;
+    if is_blocked {
+        blocked.push(required)?;
     }
     Ok(())
 }
 
-/// Puts a number behind the others, if it is needed.
-fn push_if(numbers: &mut Vec<usize>, is_needed: bool, number: usize)
-    requires { is_needed ≡ true → vec_len numbers.old < vec_capacity numbers.old }
-    ensures { numbers.new.items ≡ (if is_needed then numbers.old.items ++ number ∷ [] else numbers.old.items) }
+/// The same is taken back. It takes no memory.
+fn take_back_if(blocked: &mut BlockedBlocks, is_blocked: bool, required: usize)
+    requires { (before : BlockedKeys) × IsKeptIf is_blocked required before blocked.old }
+    ensures { (before : BlockedKeys) → IsKeptIf is_blocked required before blocked.old → blocked.new ≡ before }
 {
-    if is_needed {
-        numbers.push_reserved(number);
+    if is_blocked {
+        blocked.take_back(required);
     }
-}
-
-/// The least of a number and of another one, if that is needed.
-fn min_if(least: usize, is_needed: bool, number: usize) -> usize
-    ensures { result ≡ (if is_needed then min least number else least) }
-{
-    if is_needed { least.min(number) } else { least }
 }

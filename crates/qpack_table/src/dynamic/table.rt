@@ -20,6 +20,7 @@ ghost use Rattle.qpack_table.specs.declared.dynamic.Error.TheVariants.{MaxBlocke
 ghost use Rattle.qpack_table.specs.declared.dynamic.Error.TheVariants.{MaximumTableSizeTooLarge};
 
 use crate::dynamic::Error;
+use crate::dynamic::blocked_blocks::BlockedBlocks;
 use crate::dynamic::capacities::{Capacities, GREATEST_CAPACITY};
 use crate::dynamic::entry::{Entry, drop_oldest, replace_oldest};
 use crate::dynamic::entry_index::{EntryIndex, NoIndex};
@@ -53,10 +54,7 @@ pub struct DynamicTable<I: EntryIndex = Index> {
     /// The absolute indexes that the block in progress names.
     pub(super) referenced: Vec<usize>,
     pub(super) unacknowledged: OpenBlocks,
-    /// The required insert counts above the known received count of committed blocks.
-    pub(super) blocked: Vec<usize>,
-    /// At most each of them.
-    pub(super) least_blocked: usize,
+    pub(super) blocked: BlockedBlocks,
     /// Of the live entries.
     pub(super) index: I,
 }
@@ -67,6 +65,7 @@ pub type ReceivedTable = DynamicTable<NoIndex>;
 impl<I: EntryIndex> Model for DynamicTable<I> {
     ghost use Rattle.qpack_spec.specs.Table.{Table};
     ghost use Rattle.qpack_table.specs.Tables.{IsKept, entries_of};
+    ghost use Rattle.qpack_table.specs.BlockedBlocks.{counts_of};
 
     ghost Value = { Table };
 
@@ -79,11 +78,11 @@ impl<I: EntryIndex> Model for DynamicTable<I> {
       known_received_count = a.known_received_count;
       referenced = a.referenced.items;
       unacknowledged = a.unacknowledged;
-      blocked = a.blocked.items;
+      blocked = counts_of a.blocked;
     } };
 
     ghost invariant = { λ a. IsKept a.vas a.entries.items a.mem_size a.capacities.capacity a.referenced.items
-        a.unacknowledged a.least_blocked a.blocked.items (I.is_index_of a.index) };
+        a.unacknowledged (I.is_index_of a.index) };
 }
 
 impl DynamicTable {
@@ -167,8 +166,7 @@ impl<I: EntryIndex> DynamicTable<I> {
             known_received_count: 0,
             referenced: Vec::new(alloc),
             unacknowledged: OpenBlocks::new(alloc),
-            blocked: Vec::new(alloc),
-            least_blocked: usize::MAX,
+            blocked: BlockedBlocks::new(alloc),
             index,
         }
     }

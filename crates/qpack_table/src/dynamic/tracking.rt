@@ -4,7 +4,7 @@
 ghost use Rattle.std.specs.Prelude.{◌≡◌, ◌+◌, ◌<◌, ◌≤◌, filter, nat_lt, length, Ok};
 ghost use Rattle.qpack_spec.specs.Instruction.{Acknowledgment, Cancellation, Increment};
 ghost use Rattle.qpack_spec.specs.Table.{apply_decoder_instruction};
-ghost use Rattle.qpack_table.specs.Tables.{Changes, IsLeast, oldest_required};
+ghost use Rattle.qpack_table.specs.Tables.{Changes, oldest_required};
 
 use crate::dynamic::Error;
 use crate::dynamic::block::greatest_in;
@@ -68,27 +68,6 @@ impl DynamicTable {
         ensures { Ok self.new ≡ apply_decoder_instruction self.old (Increment increment) }
     {
         self.known_received_count = self.known_received_count.saturating_add(increment);
-        if self.known_received_count >= self.least_blocked {
-            keep_above(&mut self.blocked, self.known_received_count);
-            self.least_blocked = least_of(&self.blocked);
-        }
+        self.blocked.release_up_to(self.known_received_count);
     }
-}
-
-/// The numbers above another one are kept.
-fn keep_above(numbers: &mut Vec<usize>, most: usize)
-    ensures { numbers.new.items ≡ filter (λ number. nat_lt most number) numbers.old.items }
-{
-    numbers.retain(|number| *number > most);
-}
-
-/// A number that is at most each of these: the least of them, if there are any.
-fn least_of(numbers: &[usize]) -> usize
-    ensures { IsLeast result numbers.now }
-{
-    let mut least = usize::MAX;
-    for number in numbers {
-        least = least.min(*number);
-    }
-    least
 }

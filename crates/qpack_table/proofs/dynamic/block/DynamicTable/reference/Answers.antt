@@ -83,7 +83,6 @@ invariant_of-self-2 c =
           position
           (omega (arith, position, within, c.self.invariant.sized.counted))
           (item_there _ _ _ within c.index_mut-entry.ensures.value) unflagged refl refl c.in_ok-push.ensures.items;
-      least = c.self.invariant.least;
       indexed = indexed_as c.self.inside.vas.dropped c.self.inside.entries.items _
           (same_live _ _ c.index_mut-entry.result.now _ within c.index_mut-entry.ensures.value refl)
           c.self.invariant.indexed;

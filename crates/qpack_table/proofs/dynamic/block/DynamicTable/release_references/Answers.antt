@@ -19,7 +19,6 @@ invariant_of-self c = record {
       c.self.invariant.references c.total_dropped-dropped.ensures.exact c.deref.ensures.value c.deref-2.ensures.value
       c.clear_references.ensures.uses c.clear_references.ensures.cleared c.lower_uses.ensures.flags
       c.lower_uses.ensures.lowered);
-  least = c.self.invariant.least;
   indexed = indexed_as c.self.inside.vas.dropped c.self.inside.entries.items _
       (c.lower_uses.ensures.live ∙ c.clear_references.ensures.live) c.self.invariant.indexed;
 }

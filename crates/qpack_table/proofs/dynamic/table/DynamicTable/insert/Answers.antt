@@ -20,7 +20,7 @@ invariant_of-self-2 g c =
     let room = room_as _ _ _ _ c.self.view_is c.requires.fits c.requires.evicted in
     let new : Entry = record { field = c.args.field; sent = c.args.sent; referenced = false; uses = 0 } in
     kept_put c.self.inside.vas c.replace_oldest.new.vas c.self.inside.entries.items
-    c.replace_oldest.new.entries.items _ _ c.self.inside.capacities.capacity _ _ _ _ new c.args.evicted
+    c.replace_oldest.new.entries.items _ _ c.self.inside.capacities.capacity _ _ new c.args.evicted
     c.self.invariant room.fits room.evicted c.in_ok-replace_oldest.ensures.entered
     c.in_ok-replace_oldest.ensures.sum refl refl
     c.in_ok-replace_oldest.ensures.dropped c.in_ok-replace_oldest.ensures.inserted c.in_ok-replace_oldest.ensures.index

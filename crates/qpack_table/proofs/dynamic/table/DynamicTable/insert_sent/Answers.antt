@@ -18,7 +18,7 @@ pub invariant_of-self-2 : goal.invariant_of-self-2
 invariant_of-self-2 c =
     let room = room_as _ _ _ _ c.self.view_is c.requires.fits c.requires.evicted in
     kept_sent c.self.inside.vas c.replace_oldest.new.vas c.self.inside.entries.items
-    c.replace_oldest.new.entries.items _ _ c.self.inside.capacities.capacity _ _ _ _ _ c.args.field c.args.evicted
+    c.replace_oldest.new.entries.items _ _ c.self.inside.capacities.capacity _ _ _ c.args.field c.args.evicted
     c.total_inserted.result c.self.invariant room.fits room.evicted c.in_ok-replace_oldest.ensures.entered
     c.in_ok-replace_oldest.ensures.sum
     c.in_ok-replace_oldest.ensures.dropped c.in_ok-replace_oldest.ensures.inserted c.total_inserted.ensures.total

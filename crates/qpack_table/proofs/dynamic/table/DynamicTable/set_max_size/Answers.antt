@@ -31,7 +31,7 @@ invariant_of-self g c =
     ∙ ap (λ (t : Table). eviction_count c.args.size (fields_in t.live)) (sym c.self.view_is) in
     rw (ap (λ (a : Agreement). a.capacity) c.set.ensures)
     (kept_resized c.self.inside.vas c.drop_oldest-freed.new.vas c.self.inside.entries.items
-    c.drop_oldest-freed.new.entries.items _ _ _ c.args.size _ _ _ _ c.in_ok-evicted.evicted
+    c.drop_oldest-freed.new.entries.items _ _ _ c.args.size _ _ c.in_ok-evicted.evicted
     c.drop_oldest-freed.result
     c.self.invariant
     evicted (omega (arith, c.in_ok-evicted.ensures.small)) c.drop_oldest-freed.ensures.left

@@ -19,7 +19,7 @@ lower_uses-requires c = rw c.total_dropped.ensures.exact (counted_released c.sel
     (taken_parted c.args.stream_id _ _ _ _ c.in-Some.ensures.taken c.deref.ensures.value))
 
 pub invariant_of-self-2 : goal.invariant_of-self-2
-invariant_of-self-2 c = kept_released c.self.inside.vas _ _ _ _ _ _ _ _ _ _ _ c.self.invariant
+invariant_of-self-2 c = kept_released c.self.inside.vas _ _ _ _ _ _ _ _ _ c.self.invariant
     c.total_dropped.ensures.exact
     c.lower_uses.ensures.live c.lower_uses.ensures.flags c.lower_uses.ensures.lowered
     (taken_parted c.args.stream_id _ _ _ _ c.in-Some.ensures.taken c.deref.ensures.value)
