@@ -40,7 +40,7 @@ pub struct Decoded {
     pub fields: Vec<HeaderField>,
     /// Whether the block's required insert count is above 0.
     pub dyn_ref: bool,
-    /// The sum of the fields' sizes in bytes, held at the greatest number.
+    /// The sum of the fields' sizes in bytes, at most 2^64 - 1.
     pub mem_size: u64,
 }
 

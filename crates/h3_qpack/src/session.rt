@@ -279,7 +279,7 @@ pub fn run(
     limit: usize,
     events: &[Event],
 ) -> Result<(Session, Vec<Outcome>), dynamic::Error>
-    // Refused, the session does not begin, or memory is wanted.
+    // On error the session does not begin, or memory is wanted.
     ensures err { IfErr result (λ e. RefusesRun e (begin_session capacity capacity limit)) }
     // The headline, by events and answers alone. Each answer is of its event's kind. On each stream the fields that
     // were decoded are the first of those that were encoded, in order. No stream is refused, what is skipped is skipped

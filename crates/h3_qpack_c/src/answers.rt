@@ -67,7 +67,7 @@ pub struct DecodedAlone {
     pub status: i32,
     /// How many fields there are.
     pub fields: usize,
-    /// How many bytes their names and values have, held at the greatest number.
+    /// How many bytes their names and values have, at most 2^64 - 1.
     pub len: usize,
     /// Where a line was refused: its number in the section, from 1, else 0.
     pub number: u64,

@@ -113,7 +113,7 @@ fn told_of(field: &FieldLine) -> Given
 }
 
 /// Copies the fields of a section to a caller's memory, if there is room for what is told of each, and for their names
-/// and values one behind the other. It answers how many bytes these have, held at the greatest number.
+/// and values one behind the other. It answers how many bytes these have, at most 2^64 - 1.
 pub(crate) fn give_all(section: &FieldSection, told: &mut [Given], out: &mut [u8]) -> Written
     ensures { GivesAll section.now told.old told.new out.old out.new result }
 {
@@ -128,7 +128,7 @@ pub(crate) fn give_all(section: &FieldSection, told: &mut [Given], out: &mut [u8
     Written { status: DONE, len }
 }
 
-/// How many bytes the names and values have, held at the greatest number.
+/// How many bytes the names and values have, at most 2^64 - 1.
 fn text_len(section: &FieldSection) -> usize
     ensures { result ≡ min (length (text_of section.now)) (2 ^ 64 - 1) }
 {

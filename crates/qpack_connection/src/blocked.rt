@@ -70,7 +70,7 @@ impl BlockedStreams {
     }
 
     /// A stream comes to be blocked where so many insertions were received, unless with it more than so many would be.
-    /// Refused, nothing changes.
+    /// On error nothing changes.
     pub(crate) fn block(
         &mut self,
         stream: BlockedStream,

@@ -259,7 +259,7 @@ impl ConnectionEncoder {
     ///
     /// Refused are, in this order: every call behind an error that ended the connection, by that error; a capacity
     /// above the maximum (`CapacityTooLarge`); one for which an entry that is not evictable would have to go
-    /// (`EntriesHeld`); and any other where memory is refused. Refused, nothing changes.
+    /// (`EntriesHeld`); and any other where memory is refused. On error nothing changes.
     pub fn set_capacity(&mut self, capacity: usize) -> Result<(), EncodingError>
         ensures { SetsCapacity self.old self.new capacity result }
     {
@@ -360,7 +360,7 @@ impl ConnectionEncoder {
         self.table.table.unacknowledged_blocks() >= self.settings.most_unacknowledged
     }
 
-    /// Tells the capacity that is wanted, if one is to be told before the first section. Refused, which is for memory
+    /// Tells the capacity that is wanted, if one is to be told before the first section. On error, which is for memory
     /// alone, nothing changes.
     fn begin(&mut self) -> Result<(), EncodingError>
         ensures { Begins self.old self.new result }
@@ -371,7 +371,7 @@ impl ConnectionEncoder {
         }
     }
 
-    /// Sets the capacity of the table, and writes the instruction that tells it. Refused, nothing changes.
+    /// Sets the capacity of the table, and writes the instruction that tells it. On error nothing changes.
     fn tell(&mut self, capacity: usize) -> Result<(), EncodingError>
         ensures { TellsCapacity self.old self.new capacity result }
     {
@@ -386,7 +386,7 @@ impl ConnectionEncoder {
 }
 
 /// Appends the section of the fields that references no entry, and answers its required insert count, which is 0.
-/// Refused, which is for memory alone, the vector is as before.
+/// On error, which is want of memory alone, the vector is as before.
 fn encode_alone<A: Allocator, H: AsField>(
     fields: &[H],
     section: &mut Vec<u8, A>,

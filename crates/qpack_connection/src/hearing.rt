@@ -176,7 +176,7 @@ fn hear(table: &mut DynamicTable, bytes: &[u8]) -> Result<bool, HearingError>
     }
 }
 
-/// Applies an instruction to the table. Refused, nothing changes.
+/// Applies an instruction to the table. On error nothing changes.
 fn apply(table: &mut DynamicTable, line: DecoderLine) -> Result<(), HearingError>
     ensures { Applies result (strict_hear table.old (decoder_instruction_of line)) table.old table.new }
 {
@@ -192,7 +192,7 @@ fn apply(table: &mut DynamicTable, line: DecoderLine) -> Result<(), HearingError
     }
 }
 
-/// Raises the known received count by an increment (RFC 9204, section 4.4.3). Refused, nothing changes.
+/// Raises the known received count by an increment (RFC 9204, section 4.4.3). On error nothing changes.
 fn raise(table: &mut DynamicTable, increment: usize) -> Result<(), HearingError>
     ensures { Applies result (strict_hear table.old (Increment increment)) table.old table.new }
 {
@@ -218,7 +218,7 @@ fn is_past_insertions(table: &DynamicTable, increment: usize) -> bool
 }
 
 /// Releases the oldest unacknowledged section of a stream, and raises the known received count to what that required
-/// (RFC 9204, sections 2.1.4 and 4.4.1). Refused, nothing changes.
+/// (RFC 9204, sections 2.1.4 and 4.4.1). On error nothing changes.
 fn acknowledge(table: &mut DynamicTable, stream_id: u64) -> Result<(), HearingError>
     ensures { Applies result (strict_hear table.old (Acknowledgment stream_id)) table.old table.new }
 {

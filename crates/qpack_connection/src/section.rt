@@ -136,7 +136,7 @@ impl From<ParseError> for SectionError {
     }
 }
 
-/// The most bytes that a section can have whose fields' sizes sum to this many, held at the greatest number.
+/// The most bytes that a section can have whose fields' sizes sum to this many, at most 2^64 - 1.
 pub fn longest_section(size: u64) -> u64
     ensures { result ≡ min (longest size) (2 ^ 64 - 1) }
 {

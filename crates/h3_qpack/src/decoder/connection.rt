@@ -114,7 +114,7 @@ impl Decoder {
 }
 
 /// Appends the acknowledgment of a section of this stream that referenced the dynamic table, for the decoder stream
-/// (RFC 9204, section 4.4.1). Refused, the vector is as before; with free room for it, it succeeds and takes no
+/// (RFC 9204, section 4.4.1). On error the vector is as before; with free room for it, it succeeds and takes no
 /// memory.
 pub fn ack_header<A: Allocator>(stream_id: u64, decoder: &mut Vec<u8, A>) -> Result<(), NoMemory>
     ensures writes { Writes (written_decoder_instruction (Acknowledgment stream_id)) decoder.old decoder.new result }
@@ -122,7 +122,7 @@ pub fn ack_header<A: Allocator>(stream_id: u64, decoder: &mut Vec<u8, A>) -> Res
     HeaderAck(stream_id).encode(decoder)
 }
 
-/// Appends the cancellation of this stream, for the decoder stream (RFC 9204, section 4.4.2). Refused, the vector is
+/// Appends the cancellation of this stream, for the decoder stream (RFC 9204, section 4.4.2). On error the vector is
 /// as before; with free room for it, it succeeds and takes no memory.
 pub fn stream_canceled<A: Allocator>(
     stream_id: u64,

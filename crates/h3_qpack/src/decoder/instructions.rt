@@ -40,7 +40,7 @@ pub(super) fn take_instructions(
 }
 
 /// Takes the encoder instruction at the cursor and moves past it (RFC 9204, section 4.3); answers whether one stood
-/// whole. Refused, the table is as before; the cursor moves past the instruction exactly if the table refuses it for
+/// whole. On error the table is as before; the cursor moves past the instruction exactly if the table refuses it for
 /// what it asks. The table may be one without an index.
 pub fn take_instruction<I: EntryIndex>(
     table: &mut DynamicTable<I>,
@@ -84,7 +84,7 @@ fn is_refused_by_table(e: &dynamic::Error) -> bool
     )
 }
 
-/// Applies an instruction to the table. Refused, nothing changes.
+/// Applies an instruction to the table. On error nothing changes.
 #[tactic(auto, unfolding(qpack_spec::specs::Table::apply_encoder_instruction))]
 fn apply<I: EntryIndex>(table: &mut DynamicTable<I>, line: EncoderLine) -> Result<(), DecoderError>
     ensures applies { Applies result (apply_encoder_instruction table.old (encoder_instruction_of line))
@@ -138,7 +138,7 @@ fn duplicated<I: EntryIndex>(
     Ok(table.get_relative(index)?.clone()?)
 }
 
-/// Puts a field. Refused, nothing changes.
+/// Puts a field. On error nothing changes.
 fn insert<I: EntryIndex>(
     table: &mut DynamicTable<I>,
     field: HeaderField,
@@ -148,7 +148,7 @@ fn insert<I: EntryIndex>(
     Ok(table.put(field)?)
 }
 
-/// Sets the capacity. Refused, nothing changes; it takes no memory.
+/// Sets the capacity. On error nothing changes; it takes no memory.
 fn set_capacity<I: EntryIndex>(table: &mut DynamicTable<I>, size: usize) -> Result<(), DecoderError>
     ensures applies { Applies result (with_capacity table.old size) table.old table.new }
     ensures no_memory { result ≡ Err Memory → ⊥ }
@@ -157,7 +157,7 @@ fn set_capacity<I: EntryIndex>(table: &mut DynamicTable<I>, size: usize) -> Resu
 }
 
 /// Appends increments for so many insertions, for the decoder stream: as many of 64 as there can be, and then one of
-/// the rest (RFC 9204, section 4.4.3). Refused, the vector is as before; with free room for them all it succeeds and
+/// the rest (RFC 9204, section 4.4.3). On error the vector is as before; with free room for them all it succeeds and
 /// takes no memory.
 pub fn write_increments<A: Allocator>(
     insertions: usize,

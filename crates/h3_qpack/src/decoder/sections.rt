@@ -22,7 +22,7 @@ use qpack_wire::block::{
 };
 use std::alloc::Global;
 
-/// The fields of lines, in order, and the sum of their sizes in bytes, held at the greatest number.
+/// The fields of lines, in order, and the sum of their sizes in bytes, at most 2^64 - 1.
 #[derive(Drop)]
 struct Fields {
     fields: Vec<HeaderField>,

@@ -50,7 +50,7 @@ pub(super) fn append_block<A: Allocator, B: Allocator, H: AsField>(
     Ok(required)
 }
 
-/// Adds the fields to a block in progress, one after the other. Refused, some of them were
+/// Adds the fields to a block in progress, one after the other. On error some of them were
 /// added: what they inserted stands, and its instructions are written.
 fn append_fields<A: Allocator, B: Allocator, H: AsField>(
     handle: &mut DynamicTableEncoder<'_>,
@@ -79,7 +79,7 @@ fn append_fields<A: Allocator, B: Allocator, H: AsField>(
     Ok(())
 }
 
-/// Puts a prefix in front of what stands behind so many bytes. Refused, the vector is as before.
+/// Puts a prefix in front of what stands behind so many bytes. On error the vector is as before.
 fn put_in_front<A: Allocator>(
     prefix: &HeaderPrefix,
     block: &mut Vec<u8, A>,

@@ -18,7 +18,7 @@ const GREATEST_NUMBER: usize = 11;
 ///
 /// A capacity above the maximum capacity, or of 2^30 or more, is refused (`Insertion(MaximumTableSizeTooLarge)`), and
 /// one for which an entry that is not evictable would have to go (`Insertion(MaxTableSizeReached)`); any other may be
-/// refused for memory. Refused, nothing changes and nothing is written. With eleven bytes of free room it takes no
+/// refused for memory. On error nothing changes and nothing is written. With eleven bytes of free room it takes no
 /// memory.
 pub fn set_dynamic_table_size<A: Allocator>(
     table: &mut DynamicTable,

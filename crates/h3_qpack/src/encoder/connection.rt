@@ -97,7 +97,7 @@ impl<D: WritesSections> Encoder<D> {
     /// references no entry. For each field the first is taken that applies: an equal static field, the newest equal
     /// entry that stood at the block's start, an insertion, and a literal.
     ///
-    /// Refused, which is for memory alone, the block is as before. The insertions that were made stand, their
+    /// On error, which is want of memory alone, the block is as before. The insertions that were made stand, their
     /// instructions are written, and nothing more is referenced: the call can be made again. A block's vector with free
     /// room for it is not grown, nor is that of the instructions with four bytes of free room for each byte of the
     /// fields' sizes.

@@ -28,7 +28,7 @@ use qpack_wire::stream::{Duplicate, InsertWithNameRef, InsertWithoutNameRef};
 use std::alloc::Allocator;
 
 /// Adds a field line to a block in progress: a literal, if it is never to be indexed, and else as `append_field` does.
-/// Refused, either nothing was inserted and no instruction is written, or an entry was and
+/// On error either nothing was inserted and no instruction is written, or an entry was and
 /// its instruction is.
 pub(super) fn append_field_line<A: Allocator, B: Allocator>(
     block: &mut DynamicTableEncoder<'_>,
@@ -60,7 +60,7 @@ pub(super) fn append_field_line<A: Allocator, B: Allocator>(
 }
 
 /// Adds a field to a block in progress: the first that applies of an equal static field, the newest equal entry, an
-/// insertion and a literal. Refused, either the entry was not inserted and no instruction
+/// insertion and a literal. On error either the entry was not inserted and no instruction
 /// is written, or it was and its instruction is.
 fn append_field<A: Allocator, B: Allocator>(
     block: &mut DynamicTableEncoder<'_>,
@@ -175,7 +175,7 @@ fn instruction_room(block: &DynamicTableEncoder<'_>, field: &FieldLine<'_>) -> u
     4 * size
 }
 
-/// Appends the instruction of an insertion. Refused, the vector is as before.
+/// Appends the instruction of an insertion. On error the vector is as before.
 #[tactic(auto, using(crate::proofs::Alike::writes_alike))]
 fn write_instruction<A: Allocator>(
     field: &FieldLine<'_>,
@@ -201,7 +201,7 @@ fn write_instruction<A: Allocator>(
     }
 }
 
-/// Appends the line of a field that was inserted, or was not. Refused, the vector is as
+/// Appends the line of a field that was inserted, or was not. On error the vector is as
 /// before.
 fn append_inserted<A: Allocator>(
     field: &FieldLine<'_>,
@@ -224,7 +224,7 @@ fn append_inserted<A: Allocator>(
     }
 }
 
-/// Appends a literal, by where its name was found. Refused, the vector is as before.
+/// Appends a literal, by where its name was found. On error the vector is as before.
 #[tactic(auto, using(crate::proofs::Alike::writes_alike))]
 fn append_literal<A: Allocator>(
     field: &FieldLine<'_>,

@@ -35,7 +35,7 @@ fn take_instruction(table: &mut DynamicTable, buf: &mut Cursor) -> Result<bool, 
     Ok(true)
 }
 
-/// Applies an instruction to the table. Refused, nothing changes; it takes no memory.
+/// Applies an instruction to the table. On error nothing changes; it takes no memory.
 fn apply(table: &mut DynamicTable, line: DecoderLine) -> Result<(), EncoderError>
     ensures { Applies result (apply_decoder_instruction table.old (decoder_instruction_of line)) table.old table.new }
 {

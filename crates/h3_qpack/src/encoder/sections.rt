@@ -29,7 +29,7 @@ pub trait WritesSections {
     /// Encodes a field section of field lines that are lent for a stream, as `Encoder::encode` does; nothing is copied
     /// but what is inserted. A field that is never to be indexed is a literal that says so, by the name of a static
     /// field or of an entry where the rule has one, and is neither inserted nor looked for (RFC 9204, section 7.1.3).
-    /// Refused, which is for memory alone, the block is as before, the insertions that were made stand, their
+    /// On error, which is want of memory alone, the block is as before, the insertions that were made stand, their
     /// instructions are written, and nothing more is referenced.
     fn write_section<A: Allocator, B: Allocator, H: AsField>(
         &mut self,

@@ -20,7 +20,7 @@ use std::alloc::Allocator;
 
 /// Appends the section of field lines that is written without a dynamic table, as `encode_stateless` writes it: it
 /// references no entry, and is never blocked. A field line that is never to be indexed is a literal that says so, by
-/// the first static field of its name if there is one (RFC 9204, section 7.1.3). Refused, which is for memory alone,
+/// the first static field of its name if there is one (RFC 9204, section 7.1.3). On error, which is for memory alone,
 /// the vector is as before.
 pub fn encode_section_stateless<A: Allocator, H: AsField>(
     block: &mut Vec<u8, A>,
@@ -59,7 +59,7 @@ pub(super) fn append_section<A: Allocator, H: AsField>(
     Ok(())
 }
 
-/// Appends the line of a field. Refused, the vector is as before.
+/// Appends the line of a field. On error the vector is as before.
 fn append_line<A: Allocator>(block: &mut Vec<u8, A>, field: &FieldLine<'_>) -> Result<(), NoMemory>
     ensures writes { Writes (written_marked_line field.now.never_indexed
         (stateless_line_marked (line_of field.now))) block.old block.new result }
@@ -71,7 +71,7 @@ fn append_line<A: Allocator>(block: &mut Vec<u8, A>, field: &FieldLine<'_>) -> R
 }
 
 /// Appends the line of a field that may be indexed: a static index, a static name with the value, or both in full.
-/// Refused, the vector is as before.
+/// On error the vector is as before.
 #[tactic(auto, using(crate::proofs::Alike::writes_alike))]
 pub(super) fn append_unmarked<A: Allocator>(
     block: &mut Vec<u8, A>,
@@ -90,7 +90,7 @@ pub(super) fn append_unmarked<A: Allocator>(
     }
 }
 
-/// Appends the literal of a field that is never to be indexed. Refused, the vector is as before.
+/// Appends the literal of a field that is never to be indexed. On error the vector is as before.
 #[tactic(auto, using(crate::proofs::Alike::writes_alike))]
 fn append_never_indexed<A: Allocator>(
     block: &mut Vec<u8, A>,

@@ -143,7 +143,7 @@ impl Stream {
         self.cancelled = true;
     }
 
-    /// Encodes a block of the fields, and keeps it (RFC 9204, section 2.1). Room for it is made first. Refused, which
+    /// Encodes a block of the fields, and keeps it (RFC 9204, section 2.1). Room for it is made first. On error, which
     /// is for memory alone, no block is kept.
     pub(super) fn encode(
         &mut self,

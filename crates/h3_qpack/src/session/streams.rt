@@ -113,7 +113,7 @@ impl Streams {
         }
     }
 
-    /// Cancels a stream, and writes it for the decoder stream (RFC 9204, section 4.4.2). Refused, neither is done.
+    /// Cancels a stream, and writes it for the decoder stream (RFC 9204, section 4.4.2). On error neither is done.
     pub(super) fn cancel(
         &mut self,
         alloc: Global,
@@ -194,7 +194,7 @@ impl Streams {
     }
 
     /// Encodes a block of the fields for a stream, and keeps it (RFC 9204, section 2.1). Room for it is made first.
-    /// Refused, which is for memory alone, no block is kept.
+    /// On error, which is want of memory alone, no block is kept.
     pub(super) fn encode(
         &mut self,
         alloc: Global,

@@ -120,7 +120,7 @@ fn append_string(size: u8, buf: &mut Cursor, text: &mut Vec<u8>) -> Result<(), L
     }
 }
 
-/// Appends a field's name. Refused, the text is as before.
+/// Appends a field's name. On error the text is as before.
 #[inline(always)]
 fn append_name(field: &HeaderField, text: &mut Vec<u8>) -> Result<(), LineError>
     ensures { AppendsName text.old.items text.new.items result (Ok (field_of field.now)) }
@@ -324,7 +324,7 @@ fn is_never_indexed(first: u8) -> bool
 }
 
 /// Appends the field of the line at the cursor, which begins with this byte, unless the sizes pass the limit with it;
-/// those so far have this sum. Answers the sum with it. Refused, text and spans are as before.
+/// those so far have this sum. Answers the sum with it. On error text and spans are as before.
 fn read_line<I: EntryIndex>(
     lines: &Lines<I>,
     first: u8,

@@ -18,7 +18,7 @@ use std::alloc::AllocError;
 use std::collections::VecDeque;
 
 impl DynamicTable {
-    /// The block in progress references a live entry too. Refused, which is for memory alone, nothing changes.
+    /// The block in progress references a live entry too. On error, which is want of memory alone, nothing changes.
     pub(super) fn reference(&mut self, absolute: usize) -> Result<(), AllocError>
         requires live { self.old.dropped < absolute }
         requires inserted { absolute ≤ insert_count self.old }
@@ -54,7 +54,7 @@ impl DynamicTable {
         self.referenced.clear();
     }
 
-    /// The block in progress ends, with this required insert count. Refused, which is for memory alone, it is given
+    /// The block in progress ends, with this required insert count. On error, which is want of memory alone, it is given
     /// up.
     pub(super) fn commit_block(&mut self, stream_id: u64, required: usize) -> Result<(), Error>
         ensures { Commits result stream_id required self.old self.new }
@@ -94,7 +94,7 @@ impl DynamicTable {
     }
 }
 
-/// The block in progress waits for an acknowledgment, if it references an entry. Refused, nothing changes.
+/// The block in progress waits for an acknowledgment, if it references an entry. On error nothing changes.
 fn open_block(
     entries: &mut VecDeque<Entry>,
     dropped: usize,
@@ -135,7 +135,7 @@ pub(super) fn greatest_in(numbers: &[usize]) -> usize
     greatest
 }
 
-/// A block that requires so many insertions is blocked, if it is. Refused, which is for memory alone, nothing changes.
+/// A block that requires so many insertions is blocked, if it is. On error, which is want of memory alone, nothing changes.
 fn push_if(blocked: &mut BlockedBlocks, is_blocked: bool, required: usize) -> Result<(), AllocError>
     ensures kept { OnOk result (IsKeptIf is_blocked required blocked.old blocked.new) }
     ensures counts { OnOk result (counts_of blocked.new

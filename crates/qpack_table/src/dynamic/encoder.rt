@@ -170,7 +170,7 @@ impl DynamicTableEncoder<'_> {
     }
 
     /// Looks for the name of a field that is lent, in the static table and then among the entries, of which the newest
-    /// is referenced, if it may be. Refused, which is for memory alone, nothing changes.
+    /// is referenced, if it may be. On error, which is want of memory alone, nothing changes.
     pub fn find_line_name(&mut self, field: &FieldLine<'_>) -> Result<DynamicLookupResult, Error>
         ensures same_table { self.new.table.ghost_name ≡ self.old.table.ghost_name }
         ensures stream { self.new.stream_id ≡ self.old.stream_id }
@@ -183,7 +183,7 @@ impl DynamicTableEncoder<'_> {
 
     /// Inserts a field, if one more block may be blocked and there is room: what has to go is evicted, and the new
     /// entry is referenced. Else its name is looked for, in the static table and then among the entries, of which the
-    /// newest is referenced, if it may be. Refused, which is for memory alone, nothing changes.
+    /// newest is referenced, if it may be. On error, which is want of memory alone, nothing changes.
     pub fn insert(&mut self, field: &HeaderField) -> Result<DynamicInsertionResult, Error>
         ensures same_table { self.new.table.ghost_name ≡ self.old.table.ghost_name }
         ensures stream { self.new.stream_id ≡ self.old.stream_id }
@@ -223,7 +223,7 @@ impl DynamicTableEncoder<'_> {
     }
 
     /// Ends the block, whose required insert count is this. It waits for an acknowledgment if it references an entry,
-    /// and counts as blocked while its required insert count is above the known received count. Refused, which is for
+    /// and counts as blocked while its required insert count is above the known received count. On error, which is for
     /// memory alone, what it references is given back.
     pub fn commit(self, largest_ref: usize) -> Result<(), Error>
         ensures { Commits result self.entry.stream_id largest_ref self.entry.table.now self.exit.0.now }

@@ -32,7 +32,7 @@ pub trait EntryIndex: Drop {
     fn key_of(field: &FieldLine<'_>) -> Self::Key
         ensures { is_key_of result (line_of field.now).field };
 
-    /// Makes room for one entry more, with such a key. Refused, the same entries are in.
+    /// Makes room for one entry more, with such a key. On error the same entries are in.
     fn reserve(
         &mut self,
         entries: &VecDeque<Entry>,

@@ -149,7 +149,7 @@ impl Index {
         self.names.newest(entries, dropped, &sought, steps)
     }
 
-    /// Makes room for one entry more, with such hashes. Refused, the index is as before.
+    /// Makes room for one entry more, with such hashes. On error the index is as before.
     pub(super) fn reserve(
         &mut self,
         entries: &VecDeque<Entry>,

@@ -170,7 +170,7 @@ impl DynamicTable {
     }
 
     /// Inserts a field for which there is room, and references it. What was sought of an equal entry or one of its name
-    /// is told first, before what has to go is evicted. Refused, which is for memory alone, nothing changes.
+    /// is told first, before what has to go is evicted. On error, which is want of memory alone, nothing changes.
     fn insert_in_room(
         &mut self,
         base: usize,

@@ -2,7 +2,7 @@
 
 ghost use Rattle.std.specs.Prelude.{◌≡◌, ◌+◌, ◌-◌, ◌^◌, ◌≤◌, min};
 
-/// A count of the comparisons of a sought field with entries, held at the greatest number.
+/// A count of the comparisons of a sought field with entries, at most 2^64 - 1.
 #[derive(Debug, Drop)]
 pub struct Steps {
     count: u64,

@@ -292,7 +292,7 @@ impl<I: EntryIndex> DynamicTable<I> {
         self.evictable_count(self.max_mem_size() - size)
     }
 
-    /// Inserts a field behind the newest one, once so many of the oldest are evicted. Refused, which is for
+    /// Inserts a field behind the newest one, once so many of the oldest are evicted. On error, which is for
     /// memory alone, nothing changes.
     fn insert(&mut self, field: HeaderField, sent: bool, evicted: usize) -> Result<(), AllocError>
         requires few { insert_count self.old < 2 ^ 62 }
@@ -365,7 +365,7 @@ impl<I: EntryIndex> DynamicTable<I> {
     }
 
     /// Agrees on a maximum capacity in bytes, before anything is inserted; a capacity above it is not set any more
-    /// (RFC 9204, section 3.2.3). It is refused from 2^30 on, and takes no memory. Refused, nothing changes.
+    /// (RFC 9204, section 3.2.3). It is refused from 2^30 on, and takes no memory. On error nothing changes.
     pub fn set_agreed_max(&mut self, max: usize) -> Result<(), Error>
         requires empty { insert_count self.old ≡ 0 }
         requires most { self.old.capacity ≤ max }
@@ -381,7 +381,7 @@ impl<I: EntryIndex> DynamicTable<I> {
 
     /// Sets the capacity in bytes: what doesn't fit goes, the oldest first (RFC 9204, section 3.2.3). It is
     /// refused above the maximum capacity and from 2^30 on, and where an entry that is not evictable would have to be
-    /// evicted. Refused, nothing changes.
+    /// evicted. On error nothing changes.
     pub fn set_max_size(&mut self, size: usize) -> Result<(), Error>
         ensures { Changes result (with_capacity self.old size) self.old self.new }
     {

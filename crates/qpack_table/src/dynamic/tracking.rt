@@ -62,7 +62,7 @@ impl DynamicTable {
         while self.untrack_block(stream_id).is_ok() {}
     }
 
-    /// An increment raises the known received count, which is held at the greatest number: the blocks that it covers
+    /// An increment raises the known received count, which is at most 2^64 - 1: the blocks that it covers
     /// are blocked no more. It takes no memory (RFC 9204, section 4.4.3).
     pub fn update_largest_received(&mut self, increment: usize)
         ensures { Ok self.new ≡ apply_decoder_instruction self.old (Increment increment) }
