@@ -110,7 +110,7 @@ impl From<AllocError> for EncoderError {
 }
 
 /// Appends the block of the fields that is written without a dynamic table to the vector, and
-/// answers the sum of their sizes, at most 2^64 - 1. On error, which is for memory alone,
+/// answers the sum of their sizes, at most 2^64 - 1. On error, which is want of memory alone,
 /// the vector is as before.
 pub fn encode_stateless<'a, A: Allocator, T: Iterator<Item = &'a HeaderField> + Drop>(
     block: &mut Vec<u8, A>,

@@ -20,7 +20,7 @@ use std::alloc::Allocator;
 
 /// Appends the section of field lines that is written without a dynamic table, as `encode_stateless` writes it: it
 /// references no entry, and is never blocked. A field line that is never to be indexed is a literal that says so, by
-/// the first static field of its name if there is one (RFC 9204, section 7.1.3). On error, which is for memory alone,
+/// the first static field of its name if there is one (RFC 9204, section 7.1.3). On error, which is want of memory alone,
 /// the vector is as before.
 pub fn encode_section_stateless<A: Allocator, H: AsField>(
     block: &mut Vec<u8, A>,

@@ -135,7 +135,8 @@ pub(super) fn greatest_in(numbers: &[usize]) -> usize
     greatest
 }
 
-/// A block that requires so many insertions is blocked, if it is. On error, which is want of memory alone, nothing changes.
+/// A block that requires so many insertions is blocked, if it is. On error, which is want of memory alone, nothing
+/// changes.
 fn push_if(blocked: &mut BlockedBlocks, is_blocked: bool, required: usize) -> Result<(), AllocError>
     ensures kept { OnOk result (IsKeptIf is_blocked required blocked.old blocked.new) }
     ensures counts { OnOk result (counts_of blocked.new
