@@ -6,6 +6,8 @@ mod blocks;
 #[cfg(test)]
 mod indexes;
 #[cfg(test)]
+mod many_blocks;
+#[cfg(test)]
 mod model;
 #[cfg(test)]
 mod newest;

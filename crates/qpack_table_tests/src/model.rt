@@ -72,7 +72,7 @@ impl Pair {
 }
 
 /// A vector with room for all calls, asked for again after a refusal.
-fn with_room<T: Drop>(alloc: Global) -> Result<Vec<T>, AllocError> {
+pub fn with_room<T: Drop>(alloc: Global) -> Result<Vec<T>, AllocError> {
     match Vec::with_capacity(alloc, 4096) {
         Ok(room) => Ok(room),
         Err(_) => Vec::with_capacity(alloc, 4096),
