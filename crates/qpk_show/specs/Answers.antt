@@ -1,5 +1,5 @@
 -- What the calls of an onlooker answer.
-use Rattle.std.specs.Prelude.{◌≡◌, ℕ, ◌^◌, ◌-◌, min, List, map, Option, None, Some, Result, Ok, Err}
+use Rattle.std.specs.Prelude.{◌≡◌, ℕ, ◌^◌, ◌-◌, min, List, map, option_map, Option, None, Some, Result, Ok, Err}
 use Rattle.std.specs.Global.{Vec}
 use Rattle.qpack_spec.specs.Field.{Field}
 use Rattle.qpack_spec.specs.Line.{Line}
@@ -19,7 +19,19 @@ use Rattle.qpack_wire.specs.Prefixes.{error_of_prefix}
 use Rattle.h3_qpack.specs.Sections.{Tells}
 use Rattle.h3_qpack.specs.declared.decoder.DecoderError.{DecoderError}
 use Rattle.h3_qpack.specs.declared.decoder.DecoderError.TheVariants as decoder
+use Rattle.h3_qpack.specs.Receiving.{refusal_of, field_to_insert}
+use Rattle.qpack_base.specs.Refusals.{IsRefusedFor}
+use Rattle.qpack_base.specs.declared.coding.NoMemory.{NoMemory}
+use Rattle.qpack_wire.specs.declared.stream.encoder_stream.EncoderLine.{EncoderLine}
+use Rattle.qpack_spec.specs.Instruction.{EncoderInstruction}
+use Rattle.qpack_spec.specs.Table.{Table, put, apply_encoder_instruction}
+use Rattle.qpack_spec.specs.Window.{TableRefusal}
+use Rattle.qpack_wire.specs.StreamLines.{encoder_instruction_of, decoder_instruction_of}
 use Rattle.qpk_show.specs.Streams.{Stream}
+use Rattle.qpk_show.specs.Showing as one
+use Rattle.qpk_show.specs.Showing.{Observed}
+use Rattle.qpk_show.specs.declared.shown.Shown.{Shown as ReadShown}
+use Rattle.qpk_show.specs.declared.shown.Shown.TheVariants as shown
 use Rattle.qpk_show.specs.Sections.{LineShown, LineFault, Unreadable, PastRequired, Meaningless, Stop, Shown, Under}
 use Rattle.qpk_show.specs.Sections.{or_unreadable_line, PrefixRefusal, NoPrefix, BadPrefix, CountAtZero, Reading, Lines, Blocked, Refused}
 use Rattle.qpk_show.specs.declared.section.LineShown.{LineShown as ReadLine}
@@ -117,3 +129,77 @@ IsReading (read.Lines required base lines stop) r =
     (s : Option Stop) × IsStop stop s × (r ≡ Lines required base (lines_of lines.items) s)
 IsReading (read.Blocked required) r = r ≡ Blocked required
 IsReading (read.Refused e) r = (refusal : PrefixRefusal) × TellsRefusal e refusal × (r ≡ Refused refusal)
+
+-- ---- an instruction
+
+-- the field that an instruction asks for was found; or it is refused as the instruction is, or memory is
+abbrev pub FindsToInsert : Table → EncoderInstruction → Result HeaderField DecoderError → Type 0
+FindsToInsert t i (Ok field) =
+    (field_to_insert t i ≡ Some (field_of field)) × (apply_encoder_instruction t i ≡ put t (field_of field))
+FindsToInsert t i (Err decoder.Memory) = Unit {0}
+FindsToInsert t i (Err e) = IsRefusedFor (apply_encoder_instruction t i) (refusal_of e)
+
+-- the change is refused, and the table is as before; or memory is refused
+abbrev pub FailsToApply : DecoderError → Result Table TableRefusal → Table → Table → Type 0
+FailsToApply decoder.Memory read old new = Unit {0}
+FailsToApply e read old new = IsRefusedFor read (refusal_of e) × (new ≡ old)
+
+-- the field was put, and is given; or it is refused
+abbrev pub InsertsField : Result (Option HeaderField) DecoderError → Field → Result Table TableRefusal → Table → Table
+    → Type 0
+InsertsField (Ok inserted) f read old new = (read ≡ Ok new) × (option_map field_of inserted ≡ Some f)
+InsertsField (Err e) f read old new = FailsToApply e read old new
+
+-- the instruction was applied, and the field that it inserts is given; or it is refused
+abbrev pub AppliesLine : Result (Option HeaderField) DecoderError → Table → Table → EncoderInstruction
+    → Result Table TableRefusal → Type 0
+AppliesLine (Ok inserted) old new i read =
+    (read ≡ Ok new) × (option_map field_of inserted ≡ field_to_insert old i)
+AppliesLine (Err e) old new i read = FailsToApply e read old new
+
+-- ---- an onlooker
+
+-- the value of the code is this thing
+abbrev pub IsShown : ReadShown → one.Shown → Type 0
+IsShown (shown.Applied offset line inserted) x =
+    x ≡ one.Applied offset (encoder_instruction_of line) (option_map field_of inserted)
+IsShown (shown.NotApplied offset line e) x =
+    (refusal : TableRefusal) × (refusal_of e ≡ Some refusal)
+    × (x ≡ one.NotApplied offset (encoder_instruction_of line) refusal)
+IsShown (shown.NoEncoderInstruction offset e) x =
+    (k : KindFault) × (fault_of e ≡ Some k) × (x ≡ one.NoEncoderInstruction offset k)
+IsShown (shown.Told offset line) x = x ≡ one.Told offset (decoder_instruction_of line)
+IsShown (shown.NoDecoderInstruction offset e) x =
+    (k : KindFault) × (fault_of e ≡ Some k) × (x ≡ one.NoDecoderInstruction offset k)
+IsShown (shown.Section stream was_blocked reading) x =
+    (r : Reading) × IsReading reading r × (x ≡ one.Section stream was_blocked r)
+IsShown (shown.BlockedUntil stream required) x = x ≡ one.BlockedUntil stream required
+IsShown (shown.TooManyBlocked stream required) x = x ≡ one.TooManyBlocked stream required
+
+-- what is shown next, and what is left then; or memory was refused
+abbrev pub ShowsOne : Result ReadShown NoMemory → Observed → Option (one.Shown × Observed) → Type 0
+ShowsOne (Ok s) new next = (x : one.Shown) × IsShown s x × (next ≡ Some (x, new))
+ShowsOne (Err e) new next = Unit {0}
+
+-- the same, or nothing is to be shown
+abbrev pub ShowsNext : Result (Option ReadShown) NoMemory → Observed → Observed → Option (one.Shown × Observed) → Type 0
+ShowsNext (Ok (Some s)) old new next = (x : one.Shown) × IsShown s x × (next ≡ Some (x, new))
+ShowsNext (Ok None) old new next = (next ≡ None) × (new ≡ old)
+ShowsNext (Err e) old new next = Unit {0}
+
+-- ---- what is refused; want of memory is no thing that is shown
+
+abbrev pub no_memory : NoMemory
+no_memory = record {}
+
+abbrev pub no_encoder_instruction : ℕ → ParseError → Result (Option ReadShown) NoMemory
+no_encoder_instruction offset Memory = Err no_memory
+no_encoder_instruction offset e = Ok (Some (shown.NoEncoderInstruction offset e))
+
+abbrev pub no_decoder_instruction : ℕ → ParseError → Result (Option ReadShown) NoMemory
+no_decoder_instruction offset Memory = Err no_memory
+no_decoder_instruction offset e = Ok (Some (shown.NoDecoderInstruction offset e))
+
+abbrev pub not_applied : ℕ → EncoderLine → DecoderError → Result ReadShown NoMemory
+not_applied offset l decoder.Memory = Err no_memory
+not_applied offset l e = Ok (shown.NotApplied offset l e)

@@ -1,11 +1,11 @@
 -- What an onlooker is shown of a connection, one thing after the other (RFC 9204, sections 2.1 and 4.2 to 4.5).
-use Rattle.std.specs.Prelude.{ℕ, suc, ◌+◌, Bool, true, false, not, if◌then◌else◌, ◌&&◌, ◌||◌, nat_le, nat_lt, nat_eq, List, []}
-use Rattle.std.specs.Prelude.{◌∷◌, ◌++◌, filter, position, remove, set, slice_get, Option, None, Some, Result, Ok, Err}
+use Rattle.std.specs.Prelude.{ℕ, suc, Bool, true, false, not, if◌then◌else◌, ◌&&◌, ◌||◌, nat_le, nat_lt, nat_eq, List, []}
+use Rattle.std.specs.Prelude.{◌∷◌, ◌++◌, filter, position, insert, remove, is_some, slice_get, Option, None, Some, Result, Ok, Err}
 use Rattle.std.specs.List.{list_any}
 use Rattle.qpack_spec.specs.Field.{Field}
 use Rattle.qpack_spec.specs.Instruction.{EncoderInstruction, DecoderInstruction}
 use Rattle.qpack_spec.specs.StrictInstructions.{strict_apply}
-use Rattle.qpack_spec.specs.Table.{Table, insert_count}
+use Rattle.qpack_spec.specs.Table.{Table, empty_table, insert_count}
 use Rattle.qpack_spec.specs.Window.{TableRefusal}
 use Rattle.qpack_wire.specs.Alone.{KindFault}
 use Rattle.qpack_wire.specs.StreamLines.{encoder_instruction_at, decoder_instruction_at}
@@ -28,6 +28,29 @@ pub record Observed : Type 0 where
   pub encoder_stream : Stream
   pub decoder_stream : Stream
   pub arrived : List Arrived
+
+-- an onlooker to whom nothing came: the table begins at capacity 0 with this maximum (section 3.2.2)
+abbrev pub observed_at_first : ℕ → ℕ → Observed
+observed_at_first maximum limit =
+    record {
+      table = empty_table 0 (Some maximum) 0;
+      limit = limit;
+      encoder_stream = record { received = []; taken = 0; is_refused = false };
+      decoder_stream = record { received = []; taken = 0; is_refused = false };
+      arrived = [];
+    }
+
+-- a section more, behind those that came before
+abbrev pub with_section : Observed → ℕ → List ℕ → Observed
+with_section o stream section =
+    record o { arrived = o.arrived ++ record { stream = stream; bytes = section; waits_for = None } ∷ [] }
+
+-- the sections of other streams
+abbrev pub of_other_streams : ℕ → List Arrived → List Arrived
+of_other_streams stream arrived = filter (λ a. not (nat_eq a.stream stream)) arrived
+
+abbrev pub without_stream : Observed → ℕ → Observed
+without_stream o stream = record o { arrived = of_other_streams stream o.arrived }
 
 -- what is shown: an encoder instruction that was applied, at the offset of its stream where it begins, with the field
 -- that it inserts; one that the table refuses; bytes that are none; a decoder instruction; bytes that are none; a
@@ -53,19 +76,19 @@ is_due inserted a = is_past a.waits_for
     is_past None = true
     is_past (Some required) = nat_le required inserted
 
+-- whether a section waits
+abbrev pub is_waiting : Arrived → Bool
+is_waiting a = is_some a.waits_for
+
 -- whether a section waits on this stream
 abbrev pub waits_on : ℕ → Arrived → Bool
-waits_on stream a = nat_eq a.stream stream && is_waiting a.waits_for
-  where
-    is_waiting : Option ℕ → Bool
-    is_waiting None = false
-    is_waiting (Some required) = true
+waits_on stream a = nat_eq a.stream stream && is_some a.waits_for
 
 -- how many streams have a section that waits
 unfoldable pub blocked_streams : List Arrived → ℕ
 blocked_streams [] = 0
 blocked_streams (a ∷ more) =
-    if waits_on a.stream a && not (list_any (λ b. waits_on a.stream b) more) then suc (blocked_streams more)
+    if is_waiting a && not (list_any (λ b. waits_on a.stream b) more) then suc (blocked_streams more)
     else blocked_streams more
 
 -- whether a section of this stream may wait (section 2.1.2)
@@ -73,20 +96,23 @@ abbrev pub may_wait : ℕ → List Arrived → ℕ → Bool
 may_wait limit arrived stream =
     list_any (λ a. waits_on stream a) arrived || nat_lt (blocked_streams arrived) limit
 
--- the section at this index, read under the table: it waits, or it is shown and gone
-abbrev pub section_read : Observed → ℕ → Arrived → Reading → Shown × Observed
-section_read o index a (Blocked required) =
+-- a section that was taken from this index waits there for so many insertions, if it may
+abbrev pub blocked_at : Observed → ℕ → Arrived → ℕ → Shown × Observed
+blocked_at o index a required =
     if may_wait o.limit o.arrived a.stream
     then (
       BlockedUntil a.stream required,
       record o {
-        arrived = set o.arrived index
+        arrived = insert o.arrived index
             (record { stream = a.stream; bytes = a.bytes; waits_for = Some required });
       },
     )
-    else (TooManyBlocked a.stream required, record o { arrived = remove o.arrived index })
-section_read o index a reading =
-    (Section a.stream (waits_on a.stream a) reading, record o { arrived = remove o.arrived index })
+    else (TooManyBlocked a.stream required, o)
+
+-- a section that was taken from this index, and read: it waits there, or it is shown
+abbrev pub section_read : Observed → ℕ → Arrived → Reading → Shown × Observed
+section_read o index a (Blocked required) = blocked_at o index a required
+section_read o index a reading = (Section a.stream (is_waiting a) reading, o)
 
 -- ---- instructions
 
@@ -121,7 +147,8 @@ next_taken o = taken o o.encoder_stream.taken (next_of encoder_instruction_at o.
 -- the section at an index, if it is there
 abbrev pub section_at : Observed → ℕ → Option Arrived → Option (Shown × Observed)
 section_at o index None = None
-section_at o index (Some a) = Some (section_read o index a (shown_section o.table a.bytes))
+section_at o index (Some a) =
+    Some (section_read (record o { arrived = remove o.arrived index }) index a (shown_section o.table a.bytes))
 
 -- the first section that can be read now, or else the next instruction
 abbrev pub next_by : Observed → Option ℕ → Option (Shown × Observed)

@@ -2,5 +2,8 @@
 //! each instruction and each line is, where it stands, and what it means.
 #![tactic(auto)]
 
+pub mod instruction;
+pub mod observer;
 pub mod section;
+pub mod shown;
 pub mod stream;

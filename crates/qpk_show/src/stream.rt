@@ -1,6 +1,6 @@
 //! A stream of instructions as an onlooker sees it: its bytes come in pieces, and are taken line by line.
 
-ghost use Rattle.std.specs.Prelude.{◌≡◌, ◌++◌, [], true, false, OnOk, OnErr};
+ghost use Rattle.std.specs.Prelude.{◌≡◌, ◌++◌, [], true, false, None, Ok, OnOk, OnErr};
 ghost use Rattle.qpk_show.specs.Streams.{next_of};
 ghost use Rattle.qpk_show.specs.Answers.{AnswersLine};
 
@@ -66,7 +66,8 @@ impl Stream {
     /// Takes the next line, or none where none stands whole. At bytes that are no line the stream is refused, and no
     /// line is taken of it any more.
     pub fn next<W: Wire>(&mut self, alloc: Global) -> Result<Option<W>, ParseError>
-        ensures { AnswersLine W.line_of self.new result (next_of W.read self.old) }
+        ensures answers { AnswersLine W.line_of self.new result (next_of W.read self.old) }
+        ensures stays { result ≡ Ok None → self.new ≡ self.old }
     {
         if self.is_refused {
             return Ok(None);

@@ -1,4 +1,3 @@
-use Rattle.std.proofs.Common.{sym}
 use Rattle.qpack_wire.specs.BlockLines.{line_at}
 use Rattle.qpk_show.proofs.Faults.{line_unreadable}
 use Rattle.qpk_show.proofs.section.decode_line.Goals as goal

@@ -1,4 +1,4 @@
-use Rattle.std.proofs.Common.{◌≡◌, ap, sym, ◌∙◌, false, refl, rules, ℕ}
+use Rattle.std.proofs.Common.{◌≡◌, false, refl, rules}
 use Rattle.std.specs.Prelude.{nat_eq, nat_lt, ◌&&◌}
 use Rattle.qpack_spec.specs.Prefix.{read_prefix}
 use Rattle.qpack_spec.specs.Table.{insert_count}

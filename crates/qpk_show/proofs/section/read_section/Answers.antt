@@ -1,4 +1,4 @@
-use Rattle.std.proofs.Common.{ap, Err, refl, rules}
+use Rattle.std.proofs.Common.{ap, Err, refl}
 use Rattle.qpack_wire.specs.Prefixes.{read_prefix_at}
 use Rattle.qpk_show.specs.Sections.{NoPrefix, shown_section, shown_section_behind}
 use Rattle.qpk_show.proofs.Faults.{fault_told}

@@ -1,6 +1,4 @@
 use Rattle.std.proofs.Common.{refl}
-use Rattle.qpack_spec.specs.Reading.{line_field}
-use Rattle.qpack_spec.specs.Table.{window}
 use Rattle.qpack_wire.specs.BlockLines.{line_of}
 use Rattle.qpk_show.specs.Answers.{under}
 use Rattle.qpk_show.specs.Sections.{PastRequired, reference_of}
