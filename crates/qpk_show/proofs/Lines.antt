@@ -34,12 +34,12 @@ goes_on (suc k) u bytes b front all l left more e h q r s = (
   k,
   omega (arith, h, s),
   (let behind = shown_lines_at k u left in
-  let r2 = rw e at r in
-  let turn : shown_lines_at (suc k) u bytes ≡ with_line l behind =
-  ap (shown_lines_at (suc k) u) e
-  ∙ ap (with_next u (length (b ∷ more)) (λ rest. shown_lines_at k u rest)) r2 in
-  ap (λ (x : List LineShown). (x, behind.1)) (append_assoc front (l ∷ []) behind.0)
-  ∙ sym (ap (with_front front) turn) ∙ q),
+      let r2 = rw e at r in
+      let turn : shown_lines_at (suc k) u bytes ≡ with_line l behind =
+      ap (shown_lines_at (suc k) u) e
+      ∙ ap (with_next u (length (b ∷ more)) (λ rest. shown_lines_at k u rest)) r2 in
+      ap (λ (x : List LineShown). (x, behind.1)) (append_assoc front (l ∷ []) behind.0)
+      ∙ sym (ap (with_front front) turn) ∙ q),
 )
 
 -- a line that gives no field

@@ -125,8 +125,10 @@ impl Observer {
     /// Bytes of the encoder stream come.
     pub fn receive_encoder(&mut self, bytes: &[u8]) -> Result<(), AllocError>
         ensures { OnOk result (self.new ≡ record self.old {
-            encoder_stream = record self.old.encoder_stream {
-                received = self.old.encoder_stream.received ++ bytes.now } }) }
+          encoder_stream = record self.old.encoder_stream {
+            received = self.old.encoder_stream.received ++ bytes.now;
+          };
+        }) }
     {
         self.encoder_stream.receive(bytes)
     }
@@ -134,8 +136,10 @@ impl Observer {
     /// Bytes of the decoder stream come.
     pub fn receive_decoder(&mut self, bytes: &[u8]) -> Result<(), AllocError>
         ensures { OnOk result (self.new ≡ record self.old {
-            decoder_stream = record self.old.decoder_stream {
-                received = self.old.decoder_stream.received ++ bytes.now } }) }
+          decoder_stream = record self.old.decoder_stream {
+            received = self.old.decoder_stream.received ++ bytes.now;
+          };
+        }) }
     {
         self.decoder_stream.receive(bytes)
     }
@@ -215,12 +219,7 @@ impl Observer {
     }
 
     /// Has a section that was taken from this index wait there, if one more may wait.
-    fn block(
-        &mut self,
-        index: usize,
-        arrived: Arrived,
-        required: usize,
-    ) -> Result<Shown, NoMemory>
+    fn block(&mut self, index: usize, arrived: Arrived, required: usize) -> Result<Shown, NoMemory>
         requires { index ≤ length self.old.arrived }
         ensures { ShowsOne result self.new (Some (blocked_at self.old index arrived required)) }
     {
@@ -249,7 +248,10 @@ impl Observer {
         ensures { ShowsNext result self.old self.new (next_taken self.old) }
     {
         let offset = self.encoder_stream.taken();
-        match self.encoder_stream.next::<EncoderLine>(self.table.allocator()) {
+        match self
+            .encoder_stream
+            .next::<EncoderLine>(self.table.allocator())
+        {
             Ok(None) => self.next_told(),
             Ok(Some(line)) => Ok(Some(self.apply(offset, line)?)),
             Err(e) => no_encoder_instruction(offset, e),
@@ -279,7 +281,10 @@ impl Observer {
         ensures { ShowsNext result self.old self.new (next_told self.old) }
     {
         let offset = self.decoder_stream.taken();
-        match self.decoder_stream.next::<DecoderLine>(self.table.allocator()) {
+        match self
+            .decoder_stream
+            .next::<DecoderLine>(self.table.allocator())
+        {
             Ok(None) => Ok(None),
             Ok(Some(line)) => Ok(Some(Shown::Told { offset, line })),
             Err(error) => no_decoder_instruction(offset, error),
