@@ -11,7 +11,7 @@ use Rattle.qpk.specs.FieldText.{text_of_fields}
 use Rattle.qpk.specs.Answers.{encode_answer, without_feed, FailsText, FailsHexadecimal}
 use Rattle.qpk.specs.declared.serve.Command.{Command}
 use Rattle.qpk.specs.declared.serve.Command.TheVariants.{Help, Encode, Decode, DecodeHex, Inspect, Run, Show}
-use Rattle.qpk.specs.declared.serve.Command.TheVariants.{ShowTables, ShowRecording}
+use Rattle.qpk.specs.declared.serve.Command.TheVariants.{ShowTables, ShowRecording, ShowObjects}
 use Rattle.qpk.specs.Refusals.{AppendsPart}
 use Rattle.qpk.specs.Usage.{usage_text}
 use Rattle.qpk.specs.declared.refusal.Refusal.{Refusal}
@@ -51,6 +51,9 @@ AreFor texts (ShowTables maximum limit) =
     × SaysNumber first maximum × SaysNumber second limit
 AreFor texts (ShowRecording maximum limit) =
     (first : List ℕ) × (second : List ℕ) × (texts ≡ codes "show" ∷ codes "--qif" ∷ first ∷ second ∷ [])
+    × SaysNumber first maximum × SaysNumber second limit
+AreFor texts (ShowObjects maximum limit) =
+    (first : List ℕ) × (second : List ℕ) × (texts ≡ codes "show" ∷ codes "--json" ∷ first ∷ second ∷ [])
     × SaysNumber first maximum × SaysNumber second limit
 
 -- the command that they ask for, or they ask for none
@@ -100,6 +103,7 @@ Answers (Run capacity limit) input out = PrintsRun capacity limit input out
 Answers (Show maximum limit) input out = Unit {0}
 Answers (ShowTables maximum limit) input out = Unit {0}
 Answers (ShowRecording maximum limit) input out = Unit {0}
+Answers (ShowObjects maximum limit) input out = Unit {0}
 
 -- the output of a command that ends at a refusal in its input
 abbrev pub Stops : Command → List ℕ → List ℕ → DecoderError → Type 0
@@ -127,6 +131,7 @@ HasFault (Run capacity limit) input fault = HasRunFault capacity limit input fau
 HasFault (Show maximum limit) input fault = Unit {0}
 HasFault (ShowTables maximum limit) input fault = Unit {0}
 HasFault (ShowRecording maximum limit) input fault = Unit {0}
+HasFault (ShowObjects maximum limit) input fault = Unit {0}
 
 -- the output that a command's input asks for, or the fault that stands there
 abbrev pub AnswersInput : Command → List ℕ → Result Inspection Fault → Type 0

@@ -47,6 +47,8 @@ pub enum Command {
     ShowTables(usize, usize),
     /// Show a recording of the offline interop format, of such a connection.
     ShowRecording(usize, usize),
+    /// Show the events of the input as objects of JSON, of such a connection.
+    ShowObjects(usize, usize),
 }
 
 /// Runs the program on its words, without its name, and its three streams, and gives the exit status:
@@ -205,6 +207,9 @@ fn show_command(word: &str, option: &str, first: &str, second: &str) -> Option<C
     if word == "show" && option == "--qif" {
         return Some(Command::ShowRecording(maximum as usize, limit as usize));
     }
+    if word == "show" && option == "--json" {
+        return Some(Command::ShowObjects(maximum as usize, limit as usize));
+    }
     None
 }
 
@@ -257,6 +262,9 @@ fn answer(alloc: Global, command: Command, input: &[u8]) -> Result<Inspection, F
         }
         Command::ShowRecording(maximum, limit) => {
             show_form(alloc, maximum, limit, Form::Recording, input)
+        }
+        Command::ShowObjects(maximum, limit) => {
+            show_form(alloc, maximum, limit, Form::Objects, input)
         }
     }
 }

@@ -5,14 +5,17 @@ ghost use Rattle.std.specs.Prelude.{◌≡◌};
 use crate::lines::split_line;
 use crate::text::Fault;
 use qpk_show::observer::Observer;
-use std::alloc::Global;
+use qpk_show::shown::Shown;
+use std::alloc::{AllocError, Global};
 
 mod events;
 mod fields;
+mod json;
 mod printing;
 mod recordings;
 
 use events::{Event, read_event};
+use json::{push_given_up, push_object};
 use printing::{push_event, push_shown, push_table};
 use recordings::{Record, split_record};
 
@@ -36,6 +39,8 @@ pub enum Form {
     Tables,
     /// A recording of the offline interop format.
     Recording,
+    /// Events, a line each, of which objects of JSON are printed.
+    Objects,
 }
 
 /// Shows the events of an input in turn. Refused is a maximum from 2^30 on, and an input with a line or a record that
@@ -47,11 +52,11 @@ pub fn show(alloc: Global, options: Options, input: &[u8]) -> Result<String, Fau
     let mut screen = Screen {
         observer,
         text: String::new(alloc),
-        with_table: matches!(options.form, Form::Tables),
+        form: options.form,
     };
     match options.form {
         Form::Recording => screen.show_records(input)?,
-        Form::Events | Form::Tables => screen.show_lines(alloc, input)?,
+        Form::Events | Form::Tables | Form::Objects => screen.show_lines(alloc, input)?,
     }
     Ok(screen.text)
 }
@@ -61,8 +66,8 @@ pub fn show(alloc: Global, options: Options, input: &[u8]) -> Result<String, Fau
 struct Screen {
     observer: Observer,
     text: String,
-    /// Whether the table is printed behind each instruction.
-    with_table: bool,
+    /// What is printed.
+    form: Form,
 }
 
 impl Screen {
@@ -113,12 +118,18 @@ impl Screen {
             Event::Encoder(bytes) => self.observer.receive_encoder(bytes)?,
             Event::Decoder(bytes) => self.observer.receive_decoder(bytes)?,
             Event::Section(stream, bytes) => self.observer.receive_section(*stream, bytes)?,
-            Event::GivenUp(stream) => {
-                self.observer.cancel(*stream);
-                push_event(&mut self.text, *stream)?;
-            }
+            Event::GivenUp(stream) => self.give_up(number, *stream)?,
         }
         self.show_all(number)
+    }
+
+    /// Reading of a stream is given up.
+    fn give_up(&mut self, number: usize, stream: u64) -> Result<(), AllocError> {
+        self.observer.cancel(stream);
+        match self.form {
+            Form::Objects => push_given_up(&mut self.text, number, stream),
+            _ => push_event(&mut self.text, stream),
+        }
     }
 
     /// Shows all that can be by now; the event of this number came last.
@@ -127,11 +138,20 @@ impl Screen {
             let Some(shown) = self.observer.next()? else {
                 break;
             };
-            let is_applied = push_shown(&mut self.text, number, &shown)?;
-            if is_applied && self.with_table {
-                push_table(&mut self.text, self.observer.table())?;
-            }
+            self.print(number, &shown)?;
         }
         Ok(())
+    }
+
+    /// Prints one thing; the event of this number came last.
+    fn print(&mut self, number: usize, shown: &Shown) -> Result<(), AllocError> {
+        if let Form::Objects = self.form {
+            return push_object(&mut self.text, number, shown);
+        }
+        let is_applied = push_shown(&mut self.text, number, shown)?;
+        match self.form {
+            Form::Tables if is_applied => push_table(&mut self.text, self.observer.table()),
+            _ => Ok(()),
+        }
     }
 }

@@ -5,7 +5,7 @@ use std::test::Fail;
 
 // An instruction that is cut into two lines is shown once it stands whole. A section is tried again by itself once its
 // insertion has come. Each refusal tells the input's line; a stream ends there, and a section is refused alone.
-const SHOWN: [Case; 8] = [
+const SHOWN: [Case; 9] = [
     Case {
         words: "show 4096 16",
         input: "e\t3fe11f6294e7\ne\t838c767f00\nb\t4\t03811011\nd\t84024c\n",
@@ -113,6 +113,26 @@ encoder 9: duplicate 0 (foo: bar)
 encoder 10: insert with the name of static 1, :path: z
   entry 3, 38 bytes, :path: z
   38 of 70 bytes
+",
+        fault: "",
+    },
+    // A character of a JSON string is a byte.
+    Case {
+        words: "show --json 4096 1",
+        input: "b\t4\t038110\ne\t3fe11f4122037fc3a900\nb\t8\t0000d1ff25\nc\t8\nd\t84\ne\t05\n",
+        output: "\
+{\"event\":1,\"section\":4,\"blocked_until\":2}
+{\"event\":2,\"encoder\":0,\"set_capacity\":4096}
+{\"event\":2,\"encoder\":3,\"insert\":null,\"name\":\"\\u0022\",\"value\":\"\\u007f\\u00c3\\u00a9\"}
+{\"event\":2,\"encoder\":9,\"duplicate\":0,\"name\":\"\\u0022\",\"value\":\"\\u007f\\u00c3\\u00a9\"}
+{\"event\":2,\"section\":4,\"was_blocked\":true,\"required\":2,\"base\":0,\"lines\":[\
+{\"offset\":2,\"form\":\"post-base 0\",\"name\":\"\\u0022\",\"value\":\"\\u007f\\u00c3\\u00a9\"}]}
+{\"event\":3,\"section\":8,\"was_blocked\":false,\"required\":0,\"base\":0,\"lines\":[\
+{\"offset\":2,\"form\":\"static 17\",\"name\":\":method\",\"value\":\"GET\"}],\
+\"offset\":3,\"refused\":\"unknown static index: 100\"}
+{\"event\":4,\"given_up\":8}
+{\"event\":5,\"decoder\":0,\"acknowledge\":4}
+{\"event\":6,\"encoder\":10,\"duplicate\":5,\"refused\":\"dynamic table error: BadRelativeIndex(5)\"}
 ",
         fault: "",
     },

@@ -199,7 +199,7 @@ fn push_lines(text: &mut String, lines: &[LineShown]) -> Result<(), AllocError> 
 }
 
 /// Appends how a field came.
-fn push_form(text: &mut String, line: &LineShown) -> Result<(), AllocError> {
+pub fn push_form(text: &mut String, line: &LineShown) -> Result<(), AllocError> {
     let literal = if line.never_indexed {
         "literal never indexed"
     } else {
