@@ -1,6 +1,6 @@
 //! Scripts and inspections whose printed lines were foretold by a program that was written from the definitions alone.
-//! Each is run as `qpk` runs it; the first that prints anything else ends this program with an error. Then recordings of
-//! connections are shown, and held against the lists that were sent.
+//! Each is run as `qpk` runs it; the first that prints anything else ends this program with an error. Then recordings
+//! of connections are shown, and held against the lists that were sent.
 #![tactic(auto)]
 
 mod cases;

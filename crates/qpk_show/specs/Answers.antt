@@ -33,7 +33,8 @@ use Rattle.qpk_show.specs.Showing.{Observed}
 use Rattle.qpk_show.specs.declared.shown.Shown.{Shown as ReadShown}
 use Rattle.qpk_show.specs.declared.shown.Shown.TheVariants as shown
 use Rattle.qpk_show.specs.Sections.{LineShown, LineFault, Unreadable, PastRequired, Meaningless, Stop, Shown, Under}
-use Rattle.qpk_show.specs.Sections.{or_unreadable_line, PrefixRefusal, NoPrefix, BadPrefix, CountAtZero, Reading, Lines, Blocked, Refused}
+use Rattle.qpk_show.specs.Sections.{or_unreadable_line, PrefixRefusal, NoPrefix, BadPrefix, CountAtZero, Reading}
+use Rattle.qpk_show.specs.Sections.{Lines, Blocked, Refused}
 use Rattle.qpk_show.specs.declared.section.LineShown.{LineShown as ReadLine}
 use Rattle.qpk_show.specs.declared.section.LineFault.{LineFault as ReadFault}
 use Rattle.qpk_show.specs.declared.section.LineFault.TheVariants as line

@@ -1,6 +1,8 @@
 -- What an onlooker is shown of a connection, one thing after the other (RFC 9204, sections 2.1 and 4.2 to 4.5).
-use Rattle.std.specs.Prelude.{ℕ, suc, Bool, true, false, not, if◌then◌else◌, ◌&&◌, ◌||◌, nat_le, nat_lt, nat_eq, List, []}
-use Rattle.std.specs.Prelude.{◌∷◌, ◌++◌, filter, position, insert, remove, is_some, slice_get, Option, None, Some, Result, Ok, Err}
+use Rattle.std.specs.Prelude.{ℕ, suc, Bool, true, false, not, if◌then◌else◌, ◌&&◌, ◌||◌, nat_le, nat_lt, nat_eq, List}
+use Rattle.std.specs.Prelude.{[]}
+use Rattle.std.specs.Prelude.{◌∷◌, ◌++◌, filter, position, insert, remove, is_some, slice_get, Option, None, Some}
+use Rattle.std.specs.Prelude.{Result, Ok, Err}
 use Rattle.std.specs.List.{list_any}
 use Rattle.qpack_spec.specs.Field.{Field}
 use Rattle.qpack_spec.specs.Instruction.{EncoderInstruction, DecoderInstruction}

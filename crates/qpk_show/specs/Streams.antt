@@ -1,5 +1,6 @@
 -- A stream of instructions as an onlooker sees it (RFC 9204, section 4.2).
-use Rattle.std.specs.Prelude.{ℕ, ◌-◌, Bool, true, if◌then◌else◌, List, drop, length, Option, None, Some, Result, Ok, Err}
+use Rattle.std.specs.Prelude.{ℕ, ◌-◌, Bool, true, if◌then◌else◌, List, drop, length, Option, None, Some, Result, Ok}
+use Rattle.std.specs.Prelude.{Err}
 use Rattle.qpack_wire.specs.Alone.{KindFault, is_cut_kind}
 
 -- the bytes that came, how many of them were taken, and whether those behind are refused

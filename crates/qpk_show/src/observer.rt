@@ -1,11 +1,13 @@
 //! An onlooker of a connection: bytes of both streams and field sections come, and what they are is shown one after the
 //! other.
 
-ghost use Rattle.std.specs.Prelude.{◌≡◌, ◌^◌, ◌≤◌, ◌<◌, ◌++◌, ◌∷◌, [], ℕ, List, None, Some, position, length, set, remove};
+ghost use Rattle.std.specs.Prelude.{◌≡◌, ◌^◌, ◌≤◌, ◌<◌, ◌++◌, ◌∷◌, [], ℕ, List, None, Some, position, length, set};
+ghost use Rattle.std.specs.Prelude.{remove};
 ghost use Rattle.std.specs.Prelude.{slice_get, IfOk, OnOk, OnErr, MatchOption, ◌&&◌, not};
 ghost use Rattle.std.specs.List.{list_any};
 ghost use Rattle.qpack_spec.specs.Table.{insert_count};
-ghost use Rattle.qpk_show.specs.Showing.{is_due, waits_on, blocked_streams, may_wait, next_shown, next_told, next_taken};
+ghost use Rattle.qpk_show.specs.Showing.{is_due, waits_on, blocked_streams, may_wait, next_shown, next_told};
+ghost use Rattle.qpk_show.specs.Showing.{next_taken};
 ghost use Rattle.qpack_spec.specs.StrictInstructions.{strict_apply};
 ghost use Rattle.qpack_wire.specs.StreamLines.{encoder_instruction_of};
 ghost use Rattle.qpk_show.specs.Showing.{section_at, observed_at_first, with_section, without_stream, is_waiting};

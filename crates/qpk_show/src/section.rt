@@ -1,6 +1,7 @@
 //! A field section as it is shown: line by line, each with where it begins and what it means (RFC 9204, section 4.5).
 
-ghost use Rattle.std.specs.Prelude.{◌≡◌, ◌∷◌, ◌+◌, ◌-◌, ◌^◌, ◌<◌, ◌&&◌, min, nat_eq, nat_lt, drop, length, Ok, IfOk, OnOk, IsTrue, ◌↔◌};
+ghost use Rattle.std.specs.Prelude.{◌≡◌, ◌∷◌, ◌+◌, ◌-◌, ◌^◌, ◌<◌, ◌&&◌, min, nat_eq, nat_lt, drop, length, Ok, IfOk};
+ghost use Rattle.std.specs.Prelude.{OnOk, IsTrue, ◌↔◌};
 ghost use Rattle.qpack_spec.specs.Reading.{line_field};
 ghost use Rattle.qpack_spec.specs.StrictReading.{is_never_indexed};
 ghost use Rattle.qpack_spec.specs.Table.{window};
@@ -10,7 +11,8 @@ ghost use Rattle.qpack_wire.specs.Prefixes.{prefix_of};
 ghost use Rattle.h3_qpack.specs.Sections.{GivesLineField};
 ghost use Rattle.qpk_show.specs.Sections.{reference_of, shown_field, shown_line_at, shown_lines, shown_section};
 ghost use Rattle.qpk_show.specs.Sections.{shown_section_behind};
-ghost use Rattle.qpk_show.specs.Answers.{unreadable_line, meaningless_line, under, DecodesLine, GivesField, ReadsLine, AreLines, IsReading};
+ghost use Rattle.qpk_show.specs.Answers.{unreadable_line, meaningless_line, under, DecodesLine, GivesField};
+ghost use Rattle.qpk_show.specs.Answers.{ReadsLine, AreLines, IsReading};
 
 use h3_qpack::block::{
     BlockLine, HeaderPrefix, Indexed, Literal, LiteralWithNameRef, LiteralWithPostBaseNameRef,
@@ -322,12 +324,12 @@ fn read_behind(
     ensures { IfOk result (λ r. IsReading r
         (shown_section_behind table.now section (Ok (prefix_of prefix, buf.old.rest)))) }
 {
-    let maximum = table.agreed_max();
-    if maximum == 0 && prefix.encoded_insert_count() > 0 {
+    let most = table.agreed_max();
+    if most == 0 && prefix.encoded_insert_count() > 0 {
         return Ok(Reading::Refused(PrefixRefusal::CountAtZero));
     }
     let inserted = table.total_inserted();
-    let (required, base) = match prefix.get(inserted, maximum) {
+    let (required, base) = match prefix.get(inserted, most) {
         Ok(known) => known,
         Err(e) => return Ok(Reading::Refused(PrefixRefusal::BadPrefix(e))),
     };

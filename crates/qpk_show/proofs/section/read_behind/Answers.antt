@@ -7,18 +7,19 @@ use Rattle.qpack_wire.specs.Prefixes.{prefix_of}
 use Rattle.qpk_show.specs.Sections.{BadPrefix}
 use Rattle.qpk_show.proofs.Faults.{prefix_told, behind_bad}
 use Rattle.qpk_show.proofs.section.read_behind.Goals as goal
-use Rattle.qpk_show.proofs.section.read_behind.Goals.{else-maximum-eq0-via-then-maximum-eq0+else-encoded_insert_count-gt0, else-maximum-eq0-via-else-maximum-eq0}
+use Rattle.qpk_show.proofs.section.read_behind.Goals.{else-most-eq0-via-then-most-eq0+else-encoded_insert_count-gt0}
+use Rattle.qpk_show.proofs.section.read_behind.Goals.{else-most-eq0-via-else-most-eq0}
 
 pub returns-in-Err : goal.returns-in-Err
 returns-in-Err c =
     let p = prefix_of c.args.prefix in
     let t = c.args.table.now in
-    let counted : (nat_eq c.agreed_max-maximum.result 0 && nat_lt 0 p.count) ≡ false =
-    elim c.else-maximum-eq0.branch [
-      | else-maximum-eq0-via-then-maximum-eq0+else-encoded_insert_count-gt0 w ↦ search rules
-      | else-maximum-eq0-via-else-maximum-eq0 w ↦ search rules
+    let counted : (nat_eq c.agreed_max-most.result 0 && nat_lt 0 p.count) ≡ false =
+    elim c.else-most-eq0.branch [
+      | else-most-eq0-via-then-most-eq0+else-encoded_insert_count-gt0 w ↦ search rules
+      | else-most-eq0-via-else-most-eq0 w ↦ search rules
     ] in
-    let most = c.agreed_max-maximum.ensures.exact in
+    let most = c.agreed_max-most.ensures.exact in
     let counted-at = rw most at counted in
     let fails = rw (c.total_inserted-inserted.ensures, most) at c.in-Err.ensures in
     let told = prefix_told (read_prefix (insert_count t) (maximum_capacity t.agreed_max t.capacity) p) c.in-Err.e fails
