@@ -59,6 +59,8 @@ full_faults() { echo 0000d1 | "$qpk" decode 41 2>/dev/full; }
 needless_faults() { echo 0000d1 | "$qpk" decode 42 2>&-; }
 run_script() { printf 'encode\t4\tfoo\tbar\ntodecoder\t7\ndecode\t4\n' | "$qpk" run 4096 1; }
 inspect() { printf 'e\t6294e7838c767f01\n' | "$qpk" inspect 4096; }
+show() { printf 'b\t4\t0000d1\n' | "$qpk" show 4096 16; }
+show_recording() { printf '\0\0\0\0\0\0\0\004\0\0\0\003\0\0\321' | "$qpk" show --qif 4096 16; }
 words_with_blanks() { "$qpk" 'decode 42' "it's \"one\"" '' </dev/null; }
 no_words() { "$qpk" </dev/null; }
 help() { "$qpk" --help </dev/null; }
@@ -77,6 +79,8 @@ try_all() {
     try needless_faults "0$line" ":method${tab}GET${line}size 42$line" -
     try run_script "0$line" "encoded 1 028010 6294e7838c767f${line}received 1 01${line}decoded 38 1${line}foo${tab}bar$line" ""
     try inspect "1$line" "insert literal 666f6f 626172$line" "qpk: refused: dynamic table error: BadRelativeIndex(1)$line"
+    try show "0$line" "section 4: required insert count 0, base 0${line}  2 static 17, :method: GET$line" ""
+    try show_recording "0$line" "section 4: required insert count 0, base 0${line}  2 static 17, :method: GET$line" ""
     try words_with_blanks "1$line" "" -
     try no_words "1$line" "" -
     try help "0$line" - ""

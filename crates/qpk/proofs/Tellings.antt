@@ -5,7 +5,8 @@ use Rattle.qpk.specs.Refusals.{IsFault, TellsBy, refusal_line}
 use Rattle.h3_qpack.specs.declared.decoder.DecoderError.{DecoderError}
 use Rattle.qpk.specs.Serving.{HasFault, EndsFor, Stops, IsInspection, input_of}
 use Rattle.qpk.specs.declared.serve.Command.{Command}
-use Rattle.qpk.specs.declared.serve.Command.TheVariants.{Help, Encode, Decode, DecodeHex, Inspect, Run}
+use Rattle.qpk.specs.declared.serve.Command.TheVariants.{Help, Encode, Decode, DecodeHex, Inspect, Run, Show}
+use Rattle.qpk.specs.declared.serve.Command.TheVariants.{ShowTables, ShowRecording, ShowObjects}
 use Rattle.qpk.specs.declared.text.Fault.TheVariants.{Memory}
 use Rattle.qpk.specs.declared.refusal.Refusal.{Refusal}
 use Rattle.qpk.specs.declared.refusal.Refusal.TheVariants as refusal
@@ -25,6 +26,10 @@ memory_has (Decode limit) bytes = tt
 memory_has (DecodeHex limit) bytes = tt
 memory_has (Inspect capacity) bytes = tt
 memory_has (Run capacity limit) bytes = tt
+memory_has (Show maximum limit) bytes = tt
+memory_has (ShowTables maximum limit) bytes = tt
+memory_has (ShowRecording maximum limit) bytes = tt
+memory_has (ShowObjects maximum limit) bytes = tt
 
 memory_may_be : (command : Command) (input : Option (List ℕ))
     → IfSome input (λ bytes. HasFault command bytes Memory)
@@ -64,3 +69,7 @@ stops_inspecting (Decode limit) bytes out e stops = stops
 stops_inspecting (DecodeHex limit) bytes out e stops = stops
 stops_inspecting (Inspect capacity) bytes out e stops = tt
 stops_inspecting (Run capacity limit) bytes out e stops = stops
+stops_inspecting (Show maximum limit) bytes out e stops = stops
+stops_inspecting (ShowTables maximum limit) bytes out e stops = stops
+stops_inspecting (ShowRecording maximum limit) bytes out e stops = stops
+stops_inspecting (ShowObjects maximum limit) bytes out e stops = stops

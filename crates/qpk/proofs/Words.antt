@@ -36,6 +36,20 @@ pub three_are : (x y z first second third : List ℕ) → x ≡ first → y ≡ 
     → (let l : List (List ℕ) = x ∷ y ∷ z ∷ [] in l) ≡ first ∷ second ∷ third ∷ []
 three_are x y z first second third e f g = rw (e, f, g) refl
 
+pub four_words : {Z : Type 0} (ws : List (String Z)) (t u v w : String Z) → 4 ≤ length ws → length ws < 5 → t
+    ≡ get_or ws 0 t → u ≡ get_or ws 1 u → v ≡ get_or ws 2 v → w ≡ get_or ws 3 w
+    → map string_bytes ws ≡ string_bytes t ∷ string_bytes u ∷ string_bytes v ∷ string_bytes w ∷ []
+four_words [] t u v w least most d e f g = absurd (omega arith)
+four_words (x ∷ []) t u v w least most d e f g = absurd (omega arith)
+four_words (x ∷ y ∷ []) t u v w least most d e f g = absurd (omega arith)
+four_words (x ∷ y ∷ z ∷ []) t u v w least most d e f g = absurd (omega arith)
+four_words (x ∷ y ∷ z ∷ a ∷ []) t u v w least most d e f g = rw (d, e, f, g) refl
+four_words (x ∷ y ∷ z ∷ a ∷ b ∷ ws) t u v w least most d e f g = absurd (omega arith)
+
+pub four_are : (w x y z first second third fourth : List ℕ) → w ≡ first → x ≡ second → y ≡ third → z ≡ fourth
+    → (let l : List (List ℕ) = w ∷ x ∷ y ∷ z ∷ [] in l) ≡ first ∷ second ∷ third ∷ fourth ∷ []
+four_are w x y z first second third fourth d e f g = rw (d, e, f, g) refl
+
 -- what texts ask for
 pub asks_of : (o : Option Command) (texts read : List (List ℕ)) → texts ≡ read → GivesCommand o read
     → MatchOption o ((command : Command) → AreFor texts command → ⊥) (AreFor texts)

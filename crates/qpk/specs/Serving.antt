@@ -10,7 +10,8 @@ use Rattle.qpack_spec.specs.Stateless.{saturated_size, stateless_reading}
 use Rattle.qpk.specs.FieldText.{text_of_fields}
 use Rattle.qpk.specs.Answers.{encode_answer, without_feed, FailsText, FailsHexadecimal}
 use Rattle.qpk.specs.declared.serve.Command.{Command}
-use Rattle.qpk.specs.declared.serve.Command.TheVariants.{Help, Encode, Decode, DecodeHex, Inspect, Run}
+use Rattle.qpk.specs.declared.serve.Command.TheVariants.{Help, Encode, Decode, DecodeHex, Inspect, Run, Show}
+use Rattle.qpk.specs.declared.serve.Command.TheVariants.{ShowTables, ShowRecording, ShowObjects}
 use Rattle.qpk.specs.Refusals.{AppendsPart}
 use Rattle.qpk.specs.Usage.{usage_text}
 use Rattle.qpk.specs.declared.refusal.Refusal.{Refusal}
@@ -42,6 +43,18 @@ AreFor texts (Inspect capacity) =
 AreFor texts (Run capacity limit) =
     (first : List ℕ) × (second : List ℕ) × (texts ≡ codes "run" ∷ first ∷ second ∷ []) × SaysNumber first capacity
     × SaysNumber second limit
+AreFor texts (Show maximum limit) =
+    (first : List ℕ) × (second : List ℕ) × (texts ≡ codes "show" ∷ first ∷ second ∷ []) × SaysNumber first maximum
+    × SaysNumber second limit
+AreFor texts (ShowTables maximum limit) =
+    (first : List ℕ) × (second : List ℕ) × (texts ≡ codes "show" ∷ codes "--table" ∷ first ∷ second ∷ [])
+    × SaysNumber first maximum × SaysNumber second limit
+AreFor texts (ShowRecording maximum limit) =
+    (first : List ℕ) × (second : List ℕ) × (texts ≡ codes "show" ∷ codes "--qif" ∷ first ∷ second ∷ [])
+    × SaysNumber first maximum × SaysNumber second limit
+AreFor texts (ShowObjects maximum limit) =
+    (first : List ℕ) × (second : List ℕ) × (texts ≡ codes "show" ∷ codes "--json" ∷ first ∷ second ∷ [])
+    × SaysNumber first maximum × SaysNumber second limit
 
 -- the command that they ask for, or they ask for none
 abbrev pub GivesCommand : Option Command → List (List ℕ) → Type 0
@@ -75,7 +88,7 @@ abbrev pub FailsToRead : Command → Refusal → Type 0
 FailsToRead Help r = ⊥
 FailsToRead command r = (r ≡ refusal.Input) ⊎ (r ≡ refusal.Fault Memory)
 
--- the output that answers a command's input
+-- the output that answers a command's input; what is shown has the clauses of `qpk_show`, and its text none
 abbrev pub Answers : Command → List ℕ → List ℕ → Type 0
 Answers Help input out = out ≡ usage_text
 Answers Encode input out = (text : List ℕ) × (encode_answer input ≡ Ok text) × (out ≡ text ++ 10 ∷ [])
@@ -87,6 +100,10 @@ Answers (DecodeHex limit) input out =
     × (stateless_reading limit block ≡ Ok fs) × (out ≡ hexadecimal_answer fs)
 Answers (Inspect capacity) input out = PrintsInspection capacity input out None
 Answers (Run capacity limit) input out = PrintsRun capacity limit input out
+Answers (Show maximum limit) input out = Unit {0}
+Answers (ShowTables maximum limit) input out = Unit {0}
+Answers (ShowRecording maximum limit) input out = Unit {0}
+Answers (ShowObjects maximum limit) input out = Unit {0}
 
 -- the output of a command that ends at a refusal in its input
 abbrev pub Stops : Command → List ℕ → List ℕ → DecoderError → Type 0
@@ -111,6 +128,10 @@ HasFault (Decode limit) input fault = FailsHexadecimal fault limit (decode_of (w
 HasFault (DecodeHex limit) input fault = FailsHexadecimal fault limit (decode_of (without_feed input))
 HasFault (Inspect capacity) input fault = FailsInspection capacity input fault
 HasFault (Run capacity limit) input fault = HasRunFault capacity limit input fault
+HasFault (Show maximum limit) input fault = Unit {0}
+HasFault (ShowTables maximum limit) input fault = Unit {0}
+HasFault (ShowRecording maximum limit) input fault = Unit {0}
+HasFault (ShowObjects maximum limit) input fault = Unit {0}
 
 -- the output that a command's input asks for, or the fault that stands there
 abbrev pub AnswersInput : Command → List ℕ → Result Inspection Fault → Type 0

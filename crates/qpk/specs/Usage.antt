@@ -5,6 +5,7 @@ use Rattle.std.specs.Prelude.{ℕ, List, ◌++◌, codes}
 unfoldable pub usage_text : List ℕ
 usage_text =
     codes "usage: qpk encode | decode [--hex] LIMIT | inspect CAPACITY | run CAPACITY LIMIT\n"
+    ++ codes "       qpk show [--table | --json | --qif] MAXIMUM BLOCKED\n"
     ++ codes "QPACK (RFC 9204) by lines: a command reads its input, and prints the answer.\n"
     ++ codes "\n"
     ++ codes "encode   fields, NAME TAB VALUE each, to a block in hexadecimal\n"
@@ -23,4 +24,11 @@ usage_text =
     ++ codes "run      a script of events on two ends, where LIMIT blocks may be blocked\n"
     ++ codes "  printf 'encode\\t4\\tfoo\\tbar\\n' | ./qpk run 4096 1\n"
     ++ codes "  encoded 1 028010 6294e7838c767f\n"
+    ++ codes "show     a recorded connection in words: e TAB HEX and d TAB HEX, its streams;\n"
+    ++ codes "         b TAB STREAM TAB HEX, a section; c TAB STREAM, reading is given up\n"
+    ++ codes "  printf 'b\\t4\\t0000d1\\n' | ./qpk show 4096 16\n"
+    ++ codes "  section 4: required insert count 0, base 0\n"
+    ++ codes "    2 static 17, :method: GET\n"
+    ++ codes "  with --table, and the table behind each instruction; with --json, an object a\n"
+    ++ codes "  line; with --qif, a recording of the offline interop format\n"
     ++ codes "--help   this text; no input is read\n"

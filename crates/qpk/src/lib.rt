@@ -11,6 +11,7 @@ pub mod refusal;
 mod run;
 mod script;
 pub mod serve;
+mod show;
 pub mod text;
 mod usage;
 mod writing;

@@ -7,7 +7,7 @@ use crate::text::Fault;
 use h3_qpack::session::Event;
 use std::alloc::Global;
 
-mod parts;
+pub(crate) mod parts;
 
 use parts::{read_fields, read_number, split_part};
 

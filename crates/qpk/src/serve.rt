@@ -15,6 +15,7 @@ use crate::inspect::{Inspection, inspect};
 use crate::printing::{push_fields, push_hexadecimal_fields};
 use crate::refusal::Refusal;
 use crate::run::run_script;
+use crate::show::{self, Form, Options};
 use crate::text::{Fault, decode_text, encode_text};
 use crate::usage::usage;
 use crate::writing::write_bytes;
@@ -39,6 +40,15 @@ pub enum Command {
     Inspect(usize),
     /// Run the events of the input on a session of this capacity in bytes, where so many blocks may be blocked.
     Run(usize, usize),
+    /// Show the events of the input, of a connection with this maximum table capacity in bytes, where so many streams
+    /// may be blocked.
+    Show(usize, usize),
+    /// The same, with the table behind each instruction.
+    ShowTables(usize, usize),
+    /// Show a recording of the offline interop format, of such a connection.
+    ShowRecording(usize, usize),
+    /// Show the events of the input as objects of JSON, of such a connection.
+    ShowObjects(usize, usize),
 }
 
 /// Runs the program on its words, without its name, and its three streams, and gives the exit status:
@@ -130,6 +140,12 @@ fn read_command(words: &[String]) -> Option<Command>
         [word] => lone_command(word.as_str()),
         [word, number] => command_with(word.as_str(), number.as_str()),
         [word, first, second] => command_with_two(word.as_str(), first.as_str(), second.as_str()),
+        [word, option, first, second] => show_command(
+            word.as_str(),
+            option.as_str(),
+            first.as_str(),
+            second.as_str(),
+        ),
         _ => None,
     }
 }
@@ -173,6 +189,27 @@ fn command_with_two(word: &str, first: &str, second: &str) -> Option<Command>
     if word == "run" {
         return Some(Command::Run(capacity as usize, limit as usize));
     }
+    if word == "show" {
+        return Some(Command::Show(capacity as usize, limit as usize));
+    }
+    None
+}
+
+/// What a word, an option and two numbers ask for.
+fn show_command(word: &str, option: &str, first: &str, second: &str) -> Option<Command>
+    ensures { GivesCommand result (word.now ∷ option.now ∷ first.now ∷ second.now ∷ []) }
+{
+    let maximum = read_number(first)?;
+    let limit = read_number(second)?;
+    if word == "show" && option == "--table" {
+        return Some(Command::ShowTables(maximum as usize, limit as usize));
+    }
+    if word == "show" && option == "--qif" {
+        return Some(Command::ShowRecording(maximum as usize, limit as usize));
+    }
+    if word == "show" && option == "--json" {
+        return Some(Command::ShowObjects(maximum as usize, limit as usize));
+    }
     None
 }
 
@@ -213,13 +250,42 @@ fn answer(alloc: Global, command: Command, input: &[u8]) -> Result<Inspection, F
             Ok(whole(text))
         }
         Command::Decode(limit) => {
-            let text = show(alloc, &decode_text(alloc, input, limit)?)?;
+            let text = show_fields(alloc, &decode_text(alloc, input, limit)?)?;
             Ok(whole(text))
         }
         Command::DecodeHex(limit) => decode_to_hexadecimal(alloc, input, limit),
         Command::Inspect(capacity) => inspect(alloc, capacity, input),
         Command::Run(capacity, limit) => Ok(whole(run_script(alloc, capacity, limit, input)?)),
+        Command::Show(maximum, limit) => show_form(alloc, maximum, limit, Form::Events, input),
+        Command::ShowTables(maximum, limit) => {
+            show_form(alloc, maximum, limit, Form::Tables, input)
+        }
+        Command::ShowRecording(maximum, limit) => {
+            show_form(alloc, maximum, limit, Form::Recording, input)
+        }
+        Command::ShowObjects(maximum, limit) => {
+            show_form(alloc, maximum, limit, Form::Objects, input)
+        }
     }
+}
+
+/// What is shown of a connection with this maximum table capacity in bytes, where so many streams may be blocked.
+fn show_form(
+    alloc: Global,
+    maximum: usize,
+    limit: usize,
+    form: Form,
+    input: &[u8],
+) -> Result<Inspection, Fault>
+    ensures { IfOk result (λ i. i.refused ≡ None) }
+{
+    let options = Options {
+        maximum,
+        limit,
+        form,
+    };
+    let text = show::show(alloc, options, input)?;
+    Ok(whole(text))
 }
 
 /// An answer that no refusal ends.
@@ -234,7 +300,7 @@ fn whole(text: String) -> Inspection
 }
 
 /// The fields, a line each, and the line of their size.
-fn show(alloc: Global, decoded: &Decoded) -> Result<String, NoMemory>
+fn show_fields(alloc: Global, decoded: &Decoded) -> Result<String, NoMemory>
     requires { decoded.now.mem_size ≡ saturated_size (total_size (fields_in decoded.now.fields.items)) }
     ensures { IfOk result (λ text. string_bytes text ≡ printed_fields (fields_in decoded.now.fields.items)) }
 {

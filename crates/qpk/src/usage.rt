@@ -10,6 +10,7 @@ pub fn usage() -> &'static str
 {
     "\
 usage: qpk encode | decode [--hex] LIMIT | inspect CAPACITY | run CAPACITY LIMIT
+       qpk show [--table | --json | --qif] MAXIMUM BLOCKED
 QPACK (RFC 9204) by lines: a command reads its input, and prints the answer.
 
 encode   fields, NAME TAB VALUE each, to a block in hexadecimal
@@ -28,6 +29,13 @@ inspect  a recorded connection: e TAB HEX, its encoder stream; b TAB HEX, blocks
 run      a script of events on two ends, where LIMIT blocks may be blocked
   printf 'encode\\t4\\tfoo\\tbar\\n' | ./qpk run 4096 1
   encoded 1 028010 6294e7838c767f
+show     a recorded connection in words: e TAB HEX and d TAB HEX, its streams;
+         b TAB STREAM TAB HEX, a section; c TAB STREAM, reading is given up
+  printf 'b\\t4\\t0000d1\\n' | ./qpk show 4096 16
+  section 4: required insert count 0, base 0
+    2 static 17, :method: GET
+  with --table, and the table behind each instruction; with --json, an object a
+  line; with --qif, a recording of the offline interop format
 --help   this text; no input is read
 "
 }

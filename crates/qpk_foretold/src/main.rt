@@ -1,11 +1,14 @@
 //! Scripts and inspections whose printed lines were foretold by a program that was written from the definitions alone.
-//! Each is run as `qpk` runs it; the first that prints anything else ends this program with an error.
+//! Each is run as `qpk` runs it; the first that prints anything else ends this program with an error. Then recordings
+//! of connections are shown, and held against the lists that were sent.
 #![tactic(auto)]
 
 mod cases;
+mod recordings;
 
 use anyhow::{Result, bail};
 use cases::{Case, read_cases};
+use recordings::hold_recordings;
 use std::fs;
 
 /// How many cases of each command printed what was foretold.
@@ -43,5 +46,7 @@ fn main(rt: HostRuntime) -> Result<()> {
         "{} inspections printed what was foretold",
         counts.inspections
     )?;
+    let recordings = hold_recordings(&rt)?;
+    println!(rt; "{recordings} recordings were shown as the lists that were sent")?;
     Ok(())
 }

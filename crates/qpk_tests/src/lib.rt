@@ -15,4 +15,6 @@ mod running;
 #[cfg(test)]
 mod scripts;
 #[cfg(test)]
+mod shown;
+#[cfg(test)]
 mod streams;

@@ -1,6 +1,7 @@
 use Rattle.std.proofs.Common.{List, [], ◌∷◌, map, sym, ap, ◌∙◌}
 use Rattle.std.specs.Prelude.{string_bytes}
-use Rattle.qpk.proofs.Words.{one_word, two_words, three_words, asks_of, two_are, three_are}
+use Rattle.qpk.proofs.Words.{one_word, two_words, three_words, four_words, asks_of, two_are, three_are}
+use Rattle.qpk.proofs.Words.{four_are}
 use Rattle.qpk.proofs.serve.read_command.Goals as goal
 
 pub returns-in-len1 : goal.returns-in-len1
@@ -29,3 +30,15 @@ returns-in-len3 c =
     (words ∙ three_are _ _ _ _ _ _ (sym c.as_str-in-len3.ensures.value) (sym c.as_str-in-len3-2.ensures.value)
     (sym c.as_str-in-len3-3.ensures.value))
     c.command_with_two.ensures
+
+pub returns-in-len4 : goal.returns-in-len4
+returns-in-len4 c =
+    let words = four_words c.args.words.now c.word-item-then-words-lt5.result c.option-item.result
+    c.first-item-then-words-lt5.result c.second-item-then-words-lt5.result c.in-len4.len_at_least c.in-len4.len_below
+    c.word-item-then-words-lt5.is c.option-item.is c.first-item-then-words-lt5.is c.second-item-then-words-lt5.is in
+    asks_of c.show_command.result (map string_bytes c.args.words.now)
+    (c.as_str-in-len4.result.now ∷ c.as_str-in-len4-2.result.now ∷ c.as_str-in-len4-3.result.now
+    ∷ c.as_str-in-len4-4.result.now ∷ [])
+    (words ∙ four_are _ _ _ _ _ _ _ _ (sym c.as_str-in-len4.ensures.value) (sym c.as_str-in-len4-2.ensures.value)
+    (sym c.as_str-in-len4-3.ensures.value) (sym c.as_str-in-len4-4.ensures.value))
+    c.show_command.ensures

@@ -1,0 +1,98 @@
+//! Connections that nghttp3 0.8.0 wrote, shown by `qpk show`: each section has the fields of the list that was sent.
+
+use anyhow::{Context, Result, ensure};
+use qpk::serve::serve;
+use std::alloc::Global;
+use std::io::Cursor;
+use std::{fs, str};
+
+/// A recording, and the words that `qpk` is given for it.
+struct Recording {
+    file: &'static str,
+    words: &'static str,
+}
+
+const RECORDINGS: [Recording; 2] = [
+    Recording {
+        file: "nghttp3_256_8_ack.txt",
+        words: "show 256 8",
+    },
+    Recording {
+        file: "nghttp3_4096_100_ack.txt",
+        words: "show 4096 100",
+    },
+];
+
+/// Holds all recordings against the lists that were sent, and answers how many there are.
+pub(crate) fn hold_recordings(rt: &HostRuntime) -> Result<usize> {
+    let lists = fs::read_to_string(rt, "corpus.qif")?;
+    let wanted = wanted_lines(rt.alloc(), lists.as_str())?;
+    for recording in &RECORDINGS {
+        let input = fs::read_to_string(rt, recording.file)?;
+        let output = show(rt.alloc(), recording.words, input.as_str())?;
+        hold_lines(str::from_utf8(&output)?, &wanted).context(recording.file)?;
+    }
+    Ok(RECORDINGS.len())
+}
+
+/// How the line of each section begins, and behind it how those of its fields end: list i was sent on stream 4 i.
+fn wanted_lines(alloc: Global, lists: &str) -> Result<Vec<String>> {
+    let mut wanted = Vec::new(alloc);
+    let mut stream = 0u64;
+    let mut is_in_list = false;
+    for line in lists.lines() {
+        if line.is_empty() {
+            is_in_list = false;
+            continue;
+        }
+        if !is_in_list {
+            wanted.push(format!(in alloc; "section {stream}: required insert count ")?)?;
+            stream = stream.saturating_add(4);
+            is_in_list = true;
+        }
+        let (name, value) = line
+            .split_once('\t')
+            .context("a line of a list has no tab")?;
+        wanted.push(format!(in alloc; ", {name}: {value}")?)?;
+    }
+    Ok(wanted)
+}
+
+/// What `qpk` writes to its output for an input.
+fn show(alloc: Global, line: &str, input: &str) -> Result<Vec<u8>> {
+    let mut words = Vec::new(alloc);
+    for word in line.split_whitespace() {
+        words.push(String::from_str(alloc, word)?)?;
+    }
+    let mut output = Vec::new(alloc);
+    let mut faults = Vec::new(alloc);
+    let status = serve(
+        alloc,
+        &words,
+        &mut Cursor::new(input.as_bytes()),
+        &mut output,
+        &mut faults,
+    );
+    ensure!(status == 0, "it ends with status {status}");
+    ensure!(faults.is_empty(), "it tells a fault");
+    Ok(output)
+}
+
+/// Fails where the lines of sections and fields are not those that are wanted.
+fn hold_lines(output: &str, wanted: &[String]) -> Result<()> {
+    let mut left = wanted.iter();
+    for line in output.lines() {
+        if line.starts_with("encoder ") {
+            continue;
+        }
+        let part = left.next().context("a line is too many")?;
+        let holds = if line.starts_with("section ") {
+            line.starts_with(part.as_str())
+        } else {
+            line.ends_with(part.as_str())
+        };
+        ensure!(holds, "a line is other than it should be: {line}");
+    }
+    ensure!(left.next().is_none(), "lines are missing");
+    Ok(())
+}

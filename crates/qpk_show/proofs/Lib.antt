@@ -1,0 +1,3 @@
+pub mod Lines
+pub mod Faults
+pub mod Observers

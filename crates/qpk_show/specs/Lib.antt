@@ -1,0 +1,4 @@
+pub mod Streams
+pub mod Sections
+pub mod Showing
+pub mod Answers
