@@ -10,8 +10,43 @@ use std::alloc::Global;
 use std::fmt::{self, Display, Formatter, Write};
 use std::test::Fail;
 
-/// An event, what it answers, and in hexadecimal the block that it adds and what it adds to a stream.
-type Case = (Given, &'static str, &'static [u8], &'static [u8]);
+/// An event and what it answers, as it is printed here; bytes are in hexadecimal.
+#[derive(Clone, Copy)]
+enum Case {
+    /// The event adds nothing.
+    Answers(Given, &'static str),
+    /// The event adds these bytes to a stream: a new capacity to the encoder stream, any other to the decoder stream.
+    Writes(Given, &'static str, &'static [u8]),
+    /// The fields are encoded for a stream, which adds this block, and these bytes to the encoder stream.
+    Encodes(u64, Pairs, &'static str, &'static [u8], &'static [u8]),
+}
+
+impl Case {
+    /// The event.
+    fn given(&self) -> Given {
+        match *self {
+            Case::Answers(given, _) | Case::Writes(given, _, _) => given,
+            Case::Encodes(stream, pairs, ..) => Given::Encode(stream, pairs),
+        }
+    }
+
+    /// What it answers.
+    fn answer(&self) -> &'static str {
+        match *self {
+            Case::Answers(_, answer) | Case::Writes(_, answer, _) => answer,
+            Case::Encodes(_, _, answer, _, _) => answer,
+        }
+    }
+
+    /// What it adds to a stream.
+    fn written(&self) -> &'static [u8] {
+        match *self {
+            Case::Answers(..) => b"",
+            Case::Writes(_, _, written) => written,
+            Case::Encodes(_, _, _, _, written) => written,
+        }
+    }
+}
 
 /// A session, and the stream of each block that it decoded.
 #[derive(Drop)]
@@ -108,9 +143,9 @@ impl Played {
         same((instructions, replies), added)
     }
 
-    /// The last block of an encode's stream is this.
-    fn adds_block(&self, alloc: Global, given: Given, block: &[u8]) -> Result<(), Fail> {
-        let Given::Encode(stream, _) = given else {
+    /// The last block of an encode's stream is that of the case.
+    fn adds_block(&self, alloc: Global, case: &Case) -> Result<(), Fail> {
+        let Case::Encodes(stream, _, _, block, _) = *case else {
             return Ok(());
         };
         let last = self.session.blocks(stream).saturating_sub(1);
@@ -123,13 +158,12 @@ impl Played {
 
     /// The event answers what stands beside it; or it is refused memory, and then this answers false.
     fn plays(&mut self, alloc: Global, case: &Case) -> Result<bool, Fail> {
-        let (given, answer, block, written) = *case;
         let lengths = self.lengths();
-        if !self.answers(alloc, given, answer)? {
+        if !self.answers(alloc, case.given(), case.answer())? {
             return Ok(false);
         }
-        self.adds(alloc, given, lengths, written)?;
-        self.adds_block(alloc, given, block)?;
+        self.adds(alloc, case.given(), lengths, case.written())?;
+        self.adds_block(alloc, case)?;
         Ok(true)
     }
 }
@@ -195,32 +229,22 @@ fn plays_all_from_none(
 #[test]
 fn a_block_waits_for_its_insertion(rt: HostRuntime) -> Result<(), Fail> {
     const CASES: &[Case] = &[
-        (
-            Given::Encode(4, FOO_BAR),
-            "Encoded(Ok(1))",
-            b"028010",
-            b"6294e7838c767f",
-        ),
-        (Given::Decode(4), "Decoded(Err(MissingRefs(1)))", b"", b""),
-        (Given::ToDecoder(6), "Delivered(Ok(0))", b"", b""),
-        (Given::Decode(4), "Decoded(Err(MissingRefs(1)))", b"", b""),
-        (Given::ToDecoder(1), "Delivered(Ok(1))", b"", b"01"),
-        (Given::Ack(4), "Skipped(4)", b"", b""),
-        (Given::Decode(4), "\"foo\": \"bar\", 38 true", b"", b""),
-        (Given::Ack(4), "Acknowledged(Ok(()))", b"", b"84"),
-        (Given::Decode(4), "Skipped(2)", b"", b""),
-        (Given::Ack(4), "Skipped(4)", b"", b""),
-        (
-            Given::Encode(8, FOO_BAR),
-            "Encoded(Ok(0))",
-            b"00002a94e7838c767f",
-            b"",
-        ),
-        (Given::ToEncoder(2), "Heard(Ok(()))", b"", b""),
-        (Given::Encode(8, FOO_BAR), "Encoded(Ok(1))", b"020080", b""),
-        (Given::Cancel(8), "Cancelled(Ok(()))", b"", b"48"),
-        (Given::Decode(8), "Skipped(3)", b"", b""),
-        (Given::Cancel(8), "Skipped(3)", b"", b""),
+        Case::Encodes(4, FOO_BAR, "Encoded(Ok(1))", b"028010", b"6294e7838c767f"),
+        Case::Answers(Given::Decode(4), "Decoded(Err(MissingRefs(1)))"),
+        Case::Answers(Given::ToDecoder(6), "Delivered(Ok(0))"),
+        Case::Answers(Given::Decode(4), "Decoded(Err(MissingRefs(1)))"),
+        Case::Writes(Given::ToDecoder(1), "Delivered(Ok(1))", b"01"),
+        Case::Answers(Given::Ack(4), "Skipped(4)"),
+        Case::Answers(Given::Decode(4), "\"foo\": \"bar\", 38 true"),
+        Case::Writes(Given::Ack(4), "Acknowledged(Ok(()))", b"84"),
+        Case::Answers(Given::Decode(4), "Skipped(2)"),
+        Case::Answers(Given::Ack(4), "Skipped(4)"),
+        Case::Encodes(8, FOO_BAR, "Encoded(Ok(0))", b"00002a94e7838c767f", b""),
+        Case::Answers(Given::ToEncoder(2), "Heard(Ok(()))"),
+        Case::Encodes(8, FOO_BAR, "Encoded(Ok(1))", b"020080", b""),
+        Case::Writes(Given::Cancel(8), "Cancelled(Ok(()))", b"48"),
+        Case::Answers(Given::Decode(8), "Skipped(3)"),
+        Case::Answers(Given::Cancel(8), "Skipped(3)"),
     ];
     plays_all(rt.alloc(), 4096, 1, CASES)
 }
@@ -229,15 +253,17 @@ const FOO_BAR_QUXX: Pairs = &[(b"foo", b"bar"), (b"foo", b"quxx")];
 
 #[test]
 fn what_is_referenced_stays(rt: HostRuntime) -> Result<(), Fail> {
-    const TWICE: &[Case] = &[(
-        Given::Encode(4, FOO_BAR_TWICE),
+    const TWICE: &[Case] = &[Case::Encodes(
+        4,
+        FOO_BAR_TWICE,
         "Encoded(Ok(2))",
         b"03811011",
         b"6294e7838c767f00",
     )];
     plays_all(rt.alloc(), 4096, 1, TWICE)?;
-    const FULL: &[Case] = &[(
-        Given::Encode(4, FOO_BAR_QUXX),
+    const FULL: &[Case] = &[Case::Encodes(
+        4,
+        FOO_BAR_QUXX,
         "Encoded(Ok(1))",
         b"0280100084ed6f9f3f",
         b"6294e7838c767f",
@@ -248,30 +274,21 @@ fn what_is_referenced_stays(rt: HostRuntime) -> Result<(), Fail> {
 #[test]
 fn an_entry_of_a_cancelled_block_goes_once_it_is_received(rt: HostRuntime) -> Result<(), Fail> {
     const CASES: &[Case] = &[
-        (
-            Given::Encode(4, FOO_BAR),
-            "Encoded(Ok(1))",
-            b"028010",
-            b"6294e7838c767f",
-        ),
-        (Given::Encode(4, FOO_BAR), "Encoded(Ok(1))", b"020080", b""),
-        (Given::Cancel(4), "Cancelled(Ok(()))", b"", b"44"),
-        (Given::ToEncoder(1), "Heard(Ok(()))", b"", b""),
-        (
-            Given::Encode(8, BAZ_BAR),
-            "Encoded(Ok(0))",
-            b"00002b8c7eff838c767f",
-            b"",
-        ),
-        (Given::ToDecoder(7), "Delivered(Ok(1))", b"", b"01"),
-        (Given::ToEncoder(1), "Heard(Ok(()))", b"", b""),
-        (
-            Given::Encode(12, BAZ_BAR),
+        Case::Encodes(4, FOO_BAR, "Encoded(Ok(1))", b"028010", b"6294e7838c767f"),
+        Case::Encodes(4, FOO_BAR, "Encoded(Ok(1))", b"020080", b""),
+        Case::Writes(Given::Cancel(4), "Cancelled(Ok(()))", b"44"),
+        Case::Answers(Given::ToEncoder(1), "Heard(Ok(()))"),
+        Case::Encodes(8, BAZ_BAR, "Encoded(Ok(0))", b"00002b8c7eff838c767f", b""),
+        Case::Writes(Given::ToDecoder(7), "Delivered(Ok(1))", b"01"),
+        Case::Answers(Given::ToEncoder(1), "Heard(Ok(()))"),
+        Case::Encodes(
+            12,
+            BAZ_BAR,
             "Encoded(Ok(2))",
             b"038010",
             b"638c7eff838c767f",
         ),
-        (Given::Decode(4), "Skipped(3)", b"", b""),
+        Case::Answers(Given::Decode(4), "Skipped(3)"),
     ];
     plays_all(rt.alloc(), 64, 4, CASES)
 }
@@ -279,23 +296,13 @@ fn an_entry_of_a_cancelled_block_goes_once_it_is_received(rt: HostRuntime) -> Re
 #[test]
 fn a_cancellation_releases_every_block_of_its_stream(rt: HostRuntime) -> Result<(), Fail> {
     const CASES: &[Case] = &[
-        (
-            Given::Encode(4, FOO_BAR),
-            "Encoded(Ok(1))",
-            b"028010",
-            b"6294e7838c767f",
-        ),
-        (Given::Encode(4, FOO_BAR), "Encoded(Ok(1))", b"020080", b""),
-        (Given::Encode(4, FOO_BAR), "Encoded(Ok(1))", b"020080", b""),
-        (Given::Cancel(4), "Cancelled(Ok(()))", b"", b"44"),
-        (Given::ToDecoder(7), "Delivered(Ok(1))", b"", b"01"),
-        (Given::ToEncoder(2), "Heard(Ok(()))", b"", b""),
-        (
-            Given::Encode(8, BAZ_BAR),
-            "Encoded(Ok(2))",
-            b"038010",
-            b"638c7eff838c767f",
-        ),
+        Case::Encodes(4, FOO_BAR, "Encoded(Ok(1))", b"028010", b"6294e7838c767f"),
+        Case::Encodes(4, FOO_BAR, "Encoded(Ok(1))", b"020080", b""),
+        Case::Encodes(4, FOO_BAR, "Encoded(Ok(1))", b"020080", b""),
+        Case::Writes(Given::Cancel(4), "Cancelled(Ok(()))", b"44"),
+        Case::Writes(Given::ToDecoder(7), "Delivered(Ok(1))", b"01"),
+        Case::Answers(Given::ToEncoder(2), "Heard(Ok(()))"),
+        Case::Encodes(8, BAZ_BAR, "Encoded(Ok(2))", b"038010", b"638c7eff838c767f"),
     ];
     plays_all(rt.alloc(), 64, 4, CASES)
 }
@@ -303,25 +310,15 @@ fn a_cancellation_releases_every_block_of_its_stream(rt: HostRuntime) -> Result<
 #[test]
 fn a_capacity_is_set_within_a_session(rt: HostRuntime) -> Result<(), Fail> {
     const CASES: &[Case] = &[
-        (Given::SetCapacity(38), "CapacitySet(Ok(()))", b"", b"3f07"),
-        (
-            Given::Encode(4, FOO_BAR),
-            "Encoded(Ok(1))",
-            b"028010",
-            b"6294e7838c767f",
-        ),
-        (Given::ToDecoder(9), "Delivered(Ok(1))", b"", b"01"),
-        (Given::Decode(4), "\"foo\": \"bar\", 38 true", b"", b""),
-        (Given::Ack(4), "Acknowledged(Ok(()))", b"", b"84"),
-        (Given::ToEncoder(2), "Heard(Ok(()))", b"", b""),
-        (
-            Given::Encode(8, BAZ_BAR),
-            "Encoded(Ok(2))",
-            b"038010",
-            b"638c7eff838c767f",
-        ),
-        (Given::ToDecoder(8), "Delivered(Ok(2))", b"", b"01"),
-        (Given::Decode(8), "\"baz\": \"bar\", 38 true", b"", b""),
+        Case::Writes(Given::SetCapacity(38), "CapacitySet(Ok(()))", b"3f07"),
+        Case::Encodes(4, FOO_BAR, "Encoded(Ok(1))", b"028010", b"6294e7838c767f"),
+        Case::Writes(Given::ToDecoder(9), "Delivered(Ok(1))", b"01"),
+        Case::Answers(Given::Decode(4), "\"foo\": \"bar\", 38 true"),
+        Case::Writes(Given::Ack(4), "Acknowledged(Ok(()))", b"84"),
+        Case::Answers(Given::ToEncoder(2), "Heard(Ok(()))"),
+        Case::Encodes(8, BAZ_BAR, "Encoded(Ok(2))", b"038010", b"638c7eff838c767f"),
+        Case::Writes(Given::ToDecoder(8), "Delivered(Ok(2))", b"01"),
+        Case::Answers(Given::Decode(8), "\"baz\": \"bar\", 38 true"),
     ];
     plays_all(rt.alloc(), 64, 4, CASES)
 }
@@ -331,36 +328,21 @@ fn a_capacity_is_refused_while_an_entry_is_referenced(rt: HostRuntime) -> Result
     const NO_ROOM: &str = "CapacitySet(Err(Insertion(MaxTableSizeReached)))";
     const TOO_LARGE: &str = "CapacitySet(Err(Insertion(MaximumTableSizeTooLarge)))";
     const CASES: &[Case] = &[
-        (
-            Given::Encode(4, FOO_BAR),
-            "Encoded(Ok(1))",
-            b"028010",
-            b"6294e7838c767f",
-        ),
-        (Given::SetCapacity(37), NO_ROOM, b"", b""),
-        (Given::SetCapacity(65), TOO_LARGE, b"", b""),
-        (Given::ToDecoder(7), "Delivered(Ok(1))", b"", b"01"),
-        (Given::Decode(4), "\"foo\": \"bar\", 38 true", b"", b""),
-        (Given::Ack(4), "Acknowledged(Ok(()))", b"", b"84"),
-        (Given::ToEncoder(2), "Heard(Ok(()))", b"", b""),
-        (Given::SetCapacity(0), "CapacitySet(Ok(()))", b"", b"20"),
-        (
-            Given::Encode(8, FOO_BAR),
-            "Encoded(Ok(0))",
-            b"00002a94e7838c767f",
-            b"",
-        ),
-        (Given::SetCapacity(64), "CapacitySet(Ok(()))", b"", b"3f21"),
-        (
-            Given::Encode(12, FOO_BAR),
-            "Encoded(Ok(2))",
-            b"038010",
-            b"6294e7838c767f",
-        ),
-        (Given::ToDecoder(1), "Delivered(Ok(1))", b"", b""),
-        (Given::Decode(12), "Decoded(Err(MissingRefs(2)))", b"", b""),
-        (Given::ToDecoder(9), "Delivered(Ok(2))", b"", b"01"),
-        (Given::Decode(12), "\"foo\": \"bar\", 38 true", b"", b""),
+        Case::Encodes(4, FOO_BAR, "Encoded(Ok(1))", b"028010", b"6294e7838c767f"),
+        Case::Answers(Given::SetCapacity(37), NO_ROOM),
+        Case::Answers(Given::SetCapacity(65), TOO_LARGE),
+        Case::Writes(Given::ToDecoder(7), "Delivered(Ok(1))", b"01"),
+        Case::Answers(Given::Decode(4), "\"foo\": \"bar\", 38 true"),
+        Case::Writes(Given::Ack(4), "Acknowledged(Ok(()))", b"84"),
+        Case::Answers(Given::ToEncoder(2), "Heard(Ok(()))"),
+        Case::Writes(Given::SetCapacity(0), "CapacitySet(Ok(()))", b"20"),
+        Case::Encodes(8, FOO_BAR, "Encoded(Ok(0))", b"00002a94e7838c767f", b""),
+        Case::Writes(Given::SetCapacity(64), "CapacitySet(Ok(()))", b"3f21"),
+        Case::Encodes(12, FOO_BAR, "Encoded(Ok(2))", b"038010", b"6294e7838c767f"),
+        Case::Answers(Given::ToDecoder(1), "Delivered(Ok(1))"),
+        Case::Answers(Given::Decode(12), "Decoded(Err(MissingRefs(2)))"),
+        Case::Writes(Given::ToDecoder(9), "Delivered(Ok(2))", b"01"),
+        Case::Answers(Given::Decode(12), "\"foo\": \"bar\", 38 true"),
     ];
     plays_all(rt.alloc(), 64, 4, CASES)
 }
@@ -370,35 +352,20 @@ fn a_capacity_is_refused_while_an_entry_is_referenced(rt: HostRuntime) -> Result
 fn a_session_begins_below_its_maximum(rt: HostRuntime) -> Result<(), Fail> {
     const TOO_LARGE: &str = "CapacitySet(Err(Insertion(MaximumTableSizeTooLarge)))";
     const CASES: &[Case] = &[
-        (
-            Given::Encode(4, FOO_BAR),
-            "Encoded(Ok(0))",
-            b"00002a94e7838c767f",
-            b"",
-        ),
-        (Given::SetCapacity(4097), TOO_LARGE, b"", b""),
-        (
-            Given::SetCapacity(4096),
-            "CapacitySet(Ok(()))",
-            b"",
-            b"3fe11f",
-        ),
-        (
-            Given::Encode(4, FOO_BAR),
-            "Encoded(Ok(1))",
-            b"028010",
-            b"6294e7838c767f",
-        ),
-        (Given::Decode(4), "\"foo\": \"bar\", 38 false", b"", b""),
-        (Given::ToDecoder(3), "Delivered(Ok(0))", b"", b""),
-        (Given::Decode(4), "Decoded(Err(MissingRefs(1)))", b"", b""),
-        (Given::ToDecoder(7), "Delivered(Ok(1))", b"", b"01"),
-        (Given::Decode(4), "\"foo\": \"bar\", 38 true", b"", b""),
-        (Given::Ack(4), "Acknowledged(Ok(()))", b"", b"84"),
-        (Given::ToEncoder(2), "Heard(Ok(()))", b"", b""),
-        (Given::SetCapacity(4097), TOO_LARGE, b"", b""),
-        (Given::Encode(8, FOO_BAR), "Encoded(Ok(1))", b"020080", b""),
-        (Given::Decode(8), "\"foo\": \"bar\", 38 true", b"", b""),
+        Case::Encodes(4, FOO_BAR, "Encoded(Ok(0))", b"00002a94e7838c767f", b""),
+        Case::Answers(Given::SetCapacity(4097), TOO_LARGE),
+        Case::Writes(Given::SetCapacity(4096), "CapacitySet(Ok(()))", b"3fe11f"),
+        Case::Encodes(4, FOO_BAR, "Encoded(Ok(1))", b"028010", b"6294e7838c767f"),
+        Case::Answers(Given::Decode(4), "\"foo\": \"bar\", 38 false"),
+        Case::Answers(Given::ToDecoder(3), "Delivered(Ok(0))"),
+        Case::Answers(Given::Decode(4), "Decoded(Err(MissingRefs(1)))"),
+        Case::Writes(Given::ToDecoder(7), "Delivered(Ok(1))", b"01"),
+        Case::Answers(Given::Decode(4), "\"foo\": \"bar\", 38 true"),
+        Case::Writes(Given::Ack(4), "Acknowledged(Ok(()))", b"84"),
+        Case::Answers(Given::ToEncoder(2), "Heard(Ok(()))"),
+        Case::Answers(Given::SetCapacity(4097), TOO_LARGE),
+        Case::Encodes(8, FOO_BAR, "Encoded(Ok(1))", b"020080", b""),
+        Case::Answers(Given::Decode(8), "\"foo\": \"bar\", 38 true"),
     ];
     plays_all_from_none(rt.alloc(), 4096, 100, CASES)
 }
@@ -406,14 +373,13 @@ fn a_session_begins_below_its_maximum(rt: HostRuntime) -> Result<(), Fail> {
 #[test]
 fn stream_numbers_are_below_their_limit(rt: HostRuntime) -> Result<(), Fail> {
     const CASES: &[Case] = &[
-        (Given::Encode(1 << 62, FOO_BAR), "Skipped(1)", b"", b""),
-        (Given::Decode(1 << 62), "Skipped(1)", b"", b""),
-        (Given::Ack(u64::MAX), "Skipped(1)", b"", b""),
-        (Given::Cancel(1 << 62), "Skipped(1)", b"", b""),
-        (
+        Case::Answers(Given::Encode(1 << 62, FOO_BAR), "Skipped(1)"),
+        Case::Answers(Given::Decode(1 << 62), "Skipped(1)"),
+        Case::Answers(Given::Ack(u64::MAX), "Skipped(1)"),
+        Case::Answers(Given::Cancel(1 << 62), "Skipped(1)"),
+        Case::Writes(
             Given::Cancel((1 << 62) - 1),
             "Cancelled(Ok(()))",
-            b"",
             b"7fc0ffffffffffffff3f",
         ),
     ];
