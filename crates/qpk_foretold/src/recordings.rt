@@ -7,6 +7,7 @@ use std::io::Cursor;
 use std::{fs, str};
 
 /// A recording, and the words that `qpk` is given for it.
+#[derive(Clone, Copy)]
 struct Recording {
     file: &'static str,
     words: &'static str,

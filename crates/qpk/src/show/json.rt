@@ -22,44 +22,24 @@ pub fn push_object(text: &mut String, number: usize, shown: &Shown) -> Result<()
             offset,
             line,
             inserted,
-        } => {
-            write!(text, "\"encoder\":{offset},")?;
-            push_instruction(text, line)?;
-            if let Some(field) = inserted {
-                text.push(',')?;
-                push_field(text, field)?;
-            }
-        }
+        } => push_applied(text, *offset, line, inserted.as_ref())?,
         Shown::NotApplied {
             offset,
             line,
             error,
-        } => {
-            write!(text, "\"encoder\":{offset},")?;
-            push_instruction(text, line)?;
-            text.push(',')?;
-            push_refused(text, error)?;
-        }
+        } => push_not_applied(text, *offset, line, error)?,
         Shown::NoEncoderInstruction { offset, error } => {
-            write!(text, "\"encoder\":{offset},")?;
-            push_unreadable(text, *error)?;
+            push_no_instruction(text, "encoder", *offset, *error)?;
         }
-        Shown::Told { offset, line } => {
-            write!(text, "\"decoder\":{offset},")?;
-            push_told(text, line)?;
-        }
+        Shown::Told { offset, line } => push_told(text, *offset, line)?,
         Shown::NoDecoderInstruction { offset, error } => {
-            write!(text, "\"decoder\":{offset},")?;
-            push_unreadable(text, *error)?;
+            push_no_instruction(text, "decoder", *offset, *error)?;
         }
         Shown::Section {
             stream,
             was_blocked,
             reading,
-        } => {
-            write!(text, "\"section\":{stream},\"was_blocked\":{was_blocked},")?;
-            push_reading(text, reading)?;
-        }
+        } => push_section(text, *stream, *was_blocked, reading)?,
         Shown::BlockedUntil { stream, required } => {
             write!(text, "\"section\":{stream},\"blocked_until\":{required}")?;
         }
@@ -69,6 +49,46 @@ pub fn push_object(text: &mut String, number: usize, shown: &Shown) -> Result<()
         )?,
     }
     text.push_str("}\n")
+}
+
+/// Appends an instruction that was applied.
+fn push_applied(
+    text: &mut String,
+    offset: usize,
+    line: &EncoderLine,
+    inserted: Option<&HeaderField>,
+) -> Result<(), AllocError> {
+    push_instruction(text, offset, line)?;
+    match inserted {
+        Some(field) => {
+            text.push(',')?;
+            push_field(text, field)
+        }
+        None => Ok(()),
+    }
+}
+
+/// Appends an instruction that was not applied.
+fn push_not_applied(
+    text: &mut String,
+    offset: usize,
+    line: &EncoderLine,
+    error: &DecoderError,
+) -> Result<(), AllocError> {
+    push_instruction(text, offset, line)?;
+    text.push(',')?;
+    push_refused(text, error)
+}
+
+/// Appends bytes of a stream that are no instruction.
+fn push_no_instruction(
+    text: &mut String,
+    stream: &str,
+    offset: usize,
+    error: ParseError,
+) -> Result<(), AllocError> {
+    write!(text, "\"{stream}\":{offset},")?;
+    push_unreadable(text, error)
 }
 
 /// Appends why a thing is refused.
@@ -82,7 +102,12 @@ fn push_unreadable(text: &mut String, error: ParseError) -> Result<(), AllocErro
 }
 
 /// Appends an encoder instruction.
-fn push_instruction(text: &mut String, line: &EncoderLine) -> Result<(), AllocError> {
+fn push_instruction(
+    text: &mut String,
+    offset: usize,
+    line: &EncoderLine,
+) -> Result<(), AllocError> {
+    write!(text, "\"encoder\":{offset},")?;
     match line {
         EncoderLine::DynamicTableSizeUpdate(size) => write!(text, "\"set_capacity\":{}", size.0),
         EncoderLine::Duplicate(index) => write!(text, "\"duplicate\":{}", index.0),
@@ -107,7 +132,8 @@ fn push_name_index(text: &mut String, line: &EncoderLine) -> Result<(), AllocErr
 }
 
 /// Appends a decoder instruction.
-fn push_told(text: &mut String, line: &DecoderLine) -> Result<(), AllocError> {
+fn push_told(text: &mut String, offset: usize, line: &DecoderLine) -> Result<(), AllocError> {
+    write!(text, "\"decoder\":{offset},")?;
     match line {
         DecoderLine::InsertCountIncrement(by) => write!(text, "\"increment\":{}", by.0),
         DecoderLine::HeaderAck(stream) => write!(text, "\"acknowledge\":{}", stream.0),
@@ -116,6 +142,17 @@ fn push_told(text: &mut String, line: &DecoderLine) -> Result<(), AllocError> {
 }
 
 /// Appends a section.
+fn push_section(
+    text: &mut String,
+    stream: u64,
+    was_blocked: bool,
+    reading: &Reading,
+) -> Result<(), AllocError> {
+    write!(text, "\"section\":{stream},\"was_blocked\":{was_blocked},")?;
+    push_reading(text, reading)
+}
+
+/// Appends what stands in a section.
 fn push_reading(text: &mut String, reading: &Reading) -> Result<(), AllocError> {
     match reading {
         Reading::Lines {

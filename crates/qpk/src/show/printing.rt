@@ -25,19 +25,14 @@ pub fn push_shown(text: &mut String, number: usize, shown: &Shown) -> Result<boo
             line,
             inserted,
         } => {
-            write!(text, "encoder {offset}: ")?;
-            push_applied(text, line, inserted.as_ref())?;
+            push_applied(text, *offset, line, inserted.as_ref())?;
             return Ok(true);
         }
         Shown::NotApplied {
             offset,
             line,
             error,
-        } => {
-            write!(text, "encoder {offset}: ")?;
-            push_instruction(text, line)?;
-            push_refused(text, number, error)?;
-        }
+        } => push_not_applied(text, number, *offset, line, error)?,
         Shown::NoEncoderInstruction { offset, error } => {
             write!(text, "encoder {offset}: ")?;
             push_unreadable(text, number, *error)?;
@@ -55,11 +50,9 @@ pub fn push_shown(text: &mut String, number: usize, shown: &Shown) -> Result<boo
         Shown::BlockedUntil { stream, required } => {
             writeln!(text, "section {stream}: blocked until insertion {required}")?;
         }
-        Shown::TooManyBlocked { stream, required } => writeln!(
-            text,
-            "section {stream}: refused in line {number}: blocked until insertion {required}, \
-             and no more streams may be"
-        )?,
+        Shown::TooManyBlocked { stream, required } => {
+            push_too_many_blocked(text, number, *stream, *required)?;
+        }
     }
     Ok(false)
 }
@@ -74,12 +67,41 @@ fn push_unreadable(text: &mut String, number: usize, error: ParseError) -> Resul
     push_refused(text, number, &DecoderError::from(error))
 }
 
+/// Appends a section that would be blocked where no more streams may be.
+fn push_too_many_blocked(
+    text: &mut String,
+    number: usize,
+    stream: u64,
+    required: usize,
+) -> Result<(), AllocError> {
+    writeln!(
+        text,
+        "section {stream}: refused in line {number}: blocked until insertion {required}, and no \
+         more streams may be"
+    )
+}
+
+/// Appends an instruction that was not applied.
+fn push_not_applied(
+    text: &mut String,
+    number: usize,
+    offset: usize,
+    line: &EncoderLine,
+    error: &DecoderError,
+) -> Result<(), AllocError> {
+    write!(text, "encoder {offset}: ")?;
+    push_instruction(text, line)?;
+    push_refused(text, number, error)
+}
+
 /// Appends an instruction that was applied.
 fn push_applied(
     text: &mut String,
+    offset: usize,
     line: &EncoderLine,
     inserted: Option<&HeaderField>,
 ) -> Result<(), AllocError> {
+    write!(text, "encoder {offset}: ")?;
     match (line, inserted) {
         (EncoderLine::DynamicTableSizeUpdate(size), _) => writeln!(text, "set capacity {}", size.0),
         (EncoderLine::Duplicate(index), Some(field)) => {
@@ -110,7 +132,7 @@ fn push_name_index(text: &mut String, line: &EncoderLine) -> Result<(), AllocErr
     }
 }
 
-/// Appends an instruction that was not applied.
+/// Appends what an instruction is, without its field.
 fn push_instruction(text: &mut String, line: &EncoderLine) -> Result<(), AllocError> {
     match line {
         EncoderLine::DynamicTableSizeUpdate(size) => write!(text, "set capacity {}, ", size.0),
