@@ -11,7 +11,7 @@ use h3_qpack::{Decoded, DecoderError};
 use std::alloc::AllocError;
 
 /// Appends what an event prints: its outcome, with the bytes of the block that it made, if it made one, and those that
-/// it added to a stream, in lower-case hexadecimal, a minus for none. Where it is refused, this is told in the words of
+/// it added to a stream, in lower-case hexadecimal, `-` if empty. Where it is refused, this is told in the words of
 /// its error.
 pub fn push_outcome_lines(
     text: &mut String,

@@ -24,7 +24,7 @@ use h3_qpack::stream::{
 use std::alloc::AllocError;
 use std::fmt::Display;
 
-/// Appends bytes in lower-case hexadecimal, a minus for none.
+/// Appends bytes in lower-case hexadecimal, `-` if empty.
 pub fn push_hexadecimal(text: &mut String, bytes: &[u8]) -> Result<(), AllocError>
     ensures { OnOk result (string_bytes text.new ≡ string_bytes text.old ++ hexadecimal bytes.now) }
 {
@@ -59,7 +59,7 @@ pub fn push_hexadecimal_fields(text: &mut String, fields: &[HeaderField]) -> Res
     Ok(())
 }
 
-/// Appends the line of a field in hexadecimal, its name and its value parted by a TAB.
+/// Appends the line of a field in hexadecimal, its name and its value separated by a TAB.
 fn push_hexadecimal_field(text: &mut String, field: &HeaderField) -> Result<(), AllocError>
     ensures { OnOk result (string_bytes text.new
         ≡ string_bytes text.old ++ hexadecimal_field (field_of field.now)) }

@@ -1,4 +1,4 @@
-//! A script of a session: an event a line, its parts parted by TABs.
+//! A script of a session: an event a line, its parts separated by TABs.
 
 ghost use Rattle.qpk.specs.Scripts.{script_events, event_of_line, event_of_number, ReadsScript, ReadsEvent, IsEvent};
 

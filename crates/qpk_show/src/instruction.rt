@@ -18,7 +18,7 @@ use h3_qpack::stream::{
 use h3_qpack::{DecoderError, HeaderField};
 
 /// Applies an instruction to the table, and gives the field that it inserts, if it inserts one. At capacity 0 no
-/// insertion is lawful (RFC 9204, section 3.2.2). Refused, the table is as before; for memory, it is unspecified.
+/// insertion is lawful (RFC 9204, section 3.2.2). On error the table is as before; for memory, it is unspecified.
 #[tactic(auto, unfolding(qpack_spec::specs::StrictInstructions::strict_apply))]
 pub fn apply(
     table: &mut ReceivedTable,
@@ -98,7 +98,7 @@ fn duplicated(table: &ReceivedTable, index: usize) -> Result<HeaderField, Decode
     Ok(table.get_relative(index)?.clone()?)
 }
 
-/// Puts a field, and gives it. Refused, nothing changes.
+/// Puts a field, and gives it. On error nothing changes.
 fn insert(
     table: &mut ReceivedTable,
     field: HeaderField,
@@ -110,14 +110,14 @@ fn insert(
     Ok(Some(inserted))
 }
 
-/// Puts a field. Refused, nothing changes.
+/// Puts a field. On error nothing changes.
 fn put(table: &mut ReceivedTable, field: HeaderField) -> Result<(), DecoderError>
     ensures { Applies result (put table.old (field_of field)) table.old table.new }
 {
     Ok(table.put(field)?)
 }
 
-/// Sets the capacity. Refused, nothing changes.
+/// Sets the capacity. On error nothing changes.
 fn set_capacity(table: &mut ReceivedTable, size: usize) -> Result<(), DecoderError>
     ensures { Applies result (with_capacity table.old size) table.old table.new }
 {

@@ -260,7 +260,7 @@ impl Observer {
         }
     }
 
-    /// Applies an encoder instruction that was taken. Refused, the stream ends.
+    /// Applies an encoder instruction that was taken. On error the stream ends.
     fn apply(&mut self, offset: usize, line: EncoderLine) -> Result<Shown, NoMemory>
         ensures { ShowsOne result self.new (Some (applied self.old offset (encoder_instruction_of line)
             self.old.encoder_stream (strict_apply self.old.table (encoder_instruction_of line)))) }

@@ -220,7 +220,7 @@ fn is_past(required: usize, base: usize, line: &BlockLine) -> bool
     }
 }
 
-/// The absolute index of a post-base index, held at the greatest number (RFC 9204, section 3.2.6).
+/// The absolute index of a post-base index, at most 2^64 - 1 (RFC 9204, section 3.2.6).
 fn behind(base: usize, index: usize) -> usize
     ensures { result ≡ min (base + index + 1) (2 ^ 64 - 1) }
 {

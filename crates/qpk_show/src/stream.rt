@@ -48,7 +48,7 @@ impl Stream {
         self.taken
     }
 
-    /// Appends bytes. Refused for memory, nothing changes.
+    /// Appends bytes. On error, which is want of memory alone, nothing changes.
     pub fn receive(&mut self, bytes: &[u8]) -> Result<(), AllocError>
         ensures ok { OnOk result (self.new ≡ record self.old { received = self.old.received ++ bytes.now }) }
         ensures err { OnErr result (self.new ≡ self.old) }

@@ -1,4 +1,4 @@
-//! The parts of a script's line, parted by TABs.
+//! The parts of a script's line, separated by TABs.
 
 ghost use Rattle.std.specs.Prelude.{◌≡◌, ◌∷◌};
 ghost use Rattle.qpk.specs.Scripts.{parts_of, parts_behind, number_of, fields_of_parts, ReadsPairs};

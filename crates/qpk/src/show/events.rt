@@ -1,4 +1,4 @@
-//! The events of a connection, a line each, their parts parted by TABs.
+//! The events of a connection, a line each, their parts separated by TABs.
 
 use crate::lines::split_field;
 use crate::script::parts::read_number;
