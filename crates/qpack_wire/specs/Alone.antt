@@ -1,5 +1,6 @@
 -- Readers of one kind of line or instruction: they read its forms and refuse the first bits of all others.
 use Rattle.std.specs.Prelude.{◌≡◌, ℕ, ◌/◌, ◌^◌, ◌⊎◌, Bool, false, List, [], ◌∷◌, Option, None, Some, Result, Ok, Err}
+use Rattle.std.specs.Prelude.{if◌then◌else◌, nat_eq}
 use Rattle.qpack_spec.specs.Bytes.{◌>>=◌}
 use Rattle.qpack_spec.specs.Integer.{UnexpectedEnd, SpellsInteger, integer_at}
 use Rattle.qpack_spec.specs.Form.{FormFault, BadInteger, is_cut, Form, RefusesIndex, Spells, Refuses, or_bad_integer}
@@ -64,3 +65,9 @@ kind_at (ByFlags n named) bytes =
     or_unreadable (or_bad_integer (integer_at n bytes)) >>= λ i. made_or_foreign i.0 (named i.0) bytes
 kind_at (ByFirstByte named) [] = Err (Unreadable (BadInteger UnexpectedEnd))
 kind_at (ByFirstByte named) (b ∷ bytes) = made_or_foreign b (named b) (b ∷ bytes)
+
+-- a number with a prefix of n bits and exactly these flags above it (RFC 7541, section 5.1)
+unfoldable pub number_under : ℕ → ℕ → List ℕ → Result (ℕ × List ℕ) KindFault
+number_under n flags bytes =
+    or_unreadable (or_bad_integer (integer_at n bytes))
+    >>= λ i. if nat_eq i.0 flags then Ok i.1 else Err (Foreign i.0)

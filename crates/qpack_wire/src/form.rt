@@ -1,13 +1,36 @@
-//! Writing the two shapes of a form that holds strings: an index or a name, and a value behind it.
+//! The shapes of a form: reading a number alone, and writing an index or a name and a value behind it.
 
-ghost use Rattle.std.specs.Prelude.{◌≡◌, ◌≤◌, ◌++◌, IfErr};
+ghost use Rattle.std.specs.Prelude.{◌≡◌, ◌≤◌, ◌++◌, IfErr, Err};
 ghost use Rattle.qpack_spec.specs.Integer.{written_integer};
 ghost use Rattle.qpack_spec.specs.Text.{written_string};
 ghost use Rattle.qpack_base.specs.Writes.{Writes};
 ghost use Rattle.qpack_base.specs.declared.prefix_string.Error.TheVariants.{Memory as NoRoom};
+ghost use Rattle.qpack_base.specs.declared.parse_error.ParseError.TheVariants.{Memory};
+ghost use Rattle.qpack_wire.specs.Alone.{number_under};
+ghost use Rattle.qpack_wire.specs.Answers.{ReadsForm};
 
+use qpack_base::coding::Cursor;
+use qpack_base::parse_error::ParseError;
 use qpack_base::{prefix_int, prefix_string};
 use std::alloc::Allocator;
+
+/// Reads a number with a prefix of `size` bits and exactly these flags above it. Takes no memory. On
+/// error the cursor's position is unspecified.
+#[inline(always)]
+#[tactic(auto, unfolding(crate::specs::Alone::number_under))]
+pub(crate) fn read_number(size: u8, flags: u8, buf: &mut Cursor) -> Result<u64, ParseError>
+    requires least { 1 ≤ size }
+    requires most { size ≤ 8 }
+    ensures exact { ReadsForm (λ n. n) buf.old buf.new result (number_under size flags buf.old.rest) }
+    ensures no_memory { result ≡ Err Memory → ⊥ }
+{
+    let (bits, number) = prefix_int::decode(size, buf)?;
+    if bits == flags {
+        Ok(number)
+    } else {
+        Err(ParseError::InvalidPrefix(bits))
+    }
+}
 
 /// The prefix of a value, which takes whole bytes: there is nothing above its flag.
 pub(crate) const VALUE_SIZE: u8 = 8;

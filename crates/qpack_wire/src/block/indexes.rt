@@ -9,6 +9,7 @@ ghost use Rattle.qpack_wire.specs.Answers.{Decodes, ReadsForm};
 ghost use Rattle.qpack_wire.specs.Lines.{indexed_line, indexed_line_with_post_base, line_of_indexed};
 ghost use Rattle.qpack_wire.specs.Lines.{line_of_indexed_with_post_base};
 
+use crate::form::read_number;
 use qpack_base::coding::{Cursor, NoMemory};
 use qpack_base::parse_error::ParseError;
 use qpack_base::prefix_int;
@@ -118,14 +119,12 @@ impl IndexedWithPostBase {
 }
 
 #[inline(always)]
-#[tactic(auto, unfolding(crate::specs::Alone::kind_at, qpack_spec::specs::Form::made_at))]
+#[tactic(auto, unfolding(crate::specs::Alone::kind_at, crate::specs::Alone::number_under, qpack_spec::specs::Form::made_at))]
 fn read_indexed_with_post_base(buf: &mut Cursor) -> Result<IndexedWithPostBase, ParseError>
     ensures exact { ReadsForm line_of_indexed_with_post_base buf.old buf.new result
         (kind_at indexed_line_with_post_base buf.old.rest) }
     ensures no_memory { result ≡ Err Memory → ⊥ }
 {
-    match prefix_int::decode(POST_BASE_SIZE, buf)? {
-        (POST_BASE, index) => Ok(IndexedWithPostBase(index as usize)),
-        (flags, _) => Err(ParseError::InvalidPrefix(flags)),
-    }
+    let index = read_number(POST_BASE_SIZE, POST_BASE, buf)?;
+    Ok(IndexedWithPostBase(index as usize))
 }

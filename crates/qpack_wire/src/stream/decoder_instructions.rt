@@ -12,6 +12,7 @@ ghost use Rattle.qpack_wire.specs.Instructions.{decoder_instruction_of_insert_co
 ghost use Rattle.qpack_wire.specs.Instructions.{decoder_instruction_of_header_ack};
 ghost use Rattle.qpack_wire.specs.Instructions.{decoder_instruction_of_stream_cancel};
 
+use crate::form::read_number;
 use crate::stream::ends::or_none;
 use qpack_base::coding::{Cursor, NoMemory};
 use qpack_base::parse_error::ParseError;
@@ -58,7 +59,7 @@ impl InsertCountIncrement {
     }
 }
 
-#[tactic(auto, unfolding(crate::specs::Alone::kind_at, qpack_spec::specs::Form::made_at))]
+#[tactic(auto, unfolding(crate::specs::Alone::kind_at, crate::specs::Alone::number_under, qpack_spec::specs::Form::made_at))]
 pub(crate) fn read_insert_count_increment(
     buf: &mut Cursor,
 ) -> Result<InsertCountIncrement, ParseError>
@@ -66,10 +67,8 @@ pub(crate) fn read_insert_count_increment(
         (kind_at insert_count_increment buf.old.rest) }
     ensures no_memory { result ≡ Err Memory → ⊥ }
 {
-    match prefix_int::decode(INCREMENT_SIZE, buf)? {
-        (INCREMENT, value) => Ok(InsertCountIncrement(value as usize)),
-        (flags, _) => Err(ParseError::InvalidPrefix(flags)),
-    }
+    let value = read_number(INCREMENT_SIZE, INCREMENT, buf)?;
+    Ok(InsertCountIncrement(value as usize))
 }
 
 // RFC 9204, section 4.4.1:
@@ -110,16 +109,14 @@ impl HeaderAck {
     }
 }
 
-#[tactic(auto, unfolding(crate::specs::Alone::kind_at, qpack_spec::specs::Form::made_at))]
+#[tactic(auto, unfolding(crate::specs::Alone::kind_at, crate::specs::Alone::number_under, qpack_spec::specs::Form::made_at))]
 pub(crate) fn read_header_ack(buf: &mut Cursor) -> Result<HeaderAck, ParseError>
     ensures exact { ReadsForm decoder_instruction_of_header_ack buf.old buf.new result
         (kind_at header_ack buf.old.rest) }
     ensures no_memory { result ≡ Err Memory → ⊥ }
 {
-    match prefix_int::decode(ACKNOWLEDGMENT_SIZE, buf)? {
-        (ACKNOWLEDGMENT, value) => Ok(HeaderAck(value)),
-        (flags, _) => Err(ParseError::InvalidPrefix(flags)),
-    }
+    let value = read_number(ACKNOWLEDGMENT_SIZE, ACKNOWLEDGMENT, buf)?;
+    Ok(HeaderAck(value))
 }
 
 // RFC 9204, section 4.4.2:
@@ -160,14 +157,12 @@ impl StreamCancel {
     }
 }
 
-#[tactic(auto, unfolding(crate::specs::Alone::kind_at, qpack_spec::specs::Form::made_at))]
+#[tactic(auto, unfolding(crate::specs::Alone::kind_at, crate::specs::Alone::number_under, qpack_spec::specs::Form::made_at))]
 pub(crate) fn read_stream_cancel(buf: &mut Cursor) -> Result<StreamCancel, ParseError>
     ensures exact { ReadsForm decoder_instruction_of_stream_cancel buf.old buf.new result
         (kind_at stream_cancel buf.old.rest) }
     ensures no_memory { result ≡ Err Memory → ⊥ }
 {
-    match prefix_int::decode(CANCELLATION_SIZE, buf)? {
-        (CANCELLATION, value) => Ok(StreamCancel(value)),
-        (flags, _) => Err(ParseError::InvalidPrefix(flags)),
-    }
+    let value = read_number(CANCELLATION_SIZE, CANCELLATION, buf)?;
+    Ok(StreamCancel(value))
 }

@@ -10,6 +10,7 @@ ghost use Rattle.qpack_wire.specs.StreamAnswers.{DecodesInstruction, ReadsStream
 ghost use Rattle.qpack_wire.specs.Instructions.{duplicate, dynamic_table_size_update, encoder_instruction_of_duplicate};
 ghost use Rattle.qpack_wire.specs.Instructions.{encoder_instruction_of_dynamic_table_size_update};
 
+use crate::form::read_number;
 use crate::stream::ends::or_none;
 use qpack_base::coding::{Cursor, NoMemory};
 use qpack_base::parse_error::ParseError;
@@ -54,15 +55,13 @@ impl Duplicate {
     }
 }
 
-#[tactic(auto, unfolding(crate::specs::Alone::kind_at, qpack_spec::specs::Form::made_at))]
+#[tactic(auto, unfolding(crate::specs::Alone::kind_at, crate::specs::Alone::number_under, qpack_spec::specs::Form::made_at))]
 pub(crate) fn read_duplicate(buf: &mut Cursor) -> Result<Duplicate, ParseError>
     ensures exact { ReadsForm encoder_instruction_of_duplicate buf.old buf.new result (kind_at duplicate buf.old.rest) }
     ensures no_memory { result ≡ Err Memory → ⊥ }
 {
-    match prefix_int::decode(DUPLICATE_SIZE, buf)? {
-        (DUPLICATE, value) => Ok(Duplicate(value as usize)),
-        (flags, _) => Err(ParseError::InvalidPrefix(flags)),
-    }
+    let value = read_number(DUPLICATE_SIZE, DUPLICATE, buf)?;
+    Ok(Duplicate(value as usize))
 }
 
 // RFC 9204, section 4.3.1:
@@ -104,7 +103,7 @@ impl DynamicTableSizeUpdate {
     }
 }
 
-#[tactic(auto, unfolding(crate::specs::Alone::kind_at, qpack_spec::specs::Form::made_at))]
+#[tactic(auto, unfolding(crate::specs::Alone::kind_at, crate::specs::Alone::number_under, qpack_spec::specs::Form::made_at))]
 pub(crate) fn read_dynamic_table_size_update(
     buf: &mut Cursor,
 ) -> Result<DynamicTableSizeUpdate, ParseError>
@@ -112,8 +111,6 @@ pub(crate) fn read_dynamic_table_size_update(
         (kind_at dynamic_table_size_update buf.old.rest) }
     ensures no_memory { result ≡ Err Memory → ⊥ }
 {
-    match prefix_int::decode(CAPACITY_SIZE, buf)? {
-        (CAPACITY, value) => Ok(DynamicTableSizeUpdate(value as usize)),
-        (flags, _) => Err(ParseError::InvalidPrefix(flags)),
-    }
+    let value = read_number(CAPACITY_SIZE, CAPACITY, buf)?;
+    Ok(DynamicTableSizeUpdate(value as usize))
 }
