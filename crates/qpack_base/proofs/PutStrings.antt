@@ -32,6 +32,15 @@ literal_put n flags len value old head new l h p =
     (flags_same (n - 1) (flags % 128 * 2 + 1) (2 * flags + 1) len (omega arith)
     ∙ ap (written_integer (n - 1) (2 * flags + 1)) l)
 
+-- how many bytes that takes
+pub literal_len : (n flags len head : ℕ) (value : List ℕ) → len ≡ length (payload_of value)
+    → head ≡ length (written_integer (n - 1) (2 * flags + 1) len) → length (written_string n flags value) ≡ head + len
+unfolding written_string
+literal_len n flags len head value l h =
+    let a = length-append (written_integer (n - 1) (2 * flags + 1) (length (payload_of value))) (payload_of value) in
+    let b = ap (λ (k : ℕ). length (written_integer (n - 1) (2 * flags + 1) k)) l in
+    omega (arith, a, b, l, h)
+
 -- the same where the byte of the length is written behind the payload, in the place of another
 pub literal_headed : (n flags len start head : ℕ) (value old pushed put : List ℕ) → start ≡ length old
     → pushed ≡ old ++ 0 ∷ [] → put ≡ pushed ++ payload_of value → len ≡ length (payload_of value)

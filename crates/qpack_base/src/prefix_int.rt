@@ -1,6 +1,6 @@
 //! Integers with a prefix of 1 to 8 bits (RFC 7541, section 5.1; RFC 9204, section 4.1.1).
 
-ghost use Rattle.std.specs.Prelude.{◌≡◌, ℕ, ◌+◌, ◌*◌, ◌^◌, ◌<◌, ◌≤◌, ◌-◌, ◌++◌, ◌↔◌, List, IfOk, OnOk, OnErr, IsOk};
+ghost use Rattle.std.specs.Prelude.{◌≡◌, ℕ, ◌+◌, ◌*◌, ◌^◌, ◌<◌, ◌≤◌, ◌-◌, ◌++◌, ◌↔◌, List, IfOk};
 ghost use Rattle.std.specs.Prelude.{◌%◌, [], ◌∷◌, IfSome, IfNone};
 ghost use Rattle.std.specs.Prelude.{vec_len, vec_capacity, length};
 ghost use Rattle.qpack_spec.specs.Bytes.{Begins};
@@ -108,13 +108,7 @@ pub fn encode<A: Allocator>(
 ) -> Result<(), NoMemory>
     requires least { 1 ≤ size }
     requires most { size ≤ 8 }
-    ensures ok { OnOk result (buf.new.items ≡ buf.old.items ++ written_integer size flags value) }
-    ensures err { OnErr result (buf.new.items ≡ buf.old.items) }
-    ensures succeeds { vec_len buf.old + length (written_integer size flags value) ≤ vec_capacity buf.old →
-        IsOk result }
-    ensures still { vec_len buf.old + length (written_integer size flags value) ≤ vec_capacity buf.old →
-        vec_capacity buf.new ≡ vec_capacity buf.old }
-    ensures capacity { vec_capacity buf.old ≤ vec_capacity buf.new }
+    ensures { Writes (written_integer size flags value) buf.old buf.new result }
 {
     let Some(byte) = short(size, flags, value) else {
         return encode_long(size, flags, value, buf);

@@ -1,7 +1,7 @@
 //! String literals with a prefix of 2 to 8 bits, plain or Huffman coded (RFC 7541, section 5.2;
 //! RFC 9204, section 4.1.2).
 
-ghost use Rattle.std.specs.Prelude.{◌≡◌, ◌≢◌, ℕ, ◌≤◌, ◌-◌, ◌++◌, ◌↔◌, List, [], Err, IfOk, IfErr, OnOk, OnErr, IsOk};
+ghost use Rattle.std.specs.Prelude.{◌≡◌, ◌≢◌, ℕ, ◌≤◌, ◌-◌, ◌++◌, ◌↔◌, List, [], Err, IfOk, IfErr, OnOk, OnErr};
 ghost use Rattle.std.specs.Prelude.{◌+◌, ◌*◌, ◌/◌, ◌<◌, Ok, length, take, vec_len, vec_capacity, IsTrue, false};
 ghost use Rattle.qpack_spec.specs.Bytes.{Begins};
 ghost use Rattle.qpack_spec.specs.Huffman.{HuffmanFault, bits_of_bytes, with_front, text_of_bits};
@@ -10,6 +10,7 @@ ghost use Rattle.qpack_spec.specs.Text.{HoldsPayload, value_before, string_at, w
 ghost use Rattle.qpack_base.specs.Cursor.{MovesPast};
 ghost use Rattle.qpack_base.specs.Payloads.{huffman_fault_of};
 ghost use Rattle.qpack_base.specs.Refusals.{IsRefusedFor};
+ghost use Rattle.qpack_base.specs.Writes.{Writes};
 ghost use Rattle.qpack_base.specs.Strings.{error_of_integer, string_fault_of, meaning, ReadsString, AppendsString};
 ghost use Rattle.qpack_base.specs.Strings.{AppendsText, GivesValue, IsFaulty, GivesFault};
 ghost use Rattle.qpack_base.specs.declared.prefix_string.Error.TheVariants.{UnexpectedEnd as Truncated};
@@ -177,14 +178,8 @@ pub fn encode<A: Allocator>(
 ) -> Result<(), Error>
     requires least { 2 ≤ size }
     requires most { size ≤ 8 }
-    ensures ok { OnOk result (buf.new.items ≡ buf.old.items ++ written_string size flags value.now) }
-    ensures err { OnErr result (buf.new.items ≡ buf.old.items) }
+    ensures writes { Writes (written_string size flags value.now) buf.old buf.new result }
     ensures memory { IfErr result (λ e. e ≡ NoRoom) }
-    ensures succeeds { vec_len buf.old + length (written_string size flags value.now) ≤ vec_capacity buf.old →
-        IsOk result }
-    ensures still { vec_len buf.old + length (written_string size flags value.now) ≤ vec_capacity buf.old →
-        vec_capacity buf.new ≡ vec_capacity buf.old }
-    ensures capacity { vec_capacity buf.old ≤ vec_capacity buf.new }
 {
     Ok(append(size, flags, value, buf)?)
 }
@@ -198,13 +193,7 @@ fn append<A: Allocator>(
 ) -> Result<(), NoMemory>
     requires least { 2 ≤ size }
     requires most { size ≤ 8 }
-    ensures ok { OnOk result (buf.new.items ≡ buf.old.items ++ written_string size flags value.now) }
-    ensures err { OnErr result (buf.new.items ≡ buf.old.items) }
-    ensures succeeds { vec_len buf.old + length (written_string size flags value.now) ≤ vec_capacity buf.old →
-        IsOk result }
-    ensures still { vec_len buf.old + length (written_string size flags value.now) ≤ vec_capacity buf.old →
-        vec_capacity buf.new ≡ vec_capacity buf.old }
-    ensures capacity { vec_capacity buf.old ≤ vec_capacity buf.new }
+    ensures { Writes (written_string size flags value.now) buf.old buf.new result }
 {
     if has_ample_room(value, buf) && append_unmeasured(size, flags, value, buf) {
         return Ok(());
@@ -304,13 +293,7 @@ fn append_measured<A: Allocator>(
 ) -> Result<(), NoMemory>
     requires least { 2 ≤ size }
     requires most { size ≤ 8 }
-    ensures ok { OnOk result (buf.new.items ≡ buf.old.items ++ written_string size flags value.now) }
-    ensures err { OnErr result (buf.new.items ≡ buf.old.items) }
-    ensures succeeds { vec_len buf.old + length (written_string size flags value.now) ≤ vec_capacity buf.old →
-        IsOk result }
-    ensures still { vec_len buf.old + length (written_string size flags value.now) ≤ vec_capacity buf.old →
-        vec_capacity buf.new ≡ vec_capacity buf.old }
-    ensures capacity { vec_capacity buf.old ≤ vec_capacity buf.new }
+    ensures { Writes (written_string size flags value.now) buf.old buf.new result }
 {
     let len = encoding::payload_len(value);
     let head = prefix_int::encoded_len(size - 1, len as u64);
