@@ -70,4 +70,4 @@ kind_at (ByFirstByte named) (b ∷ bytes) = made_or_foreign b (named b) (b ∷ b
 unfoldable pub number_under : ℕ → ℕ → List ℕ → Result (ℕ × List ℕ) KindFault
 number_under n flags bytes =
     or_unreadable (or_bad_integer (integer_at n bytes))
-    >>= λ i. if nat_eq i.0 flags then Ok i.1 else Err (Foreign i.0)
+    >>= λ i. if nat_eq i.0 flags then Ok (i.1, i.2) else Err (Foreign i.0)
