@@ -40,39 +40,42 @@ insertion_written f (NotInserted lookup) = no_instruction
 
 -- ---- an insertion, or a literal
 
-pub adds_insertion : (f : Field) (t : Table) (i : Insertable) (insertion : Insertion)
-    (new : Table) (lines_old lines_new written_old written_new : List ℕ)
-    → i ≡ record { insertion = insertion; table = new }
-    → lines_new ≡ lines_old ++ written_line (line_of f insertion)
-    → written_new ≡ written_old ++ written_insertion f insertion
-    → Adds (with_insertion (draft_at t) f i) new lines_old lines_new written_old written_new
-adds_insertion f t i insertion new lines_old lines_new written_old written_new is lines written =
+-- a field was inserted, or not: the table behind it, and its instruction in the buffer
+pub record Inserts (t : Table) (base : ℕ) (f : Field) : Type 0 where
+  pub insertion : Insertion
+  pub new : Table
+  pub written_old : List ℕ
+  pub written_new : List ℕ
+  pub inserted : insert_field t base f ≡ record { insertion = insertion; table = new }
+  pub written : written_new ≡ written_old ++ written_insertion f insertion
+
+-- its instruction is the draft's
+inserted_written : {t : Table} {base : ℕ} {f : Field} (s : Inserts t base f)
+    → s.written_new ≡ s.written_old
+    ++ written_encoder_instructions (with_insertion (draft_at t) f (insert_field t base f)).instructions
+inserted_written {t} {base} {f} s =
+    s.written
+    ∙ ap (λ (x : List ℕ). s.written_old ++ x)
+    (sym (insertion_written f s.insertion)
+    ∙ ap (λ (x : Insertable). written_encoder_instructions (instructions_of f x.insertion)) (sym s.inserted))
+
+pub adds_insertion : {t : Table} {base : ℕ} {f : Field} (s : Inserts t base f) (lines_old lines_new : List ℕ)
+    → lines_new ≡ lines_old ++ written_line (line_of f s.insertion)
+    → Adds (with_insertion (draft_at t) f (insert_field t base f)) s.new lines_old lines_new s.written_old s.written_new
+adds_insertion {t} {base} {f} s lines_old lines_new lines =
     record {
-      table = sym (ap (λ (x : Insertable). x.table) is);
+      table = sym (ap (λ (x : Insertable). x.table) s.inserted);
       lines = lines
           ∙ ap (λ (x : List ℕ). lines_old ++ x)
-          (sym (one_line (line_of f insertion))
-          ∙ ap (λ (x : Insertable). written_lines (line_of f x.insertion ∷ [])) (sym is));
-      written = written
-          ∙ ap (λ (x : List ℕ). written_old ++ x)
-          (sym (insertion_written f insertion)
-          ∙ ap (λ (x : Insertable). written_encoder_instructions (instructions_of f x.insertion)) (sym is));
+          (sym (one_line (line_of f s.insertion))
+          ∙ ap (λ (x : Insertable). written_lines (line_of f x.insertion ∷ [])) (sym s.inserted));
+      written = inserted_written s;
     }
 
 -- the line of an insertion is refused
-pub stops_inserted : (f : Field) (t : Table) (i : Insertable) (insertion : Insertion)
-    (new : Table) (written_old written_new : List ℕ)
-    → i ≡ record { insertion = insertion; table = new }
-    → written_new ≡ written_old ++ written_insertion f insertion
-    → StopsAdding (with_insertion (draft_at t) f i) t new written_old written_new
-stops_inserted f t i insertion new written_old written_new is written =
-    inr (
-      sym (ap (λ (x : Insertable). x.table) is),
-      written
-          ∙ ap (λ (x : List ℕ). written_old ++ x)
-          (sym (insertion_written f insertion)
-          ∙ ap (λ (x : Insertable). written_encoder_instructions (instructions_of f x.insertion)) (sym is)),
-    )
+pub stops_inserted : {t : Table} {base : ℕ} {f : Field} (s : Inserts t base f)
+    → StopsAdding (with_insertion (draft_at t) f (insert_field t base f)) t s.new s.written_old s.written_new
+stops_inserted s = inr (sym (ap (λ (x : Insertable). x.table) s.inserted), inserted_written s)
 
 -- ---- an equal static field
 
@@ -104,14 +107,22 @@ find_keeps t base f lookup new is =
         cond_both (may_reference t a) _ _ (λ (x : Found). without_references x.table ≡ without_references t) (λ b. refl)
         (λ b. refl)
 
-pub adds_found : (t : Table) (base : ℕ) (f : Field) (index absolute : ℕ) (new : Table)
+-- what is found of a field that no static field is equal to, and the table behind the search
+pub record Finds (t : Table) (base : ℕ) (f : Field) : Type 0 where
+  pub lookup : Lookup
+  pub now : Table
+  pub no_static : static_index f ≡ None
+  pub found : find_field t base f ≡ record { lookup = lookup; table = now }
+
+pub adds_found : {t : Table} {base : ℕ} {f : Field} (s : Finds t base f) (index absolute : ℕ)
     (lines_old lines_new written : List ℕ)
-    → static_index f ≡ None → find_field t base f ≡ record { lookup = AtRelative index absolute; table = new }
-    → lines_new ≡ lines_old ++ written_line (IndexedDynamic index)
-    → Adds (draft_of_field t base f) new lines_old lines_new written written
+    → s.lookup ≡ AtRelative index absolute → lines_new ≡ lines_old ++ written_line (IndexedDynamic index)
+    → Adds (draft_of_field t base f) s.now lines_old lines_new written written
 unfolding handle_field
-adds_found t base f index absolute new lines_old lines_new written none is lines =
-    rw (none, is) (
+adds_found {t} {base} {f} s index absolute lines_old lines_new written at lines =
+    let found : find_field t base f ≡ record { lookup = AtRelative index absolute; table = s.now } =
+    s.found ∙ ap (λ (l : Lookup). let x : Found = record { lookup = l; table = s.now } in x) at in
+    rw (s.no_static, found) (
     record {
       table = refl;
       lines = lines ∙ ap (λ (x : List ℕ). lines_old ++ x) (sym (one_line (IndexedDynamic index)));
@@ -120,10 +131,9 @@ adds_found t base f index absolute new lines_old lines_new written none is lines
     )
 
 -- its line is refused: the instruction buffer gained nothing
-pub stops_found : (t : Table) (base : ℕ) (f : Field) (lookup : Lookup) (new : Table) (d : Draft) (written : List ℕ)
-    → find_field t base f ≡ record { lookup = lookup; table = new }
-    → StopsAdding d t new written written
-stops_found t base f lookup new d written is = inl (find_keeps t base f lookup new is, refl)
+pub stops_found : {t : Table} {base : ℕ} {f : Field} (s : Finds t base f) (written : List ℕ)
+    → StopsAdding (draft_of_field t base f) t s.now written written
+stops_found {t} {base} {f} s written = inl (find_keeps t base f s.lookup s.now s.found, refl)
 
 -- what is found is no line by itself
 abbrev pub IsNoLine : Lookup → Type 0
@@ -133,43 +143,17 @@ IsNoLine (AtPostBase index absolute) = Unit {0}
 IsNoLine NotFound = Unit {0}
 
 -- then the field is inserted, or is a literal
-left_to_insertion : (t : Table) (base : ℕ) (f : Field) (lookup : Lookup) (new : Table) → static_index f ≡ None
-    → find_field t base f ≡ record { lookup = lookup; table = new } → IsNoLine lookup
-    → draft_of_field t base f ≡ with_insertion (draft_at new) f (insert_field new base f)
+left_to_insertion : {t : Table} {base : ℕ} {f : Field} (s : Finds t base f) → IsNoLine s.lookup
+    → draft_of_field t base f ≡ with_insertion (draft_at s.now) f (insert_field s.now base f)
 unfolding handle_field
-left_to_insertion t base f lookup new none is no_line = rw (none, is) (by_lookup lookup no_line)
+left_to_insertion {t} {base} {f} s no_line = rw (s.no_static, s.found) (by_lookup s.lookup no_line)
   where
     by_lookup : (l : Lookup) → IsNoLine l
-        → with_found base (draft_at t) f l new ≡ with_insertion (draft_at new) f (insert_field new base f)
+        → with_found base (draft_at t) f l s.now ≡ with_insertion (draft_at s.now) f (insert_field s.now base f)
     by_lookup (AtStatic index) h = refl
     by_lookup (AtRelative index absolute) h = absurd h
     by_lookup (AtPostBase index absolute) h = refl
     by_lookup NotFound h = refl
-
-adds_after_find : (t : Table) (base : ℕ) (f : Field) (lookup : Lookup) (now new : Table)
-    (lines_old lines_new written_old written_new : List ℕ)
-    → static_index f ≡ None → find_field t base f ≡ record { lookup = lookup; table = now } → IsNoLine lookup
-    → Adds (with_insertion (draft_at now) f (insert_field now base f)) new lines_old lines_new written_old written_new
-    → Adds (draft_of_field t base f) new lines_old lines_new written_old written_new
-adds_after_find t base f lookup now new lines_old lines_new written_old written_new none is no_line adds =
-    subst (λ (d : Draft). Adds d new lines_old lines_new written_old written_new)
-    (sym (left_to_insertion t base f lookup now none is no_line)) adds
-
-stops_after_find : (t : Table) (base : ℕ) (f : Field) (lookup : Lookup) (now new : Table)
-    (written_old written_new : List ℕ)
-    → static_index f ≡ None → find_field t base f ≡ record { lookup = lookup; table = now } → IsNoLine lookup
-    → StopsAdding (with_insertion (draft_at now) f (insert_field now base f)) now new written_old written_new
-    → StopsAdding (draft_of_field t base f) t new written_old written_new
-stops_after_find t base f lookup now new written_old written_new none is no_line stops =
-    let same = left_to_insertion t base f lookup now none is no_line in
-    elim stops [
-      | inl h ↦ inl (h.0 ∙ find_keeps t base f lookup now is, h.1)
-      | inr h ↦
-          inr (
-            h.0 ∙ ap (λ (d : Draft). d.table) (sym same),
-            h.1 ∙ ap (λ (d : Draft). written_old ++ written_encoder_instructions d.instructions) (sym same),
-          )
-    ]
 
 pub no_relative : (l : DynamicLookupResult)
     → ((index absolute : ℕ) → l ≡ answer.Relative index absolute → ⊥) → IsNoLine (lookup_of l)
@@ -180,29 +164,39 @@ no_relative answer.NotFound h = tt
 
 -- ---- what an answer promises, under another base that is the same
 
-pub on_ok_adds : {A E : Type 0} (r : Result A E) (t now new : Table) (base other : ℕ) (f : Field)
-    (lookup : Lookup) (lines_old lines_new written_old written_new : List ℕ)
-    → other ≡ base → static_index f ≡ None
-    → find_field t base f ≡ record { lookup = lookup; table = now } → IsNoLine lookup
-    → OnOk r (Adds (with_insertion (draft_at now) f (insert_field now other f)) new lines_old lines_new written_old
-    written_new)
-    → OnOk r (Adds (draft_of_field t base f) new lines_old lines_new written_old written_new)
-on_ok_adds (Ok x) t now new base other f lookup lines_old lines_new written_old written_new same none is no_line adds =
-    adds_after_find t base f lookup now new lines_old lines_new written_old written_new none is no_line
-    (subst (λ (b : ℕ). Adds (with_insertion (draft_at now) f (insert_field now b f)) new lines_old lines_new written_old
-    written_new) same adds)
-on_ok_adds (Err e) t now new base other f lookup lines_old lines_new written_old written_new same none is no_line adds
-    = tt
+-- the lines and the instructions, before and behind a call
+pub record Buffers : Type 0 where
+  pub lines_old : List ℕ
+  pub lines_new : List ℕ
+  pub written_old : List ℕ
+  pub written_new : List ℕ
 
-pub on_err_stops : {A E : Type 0} (r : Result A E) (t now new : Table) (base other : ℕ) (f : Field)
-    (lookup : Lookup) (written_old written_new : List ℕ)
-    → other ≡ base → static_index f ≡ None
-    → find_field t base f ≡ record { lookup = lookup; table = now } → IsNoLine lookup
-    → OnErr r (StopsAdding (with_insertion (draft_at now) f (insert_field now other f)) now new written_old written_new)
-    → OnErr r (StopsAdding (draft_of_field t base f) t new written_old written_new)
-on_err_stops (Ok x) t now new base other f lookup written_old written_new same none is no_line stops = tt
-on_err_stops (Err e) t now new base other f lookup written_old written_new same none is no_line stops =
-    stops_after_find t base f lookup now new written_old written_new none is no_line
-    (subst (λ (b : ℕ). StopsAdding (with_insertion (draft_at now) f (insert_field now b f)) now new written_old
-    written_new)
-    same stops)
+pub on_ok_adds : {A E : Type 0} {t : Table} {base : ℕ} {f : Field} (r : Result A E) (s : Finds t base f) (new : Table)
+    (other : ℕ) (b : Buffers) → other ≡ base → IsNoLine s.lookup
+    → OnOk r (Adds (with_insertion (draft_at s.now) f (insert_field s.now other f)) new b.lines_old b.lines_new
+    b.written_old b.written_new)
+    → OnOk r (Adds (draft_of_field t base f) new b.lines_old b.lines_new b.written_old b.written_new)
+on_ok_adds {f = f} (Ok x) s new other b same no_line adds =
+    subst (λ (d : Draft). Adds d new b.lines_old b.lines_new b.written_old b.written_new)
+    (ap (λ (k : ℕ). with_insertion (draft_at s.now) f (insert_field s.now k f)) same
+    ∙ sym (left_to_insertion s no_line)) adds
+on_ok_adds (Err e) s new other b same no_line adds = tt
+
+pub on_err_stops : {A E : Type 0} {t : Table} {base : ℕ} {f : Field} (r : Result A E) (s : Finds t base f) (new : Table)
+    (other : ℕ) (b : Buffers) → other ≡ base → IsNoLine s.lookup
+    → OnErr r (StopsAdding (with_insertion (draft_at s.now) f (insert_field s.now other f)) s.now new b.written_old
+    b.written_new)
+    → OnErr r (StopsAdding (draft_of_field t base f) t new b.written_old b.written_new)
+on_err_stops (Ok x) s new other b same no_line stops = tt
+on_err_stops {t = t} {base = base} {f = f} (Err e) s new other b same no_line stops =
+    let drafted : with_insertion (draft_at s.now) f (insert_field s.now other f) ≡ draft_of_field t base f =
+    ap (λ (k : ℕ). with_insertion (draft_at s.now) f (insert_field s.now k f)) same
+    ∙ sym (left_to_insertion s no_line) in
+    elim stops [
+      | inl h ↦ inl (h.0 ∙ find_keeps t base f s.lookup s.now s.found, h.1)
+      | inr h ↦
+          inr (
+            h.0 ∙ ap (λ (d : Draft). d.table) drafted,
+            h.1 ∙ ap (λ (d : Draft). b.written_old ++ written_encoder_instructions d.instructions) drafted,
+          )
+    ]

@@ -19,7 +19,7 @@ use Rattle.qpack_spec.specs.Table.{Entry, Table, below_limit, fields_in, has_roo
 use Rattle.qpack_spec.specs.Table.{without_references, commit}
 use Rattle.qpack_spec.proofs.Sizes.{total_first}
 use Rattle.h3_qpack.specs.Encoding.{EncodesLines, GivesUpLines}
-use Rattle.h3_qpack.specs.declared.encoder.EncoderError.{EncoderError}
+use Rattle.h3_qpack.specs.declared.error.EncoderError.{EncoderError}
 
 -- an entry takes 32 bytes at least
 no_entries : (es : List Entry) → total_size (fields_in es) ≤ 0 → fields_in es ≡ []

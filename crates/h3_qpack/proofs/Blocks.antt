@@ -24,7 +24,7 @@ use Rattle.h3_qpack.specs.Encoding.{EncodesBlock, GivesUpBlock, StopsEncoding}
 use Rattle.h3_qpack.proofs.Streams.{stream_found, stream_put}
 use Rattle.h3_qpack.specs.Sessions.{StoredBlock, StoredStream, CountsDecoded, stored_requires_entry, KeepsStreams}
 use Rattle.h3_qpack.specs.Sessions.{ChangesStream, WritesBlock, WritesStream}
-use Rattle.h3_qpack.specs.declared.encoder.EncoderError.{EncoderError}
+use Rattle.h3_qpack.specs.declared.error.EncoderError.{EncoderError}
 use Rattle.h3_qpack.specs.Stateless.{fields_in}
 
 -- a block more is no decoded one

@@ -16,7 +16,7 @@ use Rattle.qpack_spec.proofs.Marked.{handle_is_marked_rule}
 use Rattle.h3_qpack.specs.Encoding.{draft_at, draft_of_lines, AddsLines, StopsAmong, DraftsBlock}
 use Rattle.h3_qpack.specs.Encoding.{GivesUpLines, StopsEncodingLinesOf, EncodesLines}
 use Rattle.qpack_base.specs.declared.coding.NoMemory.{NoMemory}
-use Rattle.h3_qpack.specs.declared.encoder.EncoderError.{EncoderError}
+use Rattle.h3_qpack.specs.declared.error.EncoderError.{EncoderError}
 
 -- ---- the rule, where a block begins
 

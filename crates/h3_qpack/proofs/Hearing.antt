@@ -32,8 +32,8 @@ use Rattle.qpack_wire.specs.StreamLines.{RefusesDecoderLine, decoder_instruction
 use Rattle.qpack_wire.specs.declared.stream.decoder_stream.DecoderLine.{DecoderLine}
 use Rattle.h3_qpack.specs.Errors.{encoder_error_of_parse, encoder_error_of_table}
 use Rattle.h3_qpack.specs.Hearing.{Applies, refusal_of, StopsHearing, bad_bytes, bad_instruction}
-use Rattle.h3_qpack.specs.declared.encoder.EncoderError.{EncoderError}
-use Rattle.h3_qpack.specs.declared.encoder.EncoderError.TheVariants.{Memory}
+use Rattle.h3_qpack.specs.declared.error.EncoderError.{EncoderError}
+use Rattle.h3_qpack.specs.declared.error.EncoderError.TheVariants.{Memory}
 
 -- what the table refuses is refused, as its error says
 pub change_fails : (e : Error) (read : Result table.Table TableRefusal) (old new : table.Table)

@@ -34,8 +34,8 @@ use Rattle.qpack_wire.specs.declared.stream.encoder_stream.EncoderLine.{EncoderL
 use Rattle.h3_qpack.specs.Errors.{decoder_error_of_parse, decoder_error_of_table}
 use Rattle.h3_qpack.specs.Receiving.{Applies, field_to_insert, refusal_of, is_passed, is_passed_for, Stops, no_memory}
 use Rattle.h3_qpack.specs.Receiving.{bad_bytes, bad_instruction}
-use Rattle.h3_qpack.specs.declared.decoder.DecoderError.{DecoderError}
-use Rattle.h3_qpack.specs.declared.decoder.DecoderError.TheVariants.{Memory}
+use Rattle.h3_qpack.specs.declared.error.DecoderError.{DecoderError}
+use Rattle.h3_qpack.specs.declared.error.DecoderError.TheVariants.{Memory}
 
 -- what the table refuses is refused, as its error says
 pub change_fails : (e : Error) (read : Result table.Table TableRefusal) (old new : table.Table)

@@ -16,15 +16,20 @@ use Rattle.h3_qpack.proofs.AddedFields.{front_of}
 pub grows_none : {A : Type 0} (room : ℕ) (v : Vec ℕ A) → GrowsWithin room v v
 grows_none room v = record { longer = omega arith; still = λ h. refl; capacity = omega arith }
 
--- room was made
-pub grows_made : {A : Type 0} (least room : ℕ) (old made : Vec ℕ A) → least ≤ room → vec_len made ≡ vec_len old
-    → (vec_len old + least ≤ vec_capacity old → vec_capacity made ≡ vec_capacity old)
-    → vec_capacity old ≤ vec_capacity made → GrowsWithin room old made
-grows_made least room old made within len still capacity =
+-- room for so many bytes was made, where there was less, within what a field's instruction may take
+pub record MakesRoom {A : Type 0} (room : ℕ) (old made : Vec ℕ A) : Type 0 where
+  pub least : ℕ
+  pub within : least ≤ room
+  pub len : vec_len made ≡ vec_len old
+  pub still : vec_len old + least ≤ vec_capacity old → vec_capacity made ≡ vec_capacity old
+  pub capacity : vec_capacity old ≤ vec_capacity made
+
+pub grows_made : {A : Type 0} {room : ℕ} {old made : Vec ℕ A} → MakesRoom room old made → GrowsWithin room old made
+grows_made m =
     record {
-      longer = omega (arith, len);
-      still = λ fits. still (omega (arith, fits, within));
-      capacity = capacity;
+      longer = omega (arith, m.len);
+      still = λ fits. m.still (omega (arith, fits, m.within));
+      capacity = m.capacity;
     }
 
 -- what is written is as long as it is, or not there
@@ -36,17 +41,14 @@ wrote_longer encoding old new (Err e) w =
     omega (arith, ap (λ (l : List ℕ). length l) w.err, old.ok.0, new.ok.0)
 
 -- room was made, and an instruction written into it
-pub grows_written : {A E : Type 0} (least room : ℕ) (encoding : List ℕ) (old made new : Vec ℕ A)
-    (r : Result (Unit {0}) E) → least ≤ room → vec_len made ≡ vec_len old
-    → (vec_len old + least ≤ vec_capacity old → vec_capacity made ≡ vec_capacity old)
-    → vec_capacity old ≤ vec_capacity made → vec_len made + least ≤ vec_capacity made → length encoding ≤ least
-    → Writes encoding made new r → GrowsWithin room old new
-grows_written least room encoding old made new r within len still capacity free small wrote =
-    let k = grows_made least room old made within len still capacity in
+pub grows_written : {A E : Type 0} {room : ℕ} {old made : Vec ℕ A} (m : MakesRoom room old made) (encoding : List ℕ)
+    (new : Vec ℕ A) (r : Result (Unit {0}) E) → vec_len made + m.least ≤ vec_capacity made
+    → length encoding ≤ m.least → Writes encoding made new r → GrowsWithin room old new
+grows_written {made = made} m encoding new r free small wrote =
     record {
-      longer = omega (arith, wrote_longer encoding made new r wrote, len, small, within);
-      still = λ fits. wrote.still (omega (arith, free, small)) ∙ k.still fits;
-      capacity = omega (arith, k.capacity, wrote.capacity);
+      longer = omega (arith, wrote_longer encoding made new r wrote, m.len, small, m.within);
+      still = λ fits. wrote.still (omega (arith, free, small)) ∙ m.still (omega (arith, fits, m.within));
+      capacity = omega (arith, m.capacity, wrote.capacity);
     }
 
 -- the instruction of what was inserted fits

@@ -26,7 +26,7 @@ use Rattle.h3_qpack.specs.Encoding.{draft_at, draft_of_field, draft_of_line, Add
 use Rattle.h3_qpack.specs.Encoding.{DrainsLinesOf}
 use Rattle.h3_qpack.specs.Encoding.{EncodesLines, EncodesBlock, GivesUpLines, GivesUpBlock, StopsEncodingLinesOf}
 use Rattle.h3_qpack.specs.Encoding.{StopsEncoding}
-use Rattle.h3_qpack.specs.declared.encoder.EncoderError.{EncoderError}
+use Rattle.h3_qpack.specs.declared.error.EncoderError.{EncoderError}
 use Rattle.h3_qpack.proofs.AddedFields.{front_of}
 
 -- ---- a field that is never to be indexed

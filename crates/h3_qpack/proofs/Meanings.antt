@@ -8,8 +8,8 @@ use Rattle.qpack_spec.proofs.Results.{ok_is}
 use Rattle.qpack_spec.proofs.StatelessMeanings.{reading_alone}
 use Rattle.qpack_wire.specs.Answers.{ReadAs}
 use Rattle.h3_qpack.specs.declared.decoder.Decoded.{Decoded}
-use Rattle.h3_qpack.specs.declared.decoder.DecoderError.{DecoderError}
-use Rattle.h3_qpack.specs.declared.decoder.DecoderError.TheVariants.{MissingRefs, Memory}
+use Rattle.h3_qpack.specs.declared.error.DecoderError.{DecoderError}
+use Rattle.h3_qpack.specs.declared.error.DecoderError.TheVariants.{MissingRefs, Memory}
 use Rattle.h3_qpack.specs.Stateless.{fault_of, FailsStateless, DecodesStateless, Tells, GivesFields, GivesFault}
 use Rattle.h3_qpack.specs.Stateless.{FindsFields}
 use Rattle.h3_qpack.specs.Stateless.{FindsFault, fields_in}

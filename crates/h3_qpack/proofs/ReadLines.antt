@@ -16,8 +16,8 @@ use Rattle.qpack_spec.proofs.FormLaws.{TakesSpelling, form_takes}
 use Rattle.qpack_base.specs.declared.field.HeaderField.{HeaderField}
 use Rattle.qpack_base.specs.HeaderFields.{field_of}
 use Rattle.qpack_wire.specs.Answers.{ReadAs}
-use Rattle.h3_qpack.specs.declared.decoder.DecoderError.{DecoderError}
-use Rattle.h3_qpack.specs.declared.decoder.DecoderError.TheVariants.{MissingRefs, Memory}
+use Rattle.h3_qpack.specs.declared.error.DecoderError.{DecoderError}
+use Rattle.h3_qpack.specs.declared.error.DecoderError.TheVariants.{MissingRefs, Memory}
 use Rattle.qpack_wire.specs.Memory.{HoldsLine}
 use Rattle.h3_qpack.specs.Stateless.{fault_of, FailsStateless, fields_in, stateless_field_at}
 

@@ -15,8 +15,8 @@ use Rattle.qpack_wire.specs.Alone.{or_unreadable}
 use Rattle.qpack_wire.specs.BlockLines.{line_at}
 use Rattle.qpack_spec.proofs.Results.{bind_ok, ok_is, ok_pair}
 use Rattle.qpack_spec.proofs.FormLaws.{TakesSpelling, form_takes}
-use Rattle.h3_qpack.specs.declared.decoder.DecoderError.{DecoderError}
-use Rattle.h3_qpack.specs.declared.decoder.DecoderError.TheVariants.{Memory}
+use Rattle.h3_qpack.specs.declared.error.DecoderError.{DecoderError}
+use Rattle.h3_qpack.specs.declared.error.DecoderError.TheVariants.{Memory}
 use Rattle.qpack_wire.specs.Memory.{HoldsLine}
 use Rattle.qpack_wire.proofs.Asking.{HasBegun}
 use Rattle.h3_qpack.specs.Sections.{FailsWith, GivesLineField, ReadsField, line_field_at}

@@ -16,8 +16,8 @@ use Rattle.qpack_wire.specs.Alone.{or_unreadable}
 use Rattle.qpack_wire.specs.Prefixes.{read_prefix_at, error_of_prefix, or_prefix_error}
 use Rattle.h3_qpack.specs.Errors.{decoder_error_of_parse}
 use Rattle.h3_qpack.specs.Sections.{DecodesSection, FailsWith}
-use Rattle.h3_qpack.specs.declared.decoder.DecoderError.{DecoderError}
-use Rattle.h3_qpack.specs.declared.decoder.DecoderError.TheVariants.{Memory}
+use Rattle.h3_qpack.specs.declared.error.DecoderError.{DecoderError}
+use Rattle.h3_qpack.specs.declared.error.DecoderError.TheVariants.{Memory}
 
 inserted_is : (t : Table) → window_insert_count (window t) ≡ insert_count t
 unfolding window

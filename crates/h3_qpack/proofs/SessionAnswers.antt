@@ -11,8 +11,8 @@ use Rattle.h3_qpack.specs.SessionAnswers.{IsUnrefused, IsExact, IsExactBehind, A
 use Rattle.h3_qpack.specs.SessionRuns.{AreAnswered}
 use Rattle.h3_qpack.specs.Sessions.{SessionView, IsReached, Answers, Follows, TellsUndecoded}
 use Rattle.h3_qpack.specs.Stateless.{fields_in}
-use Rattle.h3_qpack.specs.declared.decoder.DecoderError.{DecoderError}
-use Rattle.h3_qpack.specs.declared.decoder.DecoderError.TheVariants as decoder
+use Rattle.h3_qpack.specs.declared.error.DecoderError.{DecoderError}
+use Rattle.h3_qpack.specs.declared.error.DecoderError.TheVariants as decoder
 use Rattle.h3_qpack.specs.declared.session.Event.{Event}
 use Rattle.h3_qpack.specs.declared.session.Outcome.{Outcome}
 use Rattle.h3_qpack.specs.declared.session.Outcome.TheVariants as outcome

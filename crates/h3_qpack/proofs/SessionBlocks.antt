@@ -19,8 +19,8 @@ use Rattle.h3_qpack.specs.Encoding.{EncodesBlock, GivesUpBlock}
 use Rattle.h3_qpack.specs.Sessions.{StoredBlock, StoredStream, stored_block, stored_stream, SessionView, Shows}
 use Rattle.h3_qpack.specs.Sessions.{IsReached, Follows, Goes, KeepsStreams, encode_skip}
 use Rattle.h3_qpack.specs.Sessions.{WritesStream, GivesUp}
-use Rattle.h3_qpack.specs.declared.encoder.EncoderError.{EncoderError}
-use Rattle.h3_qpack.specs.declared.encoder.EncoderError.TheVariants.{Memory}
+use Rattle.h3_qpack.specs.declared.error.EncoderError.{EncoderError}
+use Rattle.h3_qpack.specs.declared.error.EncoderError.TheVariants.{Memory}
 use Rattle.h3_qpack.specs.declared.session.Outcome.TheVariants as outcome
 
 abbrev with_written : SessionView → Table → List ℕ → List (ℕ × StoredStream) → SessionView

@@ -21,9 +21,9 @@ use Rattle.h3_qpack.specs.Receiving.{written_report}
 use Rattle.h3_qpack.specs.Hearing.{Hears, EndsHearing, StopsHearing}
 use Rattle.h3_qpack.specs.Sections.{form_fault_of}
 use Rattle.h3_qpack.specs.Sessions.{SessionView, Shows, IsReached, Follows, Goes, Answers, TellsStreamFault}
-use Rattle.h3_qpack.specs.declared.decoder.DecoderError.{DecoderError}
-use Rattle.h3_qpack.specs.declared.decoder.DecoderError.TheVariants as decoder
-use Rattle.h3_qpack.specs.declared.encoder.EncoderError.{EncoderError}
+use Rattle.h3_qpack.specs.declared.error.DecoderError.{DecoderError}
+use Rattle.h3_qpack.specs.declared.error.DecoderError.TheVariants as decoder
+use Rattle.h3_qpack.specs.declared.error.EncoderError.{EncoderError}
 use Rattle.h3_qpack.specs.declared.session.Outcome.TheVariants as outcome
 
 -- so many bytes were consumed of a front and a rest of which the rest is left

@@ -25,10 +25,10 @@ use Rattle.h3_qpack.specs.Sessions.{IsReached, Follows, Goes, Answers, ChangesSt
 use Rattle.h3_qpack.specs.Sessions.{KeepsStreams, cancellation_skip, acknowledgment_skip, decode_skip}
 use Rattle.h3_qpack.specs.Stateless.{fields_in}
 use Rattle.h3_qpack.specs.declared.decoder.Decoded.{Decoded}
-use Rattle.h3_qpack.specs.declared.decoder.DecoderError.{DecoderError}
-use Rattle.h3_qpack.specs.declared.decoder.DecoderError.TheVariants as decoder
-use Rattle.h3_qpack.specs.declared.encoder.EncoderError.{EncoderError}
-use Rattle.h3_qpack.specs.declared.encoder.EncoderError.TheVariants.{Memory}
+use Rattle.h3_qpack.specs.declared.error.DecoderError.{DecoderError}
+use Rattle.h3_qpack.specs.declared.error.DecoderError.TheVariants as decoder
+use Rattle.h3_qpack.specs.declared.error.EncoderError.{EncoderError}
+use Rattle.h3_qpack.specs.declared.error.EncoderError.TheVariants.{Memory}
 use Rattle.h3_qpack.specs.declared.session.Outcome.TheVariants as outcome
 
 -- ---- a cancellation

@@ -14,10 +14,10 @@ use Rattle.h3_qpack.specs.Sections.{form_fault_of}
 use Rattle.h3_qpack.specs.SessionMemory.{AsksAtDecoder, IsAskedFor}
 use Rattle.h3_qpack.specs.Sessions.{StoredStream, SessionView, IsReached, HasBytes}
 use Rattle.h3_qpack.specs.declared.decoder.Decoded.{Decoded}
-use Rattle.h3_qpack.specs.declared.decoder.DecoderError.{DecoderError}
-use Rattle.h3_qpack.specs.declared.decoder.DecoderError.TheVariants as decoder
-use Rattle.h3_qpack.specs.declared.encoder.EncoderError.{EncoderError}
-use Rattle.h3_qpack.specs.declared.encoder.EncoderError.TheVariants as encoder
+use Rattle.h3_qpack.specs.declared.error.DecoderError.{DecoderError}
+use Rattle.h3_qpack.specs.declared.error.DecoderError.TheVariants as decoder
+use Rattle.h3_qpack.specs.declared.error.EncoderError.{EncoderError}
+use Rattle.h3_qpack.specs.declared.error.EncoderError.TheVariants as encoder
 use Rattle.h3_qpack.specs.declared.session.Outcome.TheVariants as outcome
 
 -- ---- a decode

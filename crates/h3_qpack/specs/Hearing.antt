@@ -11,8 +11,8 @@ use Rattle.qpack_spec.specs.Taking.{TakesAllOf}
 use Rattle.qpack_base.specs.Integers.{integer_fault_of}
 use Rattle.qpack_base.specs.Refusals.{IsRefusedFor}
 use Rattle.qpack_table.specs.Tables as tables
-use Rattle.h3_qpack.specs.declared.encoder.EncoderError.{EncoderError}
-use Rattle.h3_qpack.specs.declared.encoder.EncoderError.TheVariants.{Insertion, InvalidInteger, Memory}
+use Rattle.h3_qpack.specs.declared.error.EncoderError.{EncoderError}
+use Rattle.h3_qpack.specs.declared.error.EncoderError.TheVariants.{Insertion, InvalidInteger, Memory}
 use Rattle.h3_qpack.specs.Taking.{TakesNextOf, EndsTakingOf}
 
 -- the fault of bytes that an error tells

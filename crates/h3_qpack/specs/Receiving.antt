@@ -23,8 +23,8 @@ use Rattle.qpack_table.specs.declared.dynamic.Error.TheVariants.{BadRelativeInde
 use Rattle.qpack_table.specs.declared.dynamic.Error.TheVariants.{MaximumTableSizeTooLarge, UnknownStreamId}
 use Rattle.qpack_wire.specs.Memory.{AsksForMemory}
 use Rattle.h3_qpack.specs.Sections.{form_fault_of}
-use Rattle.h3_qpack.specs.declared.decoder.DecoderError.{DecoderError}
-use Rattle.h3_qpack.specs.declared.decoder.DecoderError.TheVariants.{DynamicTable, InvalidStaticIndex, Memory}
+use Rattle.h3_qpack.specs.declared.error.DecoderError.{DecoderError}
+use Rattle.h3_qpack.specs.declared.error.DecoderError.TheVariants.{DynamicTable, InvalidStaticIndex, Memory}
 use Rattle.h3_qpack.specs.Taking.{TakesOneOf, TakesNextOf, EndsTakingOf}
 
 -- a decoder: its table, and how many insertions it has not reported yet

@@ -21,10 +21,10 @@ use Rattle.qpack_base.specs.declared.prefix_string.Error.TheVariants as string
 use Rattle.qpack_table.specs.declared.dynamic.Error.TheVariants.{BadRelativeIndex, BadPostbaseIndex, BadIndex}
 use Rattle.h3_qpack.specs.Stateless.{fields_in}
 use Rattle.h3_qpack.specs.declared.decoder.Decoded.{Decoded}
-use Rattle.h3_qpack.specs.declared.decoder.DecoderError.{DecoderError}
-use Rattle.h3_qpack.specs.declared.decoder.DecoderError.TheVariants.{MissingRefs, BadBaseIndex, DynamicTable}
-use Rattle.h3_qpack.specs.declared.decoder.DecoderError.TheVariants.{InvalidInteger, InvalidString, InvalidStaticIndex}
-use Rattle.h3_qpack.specs.declared.decoder.DecoderError.TheVariants.{Memory}
+use Rattle.h3_qpack.specs.declared.error.DecoderError.{DecoderError}
+use Rattle.h3_qpack.specs.declared.error.DecoderError.TheVariants.{MissingRefs, BadBaseIndex, DynamicTable}
+use Rattle.h3_qpack.specs.declared.error.DecoderError.TheVariants.{InvalidInteger, InvalidString, InvalidStaticIndex}
+use Rattle.h3_qpack.specs.declared.error.DecoderError.TheVariants.{Memory}
 use Rattle.h3_qpack.specs.declared.decoder.sections.Fields.{Fields as ReadFields}
 
 -- the fault of bytes that an error tells

@@ -7,8 +7,8 @@ use Rattle.qpack_safety.specs.Headline.{AnsweredEncode, next_encode}
 use Rattle.qpack_safety.specs.SessionSafety.{AnswersFields}
 use Rattle.h3_qpack.specs.Sessions.{SessionView, Reaches}
 use Rattle.h3_qpack.specs.Stateless.{fields_in}
-use Rattle.h3_qpack.specs.declared.decoder.DecoderError.{DecoderError}
-use Rattle.h3_qpack.specs.declared.decoder.DecoderError.TheVariants as decoder
+use Rattle.h3_qpack.specs.declared.error.DecoderError.{DecoderError}
+use Rattle.h3_qpack.specs.declared.error.DecoderError.TheVariants as decoder
 use Rattle.h3_qpack.specs.declared.session.Outcome.{Outcome}
 use Rattle.h3_qpack.specs.declared.session.Outcome.TheVariants as outcome
 

@@ -18,9 +18,9 @@ use Rattle.h3_qpack.specs.Receiving as receiving
 use Rattle.h3_qpack.specs.Receiving.{DecoderView}
 use Rattle.h3_qpack.specs.Sections.{Tells, form_fault_of}
 use Rattle.h3_qpack.specs.Stateless.{fields_in}
-use Rattle.h3_qpack.specs.declared.decoder.DecoderError.{DecoderError}
-use Rattle.h3_qpack.specs.declared.decoder.DecoderError.TheVariants as decoder
-use Rattle.h3_qpack.specs.declared.encoder.EncoderError.TheVariants as encoder
+use Rattle.h3_qpack.specs.declared.error.DecoderError.{DecoderError}
+use Rattle.h3_qpack.specs.declared.error.DecoderError.TheVariants as decoder
+use Rattle.h3_qpack.specs.declared.error.EncoderError.TheVariants as encoder
 use Rattle.h3_qpack.specs.declared.session.Event.{Event}
 use Rattle.h3_qpack.specs.declared.session.Event.TheVariants as event
 use Rattle.h3_qpack.specs.declared.session.Outcome.{Outcome}

@@ -20,10 +20,10 @@ use Rattle.qpack_base.specs.declared.prefix_int.Error.TheVariants as integer
 use Rattle.qpack_base.specs.declared.prefix_string.Error.TheVariants as string
 use Rattle.qpack_wire.specs.Answers.{ReadAs}
 use Rattle.h3_qpack.specs.declared.decoder.Decoded.{Decoded}
-use Rattle.h3_qpack.specs.declared.decoder.DecoderError.{DecoderError}
-use Rattle.h3_qpack.specs.declared.decoder.DecoderError.TheVariants.{MissingRefs, HeaderTooLong, InvalidInteger}
-use Rattle.h3_qpack.specs.declared.decoder.DecoderError.TheVariants.{BadBaseIndex, InvalidString, InvalidStaticIndex}
-use Rattle.h3_qpack.specs.declared.decoder.DecoderError.TheVariants.{Memory}
+use Rattle.h3_qpack.specs.declared.error.DecoderError.{DecoderError}
+use Rattle.h3_qpack.specs.declared.error.DecoderError.TheVariants.{MissingRefs, HeaderTooLong, InvalidInteger}
+use Rattle.h3_qpack.specs.declared.error.DecoderError.TheVariants.{BadBaseIndex, InvalidString, InvalidStaticIndex}
+use Rattle.h3_qpack.specs.declared.error.DecoderError.TheVariants.{Memory}
 
 -- the fields that were decoded
 abbrev pub fields_in : List HeaderField → List Field

@@ -15,8 +15,8 @@ use Rattle.qpack_table.proofs.Changes.{resized_to}
 use Rattle.qpack_table.specs.Tables.{oldest_required}
 use Rattle.qpack_table.specs.declared.dynamic.Error.TheVariants as table
 use Rattle.h3_qpack.specs.Hearing.{SetsCapacity}
-use Rattle.h3_qpack.specs.declared.encoder.EncoderError.{EncoderError}
-use Rattle.h3_qpack.specs.declared.encoder.EncoderError.TheVariants as encoder
+use Rattle.h3_qpack.specs.declared.error.EncoderError.{EncoderError}
+use Rattle.h3_qpack.specs.declared.error.EncoderError.TheVariants as encoder
 use Rattle.qpack_connection.specs.Encoders.{EncodingEnd, IsSound, IsToBeTold, StopsTelling}
 use Rattle.qpack_connection.specs.Encoders.{TellsCapacity, Begins, begun_with, told, received, capacity_failure}
 use Rattle.qpack_connection.specs.Hearing.{strict_hear, hear_in_turn, or_unknown, known_at_least}

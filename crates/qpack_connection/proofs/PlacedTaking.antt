@@ -6,7 +6,7 @@ use Rattle.qpack_spec.specs.Instruction.{encoder_instruction_form}
 use Rattle.qpack_spec.specs.Table.{Table}
 use Rattle.qpack_spec.proofs.Taking.{joined_last, applied_last}
 use Rattle.h3_qpack.specs.Taking.{TakesOneOf, EndsTakingOf}
-use Rattle.h3_qpack.specs.declared.decoder.DecoderError.{DecoderError}
+use Rattle.h3_qpack.specs.declared.error.DecoderError.{DecoderError}
 use Rattle.qpack_connection.specs.Places.{first_place, passed}
 use Rattle.qpack_connection.specs.declared.place.Place.{Place}
 use Rattle.qpack_connection.specs.Receiving.{strict_apply, StopsStrictly, PassesOne, TakesFrom, TakesNextStrictly}

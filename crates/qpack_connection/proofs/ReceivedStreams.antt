@@ -13,8 +13,8 @@ use Rattle.qpack_spec.proofs.Cuttings.{joined_append}
 use Rattle.qpack_spec.proofs.Results.{bind_ok, ok_is}
 use Rattle.qpack_spec.proofs.Waiting.{nothing_before_wanted}
 use Rattle.h3_qpack.specs.Receiving.{AsksToTake}
-use Rattle.h3_qpack.specs.declared.decoder.DecoderError.{DecoderError}
-use Rattle.h3_qpack.specs.declared.decoder.DecoderError.TheVariants.{Memory}
+use Rattle.h3_qpack.specs.declared.error.DecoderError.{DecoderError}
+use Rattle.h3_qpack.specs.declared.error.DecoderError.TheVariants.{Memory}
 use Rattle.qpack_connection.specs.Places.{first_place, passed, behind}
 use Rattle.qpack_connection.specs.declared.place.Place.{Place}
 use Rattle.qpack_connection.specs.Receiving.{strict_apply, Refuses, StopsStrictly, TakesAllStrictly, MayGrow}

@@ -9,7 +9,7 @@ use Rattle.qpack_spec.proofs.LawfulStreams.{inserts_by}
 use Rattle.h3_qpack.specs.Receiving.{Stops, no_memory, TakesNext}
 use Rattle.h3_qpack.specs.Receiving as decoder
 use Rattle.h3_qpack.specs.Taking.{EndsTakingOf}
-use Rattle.h3_qpack.specs.declared.decoder.DecoderError.{DecoderError}
+use Rattle.h3_qpack.specs.declared.error.DecoderError.{DecoderError}
 use Rattle.qpack_connection.specs.declared.place.Place.{Place}
 use Rattle.qpack_connection.specs.Receiving.{inserts, strict_apply, begins_insertion, begins_unlawfully, bad_bytes}
 use Rattle.qpack_connection.specs.Receiving.{bad_instruction, StopsStrictly, TakesNextStrictly, TakesAllStrictly}

@@ -9,8 +9,8 @@ use Rattle.qpack_spec.specs.Table.{Table, empty_table, with_capacity}
 use Rattle.qpack_spec.specs.Window.{DoesNotFit, AboveMaximum}
 use Rattle.qpack_table.specs.declared.dynamic.Error.TheVariants.{MaxTableSizeReached}
 use Rattle.h3_qpack.specs.Encoding.{EncodesLines, GivesUpLines}
-use Rattle.h3_qpack.specs.declared.encoder.EncoderError.{EncoderError}
-use Rattle.h3_qpack.specs.declared.encoder.EncoderError.TheVariants as encoder
+use Rattle.h3_qpack.specs.declared.error.EncoderError.{EncoderError}
+use Rattle.h3_qpack.specs.declared.error.EncoderError.TheVariants as encoder
 use Rattle.qpack_connection.specs.declared.encoder.EncoderSettings.{EncoderSettings}
 use Rattle.qpack_connection.specs.declared.encoder.EncodingError.{EncodingError}
 use Rattle.qpack_connection.specs.declared.encoder.EncodingError.TheVariants.{DecoderStream, CapacityTooLarge}

@@ -5,7 +5,7 @@ use Rattle.qpack_spec.specs.Instruction.{EncoderInstruction, DecoderInstruction,
 use Rattle.qpack_spec.specs.LawfulStreams.{IsLawfulStream}
 use Rattle.qpack_spec.specs.Stream.{SpellsAll}
 use Rattle.qpack_spec.specs.Table.{Table}
-use Rattle.h3_qpack.specs.declared.decoder.DecoderError.{DecoderError}
+use Rattle.h3_qpack.specs.declared.error.DecoderError.{DecoderError}
 use Rattle.qpack_connection.specs.declared.hearing.DecoderStreamError.{DecoderStreamError}
 use Rattle.qpack_connection.specs.declared.place.Place.{Place}
 use Rattle.qpack_connection.specs.declared.receiving.EncoderStreamError.TheVariants.{Refused}

@@ -19,8 +19,8 @@ use Rattle.qpack_table.specs.declared.dynamic.Error.{Error as TableError}
 use Rattle.qpack_wire.specs.Memory.{AsksFormAt}
 use Rattle.h3_qpack.specs.Errors.{decoder_error_of_parse, decoder_error_of_table, decoder_error_of_static}
 use Rattle.h3_qpack.specs.Sections.{Tells}
-use Rattle.h3_qpack.specs.declared.decoder.DecoderError.{DecoderError}
-use Rattle.h3_qpack.specs.declared.decoder.DecoderError.TheVariants as decoder
+use Rattle.h3_qpack.specs.declared.error.DecoderError.{DecoderError}
+use Rattle.h3_qpack.specs.declared.error.DecoderError.TheVariants as decoder
 use Rattle.qpack_connection.specs.declared.section.LineError.{LineError}
 use Rattle.qpack_connection.specs.declared.section.LineError.TheVariants.{Meaningless, PastRequired, TooLarge, Memory}
 use Rattle.qpack_connection.specs.declared.field_section.Span.{Span}

@@ -13,8 +13,8 @@ use Rattle.qpack_spec.specs.Window.{TableRefusal, DoesNotFit}
 use Rattle.h3_qpack.specs.Receiving.{refusal_of, AsksToTake}
 use Rattle.h3_qpack.specs.Sections.{form_fault_of}
 use Rattle.h3_qpack.specs.Taking.{TakesNextOf, EndsTakingOf}
-use Rattle.h3_qpack.specs.declared.decoder.DecoderError.{DecoderError}
-use Rattle.h3_qpack.specs.declared.decoder.DecoderError.TheVariants as decoder
+use Rattle.h3_qpack.specs.declared.error.DecoderError.{DecoderError}
+use Rattle.h3_qpack.specs.declared.error.DecoderError.TheVariants as decoder
 use Rattle.qpack_connection.specs.Places.{first_place, passed, behind}
 use Rattle.qpack_connection.specs.declared.place.Place.{Place}
 use Rattle.qpack_connection.specs.declared.receiving.EncoderStreamError.{EncoderStreamError}

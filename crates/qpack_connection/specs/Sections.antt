@@ -7,8 +7,8 @@ use Rattle.qpack_spec.specs.StrictReading as strict
 use Rattle.qpack_base.specs.declared.parse_error.ParseError.{ParseError}
 use Rattle.h3_qpack.specs.Errors.{decoder_error_of_parse}
 use Rattle.h3_qpack.specs.Sections.{Tells}
-use Rattle.h3_qpack.specs.declared.decoder.DecoderError.{DecoderError}
-use Rattle.h3_qpack.specs.declared.decoder.DecoderError.TheVariants as decoder
+use Rattle.h3_qpack.specs.declared.error.DecoderError.{DecoderError}
+use Rattle.h3_qpack.specs.declared.error.DecoderError.TheVariants as decoder
 use Rattle.qpack_connection.specs.declared.section.LineError.{LineError}
 use Rattle.qpack_connection.specs.declared.section.LineError.TheVariants as line
 use Rattle.qpack_connection.specs.declared.section.Reading.{Reading}

@@ -168,7 +168,7 @@ fn hear(table: &mut DynamicTable, bytes: &[u8]) -> Result<bool, HearingError>
     let mut buf = Cursor::new(bytes);
     match next_line::<DecoderLine>(table.allocator(), &mut buf) {
         Ok(Some(line)) => {
-            apply(table, line)?;
+            apply_strictly(table, line)?;
             Ok(true)
         }
         Ok(None) => Ok(false),
@@ -177,7 +177,7 @@ fn hear(table: &mut DynamicTable, bytes: &[u8]) -> Result<bool, HearingError>
 }
 
 /// Applies an instruction to the table. On error nothing changes.
-fn apply(table: &mut DynamicTable, line: DecoderLine) -> Result<(), HearingError>
+fn apply_strictly(table: &mut DynamicTable, line: DecoderLine) -> Result<(), HearingError>
     ensures { Applies result (strict_hear table.old (decoder_instruction_of line)) table.old table.new }
 {
     match line {

@@ -8,7 +8,7 @@ ghost use Rattle.qpack_connection.specs.Receiving.{begins_unlawfully, TakesNextS
 ghost use Rattle.qpack_connection.specs.Receiving.{Receives, ReceivesMore, PassesOne};
 ghost use Rattle.qpack_connection.specs.Receiving.{stream_error_at, answer_at, stream_code_of};
 ghost use Rattle.qpack_table.specs.declared.dynamic.Error.TheVariants.{MaxTableSizeReached};
-ghost use Rattle.h3_qpack.specs.declared.decoder.DecoderError.TheVariants.{DynamicTable as DynamicTableError};
+ghost use Rattle.h3_qpack.specs.declared.error.DecoderError.TheVariants.{DynamicTable as DynamicTableError};
 
 use crate::place::Place;
 use h3_qpack::decoder::{DecoderError, take_instruction};

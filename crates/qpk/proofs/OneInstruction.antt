@@ -10,8 +10,8 @@ use Rattle.qpack_spec.proofs.Cuttings.{wire, nil_append, streams_read}
 use Rattle.qpack_spec.proofs.Results.{bind_ok, ok_is}
 use Rattle.h3_qpack.specs.Receiving.{DecoderView, Stops, no_memory, bad_bytes, bad_instruction, TakesInstructions}
 use Rattle.h3_qpack.specs.Receiving.{EndsReceiving, Receives}
-use Rattle.h3_qpack.specs.declared.decoder.DecoderError.{DecoderError}
-use Rattle.h3_qpack.specs.declared.decoder.DecoderError.TheVariants.{Memory}
+use Rattle.h3_qpack.specs.declared.error.DecoderError.{DecoderError}
+use Rattle.h3_qpack.specs.declared.error.DecoderError.TheVariants.{Memory}
 use Rattle.qpk.specs.Inspections.{RefusesWhole}
 
 -- ---- it is applied

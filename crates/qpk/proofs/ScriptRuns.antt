@@ -22,10 +22,10 @@ use Rattle.h3_qpack.specs.SessionMemory.{IsAskedFor, AsksToDecode, AsksAtDecoder
 use Rattle.h3_qpack.specs.Sessions.{SessionView, Shows, Answers, Follows, event_of, stored_block, StoredBlock}
 use Rattle.h3_qpack.specs.Sessions.{StoredStream, HasBytes, IsAnswerTo, TellsUndecoded}
 use Rattle.h3_qpack.specs.declared.session.Event.{Event as ReadEvent}
-use Rattle.h3_qpack.specs.declared.decoder.DecoderError.{DecoderError}
-use Rattle.h3_qpack.specs.declared.decoder.DecoderError.TheVariants as decoder
-use Rattle.h3_qpack.specs.declared.encoder.EncoderError.{EncoderError}
-use Rattle.h3_qpack.specs.declared.encoder.EncoderError.TheVariants as encoder
+use Rattle.h3_qpack.specs.declared.error.DecoderError.{DecoderError}
+use Rattle.h3_qpack.specs.declared.error.DecoderError.TheVariants as decoder
+use Rattle.h3_qpack.specs.declared.error.EncoderError.{EncoderError}
+use Rattle.h3_qpack.specs.declared.error.EncoderError.TheVariants as encoder
 use Rattle.h3_qpack.specs.declared.session.Outcome.{Outcome}
 use Rattle.h3_qpack.specs.declared.session.Outcome.TheVariants as outcome
 use Rattle.qpk.specs.ErrorWords.{decoder_words, encoder_words, refused_text}

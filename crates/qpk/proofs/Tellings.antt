@@ -2,7 +2,7 @@
 use Rattle.std.proofs.Common.{◌≡◌, ℕ, List, Option, Some, None, refl, sym, subst, inl, inr}
 use Rattle.std.specs.Prelude.{String, codes, IfSome}
 use Rattle.qpk.specs.Refusals.{IsFault, TellsBy, refusal_line}
-use Rattle.h3_qpack.specs.declared.decoder.DecoderError.{DecoderError}
+use Rattle.h3_qpack.specs.declared.error.DecoderError.{DecoderError}
 use Rattle.qpk.specs.Serving.{HasFault, EndsFor, Stops, IsInspection, input_of}
 use Rattle.qpk.specs.declared.serve.Command.{Command}
 use Rattle.qpk.specs.declared.serve.Command.TheVariants.{Help, Encode, Decode, DecodeHex, Inspect, Run, Show}

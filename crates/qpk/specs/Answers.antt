@@ -12,8 +12,8 @@ use Rattle.qpack_spec.specs.Stateless.{stateless_block, stateless_reading}
 use Rattle.qpack_base.specs.declared.field.HeaderField.{HeaderField}
 use Rattle.h3_qpack.specs.Stateless.{DecodesStateless, FailsStateless, fields_in}
 use Rattle.h3_qpack.specs.declared.decoder.Decoded.{Decoded}
-use Rattle.h3_qpack.specs.declared.decoder.DecoderError.{DecoderError}
-use Rattle.h3_qpack.specs.declared.decoder.DecoderError.TheVariants as decoder
+use Rattle.h3_qpack.specs.declared.error.DecoderError.{DecoderError}
+use Rattle.h3_qpack.specs.declared.error.DecoderError.TheVariants as decoder
 use Rattle.qpk.specs.FieldText.{lines_of, fields_from}
 use Rattle.qpk.specs.declared.text.Fault.{Fault}
 use Rattle.qpk.specs.declared.text.Fault.TheVariants.{NoTab, BadEvent, NotHexadecimal, Refused, Memory}

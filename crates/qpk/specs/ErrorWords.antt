@@ -12,10 +12,10 @@ use Rattle.h3_qpack.below.qpack_table.specs.declared.dynamic.Error.{Error as Tab
 use Rattle.h3_qpack.below.qpack_table.specs.declared.dynamic.Error.TheVariants as table
 use Rattle.h3_qpack.below.qpack_table.specs.declared.vas.Error.{Error as AddressError}
 use Rattle.h3_qpack.below.qpack_table.specs.declared.vas.Error.TheVariants as address
-use Rattle.h3_qpack.specs.declared.decoder.DecoderError.{DecoderError}
-use Rattle.h3_qpack.specs.declared.decoder.DecoderError.TheVariants as decoder
-use Rattle.h3_qpack.specs.declared.encoder.EncoderError.{EncoderError}
-use Rattle.h3_qpack.specs.declared.encoder.EncoderError.TheVariants as encoder
+use Rattle.h3_qpack.specs.declared.error.DecoderError.{DecoderError}
+use Rattle.h3_qpack.specs.declared.error.DecoderError.TheVariants as decoder
+use Rattle.h3_qpack.specs.declared.error.EncoderError.{EncoderError}
+use Rattle.h3_qpack.specs.declared.error.EncoderError.TheVariants as encoder
 
 -- the line of what is refused, in these words
 abbrev pub refused_text : List ℕ → List ℕ

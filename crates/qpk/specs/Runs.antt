@@ -11,7 +11,7 @@ use Rattle.h3_qpack.below.qpack_table.specs.declared.dynamic.Error.{Error as Tab
 use Rattle.h3_qpack.below.qpack_table.specs.declared.dynamic.Error.TheVariants as table
 use Rattle.h3_qpack.specs.Receiving.{AsksToTake}
 use Rattle.h3_qpack.specs.Sessions.{SessionView, StoredBlock, Reaches}
-use Rattle.h3_qpack.specs.declared.encoder.EncoderError.TheVariants.{Insertion}
+use Rattle.h3_qpack.specs.declared.error.EncoderError.TheVariants.{Insertion}
 use Rattle.qpk.specs.ErrorWords.{encoder_words, memory_words, refused_text}
 use Rattle.qpk.specs.Inspecting.{index_text}
 use Rattle.qpk.specs.Outcomes.{added_text, encoded_text, decoded_text, received_text}

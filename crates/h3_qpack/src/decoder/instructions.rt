@@ -9,10 +9,10 @@ ghost use Rattle.qpack_wire.specs.Instructions.{encoder_instruction_of_insert_wi
 ghost use Rattle.qpack_wire.specs.StreamLines.{encoder_instruction_of};
 ghost use Rattle.h3_qpack.specs.Receiving.{Applies, field_to_insert, FindsField, TakesNext, TakesInstructions};
 ghost use Rattle.h3_qpack.specs.Receiving.{is_passed, written_report};
-ghost use Rattle.h3_qpack.specs.declared.decoder.DecoderError.TheVariants.{Memory};
-ghost use Rattle.h3_qpack.specs.declared.decoder.DecoderError.TheVariants.{DynamicTable as DynamicTableError};
+ghost use Rattle.h3_qpack.specs.declared.error.DecoderError.TheVariants.{Memory};
+ghost use Rattle.h3_qpack.specs.declared.error.DecoderError.TheVariants.{DynamicTable as DynamicTableError};
 
-use crate::decoder::DecoderError;
+use crate::error::DecoderError;
 use qpack_base::coding::{Cursor, NoMemory};
 use qpack_base::field::HeaderField;
 use qpack_base::static_::StaticTable;
@@ -53,7 +53,7 @@ pub fn take_instruction<I: EntryIndex>(
     let Some(line) = next_line::<EncoderLine>(table.allocator(), &mut ahead)? else {
         return Ok(false);
     };
-    let answer = apply(table, line);
+    let answer = apply_encoder_line(table, line);
     if is_passed(&answer) {
         *buf = ahead;
     }
@@ -86,7 +86,10 @@ fn is_refused_by_table(e: &dynamic::Error) -> bool
 
 /// Applies an instruction to the table. On error nothing changes.
 #[tactic(auto, unfolding(qpack_spec::specs::Table::apply_encoder_instruction))]
-fn apply<I: EntryIndex>(table: &mut DynamicTable<I>, line: EncoderLine) -> Result<(), DecoderError>
+fn apply_encoder_line<I: EntryIndex>(
+    table: &mut DynamicTable<I>,
+    line: EncoderLine,
+) -> Result<(), DecoderError>
     ensures applies { Applies result (apply_encoder_instruction table.old (encoder_instruction_of line))
         table.old table.new }
     ensures memory { result ≡ Err Memory → IsSome (field_to_insert table.old (encoder_instruction_of line)) }

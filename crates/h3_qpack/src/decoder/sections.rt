@@ -10,9 +10,10 @@ ghost use Rattle.qpack_wire.specs.Lines.{line_of_indexed, line_of_literal_with_n
 ghost use Rattle.qpack_wire.specs.Memory.{AsksLine, AsksSectionForMemory};
 ghost use Rattle.h3_qpack.specs.Sections.{DecodesSection, GivesLineField, ReadsField, ReadsFields, line_field_at};
 ghost use Rattle.h3_qpack.specs.Stateless.{IsFinished};
-ghost use Rattle.h3_qpack.specs.declared.decoder.DecoderError.TheVariants.{Memory};
+ghost use Rattle.h3_qpack.specs.declared.error.DecoderError.TheVariants.{Memory};
 
-use crate::decoder::{Decoded, DecoderError};
+use crate::decoder::Decoded;
+use crate::error::DecoderError;
 use qpack_base::coding::Cursor;
 use qpack_base::field::HeaderField;
 use qpack_base::static_::StaticTable;

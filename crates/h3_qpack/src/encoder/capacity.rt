@@ -2,10 +2,10 @@
 
 ghost use Rattle.std.specs.Prelude.{◌≡◌, ◌+◌, ◌≤◌, Err, vec_len, vec_capacity};
 ghost use Rattle.h3_qpack.specs.Hearing.{SetsCapacity};
-ghost use Rattle.h3_qpack.specs.declared.encoder.EncoderError.TheVariants.{Memory};
+ghost use Rattle.h3_qpack.specs.declared.error.EncoderError.TheVariants.{Memory};
 
-use crate::encoder::EncoderError;
 use crate::encoder::room::make_room;
+use crate::error::EncoderError;
 use qpack_table::dynamic::DynamicTable;
 use qpack_wire::stream::DynamicTableSizeUpdate;
 use std::alloc::Allocator;

@@ -5,7 +5,7 @@ ghost use Rattle.qpack_spec.specs.Table.{apply_decoder_instruction};
 ghost use Rattle.qpack_wire.specs.StreamLines.{decoder_instruction_of};
 ghost use Rattle.h3_qpack.specs.Hearing.{Applies, HearsNext, Hears};
 
-use crate::encoder::EncoderError;
+use crate::error::EncoderError;
 use qpack_base::coding::Cursor;
 use qpack_table::dynamic::DynamicTable;
 use qpack_wire::stream::{DecoderLine, HeaderAck, InsertCountIncrement, StreamCancel, next_line};
@@ -31,12 +31,12 @@ fn take_instruction(table: &mut DynamicTable, buf: &mut Cursor) -> Result<bool, 
     let Some(line) = next_line::<DecoderLine>(table.allocator(), buf)? else {
         return Ok(false);
     };
-    apply(table, line)?;
+    apply_decoder_line(table, line)?;
     Ok(true)
 }
 
 /// Applies an instruction to the table. On error nothing changes; it takes no memory.
-fn apply(table: &mut DynamicTable, line: DecoderLine) -> Result<(), EncoderError>
+fn apply_decoder_line(table: &mut DynamicTable, line: DecoderLine) -> Result<(), EncoderError>
     ensures { Applies result (apply_decoder_instruction table.old (decoder_instruction_of line)) table.old table.new }
 {
     match line {

@@ -28,7 +28,7 @@ pub(super) fn make_room<A: Allocator>(
 
 /// The same answer of a writer, which is refused for memory alone, with an error that comes back in a register.
 #[inline(always)]
-pub(super) fn for_memory(written: Result<(), prefix_string::Error>) -> Result<(), NoMemory>
+pub(crate) fn for_memory(written: Result<(), prefix_string::Error>) -> Result<(), NoMemory>
     ensures { AreAlike written result }
 {
     match written {

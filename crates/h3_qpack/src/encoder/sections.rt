@@ -7,12 +7,12 @@ ghost use Rattle.qpack_spec.specs.Marked.{stateless_block_marked, written_marked
 ghost use Rattle.qpack_spec.specs.Table.{Table, commit, without_references};
 ghost use Rattle.h3_qpack.specs.Encoding.{DrainsLinesOf, EncodesLines, GivesUpLines, StopsEncodingLinesOf};
 ghost use Rattle.h3_qpack.specs.Encoding.{GrowsForLinesOf, GrowsWithin, instructions_room};
-ghost use Rattle.h3_qpack.specs.declared.encoder.EncoderError.TheVariants.{Memory};
+ghost use Rattle.h3_qpack.specs.declared.error.EncoderError.TheVariants.{Memory};
 
-use crate::encoder::EncoderError;
 use crate::encoder::as_field::AsField;
 use crate::encoder::block::append_block;
-use crate::encoder::stateless::append_section;
+use crate::error::EncoderError;
+use crate::stateless::field_lines::append_section;
 use qpack_base::coding::NoMemory;
 use qpack_table::dynamic::{DynamicTable, DynamicTableEncoder};
 use std::alloc::{AllocError, Allocator, Global};

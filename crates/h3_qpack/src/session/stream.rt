@@ -6,7 +6,7 @@ ghost use Rattle.std.specs.Prelude.{slice_get};
 ghost use Rattle.qpack_spec.specs.Session.{awaits_acknowledgment, oldest_undecoded};
 ghost use Rattle.h3_qpack.specs.Sessions.{stored_requires_entry, HasBytes, WritesBlock, GivesUp};
 ghost use Rattle.h3_qpack.specs.Stateless.{fields_in};
-ghost use Rattle.h3_qpack.specs.declared.encoder.EncoderError.TheVariants.{Memory};
+ghost use Rattle.h3_qpack.specs.declared.error.EncoderError.TheVariants.{Memory};
 
 use crate::encoder::{Encoder, EncoderError};
 use qpack_base::field::HeaderField;

@@ -9,7 +9,7 @@ ghost use Rattle.h3_qpack.specs.Sessions.{acknowledgment_skip};
 ghost use Rattle.h3_qpack.specs.Sessions.{cancellation_skip};
 ghost use Rattle.qpack_spec.specs.Instruction.{Cancellation, written_decoder_instruction};
 ghost use Rattle.h3_qpack.specs.Stateless.{fields_in};
-ghost use Rattle.h3_qpack.specs.declared.encoder.EncoderError.TheVariants.{Memory};
+ghost use Rattle.h3_qpack.specs.declared.error.EncoderError.TheVariants.{Memory};
 
 use crate::decoder::stream_canceled;
 use crate::encoder::{Encoder, EncoderError};

@@ -8,7 +8,7 @@ use Rattle.qpack_spec.proofs.Sizes.{total_last}
 use Rattle.qpack_base.specs.HeaderFields.{field_of, fields_behind}
 use Rattle.h3_qpack.proofs.WrittenBlocks.{begun, grown, lent_parts, take-append_front, behind_more}
 use Rattle.h3_qpack.proofs.ReadLines.{saturated_is}
-use Rattle.h3_qpack.proofs.encoder.append_block.Goals as goal
+use Rattle.h3_qpack.proofs.stateless.append_stateless.Goals as goal
 
 pub loop-field-init : goal.loop-field-init
 loop-field-init g c = record {

@@ -3,7 +3,7 @@ use Rattle.qpack_spec.specs.Field.{total_size}
 use Rattle.qpack_spec.specs.BlockReading.{written_block}
 use Rattle.qpack_spec.specs.Stateless.{stateless_block, saturated_size}
 use Rattle.qpack_base.specs.HeaderFields.{fields_behind}
-use Rattle.h3_qpack.proofs.encoder.append_block.Given as goal
+use Rattle.h3_qpack.proofs.stateless.append_stateless.Given as goal
 
 abbrev pub invariant-loop-field : goal.invariant-loop-field
 invariant-loop-field g l = record {

@@ -4,12 +4,12 @@ use Rattle.h3_qpack.specs.Stateless.{DecodesStateless}
 use Rattle.h3_qpack.proofs.LonePrefixes.{lone_refused, lone_passed}
 use Rattle.qpack_wire.specs.Prefixes.{prefix_of}
 use Rattle.qpack_wire.proofs.Asking.{asks_section}
-use Rattle.h3_qpack.proofs.decoder.read_block.Goals as goal
+use Rattle.h3_qpack.proofs.stateless.read_stateless.Goals as goal
 
 pub returns-clause-memory : goal.returns-clause-memory
 returns-clause-memory c e =
     asks_section c.args.buf.now c.decode.new.buf (prefix_of c.in_ok-prefix.prefix)
-    c.in_ok-prefix.ensures.decodes.found (c.read_lines.ensures.memory e)
+    c.in_ok-prefix.ensures.decodes.found (c.read_stateless_fields.ensures.memory e)
 
 pub returns-in_err-get-clause-exact : goal.returns-in_err-get-clause-exact
 returns-in_err-get-clause-exact c =
@@ -20,7 +20,7 @@ returns-in_err-get-clause-exact c =
 
 pub returns-clause-exact : goal.returns-clause-exact
 returns-clause-exact c =
-    subst (DecodesStateless c.read_lines.result)
+    subst (DecodesStateless c.read_stateless_fields.result)
     (sym (lone_passed c.args.max_size c.args.buf.now.rest c.decode.new.buf.rest (prefix_of c.in_ok-prefix.prefix)
     c.in_ok-get.field-0 c.in_ok-prefix.ensures.exact.0 c.in_ok-get.ensures))
-    c.read_lines.ensures.exact
+    c.read_stateless_fields.ensures.exact

@@ -1,6 +1,6 @@
 use Rattle.qpack_wire.specs.BlockLines.{line_of}
 use Rattle.qpack_wire.proofs.Asking.{asks_found}
-use Rattle.h3_qpack.proofs.decoder.read_field.Goals as goal
+use Rattle.h3_qpack.proofs.stateless.read_stateless_field.Goals as goal
 
 pub returns-in_ok-decode-in_default-clause-memory : goal.returns-in_ok-decode-in_default-clause-memory
 returns-in_ok-decode-in_default-clause-memory c e =

@@ -9,7 +9,7 @@ use Rattle.h3_qpack.proofs.ReadLines.{none_left, lines_end, turn_bad, turn_long,
 use Rattle.h3_qpack.proofs.ReadLines.{fields_more}
 use Rattle.qpack_wire.proofs.Asking.{asks_held, asks_begun}
 use Rattle.h3_qpack.proofs.Asking.{held_begun}
-use Rattle.h3_qpack.proofs.decoder.read_lines.Goals as goal
+use Rattle.h3_qpack.proofs.stateless.read_stateless_fields.Goals as goal
 
 pub returns-in_err-field-clause-exact : goal.returns-in_err-field-clause-exact
 returns-in_err-field-clause-exact c =
@@ -37,7 +37,7 @@ returns-then-mem_size-max_size-clause-exact c =
     in
     rw saturated
     (turn_long inv.0 c.args.max_size sum c.loop-byte.buf.rest c.in-Some.byte.now (fields_in c.loop-byte.fields.items) _
-    (field_of c.in_ok-field.field) c.read_field.new.buf.rest inv.1 inv.2 at c.in_ok-field.ensures.exact.0
+    (field_of c.in_ok-field.field) c.read_stateless_field.new.buf.rest inv.1 inv.2 at c.in_ok-field.ensures.exact.0
     (omega (arith, saturated, c.if-mem_size-max_size.true)))
 
 pub returns-in_err-push-clause-memory : goal.returns-in_err-push-clause-memory
@@ -45,7 +45,7 @@ returns-in_err-push-clause-memory c e =
     let at = c.in-Some.ensures.value ∙ ap (λ (l : List ℕ). slice_get l 0) c.chunk.ensures in
     asks_held c.args.buf.now.rest
     (held_begun c.args.buf.now.rest c.loop-byte.buf.rest c.in-Some.byte.now
-    (field_of c.in_ok-field.field) c.read_field.new.buf.rest c.loop-byte.invariant.begun at
+    (field_of c.in_ok-field.field) c.read_stateless_field.new.buf.rest c.loop-byte.invariant.begun at
     c.in_ok-field.ensures.exact.0)
 
 pub loop-byte-smaller : goal.loop-byte-smaller
@@ -57,7 +57,7 @@ loop-byte-smaller c =
     c.saturating_add-mem_size.result c.loop-byte.invariant.size c.mem_size.ensures c.saturating_add-mem_size.ensures
     in
     (turn_good inv.0 c.args.max_size sum c.loop-byte.buf.rest c.in-Some.byte.now (fields_in c.loop-byte.fields.items) _
-    (field_of c.in_ok-field.field) c.read_field.new.buf.rest inv.1 inv.2 at c.in_ok-field.ensures.exact.0
+    (field_of c.in_ok-field.field) c.read_stateless_field.new.buf.rest inv.1 inv.2 at c.in_ok-field.ensures.exact.0
     (omega (arith, saturated, c.if-mem_size-max_size.false))).shorter
 
 pub loop-byte-preserved : goal.loop-byte-preserved
@@ -69,7 +69,7 @@ loop-byte-preserved c =
     c.saturating_add-mem_size.result c.loop-byte.invariant.size c.mem_size.ensures c.saturating_add-mem_size.ensures
     in
     let goes = turn_good inv.0 c.args.max_size sum c.loop-byte.buf.rest c.in-Some.byte.now
-    (fields_in c.loop-byte.fields.items) _ (field_of c.in_ok-field.field) c.read_field.new.buf.rest inv.1 inv.2 at
+    (fields_in c.loop-byte.fields.items) _ (field_of c.in_ok-field.field) c.read_stateless_field.new.buf.rest inv.1 inv.2 at
     c.in_ok-field.ensures.exact.0 (omega (arith, saturated, c.if-mem_size-max_size.false)) in
     let more : fields_in c.push.new.self.items ≡ fields_in c.loop-byte.fields.items
     ++ field_of c.in_ok-field.field ∷ [] =
@@ -81,7 +81,7 @@ loop-byte-preserved c =
       lines = rw (more, all) goes.next;
       size = rw (more, all) saturated;
       begun = inr (held_begun c.args.buf.now.rest c.loop-byte.buf.rest c.in-Some.byte.now
-          (field_of c.in_ok-field.field) c.read_field.new.buf.rest c.loop-byte.invariant.begun at
+          (field_of c.in_ok-field.field) c.read_stateless_field.new.buf.rest c.loop-byte.invariant.begun at
           c.in_ok-field.ensures.exact.0);
       total = c.in_ok-field.ensures.exact.1 ∙ c.loop-byte.invariant.total;
     }

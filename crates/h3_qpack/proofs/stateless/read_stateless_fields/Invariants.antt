@@ -4,7 +4,7 @@ use Rattle.qpack_spec.specs.Stateless.{stateless_at, saturated_size}
 use Rattle.h3_qpack.specs.Stateless.{fields_in}
 use Rattle.h3_qpack.proofs.ReadLines.{with_front}
 use Rattle.qpack_wire.proofs.Asking.{HasBegun}
-use Rattle.h3_qpack.proofs.decoder.read_lines.Given as goal
+use Rattle.h3_qpack.proofs.stateless.read_stateless_fields.Given as goal
 
 abbrev pub invariant-loop-byte : goal.invariant-loop-byte
 invariant-loop-byte l = record {

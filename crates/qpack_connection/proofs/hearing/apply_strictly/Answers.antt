@@ -1,5 +1,5 @@
 use Rattle.qpack_connection.proofs.StrictHearing.{cancelled}
-use Rattle.qpack_connection.proofs.hearing.apply.Goals as goal
+use Rattle.qpack_connection.proofs.hearing.apply_strictly.Goals as goal
 
 pub returns-in-StreamCancel : goal.returns-in-StreamCancel
 returns-in-StreamCancel c =

@@ -5,19 +5,19 @@ use Rattle.qpack_connection.proofs.HeardStreams.{waits_short}
 use Rattle.qpack_connection.proofs.HeardBytes.{bytes_refused, bytes_truncated, instruction_applied, instruction_refused}
 use Rattle.qpack_connection.proofs.hearing.hear.Goals as goal
 
-pub returns-in_err-apply-in-Ok-Some-clause-hears : goal.returns-in_err-apply-in-Ok-Some-clause-hears
-returns-in_err-apply-in-Ok-Some-clause-hears c =
+pub returns-in_err-apply_strictly-in-Ok-Some-clause-hears : goal.returns-in_err-apply_strictly-in-Ok-Some-clause-hears
+returns-in_err-apply_strictly-in-Ok-Some-clause-hears c =
     let p = err_from_is_err_and c.from_residual.result c.from_residual.ensures.1 in
     rw (p.1, p.2)
-    (instruction_refused c.args.table.now c.apply.new.table c.new-buf.result c.next_line.new.cursor c.args.bytes.now
-    c.in-Ok-Some.field-0 c.in-Ok-Some.line c.in_err-apply-in-Ok-Some.field-0.0 c.new-buf.ensures.rest
-    c.in-Ok-Some.field-0-is c.in-Ok-Some.ensures.decodes c.in_err-apply-in-Ok-Some.ensures)
+    (instruction_refused c.args.table.now c.apply_strictly.new.table c.new-buf.result c.next_line.new.cursor c.args.bytes.now
+    c.in-Ok-Some.field-0 c.in-Ok-Some.line c.in_err-apply_strictly-in-Ok-Some.field-0.0 c.new-buf.ensures.rest
+    c.in-Ok-Some.field-0-is c.in-Ok-Some.ensures.decodes c.in_err-apply_strictly-in-Ok-Some.ensures)
 
-pub returns-in_ok-apply-in-Ok-Some-clause-hears : goal.returns-in_ok-apply-in-Ok-Some-clause-hears
-returns-in_ok-apply-in-Ok-Some-clause-hears c =
-    instruction_applied c.args.table.now c.apply.new.table c.new-buf.result c.next_line.new.cursor c.args.bytes.now
+pub returns-in_ok-apply_strictly-in-Ok-Some-clause-hears : goal.returns-in_ok-apply_strictly-in-Ok-Some-clause-hears
+returns-in_ok-apply_strictly-in-Ok-Some-clause-hears c =
+    instruction_applied c.args.table.now c.apply_strictly.new.table c.new-buf.result c.next_line.new.cursor c.args.bytes.now
     c.in-Ok-Some.field-0 c.in-Ok-Some.line c.new-buf.ensures.rest c.in-Ok-Some.field-0-is c.in-Ok-Some.ensures.decodes
-    c.in_ok-apply-in-Ok-Some.ensures
+    c.in_ok-apply_strictly-in-Ok-Some.ensures
 
 pub returns-in-Ok-None-clause-hears : goal.returns-in-Ok-None-clause-hears
 returns-in-Ok-None-clause-hears c = (

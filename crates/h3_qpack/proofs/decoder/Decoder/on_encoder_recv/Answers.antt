@@ -1,7 +1,7 @@
 use Rattle.std.proofs.Common.{◌≤◌, arith}
 use Rattle.qpack_spec.specs.Table.{insert_count}
 use Rattle.h3_qpack.proofs.Counts.{instructions_count}
-use Rattle.h3_qpack.proofs.decoder.connection.Decoder.on_encoder_recv.Goals as goal
+use Rattle.h3_qpack.proofs.decoder.Decoder.on_encoder_recv.Goals as goal
 
 pub overflow_sub-self : goal.overflow_sub-self
 overflow_sub-self g c =

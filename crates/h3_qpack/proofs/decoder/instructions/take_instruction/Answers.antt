@@ -6,7 +6,7 @@ use Rattle.qpack_spec.specs.Table as table
 use Rattle.qpack_wire.specs.StreamLines.{encoder_instruction_of}
 use Rattle.h3_qpack.specs.Receiving.{Applies}
 use Rattle.h3_qpack.proofs.Instructions.{found_line, line_refused, no_line, stops_at_table, left_behind}
-use Rattle.h3_qpack.specs.declared.decoder.DecoderError.{DecoderError}
+use Rattle.h3_qpack.specs.declared.error.DecoderError.{DecoderError}
 use Rattle.h3_qpack.proofs.decoder.instructions.take_instruction.Goals as goal
 use Rattle.h3_qpack.proofs.decoder.instructions.take_instruction.Goals.{then-is_passed, else-is_passed}
 
@@ -34,13 +34,13 @@ returns-in_err-answer-clause-takes g c =
     c.fork-ahead.ensures c.in-Some.is c.in_ok-line.ensures.decodes.found in
     let i = encoder_instruction_of c.in-Some.line in
     rw (p.1, p.2)
-    (stops_at_table c.args.table.now c.apply-answer.new.table c.args.buf.now.rest at.encoding
+    (stops_at_table c.args.table.now c.apply_encoder_line-answer.new.table c.args.buf.now.rest at.encoding
     c.next_line.new.cursor.rest c.if-is_passed.buf.rest i
     c.in_err-answer.field-0.0 at.cut at.spells
     (subst (λ (r : Result ⊤ DecoderError). Applies r (table.apply_encoder_instruction c.args.table.now i)
-    c.args.table.now c.apply-answer.new.table) c.in_err-answer.was c.apply-answer.ensures.applies)
-    (λ m. c.apply-answer.ensures.memory (c.in_err-answer.was ∙ ap (λ (x : DecoderError). Err x) m))
-    (left_behind c.is_passed.result c.apply-answer.result (Err c.in_err-answer.field-0.0) c.next_line.new.cursor.rest
+    c.args.table.now c.apply_encoder_line-answer.new.table) c.in_err-answer.was c.apply_encoder_line-answer.ensures.applies)
+    (λ m. c.apply_encoder_line-answer.ensures.memory (c.in_err-answer.was ∙ ap (λ (x : DecoderError). Err x) m))
+    (left_behind c.is_passed.result c.apply_encoder_line-answer.result (Err c.in_err-answer.field-0.0) c.next_line.new.cursor.rest
     c.args.buf.now.rest c.if-is_passed.buf.rest c.is_passed.ensures c.in_err-answer.was
     (λ t. elim c.if-is_passed.branch [
       | then-is_passed w ↦ ap (λ (x : CursorView). x.rest) w.buf-is
@@ -55,7 +55,7 @@ pub returns-clause-takes : goal.returns-clause-takes
 returns-clause-takes g c =
     let at = found_line c.args.buf.now c.fork-ahead.result c.next_line.new.cursor c.in_ok-line.field-0 c.in-Some.line
     c.fork-ahead.ensures c.in-Some.is c.in_ok-line.ensures.decodes.found in
-    let left = left_behind c.is_passed.result c.apply-answer.result (Ok c.in_ok-answer.field-0)
+    let left = left_behind c.is_passed.result c.apply_encoder_line-answer.result (Ok c.in_ok-answer.field-0)
     c.next_line.new.cursor.rest c.args.buf.now.rest c.if-is_passed.buf.rest c.is_passed.ensures c.in_ok-answer.was
     (λ t. elim c.if-is_passed.branch [
       | then-is_passed w ↦ ap (λ (x : CursorView). x.rest) w.buf-is
@@ -71,6 +71,6 @@ returns-clause-takes g c =
       cut = at.cut ∙ ap (λ (x : List ℕ). at.encoding ++ x) (sym left);
       spells = at.spells;
       applies = subst (λ (r : Result ⊤ DecoderError). Applies r (table.apply_encoder_instruction c.args.table.now
-          (encoder_instruction_of c.in-Some.line)) c.args.table.now c.apply-answer.new.table) c.in_ok-answer.was
-          c.apply-answer.ensures.applies;
+          (encoder_instruction_of c.in-Some.line)) c.args.table.now c.apply_encoder_line-answer.new.table) c.in_ok-answer.was
+          c.apply_encoder_line-answer.ensures.applies;
     }

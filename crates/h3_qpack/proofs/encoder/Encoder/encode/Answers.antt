@@ -4,7 +4,7 @@ use Rattle.qpack_spec.specs.Table.{Table}
 use Rattle.qpack_base.specs.HeaderFields.{DrainsFields}
 use Rattle.h3_qpack.specs.Encoding.{EncodesBlock, StopsEncoding}
 use Rattle.h3_qpack.proofs.MarkedFields.{if_ok_encodes, on_err_stops_unmarked}
-use Rattle.h3_qpack.proofs.encoder.connection.Encoder.encode.Goals as goal
+use Rattle.h3_qpack.proofs.encoder.Encoder.encode.Goals as goal
 
 pub returns-clause-ok : goal.returns-clause-ok
 returns-clause-ok g c =

@@ -1,12 +1,12 @@
-use Rattle.std.proofs.Common.{ℕ, List, ◌++◌, ap, ◌∙◌}
+use Rattle.std.proofs.Common.{ℕ, List, ◌++◌, ◌*◌, ap, ◌∙◌}
 use Rattle.std.proofs.lemmas.Result.{err_from_is_err_and}
-use Rattle.qpack_spec.specs.Handle.{insert_field}
+use Rattle.qpack_spec.specs.Field.{field_size}
 use Rattle.qpack_base.specs.HeaderFields.{line_of}
 use Rattle.qpack_table.specs.Handles.{insertion_of}
 use Rattle.h3_qpack.specs.Encoding.{written_insertion}
-use Rattle.h3_qpack.proofs.Additions.{adds_insertion, stops_inserted}
+use Rattle.h3_qpack.proofs.Additions.{Inserts, adds_insertion, stops_inserted}
 use Rattle.h3_qpack.proofs.Stills.{still_written}
-use Rattle.h3_qpack.proofs.InstructionsRoom.{grows_made, grows_written, inserted_fits}
+use Rattle.h3_qpack.proofs.InstructionsRoom.{MakesRoom, grows_made, grows_written, inserted_fits}
 use Rattle.h3_qpack.proofs.encoder.fields.append_insertion.Goals as goal
 
 pub returns-in_err-append_inserted-clause-err : goal.returns-in_err-append_inserted-clause-err
@@ -14,25 +14,33 @@ returns-in_err-append_inserted-clause-err g c =
     let p = err_from_is_err_and c.from_residual-in_err-append_inserted.result
     c.from_residual-in_err-append_inserted.ensures.1 in
     let f = (line_of c.args.field.now).field in
-    rw p.1
-    (stops_inserted f c.args.block.now.table.now (insert_field c.args.block.now.table.now c.args.block.now.base f)
-    (insertion_of c.in-Ok.insertion) c.insert_found.new.self.table.now c.args.encoder_buf.now.items
-    c.write_instruction.new.buf.items c.in-Ok.ensures.inserted
-    (c.in_ok-write_instruction.ensures.writes.ok
-    ∙ ap (λ (x : List ℕ). x ++ written_insertion f (insertion_of c.in-Ok.insertion))
-    c.in_ok-make_room.ensures.items))
+    let inserts : Inserts c.args.block.now.table.now c.args.block.now.base f = record {
+      insertion = insertion_of c.in-Ok.insertion;
+      new = c.insert_found.new.self.table.now;
+      written_old = c.args.encoder_buf.now.items;
+      written_new = c.write_instruction.new.buf.items;
+      inserted = c.in-Ok.ensures.inserted;
+      written = c.in_ok-write_instruction.ensures.writes.ok
+          ∙ ap (λ (x : List ℕ). x ++ written_insertion f (insertion_of c.in-Ok.insertion))
+          c.in_ok-make_room.ensures.items;
+    } in
+    rw p.1 (stops_inserted inserts)
 
 pub returns-clause-ok : goal.returns-clause-ok
 returns-clause-ok g c =
     let f = (line_of c.args.field.now).field in
-    adds_insertion f c.args.block.now.table.now (insert_field c.args.block.now.table.now c.args.block.now.base f)
-    (insertion_of c.in-Ok.insertion) c.insert_found.new.self.table.now c.args.lines.now.items
-    c.append_inserted.new.buf.items c.args.encoder_buf.now.items
-    c.write_instruction.new.buf.items c.in-Ok.ensures.inserted
+    let inserts : Inserts c.args.block.now.table.now c.args.block.now.base f = record {
+      insertion = insertion_of c.in-Ok.insertion;
+      new = c.insert_found.new.self.table.now;
+      written_old = c.args.encoder_buf.now.items;
+      written_new = c.write_instruction.new.buf.items;
+      inserted = c.in-Ok.ensures.inserted;
+      written = c.in_ok-write_instruction.ensures.writes.ok
+          ∙ ap (λ (x : List ℕ). x ++ written_insertion f (insertion_of c.in-Ok.insertion))
+          c.in_ok-make_room.ensures.items;
+    } in
+    adds_insertion inserts c.args.lines.now.items c.append_inserted.new.buf.items
     c.in_ok-append_inserted.ensures.writes.ok
-    (c.in_ok-write_instruction.ensures.writes.ok
-    ∙ ap (λ (x : List ℕ). x ++ written_insertion f (insertion_of c.in-Ok.insertion))
-    c.in_ok-make_room.ensures.items)
 
 pub returns-clause-still : goal.returns-clause-still
 returns-clause-still g c =
@@ -42,21 +50,41 @@ returns-clause-still g c =
 pub returns-in_err-make_room-clause-instructions : goal.returns-in_err-make_room-clause-instructions
 returns-in_err-make_room-clause-instructions g c =
     let room = c.make_room.ensures in
-    grows_made c.instruction_room.result _ c.args.encoder_buf.now c.make_room.new.buf c.instruction_room.ensures.most
-    room.len room.still room.capacity
+    let makes : MakesRoom (4 * field_size (line_of c.args.field.now).field) c.args.encoder_buf.now c.make_room.new.buf =
+    record {
+      least = c.instruction_room.result;
+      within = c.instruction_room.ensures.most;
+      len = room.len;
+      still = room.still;
+      capacity = room.capacity;
+    } in
+    grows_made makes
 
 pub returns-in_default-clause-instructions : goal.returns-in_default-clause-instructions
 returns-in_default-clause-instructions g c =
     let room = c.make_room.ensures in
-    grows_made c.instruction_room.result _ c.args.encoder_buf.now c.make_room.new.buf c.instruction_room.ensures.most
-    room.len room.still room.capacity
+    let makes : MakesRoom (4 * field_size (line_of c.args.field.now).field) c.args.encoder_buf.now c.make_room.new.buf =
+    record {
+      least = c.instruction_room.result;
+      within = c.instruction_room.ensures.most;
+      len = room.len;
+      still = room.still;
+      capacity = room.capacity;
+    } in
+    grows_made makes
 
 pub returns-in_err-write_instruction-clause-instructions : goal.returns-in_err-write_instruction-clause-instructions
 returns-in_err-write_instruction-clause-instructions g c =
     let room = c.make_room.ensures in
-    grows_written c.instruction_room.result _ _ c.args.encoder_buf.now c.make_room.new.buf c.write_instruction.new.buf
-    c.write_instruction.result c.instruction_room.ensures.most room.len room.still room.capacity
-    c.in_ok-make_room.ensures.ok
+    let makes : MakesRoom (4 * field_size (line_of c.args.field.now).field) c.args.encoder_buf.now c.make_room.new.buf =
+    record {
+      least = c.instruction_room.result;
+      within = c.instruction_room.ensures.most;
+      len = room.len;
+      still = room.still;
+      capacity = room.capacity;
+    } in
+    grows_written makes _ c.write_instruction.new.buf c.write_instruction.result c.in_ok-make_room.ensures.ok
     (inserted_fits c.instruction_room.result (line_of c.args.field.now).field _ _ _ c.in-Ok.ensures.inserted
     c.instruction_room.ensures.enough)
     c.write_instruction.ensures.writes
@@ -64,9 +92,15 @@ returns-in_err-write_instruction-clause-instructions g c =
 pub returns-in_err-append_inserted-clause-instructions : goal.returns-in_err-append_inserted-clause-instructions
 returns-in_err-append_inserted-clause-instructions g c =
     let room = c.make_room.ensures in
-    grows_written c.instruction_room.result _ _ c.args.encoder_buf.now c.make_room.new.buf c.write_instruction.new.buf
-    c.write_instruction.result c.instruction_room.ensures.most room.len room.still room.capacity
-    c.in_ok-make_room.ensures.ok
+    let makes : MakesRoom (4 * field_size (line_of c.args.field.now).field) c.args.encoder_buf.now c.make_room.new.buf =
+    record {
+      least = c.instruction_room.result;
+      within = c.instruction_room.ensures.most;
+      len = room.len;
+      still = room.still;
+      capacity = room.capacity;
+    } in
+    grows_written makes _ c.write_instruction.new.buf c.write_instruction.result c.in_ok-make_room.ensures.ok
     (inserted_fits c.instruction_room.result (line_of c.args.field.now).field _ _ _ c.in-Ok.ensures.inserted
     c.instruction_room.ensures.enough)
     c.write_instruction.ensures.writes
@@ -74,9 +108,15 @@ returns-in_err-append_inserted-clause-instructions g c =
 pub returns-clause-instructions : goal.returns-clause-instructions
 returns-clause-instructions g c =
     let room = c.make_room.ensures in
-    grows_written c.instruction_room.result _ _ c.args.encoder_buf.now c.make_room.new.buf c.write_instruction.new.buf
-    c.write_instruction.result c.instruction_room.ensures.most room.len room.still room.capacity
-    c.in_ok-make_room.ensures.ok
+    let makes : MakesRoom (4 * field_size (line_of c.args.field.now).field) c.args.encoder_buf.now c.make_room.new.buf =
+    record {
+      least = c.instruction_room.result;
+      within = c.instruction_room.ensures.most;
+      len = room.len;
+      still = room.still;
+      capacity = room.capacity;
+    } in
+    grows_written makes _ c.write_instruction.new.buf c.write_instruction.result c.in_ok-make_room.ensures.ok
     (inserted_fits c.instruction_room.result (line_of c.args.field.now).field _ _ _ c.in-Ok.ensures.inserted
     c.instruction_room.ensures.enough)
     c.write_instruction.ensures.writes

@@ -21,11 +21,11 @@ returns-in_default-clause-hears c = (
   refl,
 )
 
-pub returns-in_err-apply-clause-hears : goal.returns-in_err-apply-clause-hears
-returns-in_err-apply-clause-hears c =
-    let p = err_from_is_err_and c.from_residual-in_err-apply.result c.from_residual-in_err-apply.ensures.1 in
+pub returns-in_err-apply_decoder_line-clause-hears : goal.returns-in_err-apply_decoder_line-clause-hears
+returns-in_err-apply_decoder_line-clause-hears c =
+    let p = err_from_is_err_and c.from_residual-in_err-apply_decoder_line.result c.from_residual-in_err-apply_decoder_line.ensures.1 in
     let at = found_line c.args.buf.now c.next_line.new.cursor c.in_ok-line.field-0 c.in-Some.line c.in-Some.is
     c.in_ok-line.ensures.decodes in
     rw (p.1, p.2)
-    (stops_at_table c.args.table.now c.apply.new.table c.args.buf.now.rest c.next_line.new.cursor.rest
-    (decoder_instruction_of c.in-Some.line) c.in_err-apply.field-0.0 at c.in_err-apply.ensures)
+    (stops_at_table c.args.table.now c.apply_decoder_line.new.table c.args.buf.now.rest c.next_line.new.cursor.rest
+    (decoder_instruction_of c.in-Some.line) c.in_err-apply_decoder_line.field-0.0 at c.in_err-apply_decoder_line.ensures)

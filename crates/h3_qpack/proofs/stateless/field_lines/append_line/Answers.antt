@@ -2,7 +2,7 @@ use Rattle.std.proofs.Common.{ℕ, List, subst}
 use Rattle.qpack_base.specs.HeaderFields.{line_of}
 use Rattle.qpack_base.specs.Writes.{Writes}
 use Rattle.h3_qpack.proofs.MarkedFields.{alone_unmarked}
-use Rattle.h3_qpack.proofs.encoder.stateless.append_line.Goals as goal
+use Rattle.h3_qpack.proofs.stateless.field_lines.append_line.Goals as goal
 
 pub returns : goal.returns
 returns g c =

@@ -5,7 +5,7 @@ use Rattle.qpack_base.specs.HeaderFields.{line_of}
 use Rattle.h3_qpack.proofs.MarkedFields.{written_stateless, stateless_begun, stateless_grown}
 use Rattle.h3_qpack.proofs.WrittenBlocks.{take-append_front}
 use Rattle.h3_qpack.proofs.Stills.{still_written, still_next, longer_written}
-use Rattle.h3_qpack.proofs.encoder.stateless.append_section.Goals as goal
+use Rattle.h3_qpack.proofs.stateless.field_lines.append_section.Goals as goal
 
 pub loop-field-init : goal.loop-field-init
 loop-field-init g c = record {

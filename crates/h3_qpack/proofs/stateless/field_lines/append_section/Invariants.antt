@@ -1,6 +1,6 @@
 use Rattle.std.proofs.Common.{◌≡◌, ◌≤◌, ◌++◌, map, take, vec_len, vec_capacity}
 use Rattle.h3_qpack.proofs.MarkedFields.{written_stateless}
-use Rattle.h3_qpack.proofs.encoder.stateless.append_section.Given as goal
+use Rattle.h3_qpack.proofs.stateless.field_lines.append_section.Given as goal
 
 abbrev pub invariant-loop-field : goal.invariant-loop-field
 invariant-loop-field g l = record {
