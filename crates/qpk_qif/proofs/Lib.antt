@@ -1,0 +1,4 @@
+pub mod FieldLines
+pub mod ReadLists
+pub mod WrittenLists
+pub mod RecordBytes
