@@ -1,6 +1,6 @@
 -- Lines and their fields, parted at the first line feed and the first TAB.
 use Rattle.std.proofs.Common.{◌≡◌, ℕ, suc, ◌+◌, ◌<◌, ◌≤◌, Bool, true, false, not, cond, eqb, List, [], ◌∷◌, length}
-use Rattle.std.proofs.Common.{◌++◌, take, drop, Option, Some, None, Result, Ok, Err, refl, sym, ap, ◌∙◌, inl, inr}
+use Rattle.std.proofs.Common.{take, drop, Option, Some, None, refl, sym, ap, ◌∙◌, inl, inr}
 use Rattle.std.proofs.Common.{arith}
 use Rattle.std.specs.Prelude.{position, MatchOption, unwrap_or}
 use Rattle.std.specs.Borrow.{Bor}

@@ -6,7 +6,7 @@ use Rattle.qpack_spec.specs.Field.{Field}
 use Rattle.qpack_base.specs.declared.field.HeaderField.{HeaderField}
 use Rattle.qpack_base.specs.HeaderFields.{field_of}
 use Rattle.qpk_qif.specs.Lines.{lines_of}
-use Rattle.qpk_qif.specs.Lists.{LineMeaning, Ends, Comment, Holds, with_field, with_line, lists_from}
+use Rattle.qpk_qif.specs.Lists.{with_field, with_line, lists_from}
 use Rattle.qpk_qif.specs.Lists.{meaning_of_line}
 use Rattle.qpk_qif.specs.Answers.{Gathered, gathered, all_gathered, meaning_of, lists_in}
 use Rattle.qpk_qif.specs.declared.lists.Line.{Line}

@@ -1,5 +1,5 @@
 -- A record that is cut off is the one that stands at the front.
-use Rattle.std.proofs.Common.{◌≡◌, ℕ, ◌+◌, ◌^◌, ◌<◌, ◌≤◌, List, [], ◌∷◌, ◌++◌, length, get_or, take, drop, refl, sym, ap}
+use Rattle.std.proofs.Common.{◌≡◌, ℕ, ◌+◌, ◌^◌, ◌<◌, ◌≤◌, List, ◌++◌, length, get_or, take, drop, sym, ap}
 use Rattle.std.proofs.Common.{◌∙◌, append_assoc, arith, inl, inr}
 use Rattle.std.specs.Int.{w32, w64, from_be_bytes, to_be_bytes}
 use Rattle.std.proofs.lemmas.Bool.{cases_lt}

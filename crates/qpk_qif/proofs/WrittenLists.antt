@@ -1,12 +1,12 @@
 -- What is read of the text of lists is these lists.
-use Rattle.std.proofs.Common.{◌≡◌, ℕ, ◌+◌, List, [], ◌∷◌, ◌++◌, Some, Result, Ok, Err, eqb, false, refl, sym, ap}
+use Rattle.std.proofs.Common.{◌≡◌, ℕ, ◌+◌, List, [], ◌∷◌, ◌++◌, Some, Ok, eqb, false, refl}
 use Rattle.std.proofs.Common.{◌∙◌, append_assoc, arith}
 use Rattle.std.proofs.lemmas.Bool.{ne_eqb}
 use Rattle.std.specs.List.{AllByRecursion, flat_map}
 use Rattle.qpack_spec.specs.Field.{Field}
-use Rattle.qpk_qif.specs.Lines.{lines_of, field_of_line, with_byte, with_name_byte}
-use Rattle.qpk_qif.specs.Lists.{Holds, IsPlain, IsNoComment, meaning_of_line, lists_from, with_line, text_of_field}
-use Rattle.qpk_qif.specs.Lists.{text_of_list, text_of_lists, WrittenListsAreRead}
+use Rattle.qpk_qif.specs.Lines.{lines_of, field_of_line}
+use Rattle.qpk_qif.specs.Lists.{Holds, IsPlain, IsNoComment, meaning_of_line, lists_from, text_of_field}
+use Rattle.qpk_qif.specs.Lists.{text_of_lists}
 
 differ : (m n : ℕ) → (m ≡ n → ⊥) → eqb m n ≡ false
 differ m n h = ne_eqb m n h

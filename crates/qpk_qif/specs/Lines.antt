@@ -1,5 +1,5 @@
 -- Text of lines, and the field of a line: its name and its value parted by the first TAB.
-use Rattle.std.specs.Prelude.{ℕ, List, [], ◌∷◌, ◌++◌, Option, Some, None, nat_eq, if◌then◌else◌}
+use Rattle.std.specs.Prelude.{ℕ, List, [], ◌∷◌, Option, Some, None, nat_eq, if◌then◌else◌}
 use Rattle.qpack_spec.specs.Field.{Field}
 
 -- a byte more at the front of the first line

@@ -4,6 +4,10 @@
 //! first record of an encoded recording sets it, where it is above 0: so a decoder whose table begins at capacity 0
 //! (RFC 9204, section 3.2.2) reads the recording, and so does one whose table has the whole capacity from the start, as
 //! it has in the offline interop. Decoding begins with the whole capacity, and so reads recordings of either kind.
+//!
+//! Proved of these calls is that they are safe and end, and what the calls that they make promise: how lists are read and
+//! written, how records are cut off and appended, and how a block is encoded and decoded. That a recording has these
+//! records in this order, and that it is decoded to these lists, no contract says: it is only tested.
 
 use crate::lists::{ListFault, push_list, read_lists};
 use crate::recording::split_record;

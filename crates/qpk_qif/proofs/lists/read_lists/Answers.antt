@@ -1,4 +1,4 @@
-use Rattle.std.proofs.Common.{arith, rules}
+use Rattle.std.proofs.Common.{arith}
 use Rattle.qpk_qif.specs.Lists.{lists_of}
 use Rattle.qpk_qif.proofs.ReadLists.{goes_on, ends}
 use Rattle.qpk_qif.proofs.lists.read_lists.Goals as goal
