@@ -54,6 +54,8 @@ no_input() { "$qpk" encode </dev/null; }
 closed_input() { "$qpk" encode <&-; }
 closed_output() { printf ':method\tGET\n' | "$qpk" encode >&-; }
 full_output() { printf ':method\tGET\n' | "$qpk" encode >/dev/full; }
+returned() { printf ':method\tGET\r\n' | "$qpk" encode; }
+bad_number() { "$qpk" decode 12x </dev/null; }
 closed_faults() { echo 0000d1 | "$qpk" decode 41 2>&-; }
 full_faults() { echo 0000d1 | "$qpk" decode 41 2>/dev/full; }
 needless_faults() { echo 0000d1 | "$qpk" decode 42 2>&-; }
@@ -74,6 +76,8 @@ try_all() {
     try closed_input "1$line" "" "qpk: refused: input$line"
     try closed_output "1$line" "" "qpk: refused: output$line"
     try full_output "1$line" "" "qpk: refused: output$line"
+    try returned "0$line" - "qpk: line 1: the carriage return at its end belongs to the value$line"
+    try bad_number "1$line" "" -
     try closed_faults "2$line" "" -
     try full_faults "2$line" "" -
     try needless_faults "0$line" ":method${tab}GET${line}size 42$line" -

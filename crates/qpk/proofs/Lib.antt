@@ -7,6 +7,5 @@ pub mod EmptyTables
 pub mod InspectedInstructions
 pub mod InspectedEvents
 pub mod PrintedBlocks
-pub mod Words
 pub mod Writes
 pub mod Tellings

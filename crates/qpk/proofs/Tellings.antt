@@ -1,12 +1,13 @@
 -- A refusal and the line that tells it.
 use Rattle.std.proofs.Common.{◌≡◌, ℕ, List, Option, Some, None, refl, sym, subst, inl, inr}
-use Rattle.std.specs.Prelude.{String, codes, IfSome}
-use Rattle.qpk.specs.Refusals.{IsFault, TellsBy, refusal_line}
+use Rattle.std.specs.Prelude.{String, codes, IfSome, string_bytes}
+use Rattle.qpk.specs.Refusals.{MayWantMemory, TellsBy, refusal_line}
 use Rattle.h3_qpack.specs.declared.error.DecoderError.{DecoderError}
-use Rattle.qpk.specs.Serving.{HasFault, EndsFor, Stops, IsInspection, input_of}
-use Rattle.qpk.specs.declared.serve.Command.{Command}
-use Rattle.qpk.specs.declared.serve.Command.TheVariants.{Help, Encode, Decode, DecodeHex, Inspect, Run, Show}
-use Rattle.qpk.specs.declared.serve.Command.TheVariants.{ShowTables, ShowRecording, ShowObjects}
+use Rattle.qpk.specs.Serving.{HasFault, EndsFor, EndsForCommand, Stops, IsInspection, input_of}
+use Rattle.qpk.specs.declared.command.Command.{Command}
+use Rattle.qpk.specs.declared.command.Command.TheVariants.{Help, Encode, Decode, DecodeHex, Inspect, Run, Show}
+use Rattle.qpk.specs.Commands.{TellsWords, WordsFault}
+use Rattle.qpk.specs.declared.text.Fault.{Fault}
 use Rattle.qpk.specs.declared.text.Fault.TheVariants.{Memory}
 use Rattle.qpk.specs.declared.refusal.Refusal.{Refusal}
 use Rattle.qpk.specs.declared.refusal.Refusal.TheVariants as refusal
@@ -16,8 +17,8 @@ pub told_as : (r : Refusal) (P : List ℕ → Type 0) (written : List ℕ) → w
 told_as r P written e wrote = (r, inl refl, subst P e wrote)
 
 pub told_of_memory : (r : Refusal) (P : List ℕ → Type 0) (written : List ℕ) → written
-    ≡ codes "qpk: refused: memory\n" → IsFault r → P written → TellsBy r P
-told_of_memory r P written e fault wrote = (refusal.Fault Memory, inr (fault, refl), subst P e wrote)
+    ≡ codes "qpk: refused: memory\n" → MayWantMemory r → P written → TellsBy r P
+told_of_memory r P written e may wrote = (refusal.Fault Memory, inr (may, refl), subst P e wrote)
 
 memory_has : (command : Command) (bytes : List ℕ) → HasFault command bytes Memory
 memory_has Help bytes = refl
@@ -26,28 +27,46 @@ memory_has (Decode limit) bytes = tt
 memory_has (DecodeHex limit) bytes = tt
 memory_has (Inspect capacity) bytes = tt
 memory_has (Run capacity limit) bytes = tt
-memory_has (Show maximum limit) bytes = tt
-memory_has (ShowTables maximum limit) bytes = tt
-memory_has (ShowRecording maximum limit) bytes = tt
-memory_has (ShowObjects maximum limit) bytes = tt
+memory_has (Show options maximum limit) bytes = tt
 
 memory_may_be : (command : Command) (input : Option (List ℕ))
     → IfSome input (λ bytes. HasFault command bytes Memory)
 memory_may_be command None = tt
 memory_may_be command (Some bytes) = memory_has command bytes
 
--- a run that ends for a fault may as well end for want of memory
-memory_ends : {Z : Type 0} (words : List (String Z)) (input old new : Option (List ℕ)) (r : Refusal) → IsFault r
+-- words may as well be told by want of memory
+words_memory : (r : Refusal) (fault : WordsFault) → MayWantMemory r → TellsWords r fault
+    → TellsWords (refusal.Fault Memory) fault
+words_memory refusal.Usage fault may tells = absurd may
+words_memory (refusal.BadWord wanted word) fault may tells = (refl, wanted, string_bytes word, tells)
+words_memory refusal.Input fault may tells = absurd may
+words_memory refusal.Output fault may tells = absurd may
+words_memory (refusal.Fault f) fault may tells = (refl, tells.1, tells.2, tells.3)
+
+-- a command that ends for a fault may as well end for want of memory
+command_memory : (command : Command) (input old new : Option (List ℕ)) (r : Refusal) → MayWantMemory r
+    → EndsForCommand command input old new r → EndsForCommand command input old new (refusal.Fault Memory)
+command_memory command input old new refusal.Usage may ends = absurd may
+command_memory command input old new (refusal.BadWord wanted word) may ends = absurd ends
+command_memory command input old new refusal.Input may ends = absurd may
+command_memory command input old new refusal.Output may ends = absurd may
+command_memory command input old new (refusal.Fault fault) may (inl h) =
+    inl (memory_may_be command (input_of command input), h.1)
+command_memory command input old new (refusal.Fault fault) may (inr h) = inr (h.0, h.1, inr refl, h.3, h.4, h.5)
+
+-- a command that wants memory may end before it wrote anything
+pub command_wants_memory : (command : Command) (input old : Option (List ℕ)) (fault : Fault) → fault ≡ Memory
+    → EndsForCommand command input old old (refusal.Fault fault)
+command_wants_memory command input old fault e =
+    subst (λ (f : Fault). EndsForCommand command input old old (refusal.Fault f)) (sym e)
+    (inl (memory_may_be command (input_of command input), refl))
+
+memory_ends : {Z : Type 0} (words : List (String Z)) (input old new : Option (List ℕ)) (r : Refusal) → MayWantMemory r
     → EndsFor words input old new r → EndsFor words input old new (refusal.Fault Memory)
-memory_ends words input old new r (fault, e) ends =
-    let known : EndsFor words input old new (refusal.Fault fault) = subst (EndsFor words input old new) e ends in (
-      known.0,
-      known.1,
-      elim known.2 [
-        | inl h ↦ inl (memory_may_be known.0 (input_of known.0 input), h.1)
-        | inr h ↦ inr (h.0, h.1, inr refl, h.3, h.4, h.5)
-      ],
-    )
+memory_ends words input old new r may (inl ends) =
+    inl (ends.0, ends.1, words_memory r ends.0 may ends.2, ends.3)
+memory_ends words input old new r may (inr ends) =
+    inr (ends.0, ends.1, command_memory ends.0 input old new r may ends.2)
 
 -- what was told is why the run ended
 pub ends_told : {Z : Type 0} (words : List (String Z)) (input old new : Option (List ℕ)) (r : Refusal)
@@ -55,9 +74,9 @@ pub ends_told : {Z : Type 0} (words : List (String Z)) (input old new : Option (
     → (s : Refusal) × EndsFor words input old new s × P (refusal_line s)
 ends_told words input old new r P ends (told, inl e, wrote) =
     (told, subst (EndsFor words input old new) (sym e) ends, wrote)
-ends_told words input old new r P ends (told, inr (fault, e), wrote) = (
+ends_told words input old new r P ends (told, inr (may, e), wrote) = (
   told,
-  subst (EndsFor words input old new) (sym e) (memory_ends words input old new r fault ends),
+  subst (EndsFor words input old new) (sym e) (memory_ends words input old new r may ends),
   wrote,
 )
 
@@ -69,7 +88,4 @@ stops_inspecting (Decode limit) bytes out e stops = stops
 stops_inspecting (DecodeHex limit) bytes out e stops = stops
 stops_inspecting (Inspect capacity) bytes out e stops = tt
 stops_inspecting (Run capacity limit) bytes out e stops = stops
-stops_inspecting (Show maximum limit) bytes out e stops = stops
-stops_inspecting (ShowTables maximum limit) bytes out e stops = stops
-stops_inspecting (ShowRecording maximum limit) bytes out e stops = stops
-stops_inspecting (ShowObjects maximum limit) bytes out e stops = stops
+stops_inspecting (Show options maximum limit) bytes out e stops = stops

@@ -7,5 +7,7 @@ pub mod Inspecting
 pub mod Inspections
 pub mod Outcomes
 pub mod Scripts
+pub mod Commands
+pub mod Notes
 pub mod Runs
 pub mod Serving

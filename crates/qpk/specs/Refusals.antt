@@ -1,5 +1,5 @@
 -- Why the program answers nothing, and how that is told.
-use Rattle.std.specs.Prelude.{◌≡◌, ℕ, ◌<◌, List, ◌++◌, codes, length, take, Option, ◌⊎◌}
+use Rattle.std.specs.Prelude.{◌≡◌, ℕ, ◌<◌, List, ◌++◌, codes, length, take, Option, ◌⊎◌, string_bytes}
 use Rattle.std.specs.Fmt.{decimal}
 use Rattle.std.specs.Io.KnownBytes.{Appends}
 use Rattle.qpk.specs.ErrorWords.{decoder_words}
@@ -9,6 +9,8 @@ use Rattle.qpk.specs.declared.text.Fault.TheVariants.{NoTab, BadEvent, NotHexade
 use Rattle.qpk.specs.declared.text.Fault.TheVariants.{Memory}
 use Rattle.qpk.specs.declared.refusal.Refusal.{Refusal}
 use Rattle.qpk.specs.declared.refusal.Refusal.TheVariants as refusal
+use Rattle.qpk.specs.declared.refusal.Wanted.{Wanted}
+use Rattle.qpk.specs.declared.refusal.Wanted.TheVariants as wanted
 
 -- the text of a fault
 abbrev pub fault_text : Fault → List ℕ
@@ -24,16 +26,32 @@ fault_text Memory = codes "refused: memory"
 abbrev pub fault_line : Fault → List ℕ
 fault_line fault = codes "qpk: " ++ fault_text fault ++ codes "\n"
 
+-- what a word is not
+abbrev pub wanted_words : Wanted → List ℕ
+wanted_words wanted.Command = codes "not a command"
+wanted_words wanted.Option = codes "not an option here"
+wanted_words wanted.Number = codes "not a whole number below 2^64"
+
+-- the line that tells a word at fault, and the usage
+abbrev pub bad_word_line : Wanted → List ℕ → List ℕ
+bad_word_line wanted word =
+    codes "qpk: \"" ++ word ++ codes "\" is " ++ wanted_words wanted ++ codes "\n" ++ usage_text
+
 -- the line that tells a refusal; words that ask for nothing are told the usage
 abbrev pub refusal_line : Refusal → List ℕ
 refusal_line refusal.Usage = usage_text
+refusal_line (refusal.BadWord wanted word) = bad_word_line wanted (string_bytes word)
 refusal_line refusal.Input = codes "qpk: refused: input\n"
 refusal_line refusal.Output = codes "qpk: refused: output\n"
 refusal_line (refusal.Fault fault) = fault_line fault
 
--- it is a fault of the input, or want of memory
-abbrev pub IsFault : Refusal → Type 0
-IsFault r = (fault : Fault) × (r ≡ refusal.Fault fault)
+-- its line may want memory: it tells a word, or a fault
+abbrev pub MayWantMemory : Refusal → Type 0
+MayWantMemory refusal.Usage = ⊥
+MayWantMemory (refusal.BadWord wanted word) = Unit {0}
+MayWantMemory refusal.Input = ⊥
+MayWantMemory refusal.Output = ⊥
+MayWantMemory (refusal.Fault fault) = Unit {0}
 
 -- a writer gained a front of the bytes, not all of them, and nothing else
 abbrev pub AppendsPart : Option (List ℕ) → Option (List ℕ) → List ℕ → Type 0
@@ -43,9 +61,9 @@ AppendsPart old new bytes = (n : ℕ) × (n < length bytes) × Appends old new (
 abbrev pub AppendsAtStatus : ℕ → Option (List ℕ) → Option (List ℕ) → List ℕ → Type 0
 AppendsAtStatus status old new line = ((status ≡ 1) × Appends old new line) ⊎ ((status ≡ 2) × AppendsPart old new line)
 
--- a refusal is told as itself, or a fault as want of memory
+-- a refusal is told as itself, or, where its line may want memory, as want of it
 abbrev pub TellsAs : Refusal → Refusal → Type 0
-TellsAs r told = (told ≡ r) ⊎ (IsFault r × (told ≡ refusal.Fault Memory))
+TellsAs r told = (told ≡ r) ⊎ (MayWantMemory r × (told ≡ refusal.Fault Memory))
 
 -- this holds of the line by which a refusal is told
 abbrev pub TellsBy : Refusal → (List ℕ → Type 0) → Type 0

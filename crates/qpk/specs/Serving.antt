@@ -1,17 +1,17 @@
 -- What the program does with its words and its input.
-use Rattle.std.specs.Prelude.{◌≡◌, ℕ, ◌^◌, ◌<◌, ◌⊎◌, List, [], ◌∷◌, ◌++◌, Ok, Result, Err, Option, None, Some, map}
+use Rattle.std.specs.Prelude.{◌≡◌, ℕ, ◌⊎◌, List, [], ◌∷◌, ◌++◌, Ok, Result, Err, Option, None, Some, map}
 use Rattle.std.specs.Prelude.{codes, IfSome}
 use Rattle.std.specs.Prelude.{string_bytes, String}
-use Rattle.std.specs.Str.Parse.{IsNumeral, digits_value, without_leading_plus}
 use Rattle.std.specs.Fmt.{decimal}
 use Rattle.hex.specs.Hex.{decode_of}
 use Rattle.qpack_spec.specs.Field.{Field, total_size}
 use Rattle.qpack_spec.specs.Stateless.{saturated_size, stateless_reading}
 use Rattle.qpk.specs.FieldText.{text_of_fields}
 use Rattle.qpk.specs.Answers.{encode_answer, without_feed, FailsText, FailsHexadecimal}
-use Rattle.qpk.specs.declared.serve.Command.{Command}
-use Rattle.qpk.specs.declared.serve.Command.TheVariants.{Help, Encode, Decode, DecodeHex, Inspect, Run, Show}
-use Rattle.qpk.specs.declared.serve.Command.TheVariants.{ShowTables, ShowRecording, ShowObjects}
+use Rattle.qpk.specs.Commands.{WordsFault, TellsWords, command_of}
+use Rattle.qpk.specs.declared.command.Command.{Command}
+use Rattle.qpk.specs.declared.command.Command.TheVariants.{Help, Encode, Decode, DecodeHex, Inspect, Run, Show}
+use Rattle.qpk.specs.Notes.{IsNoteOf}
 use Rattle.qpk.specs.Refusals.{AppendsPart}
 use Rattle.qpk.specs.Usage.{usage_text}
 use Rattle.qpk.specs.declared.refusal.Refusal.{Refusal}
@@ -25,49 +25,13 @@ use Rattle.qpk.specs.Runs.{PrintsRun, HasRunFault}
 use Rattle.qpk.specs.Inspections.{FailsInspection}
 use Rattle.qpk.specs.declared.inspect.Inspection.{Inspection}
 
--- a decimal number of 64 bits, as std parses it: digits, after a plus or not
-pub record SaysNumber (text : List ℕ) (n : ℕ) : Type 0 where
-  pub digits : IsNumeral 10 (without_leading_plus text)
-  pub value : n ≡ digits_value 10 (without_leading_plus text)
-  pub small : n < 2 ^ 64
-
--- the texts ask for the command: by its name, and an option, or a number or two behind it
-abbrev pub AreFor : List (List ℕ) → Command → Type 0
-AreFor texts Help = texts ≡ codes "--help" ∷ []
-AreFor texts Encode = texts ≡ codes "encode" ∷ []
-AreFor texts (Decode limit) = (number : List ℕ) × (texts ≡ codes "decode" ∷ number ∷ []) × SaysNumber number limit
-AreFor texts (DecodeHex limit) =
-    (number : List ℕ) × (texts ≡ codes "decode" ∷ codes "--hex" ∷ number ∷ []) × SaysNumber number limit
-AreFor texts (Inspect capacity) =
-    (number : List ℕ) × (texts ≡ codes "inspect" ∷ number ∷ []) × SaysNumber number capacity
-AreFor texts (Run capacity limit) =
-    (first : List ℕ) × (second : List ℕ) × (texts ≡ codes "run" ∷ first ∷ second ∷ []) × SaysNumber first capacity
-    × SaysNumber second limit
-AreFor texts (Show maximum limit) =
-    (first : List ℕ) × (second : List ℕ) × (texts ≡ codes "show" ∷ first ∷ second ∷ []) × SaysNumber first maximum
-    × SaysNumber second limit
-AreFor texts (ShowTables maximum limit) =
-    (first : List ℕ) × (second : List ℕ) × (texts ≡ codes "show" ∷ codes "--table" ∷ first ∷ second ∷ [])
-    × SaysNumber first maximum × SaysNumber second limit
-AreFor texts (ShowRecording maximum limit) =
-    (first : List ℕ) × (second : List ℕ) × (texts ≡ codes "show" ∷ codes "--qif" ∷ first ∷ second ∷ [])
-    × SaysNumber first maximum × SaysNumber second limit
-AreFor texts (ShowObjects maximum limit) =
-    (first : List ℕ) × (second : List ℕ) × (texts ≡ codes "show" ∷ codes "--json" ∷ first ∷ second ∷ [])
-    × SaysNumber first maximum × SaysNumber second limit
-
--- the command that they ask for, or they ask for none
-abbrev pub GivesCommand : Option Command → List (List ℕ) → Type 0
-GivesCommand None texts = (command : Command) → AreFor texts command → ⊥
-GivesCommand (Some command) texts = AreFor texts command
-
 -- the words ask for the command
 abbrev pub AsksFor : {Z : Type 0} → List (String Z) → Command → Type 0
-AsksFor words command = AreFor (map string_bytes words) command
+AsksFor words command = command_of (map string_bytes words) ≡ Ok command
 
 -- no command is asked for
 abbrev pub AsksForNothing : {Z : Type 0} → List (String Z) → Type 0
-AsksForNothing words = (command : Command) → AsksFor words command → ⊥
+AsksForNothing words = (fault : WordsFault) × (command_of (map string_bytes words) ≡ Err fault)
 
 -- fields as they are printed: a line each, and the line of their size
 abbrev pub printed_fields : List Field → List ℕ
@@ -100,10 +64,7 @@ Answers (DecodeHex limit) input out =
     × (stateless_reading limit block ≡ Ok fs) × (out ≡ hexadecimal_answer fs)
 Answers (Inspect capacity) input out = PrintsInspection capacity input out None
 Answers (Run capacity limit) input out = PrintsRun capacity limit input out
-Answers (Show maximum limit) input out = Unit {0}
-Answers (ShowTables maximum limit) input out = Unit {0}
-Answers (ShowRecording maximum limit) input out = Unit {0}
-Answers (ShowObjects maximum limit) input out = Unit {0}
+Answers (Show options maximum limit) input out = Unit {0}
 
 -- the output of a command that ends at a refusal in its input
 abbrev pub Stops : Command → List ℕ → List ℕ → DecoderError → Type 0
@@ -128,10 +89,7 @@ HasFault (Decode limit) input fault = FailsHexadecimal fault limit (decode_of (w
 HasFault (DecodeHex limit) input fault = FailsHexadecimal fault limit (decode_of (without_feed input))
 HasFault (Inspect capacity) input fault = FailsInspection capacity input fault
 HasFault (Run capacity limit) input fault = HasRunFault capacity limit input fault
-HasFault (Show maximum limit) input fault = Unit {0}
-HasFault (ShowTables maximum limit) input fault = Unit {0}
-HasFault (ShowRecording maximum limit) input fault = Unit {0}
-HasFault (ShowObjects maximum limit) input fault = Unit {0}
+HasFault (Show options maximum limit) input fault = Unit {0}
 
 -- the output that a command's input asks for, or the fault that stands there
 abbrev pub AnswersInput : Command → List ℕ → Result Inspection Fault → Type 0
@@ -142,21 +100,56 @@ AnswersInput command input (Err fault) = HasFault command input fault
 abbrev pub TellsRefusal : Fault → DecoderError → Type 0
 TellsRefusal fault e = (fault ≡ Refused e) ⊎ (fault ≡ Memory)
 
--- why a run ended: other words, or the input could not be read, or it has a fault, and then nothing was written; or it
--- was refused further on, and then what stands before that was written; or what it asks for could not be written, but
--- for a part of it. The input is what the reader gives, where that is known, and the output what the writer held
--- before and after
+-- what is said of the input of a command, where that input is known: nothing of one that is not encoded
+abbrev pub IsNote : Command → Option (List ℕ) → Option (List ℕ) → Type 0
+IsNote Encode input note = IfSome input (λ bytes. IsNoteOf Encode bytes note)
+IsNote command input note = note ≡ None
+
+-- a command is answered: its output was written, and nothing else; and this is to be said of its input
+abbrev pub IsAnsweredBy : Command → Option (List ℕ) → Option (List ℕ) → Option (List ℕ) → Option (List ℕ) → Type 0
+IsAnsweredBy command input old new note =
+    IsNote command input note
+    × IfSome (input_of command input) (λ bytes. (out : List ℕ) × Answers command bytes out × Appends old new out)
+
+-- the command that the words ask for is
+abbrev pub IsAnswered : {Z : Type 0} → List (String Z) → Option (List ℕ) → Option (List ℕ) → Option (List ℕ)
+    → Option (List ℕ) → Type 0
+IsAnswered words input old new note =
+    (command : Command) × AsksFor words command × IsAnsweredBy command input old new note
+
+-- what was said
+abbrev pub SaysNote : Option (List ℕ) → Option (List ℕ) → Option (List ℕ) → Type 0
+SaysNote old new None = new ≡ old
+SaysNote old new (Some line) = Appends old new line
+
+-- it ended for its words, which the refusal tells, and nothing was written
+abbrev pub EndsForWords : {Z : Type 0} → List (String Z) → Option (List ℕ) → Option (List ℕ) → Refusal → Type 0
+EndsForWords words old new r =
+    (fault : WordsFault) × (command_of (map string_bytes words) ≡ Err fault) × TellsWords r fault × (new ≡ old)
+
+-- a part was said of what was to be said
+abbrev pub SaysPart : Option (List ℕ) → Option (List ℕ) → Option (List ℕ) → Type 0
+SaysPart old new None = ⊥
+SaysPart old new (Some line) = AppendsPart old new line
+
+-- why a command ended: the input could not be read, or it has a fault, and then nothing was written; or it was refused
+-- further on, and then what stands before that was written; or what it asks for could not be written, but for a part of
+-- it. The input is what the reader gives, where that is known, and the output what the writer held before and after
+abbrev pub EndsForCommand : Command → Option (List ℕ) → Option (List ℕ) → Option (List ℕ) → Refusal → Type 0
+EndsForCommand command input old new refusal.Usage = ⊥
+EndsForCommand command input old new (refusal.BadWord wanted word) = ⊥
+EndsForCommand command input old new refusal.Input = FailsToRead command refusal.Input × (new ≡ old)
+EndsForCommand command input old new refusal.Output =
+    IfSome (input_of command input) (λ bytes. (out : List ℕ) × (refused : Option DecoderError)
+    × Prints command bytes out refused × AppendsPart old new out)
+EndsForCommand command input old new (refusal.Fault fault) =
+    (IfSome (input_of command input) (λ bytes. HasFault command bytes fault) × (new ≡ old))
+    ⊎ (IsInspection command × (e : DecoderError) × TellsRefusal fault e × (out : List ℕ) × Appends old new out
+    × IfSome input (λ bytes. Stops command bytes out e))
+
+-- why a run ended: other words, or the end of the command that they ask for
 abbrev pub EndsFor : {Z : Type 0} → List (String Z) → Option (List ℕ) → Option (List ℕ) → Option (List ℕ) → Refusal
     → Type 0
-EndsFor words input old new refusal.Usage = AsksForNothing words × (new ≡ old)
-EndsFor words input old new refusal.Input =
-    (command : Command) × AsksFor words command × FailsToRead command refusal.Input × (new ≡ old)
-EndsFor words input old new refusal.Output =
-    (command : Command) × AsksFor words command
-    × IfSome (input_of command input) (λ bytes. (out : List ℕ) × (refused : Option DecoderError)
-    × Prints command bytes out refused × AppendsPart old new out)
-EndsFor words input old new (refusal.Fault fault) =
-    (command : Command) × AsksFor words command
-    × ((IfSome (input_of command input) (λ bytes. HasFault command bytes fault) × (new ≡ old))
-    ⊎ (IsInspection command × (e : DecoderError) × TellsRefusal fault e × (out : List ℕ) × Appends old new out
-    × IfSome input (λ bytes. Stops command bytes out e)))
+EndsFor words input old new r =
+    EndsForWords words old new r
+    ⊎ ((command : Command) × AsksFor words command × EndsForCommand command input old new r)

@@ -5,7 +5,7 @@ use Rattle.std.specs.Prelude.{ℕ, List, ◌++◌, codes}
 unfoldable pub usage_text : List ℕ
 usage_text =
     codes "usage: qpk encode | decode [--hex] LIMIT | inspect CAPACITY | run CAPACITY LIMIT\n"
-    ++ codes "       qpk show [--table | --json | --qif] MAXIMUM BLOCKED\n"
+    ++ codes "       qpk show [--table] [--json] [--qif] MAXIMUM BLOCKED\n"
     ++ codes "QPACK (RFC 9204) by lines: a command reads its input, and prints the answer.\n"
     ++ codes "\n"
     ++ codes "encode   fields, NAME TAB VALUE each, to a block in hexadecimal\n"
@@ -30,5 +30,5 @@ usage_text =
     ++ codes "  section 4: required insert count 0, base 0\n"
     ++ codes "    2 static 17, :method: GET\n"
     ++ codes "  with --table, and the table behind each instruction; with --json, an object a\n"
-    ++ codes "  line; with --qif, a recording of the offline interop format\n"
+    ++ codes "  line; with --qif, of a recording of the offline interop format; or with several\n"
     ++ codes "--help   this text; no input is read\n"

@@ -2,9 +2,11 @@
 //! the program `qpk` over any words, reader and writers.
 #![tactic(auto)]
 
+pub mod command;
 pub mod error_words;
 mod inspect;
 mod lines;
+mod note;
 mod outcomes;
 mod printing;
 pub mod refusal;

@@ -2,7 +2,7 @@
 
 ghost use Rattle.std.specs.Prelude.{◌≡◌, IfOk, OnErr};
 ghost use Rattle.std.specs.Cow.{cow_str_bytes};
-ghost use Rattle.qpk.specs.Refusals.{IsFault, fault_line, refusal_line};
+ghost use Rattle.qpk.specs.Refusals.{MayWantMemory, bad_word_line, fault_line, refusal_line, wanted_words};
 ghost use Rattle.qpk.specs.declared.refusal.Refusal.TheVariants.{Fault as Refused};
 
 use crate::text::Fault;
@@ -13,14 +13,27 @@ use std::borrow::CowStr;
 /// Why nothing was answered.
 #[derive(Debug, Drop)]
 pub enum Refusal {
-    /// The words ask for nothing.
+    /// The words ask for nothing: there are too few, or too many.
     Usage,
+    /// They ask for nothing, since this word is not what should stand at its place.
+    BadWord(Wanted, String),
     /// The input could not be read.
     Input,
     /// The answer could not be written.
     Output,
     /// The input has a fault, or no memory was left.
     Fault(Fault),
+}
+
+/// What should stand at the place of a word.
+#[derive(Clone, Copy, Debug)]
+pub enum Wanted {
+    /// The name of a command.
+    Command,
+    /// An option of the command.
+    Option,
+    /// A number.
+    Number,
 }
 
 impl From<Fault> for Refusal {
@@ -32,18 +45,44 @@ impl From<Fault> for Refusal {
 }
 
 impl Refusal {
-    /// The line that tells it, or the usage. Memory is asked for only to tell the number of a line, or a refusal of the
-    /// decoder.
+    /// The line that tells it, or the usage, or a line and the usage. Memory is asked for only to tell a word, the number
+    /// of a line, or a refusal of the decoder.
     pub fn line(&self, alloc: Global) -> Result<CowStr<'static, Global>, AllocError>
         ensures line { IfOk result (λ line. cow_str_bytes line ≡ refusal_line self.now) }
-        ensures memory { OnErr result (IsFault self.now) }
+        ensures memory { OnErr result (MayWantMemory self.now) }
     {
         match self {
             Refusal::Usage => Ok(CowStr::Borrowed(usage())),
+            Refusal::BadWord(wanted, word) => bad_word_line(alloc, *wanted, word.as_str()),
             Refusal::Input => Ok(CowStr::Borrowed("qpk: refused: input\n")),
             Refusal::Output => Ok(CowStr::Borrowed("qpk: refused: output\n")),
             Refusal::Fault(fault) => fault_line(alloc, fault),
         }
+    }
+}
+
+/// The line that tells a word at fault, and the usage.
+fn bad_word_line(
+    alloc: Global,
+    wanted: Wanted,
+    word: &str,
+) -> Result<CowStr<'static, Global>, AllocError>
+    ensures { IfOk result (λ line. cow_str_bytes line ≡ bad_word_line wanted word.now) }
+{
+    let words = wanted_words(wanted);
+    let mut line = format!(in alloc; "qpk: \"{word}\" is {words}\n")?;
+    line.push_str(usage())?;
+    Ok(CowStr::Owned(line))
+}
+
+/// What a word is not.
+fn wanted_words(wanted: Wanted) -> &'static str
+    ensures { result.now ≡ wanted_words wanted }
+{
+    match wanted {
+        Wanted::Command => "not a command",
+        Wanted::Option => "not an option here",
+        Wanted::Number => "not a whole number below 2^64",
     }
 }
 

@@ -1,21 +1,25 @@
 //! The program over any reader and writers.
 
-ghost use Rattle.std.specs.Prelude.{◌≡◌, ◌≢◌, ◌⊎◌, ◌++◌, ◌∷◌, [], List, ℕ, None, IfOk, IfErr, IfSome, OnOk, OnErr};
-ghost use Rattle.std.specs.Prelude.{MatchOption, string_bytes};
+ghost use Rattle.std.specs.Prelude.{◌≡◌, ◌≢◌, ◌⊎◌, ◌++◌, ◌∷◌, [], List, ℕ, Option, None, Some, IfOk, IfErr, IfSome};
+ghost use Rattle.std.specs.Prelude.{OnOk, OnErr, string_bytes};
 ghost use Rattle.std.specs.Io.KnownBytes.{Appends};
+ghost use Rattle.std.specs.Option.{option_map};
 ghost use Rattle.qpack_spec.specs.Field.{total_size};
 ghost use Rattle.qpack_spec.specs.Stateless.{saturated_size};
 ghost use Rattle.h3_qpack.specs.Stateless.{fields_in};
 ghost use Rattle.qpk.specs.Refusals.{AppendsAtStatus, AppendsPart, TellsBy, refusal_line};
-ghost use Rattle.qpk.specs.Serving.{AsksFor, AsksForNothing, Answers, AnswersInput, EndsFor, FailsToRead, SaysNumber};
-ghost use Rattle.qpk.specs.Serving.{GivesCommand, hexadecimal_answer, input_of, printed_fields};
-ghost use Rattle.qpk.specs.declared.serve.Command.TheVariants.{DecodeHex, Help};
+ghost use Rattle.qpk.specs.Serving.{AsksFor, AsksForNothing, AnswersInput, EndsFor, EndsForCommand, FailsToRead};
+ghost use Rattle.qpk.specs.Serving.{IsAnswered, IsAnsweredBy, SaysNote, SaysPart};
+ghost use Rattle.qpk.specs.Serving.{hexadecimal_answer, input_of, printed_fields};
+ghost use Rattle.qpk.specs.declared.command.Command.TheVariants.{DecodeHex, Help};
 
+use crate::command::{Command, ShowOptions, read_command};
 use crate::inspect::{Inspection, inspect};
+use crate::note::note_of;
 use crate::printing::{push_fields, push_hexadecimal_fields};
 use crate::refusal::Refusal;
 use crate::run::run_script;
-use crate::show::{self, Form, Options};
+use crate::show::{self, Agreed};
 use crate::text::{Fault, decode_text, encode_text};
 use crate::usage::usage;
 use crate::writing::write_bytes;
@@ -25,35 +29,9 @@ use std::alloc::Global;
 use std::borrow::CowStr;
 use std::io::{self, ErrorKind, Read, Write};
 
-/// What the words ask for.
-#[derive(Clone, Copy)]
-pub enum Command {
-    /// Tell the usage; no input is read.
-    Help,
-    /// Encode the fields of the input's lines.
-    Encode,
-    /// Decode the block of the input, up to a sum of sizes in bytes.
-    Decode(u64),
-    /// The same, with the fields in hexadecimal.
-    DecodeHex(u64),
-    /// Inspect the events of the input, by a table of this capacity in bytes.
-    Inspect(usize),
-    /// Run the events of the input on a session of this capacity in bytes, where so many blocks may be blocked.
-    Run(usize, usize),
-    /// Show the events of the input, of a connection with this maximum table capacity in bytes, where so many streams
-    /// may be blocked.
-    Show(usize, usize),
-    /// The same, with the table behind each instruction.
-    ShowTables(usize, usize),
-    /// Show a recording of the offline interop format, of such a connection.
-    ShowRecording(usize, usize),
-    /// Show the events of the input as objects of JSON, of such a connection.
-    ShowObjects(usize, usize),
-}
-
 /// Runs the program on its words, without its name, and its three streams, and gives the exit status:
-/// 0 where the answer was written to the output, 1 where the line of a refusal was written to the faults, or 2 where
-/// only a part of that line was, since a write failed.
+/// 0 where the answer was written to the output, and to the faults what is said of the input, if anything is; 1 where
+/// the line of a refusal was written to the faults; or 2 where only a part of what should be was, since a write failed.
 pub fn serve<R: Read, W: Write, E: Write>(
     alloc: Global,
     words: &[String],
@@ -61,23 +39,50 @@ pub fn serve<R: Read, W: Write, E: Write>(
     output: &mut W,
     faults: &mut E,
 ) -> u8
-    // At status 0 the answer to the input was written, and nothing else.
-    ensures answered { result ≡ 0 → (command : Command) × AsksFor words.now command
-        × IfSome (input_of command (R.remaining input.old)) (λ bytes.
-        (out : List ℕ) × Answers command bytes out × Appends (W.contents output.old) (W.contents output.new) out) }
-    ensures quiet { result ≡ 0 → E.contents faults.new ≡ E.contents faults.old }
+    // At status 0 the answer to the input was written, and nothing else but what is said of the input.
+    ensures answered { result ≡ 0 → (note : Option (List ℕ))
+        × IsAnswered words.now (R.remaining input.old) (W.contents output.old) (W.contents output.new) note
+        × SaysNote (E.contents faults.old) (E.contents faults.new) note }
     // Else why: other words, an input that can't be read or has a fault, a refusal further on, before which all is
     // written, or an output that can't be written, which then has a part of what is asked for. The line of it is
-    // written to the faults: at status 1 all of it, at status 2 a part. There is no other status.
-    ensures refused { result ≢ 0 → (refusal : Refusal)
+    // written to the faults: at status 1 all of it, at status 2 a part. Or all is answered, and of what is said of the
+    // input a part is written, at status 2. There is no other status.
+    ensures refused { result ≢ 0 → ((refusal : Refusal)
         × EndsFor words.now (R.remaining input.old) (W.contents output.old) (W.contents output.new) refusal
-        × AppendsAtStatus result (E.contents faults.old) (E.contents faults.new) (refusal_line refusal) }
+        × AppendsAtStatus result (E.contents faults.old) (E.contents faults.new) (refusal_line refusal))
+        ⊎ ((result ≡ 2) × (note : Option (List ℕ))
+        × IsAnswered words.now (R.remaining input.old) (W.contents output.old) (W.contents output.new) note
+        × SaysPart (E.contents faults.old) (E.contents faults.new) note) }
     // Help reads no input, nor do words that ask for nothing.
     ensures unread { AsksFor words.now Help ⊎ AsksForNothing words.now → input.new ≡ input.old }
 {
     match run(alloc, words, input, output) {
-        Ok(()) => 0,
+        Ok(note) => say(note, faults),
         Err(refusal) => refuse(alloc, &refusal, faults),
+    }
+}
+
+/// Writes what is said of an input, if anything is, to the faults, and gives the exit status: 0, or 2 where only a part
+/// was written, since a write failed.
+fn say<E: Write>(note: Option<String>, faults: &mut E) -> u8
+    ensures all { result ≡ 0 → SaysNote (E.contents faults.old) (E.contents faults.new) (option_map string_bytes note) }
+    ensures part { result ≢ 0 → (result ≡ 2)
+        × SaysPart (E.contents faults.old) (E.contents faults.new) (option_map string_bytes note) }
+{
+    match note {
+        None => 0,
+        Some(line) => say_line(line.as_str(), faults),
+    }
+}
+
+/// Writes a line to the faults, and gives the same status.
+fn say_line<E: Write>(line: &str, faults: &mut E) -> u8
+    ensures all { result ≡ 0 → Appends (E.contents faults.old) (E.contents faults.new) line.now }
+    ensures part { result ≢ 0 → (result ≡ 2) × AppendsPart (E.contents faults.old) (E.contents faults.new) line.now }
+{
+    match write_bytes(faults, line.as_bytes()) {
+        Ok(()) => 0,
+        Err(_) => 2,
     }
 }
 
@@ -104,120 +109,50 @@ fn tell<E: Write>(alloc: Global, refusal: &Refusal, faults: &mut E) -> io::Resul
     write_bytes(faults, line.as_str().as_bytes())
 }
 
-/// Answers the words and the input at the output.
-#[tactic(auto, using(crate::proofs::Tellings::stops_inspecting))]
+/// Answers the words and the input at the output, and gives what is to be said of the input.
 fn run<R: Read, W: Write>(
     alloc: Global,
     words: &[String],
     input: &mut R,
     output: &mut W,
-) -> Result<(), Refusal>
-    ensures answered { IfOk result
-        (λ _. (command : Command) × AsksFor words.now command
-        × IfSome (input_of command (R.remaining input.old)) (λ bytes.
-        (out : List ℕ) × Answers command bytes out × Appends (W.contents output.old) (W.contents output.new) out)) }
+) -> Result<Option<String>, Refusal>
+    ensures answered { IfOk result (λ note.
+        IsAnswered words.now (R.remaining input.old) (W.contents output.old) (W.contents output.new)
+        (option_map string_bytes note)) }
     ensures refused { IfErr result
         (EndsFor words.now (R.remaining input.old) (W.contents output.old) (W.contents output.new)) }
     ensures unread { AsksFor words.now Help ⊎ AsksForNothing words.now → input.new ≡ input.old }
 {
-    let Some(command) = read_command(words) else {
-        return Err(Refusal::Usage);
-    };
+    let command = read_command(alloc, words)?;
+    run_command(alloc, command, input, output)
+}
+
+/// Answers a command and the input at the output, and gives what is to be said of the input.
+#[tactic(auto, using(crate::proofs::Tellings::stops_inspecting))]
+fn run_command<R: Read, W: Write>(
+    alloc: Global,
+    command: Command,
+    input: &mut R,
+    output: &mut W,
+) -> Result<Option<String>, Refusal>
+    ensures answered { IfOk result (λ note.
+        IsAnsweredBy command (R.remaining input.old) (W.contents output.old) (W.contents output.new)
+        (option_map string_bytes note)) }
+    ensures refused { IfErr result
+        (EndsForCommand command (R.remaining input.old) (W.contents output.old) (W.contents output.new)) }
+    ensures unread { command ≡ Help → input.new ≡ input.old }
+{
     let bytes = read_input(alloc, command, input)?;
     let answer = answer(alloc, command, &bytes)?;
+    let note = match note_of(alloc, command, &bytes) {
+        Ok(note) => note,
+        Err(fault) => return Err(Refusal::Fault(fault)),
+    };
     write_bytes(output, answer.text.as_bytes()).map_err(|_| Refusal::Output)?;
     match answer.refused {
-        None => Ok(()),
+        None => Ok(note),
         Some(e) => Err(Refusal::Fault(Fault::Refused(e))),
     }
-}
-
-/// What the words ask for.
-fn read_command(words: &[String]) -> Option<Command>
-    ensures { MatchOption result (AsksForNothing words.now) (AsksFor words.now) }
-{
-    match words {
-        [word] => lone_command(word.as_str()),
-        [word, number] => command_with(word.as_str(), number.as_str()),
-        [word, first, second] => command_with_two(word.as_str(), first.as_str(), second.as_str()),
-        [word, option, first, second] => show_command(
-            word.as_str(),
-            option.as_str(),
-            first.as_str(),
-            second.as_str(),
-        ),
-        _ => None,
-    }
-}
-
-/// What a word alone asks for.
-fn lone_command(word: &str) -> Option<Command>
-    ensures { GivesCommand result (word.now ∷ []) }
-{
-    if word == "--help" {
-        return Some(Command::Help);
-    }
-    if word == "encode" {
-        return Some(Command::Encode);
-    }
-    None
-}
-
-/// What a word and a number ask for.
-fn command_with(word: &str, number: &str) -> Option<Command>
-    ensures { GivesCommand result (word.now ∷ number.now ∷ []) }
-{
-    let number = read_number(number)?;
-    if word == "decode" {
-        return Some(Command::Decode(number));
-    }
-    if word == "inspect" {
-        return Some(Command::Inspect(number as usize));
-    }
-    None
-}
-
-/// What a word and two others ask for.
-fn command_with_two(word: &str, first: &str, second: &str) -> Option<Command>
-    ensures { GivesCommand result (word.now ∷ first.now ∷ second.now ∷ []) }
-{
-    let limit = read_number(second)?;
-    if word == "decode" && first == "--hex" {
-        return Some(Command::DecodeHex(limit));
-    }
-    let capacity = read_number(first)?;
-    if word == "run" {
-        return Some(Command::Run(capacity as usize, limit as usize));
-    }
-    if word == "show" {
-        return Some(Command::Show(capacity as usize, limit as usize));
-    }
-    None
-}
-
-/// What a word, an option and two numbers ask for.
-fn show_command(word: &str, option: &str, first: &str, second: &str) -> Option<Command>
-    ensures { GivesCommand result (word.now ∷ option.now ∷ first.now ∷ second.now ∷ []) }
-{
-    let maximum = read_number(first)?;
-    let limit = read_number(second)?;
-    if word == "show" && option == "--table" {
-        return Some(Command::ShowTables(maximum as usize, limit as usize));
-    }
-    if word == "show" && option == "--qif" {
-        return Some(Command::ShowRecording(maximum as usize, limit as usize));
-    }
-    if word == "show" && option == "--json" {
-        return Some(Command::ShowObjects(maximum as usize, limit as usize));
-    }
-    None
-}
-
-/// The number that a word says.
-fn read_number(word: &str) -> Option<u64>
-    ensures { MatchOption result ((n : ℕ) → SaysNumber word.now n → ⊥) (SaysNumber word.now) }
-{
-    word.parse().ok()
 }
 
 /// The input that a command answers: all of it, and none for help.
@@ -256,35 +191,22 @@ fn answer(alloc: Global, command: Command, input: &[u8]) -> Result<Inspection, F
         Command::DecodeHex(limit) => decode_to_hexadecimal(alloc, input, limit),
         Command::Inspect(capacity) => inspect(alloc, capacity, input),
         Command::Run(capacity, limit) => Ok(whole(run_script(alloc, capacity, limit, input)?)),
-        Command::Show(maximum, limit) => show_form(alloc, maximum, limit, Form::Events, input),
-        Command::ShowTables(maximum, limit) => {
-            show_form(alloc, maximum, limit, Form::Tables, input)
-        }
-        Command::ShowRecording(maximum, limit) => {
-            show_form(alloc, maximum, limit, Form::Recording, input)
-        }
-        Command::ShowObjects(maximum, limit) => {
-            show_form(alloc, maximum, limit, Form::Objects, input)
+        Command::Show(options, maximum, limit) => {
+            show_connection(alloc, Agreed { maximum, limit }, options, input)
         }
     }
 }
 
-/// What is shown of a connection with this maximum table capacity in bytes, where so many streams may be blocked.
-fn show_form(
+/// What is shown of a connection.
+fn show_connection(
     alloc: Global,
-    maximum: usize,
-    limit: usize,
-    form: Form,
+    agreed: Agreed,
+    options: ShowOptions,
     input: &[u8],
 ) -> Result<Inspection, Fault>
     ensures { IfOk result (λ i. i.refused ≡ None) }
 {
-    let options = Options {
-        maximum,
-        limit,
-        form,
-    };
-    let text = show::show(alloc, options, input)?;
+    let text = show::show(alloc, agreed, options, input)?;
     Ok(whole(text))
 }
 

@@ -10,7 +10,7 @@ pub fn usage() -> &'static str
 {
     "\
 usage: qpk encode | decode [--hex] LIMIT | inspect CAPACITY | run CAPACITY LIMIT
-       qpk show [--table | --json | --qif] MAXIMUM BLOCKED
+       qpk show [--table] [--json] [--qif] MAXIMUM BLOCKED
 QPACK (RFC 9204) by lines: a command reads its input, and prints the answer.
 
 encode   fields, NAME TAB VALUE each, to a block in hexadecimal
@@ -35,7 +35,7 @@ show     a recorded connection in words: e TAB HEX and d TAB HEX, its streams;
   section 4: required insert count 0, base 0
     2 static 17, :method: GET
   with --table, and the table behind each instruction; with --json, an object a
-  line; with --qif, a recording of the offline interop format
+  line; with --qif, of a recording of the offline interop format; or with several
 --help   this text; no input is read
 "
 }

@@ -1,7 +1,8 @@
 -- A stream of instructions as an onlooker sees it (RFC 9204, section 4.2).
-use Rattle.std.specs.Prelude.{ℕ, ◌-◌, Bool, true, if◌then◌else◌, List, drop, length, Option, None, Some, Result, Ok}
+use Rattle.std.specs.Prelude.{ℕ, ◌-◌, Bool, true, if◌then◌else◌, ◌||◌, nat_eq, List, drop, length, Option, None, Some, Result, Ok}
 use Rattle.std.specs.Prelude.{Err}
 use Rattle.qpack_wire.specs.Alone.{KindFault, is_cut_kind}
+use Rattle.qpk_show.specs.declared.stream.Cut.{Cut}
 
 -- the bytes that came, how many of them were taken, and whether those behind are refused
 pub record Stream : Type 0 where
@@ -27,3 +28,10 @@ line_read s (Err fault) = if is_cut_kind fault then (Ok None, s) else (Err fault
 abbrev pub next_of : {L : Type 0} → (List ℕ → Result (L × List ℕ) KindFault) → Stream
     → Result (Option L) KindFault × Stream
 next_of read s = if s.is_refused then (Ok None, s) else line_read s (read (unread s))
+
+-- the front of a line that does not stand whole, where nothing is taken any more: the bytes that are not taken, if some
+-- are and they are not refused
+abbrev pub cut_of : Stream → Option Cut
+cut_of s =
+    if s.is_refused || nat_eq (length s.received - s.taken) 0 then None
+    else Some (record { offset = s.taken; bytes = length s.received - s.taken })

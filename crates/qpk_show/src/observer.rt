@@ -13,13 +13,14 @@ ghost use Rattle.qpack_wire.specs.StreamLines.{encoder_instruction_of};
 ghost use Rattle.qpk_show.specs.Showing.{section_at, observed_at_first, with_section, without_stream, is_waiting};
 ghost use Rattle.qpk_show.specs.Showing.{applied, blocked_at, section_read, of_other_streams};
 ghost use Rattle.qpk_show.specs.Sections.{shown_section};
+ghost use Rattle.qpk_show.specs.Streams.{cut_of};
 ghost use Rattle.qpk_show.specs.Answers.{ShowsNext, ShowsOne, no_encoder_instruction, no_decoder_instruction};
 ghost use Rattle.qpk_show.specs.Answers.{not_applied};
 
 use crate::instruction::apply;
 use crate::section::{Reading, read_section};
 use crate::shown::Shown;
-use crate::stream::Stream;
+use crate::stream::{Cut, Stream};
 use h3_qpack::DecoderError;
 use h3_qpack::coding::NoMemory;
 use h3_qpack::dynamic::{DynamicTable, ReceivedTable};
@@ -122,6 +123,20 @@ impl Observer {
         ensures { result.now ≡ self.now.table }
     {
         &self.table
+    }
+
+    /// The front of an encoder instruction that does not stand whole, where nothing is to be shown.
+    pub fn encoder_cut(&self) -> Option<Cut>
+        ensures { result ≡ cut_of self.now.encoder_stream }
+    {
+        self.encoder_stream.cut()
+    }
+
+    /// The front of a decoder instruction that does not stand whole, where nothing is to be shown.
+    pub fn decoder_cut(&self) -> Option<Cut>
+        ensures { result ≡ cut_of self.now.decoder_stream }
+    {
+        self.decoder_stream.cut()
     }
 
     /// Bytes of the encoder stream come.

@@ -1,7 +1,7 @@
 //! A stream of instructions as an onlooker sees it: its bytes come in pieces, and are taken line by line.
 
 ghost use Rattle.std.specs.Prelude.{◌≡◌, ◌++◌, [], true, false, None, Ok, OnOk, OnErr};
-ghost use Rattle.qpk_show.specs.Streams.{next_of};
+ghost use Rattle.qpk_show.specs.Streams.{cut_of, next_of};
 ghost use Rattle.qpk_show.specs.Answers.{AnswersLine};
 
 use h3_qpack::coding::Cursor;
@@ -16,6 +16,15 @@ pub struct Stream {
     received: Vec<u8>,
     taken: usize,
     is_refused: bool,
+}
+
+/// The front of an instruction, of which no more came.
+#[derive(Clone, Copy, Debug, PartialEq)]
+pub struct Cut {
+    /// The offset of its stream's byte where it begins, from 0.
+    pub offset: usize,
+    /// How many bytes of it came.
+    pub bytes: usize,
 }
 
 impl Model for Stream {
@@ -46,6 +55,20 @@ impl Stream {
         ensures { result ≡ self.now.taken }
     {
         self.taken
+    }
+
+    /// The bytes that are not taken, if some are and they are not refused.
+    pub fn cut(&self) -> Option<Cut>
+        ensures { result ≡ cut_of self.now }
+    {
+        let bytes = self.received.len() - self.taken;
+        if self.is_refused || bytes == 0 {
+            return None;
+        }
+        Some(Cut {
+            offset: self.taken,
+            bytes,
+        })
     }
 
     /// Appends bytes. On error, which is want of memory alone, nothing changes.

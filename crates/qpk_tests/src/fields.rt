@@ -1,6 +1,6 @@
 //! Fields encoded, and blocks decoded.
 
-use crate::running::{Case, USAGE, hold, refuse};
+use crate::running::{Case, USAGE, hold, refuse, refuse_word, run};
 use std::test::Fail;
 
 const ENCODED: [Case; 5] = [
@@ -243,25 +243,88 @@ fn the_usage_is_told_and_its_examples_hold(rt: HostRuntime) -> Result<(), Fail> 
     hold(&rt, rt.alloc(), &HELPED)
 }
 
+// Too many words, or too few: no word is at fault.
 #[test]
 fn other_words_are_refused(rt: HostRuntime) -> Result<(), Fail> {
     let words = [
         ("", ""),
-        ("help", ""),
         ("--help encode", ""),
         ("encode 1", ""),
         ("decode", "0000"),
-        ("decode ten", "0000"),
-        ("decode 18446744073709551616", "0000"),
-        ("decode -1", "0000"),
         ("decode --hex", "0000"),
-        ("decode --hex ten", "0000"),
         ("decode 42 --hex", "0000"),
-        ("encode --hex 42", "0000"),
         ("run", ""),
-        ("run 4096 -1", ""),
+        ("run 4096", ""),
+        ("run 4096 1 1", ""),
         ("inspect", ""),
-        ("inspect -1", ""),
+        ("inspect 1 x", ""),
+        ("show --table", ""),
+        ("show --table 1", ""),
+        ("show 1 1 --table", ""),
     ];
     refuse(&rt, rt.alloc(), USAGE, &words)
+}
+
+#[test]
+fn a_word_at_fault_is_named(rt: HostRuntime) -> Result<(), Fail> {
+    let alloc = rt.alloc();
+    refuse_word(
+        &rt,
+        alloc,
+        "qpk: \"help\" is not a command\n",
+        &["help", "help 1 2"],
+    )?;
+    refuse_word(
+        &rt,
+        alloc,
+        "qpk: \"--hex\" is not an option here\n",
+        &[
+            "encode --hex",
+            "inspect --hex 1",
+            "run --hex 1 1",
+            "show --table --hex 1 1",
+            "show --hex",
+        ],
+    )?;
+    refuse_word(
+        &rt,
+        alloc,
+        "qpk: \"12x\" is not a whole number below 2^64\n",
+        &[
+            "decode 12x",
+            "decode --hex 12x",
+            "inspect 12x",
+            "run 12x 1",
+            "run 1 12x",
+            "show --table 12x 1",
+        ],
+    )?;
+    refuse_word(
+        &rt,
+        alloc,
+        "qpk: \"-1\" is not a whole number below 2^64\n",
+        &["inspect -1", "run -1 12x"],
+    )?;
+    refuse_word(
+        &rt,
+        alloc,
+        "qpk: \"18446744073709551616\" is not a whole number below 2^64\n",
+        &["decode 18446744073709551616"],
+    )
+}
+
+const RETURN_NOTE: &str = "qpk: line 2: the carriage return at its end belongs to the value\n";
+
+// A return at the end of the input, or within a line, is none before a line feed.
+#[test]
+fn a_return_before_a_line_feed_is_told(rt: HostRuntime) -> Result<(), Fail> {
+    let alloc = rt.alloc();
+    let input = b"a\tb\nfoo\tbar\r\na\tb\r\n";
+    let encoded = run(&rt, alloc, "encode", input, "")?;
+    encoded.says(&rt, RETURN_NOTE, 0);
+    let decoded = run(&rt, alloc, "decode --hex 108", &encoded.output, "")?;
+    decoded.holds(&rt, "61\t62\n666f6f\t6261720d\n61\t620d\nsize 108\n", "", 0);
+    let quiet = run(&rt, alloc, "encode", b"a\t\r\tb\nfoo\tbar\r", "")?;
+    quiet.says(&rt, "", 0);
+    Ok(())
 }

@@ -14,7 +14,7 @@ pub const REFUSED_OUTPUT: &str = "qpk: refused: output\n";
 
 pub const USAGE: &str = "\
 usage: qpk encode | decode [--hex] LIMIT | inspect CAPACITY | run CAPACITY LIMIT
-       qpk show [--table | --json | --qif] MAXIMUM BLOCKED
+       qpk show [--table] [--json] [--qif] MAXIMUM BLOCKED
 QPACK (RFC 9204) by lines: a command reads its input, and prints the answer.
 
 encode   fields, NAME TAB VALUE each, to a block in hexadecimal
@@ -39,7 +39,7 @@ show     a recorded connection in words: e TAB HEX and d TAB HEX, its streams;
   section 4: required insert count 0, base 0
     2 static 17, :method: GET
   with --table, and the table behind each instruction; with --json, an object a
-  line; with --qif, a recording of the offline interop format
+  line; with --qif, of a recording of the offline interop format; or with several
 --help   this text; no input is read
 ";
 
@@ -58,6 +58,20 @@ pub struct Answer {
     pub output: Vec<u8>,
     faults: Vec<u8>,
     status: u8,
+}
+
+impl Answer {
+    /// Ends the test where this is not what a run wrote, and its status.
+    pub fn holds(&self, rt: &impl Abort, output: &str, fault: &str, status: u8) {
+        assert_eq!(rt; self.output.as_slice(), output.as_bytes());
+        self.says(rt, fault, status);
+    }
+
+    /// Ends the test where this is not what a run wrote to its faults, and its status.
+    pub fn says(&self, rt: &impl Abort, fault: &str, status: u8) {
+        assert_eq!(rt; self.faults.as_slice(), fault.as_bytes());
+        assert_eq!(rt; self.status, status);
+    }
 }
 
 /// The words of a line.
@@ -136,9 +150,8 @@ pub fn hold(rt: &impl Abort, alloc: Global, cases: &[Case]) -> Result<(), Fail> 
             case.output
         };
         let answer = run(rt, alloc, case.words, case.input.as_bytes(), before)?;
-        assert_eq!(rt; answer.output.as_slice(), case.output.as_bytes());
-        assert_eq!(rt; answer.faults.as_slice(), case.fault.as_bytes());
-        assert_eq!(rt; answer.status, u8::from(!case.fault.is_empty()));
+        let status = u8::from(!case.fault.is_empty());
+        answer.holds(rt, case.output, case.fault, status);
     }
     Ok(())
 }
@@ -158,6 +171,23 @@ pub fn refuse(
             fault,
         };
         hold(rt, alloc, &[case])?;
+    }
+    Ok(())
+}
+
+/// Runs words of which one is at fault: this line tells it, and the usage stands behind.
+pub fn refuse_word(
+    rt: &impl Abort,
+    alloc: Global,
+    line: &'static str,
+    words: &[&'static str],
+) -> Result<(), Fail> {
+    for words in words {
+        let answer = run(rt, alloc, words, b"", "")?;
+        assert!(rt; answer.output.is_empty());
+        let told = answer.faults.strip_prefix(line.as_bytes());
+        assert!(rt; told == Some(USAGE.as_bytes()));
+        assert_eq!(rt; answer.status, 1);
     }
     Ok(())
 }

@@ -1,6 +1,6 @@
 //! Scripts run: what each event prints.
 
-use crate::running::{Case, USAGE, hold, refuse};
+use crate::running::{Case, hold, refuse};
 use std::test::Fail;
 
 #[test]
@@ -104,12 +104,5 @@ fn a_session_that_does_not_begin_is_told(rt: HostRuntime) -> Result<(), Fail> {
         output: "",
         fault: "",
     };
-    hold(&rt, alloc, &[largest])?;
-    let words = [
-        ("run 4096", ""),
-        ("run 4096 one", ""),
-        ("run -1 1", ""),
-        ("run 4096 1 1", ""),
-    ];
-    refuse(&rt, alloc, USAGE, &words)
+    hold(&rt, alloc, &[largest])
 }

@@ -162,7 +162,93 @@ fn a_recording_of_the_interop_is_shown(rt: HostRuntime) -> Result<(), Fail> {
     Ok(())
 }
 
-const REFUSED: [Case; 4] = [
+// What is cut at the end of the input, in words and as objects: instructions of both streams, half a byte, and a record.
+const CUT: [Case; 5] = [
+    Case {
+        words: "show 4096 1",
+        input: "e\t3fe11f6294\nd\tff\nb\t4\t0000d1\n",
+        output: "\
+encoder 0: set capacity 4096
+section 4: required insert count 0, base 0
+  2 static 17, :method: GET
+encoder 3: cut at the end of the input, bytes that wait: 2
+decoder 0: cut at the end of the input, bytes that wait: 1
+",
+        fault: "",
+    },
+    Case {
+        words: "show --json 4096 1",
+        input: "e\t3fe11f6294\nd\tff\n",
+        output: "\
+{\"event\":1,\"encoder\":0,\"set_capacity\":4096}
+{\"event\":2,\"encoder\":3,\"cut\":2}
+{\"event\":2,\"decoder\":0,\"cut\":1}
+",
+        fault: "",
+    },
+    Case {
+        words: "show 4096 1",
+        input: "b\t4\t00005f1",
+        output: "\
+section 4: required insert count 0, base 0
+  2 refused in line 1: invalid integer: unexpected end
+line 1: half a byte at the end of the input is left out
+",
+        fault: "",
+    },
+    Case {
+        words: "show --qif 0 1",
+        input: "\0\0\0\0\0\0\0\x04\0\0\0\x02\0\0\0\0\0\0\0\0\0\x04\0\0\0\x04\0\0",
+        output: "\
+section 4: required insert count 0, base 0
+record 14: cut at the end of the input, bytes that wait: 14
+",
+        fault: "",
+    },
+    Case {
+        words: "show --json --table --qif 4096 1",
+        input: "\0\0\0\0\0\0\0\0\0\0\0\x03\x3f\x1f\x20\0",
+        output: "\
+{\"event\":1,\"encoder\":0,\"set_capacity\":62}
+{\"event\":1,\"table\":[],\"size\":0,\"capacity\":62}
+{\"event\":1,\"encoder\":2,\"set_capacity\":0}
+{\"event\":1,\"table\":[],\"size\":0,\"capacity\":0}
+{\"event\":2,\"record\":15,\"cut\":1}
+",
+        fault: "",
+    },
+];
+
+#[test]
+fn what_the_end_of_the_input_cuts_is_told(rt: HostRuntime) -> Result<(), Fail> {
+    hold(&rt, rt.alloc(), &CUT)
+}
+
+#[test]
+fn options_are_taken_in_any_order(rt: HostRuntime) -> Result<(), Fail> {
+    let words = [
+        "show --table --json 4096 1",
+        "show --json --table 4096 1",
+        "show --json --table --json 4096 1",
+    ];
+    for words in words {
+        let answer = run(&rt, rt.alloc(), words, b"e\t3fe11f6294e7838c767f00\n", "")?;
+        answer.holds(&rt, TABLES_AS_OBJECTS, "", 0);
+    }
+    Ok(())
+}
+
+const TABLES_AS_OBJECTS: &str = "\
+{\"event\":1,\"encoder\":0,\"set_capacity\":4096}
+{\"event\":1,\"table\":[],\"size\":0,\"capacity\":4096}
+{\"event\":1,\"encoder\":3,\"insert\":null,\"name\":\"foo\",\"value\":\"bar\"}
+{\"event\":1,\"table\":[{\"entry\":1,\"size\":38,\"name\":\"foo\",\"value\":\"bar\"}],\"size\":38,\"capacity\":4096}
+{\"event\":1,\"encoder\":10,\"duplicate\":0,\"name\":\"foo\",\"value\":\"bar\"}
+{\"event\":1,\"table\":[{\"entry\":2,\"size\":38,\"name\":\"foo\",\"value\":\"bar\"},\
+{\"entry\":1,\"size\":38,\"name\":\"foo\",\"value\":\"bar\"}],\"size\":76,\"capacity\":4096}
+";
+
+const REFUSED: [Case; 6] = [
     Case {
         words: "show 4096 1",
         input: "b\t4\t0000d1\nb\t0000d1\n",
@@ -181,9 +267,22 @@ const REFUSED: [Case; 4] = [
         output: "",
         fault: "qpk: refused: capacity\n",
     },
+    // Half a byte is left out at the end of the input alone, and of bytes alone.
     Case {
-        words: "show --qif 0 1",
-        input: "\0\0\0\0\0\0\0\x04\0\0\0\x04\0\0",
+        words: "show 4096 1",
+        input: "b\t4\t0000d\n",
+        output: "",
+        fault: "qpk: line 1: bad event\n",
+    },
+    Case {
+        words: "show 4096 1",
+        input: "b\t4\t0000z",
+        output: "",
+        fault: "qpk: line 1: bad event\n",
+    },
+    Case {
+        words: "show 4096 1",
+        input: "c\t4a",
         output: "",
         fault: "qpk: line 1: bad event\n",
     },

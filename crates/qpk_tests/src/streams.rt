@@ -127,6 +127,27 @@ fn a_writer_of_faults_that_fails_is_told_by_the_status(rt: HostRuntime) -> Resul
 }
 
 #[test]
+fn a_note_that_can_not_be_written_is_told_by_the_status(rt: HostRuntime) -> Result<(), Fail> {
+    let alloc = rt.alloc();
+    let words = words(alloc, "encode")?;
+    for room in [0, 3, 63] {
+        let mut out = Vec::new(alloc);
+        let mut faults = NarrowWriter::new(room);
+        let mut input = Cursor::new(b":method\tGET\r\n".as_slice());
+        let status = serve(alloc, &words, &mut input, &mut out, &mut faults);
+        if status == 2 && !out.is_empty() {
+            assert_eq!(rt; faults.taken().len(), room);
+            assert!(rt; NOTE.as_bytes().starts_with(faults.taken()));
+        } else {
+            assert!(rt; REFUSED_MEMORY.as_bytes().starts_with(faults.taken()));
+        }
+    }
+    Ok(())
+}
+
+const NOTE: &str = "qpk: line 1: the carriage return at its end belongs to the value\n";
+
+#[test]
 fn help_reads_no_input(rt: HostRuntime) -> Result<(), Fail> {
     let alloc = rt.alloc();
     let words = words(alloc, "--help")?;

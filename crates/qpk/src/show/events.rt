@@ -39,6 +39,20 @@ pub fn read_event(alloc: Global, line: &[u8]) -> Result<Option<Event>, Fault> {
     Ok(None)
 }
 
+/// The event of a line that the end of the input cuts behind the first digit of a byte: that of the digits before it.
+pub fn read_cut_event(alloc: Global, line: &[u8]) -> Result<Option<Event>, Fault> {
+    let Some((last, front)) = line.split_last() else {
+        return Ok(None);
+    };
+    if !last.is_ascii_hexdigit() {
+        return Ok(None);
+    }
+    match read_event(alloc, front)? {
+        Some(Event::GivenUp(_)) => Ok(None),
+        event => Ok(event),
+    }
+}
+
 /// The section of a stream and hexadecimal.
 fn read_section(alloc: Global, rest: &[u8]) -> Result<Option<Event>, Fault> {
     let Some((stream, digits)) = split_field(rest) else {

@@ -2,16 +2,64 @@
 
 use crate::error_words::DecoderWords;
 use crate::show::printing::push_form;
+use h3_qpack::dynamic::ReceivedTable;
 use h3_qpack::parse_error::ParseError;
 use h3_qpack::stream::{DecoderLine, EncoderLine, InsertWithNameRef};
 use h3_qpack::{DecoderError, HeaderField};
 use qpk_show::section::{LineFault, LineShown, PrefixRefusal, Reading, Stop};
 use qpk_show::shown::Shown;
+use qpk_show::stream::Cut;
 use std::alloc::AllocError;
 
 /// Appends the object of a stream whose reading is given up.
 pub fn push_given_up(text: &mut String, number: usize, stream: u64) -> Result<(), AllocError> {
     writeln!(text, "{{\"event\":{number},\"given_up\":{stream}}}")
+}
+
+/// Appends the object of half a byte, which is left out at the end of the input, in the line of this number.
+pub fn push_half_byte_object(text: &mut String, number: usize) -> Result<(), AllocError> {
+    writeln!(text, "{{\"event\":{number},\"left_out\":\"half a byte\"}}")
+}
+
+/// Appends the object of an instruction, or a record, that the end of the input cuts; the event of this number came last.
+pub fn push_cut_object(
+    text: &mut String,
+    number: usize,
+    stream: &str,
+    cut: Cut,
+) -> Result<(), AllocError> {
+    let Cut { offset, bytes } = cut;
+    writeln!(
+        text,
+        "{{\"event\":{number},\"{stream}\":{offset},\"cut\":{bytes}}}"
+    )
+}
+
+/// Appends the object of the table, its live entries with their absolute indexes, from 1, the newest first; the event of
+/// this number came last.
+pub fn push_table_object(
+    text: &mut String,
+    number: usize,
+    table: &ReceivedTable,
+) -> Result<(), AllocError> {
+    let inserted = table.total_inserted();
+    let mut total = 0usize;
+    write!(text, "{{\"event\":{number},\"table\":[")?;
+    for index in 0..inserted {
+        let Ok(field) = table.get_relative(index) else {
+            break;
+        };
+        let size = field.mem_size();
+        total = total.saturating_add(size);
+        if index > 0 {
+            text.push(',')?;
+        }
+        write!(text, "{{\"entry\":{},\"size\":{size},", inserted - index)?;
+        push_field(text, field)?;
+        text.push('}')?;
+    }
+    let capacity = table.max_mem_size();
+    writeln!(text, "],\"size\":{total},\"capacity\":{capacity}}}")
 }
 
 /// Appends the object of one thing; the event of this number came last.

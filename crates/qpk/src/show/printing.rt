@@ -9,6 +9,7 @@ use h3_qpack::stream::{DecoderLine, EncoderLine, InsertWithNameRef};
 use h3_qpack::{DecoderError, HeaderField};
 use qpk_show::section::{LineFault, LineShown, PrefixRefusal, Reading, Stop};
 use qpk_show::shown::Shown;
+use qpk_show::stream::Cut;
 use std::alloc::AllocError;
 
 /// Appends the line of a stream whose reading is given up.
@@ -16,18 +17,31 @@ pub fn push_event(text: &mut String, stream: u64) -> Result<(), AllocError> {
     writeln!(text, "stream {stream}: given up")
 }
 
-/// Appends the lines of one thing; the event of this number came last. Answers whether it is an instruction that was
-/// applied.
-pub fn push_shown(text: &mut String, number: usize, shown: &Shown) -> Result<bool, AllocError> {
+/// Appends the line of half a byte, which is left out at the end of the input, in the line of this number.
+pub fn push_half_byte(text: &mut String, number: usize) -> Result<(), AllocError> {
+    writeln!(
+        text,
+        "line {number}: half a byte at the end of the input is left out"
+    )
+}
+
+/// Appends the line of an instruction, or a record, that the end of the input cuts.
+pub fn push_cut(text: &mut String, stream: &str, cut: Cut) -> Result<(), AllocError> {
+    let Cut { offset, bytes } = cut;
+    writeln!(
+        text,
+        "{stream} {offset}: cut at the end of the input, bytes that wait: {bytes}"
+    )
+}
+
+/// Appends the lines of one thing; the event of this number came last.
+pub fn push_shown(text: &mut String, number: usize, shown: &Shown) -> Result<(), AllocError> {
     match shown {
         Shown::Applied {
             offset,
             line,
             inserted,
-        } => {
-            push_applied(text, *offset, line, inserted.as_ref())?;
-            return Ok(true);
-        }
+        } => push_applied(text, *offset, line, inserted.as_ref())?,
         Shown::NotApplied {
             offset,
             line,
@@ -54,7 +68,7 @@ pub fn push_shown(text: &mut String, number: usize, shown: &Shown) -> Result<boo
             push_too_many_blocked(text, number, *stream, *required)?;
         }
     }
-    Ok(false)
+    Ok(())
 }
 
 /// Appends why a thing is refused.

@@ -1,0 +1,214 @@
+//! What the words of a call ask for.
+
+ghost use Rattle.std.specs.Prelude.{◌≡◌, false, map, string_bytes};
+ghost use Rattle.qpk.specs.Commands.{BadWord as FaultOfWord, ReadsWords, TellsWords, alone, command_of, decode_of};
+ghost use Rattle.qpk.specs.Commands.{is_option, no_option, one_number, read_number, show_of, two_numbers, with_option};
+
+use crate::refusal::{Refusal, Wanted};
+use crate::script::parts;
+use crate::text::Fault;
+use std::alloc::Global;
+
+/// What the words ask for.
+#[derive(Clone, Copy)]
+pub enum Command {
+    /// Tell the usage; no input is read.
+    Help,
+    /// Encode the fields of the input's lines.
+    Encode,
+    /// Decode the block of the input, up to a sum of sizes in bytes.
+    Decode(u64),
+    /// The same, with the fields in hexadecimal.
+    DecodeHex(u64),
+    /// Inspect the events of the input, by a table of this capacity in bytes.
+    Inspect(usize),
+    /// Run the events of the input on a session of this capacity in bytes, where so many blocks may be blocked.
+    Run(usize, usize),
+    /// Show a connection with this maximum table capacity in bytes, where so many streams may be blocked.
+    Show(ShowOptions, usize, usize),
+}
+
+/// What stands in the input of `qpk show`, and what is printed of it.
+#[derive(Clone, Copy)]
+pub struct ShowOptions {
+    /// Whether the table is printed behind each instruction.
+    pub table: bool,
+    /// Whether objects of JSON are printed.
+    pub json: bool,
+    /// Whether the input is a recording of the offline interop format, and no lines.
+    pub qif: bool,
+}
+
+/// What the words ask for, without the program's name; or that they ask for nothing, and the word at fault, if one is.
+/// Memory is asked for to keep that word.
+pub fn read_command(alloc: Global, words: &[String]) -> Result<Command, Refusal>
+    ensures { ReadsWords result (command_of (map string_bytes words.now)) }
+{
+    let Some((name, rest)) = words.split_first() else {
+        return Err(Refusal::Usage);
+    };
+    let name = name.as_str();
+    if name == "--help" {
+        return alone(alloc, Command::Help, rest);
+    }
+    if name == "encode" {
+        return alone(alloc, Command::Encode, rest);
+    }
+    if name == "decode" {
+        return read_decode(alloc, rest);
+    }
+    if name == "inspect" {
+        let capacity = one_number(alloc, rest)?;
+        return Ok(Command::Inspect(capacity as usize));
+    }
+    if name == "run" {
+        let (capacity, limit) = two_numbers(alloc, rest)?;
+        return Ok(Command::Run(capacity as usize, limit as usize));
+    }
+    if name == "show" {
+        return read_show(alloc, rest);
+    }
+    Err(bad_word(alloc, Wanted::Command, name))
+}
+
+/// A command behind which no word stands.
+fn alone(alloc: Global, command: Command, rest: &[String]) -> Result<Command, Refusal>
+    ensures { ReadsWords result (alone command (map string_bytes rest.now)) }
+{
+    no_option(alloc, rest)?;
+    if rest.is_empty() {
+        return Ok(command);
+    }
+    Err(Refusal::Usage)
+}
+
+/// What the words behind `decode` ask for.
+fn read_decode(alloc: Global, rest: &[String]) -> Result<Command, Refusal>
+    ensures { ReadsWords result (decode_of (map string_bytes rest.now)) }
+{
+    if let Some((first, behind)) = rest.split_first() {
+        if first.as_str() == "--hex" {
+            return Ok(Command::DecodeHex(one_number(alloc, behind)?));
+        }
+    }
+    Ok(Command::Decode(one_number(alloc, rest)?))
+}
+
+/// What the words behind `show` ask for: options in any order, and two numbers.
+fn read_show(alloc: Global, words: &[String]) -> Result<Command, Refusal>
+    ensures { ReadsWords result (show_of (record { table = false; json = false; qif = false }) (map string_bytes
+        words.now)) }
+{
+    let mut options = ShowOptions {
+        table: false,
+        json: false,
+        qif: false,
+    };
+    let mut rest = words;
+    while let Some((first, behind)) = rest.split_first() {
+        if !is_option(first.as_str()) {
+            break;
+        }
+        options = with_option(alloc, options, first.as_str())?;
+        rest = behind;
+    }
+    let (maximum, limit) = two_numbers(alloc, rest)?;
+    Ok(Command::Show(options, maximum as usize, limit as usize))
+}
+
+/// Options with one more.
+fn with_option(alloc: Global, options: ShowOptions, word: &str) -> Result<ShowOptions, Refusal>
+    ensures { ReadsWords result (with_option options word.now) }
+{
+    if word == "--table" {
+        return Ok(ShowOptions {
+            table: true,
+            ..options
+        });
+    }
+    if word == "--json" {
+        return Ok(ShowOptions {
+            json: true,
+            ..options
+        });
+    }
+    if word == "--qif" {
+        return Ok(ShowOptions {
+            qif: true,
+            ..options
+        });
+    }
+    Err(bad_word(alloc, Wanted::Option, word))
+}
+
+/// Whether a word begins as an option does.
+fn is_option(word: &str) -> bool
+    ensures { result ≡ is_option word.now }
+{
+    word.as_bytes().starts_with(b"--")
+}
+
+/// Refuses words of which the first begins as an option does.
+fn no_option(alloc: Global, words: &[String]) -> Result<(), Refusal>
+    ensures { ReadsWords result (no_option (map string_bytes words.now)) }
+{
+    if let Some((first, _)) = words.split_first() {
+        if is_option(first.as_str()) {
+            return Err(bad_word(alloc, Wanted::Option, first.as_str()));
+        }
+    }
+    Ok(())
+}
+
+/// The number that a word says, behind which no other stands.
+fn one_number(alloc: Global, words: &[String]) -> Result<u64, Refusal>
+    ensures { ReadsWords result (one_number (map string_bytes words.now)) }
+{
+    no_option(alloc, words)?;
+    let Some((word, rest)) = words.split_first() else {
+        return Err(Refusal::Usage);
+    };
+    if !rest.is_empty() {
+        return Err(Refusal::Usage);
+    }
+    read_number(alloc, word.as_str())
+}
+
+/// The numbers that two words say, behind which no other stands.
+fn two_numbers(alloc: Global, words: &[String]) -> Result<(u64, u64), Refusal>
+    ensures { ReadsWords result (two_numbers (map string_bytes words.now)) }
+{
+    no_option(alloc, words)?;
+    let Some((first, rest)) = words.split_first() else {
+        return Err(Refusal::Usage);
+    };
+    let Some((second, rest)) = rest.split_first() else {
+        return Err(Refusal::Usage);
+    };
+    if !rest.is_empty() {
+        return Err(Refusal::Usage);
+    }
+    let first = read_number(alloc, first.as_str())?;
+    let second = read_number(alloc, second.as_str())?;
+    Ok((first, second))
+}
+
+/// The number that a word says.
+fn read_number(alloc: Global, word: &str) -> Result<u64, Refusal>
+    ensures { ReadsWords result (read_number word.now) }
+{
+    match parts::read_number(word.as_bytes()) {
+        Some(number) => Ok(number),
+        None => Err(bad_word(alloc, Wanted::Number, word)),
+    }
+}
+
+/// The refusal of a word that is not what should stand at its place.
+fn bad_word(alloc: Global, wanted: Wanted, word: &str) -> Refusal
+    ensures { TellsWords result (FaultOfWord wanted word.now) }
+{
+    match String::from_str(alloc, word) {
+        Ok(word) => Refusal::BadWord(wanted, word),
+        Err(_) => Refusal::Fault(Fault::Memory),
+    }
+}
