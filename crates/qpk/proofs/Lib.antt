@@ -8,4 +8,5 @@ pub mod InspectedInstructions
 pub mod InspectedEvents
 pub mod PrintedBlocks
 pub mod Writes
+pub mod JsonData
 pub mod Tellings

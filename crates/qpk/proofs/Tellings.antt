@@ -5,7 +5,7 @@ use Rattle.qpk.specs.Refusals.{MayWantMemory, TellsBy, refusal_line}
 use Rattle.h3_qpack.specs.declared.error.DecoderError.{DecoderError}
 use Rattle.qpk.specs.Serving.{HasFault, EndsFor, EndsForCommand, Stops, IsInspection, input_of}
 use Rattle.qpk.specs.declared.command.Command.{Command}
-use Rattle.qpk.specs.declared.command.Command.TheVariants.{Help, Encode, Decode, DecodeHex, Inspect, Run, Show}
+use Rattle.qpk.specs.declared.command.Command.TheVariants.{Help, Encode, Decode, DecodeHex, DecodeJson, Inspect, Run, Show}
 use Rattle.qpk.specs.Commands.{TellsWords, WordsFault}
 use Rattle.qpk.specs.declared.text.Fault.{Fault}
 use Rattle.qpk.specs.declared.text.Fault.TheVariants.{Memory}
@@ -25,6 +25,7 @@ memory_has Help bytes = refl
 memory_has Encode bytes = tt
 memory_has (Decode limit) bytes = tt
 memory_has (DecodeHex limit) bytes = tt
+memory_has (DecodeJson limit) bytes = tt
 memory_has (Inspect capacity) bytes = tt
 memory_has (Run capacity limit) bytes = tt
 memory_has (Show options maximum limit) bytes = tt
@@ -86,6 +87,7 @@ stops_inspecting Help bytes out e stops = stops
 stops_inspecting Encode bytes out e stops = stops
 stops_inspecting (Decode limit) bytes out e stops = stops
 stops_inspecting (DecodeHex limit) bytes out e stops = stops
+stops_inspecting (DecodeJson limit) bytes out e stops = stops
 stops_inspecting (Inspect capacity) bytes out e stops = tt
 stops_inspecting (Run capacity limit) bytes out e stops = stops
 stops_inspecting (Show options maximum limit) bytes out e stops = stops

@@ -71,6 +71,7 @@ abbrev pub decode_of : List (List ℕ) → Result Command WordsFault
 decode_of [] = Err OtherCount
 decode_of (word ∷ words) =
     if bytes_eq word (codes "--hex") then (one_number words >>= λ limit. Ok (command.DecodeHex limit))
+    else if bytes_eq word (codes "--json") then (one_number words >>= λ limit. Ok (command.DecodeJson limit))
     else (one_number (word ∷ words) >>= λ limit. Ok (command.Decode limit))
 
 -- options with one more

@@ -9,5 +9,6 @@ pub mod Outcomes
 pub mod Scripts
 pub mod Commands
 pub mod Notes
+pub mod Json
 pub mod Runs
 pub mod Serving

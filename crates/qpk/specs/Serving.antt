@@ -10,7 +10,8 @@ use Rattle.qpk.specs.FieldText.{text_of_fields}
 use Rattle.qpk.specs.Answers.{encode_answer, without_feed, FailsText, FailsHexadecimal}
 use Rattle.qpk.specs.Commands.{WordsFault, TellsWords, command_of}
 use Rattle.qpk.specs.declared.command.Command.{Command}
-use Rattle.qpk.specs.declared.command.Command.TheVariants.{Help, Encode, Decode, DecodeHex, Inspect, Run, Show}
+use Rattle.qpk.specs.declared.command.Command.TheVariants.{Help, Encode, Decode, DecodeHex, DecodeJson, Inspect, Run, Show}
+use Rattle.qpk.specs.Json.{section_json}
 use Rattle.qpk.specs.Notes.{IsNoteOf}
 use Rattle.qpk.specs.Refusals.{AppendsPart}
 use Rattle.qpk.specs.Usage.{usage_text}
@@ -62,6 +63,9 @@ Answers (Decode limit) input out =
 Answers (DecodeHex limit) input out =
     (block : List ℕ) × (fs : List Field) × (decode_of (without_feed input) ≡ Ok block)
     × (stateless_reading limit block ≡ Ok fs) × (out ≡ hexadecimal_answer fs)
+Answers (DecodeJson limit) input out =
+    (block : List ℕ) × (fs : List Field) × (decode_of (without_feed input) ≡ Ok block)
+    × (stateless_reading limit block ≡ Ok fs) × (out ≡ section_json fs)
 Answers (Inspect capacity) input out = PrintsInspection capacity input out None
 Answers (Run capacity limit) input out = PrintsRun capacity limit input out
 Answers (Show options maximum limit) input out = Unit {0}
@@ -87,6 +91,7 @@ HasFault Help input fault = fault ≡ Memory
 HasFault Encode input fault = FailsText fault (encode_answer input)
 HasFault (Decode limit) input fault = FailsHexadecimal fault limit (decode_of (without_feed input))
 HasFault (DecodeHex limit) input fault = FailsHexadecimal fault limit (decode_of (without_feed input))
+HasFault (DecodeJson limit) input fault = FailsHexadecimal fault limit (decode_of (without_feed input))
 HasFault (Inspect capacity) input fault = FailsInspection capacity input fault
 HasFault (Run capacity limit) input fault = HasRunFault capacity limit input fault
 HasFault (Show options maximum limit) input fault = Unit {0}

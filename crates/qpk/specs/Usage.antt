@@ -4,7 +4,8 @@ use Rattle.std.specs.Prelude.{ℕ, List, ◌++◌, codes}
 -- the commands, each with an example and what it prints
 unfoldable pub usage_text : List ℕ
 usage_text =
-    codes "usage: qpk encode | decode [--hex] LIMIT | inspect CAPACITY | run CAPACITY LIMIT\n"
+    codes "usage: qpk encode | decode [--hex | --json] LIMIT | inspect CAPACITY\n"
+    ++ codes "       qpk run CAPACITY LIMIT\n"
     ++ codes "       qpk show [--table] [--json] [--qif] MAXIMUM BLOCKED\n"
     ++ codes "QPACK (RFC 9204) by lines: a command reads its input, and prints the answer.\n"
     ++ codes "\n"
@@ -15,7 +16,8 @@ usage_text =
     ++ codes "  printf '0000d1\\n' | ./qpk decode 42\n"
     ++ codes "  :method\tGET\n"
     ++ codes "  size 42\n"
-    ++ codes "  with --hex, to NAME TAB VALUE in hexadecimal, a minus for nothing\n"
+    ++ codes "  with --hex, to NAME TAB VALUE in hexadecimal, a minus for nothing; with --json,\n"
+    ++ codes "  to an object, where what is not UTF-8 is an object with its bytes as hex\n"
     ++ codes "inspect  a recorded connection: e TAB HEX, its encoder stream; b TAB HEX, blocks\n"
     ++ codes "  printf 'b\\t0000d1\\n' | ./qpk inspect 4096\n"
     ++ codes "  prefix 0 0\n"

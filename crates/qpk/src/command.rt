@@ -20,6 +20,8 @@ pub enum Command {
     Decode(u64),
     /// The same, with the fields in hexadecimal.
     DecodeHex(u64),
+    /// The same, with the fields as an object of JSON.
+    DecodeJson(u64),
     /// Inspect the events of the input, by a table of this capacity in bytes.
     Inspect(usize),
     /// Run the events of the input on a session of this capacity in bytes, where so many blocks may be blocked.
@@ -89,6 +91,9 @@ fn read_decode(alloc: Global, rest: &[String]) -> Result<Command, Refusal>
     if let Some((first, behind)) = rest.split_first() {
         if first.as_str() == "--hex" {
             return Ok(Command::DecodeHex(one_number(alloc, behind)?));
+        }
+        if first.as_str() == "--json" {
+            return Ok(Command::DecodeJson(one_number(alloc, behind)?));
         }
     }
     Ok(Command::Decode(one_number(alloc, rest)?))

@@ -5,6 +5,7 @@
 pub mod command;
 pub mod error_words;
 mod inspect;
+mod json;
 mod lines;
 mod note;
 mod outcomes;

@@ -11,10 +11,11 @@ ghost use Rattle.qpk.specs.Refusals.{AppendsAtStatus, AppendsPart, TellsBy, refu
 ghost use Rattle.qpk.specs.Serving.{AsksFor, AsksForNothing, AnswersInput, EndsFor, EndsForCommand, FailsToRead};
 ghost use Rattle.qpk.specs.Serving.{IsAnswered, IsAnsweredBy, SaysNote, SaysPart};
 ghost use Rattle.qpk.specs.Serving.{hexadecimal_answer, input_of, printed_fields};
-ghost use Rattle.qpk.specs.declared.command.Command.TheVariants.{DecodeHex, Help};
+ghost use Rattle.qpk.specs.declared.command.Command.TheVariants.{DecodeHex, DecodeJson, Help};
 
 use crate::command::{Command, ShowOptions, read_command};
 use crate::inspect::{Inspection, inspect};
+use crate::json::section_json;
 use crate::note::note_of;
 use crate::printing::{push_fields, push_hexadecimal_fields};
 use crate::refusal::Refusal;
@@ -189,6 +190,7 @@ fn answer(alloc: Global, command: Command, input: &[u8]) -> Result<Inspection, F
             Ok(whole(text))
         }
         Command::DecodeHex(limit) => decode_to_hexadecimal(alloc, input, limit),
+        Command::DecodeJson(limit) => decode_to_json(alloc, input, limit),
         Command::Inspect(capacity) => inspect(alloc, capacity, input),
         Command::Run(capacity, limit) => Ok(whole(run_script(alloc, capacity, limit, input)?)),
         Command::Show(options, maximum, limit) => {
@@ -237,6 +239,14 @@ fn decode_to_hexadecimal(alloc: Global, input: &[u8], limit: u64) -> Result<Insp
     ensures { AnswersInput (DecodeHex limit) input.now result }
 {
     let text = show_hexadecimal(alloc, &decode_text(alloc, input, limit)?)?;
+    Ok(whole(text))
+}
+
+/// What is written for a block whose fields are told as an object of JSON, up to a sum of sizes in bytes.
+fn decode_to_json(alloc: Global, input: &[u8], limit: u64) -> Result<Inspection, Fault>
+    ensures { AnswersInput (DecodeJson limit) input.now result }
+{
+    let text = section_json(alloc, &decode_text(alloc, input, limit)?)?;
     Ok(whole(text))
 }
 

@@ -9,7 +9,8 @@ pub fn usage() -> &'static str
     ensures { result.now ≡ usage_text }
 {
     "\
-usage: qpk encode | decode [--hex] LIMIT | inspect CAPACITY | run CAPACITY LIMIT
+usage: qpk encode | decode [--hex | --json] LIMIT | inspect CAPACITY
+       qpk run CAPACITY LIMIT
        qpk show [--table] [--json] [--qif] MAXIMUM BLOCKED
 QPACK (RFC 9204) by lines: a command reads its input, and prints the answer.
 
@@ -20,7 +21,8 @@ decode   a block to its fields, whose sizes may sum to LIMIT bytes
   printf '0000d1\\n' | ./qpk decode 42
   :method\tGET
   size 42
-  with --hex, to NAME TAB VALUE in hexadecimal, a minus for nothing
+  with --hex, to NAME TAB VALUE in hexadecimal, a minus for nothing; with --json,
+  to an object, where what is not UTF-8 is an object with its bytes as hex
 inspect  a recorded connection: e TAB HEX, its encoder stream; b TAB HEX, blocks
   printf 'b\\t0000d1\\n' | ./qpk inspect 4096
   prefix 0 0

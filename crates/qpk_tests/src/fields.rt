@@ -137,6 +137,48 @@ fn blocks_are_decoded_to_hexadecimal(rt: HostRuntime) -> Result<(), Fail> {
     )
 }
 
+// A line feed, a TAB and a quote are escaped, and what is not UTF-8 is told in hexadecimal, as no text is.
+const DECODED_TO_JSON: [Case; 4] = [
+    Case {
+        words: "decode --json 42",
+        input: "0000d1\n",
+        output: "{\"fields\":[{\"name\":\":method\",\"value\":\"GET\"}],\"size\":42}\n",
+        fault: "",
+    },
+    Case {
+        words: "decode --json 73",
+        input: "000023666f6f030a09ff2161025c22",
+        output: "{\"fields\":[{\"name\":\"foo\",\"value\":{\"hex\":\"0a09ff\"}},\
+{\"name\":\"a\",\"value\":\"\\\\\\\"\"}],\"size\":73}\n",
+        fault: "",
+    },
+    Case {
+        words: "decode --json 69",
+        input: "0000216102c3a921610109",
+        output: "{\"fields\":[{\"name\":\"a\",\"value\":\"\u{e9}\"},{\"name\":\"a\",\"value\":\"\\t\"}],\
+\"size\":69}\n",
+        fault: "",
+    },
+    Case {
+        words: "decode --json 0",
+        input: "0500",
+        output: "{\"fields\":[],\"size\":0}\n",
+        fault: "",
+    },
+];
+
+#[test]
+fn blocks_are_decoded_to_json(rt: HostRuntime) -> Result<(), Fail> {
+    let alloc = rt.alloc();
+    hold(&rt, alloc, &DECODED_TO_JSON)?;
+    refuse(
+        &rt,
+        alloc,
+        "qpk: refused: header too long\n",
+        &[("decode --json 41", "0000d1\n")],
+    )
+}
+
 const BAD: [Case; 6] = [
     Case {
         words: "decode 9",
