@@ -11,7 +11,7 @@ use Rattle.std.proofs.lemmas.Str.{IsUtf8-from_ascii}
 use Rattle.std.proofs.lemmas.Str.Parse.{IsNumeralModel, numerals_by_value, tells_all_ascii_digits}
 use Rattle.std.proofs.lemmas.Fmt.{IsAscii-from_digits}
 use Rattle.qpack_spec.specs.Field.{Field}
-use Rattle.qpk.specs.FieldText.{with_byte, with_name_byte, field_of_line}
+use Rattle.qpk_qif.specs.Lines.{with_byte, with_name_byte, field_of_line}
 use Rattle.qpk.specs.Scripts.{parts_of, number_of_digits, number_of, event_alone}
 
 -- ---- parts

@@ -5,7 +5,8 @@ use Rattle.qpk.specs.Refusals.{MayWantMemory, TellsBy, refusal_line}
 use Rattle.h3_qpack.specs.declared.error.DecoderError.{DecoderError}
 use Rattle.qpk.specs.Serving.{HasFault, EndsFor, EndsForCommand, Stops, IsInspection, input_of}
 use Rattle.qpk.specs.declared.command.Command.{Command}
-use Rattle.qpk.specs.declared.command.Command.TheVariants.{Help, Encode, Decode, DecodeHex, DecodeJson, Inspect, Run, Show}
+use Rattle.qpk.specs.declared.command.Command.TheVariants.{Help, Encode, Decode, DecodeHex, Inspect, Run, Show}
+use Rattle.qpk.specs.declared.command.Command.TheVariants.{DecodeJson, EncodeLists, DecodeRecords}
 use Rattle.qpk.specs.Commands.{TellsWords, WordsFault}
 use Rattle.qpk.specs.declared.text.Fault.{Fault}
 use Rattle.qpk.specs.declared.text.Fault.TheVariants.{Memory}
@@ -29,6 +30,8 @@ memory_has (DecodeJson limit) bytes = tt
 memory_has (Inspect capacity) bytes = tt
 memory_has (Run capacity limit) bytes = tt
 memory_has (Show options maximum limit) bytes = tt
+memory_has (EncodeLists settings) bytes = tt
+memory_has (DecodeRecords settings) bytes = tt
 
 memory_may_be : (command : Command) (input : Option (List ℕ))
     → IfSome input (λ bytes. HasFault command bytes Memory)
@@ -91,3 +94,5 @@ stops_inspecting (DecodeJson limit) bytes out e stops = stops
 stops_inspecting (Inspect capacity) bytes out e stops = tt
 stops_inspecting (Run capacity limit) bytes out e stops = stops
 stops_inspecting (Show options maximum limit) bytes out e stops = stops
+stops_inspecting (EncodeLists settings) bytes out e stops = stops
+stops_inspecting (DecodeRecords settings) bytes out e stops = stops

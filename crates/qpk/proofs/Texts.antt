@@ -12,7 +12,8 @@ use Rattle.qpack_base.specs.HeaderFields.{DrainsFields}
 use Rattle.qpack_base.proofs.FieldLists.{fields_from_slice}
 use Rattle.h3_qpack.specs.Stateless.{fields_in}
 use Rattle.qpk.specs.Answers.{encode_answer}
-use Rattle.qpk.specs.FieldText.{lines_of, fields_from}
+use Rattle.qpk_qif.specs.Lines.{lines_of}
+use Rattle.qpk.specs.FieldText.{fields_from}
 
 pub encoded : (bytes : List ℕ) (s : Iter HeaderField) (xs : List HeaderField) (before block text : List ℕ) (size : ℕ)
     → before ≡ [] → iter_rest s ≡ xs → fields_from 1 (lines_of bytes) ≡ Ok (fields_in xs)

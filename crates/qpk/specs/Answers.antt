@@ -14,7 +14,8 @@ use Rattle.h3_qpack.specs.Stateless.{DecodesStateless, FailsStateless, fields_in
 use Rattle.h3_qpack.specs.declared.decoder.Decoded.{Decoded}
 use Rattle.h3_qpack.specs.declared.error.DecoderError.{DecoderError}
 use Rattle.h3_qpack.specs.declared.error.DecoderError.TheVariants as decoder
-use Rattle.qpk.specs.FieldText.{lines_of, fields_from}
+use Rattle.qpk_qif.specs.Lines.{lines_of}
+use Rattle.qpk.specs.FieldText.{fields_from}
 use Rattle.qpk.specs.declared.text.Fault.{Fault}
 use Rattle.qpk.specs.declared.text.Fault.TheVariants.{NoTab, BadEvent, NotHexadecimal, Refused, Memory}
 

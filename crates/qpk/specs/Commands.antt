@@ -66,12 +66,45 @@ no_word c (word ∷ words) = Err OtherCount
 abbrev pub alone : Command → List (List ℕ) → Result Command WordsFault
 alone c words = no_option words >>= λ _. no_word c words
 
+-- whether blocks are acknowledged, which a word says
+abbrev pub read_acknowledged : List ℕ → Result Bool WordsFault
+read_acknowledged word =
+    if bytes_eq word (codes "0") then Ok false
+    else if bytes_eq word (codes "1") then Ok true
+    else Err (BadWord wanted.Acknowledged word)
+
+-- two numbers, and 0 or 1, alone
+abbrev pub lists_alone : List (List ℕ) → Result Command WordsFault
+lists_alone [] = Err OtherCount
+lists_alone (first ∷ []) = Err OtherCount
+lists_alone (first ∷ second ∷ []) = Err OtherCount
+lists_alone (first ∷ second ∷ third ∷ []) =
+    read_number first >>= λ m. read_number second >>= λ n. read_acknowledged third >>= λ a.
+    Ok (command.EncodeLists (record { capacity = m; blocked = n; acknowledged = a }))
+lists_alone (first ∷ second ∷ third ∷ more ∷ words) = Err OtherCount
+
+-- what the words behind `encode --qif` ask for
+abbrev pub lists_of : List (List ℕ) → Result Command WordsFault
+lists_of words = no_option words >>= λ _. lists_alone words
+
+-- what the words behind `encode` ask for
+abbrev pub encode_of : List (List ℕ) → Result Command WordsFault
+encode_of [] = Ok command.Encode
+encode_of (word ∷ words) =
+    if bytes_eq word (codes "--qif") then lists_of words else alone command.Encode (word ∷ words)
+
+-- what the words behind `decode --qif` ask for: two numbers
+abbrev pub records_of : List (List ℕ) → Result Command WordsFault
+records_of words = two_numbers words >>= λ n.
+    Ok (command.DecodeRecords (record { capacity = n.0; blocked = n.1 }))
+
 -- what the words behind `decode` ask for
 abbrev pub decode_of : List (List ℕ) → Result Command WordsFault
 decode_of [] = Err OtherCount
 decode_of (word ∷ words) =
     if bytes_eq word (codes "--hex") then (one_number words >>= λ limit. Ok (command.DecodeHex limit))
     else if bytes_eq word (codes "--json") then (one_number words >>= λ limit. Ok (command.DecodeJson limit))
+    else if bytes_eq word (codes "--qif") then records_of words
     else (one_number (word ∷ words) >>= λ limit. Ok (command.Decode limit))
 
 -- options with one more
@@ -93,7 +126,7 @@ show_of o (word ∷ words) =
 abbrev pub command_named : List ℕ → List (List ℕ) → Result Command WordsFault
 command_named name words =
     if bytes_eq name (codes "--help") then alone command.Help words
-    else if bytes_eq name (codes "encode") then alone command.Encode words
+    else if bytes_eq name (codes "encode") then encode_of words
     else if bytes_eq name (codes "decode") then decode_of words
     else if bytes_eq name (codes "inspect") then (one_number words >>= λ n. Ok (command.Inspect n))
     else if bytes_eq name (codes "run") then (two_numbers words >>= λ p. Ok (command.Run p.0 p.1))

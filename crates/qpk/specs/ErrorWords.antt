@@ -16,6 +16,8 @@ use Rattle.h3_qpack.specs.declared.error.DecoderError.{DecoderError}
 use Rattle.h3_qpack.specs.declared.error.DecoderError.TheVariants as decoder
 use Rattle.h3_qpack.specs.declared.error.EncoderError.{EncoderError}
 use Rattle.h3_qpack.specs.declared.error.EncoderError.TheVariants as encoder
+use Rattle.qpk_qif.specs.declared.session.Fault.{Fault as RecordingFault}
+use Rattle.qpk_qif.specs.declared.session.Fault.TheVariants as recording
 
 -- the line of what is refused, in these words
 abbrev pub refused_text : List ℕ → List ℕ
@@ -105,6 +107,20 @@ encoder_words (encoder.InvalidString e) = codes "could not parse string: " ++ st
 encoder_words (encoder.InvalidInteger e) = codes "could not parse integer: " ++ integer_words e
 encoder_words (encoder.UnknownDecoderInstruction bits) = codes "got unkown decoder instruction: " ++ decimal bits
 encoder_words encoder.Memory = memory_words
+
+-- why header lists were not encoded to a recording, or a recording was not decoded
+abbrev pub recording_words : RecordingFault → List ℕ
+recording_words (recording.NoTab number) = codes "line " ++ decimal number ++ codes ": no tab"
+recording_words (recording.TooLong number) = codes "list " ++ decimal number ++ codes ": too long for a record"
+recording_words (recording.NotHeard number e) = codes "list " ++ decimal number ++ codes ": " ++ encoder_words e
+recording_words (recording.Cut number) = codes "record " ++ decimal number ++ codes ": cut off"
+recording_words (recording.Refused number e) = codes "record " ++ decimal number ++ codes ": " ++ decoder_words e
+recording_words (recording.TooManyBlocked number) = codes "record " ++ decimal number ++ codes ": too many streams are blocked"
+recording_words (recording.BlockedToTheEnd number) = codes "record " ++ decimal number ++ codes ": blocked to the end"
+recording_words (recording.EndsWithin number) = codes "record " ++ decimal number ++ codes ": ends within an instruction"
+recording_words recording.Capacity = codes "capacity too large"
+recording_words recording.Limit = codes "limit of blocked streams too large"
+recording_words recording.Memory = memory_words
 
 -- ---- what their parts answer
 

@@ -1,29 +1,9 @@
 -- Text of header fields: a field a line, its name and its value parted by the first TAB.
-use Rattle.std.specs.Prelude.{ℕ, ◌+◌, List, [], ◌∷◌, ◌++◌, Option, Some, None, Result, Ok, Err, nat_eq, if◌then◌else◌}
+use Rattle.std.specs.Prelude.{ℕ, ◌+◌, List, [], ◌∷◌, ◌++◌, Option, Some, None, Result, Ok, Err}
 use Rattle.std.specs.List.{flat_map}
 use Rattle.qpack_spec.specs.Field.{Field}
 use Rattle.qpack_base.specs.HeaderFields.{text_of}
-
--- a byte more at the front of the first line
-abbrev pub with_byte : ℕ → List (List ℕ) → List (List ℕ)
-with_byte b [] = (b ∷ []) ∷ []
-with_byte b (line ∷ lines) = (b ∷ line) ∷ lines
-
--- the lines, parted by line feeds alone; the last one may lack its line feed
-abbrev pub lines_of : List ℕ → List (List ℕ)
-lines_of [] = []
-lines_of (b ∷ bytes) = if nat_eq b 10 then [] ∷ lines_of bytes else with_byte b (lines_of bytes)
-
--- a byte more at the front of the name
-abbrev pub with_name_byte : ℕ → Option Field → Option Field
-with_name_byte b None = None
-with_name_byte b (Some f) = Some (record { name = b ∷ f.name; value = f.value })
-
--- the field of a line: the name ends at the first TAB
-abbrev pub field_of_line : List ℕ → Option Field
-field_of_line [] = None
-field_of_line (b ∷ bytes) = if nat_eq b 9 then Some (record { name = []; value = bytes }) else with_name_byte b
-    (field_of_line bytes)
+use Rattle.qpk_qif.specs.Lines.{field_of_line}
 
 -- what a line stands for, if it does, more at the front
 abbrev pub with_item : {A : Type 0} → ℕ → Option A → Result (List A) ℕ → Result (List A) ℕ

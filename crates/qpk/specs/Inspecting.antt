@@ -23,7 +23,8 @@ use Rattle.h3_qpack.specs.declared.error.DecoderError.{DecoderError}
 use Rattle.h3_qpack.specs.declared.error.DecoderError.TheVariants.{Memory}
 use Rattle.h3_qpack.specs.Sections.{Tells}
 use Rattle.qpk.specs.ErrorWords.{decoder_words, refused_text}
-use Rattle.qpk.specs.FieldText.{lines_of, field_of_line, with_item}
+use Rattle.qpk_qif.specs.Lines.{lines_of, field_of_line}
+use Rattle.qpk.specs.FieldText.{with_item}
 
 -- ---- the input: a line an event
 

@@ -2,11 +2,11 @@
 use Rattle.std.specs.Prelude.{◌≡◌, ℕ, ◌<◌, List, ◌++◌, codes, length, take, Option, ◌⊎◌, string_bytes}
 use Rattle.std.specs.Fmt.{decimal}
 use Rattle.std.specs.Io.KnownBytes.{Appends}
-use Rattle.qpk.specs.ErrorWords.{decoder_words}
+use Rattle.qpk.specs.ErrorWords.{decoder_words, recording_words}
 use Rattle.qpk.specs.Usage.{usage_text}
 use Rattle.qpk.specs.declared.text.Fault.{Fault}
 use Rattle.qpk.specs.declared.text.Fault.TheVariants.{NoTab, BadEvent, NotHexadecimal, Refused, Capacity, Limit}
-use Rattle.qpk.specs.declared.text.Fault.TheVariants.{Memory}
+use Rattle.qpk.specs.declared.text.Fault.TheVariants.{Memory, Recording}
 use Rattle.qpk.specs.declared.refusal.Refusal.{Refusal}
 use Rattle.qpk.specs.declared.refusal.Refusal.TheVariants as refusal
 use Rattle.qpk.specs.declared.refusal.Wanted.{Wanted}
@@ -20,6 +20,7 @@ fault_text NotHexadecimal = codes "not hexadecimal"
 fault_text (Refused e) = codes "refused: " ++ decoder_words e
 fault_text Capacity = codes "refused: capacity"
 fault_text Limit = codes "refused: limit"
+fault_text (Recording e) = recording_words e
 fault_text Memory = codes "refused: memory"
 
 -- the line that tells it
@@ -31,6 +32,7 @@ abbrev pub wanted_words : Wanted → List ℕ
 wanted_words wanted.Command = codes "not a command"
 wanted_words wanted.Option = codes "not an option here"
 wanted_words wanted.Number = codes "not a whole number below 2^64"
+wanted_words wanted.Acknowledged = codes "neither 0 nor 1"
 
 -- the line that tells a word at fault, and the usage
 abbrev pub bad_word_line : Wanted → List ℕ → List ℕ

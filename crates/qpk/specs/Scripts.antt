@@ -12,7 +12,8 @@ use Rattle.h3_qpack.specs.Sessions.{event_of}
 use Rattle.h3_qpack.specs.Stateless.{fields_in}
 use Rattle.h3_qpack.specs.declared.session.Event.{Event as ReadEvent}
 use Rattle.qpk.specs.Answers.{FailsEvents}
-use Rattle.qpk.specs.FieldText.{with_byte, lines_of, with_item}
+use Rattle.qpk_qif.specs.Lines.{with_byte, lines_of}
+use Rattle.qpk.specs.FieldText.{with_item}
 use Rattle.qpk.specs.declared.text.Fault.{Fault}
 use Rattle.qpk.specs.declared.text.Fault.TheVariants.{Memory}
 

@@ -10,7 +10,8 @@ use Rattle.qpk.specs.FieldText.{text_of_fields}
 use Rattle.qpk.specs.Answers.{encode_answer, without_feed, FailsText, FailsHexadecimal}
 use Rattle.qpk.specs.Commands.{WordsFault, TellsWords, command_of}
 use Rattle.qpk.specs.declared.command.Command.{Command}
-use Rattle.qpk.specs.declared.command.Command.TheVariants.{Help, Encode, Decode, DecodeHex, DecodeJson, Inspect, Run, Show}
+use Rattle.qpk.specs.declared.command.Command.TheVariants.{Help, Encode, Decode, DecodeHex, Inspect, Run, Show}
+use Rattle.qpk.specs.declared.command.Command.TheVariants.{DecodeJson, EncodeLists, DecodeRecords}
 use Rattle.qpk.specs.Json.{section_json}
 use Rattle.qpk.specs.Notes.{IsNoteOf}
 use Rattle.qpk.specs.Refusals.{AppendsPart}
@@ -24,7 +25,7 @@ use Rattle.h3_qpack.specs.declared.error.DecoderError.{DecoderError}
 use Rattle.qpk.specs.Inspecting.{PrintsInspection, hexadecimal_fields}
 use Rattle.qpk.specs.Runs.{PrintsRun, HasRunFault}
 use Rattle.qpk.specs.Inspections.{FailsInspection}
-use Rattle.qpk.specs.declared.inspect.Inspection.{Inspection}
+use Rattle.qpk.specs.declared.serve.Output.{Output}
 
 -- the words ask for the command
 abbrev pub AsksFor : {Z : Type 0} → List (String Z) → Command → Type 0
@@ -69,6 +70,8 @@ Answers (DecodeJson limit) input out =
 Answers (Inspect capacity) input out = PrintsInspection capacity input out None
 Answers (Run capacity limit) input out = PrintsRun capacity limit input out
 Answers (Show options maximum limit) input out = Unit {0}
+Answers (EncodeLists settings) input out = Unit {0}
+Answers (DecodeRecords settings) input out = Unit {0}
 
 -- the output of a command that ends at a refusal in its input
 abbrev pub Stops : Command → List ℕ → List ℕ → DecoderError → Type 0
@@ -95,10 +98,12 @@ HasFault (DecodeJson limit) input fault = FailsHexadecimal fault limit (decode_o
 HasFault (Inspect capacity) input fault = FailsInspection capacity input fault
 HasFault (Run capacity limit) input fault = HasRunFault capacity limit input fault
 HasFault (Show options maximum limit) input fault = Unit {0}
+HasFault (EncodeLists settings) input fault = Unit {0}
+HasFault (DecodeRecords settings) input fault = Unit {0}
 
 -- the output that a command's input asks for, or the fault that stands there
-abbrev pub AnswersInput : Command → List ℕ → Result Inspection Fault → Type 0
-AnswersInput command input (Ok i) = Prints command input (string_bytes i.text) i.refused
+abbrev pub AnswersInput : Command → List ℕ → Result Output Fault → Type 0
+AnswersInput command input (Ok a) = Prints command input a.bytes.items a.refused
 AnswersInput command input (Err fault) = HasFault command input fault
 
 -- a fault is told as this refusal, or as want of memory where none is left to tell it
@@ -108,6 +113,7 @@ TellsRefusal fault e = (fault ≡ Refused e) ⊎ (fault ≡ Memory)
 -- what is said of the input of a command, where that input is known: nothing of one that is not encoded
 abbrev pub IsNote : Command → Option (List ℕ) → Option (List ℕ) → Type 0
 IsNote Encode input note = IfSome input (λ bytes. IsNoteOf Encode bytes note)
+IsNote (EncodeLists settings) input note = IfSome input (λ bytes. IsNoteOf (EncodeLists settings) bytes note)
 IsNote command input note = note ≡ None
 
 -- a command is answered: its output was written, and nothing else; and this is to be said of its input

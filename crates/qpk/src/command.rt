@@ -2,11 +2,13 @@
 
 ghost use Rattle.std.specs.Prelude.{◌≡◌, false, map, string_bytes};
 ghost use Rattle.qpk.specs.Commands.{BadWord as FaultOfWord, ReadsWords, TellsWords, alone, command_of, decode_of};
+ghost use Rattle.qpk.specs.Commands.{encode_of, lists_of, read_acknowledged, records_of};
 ghost use Rattle.qpk.specs.Commands.{is_option, no_option, one_number, read_number, show_of, two_numbers, with_option};
 
 use crate::refusal::{Refusal, Wanted};
 use crate::script::parts;
 use crate::text::Fault;
+use qpk_qif::session::{DecoderSettings, EncoderSettings};
 use std::alloc::Global;
 
 /// What the words ask for.
@@ -16,6 +18,10 @@ pub enum Command {
     Help,
     /// Encode the fields of the input's lines.
     Encode,
+    /// Encode the header lists of the input, in QIF, to a recording of the offline interop format.
+    EncodeLists(EncoderSettings),
+    /// Decode the recording of the input, of that format, to header lists in QIF.
+    DecodeRecords(DecoderSettings),
     /// Decode the block of the input, up to a sum of sizes in bytes.
     Decode(u64),
     /// The same, with the fields in hexadecimal.
@@ -54,7 +60,7 @@ pub fn read_command(alloc: Global, words: &[String]) -> Result<Command, Refusal>
         return alone(alloc, Command::Help, rest);
     }
     if name == "encode" {
-        return alone(alloc, Command::Encode, rest);
+        return read_encode(alloc, rest);
     }
     if name == "decode" {
         return read_decode(alloc, rest);
@@ -84,6 +90,69 @@ fn alone(alloc: Global, command: Command, rest: &[String]) -> Result<Command, Re
     Err(Refusal::Usage)
 }
 
+/// What the words behind `encode` ask for.
+fn read_encode(alloc: Global, rest: &[String]) -> Result<Command, Refusal>
+    ensures { ReadsWords result (encode_of (map string_bytes rest.now)) }
+{
+    if let Some((first, behind)) = rest.split_first() {
+        if first.as_str() == "--qif" {
+            return read_lists(alloc, behind);
+        }
+    }
+    alone(alloc, Command::Encode, rest)
+}
+
+/// What the words behind `encode --qif` ask for: two numbers, and 0 or 1.
+fn read_lists(alloc: Global, words: &[String]) -> Result<Command, Refusal>
+    ensures { ReadsWords result (lists_of (map string_bytes words.now)) }
+{
+    no_option(alloc, words)?;
+    let Some((capacity, rest)) = words.split_first() else {
+        return Err(Refusal::Usage);
+    };
+    let Some((blocked, rest)) = rest.split_first() else {
+        return Err(Refusal::Usage);
+    };
+    let Some((acknowledged, rest)) = rest.split_first() else {
+        return Err(Refusal::Usage);
+    };
+    if !rest.is_empty() {
+        return Err(Refusal::Usage);
+    }
+    let capacity = read_number(alloc, capacity.as_str())?;
+    let blocked = read_number(alloc, blocked.as_str())?;
+    let acknowledged = read_acknowledged(alloc, acknowledged.as_str())?;
+    Ok(Command::EncodeLists(EncoderSettings {
+        capacity: capacity as usize,
+        blocked: blocked as usize,
+        acknowledged,
+    }))
+}
+
+/// Whether blocks are acknowledged, which a word says.
+fn read_acknowledged(alloc: Global, word: &str) -> Result<bool, Refusal>
+    ensures { ReadsWords result (read_acknowledged word.now) }
+{
+    if word == "0" {
+        return Ok(false);
+    }
+    if word == "1" {
+        return Ok(true);
+    }
+    Err(bad_word(alloc, Wanted::Acknowledged, word))
+}
+
+/// What the words behind `decode --qif` ask for: two numbers.
+fn read_records(alloc: Global, words: &[String]) -> Result<Command, Refusal>
+    ensures { ReadsWords result (records_of (map string_bytes words.now)) }
+{
+    let (capacity, blocked) = two_numbers(alloc, words)?;
+    Ok(Command::DecodeRecords(DecoderSettings {
+        capacity: capacity as usize,
+        blocked: blocked as usize,
+    }))
+}
+
 /// What the words behind `decode` ask for.
 fn read_decode(alloc: Global, rest: &[String]) -> Result<Command, Refusal>
     ensures { ReadsWords result (decode_of (map string_bytes rest.now)) }
@@ -94,6 +163,9 @@ fn read_decode(alloc: Global, rest: &[String]) -> Result<Command, Refusal>
         }
         if first.as_str() == "--json" {
             return Ok(Command::DecodeJson(one_number(alloc, behind)?));
+        }
+        if first.as_str() == "--qif" {
+            return read_records(alloc, behind);
         }
     }
     Ok(Command::Decode(one_number(alloc, rest)?))

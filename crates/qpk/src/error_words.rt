@@ -4,10 +4,11 @@ ghost use Rattle.std.specs.Prelude.{◌≡◌, ◌++◌, Some};
 ghost use Rattle.std.specs.Fmt.{decimal};
 ghost use Rattle.qpk.specs.ErrorWords.{decoder_words, encoder_words, integer_words, integer_name, string_words};
 ghost use Rattle.qpk.specs.ErrorWords.{string_name, huffman_name, window_name, table_name, address_name};
-ghost use Rattle.qpk.specs.ErrorWords.{counted_words, TellsAlone};
+ghost use Rattle.qpk.specs.ErrorWords.{counted_words, recording_words, TellsAlone};
 
 use h3_qpack::prefix_string::{BitWindow, HuffmanDecodingError};
 use h3_qpack::{DecoderError, EncoderError, dynamic, prefix_int, prefix_string, vas};
+use qpk_qif::session;
 use std::fmt;
 
 /// No memory was left.
@@ -54,6 +55,36 @@ fn lone_words(e: &DecoderError) -> Words
         DecoderError::HeaderTooLong(_) => plain("header too long"),
         DecoderError::BufSize => plain("number in buffer wrong size"),
         _ => plain(MEMORY),
+    }
+}
+
+/// Why header lists were not encoded to a recording, or a recording was not decoded.
+#[derive(Clone, Copy)]
+pub struct RecordingWords<'a>(pub &'a session::Fault);
+
+impl fmt::Display for RecordingWords<'_> {
+    ghost output = { λ words. Some (recording_words words.0.now) };
+
+    fn fmt<W: fmt::Write>(&self, f: &mut fmt::Formatter<W>) -> fmt::Result {
+        match self.0 {
+            session::Fault::NoTab(number) => write!(f, "line {number}: no tab"),
+            session::Fault::TooLong(number) => write!(f, "list {number}: too long for a record"),
+            session::Fault::NotHeard(number, e) => write!(f, "list {number}: {}", EncoderWords(e)),
+            session::Fault::Cut(number) => write!(f, "record {number}: cut off"),
+            session::Fault::Refused(number, e) => write!(f, "record {number}: {}", DecoderWords(e)),
+            session::Fault::TooManyBlocked(number) => {
+                write!(f, "record {number}: too many streams are blocked")
+            }
+            session::Fault::BlockedToTheEnd(number) => {
+                write!(f, "record {number}: blocked to the end")
+            }
+            session::Fault::EndsWithin(number) => {
+                write!(f, "record {number}: ends within an instruction")
+            }
+            session::Fault::Capacity => f.write_str("capacity too large"),
+            session::Fault::Limit => f.write_str("limit of blocked streams too large"),
+            session::Fault::Memory => f.write_str(MEMORY),
+        }
     }
 }
 

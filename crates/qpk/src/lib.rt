@@ -6,7 +6,6 @@ pub mod command;
 pub mod error_words;
 mod inspect;
 mod json;
-mod lines;
 mod note;
 mod outcomes;
 mod printing;

@@ -34,6 +34,8 @@ pub enum Wanted {
     Option,
     /// A number.
     Number,
+    /// Whether blocks are acknowledged.
+    Acknowledged,
 }
 
 impl From<Fault> for Refusal {
@@ -83,6 +85,7 @@ fn wanted_words(wanted: Wanted) -> &'static str
         Wanted::Command => "not a command",
         Wanted::Option => "not an option here",
         Wanted::Number => "not a whole number below 2^64",
+        Wanted::Acknowledged => "neither 0 nor 1",
     }
 }
 
@@ -91,7 +94,7 @@ fn fault_line(alloc: Global, fault: &Fault) -> Result<CowStr<'static, Global>, A
     ensures { IfOk result (λ line. cow_str_bytes line ≡ fault_line fault.now) }
 {
     match fault {
-        Fault::NoTab(_) | Fault::BadEvent(_) | Fault::Refused(_) => {
+        Fault::NoTab(_) | Fault::BadEvent(_) | Fault::Refused(_) | Fault::Recording(_) => {
             Ok(CowStr::Owned(format!(in alloc; "qpk: {fault}\n")?))
         }
         Fault::NotHexadecimal => Ok(CowStr::Borrowed("qpk: not hexadecimal\n")),

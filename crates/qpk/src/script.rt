@@ -2,9 +2,9 @@
 
 ghost use Rattle.qpk.specs.Scripts.{script_events, event_of_line, event_of_number, ReadsScript, ReadsEvent, IsEvent};
 
-use crate::lines::split_line;
 use crate::text::Fault;
 use h3_qpack::session::Event;
+use qpk_qif::lines::split_line;
 use std::alloc::Global;
 
 pub(crate) mod parts;

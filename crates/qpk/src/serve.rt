@@ -14,7 +14,7 @@ ghost use Rattle.qpk.specs.Serving.{hexadecimal_answer, input_of, printed_fields
 ghost use Rattle.qpk.specs.declared.command.Command.TheVariants.{DecodeHex, DecodeJson, Help};
 
 use crate::command::{Command, ShowOptions, read_command};
-use crate::inspect::{Inspection, inspect};
+use crate::inspect::inspect;
 use crate::json::section_json;
 use crate::note::note_of;
 use crate::printing::{push_fields, push_hexadecimal_fields};
@@ -24,11 +24,19 @@ use crate::show::{self, Agreed};
 use crate::text::{Fault, decode_text, encode_text};
 use crate::usage::usage;
 use crate::writing::write_bytes;
-use h3_qpack::Decoded;
 use h3_qpack::coding::NoMemory;
+use h3_qpack::{Decoded, DecoderError};
+use qpk_qif::session::{decode_records, encode_lists};
 use std::alloc::Global;
 use std::borrow::CowStr;
 use std::io::{self, ErrorKind, Read, Write};
+
+/// What is written for an input, and the refusal that ends it.
+#[derive(Drop)]
+struct Output {
+    bytes: Vec<u8>,
+    refused: Option<DecoderError>,
+}
 
 /// Runs the program on its words, without its name, and its three streams, and gives the exit status:
 /// 0 where the answer was written to the output, and to the faults what is said of the input, if anything is; 1 where
@@ -149,7 +157,7 @@ fn run_command<R: Read, W: Write>(
         Ok(note) => note,
         Err(fault) => return Err(Refusal::Fault(fault)),
     };
-    write_bytes(output, answer.text.as_bytes()).map_err(|_| Refusal::Output)?;
+    write_bytes(output, &answer.bytes).map_err(|_| Refusal::Output)?;
     match answer.refused {
         None => Ok(note),
         Some(e) => Err(Refusal::Fault(Fault::Refused(e))),
@@ -175,7 +183,7 @@ fn read_input<R: Read>(alloc: Global, command: Command, input: &mut R) -> Result
 }
 
 /// What is written for an input, and the refusal that ends it.
-fn answer(alloc: Global, command: Command, input: &[u8]) -> Result<Inspection, Fault>
+fn answer(alloc: Global, command: Command, input: &[u8]) -> Result<Output, Fault>
     ensures { AnswersInput command input.now result }
 {
     match command {
@@ -191,7 +199,15 @@ fn answer(alloc: Global, command: Command, input: &[u8]) -> Result<Inspection, F
         }
         Command::DecodeHex(limit) => decode_to_hexadecimal(alloc, input, limit),
         Command::DecodeJson(limit) => decode_to_json(alloc, input, limit),
-        Command::Inspect(capacity) => inspect(alloc, capacity, input),
+        Command::Inspect(capacity) => {
+            let inspection = inspect(alloc, capacity, input)?;
+            Ok(Output {
+                bytes: inspection.text.into_bytes(),
+                refused: inspection.refused,
+            })
+        }
+        Command::EncodeLists(settings) => Ok(of_bytes(encode_lists(alloc, settings, input)?)),
+        Command::DecodeRecords(settings) => Ok(of_bytes(decode_records(alloc, settings, input)?)),
         Command::Run(capacity, limit) => Ok(whole(run_script(alloc, capacity, limit, input)?)),
         Command::Show(options, maximum, limit) => {
             show_connection(alloc, Agreed { maximum, limit }, options, input)
@@ -205,20 +221,28 @@ fn show_connection(
     agreed: Agreed,
     options: ShowOptions,
     input: &[u8],
-) -> Result<Inspection, Fault>
+) -> Result<Output, Fault>
     ensures { IfOk result (λ i. i.refused ≡ None) }
 {
     let text = show::show(alloc, agreed, options, input)?;
     Ok(whole(text))
 }
 
-/// An answer that no refusal ends.
-fn whole(text: String) -> Inspection
-    ensures text { result.text ≡ text }
+/// An answer in text that no refusal ends.
+fn whole(text: String) -> Output
+    ensures bytes { result.bytes.items ≡ string_bytes text }
     ensures refused { result.refused ≡ None }
 {
-    Inspection {
-        text,
+    of_bytes(text.into_bytes())
+}
+
+/// An answer that no refusal ends.
+fn of_bytes(bytes: Vec<u8>) -> Output
+    ensures bytes { result.bytes ≡ bytes }
+    ensures refused { result.refused ≡ None }
+{
+    Output {
+        bytes,
         refused: None,
     }
 }
@@ -235,7 +259,7 @@ fn show_fields(alloc: Global, decoded: &Decoded) -> Result<String, NoMemory>
 }
 
 /// What is written for a block whose fields are told in hexadecimal, up to a sum of sizes in bytes.
-fn decode_to_hexadecimal(alloc: Global, input: &[u8], limit: u64) -> Result<Inspection, Fault>
+fn decode_to_hexadecimal(alloc: Global, input: &[u8], limit: u64) -> Result<Output, Fault>
     ensures { AnswersInput (DecodeHex limit) input.now result }
 {
     let text = show_hexadecimal(alloc, &decode_text(alloc, input, limit)?)?;
@@ -243,7 +267,7 @@ fn decode_to_hexadecimal(alloc: Global, input: &[u8], limit: u64) -> Result<Insp
 }
 
 /// What is written for a block whose fields are told as an object of JSON, up to a sum of sizes in bytes.
-fn decode_to_json(alloc: Global, input: &[u8], limit: u64) -> Result<Inspection, Fault>
+fn decode_to_json(alloc: Global, input: &[u8], limit: u64) -> Result<Output, Fault>
     ensures { AnswersInput (DecodeJson limit) input.now result }
 {
     let text = section_json(alloc, &decode_text(alloc, input, limit)?)?;

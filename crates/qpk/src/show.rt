@@ -3,8 +3,9 @@
 ghost use Rattle.std.specs.Prelude.{◌≡◌};
 
 use crate::command::ShowOptions;
-use crate::lines::split_line;
 use crate::text::Fault;
+use qpk_qif::lines::split_line;
+use qpk_qif::recording::{Record, split_record};
 use qpk_show::observer::Observer;
 use qpk_show::shown::Shown;
 use qpk_show::stream::Cut;
@@ -14,12 +15,10 @@ mod events;
 mod fields;
 mod json;
 mod printing;
-mod recordings;
 
 use events::{Event, read_cut_event, read_event};
 use json::{push_cut_object, push_given_up, push_half_byte_object, push_object, push_table_object};
 use printing::{push_cut, push_event, push_half_byte, push_shown, push_table};
-use recordings::{Record, split_record};
 
 /// What was agreed for a connection.
 #[derive(Clone, Copy)]

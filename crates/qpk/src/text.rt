@@ -2,17 +2,19 @@
 
 ghost use Rattle.std.specs.Prelude.{◌≡◌, Some};
 ghost use Rattle.hex.specs.Hex.{decode_of};
-ghost use Rattle.qpk.specs.FieldText.{lines_of, fields_from};
+ghost use Rattle.qpk_qif.specs.Lines.{lines_of};
+ghost use Rattle.qpk.specs.FieldText.{fields_from};
 ghost use Rattle.qpk.specs.Answers.{encode_answer, EncodesText, ReadsFields, without_feed, DecodesText};
 ghost use Rattle.qpk.specs.Answers.{fault_of_decoder};
 ghost use Rattle.qpk.specs.Refusals.{fault_text};
 ghost use Rattle.qpk.specs.declared.text.Fault.TheVariants.{Memory};
 
-use crate::error_words::DecoderWords;
-use crate::lines::{split_field, split_line};
+use crate::error_words::{DecoderWords, RecordingWords};
 use h3_qpack::coding::{Cursor, NoMemory};
 use h3_qpack::{Decoded, DecoderError, HeaderField, decode_stateless, encode_stateless};
 use hex::FromHexError;
+use qpk_qif::lines::{split_field, split_line};
+use qpk_qif::session;
 use std::alloc::{AllocError, AllocFailed, Global};
 use std::error::Error;
 use std::fmt;
@@ -32,6 +34,8 @@ pub enum Fault {
     Capacity,
     /// So many blocks may not be blocked.
     Limit,
+    /// Header lists were not encoded to a recording, or a recording was not decoded.
+    Recording(session::Fault),
     /// No memory was left.
     Memory,
 }
@@ -47,12 +51,25 @@ impl fmt::Display for Fault {
             Fault::Refused(e) => write!(f, "refused: {}", DecoderWords(e)),
             Fault::Capacity => f.write_str("refused: capacity"),
             Fault::Limit => f.write_str("refused: limit"),
+            Fault::Recording(e) => write!(f, "{}", RecordingWords(e)),
             Fault::Memory => f.write_str("refused: memory"),
         }
     }
 }
 
 impl Error for Fault {}
+
+impl From<session::Fault> for Fault {
+    fn from(e: session::Fault) -> Fault {
+        match e {
+            session::Fault::NoTab(number) => Fault::NoTab(number),
+            session::Fault::Capacity => Fault::Capacity,
+            session::Fault::Limit => Fault::Limit,
+            session::Fault::Memory => Fault::Memory,
+            e => Fault::Recording(e),
+        }
+    }
+}
 
 impl From<AllocError> for Fault {
     ghost from_gives = { λ _ r. r ≡ Memory };

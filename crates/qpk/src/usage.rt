@@ -12,6 +12,7 @@ pub fn usage() -> &'static str
 usage: qpk encode | decode [--hex | --json] LIMIT | inspect CAPACITY
        qpk run CAPACITY LIMIT
        qpk show [--table] [--json] [--qif] MAXIMUM BLOCKED
+       qpk encode --qif CAPACITY BLOCKED ACK | decode --qif CAPACITY BLOCKED
 QPACK (RFC 9204) by lines: a command reads its input, and prints the answer.
 
 encode   fields, NAME TAB VALUE each, to a block in hexadecimal
@@ -23,6 +24,8 @@ decode   a block to its fields, whose sizes may sum to LIMIT bytes
   size 42
   with --hex, to NAME TAB VALUE in hexadecimal, a minus for nothing; with --json,
   to an object, where what is not UTF-8 is an object with its bytes as hex
+  encode --qif, header lists in QIF to a recording of the offline interop format,
+  each acknowledged at once if ACK is 1, never if it is 0; decode --qif, back
 inspect  a recorded connection: e TAB HEX, its encoder stream; b TAB HEX, blocks
   printf 'b\\t0000d1\\n' | ./qpk inspect 4096
   prefix 0 0

@@ -2,7 +2,7 @@
 //! and a recording decoded to lists (RFC 9204).
 #![tactic(auto)]
 
-mod lines;
+pub mod lines;
 pub mod lists;
 pub mod recording;
 pub mod session;

@@ -8,7 +8,8 @@ use h3_qpack::prefix_string::{
 use h3_qpack::vas::Error as AddressError;
 use h3_qpack::{DecoderError, EncoderError};
 use qpack_testing::{again, same};
-use qpk::error_words::{DecoderWords, EncoderWords, MEMORY};
+use qpk::error_words::{DecoderWords, EncoderWords, MEMORY, RecordingWords};
+use qpk_qif::session::Fault;
 use std::alloc::Global;
 use std::fmt::Display;
 use std::test::Fail;
@@ -102,6 +103,28 @@ fn the_words_of_an_encoder_are_its_own(rt: HostRuntime) -> Result<(), Fail> {
     for e in TABLES {
         let e = EncoderError::Insertion(e);
         print_the_same(alloc, &EncoderWords(&e), &e)?;
+    }
+    Ok(())
+}
+
+const RECORDINGS: [Fault; 11] = [
+    Fault::NoTab(7),
+    Fault::TooLong(2),
+    Fault::NotHeard(3, EncoderError::Memory),
+    Fault::Cut(4),
+    Fault::Refused(5, DecoderError::MissingRefs(10)),
+    Fault::TooManyBlocked(6),
+    Fault::BlockedToTheEnd(8),
+    Fault::EndsWithin(9),
+    Fault::Capacity,
+    Fault::Limit,
+    Fault::Memory,
+];
+
+#[test]
+fn the_words_of_a_recording_are_its_own(rt: HostRuntime) -> Result<(), Fail> {
+    for e in RECORDINGS {
+        print_the_same(rt.alloc(), &RecordingWords(&e), &e)?;
     }
     Ok(())
 }

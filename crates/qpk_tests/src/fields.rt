@@ -339,6 +339,9 @@ fn a_word_at_fault_is_named(rt: HostRuntime) -> Result<(), Fail> {
             "run 12x 1",
             "run 1 12x",
             "show --table 12x 1",
+            "encode --qif 12x 1 0",
+            "encode --qif 1 12x 2",
+            "decode --qif 12x 1",
         ],
     )?;
     refuse_word(
@@ -352,6 +355,12 @@ fn a_word_at_fault_is_named(rt: HostRuntime) -> Result<(), Fail> {
         alloc,
         "qpk: \"18446744073709551616\" is not a whole number below 2^64\n",
         &["decode 18446744073709551616"],
+    )?;
+    refuse_word(
+        &rt,
+        alloc,
+        "qpk: \"2\" is neither 0 nor 1\n",
+        &["encode --qif 1 1 2"],
     )
 }
 

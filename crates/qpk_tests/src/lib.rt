@@ -11,6 +11,8 @@ mod fields;
 #[cfg(test)]
 mod inspections;
 #[cfg(test)]
+mod recorded;
+#[cfg(test)]
 mod running;
 #[cfg(test)]
 mod scripts;

@@ -3,9 +3,9 @@
 ghost use Rattle.qpk.specs.Inspecting.{events_of, event_of_line, event_named};
 ghost use Rattle.qpk.specs.Inspections.{ReadsEvents, ReadsEvent, NamesEvent};
 
-use crate::lines::{split_field, split_line};
 use crate::text::Fault;
 use hex::FromHexError;
+use qpk_qif::lines::{split_field, split_line};
 use std::alloc::Global;
 
 /// An event of a recorded connection.

@@ -3,9 +3,9 @@
 ghost use Rattle.std.specs.Prelude.{◌≡◌, ◌∷◌};
 ghost use Rattle.qpk.specs.Scripts.{parts_of, parts_behind, number_of, fields_of_parts, ReadsPairs};
 
-use crate::lines::split_field;
 use crate::text::Fault;
 use h3_qpack::HeaderField;
+use qpk_qif::lines::split_field;
 use std::alloc::Global;
 use std::str;
 

@@ -1,9 +1,9 @@
 //! The events of a connection, a line each, their parts separated by TABs.
 
-use crate::lines::split_field;
 use crate::script::parts::read_number;
 use crate::text::Fault;
 use hex::FromHexError;
+use qpk_qif::lines::split_field;
 use std::alloc::Global;
 
 /// What came of a connection.

@@ -1,5 +1,5 @@
 use Rattle.std.proofs.Common.{◌≡◌, ◌+◌, ◌≤◌, length}
-use Rattle.qpk.specs.FieldText.{lines_of}
+use Rattle.qpk_qif.specs.Lines.{lines_of}
 use Rattle.qpk.specs.Scripts.{script_from, events_in}
 use Rattle.qpk.proofs.FieldLines.{with_front}
 use Rattle.qpk.proofs.script.read_script.Given as goal

@@ -1,6 +1,7 @@
 use Rattle.std.proofs.Common.{◌≡◌, ◌+◌, ◌≤◌, length}
 use Rattle.h3_qpack.specs.Stateless.{fields_in}
-use Rattle.qpk.specs.FieldText.{lines_of, fields_from}
+use Rattle.qpk_qif.specs.Lines.{lines_of}
+use Rattle.qpk.specs.FieldText.{fields_from}
 use Rattle.qpk.proofs.FieldLines.{with_front}
 use Rattle.qpk.proofs.text.read_fields.Given as goal
 

@@ -1,5 +1,5 @@
 use Rattle.std.proofs.Common.{◌≡◌, ◌+◌, ◌≤◌, length}
-use Rattle.qpk.specs.FieldText.{lines_of}
+use Rattle.qpk_qif.specs.Lines.{lines_of}
 use Rattle.qpk.specs.Inspecting.{events_from, events_of}
 use Rattle.qpk.specs.Inspections.{events_in}
 use Rattle.qpk.proofs.FieldLines.{with_front}

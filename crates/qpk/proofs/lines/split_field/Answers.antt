@@ -1,5 +1,0 @@
-use Rattle.qpk.proofs.FieldLines.{field_parts}
-use Rattle.qpk.proofs.lines.split_field.Goals as goal
-
-pub returns : goal.returns
-returns c = field_parts c.args.line.now c.split_at_byte.result c.split_at_byte.ensures

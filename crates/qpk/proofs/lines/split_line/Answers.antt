@@ -1,7 +1,0 @@
-use Rattle.std.proofs.Common.{refl}
-use Rattle.qpk.proofs.FieldLines.{first_line}
-use Rattle.qpk.proofs.lines.split_line.Goals as goal
-
-pub returns-clause-lines : goal.returns-clause-lines
-returns-clause-lines c = first_line c.args.text.now c.split_at_byte.result _ c.unwrap_or.result c.requires
-    c.split_at_byte.ensures refl refl c.unwrap_or.ensures
