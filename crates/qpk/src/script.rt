@@ -9,7 +9,7 @@ use std::alloc::Global;
 
 pub(crate) mod parts;
 
-use parts::{read_fields, read_number, split_part};
+use parts::{read_field_parts, read_number, split_part};
 
 /// The events of a script, a line each; or the first line that is none.
 pub fn read_script(alloc: Global, text: &[u8]) -> Result<Vec<Event>, Fault>
@@ -43,7 +43,7 @@ fn read_event(alloc: Global, line: &[u8]) -> Result<Option<Event>, Fault>
         return Ok(None);
     };
     if name == b"encode".as_slice() {
-        let Some(fields) = read_fields(alloc, rest)? else {
+        let Some(fields) = read_field_parts(alloc, rest)? else {
             return Ok(None);
         };
         return Ok(Some(Event::Encode(number, fields)));

@@ -111,7 +111,7 @@ impl From<DecoderError> for Fault {
 pub fn encode_text(alloc: Global, text: &[u8]) -> Result<String, Fault>
     ensures { EncodesText result (encode_answer text.now) }
 {
-    let fields = read_fields(alloc, text)?;
+    let fields = read_field_lines(alloc, text)?;
     let mut block = Vec::new(alloc);
     let Ok(_size) = encode_stateless(&mut block, fields.iter()) else {
         // It is refused for memory alone.
@@ -121,7 +121,7 @@ pub fn encode_text(alloc: Global, text: &[u8]) -> Result<String, Fault>
 }
 
 /// The fields of the text's lines.
-fn read_fields(alloc: Global, text: &[u8]) -> Result<Vec<HeaderField>, Fault>
+fn read_field_lines(alloc: Global, text: &[u8]) -> Result<Vec<HeaderField>, Fault>
     ensures { ReadsFields result (fields_from 1 (lines_of text.now)) }
 {
     let mut fields = Vec::new(alloc);

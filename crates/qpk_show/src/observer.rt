@@ -17,7 +17,7 @@ ghost use Rattle.qpk_show.specs.Streams.{cut_of};
 ghost use Rattle.qpk_show.specs.Answers.{ShowsNext, ShowsOne, no_encoder_instruction, no_decoder_instruction};
 ghost use Rattle.qpk_show.specs.Answers.{not_applied};
 
-use crate::instruction::apply;
+use crate::instruction::apply_instruction;
 use crate::section::{Reading, read_section};
 use crate::shown::Shown;
 use crate::stream::{Cut, Stream};
@@ -270,17 +270,17 @@ impl Observer {
             .next::<EncoderLine>(self.table.allocator())
         {
             Ok(None) => self.next_told(),
-            Ok(Some(line)) => Ok(Some(self.apply(offset, line)?)),
+            Ok(Some(line)) => Ok(Some(self.show_instruction(offset, line)?)),
             Err(e) => no_encoder_instruction(offset, e),
         }
     }
 
     /// Applies an encoder instruction that was taken. On error the stream ends.
-    fn apply(&mut self, offset: usize, line: EncoderLine) -> Result<Shown, NoMemory>
+    fn show_instruction(&mut self, offset: usize, line: EncoderLine) -> Result<Shown, NoMemory>
         ensures { ShowsOne result self.new (Some (applied self.old offset (encoder_instruction_of line)
             self.old.encoder_stream (strict_apply self.old.table (encoder_instruction_of line)))) }
     {
-        match apply(&mut self.table, &line) {
+        match apply_instruction(&mut self.table, &line) {
             Ok(inserted) => Ok(Shown::Applied {
                 offset,
                 line,

@@ -130,7 +130,7 @@ struct Under<'a> {
 
 /// The field that a line means (RFC 9204, sections 4.5.2 to 4.5.6).
 #[tactic(auto, unfolding(qpack_spec::specs::Reading::line_field))]
-fn field_of_line(
+fn shown_field(
     table: &DynamicTableDecoder<NoIndex>,
     line: &BlockLine,
 ) -> Result<HeaderField, DecoderError>
@@ -262,7 +262,7 @@ impl Under<'_> {
             let index = reference_of(self.base, line);
             return Err(LineError::Fault(LineFault::PastRequired(index)));
         }
-        match field_of_line(&self.table.decoder(self.base), line) {
+        match shown_field(&self.table.decoder(self.base), line) {
             Ok(field) => Ok(field),
             Err(e) => Err(meaningless(e)),
         }

@@ -48,7 +48,7 @@ fn inspect_next(
         return Ok(false);
     };
     let instruction = &bytes[..bytes.len() - buf.remaining()];
-    apply(alloc, decoder, instruction)?;
+    apply_bytes(alloc, decoder, instruction)?;
     push_instruction_line(text, &line)?;
     Ok(true)
 }
@@ -62,7 +62,7 @@ fn next_instruction(alloc: Global, buf: &mut Cursor) -> Result<Option<EncoderLin
 }
 
 /// Gives the decoder one instruction, whose increments are dropped.
-fn apply(alloc: Global, decoder: &mut Decoder, instruction: &[u8]) -> Result<(), Fault>
+fn apply_bytes(alloc: Global, decoder: &mut Decoder, instruction: &[u8]) -> Result<(), Fault>
     ensures { (i : EncoderInstruction) → SpellsEncoderInstruction instruction.now i
         → AppliesWhole decoder.old.table decoder.new.table instruction.now i result }
 {

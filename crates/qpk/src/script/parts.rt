@@ -27,7 +27,10 @@ pub fn read_number(part: &[u8]) -> Option<u64>
 }
 
 /// The fields of names and values by turns.
-pub fn read_fields(alloc: Global, parts: Option<&[u8]>) -> Result<Option<Vec<HeaderField>>, Fault>
+pub fn read_field_parts(
+    alloc: Global,
+    parts: Option<&[u8]>,
+) -> Result<Option<Vec<HeaderField>>, Fault>
     ensures { ReadsPairs result (fields_of_parts (parts_behind parts.entry)) }
 {
     let mut fields = Vec::new(alloc);

@@ -13,19 +13,19 @@ returns-in_err-line-clause-inspects c =
     (refused_next c.in_err-line.field-0.0 c.args.decoder.now.table c.args.buf.now.rest (string_bytes c.args.text.now)
     (c.in_err-line.ensures.reads.0 c.args.decoder.now.table))
 
-pub returns-in_err-apply-clause-inspects : goal.returns-in_err-apply-clause-inspects
-returns-in_err-apply-clause-inspects c =
-    let p = err_from_is_err_and c.from_residual-in_err-apply.result c.from_residual-in_err-apply.ensures.1 in
+pub returns-in_err-apply_bytes-clause-inspects : goal.returns-in_err-apply_bytes-clause-inspects
+returns-in_err-apply_bytes-clause-inspects c =
+    let p = err_from_is_err_and c.from_residual-in_err-apply_bytes.result c.from_residual-in_err-apply_bytes.ensures.1 in
     let at = found_next c.args.buf.now.rest c.next_instruction.new.buf.rest c.in_ok-line.field-0 c.in-Some.line
     c.in-Some.is c.in_ok-line.ensures.reads in
     let slice = slice_is c.chunk-bytes.result.now c.args.buf.now.rest at.0 c.next_instruction.new.buf.rest
     c.remaining.result c.chunk-bytes.ensures c.remaining.ensures at.1 in
     let i = encoder_instruction_of c.in-Some.line in
-    let fails = c.in_err-apply.ensures i
+    let fails = c.in_err-apply_bytes.ensures i
     (subst (λ (b : List ℕ). SpellsEncoderInstruction b i) (sym slice) at.2) in
     let whole = rw slice at fails in
     rw (p.1, p.2)
-    (fails_next c.in_err-apply.field-0.0 c.args.decoder.now.table c.apply.new.decoder.table c.args.buf.now.rest at.0
+    (fails_next c.in_err-apply_bytes.field-0.0 c.args.decoder.now.table c.apply_bytes.new.decoder.table c.args.buf.now.rest at.0
     c.next_instruction.new.buf.rest (string_bytes c.args.text.now) at.1 whole)
 
 pub returns-clause-inspects : goal.returns-clause-inspects
@@ -41,7 +41,7 @@ returns-clause-inspects c =
         instruction = i;
         cut = at.1;
         spells = at.2;
-        applies = c.in_ok-apply.ensures i
+        applies = c.in_ok-apply_bytes.ensures i
             (subst (λ (b : List ℕ). SpellsEncoderInstruction b i) (sym slice) at.2);
       };
       text = c.in_ok-push_instruction_line.ensures;

@@ -2,7 +2,7 @@ use Rattle.std.proofs.Common.{◌≡◌, length}
 use Rattle.h3_qpack.specs.Stateless.{fields_in}
 use Rattle.qpk.specs.Scripts.{parts_behind, fields_of_parts}
 use Rattle.qpk.proofs.Parts.{with_fields}
-use Rattle.qpk.proofs.script.parts.read_fields.Given as goal
+use Rattle.qpk.proofs.script.parts.read_field_parts.Given as goal
 
 abbrev pub invariant-loop-rest : goal.invariant-loop-rest
 invariant-loop-rest l =

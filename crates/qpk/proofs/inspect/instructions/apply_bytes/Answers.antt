@@ -1,7 +1,7 @@
 use Rattle.std.proofs.lemmas.Result.{err_from_is_err_and}
 use Rattle.qpk.proofs.InspectedInstructions.{refused_whole}
 use Rattle.qpk.proofs.OneInstruction.{received_one, refused_one}
-use Rattle.qpk.proofs.inspect.instructions.apply.Goals as goal
+use Rattle.qpk.proofs.inspect.instructions.apply_bytes.Goals as goal
 
 pub returns-in_err-on_encoder_recv : goal.returns-in_err-on_encoder_recv
 returns-in_err-on_encoder_recv c i s =

@@ -3,7 +3,7 @@ use Rattle.h3_qpack.specs.Stateless.{fields_in}
 use Rattle.qpk_qif.specs.Lines.{lines_of}
 use Rattle.qpk.specs.FieldText.{fields_from}
 use Rattle.qpk.proofs.FieldLines.{with_front}
-use Rattle.qpk.proofs.text.read_fields.Given as goal
+use Rattle.qpk.proofs.text.read_field_lines.Given as goal
 
 abbrev pub invariant-loop-rest : goal.invariant-loop-rest
 invariant-loop-rest l =
