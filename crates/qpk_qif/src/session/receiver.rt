@@ -7,6 +7,7 @@ use h3_qpack::decoder::Decoder;
 use h3_qpack::dynamic::DynamicTable;
 use h3_qpack::{DecoderError, HeaderField};
 use std::alloc::{AllocError, Global};
+use std::collections::BTreeSet;
 use std::mem;
 
 /// A block that waits for insertions.
@@ -38,6 +39,8 @@ pub(super) struct Receiver {
     /// The number of the last record of the encoder stream.
     number: usize,
     waiting: Vec<Waiting>,
+    /// The streams of the blocks that wait.
+    blocked: BTreeSet<u64>,
     lists: Vec<Received>,
 }
 
@@ -53,6 +56,7 @@ impl Receiver {
             pending: Vec::new(alloc),
             number: 0,
             waiting: Vec::new(alloc),
+            blocked: BTreeSet::new(alloc),
             lists: Vec::new(alloc),
         })
     }
@@ -81,8 +85,11 @@ impl Receiver {
         self.pending.extend_from_slice(bytes)?;
         self.take_instructions(alloc)?;
         let waiting = mem::replace(&mut self.waiting, Vec::new(alloc));
+        self.blocked = BTreeSet::new(alloc);
         for block in waiting {
-            self.read(block)?;
+            if !self.read(block.stream, block.number, &block.bytes)? {
+                self.keep(block)?;
+            }
         }
         Ok(())
     }
@@ -107,30 +114,41 @@ impl Receiver {
         stream: u64,
         bytes: &[u8],
     ) -> Result<(), Fault> {
+        if self.read(stream, number, bytes)? {
+            return Ok(());
+        }
         let bytes = Vec::from_slice(alloc, bytes)?;
-        self.read(Waiting {
+        self.keep(Waiting {
             stream,
             number,
             bytes,
         })?;
-        if blocked_streams(&self.waiting) > self.limit {
+        if self.blocked.len() > self.limit {
             return Err(Fault::TooManyBlocked(number));
         }
         Ok(())
     }
 
-    /// Reads a block, or keeps it where it waits for insertions.
-    fn read(&mut self, block: Waiting) -> Result<(), Fault> {
-        match self.decoder.decode_header(&mut Cursor::new(&block.bytes)) {
-            Ok(decoded) => self.lists.push(Received {
-                stream: block.stream,
-                number: block.number,
-                fields: decoded.fields,
-            })?,
-            Err(DecoderError::MissingRefs(_)) => self.waiting.push(block)?,
-            Err(e) => return Err(refusal(block.number, e)),
+    /// Reads the block of a stream and a record, and answers whether it was read; else it waits for insertions.
+    fn read(&mut self, stream: u64, number: usize, bytes: &[u8]) -> Result<bool, Fault> {
+        match self.decoder.decode_header(&mut Cursor::new(bytes)) {
+            Ok(decoded) => {
+                self.lists.push(Received {
+                    stream,
+                    number,
+                    fields: decoded.fields,
+                })?;
+                Ok(true)
+            }
+            Err(DecoderError::MissingRefs(_)) => Ok(false),
+            Err(e) => Err(refusal(number, e)),
         }
-        Ok(())
+    }
+
+    /// Keeps a block that waits.
+    fn keep(&mut self, block: Waiting) -> Result<(), Fault> {
+        self.blocked.insert(block.stream)?;
+        Ok(self.waiting.push(block)?)
     }
 
     /// All lists in the order of their streams; or what is still missing.
@@ -164,15 +182,4 @@ fn refusal(number: usize, e: DecoderError) -> Fault {
         DecoderError::Memory => Fault::Memory,
         e => Fault::Refused(number, e),
     }
-}
-
-/// How many streams wait: the blocks before which none of their stream waits.
-fn blocked_streams(waiting: &[Waiting]) -> usize {
-    let mut streams = 0usize;
-    for (index, block) in waiting.iter().enumerate() {
-        if !waiting[..index].iter().any(|b| b.stream == block.stream) {
-            streams += 1;
-        }
-    }
-    streams
 }
