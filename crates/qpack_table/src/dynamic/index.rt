@@ -11,6 +11,7 @@ ghost use Rattle.qpack_table.specs.Hashes.{name_hash};
 ghost use Rattle.qpack_table.specs.Indexes.{AreHashesOf, IsIndexOf, HasRoomForEntry, IsNewestIn};
 
 mod hash;
+mod pieces;
 mod row;
 mod rows;
 
