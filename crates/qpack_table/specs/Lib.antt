@@ -7,6 +7,8 @@ pub mod OpenBlocks
 pub mod BlockedBlocks
 pub mod Tables
 pub mod Pieces
+pub mod SlotLists
+pub mod Slots
 pub mod Rows
 pub mod Hashes
 pub mod Indexes

@@ -6,10 +6,10 @@ use Rattle.std.specs.List.{AllPairs}
 use Rattle.std.specs.declared.cmp.Ordering.{Ordering}
 use Rattle.std.specs.declared.cmp.Ordering.TheVariants.{Less, Equal, Greater}
 use Rattle.std.specs.Ordering.{nat_cmp, ordering_then}
-use Rattle.smallvec.specs.SmallVec.{HasRoomFor}
 use Rattle.qpack_base.specs.HeaderFields.{field_cmp, line_of}
 use Rattle.qpack_spec.specs.Field.{Field}
 use Rattle.qpack_table.specs.Hashes.{field_hash, name_hash}
+use Rattle.qpack_table.specs.SlotLists.{HasRoomIn}
 use Rattle.qpack_table.specs.declared.dynamic.index.row.Part.{Part}
 use Rattle.qpack_table.specs.declared.dynamic.index.row.Part.TheVariants.{Name, Whole}
 use Rattle.qpack_table.specs.declared.dynamic.index.row.Row.{Row}
@@ -52,7 +52,7 @@ key_at part dropped live s = record { hash = s.hash; field = part_at part droppe
 
 -- a row has room for one more slot
 abbrev pub HasRoom : Row → Type 0
-HasRoom row = HasRoomFor row.slots 1
+HasRoom row = HasRoomIn row.slots
 
 -- what is sought
 abbrev pub field_of_sought : Sought → Field

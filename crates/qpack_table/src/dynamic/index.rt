@@ -14,6 +14,7 @@ mod hash;
 mod pieces;
 mod row;
 mod rows;
+mod slots;
 
 use crate::dynamic::entry::Entry;
 pub(super) use crate::dynamic::index::hash::Hashes;
@@ -186,8 +187,8 @@ impl Index {
         ensures room { OnOk result (HasRoomForEntry hashes self.new) }
     {
         self.hashes.reserve(1)?;
-        self.names.reserve(hashes.name)?;
-        self.fields.reserve(hashes.field)
+        self.names.reserve(self.alloc, hashes.name)?;
+        self.fields.reserve(self.alloc, hashes.field)
     }
 
     /// The same entries in an index of so many rows of either kind. Nothing is hashed again.

@@ -13,10 +13,10 @@ ghost use Rattle.qpack_table.specs.Tables.{live_fields};
 ghost use Rattle.qpack_table.specs.declared.dynamic.index.row.Slot.{Slot};
 
 use crate::dynamic::entry::Entry;
+use crate::dynamic::index::slots::Slots;
 use crate::dynamic::steps::Steps;
 use qpack_base::bytes::same;
 use qpack_base::field::FieldLine;
-use smallvec::SmallVec;
 use std::alloc::{AllocError, Global};
 use std::cmp::Ordering;
 use std::collections::VecDeque;
@@ -94,11 +94,10 @@ fn compare(
     }
 }
 
-/// Slots of live entries, rising by the hash and the part; no two have the same part. Two stand in the row itself, so
-/// that hardly a row takes memory.
+/// Slots of live entries, rising by the hash and the part; no two have the same part.
 #[derive(Debug, Drop)]
 pub(super) struct Row {
-    slots: SmallVec<Slot, 2>,
+    slots: Slots,
 }
 
 impl Row {
@@ -107,16 +106,16 @@ impl Row {
         ensures { result.slots.items ≡ [] }
     {
         Row {
-            slots: SmallVec::new(alloc),
+            slots: Slots::new(alloc),
         }
     }
 
     /// Makes room for one slot more.
-    pub(super) fn reserve(&mut self) -> Result<(), AllocError>
+    pub(super) fn reserve(&mut self, alloc: Global) -> Result<(), AllocError>
         ensures slots { self.new.slots.items ≡ self.old.slots.items }
         ensures ok { OnOk result (HasRoom self.new) }
     {
-        self.slots.reserve(1)
+        self.slots.reserve(alloc)
     }
 
     /// Where the slot with what is sought is, or where it would stand.
@@ -136,7 +135,7 @@ impl Row {
         let mut high = self.slots.len();
         while low < high {
             let middle = low + (high - low) / 2;
-            match compare(sought, self.slots[middle], entries, dropped, steps) {
+            match compare(sought, self.slots.get(middle), entries, dropped, steps) {
                 Ordering::Less => low = middle + 1,
                 Ordering::Equal => return Ok(middle),
                 Ordering::Greater => high = middle,
@@ -160,7 +159,7 @@ impl Row {
         ensures steps { Counts (length self.now.slots.items) steps.old.count steps.new.count }
     {
         match self.search(entries, dropped, sought, steps) {
-            Ok(position) => Some(self.slots[position].index),
+            Ok(position) => Some(self.slots.get(position).index),
             Err(_) => None,
         }
     }
@@ -190,8 +189,8 @@ impl Row {
             index,
         };
         match self.search(entries, dropped, sought, &mut steps) {
-            Ok(position) => self.slots[position] = slot,
-            Err(position) => if let Err(_full) = self.slots.insert(position, slot) {},
+            Ok(position) => self.slots.set(position, slot),
+            Err(position) => self.slots.insert(position, slot),
         }
     }
 
@@ -238,7 +237,7 @@ impl Row {
         let Ok(position) = self.search(entries, dropped, sought, &mut steps) else {
             return None;
         };
-        if self.slots[position].index == index {
+        if self.slots.get(position).index == index {
             Some(position)
         } else {
             None
@@ -251,7 +250,7 @@ impl Row {
         ensures none { IfNone result (HasNoIndex self.now.slots.items index) }
     {
         for position in 0..self.slots.len() {
-            if self.slots[position].index == index {
+            if self.slots.get(position).index == index {
                 return Some(position);
             }
         }

@@ -74,7 +74,7 @@ impl Rows {
     }
 
     /// Makes room for one index more in the row of a hash.
-    pub(super) fn reserve(&mut self, hash: u32) -> Result<(), AllocError>
+    pub(super) fn reserve(&mut self, alloc: Global, hash: u32) -> Result<(), AllocError>
         requires { 0 < length self.old.rows.items }
         ensures rows { (part : Part) (dropped entered : ℕ) (live : List Field)
             → AreRowsOf part dropped live entered self.old.rows.items
@@ -83,7 +83,7 @@ impl Rows {
         ensures room { OnOk result (HasRoomFor self.new.rows.items hash) }
     {
         let home = position_of(hash, self.rows.len());
-        self.rows[home].reserve()
+        self.rows[home].reserve(alloc)
     }
 
     /// An entry comes in behind all that are in, of which it is the next newer one. There is room.

@@ -89,8 +89,7 @@ returns-clause-upper c d =
     let at : get_or c.insert_with_room.new.items.items (c.args.at + 1) d ≡ upper =
     ap (λ xs. get_or xs (c.args.at + 1) d) c.insert_with_room.ensures.items
     ∙ get_or-insert_at (set ps c.args.at lower) (c.args.at + 1) upper d
-    (omega (arith, c.requires.within, length-set ps c.args.at lower)) in
-    (
+    (omega (arith, c.requires.within, length-set ps c.args.at lower)) in (
       ap (λ (x : Piece). x.start) at ∙ (λ t. (first d t).start + 64),
       ap (λ (x : Piece). size x) at ∙ ap (λ xs. length xs) high
           ∙ omega (arith, length-drop 64 p.slots.items, full),

@@ -1,13 +1,13 @@
 use Rattle.std.proofs.Common.{refl}
 use Rattle.qpack_base.specs.HeaderFields.{line_of}
 use Rattle.qpack_table.specs.Rows.{key_of}
-use Rattle.qpack_table.proofs.RowSearches.{slot_at, found_some, found_none}
+use Rattle.qpack_table.proofs.RowSearches.{found_some, found_none}
 use Rattle.qpack_table.proofs.dynamic.index.row.Row.find.Goals as goal
 
 pub returns-in-Ok-clause-found : goal.returns-in-Ok-clause-found
 returns-in-Ok-clause-found c =
     found_some _ _ _ _ (key_of c.args.sought.now) _ _ _ c.in-Ok.ensures.place
-    (slot_at _ _ _ _ c.deref.ensures c.in-Ok.ensures.place.within) refl
+    c.get.ensures refl
 
 pub returns-in-Err-clause-found : goal.returns-in-Err-clause-found
 returns-in-Err-clause-found c =

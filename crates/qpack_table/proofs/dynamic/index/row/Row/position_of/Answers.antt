@@ -1,8 +1,6 @@
-use Rattle.std.proofs.Common.{refl, rules, slice_index_or}
+use Rattle.std.proofs.Common.{refl, rules}
 use Rattle.qpack_base.specs.HeaderFields.{line_of}
 use Rattle.qpack_table.specs.Rows.{key_of}
-use Rattle.qpack_table.specs.declared.dynamic.index.row.Slot.{Slot}
-use Rattle.qpack_table.proofs.RowSearches.{slot_at}
 use Rattle.qpack_table.proofs.RowSlots.{other_there, none_there}
 use Rattle.qpack_table.proofs.dynamic.index.row.Row.position_of.Goals as goal
 
@@ -11,10 +9,8 @@ returns-in_default-clause-none c =
     none_there _ _ _ _ c.requires.row c.args.index (key_of c.args.sought.now)
     (line_of c.args.sought.now.line).field refl c.requires.hashed c.requires.field _ c.in_default.ensures.place
 
-pub returns-else-deref-position-clause-none : goal.returns-else-deref-position-clause-none
-returns-else-deref-position-clause-none c =
-    let none : Slot = record { hash = 0; index = 0 } in
-    let slot : Slot = slice_index_or c.deref.result.now c.in-Ok.position none in
+pub returns-else-get-index-clause-none : goal.returns-else-get-index-clause-none
+returns-else-get-index-clause-none c =
     other_there _ _ _ _ c.requires.row c.args.index (key_of c.args.sought.now)
-    (line_of c.args.sought.now.line).field refl c.requires.hashed c.requires.field _ slot c.in-Ok.ensures.place
-    (slot_at _ _ _ _ c.deref.ensures c.in-Ok.ensures.place.within) (search rules)
+    (line_of c.args.sought.now.line).field refl c.requires.hashed c.requires.field _ c.get.result c.in-Ok.ensures.place
+    c.get.ensures (search rules)
