@@ -1,5 +1,5 @@
 -- A search that halves makes at most as many steps as its row's length has digits.
-use Rattle.std.proofs.Common.{◌≡◌, ℕ, suc, ◌+◌, ◌*◌, ◌^◌, ◌<◌, ◌≤◌, inl, inr, ap, arith}
+use Rattle.std.proofs.Common.{◌≡◌, ℕ, zero, suc, ◌+◌, ◌*◌, ◌^◌, ◌<◌, ◌≤◌, inl, inr, ap, arith}
 use Rattle.std.proofs.lemmas.Bool.{cases_lt}
 use Rattle.std.proofs.Math.Nat.{pow-suc, pow-le-pow_right, mul-le-mul_right}
 use Rattle.qpack_table.specs.Rows.{Counts}
@@ -56,3 +56,12 @@ pub counts_found : (n left old now new : ℕ) → CountsHalved n left old now �
     → Counts n old new
 counts_found n left old now new h some raised grows =
     counts_all n 0 old new (counts_more n left 0 old now new h some (omega arith) raised grows)
+
+-- a row of at most two is searched slot by slot
+pub few_counts : (n old new : ℕ) → n ≤ 2 → old ≤ new → new ≤ old + n → Counts n old new
+few_counts n old new few least most = (least, λ digits h. omega (arith, most, at_most digits h))
+  where
+    at_most : (digits : ℕ) → n < 2 ^ digits → n ≤ digits
+    at_most zero h = omega (arith, h)
+    at_most (suc zero) h = omega (arith, h)
+    at_most (suc (suc d)) h = omega (arith, few)

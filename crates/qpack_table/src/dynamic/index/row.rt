@@ -94,6 +94,31 @@ fn compare(
     }
 }
 
+/// Where the slot with what is sought is among at most two, or where it would stand, slot by slot.
+#[inline(always)]
+fn search_two(
+    slots: &[Slot],
+    entries: &VecDeque<Entry>,
+    dropped: usize,
+    sought: &Sought<'_>,
+    steps: &mut Steps,
+) -> Result<usize, usize>
+    requires few { length slots.now ≤ 2 }
+    requires row { IsRow sought.now.part dropped (live_fields entries.now.items) slots.now }
+    ensures place { IsPlace sought.now.part dropped (live_fields entries.now.items) slots.now (key_of sought.now)
+        result }
+    ensures steps { Counts (length slots.now) steps.old.count steps.new.count }
+{
+    for position in 0..slots.len() {
+        match compare(sought, slots[position], entries, dropped, steps) {
+            Ordering::Less => {}
+            Ordering::Equal => return Ok(position),
+            Ordering::Greater => return Err(position),
+        }
+    }
+    Err(slots.len())
+}
+
 /// Slots of live entries, rising by the hash and the part; no two have the same part.
 #[derive(Debug, Drop)]
 pub(super) struct Row {
@@ -102,11 +127,11 @@ pub(super) struct Row {
 
 impl Row {
     /// An empty row.
-    pub(super) fn new(alloc: Global) -> Row
+    pub(super) fn new() -> Row
         ensures { result.slots.items ≡ [] }
     {
         Row {
-            slots: Slots::new(alloc),
+            slots: Slots::new(),
         }
     }
 
@@ -119,7 +144,27 @@ impl Row {
     }
 
     /// Where the slot with what is sought is, or where it would stand.
+    #[inline(always)]
     fn search(
+        &self,
+        entries: &VecDeque<Entry>,
+        dropped: usize,
+        sought: &Sought<'_>,
+        steps: &mut Steps,
+    ) -> Result<usize, usize>
+        requires { IsRow sought.now.part dropped (live_fields entries.now.items) self.now.slots.items }
+        ensures place { IsPlace sought.now.part dropped (live_fields entries.now.items) self.now.slots.items
+            (key_of sought.now) result }
+        ensures steps { Counts (length self.now.slots.items) steps.old.count steps.new.count }
+    {
+        match self.slots.as_two() {
+            Some(slots) => search_two(slots, entries, dropped, sought, steps),
+            None => self.search_by_halves(entries, dropped, sought, steps),
+        }
+    }
+
+    /// The same in a row of any length, by halves.
+    fn search_by_halves(
         &self,
         entries: &VecDeque<Entry>,
         dropped: usize,
@@ -183,11 +228,11 @@ impl Row {
             Enters sought.now.part dropped (live_fields entries.now.items) self.old.slots.items self.new.slots.items
             slot }
     {
-        let mut steps = Steps::new();
         let slot = Slot {
             hash: sought.hash,
             index,
         };
+        let mut steps = Steps::new();
         match self.search(entries, dropped, sought, &mut steps) {
             Ok(position) => self.slots.set(position, slot),
             Err(position) => self.slots.insert(position, slot),

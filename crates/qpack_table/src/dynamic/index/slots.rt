@@ -1,19 +1,25 @@
-//! The slots of a row, in order: few stand in a vector, many in pieces.
+//! The slots of a row, in order: hardly any in the row itself, few in a vector, many in pieces.
 
-ghost use Rattle.std.specs.Prelude.{◌≡◌, ◌+◌, ◌<◌, ◌≤◌, [], length, OnOk, slice_index_or, slice_set};
+ghost use Rattle.std.specs.Prelude.{◌≡◌, ◌+◌, ◌<◌, ◌≤◌, [], length, IfSome, OnOk, slice_index_or};
+ghost use Rattle.std.specs.Prelude.{slice_set, vec_capacity};
 ghost use Rattle.std.specs.List.{insert, remove};
 ghost use Rattle.qpack_table.specs.SlotLists.{HasRoomIn};
 
 use crate::dynamic::index::pieces::{MOST_IN_PIECE, Pieces};
 use crate::dynamic::index::row::Slot;
-use smallvec::SmallVec;
 use std::alloc::{AllocError, Global};
 use std::marker::Model;
+
+/// For how many slots a vector has room at first.
+const FEW: usize = 4;
 
 /// Where slots stand. Two stand in the row itself, so that hardly a row takes memory.
 #[derive(Debug, Drop)]
 enum Kept {
-    Few(SmallVec<Slot, 2>),
+    None,
+    One([Slot; 1]),
+    Two([Slot; 2]),
+    Few(Vec<Slot>),
     Many(Box<Pieces>),
 }
 
@@ -37,35 +43,60 @@ impl Model for Slots {
 
 impl Slots {
     /// No slots.
-    pub(super) fn new(alloc: Global) -> Slots
+    pub(super) fn new() -> Slots
         ensures { result.items ≡ [] }
     {
-        Slots {
-            kept: Kept::Few(SmallVec::new(alloc)),
-        }
+        Slots { kept: Kept::None }
     }
 
     /// How many there are.
+    #[inline]
     pub(super) fn len(&self) -> usize
         ensures { result ≡ length self.now.items }
     {
         match &self.kept {
+            Kept::None => 0,
+            Kept::One(_) => 1,
+            Kept::Two(_) => 2,
             Kept::Few(slots) => slots.len(),
             Kept::Many(pieces) => pieces.len(),
         }
     }
 
+    /// The slots, where they are at most two.
+    #[inline]
+    pub(super) fn as_two(&self) -> Option<&[Slot]>
+        ensures slots { IfSome result (λ slots. slots.now ≡ self.now.items) }
+        ensures few { IfSome result (λ slots. length slots.now ≤ 2) }
+    {
+        match &self.kept {
+            Kept::None => Some(&[]),
+            Kept::One(slots) => Some(slots),
+            Kept::Two(slots) => Some(slots),
+            Kept::Few(slots) if slots.len() <= 2 => Some(slots),
+            Kept::Few(_) | Kept::Many(_) => None,
+        }
+    }
+
     /// Makes room for one slot more.
+    #[inline]
     pub(super) fn reserve(&mut self, alloc: Global) -> Result<(), AllocError>
         ensures slots { self.new.items ≡ self.old.items }
         ensures ok { OnOk result (HasRoomIn self.new) }
     {
         match &mut self.kept {
+            Kept::None | Kept::One(_) => Ok(()),
+            Kept::Two(slots) => {
+                let mut few = Vec::with_capacity(alloc, FEW)?;
+                few.extend_from_slice(&slots[..])?;
+                self.kept = Kept::Few(few);
+                Ok(())
+            }
             Kept::Few(slots) => {
                 if slots.len() < MOST_IN_PIECE {
                     return slots.reserve(1);
                 }
-                let pieces = Pieces::of(alloc, slots.as_slice())?;
+                let pieces = Pieces::of(alloc, slots)?;
                 self.kept = Kept::Many(Box::new(alloc, pieces)?);
                 Ok(())
             }
@@ -74,74 +105,77 @@ impl Slots {
     }
 
     /// The slot at a position.
+    #[inline]
     pub(super) fn get(&self, position: usize) -> Slot
         requires { position < length self.now.items }
         ensures { result ≡ slice_index_or self.now.items position result }
     {
         match &self.kept {
+            Kept::None => unreachable!(),
+            Kept::One(slots) => slots[position],
+            Kept::Two(slots) => slots[position],
             Kept::Few(slots) => slots[position],
             Kept::Many(pieces) => pieces.get(position),
         }
     }
 
     /// Puts another slot in the place of one.
+    #[inline]
     pub(super) fn set(&mut self, position: usize, slot: Slot)
         requires { position < length self.old.items }
         ensures slots { self.new.items ≡ slice_set self.old.items position slot }
         ensures room { HasRoomIn self.old → HasRoomIn self.new }
     {
         match &mut self.kept {
+            Kept::None => unreachable!(),
+            Kept::One(slots) => slots[position] = slot,
+            Kept::Two(slots) => slots[position] = slot,
             Kept::Few(slots) => slots[position] = slot,
             Kept::Many(pieces) => pieces.set(position, slot),
         }
     }
 
     /// A slot comes in at a position, for which there is room.
+    #[inline]
     pub(super) fn insert(&mut self, position: usize, slot: Slot)
         requires within { position ≤ length self.old.items }
         requires room { HasRoomIn self.old }
         ensures { self.new.items ≡ insert self.old.items position slot }
     {
         match &mut self.kept {
-            Kept::Few(slots) => insert_few(slots, position, slot),
+            Kept::None => self.kept = Kept::One([slot]),
+            Kept::One(slots) => {
+                let [other] = *slots;
+                self.kept = Kept::Two(if position == 0 {
+                    [slot, other]
+                } else {
+                    [other, slot]
+                });
+            }
+            Kept::Two(_) => unreachable!(),
+            Kept::Few(slots) => if let Err(_full) = slots.insert(position, slot) {},
             Kept::Many(pieces) => pieces.insert(position, slot),
         }
     }
 
     /// The slot at a position goes out.
+    #[inline]
     pub(super) fn remove(&mut self, position: usize)
         requires { position < length self.old.items }
         ensures slots { self.new.items ≡ remove self.old.items position }
         ensures room { HasRoomIn self.old → HasRoomIn self.new }
     {
         match &mut self.kept {
-            Kept::Few(slots) => remove_few(slots, position),
+            Kept::None => unreachable!(),
+            Kept::One(_) => self.kept = Kept::None,
+            Kept::Two(slots) => {
+                let [first, second] = *slots;
+                self.kept = Kept::One([if position == 0 { second } else { first }]);
+            }
+            Kept::Few(slots) => {
+                slots.remove(position);
+            }
             Kept::Many(pieces) => pieces.remove(position),
         }
-    }
-}
-
-/// A slot comes in, mostly at the end.
-fn insert_few(slots: &mut SmallVec<Slot, 2>, position: usize, slot: Slot)
-    requires within { position ≤ length slots.old.items }
-    requires room { length slots.old.items < slots.old.capacity }
-    ensures slots { slots.new.items ≡ insert slots.old.items position slot }
-    ensures capacity { slots.new.capacity ≡ slots.old.capacity }
-{
-    if position == slots.len() {
-        slots.push_reserved(slot);
-    } else if let Err(_full) = slots.insert(position, slot) {}
-}
-
-/// A slot goes out, mostly at the end.
-fn remove_few(slots: &mut SmallVec<Slot, 2>, position: usize)
-    requires { position < length slots.old.items }
-    ensures slots { slots.new.items ≡ remove slots.old.items position }
-    ensures capacity { slots.new.capacity ≡ slots.old.capacity }
-{
-    if slots.len() - position == 1 {
-        slots.truncate(position);
-    } else {
-        slots.remove(position);
     }
 }

@@ -2,7 +2,7 @@ use Rattle.std.proofs.Common.{◌+◌, ◌-◌, ◌/◌, ◌<◌, length, sym, �
 use Rattle.qpack_table.specs.Rows.{key_of}
 use Rattle.qpack_table.proofs.Halvings.{counts_more}
 use Rattle.qpack_table.proofs.RowSearches.{slot_read, searching_lower, searching_higher}
-use Rattle.qpack_table.proofs.dynamic.index.row.Row.search.Goals as goal
+use Rattle.qpack_table.proofs.dynamic.index.row.Row.search_by_halves.Goals as goal
 
 pub compare-requires : goal.compare-requires
 compare-requires c =

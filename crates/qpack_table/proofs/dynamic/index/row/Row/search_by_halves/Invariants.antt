@@ -3,7 +3,7 @@ use Rattle.qpack_table.specs.Rows.{key_of}
 use Rattle.qpack_table.specs.Tables.{live_fields}
 use Rattle.qpack_table.proofs.Halvings.{CountsHalved}
 use Rattle.qpack_table.proofs.RowSearches.{Searching}
-use Rattle.qpack_table.proofs.dynamic.index.row.Row.search.Given as goal
+use Rattle.qpack_table.proofs.dynamic.index.row.Row.search_by_halves.Given as goal
 
 abbrev pub invariant-loop-low : goal.invariant-loop-low
 invariant-loop-low l = record {
