@@ -79,8 +79,19 @@ impl Slots {
     }
 
     /// Makes room for one slot more.
-    #[inline]
+    #[inline(always)]
     pub(super) fn reserve(&mut self, alloc: Global) -> Result<(), AllocError>
+        ensures slots { self.new.items ≡ self.old.items }
+        ensures ok { OnOk result (HasRoomIn self.new) }
+    {
+        match &self.kept {
+            Kept::None | Kept::One(_) => Ok(()),
+            Kept::Two(_) | Kept::Few(_) | Kept::Many(_) => self.reserve_outside(alloc),
+        }
+    }
+
+    /// The same where the row itself has no room.
+    fn reserve_outside(&mut self, alloc: Global) -> Result<(), AllocError>
         ensures slots { self.new.items ≡ self.old.items }
         ensures ok { OnOk result (HasRoomIn self.new) }
     {
