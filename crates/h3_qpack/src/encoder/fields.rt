@@ -83,13 +83,12 @@ fn append_field<A: Allocator, B: Allocator>(
         (vec_len lines.new ≤ vec_capacity lines.old → vec_capacity lines.new ≡ vec_capacity lines.old) }
     ensures instructions { GrowsWithin (4 * field_size (line_of field.now).field) encoder_buf.old encoder_buf.new }
 {
-    match StaticTable::lookup(field.name, field.value) {
-        Some(StaticMatch::Field(index)) => Ok(Indexed::Static(index).encode(lines)?),
-        Some(StaticMatch::Name(index)) => {
-            append_dynamic(block, field, Some(index), lines, encoder_buf)
-        }
-        None => append_dynamic(block, field, None, lines, encoder_buf),
-    }
+    let static_name = match StaticTable::lookup(field.name, field.value) {
+        Some(StaticMatch::Field(index)) => return Ok(Indexed::Static(index).encode(lines)?),
+        Some(StaticMatch::Name(index)) => Some(index),
+        None => None,
+    };
+    append_dynamic(block, field, static_name, lines, encoder_buf)
 }
 
 /// Adds a field that no static field is equal to, and whose name the static table has at this index if at any: the

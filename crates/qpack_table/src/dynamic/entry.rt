@@ -105,6 +105,7 @@ pub(super) fn drop_oldest<I: EntryIndex>(
 }
 
 /// Makes room for an entry. Where it is free already, nothing changes and no memory is taken.
+#[inline(always)]
 fn make_room(entries: &mut VecDeque<Entry>) -> Result<(), AllocError>
     ensures items { entries.new.items ≡ entries.old.items }
     ensures ok { OnOk result (length entries.new.items + 1 ≤ deque_capacity entries.new) }
@@ -115,6 +116,15 @@ fn make_room(entries: &mut VecDeque<Entry>) -> Result<(), AllocError>
     if entries.len() < entries.capacity() {
         return Ok(());
     }
+    grow(entries)
+}
+
+/// Makes room for an entry where there is none. It is a call of its own, so that whoever finds room saves no registers.
+#[inline(never)]
+fn grow(entries: &mut VecDeque<Entry>) -> Result<(), AllocError>
+    ensures items { entries.new.items ≡ entries.old.items }
+    ensures ok { OnOk result (length entries.new.items + 1 ≤ deque_capacity entries.new) }
+{
     entries.reserve(1)
 }
 

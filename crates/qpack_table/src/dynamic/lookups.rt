@@ -73,6 +73,7 @@ impl DynamicTable {
     }
 
     /// Finds a live entry, and references it, if there is one and it may be referenced.
+    #[inline(always)]
     pub(super) fn find_entry(
         &mut self,
         base: usize,
