@@ -1,9 +1,11 @@
 -- Byte strings are equal exactly where their parts are.
-use Rattle.std.proofs.Common.{◌≡◌, ℕ, zero, suc, ◌<◌, ◌≤◌, Bool, true, false, List, [], ◌∷◌, ◌++◌}
-use Rattle.std.proofs.Common.{◌∙◌, length, take, drop, get_or, refl, sym, ap, arith, w32, w64}
+use Rattle.std.proofs.Common.{◌≡◌, ℕ, zero, suc, ◌+◌, ◌-◌, ◌<◌, ◌≤◌, Bool, true, false, List, [], ◌∷◌, ◌++◌}
+use Rattle.std.proofs.Common.{eqb-true, eq-eqb}
+use Rattle.std.specs.Prelude.{nat_eq}
+use Rattle.std.proofs.Common.{◌∙◌, length, take, drop, get_or, take-append-drop, refl, sym, ap, arith, w32, w64}
 use Rattle.std.specs.Int.{from_le_bytes, to_le_bytes}
 use Rattle.std.specs.Str.{bytes_eq}
-use Rattle.std.proofs.lemmas.List.{take_all}
+use Rattle.std.proofs.lemmas.List.{take_all, drop-drop}
 use Rattle.std.proofs.lemmas.Nat.{le_bytes_4, le_bytes_8}
 use Rattle.std.proofs.lemmas.Slice.Eq.{bytes_eq-Decides}
 use Rattle.qpack_spec.specs.Huffman.{AreBytes}
@@ -62,3 +64,35 @@ front_same x y a b e =
 
 pub fronts_all : (a b : List ℕ) (i : ℕ) → length a ≤ i → length b ≤ i → take i a ≡ take i b → a ≡ b
 fronts_all a b i h k e = sym (take_all i a h) ∙ e ∙ take_all i b k
+
+-- what is equal from one place on is so from any later one
+pub drops_same : (a b : List ℕ) (m n : ℕ) → m ≤ n → drop m a ≡ drop m b → drop n a ≡ drop n b
+drops_same a b m n le e =
+    let k : m + (n - m) ≡ n = omega arith in
+    sym (ap (λ (i : ℕ). drop i a) k) ∙ sym (drop-drop (n - m) m a) ∙ ap (drop (n - m)) e ∙ drop-drop (n - m) m b
+    ∙ ap (λ (i : ℕ). drop i b) k
+
+-- the same of what is behind eight bytes
+pub dropped_same : (a b behind beyond : List ℕ) (n : ℕ) → behind ≡ drop 8 a → beyond ≡ drop 8 b
+    → drop (8 + n) a ≡ drop (8 + n) b → drop n behind ≡ drop n beyond
+dropped_same a b behind beyond n p q e =
+    ap (drop n) p ∙ drop-drop n 8 a ∙ e ∙ sym (drop-drop n 8 b) ∙ sym (ap (drop n) q)
+
+-- strings are equal whose first bytes are, and whose last ones, which overlap
+pub ends_same : (a b : List ℕ) (m n : ℕ) → m ≤ n → take n a ≡ take n b → drop m a ≡ drop m b → a ≡ b
+ends_same a b m n le first last =
+    sym (take-append-drop n a) ∙ ap (λ (l : List ℕ). l ++ drop n a) first
+    ∙ ap (λ (l : List ℕ). take n b ++ l) (drops_same a b m n le last) ∙ take-append-drop n b
+
+-- the last bytes are equal where their copies are
+pub last_same : (a b x y : List ℕ) (n : ℕ) → length a ≡ length b → x ≡ drop (length a - n) a
+    → y ≡ drop (length b - n) b → x ≡ y → drop (length a - n) a ≡ drop (length a - n) b
+last_same a b x y n len p q e = sym p ∙ e ∙ q ∙ ap (λ (k : ℕ). drop (k - n) b) (sym len)
+
+-- strings are equal exactly where two numbers are
+pub numbers_decide : (a b : List ℕ) (p q : ℕ) → (p ≡ q → a ≡ b) → (a ≡ b → p ≡ q) → nat_eq p q ≡ bytes_eq a b
+numbers_decide a b p q f g = go (nat_eq p q) refl
+  where
+    go : (r : Bool) → nat_eq p q ≡ r → r ≡ bytes_eq a b
+    go true e = equal_true a b (f (eqb-true p q e))
+    go false e = equal_false a b (λ h. let t = sym e ∙ eq-eqb p q (g h) in absurd cc)
