@@ -293,12 +293,11 @@ rows-length : (rows : List (Bor (List (Bor (List ℕ) × Bor (List ℕ))))) → 
 rows-length [] = refl
 rows-length (r ∷ rows) = ap (λ (n : ℕ). suc n) (rows-length rows)
 
-pub no_names_past : (rows : List (Bor (List (Bor (List ℕ) × Bor (List ℕ))))) (n index : ℕ)
-    → AreNamesOfLength n (slice_index_or (name_rows_at rows) index []) → IsItemAt rows index None
-    → AreNamesOfLength n []
-no_names_past rows n index are past =
+pub no_names_past : (rows : List (Bor (List (Bor (List ℕ) × Bor (List ℕ))))) (index : ℕ)
+    → IsItemAt rows index None → [] ≡ slice_index_or (name_rows_at rows) index []
+no_names_past rows index past =
     let l : length (name_rows_at rows) ≤ index = omega (arith, rows-length rows) in
-    subst (λ row. AreNamesOfLength n row) (get_or_past (name_rows_at rows) index [] l) are
+    sym (get_or_past (name_rows_at rows) index [] l)
 
 row_at : (rows : List (Bor (List (Bor (List ℕ) × Bor (List ℕ))))) (n : ℕ) (r : Bor (List (Bor (List ℕ) × Bor (List ℕ))))
     → n < length rows → slice_index_or rows n r ≡ r → slice_index_or (name_rows_at rows) n [] ≡ names_at r.now
@@ -306,7 +305,7 @@ row_at [] n r h e = absurd (omega arith)
 row_at (s ∷ rows) zero r h e = ap (λ (x : Bor (List (Bor (List ℕ) × Bor (List ℕ)))). names_at x.now) e
 row_at (s ∷ rows) (suc n) r h e = row_at rows n r (omega arith) e
 
-pub names_there : (rows : List (Bor (List (Bor (List ℕ) × Bor (List ℕ))))) (n index : ℕ)
-    (r : Bor (List (Bor (List ℕ) × Bor (List ℕ)))) → AreNamesOfLength n (slice_index_or (name_rows_at rows) index [])
-    → index < length rows → slice_index_or rows index r ≡ r → AreNamesOfLength n (names_at r.now)
-names_there rows n index r are h e = subst (λ row. AreNamesOfLength n row) (row_at rows index r h e) are
+pub names_there : (rows : List (Bor (List (Bor (List ℕ) × Bor (List ℕ))))) (index : ℕ)
+    (r : Bor (List (Bor (List ℕ) × Bor (List ℕ)))) → index < length rows → slice_index_or rows index r ≡ r
+    → names_at r.now ≡ slice_index_or (name_rows_at rows) index []
+names_there rows index r h e = sym (row_at rows index r h e)

@@ -110,6 +110,7 @@ fn entry_of(names: &'static [Name], name: &[u8]) -> Option<&'static Name>
 }
 
 /// The first of the indexes whose field has this value.
+#[inline(always)]
 fn index_of_value(indexes: &[usize], value: &[u8]) -> Option<usize>
     ensures { result ≡ find (λ index. has_value_at value.now index) indexes.now }
 {
@@ -120,8 +121,29 @@ fn index_of_value(indexes: &[usize], value: &[u8]) -> Option<usize>
 }
 
 /// Whether the field at the index has this value.
+#[inline(always)]
 fn has_value(index: usize, value: &[u8]) -> bool
     ensures { result ≡ has_value_at value.now index }
 {
-    row(index).is_some_and(|row| same(value, row.1))
+    row(index).is_some_and(|row| is_value(value, row.1))
+}
+
+/// Whether two values are equal. Most differ in length, and their bytes are looked at in a call of its own, so that a
+/// look for a value stays in line.
+#[inline(always)]
+fn is_value(value: &[u8], known: &[u8]) -> bool
+    ensures { result ≡ bytes_eq value.now known.now }
+{
+    if value.len() != known.len() {
+        return false;
+    }
+    same_bytes(value, known)
+}
+
+/// The same of values of one length.
+#[inline(never)]
+fn same_bytes(value: &[u8], known: &[u8]) -> bool
+    ensures { result ≡ bytes_eq value.now known.now }
+{
+    same(value, known)
 }

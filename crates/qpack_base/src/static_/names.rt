@@ -1,36 +1,36 @@
 //! The names of the static table, each with its positions (RFC 9204, Appendix A). They stand in three parts, since
 //! what a check takes grows faster than the references of a function.
 
-ghost use Rattle.std.specs.Prelude.{◌-◌, ◌^◌, ◌≤◌, [], slice_index_or};
+ghost use Rattle.std.specs.Prelude.{◌≡◌, ◌^◌, [], slice_index_or};
 ghost use Rattle.qpack_base.specs.StaticFields.{AreNamesOfLength, AreNamesBetween, names_at, name_rows_at};
 
 /// A name and all its positions in the table, rising.
 pub(super) type Name = (&'static [u8], &'static [usize]);
 
 /// The names of this length, each with all its positions, rising.
-#[tactic(auto, using(crate::proofs::StaticNames::names_there, crate::proofs::StaticNames::no_names_past))]
+#[inline(always)]
 pub(super) fn names_of_length(length: usize) -> &'static [Name]
     ensures { AreNamesOfLength length (names_at result.now) }
 {
-    let (first, rows) = rows_with(length);
-    let Some(names) = rows.get(length - first) else {
+    if length < 9 {
+        return names_in(short_names(), length);
+    }
+    if length < 16 {
+        return names_in(middle_names(), length - 9);
+    }
+    names_in(long_names(), length - 16)
+}
+
+/// The names in a row of a part, none where it has no such row.
+#[inline(always)]
+#[tactic(auto, using(crate::proofs::StaticNames::names_there, crate::proofs::StaticNames::no_names_past))]
+fn names_in(rows: &'static [&'static [Name]], at: usize) -> &'static [Name]
+    ensures { names_at result.now ≡ slice_index_or (name_rows_at rows.now) at [] }
+{
+    let Some(names) = rows.get(at) else {
         return &[];
     };
     names
-}
-
-/// The part of the names in which those of this length stand, and the length of its first row.
-fn rows_with(length: usize) -> (usize, &'static [&'static [Name]])
-    ensures first { result.0 ≤ length }
-    ensures names { AreNamesOfLength length (slice_index_or (name_rows_at result.1.now) (length - result.0) []) }
-{
-    if length < 9 {
-        return (0, short_names());
-    }
-    if length < 16 {
-        return (9, middle_names());
-    }
-    (16, long_names())
 }
 
 /// The names of fewer than 9 bytes, those of each length in a row.
