@@ -184,7 +184,8 @@ pub fn encode<A: Allocator>(
     Ok(append(size, flags, value, buf)?)
 }
 
-/// The same, with an error that comes back in a register.
+/// The same, with an error that comes back in a register. In line, the size of the prefix is known.
+#[inline(always)]
 fn append<A: Allocator>(
     size: u8,
     flags: u8,

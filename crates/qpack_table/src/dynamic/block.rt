@@ -1,7 +1,7 @@
 //! The block in progress: what it references, and its end (RFC 9204, section 2.1).
 
 ghost use Rattle.std.specs.Prelude.{◌≡◌, ◌+◌, ◌^◌, ◌<◌, ◌≤◌, [], ◌∷◌, ◌++◌, length, true, if◌then◌else◌};
-ghost use Rattle.std.specs.Prelude.{OnOk, OnErr};
+ghost use Rattle.std.specs.Prelude.{OnOk, OnErr, vec_len, vec_capacity};
 ghost use Rattle.qpack_spec.specs.Reading.{greatest_of};
 ghost use Rattle.qpack_spec.specs.Table.{without_references, with_reference, with_unacknowledged, insert_count};
 ghost use Rattle.qpack_table.specs.Tables.{AreFlagged, entries_of, uses_of};
@@ -29,7 +29,8 @@ impl DynamicTable {
         if self.entries[position].referenced {
             return Ok(());
         }
-        self.referenced.push(absolute)?;
+        make_room(&mut self.referenced)?;
+        self.referenced.push_reserved(absolute);
         let entry = &mut self.entries[position];
         entry.referenced = true;
         entry.uses += 1;
@@ -92,6 +93,27 @@ impl DynamicTable {
             }
         }
     }
+}
+
+/// Makes room for one number more. Where it is free already, nothing changes and no memory is taken.
+#[inline(always)]
+pub(super) fn make_room(numbers: &mut Vec<usize>) -> Result<(), AllocError>
+    ensures items { numbers.new.items ≡ numbers.old.items }
+    ensures ok { OnOk result (vec_len numbers.new + 1 ≤ vec_capacity numbers.new) }
+{
+    if numbers.len() < numbers.capacity() {
+        return Ok(());
+    }
+    grow(numbers)
+}
+
+/// Makes room for a number where there is none. It is a call of its own, so that whoever finds room saves no registers.
+#[inline(never)]
+fn grow(numbers: &mut Vec<usize>) -> Result<(), AllocError>
+    ensures items { numbers.new.items ≡ numbers.old.items }
+    ensures ok { OnOk result (vec_len numbers.new + 1 ≤ vec_capacity numbers.new) }
+{
+    numbers.reserve(1)
 }
 
 /// The block in progress waits for an acknowledgment, if it references an entry. On error nothing changes.

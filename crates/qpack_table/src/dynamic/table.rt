@@ -20,6 +20,7 @@ ghost use Rattle.qpack_table.specs.declared.dynamic.Error.TheVariants.{MaxBlocke
 ghost use Rattle.qpack_table.specs.declared.dynamic.Error.TheVariants.{MaximumTableSizeTooLarge};
 
 use crate::dynamic::Error;
+use crate::dynamic::block::make_room;
 use crate::dynamic::blocked_blocks::BlockedBlocks;
 use crate::dynamic::capacities::{Capacities, GREATEST_CAPACITY};
 use crate::dynamic::entry::{Entry, drop_oldest, replace_oldest};
@@ -121,7 +122,7 @@ impl DynamicTable {
             ≡ with_reference (with_entry self.old (sent_entry (field_of field))) (insert_count self.old + 1)) }
         ensures err { OnErr result (self.new ≡ self.old) }
     {
-        self.referenced.reserve(1)?;
+        make_room(&mut self.referenced)?;
         let entry = Entry {
             field,
             sent: true,

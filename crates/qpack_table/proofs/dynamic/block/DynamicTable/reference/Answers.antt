@@ -1,4 +1,4 @@
-use Rattle.std.proofs.Common.{◌≡◌, ◌+◌, ◌-◌, ◌<◌, length, refl, ap, ◌∙◌, arith}
+use Rattle.std.proofs.Common.{◌≡◌, ◌+◌, ◌-◌, ◌<◌, ◌∷◌, ◌++◌, [], ℕ, List, length, refl, ap, ◌∙◌, arith}
 use Rattle.std.proofs.lemmas.List.{length-map}
 use Rattle.qpack_spec.specs.Table.{Table, insert_count}
 use Rattle.qpack_table.specs.Tables.{entry_of}
@@ -82,7 +82,7 @@ invariant_of-self-2 c =
           (c.args.absolute - c.total_dropped.result - 1) c.index_mut-entry.result.now _ c.self.invariant.references
           position
           (omega (arith, position, within, c.self.invariant.sized.counted))
-          (item_there _ _ _ within c.index_mut-entry.ensures.value) unflagged refl refl c.in_ok-push.ensures.items;
+          (item_there _ _ _ within c.index_mut-entry.ensures.value) unflagged refl refl (c.push_reserved.ensures.items ∙ ap (λ (l : List ℕ). l ++ c.args.absolute ∷ []) c.make_room.ensures.items);
       indexed = indexed_as c.self.inside.vas.dropped c.self.inside.entries.items _
           (same_live _ _ c.index_mut-entry.result.now _ within c.index_mut-entry.ensures.value refl)
           c.self.invariant.indexed;
@@ -109,4 +109,4 @@ returns-clause-ok c =
     (flag_tells _ _ _ _ _ _ c.index.result.now _ c.self.invariant.references position within c.index.ensures
     c.if-index.false)
     (same_live _ _ c.index_mut-entry.result.now _ within c.index_mut-entry.ensures.value refl)
-    c.in_ok-push.ensures.items)
+    (c.push_reserved.ensures.items ∙ ap (λ (l : List ℕ). l ++ c.args.absolute ∷ []) c.make_room.ensures.items))

@@ -23,7 +23,7 @@ invariant_of-self-2 c =
     c.in_ok-replace_oldest.ensures.sum
     c.in_ok-replace_oldest.ensures.dropped c.in_ok-replace_oldest.ensures.inserted c.total_inserted.ensures.total
     (c.push_reserved.ensures.items ∙ ap (λ (l : List ℕ). l ++ c.total_inserted.result ∷ [])
-    c.in_ok-reserve.ensures.items)
+    c.make_room.ensures.items)
     c.in_ok-replace_oldest.ensures.index
 
 pub returns-clause-ok : goal.returns-clause-ok
@@ -51,4 +51,4 @@ returns-clause-ok c =
       c.in_ok-replace_oldest.ensures.inserted,
     )))
     (c.push_reserved.ensures.items ∙ ap (λ (l : List ℕ). l ++ c.total_inserted.result ∷ [])
-    c.in_ok-reserve.ensures.items))
+    c.make_room.ensures.items))
