@@ -5,8 +5,8 @@ use Rattle.h3_qpack.proofs.Additions.{adds_static}
 use Rattle.h3_qpack.proofs.StaticMatches.{field_is}
 use Rattle.h3_qpack.proofs.encoder.fields.append_field.Goals as goal
 
-pub returns-in_ok-encode-in-Some-Field-clause-ok : goal.returns-in_ok-encode-in-Some-Field-clause-ok
-returns-in_ok-encode-in-Some-Field-clause-ok g c =
+pub returns-in-Some-Field-clause-ok : goal.returns-in-Some-Field-clause-ok
+returns-in-Some-Field-clause-ok g c =
     adds_static c.args.block.now.table.now c.args.block.now.base (line_of c.args.field.now).field c.in-Some-Field.index
     c.args.lines.now.items c.encode.new.buf.items c.args.encoder_buf.now.items
     (field_is _ _ _ (sym c.lookup.ensures ∙ c.in-Some-Field.is
