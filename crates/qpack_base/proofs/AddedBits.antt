@@ -109,6 +109,59 @@ added_halves eight old mid new a b = record {
       ∙ sym (bits_append 32 32 64 eight refl);
 }
 
+-- eight bytes, pushed one after the other
+pub pushed_eight : (eight : ℕ) (bytes old one two three mid five six seven new : List ℕ) → eight < 2 ^ 64
+    → bytes ≡ eight / 72057594037927936 % 256 ∷ eight / 281474976710656 % 256 ∷ eight / 1099511627776 % 256 ∷ eight / 4294967296 % 256 ∷ eight / 16777216 % 256 ∷ eight / 65536 % 256 ∷ eight / 256 % 256 ∷ eight % 256 ∷ []
+    → one ≡ old ++ slice_index bytes 0 ∷ []
+    → two ≡ one ++ slice_index bytes 1 ∷ []
+    → three ≡ two ++ slice_index bytes 2 ∷ []
+    → mid ≡ three ++ slice_index bytes 3 ∷ []
+    → five ≡ mid ++ slice_index bytes 4 ∷ []
+    → six ≡ five ++ slice_index bytes 5 ∷ []
+    → seven ≡ six ++ slice_index bytes 6 ∷ []
+    → new ≡ seven ++ slice_index bytes 7 ∷ []
+    → AddsBits 64 eight old new
+pushed_eight eight bytes old one two three mid five six seven new fits e a b c d f g h i =
+    let a' : slice_index bytes 0 ≡ (eight / 4294967296) / 16777216 % 256 = ap (λ (l : List ℕ). slice_index l 0) e ∙ byte_0 in
+    let b' : slice_index bytes 1 ≡ (eight / 4294967296) / 65536 % 256 = ap (λ (l : List ℕ). slice_index l 1) e ∙ byte_1 in
+    let c' : slice_index bytes 2 ≡ (eight / 4294967296) / 256 % 256 = ap (λ (l : List ℕ). slice_index l 2) e ∙ byte_2 in
+    let d' : slice_index bytes 3 ≡ (eight / 4294967296) % 256 = ap (λ (l : List ℕ). slice_index l 3) e ∙ byte_3 in
+    let f' : slice_index bytes 4 ≡ (eight % 4294967296) / 16777216 % 256 = ap (λ (l : List ℕ). slice_index l 4) e ∙ byte_4 in
+    let g' : slice_index bytes 5 ≡ (eight % 4294967296) / 65536 % 256 = ap (λ (l : List ℕ). slice_index l 5) e ∙ byte_5 in
+    let h' : slice_index bytes 6 ≡ (eight % 4294967296) / 256 % 256 = ap (λ (l : List ℕ). slice_index l 6) e ∙ byte_6 in
+    let i' : slice_index bytes 7 ≡ (eight % 4294967296) % 256 = ap (λ (l : List ℕ). slice_index l 7) e ∙ byte_7 in
+    added_halves eight old mid new
+    (pushed_four (eight / 4294967296) ((eight / 4294967296) / 16777216 % 256 ∷ (eight / 4294967296) / 65536 % 256 ∷ (eight / 4294967296) / 256 % 256 ∷ (eight / 4294967296) % 256 ∷ []) old one two three mid (omega (arith, fits)) refl
+    (a ∙ ap (λ (b : ℕ). old ++ b ∷ []) a') (b ∙ ap (λ (b : ℕ). one ++ b ∷ []) b')
+    (c ∙ ap (λ (b : ℕ). two ++ b ∷ []) c') (d ∙ ap (λ (b : ℕ). three ++ b ∷ []) d'))
+    (pushed_four (eight % 4294967296) ((eight % 4294967296) / 16777216 % 256 ∷ (eight % 4294967296) / 65536 % 256 ∷ (eight % 4294967296) / 256 % 256 ∷ (eight % 4294967296) % 256 ∷ []) mid five six seven new (omega arith) refl
+    (f ∙ ap (λ (b : ℕ). mid ++ b ∷ []) f') (g ∙ ap (λ (b : ℕ). five ++ b ∷ []) g')
+    (h ∙ ap (λ (b : ℕ). six ++ b ∷ []) h') (i ∙ ap (λ (b : ℕ). seven ++ b ∷ []) i'))
+  where
+    byte_0 : eight / 72057594037927936 % 256 ≡ (eight / 4294967296) / 16777216 % 256
+    byte_0 = omega arith
+
+    byte_1 : eight / 281474976710656 % 256 ≡ (eight / 4294967296) / 65536 % 256
+    byte_1 = omega arith
+
+    byte_2 : eight / 1099511627776 % 256 ≡ (eight / 4294967296) / 256 % 256
+    byte_2 = omega arith
+
+    byte_3 : eight / 4294967296 % 256 ≡ (eight / 4294967296) % 256
+    byte_3 = omega arith
+
+    byte_4 : eight / 16777216 % 256 ≡ (eight % 4294967296) / 16777216 % 256
+    byte_4 = omega arith
+
+    byte_5 : eight / 65536 % 256 ≡ (eight % 4294967296) / 65536 % 256
+    byte_5 = omega arith
+
+    byte_6 : eight / 256 % 256 ≡ (eight % 4294967296) / 256 % 256
+    byte_6 = omega arith
+
+    byte_7 : eight % 256 ≡ (eight % 4294967296) % 256
+    byte_7 = omega arith
+
 -- ---- the end
 
 pub adds_last : (count loaded k filled : ℕ) (old new : List ℕ) → k < 8 → filled ≡ loaded * 2 ^ k + (2 ^ k - 1)

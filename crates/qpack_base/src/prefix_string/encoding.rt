@@ -289,8 +289,15 @@ fn put_eight<A: Allocator>(eight: u64, buf: &mut Vec<u8, A>)
     ensures len { vec_len buf.new ≡ vec_len buf.old + 8 }
     ensures capacity { vec_capacity buf.new ≡ vec_capacity buf.old }
 {
-    put_four(eight / 0x1_0000_0000, buf);
-    put_four(eight % 0x1_0000_0000, buf);
+    let [first, second, third, fourth, fifth, sixth, seventh, eighth] = eight.to_be_bytes();
+    buf.push_reserved(first);
+    buf.push_reserved(second);
+    buf.push_reserved(third);
+    buf.push_reserved(fourth);
+    buf.push_reserved(fifth);
+    buf.push_reserved(sixth);
+    buf.push_reserved(seventh);
+    buf.push_reserved(eighth);
 }
 
 /// Appends 32 bits into the free room.
