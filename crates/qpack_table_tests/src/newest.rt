@@ -214,3 +214,45 @@ fn finds_among_many(
     }
     same(live_count(table) > 100, true)
 }
+
+/// The second half of a name of sixteen bytes whose hash does not depend on the first: the constant of a step of the
+/// hash.
+const FORGETTING: u64 = 0xE703_7ED1_A0B4_28DB;
+
+/// A name whose hash is that of all such names.
+fn alike(number: usize) -> [u8; 16] {
+    (number as u128 | u128::from(FORGETTING) << 64).to_le_bytes()
+}
+
+#[test]
+fn a_row_of_equal_hashes_finds_what_a_scan_finds(rt: HostRuntime) -> Result<(), Fail> {
+    let mut table = table(rt.alloc(), 30_000, 0)?;
+    let mut numbers = Numbers::new(0x0123_4567_89AB_CDEF);
+    finds_among_alike(rt.alloc(), &mut table, &mut numbers)
+}
+
+/// Puts so many fields of equal hashes that they stand in pieces, lets nearly all of them go, and begins again.
+fn finds_among_alike(
+    alloc: Global,
+    table: &mut DynamicTable,
+    numbers: &mut Numbers,
+) -> Result<(), Fail> {
+    for capacity in [30_000, 1_000, 20_000, 0, 30_000] {
+        table.set_max_size(capacity)?;
+        finds_behind_alike(alloc, table, numbers)?;
+    }
+    same(live_count(table) > 600, true)
+}
+
+/// Puts fields of equal hashes, some of them equal, and finds one behind each.
+fn finds_behind_alike(
+    alloc: Global,
+    table: &mut DynamicTable,
+    numbers: &mut Numbers,
+) -> Result<(), Fail> {
+    for _ in 0..800 {
+        put_or_leave(alloc, table, &alike(numbers.below(1000)), &[])?;
+        finds(alloc, table, &alike(numbers.below(1000)), &[])?;
+    }
+    Ok(())
+}
