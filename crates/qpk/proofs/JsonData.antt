@@ -1,5 +1,5 @@
 -- The data that the fields of a block are told by, and its text.
-use Rattle.std.proofs.Common.{◌≡◌, ℕ, Bool, true, false, cond, List, [], ◌∷◌, ◌++◌, map, codes, refl, sym, ap, ◌∙◌, IsUtf8}
+use Rattle.std.proofs.Common.{◌≡◌, ℕ, Bool, true, false, cond, List, [], ◌∷◌, ◌++◌, map, codes, refl, ap, ◌∙◌, IsUtf8}
 use Rattle.std.specs.Str.{is_utf8}
 use Rattle.std.proofs.lemmas.Str.{IsUtf8-from_is_utf8, is_utf8-from_IsUtf8}
 use Rattle.std.specs.Prelude.{Ok}
@@ -9,7 +9,7 @@ use Rattle.serde_json.specs.Data.{Data, string, object, member, no_members}
 use Rattle.serde_json.specs.View.{items_of}
 use Rattle.serde_json.specs.Written.{compact_text, has_float, items_have_float}
 use Rattle.qpack_spec.specs.Field.{Field}
-use Rattle.qpk.specs.Json.{bytes_data, field_data, fields_data, section_data, section_json}
+use Rattle.qpk.specs.Json.{bytes_data, field_data, section_data, section_json}
 
 pub text_data : (bytes : List ℕ) → IsUtf8 bytes → bytes_data bytes ≡ string bytes
 text_data bytes h = rw (is_utf8-from_IsUtf8 bytes h) refl

@@ -10,3 +10,4 @@ pub mod PrintedBlocks
 pub mod Writes
 pub mod JsonData
 pub mod Tellings
+pub mod Words

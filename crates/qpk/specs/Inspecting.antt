@@ -1,5 +1,5 @@
 -- What an inspection prints of a connection that was recorded (RFC 9204, sections 3.2, 4.3 and 4.5).
-use Rattle.std.specs.Prelude.{◌≡◌, ◌≢◌, ℕ, ◌+◌, ◌^◌, ◌<◌, ◌⊎◌, List, [], ◌∷◌, ◌++◌, length, codes, Option}
+use Rattle.std.specs.Prelude.{◌≡◌, ◌≢◌, ℕ, ◌^◌, ◌<◌, ◌⊎◌, List, [], ◌∷◌, ◌++◌, length, codes, Option}
 use Rattle.std.specs.Prelude.{None, Some, Result, Ok, Err, if◌then◌else◌}
 use Rattle.std.specs.Fmt.{decimal}
 use Rattle.std.specs.List.{flat_map}
@@ -24,7 +24,7 @@ use Rattle.h3_qpack.specs.declared.error.DecoderError.TheVariants.{Memory}
 use Rattle.h3_qpack.specs.Sections.{Tells}
 use Rattle.qpk.specs.ErrorWords.{decoder_words, refused_text}
 use Rattle.qpk_qif.specs.Lines.{lines_of, field_of_line}
-use Rattle.qpk.specs.FieldText.{with_item}
+use Rattle.qpk.specs.LineItems.{items_from}
 
 -- ---- the input: a line an event
 
@@ -55,8 +55,7 @@ event_of_line line = event_of_field (field_of_line line)
 
 -- the event of each line, or the number of the first line that is none, the lines being numbered from n
 abbrev pub events_from : ℕ → List (List ℕ) → Result (List Event) ℕ
-events_from n [] = Ok []
-events_from n (line ∷ lines) = with_item n (event_of_line line) (events_from (n + 1) lines)
+events_from n lines = items_from event_of_line n lines
 
 -- the events of an input
 abbrev pub events_of : List ℕ → Result (List Event) ℕ

@@ -40,16 +40,6 @@ event_of (read_event.Section block) = Section block.items
 abbrev pub events_in : List ReadEvent → List Event
 events_in events = map event_of events
 
--- the event of a name and bytes, if it has one
-abbrev pub NamesEvent : Option ReadEvent → Option Event → Type 0
-NamesEvent None read = read ≡ None
-NamesEvent (Some event) read = read ≡ Some (event_of event)
-
--- the event of a line, if it has one, or memory was refused
-abbrev pub ReadsEvent : Result (Option ReadEvent) Fault → Option Event → Type 0
-ReadsEvent (Ok event) read = NamesEvent event read
-ReadsEvent (Err fault) read = fault ≡ Memory
-
 -- the events of the input's lines
 abbrev pub ReadsEvents : Result (Vec ReadEvent) Fault → Result (List Event) ℕ → Type 0
 ReadsEvents (Ok events) read = read ≡ Ok (events_in events.items)

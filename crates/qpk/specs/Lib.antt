@@ -1,3 +1,4 @@
+pub mod LineItems
 pub mod FieldText
 pub mod Answers
 pub mod Usage

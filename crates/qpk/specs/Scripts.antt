@@ -1,5 +1,5 @@
 -- What a script says: an event a line, its parts parted by TABs.
-use Rattle.std.specs.Prelude.{◌≡◌, ℕ, ◌+◌, ◌^◌, List, [], ◌∷◌, codes, map, Option, None, Some, Result, Ok, Err}
+use Rattle.std.specs.Prelude.{◌≡◌, ℕ, ◌^◌, List, [], ◌∷◌, codes, map, Option, None, Some, Result, Ok, Err}
 use Rattle.std.specs.Prelude.{if◌then◌else◌, nat_eq, nat_lt}
 use Rattle.std.specs.Borrow.{Bor}
 use Rattle.std.specs.Global.{Vec}
@@ -13,7 +13,7 @@ use Rattle.h3_qpack.specs.Stateless.{fields_in}
 use Rattle.h3_qpack.specs.declared.session.Event.{Event as ReadEvent}
 use Rattle.qpk.specs.Answers.{FailsEvents}
 use Rattle.qpk_qif.specs.Lines.{with_byte, lines_of}
-use Rattle.qpk.specs.FieldText.{with_item}
+use Rattle.qpk.specs.LineItems.{items_from}
 use Rattle.qpk.specs.declared.text.Fault.{Fault}
 use Rattle.qpk.specs.declared.text.Fault.TheVariants.{Memory}
 
@@ -84,8 +84,7 @@ event_of_line line = event_of_parts (parts_of line)
 
 -- the event of each line, or the number of the first line that is none, the lines being numbered from n
 abbrev pub script_from : ℕ → List (List ℕ) → Result (List Event) ℕ
-script_from n [] = Ok []
-script_from n (line ∷ lines) = with_item n (event_of_line line) (script_from (n + 1) lines)
+script_from n lines = items_from event_of_line n lines
 
 -- the events of a script
 abbrev pub script_events : List ℕ → Result (List Event) ℕ
@@ -107,16 +106,6 @@ IsPairs (Some fields) read = read ≡ Some (fields_in fields.items)
 abbrev pub ReadsPairs : Result (Option (Vec HeaderField)) Fault → Option (List Field) → Type 0
 ReadsPairs (Ok fields) read = IsPairs fields read
 ReadsPairs (Err fault) read = fault ≡ Memory
-
--- the event that was read of a line, if it has one
-abbrev pub IsEvent : Option ReadEvent → Option Event → Type 0
-IsEvent None read = read ≡ None
-IsEvent (Some event) read = read ≡ Some (event_of event)
-
--- the same, or memory was refused
-abbrev pub ReadsEvent : Result (Option ReadEvent) Fault → Option Event → Type 0
-ReadsEvent (Ok event) read = IsEvent event read
-ReadsEvent (Err fault) read = fault ≡ Memory
 
 -- the events that were read
 abbrev pub events_in : List ReadEvent → List Event

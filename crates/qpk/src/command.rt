@@ -107,18 +107,9 @@ fn read_lists(alloc: Global, words: &[String]) -> Result<Command, Refusal>
     ensures { ReadsWords result (lists_of (map string_bytes words.now)) }
 {
     no_option(alloc, words)?;
-    let Some((capacity, rest)) = words.split_first() else {
+    let [capacity, blocked, acknowledged] = words else {
         return Err(Refusal::Usage);
     };
-    let Some((blocked, rest)) = rest.split_first() else {
-        return Err(Refusal::Usage);
-    };
-    let Some((acknowledged, rest)) = rest.split_first() else {
-        return Err(Refusal::Usage);
-    };
-    if !rest.is_empty() {
-        return Err(Refusal::Usage);
-    }
     let capacity = read_number(alloc, capacity.as_str())?;
     let blocked = read_number(alloc, blocked.as_str())?;
     let acknowledged = read_acknowledged(alloc, acknowledged.as_str())?;
@@ -242,12 +233,9 @@ fn one_number(alloc: Global, words: &[String]) -> Result<u64, Refusal>
     ensures { ReadsWords result (one_number (map string_bytes words.now)) }
 {
     no_option(alloc, words)?;
-    let Some((word, rest)) = words.split_first() else {
+    let [word] = words else {
         return Err(Refusal::Usage);
     };
-    if !rest.is_empty() {
-        return Err(Refusal::Usage);
-    }
     read_number(alloc, word.as_str())
 }
 
@@ -256,15 +244,9 @@ fn two_numbers(alloc: Global, words: &[String]) -> Result<(u64, u64), Refusal>
     ensures { ReadsWords result (two_numbers (map string_bytes words.now)) }
 {
     no_option(alloc, words)?;
-    let Some((first, rest)) = words.split_first() else {
+    let [first, second] = words else {
         return Err(Refusal::Usage);
     };
-    let Some((second, rest)) = rest.split_first() else {
-        return Err(Refusal::Usage);
-    };
-    if !rest.is_empty() {
-        return Err(Refusal::Usage);
-    }
     let first = read_number(alloc, first.as_str())?;
     let second = read_number(alloc, second.as_str())?;
     Ok((first, second))

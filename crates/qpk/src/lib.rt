@@ -6,6 +6,7 @@ pub mod command;
 pub mod error_words;
 mod inspect;
 mod json;
+mod lines;
 mod note;
 mod outcomes;
 mod printing;

@@ -1,10 +1,13 @@
 //! A script of a session: an event a line, its parts separated by TABs.
 
-ghost use Rattle.qpk.specs.Scripts.{script_events, event_of_line, event_of_number, ReadsScript, ReadsEvent, IsEvent};
+ghost use Rattle.qpack_spec.specs.Session.{Event as SessionEvent};
+ghost use Rattle.h3_qpack.specs.Sessions.{event_of};
+ghost use Rattle.qpk.specs.LineItems.{IsItem};
+ghost use Rattle.qpk.specs.Scripts.{script_events, event_of_line, event_of_number, ReadsScript};
 
+use crate::lines::{FromLine, read_lines};
 use crate::text::Fault;
 use h3_qpack::session::Event;
-use qpk_qif::lines::split_line;
 use std::alloc::Global;
 
 pub(crate) mod parts;
@@ -15,48 +18,41 @@ use parts::{read_field_parts, read_number, split_part};
 pub fn read_script(alloc: Global, text: &[u8]) -> Result<Vec<Event>, Fault>
     ensures { ReadsScript result (script_events text.now) }
 {
-    let mut events = Vec::new(alloc);
-    let mut rest = text;
-    let mut number = 0usize;
-    while !rest.is_empty() {
-        number += 1;
-        let (line, after) = split_line(rest);
-        let Some(event) = read_event(alloc, line)? else {
-            return Err(Fault::BadEvent(number));
-        };
-        events.push(event)?;
-        rest = after;
-    }
-    Ok(events)
+    read_lines(alloc, text)?.map_err(Fault::BadEvent)
 }
 
-/// The event of a line, if it has one.
-#[tactic(auto, using(crate::proofs::Parts::part_behind))]
-fn read_event(alloc: Global, line: &[u8]) -> Result<Option<Event>, Fault>
-    ensures { ReadsEvent result (event_of_line line.now) }
-{
-    let (name, Some(rest)) = split_part(line) else {
-        return Ok(None);
-    };
-    let (number, rest) = split_part(rest);
-    let Some(number) = read_number(number) else {
-        return Ok(None);
-    };
-    if name == b"encode".as_slice() {
-        let Some(fields) = read_field_parts(alloc, rest)? else {
+impl FromLine for Event {
+    ghost Value = { SessionEvent };
+
+    ghost value = { event_of };
+
+    ghost of_line = { event_of_line };
+
+    #[tactic(auto, using(crate::proofs::Parts::part_behind))]
+    fn from_line(alloc: Global, line: &[u8]) -> Result<Option<Event>, Fault> {
+        let (name, Some(rest)) = split_part(line) else {
             return Ok(None);
         };
-        return Ok(Some(Event::Encode(number, fields)));
-    }
-    match rest {
-        None => Ok(number_event(name, number)),
-        Some(_) => Ok(None),
+        let (number, rest) = split_part(rest);
+        let Some(number) = read_number(number) else {
+            return Ok(None);
+        };
+        if name == b"encode".as_slice() {
+            let Some(fields) = read_field_parts(alloc, rest)? else {
+                return Ok(None);
+            };
+            return Ok(Some(Event::Encode(number, fields)));
+        }
+        match rest {
+            None => Ok(number_event(name, number)),
+            Some(_) => Ok(None),
+        }
     }
 }
 
 /// The event of this name that has a number alone.
 fn number_event(name: &[u8], number: u64) -> Option<Event>
-    ensures { IsEvent result (event_of_number name.now number) }
+    ensures { IsItem event_of result (event_of_number name.now number) }
 {
     if name == b"decode".as_slice() {
         Some(Event::Decode(number))

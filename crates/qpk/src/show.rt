@@ -11,6 +11,7 @@ use qpk_show::shown::Shown;
 use qpk_show::stream::Cut;
 use std::alloc::{AllocError, Global};
 
+mod entries;
 mod events;
 mod fields;
 mod json;

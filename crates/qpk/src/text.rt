@@ -2,7 +2,9 @@
 
 ghost use Rattle.std.specs.Prelude.{◌≡◌, Some};
 ghost use Rattle.hex.specs.Hex.{decode_of};
-ghost use Rattle.qpk_qif.specs.Lines.{lines_of};
+ghost use Rattle.qpack_spec.specs.Field.{Field};
+ghost use Rattle.qpack_base.specs.HeaderFields.{field_of};
+ghost use Rattle.qpk_qif.specs.Lines.{field_of_line, lines_of};
 ghost use Rattle.qpk.specs.FieldText.{fields_from};
 ghost use Rattle.qpk.specs.Answers.{encode_answer, EncodesText, ReadsFields, without_feed, DecodesText};
 ghost use Rattle.qpk.specs.Answers.{fault_of_decoder};
@@ -10,10 +12,11 @@ ghost use Rattle.qpk.specs.Refusals.{fault_text};
 ghost use Rattle.qpk.specs.declared.text.Fault.TheVariants.{Memory};
 
 use crate::error_words::{DecoderWords, RecordingWords};
+use crate::lines::{FromLine, read_lines};
 use h3_qpack::coding::{Cursor, NoMemory};
 use h3_qpack::{Decoded, DecoderError, HeaderField, decode_stateless, encode_stateless};
 use hex::FromHexError;
-use qpk_qif::lines::{split_field, split_line};
+use qpk_qif::lines::split_field;
 use qpk_qif::session;
 use std::alloc::{AllocError, AllocFailed, Global};
 use std::error::Error;
@@ -124,19 +127,22 @@ pub fn encode_text(alloc: Global, text: &[u8]) -> Result<String, Fault>
 fn read_field_lines(alloc: Global, text: &[u8]) -> Result<Vec<HeaderField>, Fault>
     ensures { ReadsFields result (fields_from 1 (lines_of text.now)) }
 {
-    let mut fields = Vec::new(alloc);
-    let mut rest = text;
-    let mut number = 0usize;
-    while !rest.is_empty() {
-        number += 1;
-        let (line, after) = split_line(rest);
+    read_lines(alloc, text)?.map_err(Fault::NoTab)
+}
+
+impl FromLine for HeaderField {
+    ghost Value = { Field };
+
+    ghost value = { field_of };
+
+    ghost of_line = { field_of_line };
+
+    fn from_line(alloc: Global, line: &[u8]) -> Result<Option<HeaderField>, Fault> {
         let Some((name, value)) = split_field(line) else {
-            return Err(Fault::NoTab(number));
+            return Ok(None);
         };
-        fields.push(HeaderField::from_pair(alloc, name, value)?)?;
-        rest = after;
+        Ok(Some(HeaderField::from_pair(alloc, name, value)?))
     }
-    Ok(fields)
 }
 
 /// The fields of the block that the text stands for in hexadecimal, in either case, with or without

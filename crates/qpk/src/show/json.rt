@@ -1,6 +1,7 @@
 //! What is shown, an object of JSON a line. Each character of a name or a value is one byte, from `\u0000` to `\u00ff`.
 
 use crate::error_words::DecoderWords;
+use crate::show::entries::{Entry, live_entries};
 use crate::show::printing::push_form;
 use h3_qpack::dynamic::ReceivedTable;
 use h3_qpack::parse_error::ParseError;
@@ -42,19 +43,16 @@ pub fn push_table_object(
     number: usize,
     table: &ReceivedTable,
 ) -> Result<(), AllocError> {
-    let inserted = table.total_inserted();
     let mut total = 0usize;
+    let mut is_first = true;
     write!(text, "{{\"event\":{number},\"table\":[")?;
-    for index in 0..inserted {
-        let Ok(field) = table.get_relative(index) else {
-            break;
-        };
-        let size = field.mem_size();
-        total = total.saturating_add(size);
-        if index > 0 {
+    for Entry { index, size, field } in live_entries(table) {
+        if !is_first {
             text.push(',')?;
         }
-        write!(text, "{{\"entry\":{},\"size\":{size},", inserted - index)?;
+        is_first = false;
+        total = total.saturating_add(size);
+        write!(text, "{{\"entry\":{index},\"size\":{size},")?;
         push_field(text, field)?;
         text.push('}')?;
     }

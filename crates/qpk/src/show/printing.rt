@@ -1,6 +1,7 @@
 //! The lines that are printed of what is shown.
 
 use crate::error_words::DecoderWords;
+use crate::show::entries::{Entry, live_entries};
 use crate::show::fields::push_field;
 use h3_qpack::block::{BlockLine, Indexed, LiteralWithNameRef};
 use h3_qpack::dynamic::ReceivedTable;
@@ -274,15 +275,10 @@ fn push_stop(text: &mut String, number: usize, stop: &Stop) -> Result<(), AllocE
 /// Appends the table: its live entries with their absolute indexes, from 1, and their sizes, the newest first, and its
 /// capacity and how much of it is taken.
 pub fn push_table(text: &mut String, table: &ReceivedTable) -> Result<(), AllocError> {
-    let inserted = table.total_inserted();
     let mut total = 0usize;
-    for index in 0..inserted {
-        let Ok(field) = table.get_relative(index) else {
-            break;
-        };
-        let size = field.mem_size();
+    for Entry { index, size, field } in live_entries(table) {
         total = total.saturating_add(size);
-        write!(text, "  entry {}, {size} bytes, ", inserted - index)?;
+        write!(text, "  entry {index}, {size} bytes, ")?;
         push_field(text, field)?;
         text.push('\n')?;
     }

@@ -1,0 +1,45 @@
+//! The live entries of a dynamic table.
+
+use h3_qpack::HeaderField;
+use h3_qpack::dynamic::ReceivedTable;
+use std::ops::Range;
+
+/// A live entry, with its absolute index, from 1, and its size in bytes.
+pub struct Entry<'a> {
+    pub index: usize,
+    pub size: usize,
+    pub field: &'a HeaderField,
+}
+
+/// The live entries of a table, the newest first.
+pub fn live_entries(table: &ReceivedTable) -> LiveEntries<'_> {
+    LiveEntries {
+        table,
+        relative: 0..table.total_inserted(),
+    }
+}
+
+/// Live entries that are still to come.
+#[derive(Drop)]
+pub struct LiveEntries<'a> {
+    table: &'a ReceivedTable,
+    /// Their relative indexes, and behind these such as have no entry.
+    relative: Range<usize>,
+}
+
+impl<'a> Iterator for LiveEntries<'a> {
+    type Item = Entry<'a>;
+
+    ghost use Rattle.std.specs.Iterator.{at_most};
+    ghost use Rattle.std.specs.Prelude.{◌-◌};
+
+    ghost remaining = { λ left. at_most (left.relative.end - left.relative.start) };
+
+    fn next(&mut self) -> Option<Entry<'a>> {
+        let relative = self.relative.next()?;
+        let field = self.table.get_relative(relative).ok()?;
+        let index = self.table.total_inserted().checked_sub(relative)?;
+        let size = field.mem_size();
+        Some(Entry { index, size, field })
+    }
+}
