@@ -1,8 +1,12 @@
 //! The decoder stream, received strictly and cut anywhere (RFC 9204, sections 2.1.4 and 4.4).
 
+use crate::parts::{At, Inserted, Known, Stream, Unacknowledged, Waiting};
 use h3_qpack::HeaderField;
 use h3_qpack::coding::Cursor;
 use h3_qpack::dynamic::{DynamicLookupResult, DynamicTable, DynamicTableEncoder, Error};
+use qpack_connection::HearingError::{
+    IncrementPastInsertions, IntegerOverflow, UnknownStream, ZeroIncrement,
+};
 use qpack_connection::{
     DECODER_STREAM_ERROR, DecoderStream, DecoderStreamError, HearingError, Place,
 };
@@ -71,14 +75,18 @@ fn table_of_three(alloc: Global) -> Result<DynamicTable, Error> {
 /// Sends three sections, each with an entry of its own, on a table that is empty.
 fn send_three(alloc: Global, table: &mut DynamicTable) -> Result<(), Error> {
     set_bounds(table, 4096, 3)?;
-    for (stream_id, name) in SECTIONS {
+    for (Stream(stream_id), name) in SECTIONS {
         send(alloc, table, stream_id, name)?;
     }
     Ok(())
 }
 
 /// The streams and names of the three.
-const SECTIONS: [(u64, &[u8]); 3] = [(0, b"one"), (4, b"two"), (1000, b"three")];
+const SECTIONS: [(Stream, &[u8]); 3] = [
+    (Stream(0), b"one"),
+    (Stream(4), b"two"),
+    (Stream(1000), b"three"),
+];
 
 /// Receives bytes in pieces of this size, until one is refused.
 fn receive(
@@ -144,31 +152,40 @@ fn table_answers(
     same(table.known_received_count(), known)
 }
 
-/// A stream in hexadecimal; the number, the offset and the error of the instruction that is refused, if one is; and how
-/// many insertions are known to be received then.
-type Row = (&'static [u8], Option<(u64, u64, HearingError)>, usize);
+/// A stream in hexadecimal, and how many insertions are known to be received behind it.
+#[derive(Clone, Copy)]
+enum Heard {
+    /// It is received.
+    All(&'static [u8], Known),
+    /// One of its instructions is refused.
+    UpTo(&'static [u8], At, HearingError, Known),
+}
 
-/// What a row has as the answer.
-fn answer_of(refusal: Option<(u64, u64, HearingError)>) -> Result<(), DecoderStreamError> {
-    match refusal {
-        Some((number, offset, error)) => refused(number, offset, error),
-        None => Ok(()),
+impl Heard {
+    /// The stream is answered so.
+    fn holds(self, alloc: Global) -> Result<(), Fail> {
+        match self {
+            Heard::All(stream, Known(known)) => answers(alloc, stream, Ok(()), known),
+            Heard::UpTo(stream, At(number, offset), error, Known(known)) => {
+                answers(alloc, stream, refused(number, offset, error), known)
+            }
+        }
     }
 }
 
 /// Each stream is answered so.
-fn answer_all(alloc: Global, rows: &[Row]) -> Result<(), Fail> {
-    for (stream, refusal, known) in rows {
-        answers(alloc, stream, answer_of(*refusal), *known)?;
+fn answer_all(alloc: Global, rows: &[Heard]) -> Result<(), Fail> {
+    for row in rows {
+        row.holds(alloc)?;
     }
     Ok(())
 }
 
 /// Increments of 0 (RFC 9204, section 4.4.3).
-const ZERO: &[Row] = &[
-    (b"00", Some((1, 0, HearingError::ZeroIncrement)), 0),
-    (b"02004180", Some((2, 1, HearingError::ZeroIncrement)), 2),
-    (b"03800000", Some((3, 2, HearingError::ZeroIncrement)), 3),
+const ZERO: &[Heard] = &[
+    Heard::UpTo(b"00", At(1, 0), ZeroIncrement, Known(0)),
+    Heard::UpTo(b"02004180", At(2, 1), ZeroIncrement, Known(2)),
+    Heard::UpTo(b"03800000", At(3, 2), ZeroIncrement, Known(3)),
 ];
 
 #[test]
@@ -177,37 +194,18 @@ fn an_increment_of_0_is_refused(rt: HostRuntime) -> Result<(), Fail> {
 }
 
 /// Increments up to the insertions, and past them (RFC 9204, section 4.4.3).
-const INCREMENTS: &[Row] = &[
-    (b"03", None, 3),
-    (b"0102", None, 3),
-    (
-        b"04",
-        Some((1, 0, HearingError::IncrementPastInsertions(4))),
-        0,
-    ),
-    (
-        b"0103",
-        Some((2, 1, HearingError::IncrementPastInsertions(3))),
-        1,
-    ),
-    (
-        b"010201",
-        Some((3, 2, HearingError::IncrementPastInsertions(1))),
-        3,
-    ),
-    (
-        b"3f01",
-        Some((1, 0, HearingError::IncrementPastInsertions(64))),
-        0,
-    ),
-    (
+const INCREMENTS: &[Heard] = &[
+    Heard::All(b"03", Known(3)),
+    Heard::All(b"0102", Known(3)),
+    Heard::UpTo(b"04", At(1, 0), IncrementPastInsertions(4), Known(0)),
+    Heard::UpTo(b"0103", At(2, 1), IncrementPastInsertions(3), Known(1)),
+    Heard::UpTo(b"010201", At(3, 2), IncrementPastInsertions(1), Known(3)),
+    Heard::UpTo(b"3f01", At(1, 0), IncrementPastInsertions(64), Known(0)),
+    Heard::UpTo(
         b"3fffffffffffffffff7f",
-        Some((
-            1,
-            0,
-            HearingError::IncrementPastInsertions(9_223_372_036_854_775_870),
-        )),
-        0,
+        At(1, 0),
+        IncrementPastInsertions(9_223_372_036_854_775_870),
+        Known(0),
     ),
 ];
 
@@ -217,21 +215,13 @@ fn an_increment_past_the_insertions_is_refused(rt: HostRuntime) -> Result<(), Fa
 }
 
 /// Acknowledgments of streams that have no unacknowledged section (RFC 9204, section 4.4.1).
-const UNKNOWN: &[Row] = &[
-    (b"88", Some((1, 0, HearingError::UnknownStream(8))), 0),
+const UNKNOWN: &[Heard] = &[
+    Heard::UpTo(b"88", At(1, 0), UnknownStream(8), Known(0)),
     // Acknowledged, and cancelled.
-    (b"8080", Some((2, 1, HearingError::UnknownStream(0))), 1),
-    (b"034080", Some((3, 2, HearingError::UnknownStream(0))), 3),
-    (
-        b"01ffe906ffe906",
-        Some((3, 4, HearingError::UnknownStream(1000))),
-        3,
-    ),
-    (
-        b"7fa907ffe906",
-        Some((2, 3, HearingError::UnknownStream(1000))),
-        0,
-    ),
+    Heard::UpTo(b"8080", At(2, 1), UnknownStream(0), Known(1)),
+    Heard::UpTo(b"034080", At(3, 2), UnknownStream(0), Known(3)),
+    Heard::UpTo(b"01ffe906ffe906", At(3, 4), UnknownStream(1000), Known(3)),
+    Heard::UpTo(b"7fa907ffe906", At(2, 3), UnknownStream(1000), Known(0)),
 ];
 
 #[test]
@@ -240,22 +230,20 @@ fn an_acknowledgment_of_an_unknown_stream_is_refused(rt: HostRuntime) -> Result<
 }
 
 /// Integers that are cut, and such as are too large (RFC 9204, section 4.1.1).
-const INTEGERS: &[Row] = &[
-    (b"ffffffffffffffffff", None, 0),
-    (
-        b"ffffffffffffffffffff",
-        Some((1, 0, HearingError::IntegerOverflow)),
-        0,
-    ),
-    (
+const INTEGERS: &[Heard] = &[
+    Heard::All(b"ffffffffffffffffff", Known(0)),
+    Heard::UpTo(b"ffffffffffffffffffff", At(1, 0), IntegerOverflow, Known(0)),
+    Heard::UpTo(
         b"01807fffffffffffffffffffff",
-        Some((3, 2, HearingError::IntegerOverflow)),
-        1,
+        At(3, 2),
+        IntegerOverflow,
+        Known(1),
     ),
-    (
+    Heard::UpTo(
         b"3fffffffffffffffffff00",
-        Some((1, 0, HearingError::IntegerOverflow)),
-        0,
+        At(1, 0),
+        IntegerOverflow,
+        Known(0),
     ),
 ];
 
@@ -265,19 +253,15 @@ fn integers_that_are_too_large_are_refused(rt: HostRuntime) -> Result<(), Fail> 
 }
 
 /// Acknowledgments, and what is known to be received behind them (RFC 9204, section 2.1.4).
-const KNOWN: &[Row] = &[
-    (b"80", None, 1),
-    (b"8002", None, 3),
-    (
-        b"8003",
-        Some((2, 1, HearingError::IncrementPastInsertions(3))),
-        1,
-    ),
+const KNOWN: &[Heard] = &[
+    Heard::All(b"80", Known(1)),
+    Heard::All(b"8002", Known(3)),
+    Heard::UpTo(b"8003", At(2, 1), IncrementPastInsertions(3), Known(1)),
     // It never falls.
-    (b"8480", None, 2),
-    (b"0380", None, 3),
+    Heard::All(b"8480", Known(2)),
+    Heard::All(b"0380", Known(3)),
     // A cancellation tells nothing of what was received.
-    (b"44", None, 0),
+    Heard::All(b"44", Known(0)),
 ];
 
 #[test]
@@ -286,7 +270,12 @@ fn acknowledgments_raise_the_known_received_count(rt: HostRuntime) -> Result<(),
 }
 
 /// Names, and how many insertions were made once one is inserted.
-const NAMES: [(&[u8], usize); 4] = [(b"one", 1), (b"two", 2), (b"six", 3), (b"ten", 4)];
+const NAMES: [(&[u8], Inserted); 4] = [
+    (b"one", Inserted(1)),
+    (b"two", Inserted(2)),
+    (b"six", Inserted(3)),
+    (b"ten", Inserted(4)),
+];
 
 /// How many blocks of a table are unacknowledged, and how many are blocked.
 fn open_blocks(table: &DynamicTable) -> (usize, usize) {
@@ -312,7 +301,7 @@ fn goes_on(
 
 /// Makes an insertion behind the other, each acknowledged, and then references one that is known to be received.
 fn go_on(alloc: Global, stream: &mut DecoderStream, table: &mut DynamicTable) -> Result<(), Fail> {
-    for (name, inserted) in NAMES {
+    for (name, Inserted(inserted)) in NAMES {
         goes_on(alloc, stream, table, name, inserted)?;
     }
     same(send(alloc, table, 8, b"ten"), Ok(4))?;
@@ -329,15 +318,15 @@ fn insertions_go_on_without_increments(rt: HostRuntime) -> Result<(), Fail> {
 }
 
 /// Pieces, and behind each how many bytes wait, and how many blocks are unacknowledged.
-const PIECES: [(&[u8], usize, usize); 3] = [
-    (b"\x80\xff\xe9", 2, 2),
-    (b"", 2, 2),
-    (b"\x06\x84", 0, 0),
+const PIECES: [(&[u8], Waiting, Unacknowledged); 3] = [
+    (b"\x80\xff\xe9", Waiting(2), Unacknowledged(2)),
+    (b"", Waiting(2), Unacknowledged(2)),
+    (b"\x06\x84", Waiting(0), Unacknowledged(0)),
 ];
 
 /// Hands in instructions of which one is cut, and then its rest.
 fn waits(stream: &mut DecoderStream, table: &mut DynamicTable) -> Result<(), Fail> {
-    for (piece, waiting, unacknowledged) in PIECES {
+    for (piece, Waiting(waiting), Unacknowledged(unacknowledged)) in PIECES {
         same(receive(stream, table, piece, 9), Ok(()))?;
         let found = (stream.waiting(), table.unacknowledged_blocks());
         same(found, (waiting, unacknowledged))?;

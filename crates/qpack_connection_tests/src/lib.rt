@@ -9,6 +9,8 @@ mod encoder;
 #[cfg(test)]
 mod hearing;
 #[cfg(test)]
+mod parts;
+#[cfg(test)]
 mod receiving;
 #[cfg(test)]
 mod recordings;

@@ -1,5 +1,6 @@
 //! The encoder stream, received strictly and cut anywhere (RFC 9204, sections 3.2.2 and 4.3).
 
+use crate::parts::{At, Inserted, Maximum, Waiting};
 use h3_qpack::coding::Cursor;
 use h3_qpack::dynamic::{DynamicTable, Error};
 use h3_qpack::{DecoderError, prefix_int};
@@ -146,15 +147,19 @@ fn streams_are_received_however_they_are_cut(rt: HostRuntime) -> Result<(), Fail
 
 /// Pieces of which one is cut: the capacity and all but the last byte of an insertion, nothing, and that byte. Behind
 /// each, how many bytes wait, and how many insertions were made.
-const PIECES: [(&[u8], usize, usize); 3] = [
-    (b"\x3f\xbd\x01\xc0\x0fwww.example.co", 16, 0),
-    (b"", 16, 0),
-    (b"m", 0, 1),
+const PIECES: [(&[u8], Waiting, Inserted); 3] = [
+    (
+        b"\x3f\xbd\x01\xc0\x0fwww.example.co",
+        Waiting(16),
+        Inserted(0),
+    ),
+    (b"", Waiting(16), Inserted(0)),
+    (b"m", Waiting(0), Inserted(1)),
 ];
 
 /// Hands in an instruction that is cut, and then its rest.
 fn waits(stream: &mut EncoderStream, table: &mut DynamicTable) -> Result<(), Fail> {
-    for (piece, waiting, inserted) in PIECES {
+    for (piece, Waiting(waiting), Inserted(inserted)) in PIECES {
         same(receive(stream, table, piece), Ok(()))?;
         let found = (
             stream.waiting(),
@@ -176,11 +181,11 @@ fn an_instruction_waits_until_it_is_whole(rt: HostRuntime) -> Result<(), Fail> {
 const TOO_LARGE: DecoderError = DecoderError::DynamicTable(Error::MaxTableSizeReached);
 
 /// A maximum, a stream that is refused under it, in hexadecimal, where, and why.
-type Refusal = (usize, &'static [u8], (u64, u64), DecoderError);
+type Refusal = (Maximum, &'static [u8], At, DecoderError);
 
 /// Each stream is refused so.
 fn refused_all(alloc: Global, refusals: &[Refusal]) -> Result<(), Fail> {
-    for (maximum, stream, (number, offset), error) in refusals {
+    for (Maximum(maximum), stream, At(number, offset), error) in refusals {
         refused(alloc, *maximum, stream, place(*number, *offset), *error)?;
     }
     Ok(())
@@ -188,10 +193,10 @@ fn refused_all(alloc: Global, refusals: &[Refusal]) -> Result<(), Fail> {
 
 /// Insertions at capacity 0.
 const AT_CAPACITY_0: &[Refusal] = &[
-    (4096, b"c0", (1, 0), TOO_LARGE),
-    (4096, b"80", (1, 0), TOO_LARGE),
-    (4096, b"40", (1, 0), TOO_LARGE),
-    (0, b"c0", (1, 0), TOO_LARGE),
+    (Maximum(4096), b"c0", At(1, 0), TOO_LARGE),
+    (Maximum(4096), b"80", At(1, 0), TOO_LARGE),
+    (Maximum(4096), b"40", At(1, 0), TOO_LARGE),
+    (Maximum(0), b"c0", At(1, 0), TOO_LARGE),
 ];
 
 #[test]
@@ -202,13 +207,13 @@ fn insertions_at_capacity_0_are_refused_by_their_first_byte(rt: HostRuntime) -> 
 /// Insertions that cannot fit in 64 bytes.
 const PAST_CAPACITY: &[Refusal] = &[
     // A name of 33 bytes, a value of 33, and a coded one of 129, by their lengths.
-    (4096, b"3f215f02", (2, 2), TOO_LARGE),
-    (4096, b"3f21c021", (2, 2), TOO_LARGE),
-    (4096, b"3f21c0ff02", (2, 2), TOO_LARGE),
+    (Maximum(4096), b"3f215f02", At(2, 2), TOO_LARGE),
+    (Maximum(4096), b"3f21c021", At(2, 2), TOO_LARGE),
+    (Maximum(4096), b"3f21c0ff02", At(2, 2), TOO_LARGE),
     // A name and a value, neither too long alone.
-    (4096, b"3f21436162631e", (2, 2), TOO_LARGE),
+    (Maximum(4096), b"3f21436162631e", At(2, 2), TOO_LARGE),
     // Behind an insertion, which stays.
-    (4096, b"3f21c000c021", (3, 4), TOO_LARGE),
+    (Maximum(4096), b"3f21c000c021", At(3, 4), TOO_LARGE),
 ];
 
 /// Insertions that may fit: of a byte less each.
@@ -236,20 +241,18 @@ const CAPACITY_TOO_LARGE: DecoderError = DecoderError::DynamicTable(
 /// The error of an integer past 2^62.
 const OVERFLOW: DecoderError = DecoderError::InvalidInteger(prefix_int::Error::Overflow);
 
+/// The error of a static index past the table.
+const NO_STATIC: DecoderError = DecoderError::InvalidStaticIndex(99);
+
 /// Streams whose instructions mean nothing.
 const MEANINGLESS: &[Refusal] = &[
-    (100, b"3f46", (1, 0), CAPACITY_TOO_LARGE),
-    (4096, b"00", (1, 0), NO_NEWEST),
-    (4096, b"3f218000", (2, 2), NO_NEWEST),
-    (
-        4096,
-        b"3f21ff2400",
-        (2, 2),
-        DecoderError::InvalidStaticIndex(99),
-    ),
-    (4096, b"3fffffffffffffffffff", (1, 0), OVERFLOW),
+    (Maximum(100), b"3f46", At(1, 0), CAPACITY_TOO_LARGE),
+    (Maximum(4096), b"00", At(1, 0), NO_NEWEST),
+    (Maximum(4096), b"3f218000", At(2, 2), NO_NEWEST),
+    (Maximum(4096), b"3f21ff2400", At(2, 2), NO_STATIC),
+    (Maximum(4096), b"3fffffffffffffffffff", At(1, 0), OVERFLOW),
     // A capacity, an insertion, and a duplicate of an entry that was not inserted.
-    (4096, b"3f21c0000100", (3, 4), NONE_BEFORE),
+    (Maximum(4096), b"3f21c0000100", At(3, 4), NONE_BEFORE),
 ];
 
 #[test]

@@ -1,14 +1,13 @@
 //! Sections read strictly, up to a limit (RFC 9204, sections 2.2.3, 4.5 and 7.1.3).
 
+use crate::parts::Line::{self, Marked, Plain};
+use crate::parts::{Limit, Lines, Required};
 use h3_qpack::dynamic::{DynamicTable, Error};
 use qpack_connection::{FieldLine, FieldSection, Reading, SectionError, read_section};
 use qpack_testing::{bytes, field, prints, same};
 use std::alloc::Global;
 use std::fmt::{self, Display, Formatter, Write};
 use std::test::Fail;
-
-/// A name, a value, and whether the field is never to be indexed.
-type Row = (&'static [u8], &'static [u8], bool);
 
 /// No limit that a section of these tests can pass.
 const NO_LIMIT: u64 = 1_000_000;
@@ -51,7 +50,7 @@ fn read(
 }
 
 /// The field section has just these fields, by index and in turn.
-fn has(fields: &FieldSection, rows: &[Row]) -> Result<(), Fail> {
+fn has(fields: &FieldSection, rows: &[Line]) -> Result<(), Fail> {
     same(
         (fields.len(), fields.is_empty()),
         (rows.len(), rows.is_empty()),
@@ -67,13 +66,8 @@ fn has(fields: &FieldSection, rows: &[Row]) -> Result<(), Fail> {
 }
 
 /// The field of a row.
-fn row_at(rows: &[Row], index: usize) -> Option<FieldLine<'_>> {
-    let (name, value, never_indexed) = *rows.get(index)?;
-    Some(FieldLine {
-        name,
-        value,
-        never_indexed,
-    })
+fn row_at(rows: &[Line], index: usize) -> Option<FieldLine<'static>> {
+    Some(rows.get(index)?.field())
 }
 
 /// A section in hexadecimal is read as these fields, and requires so many insertions.
@@ -81,7 +75,7 @@ fn reads(
     alloc: Global,
     table: &DynamicTable,
     section: &[u8],
-    rows: &[Row],
+    rows: &[Line],
     required: usize,
 ) -> Result<(), Fail> {
     let section = bytes(alloc, section)?;
@@ -93,7 +87,7 @@ fn reads(
 fn reads_into(
     table: &DynamicTable,
     section: &[u8],
-    rows: &[Row],
+    rows: &[Line],
     required: usize,
     fields: &mut FieldSection,
 ) -> Result<(), Fail> {
@@ -103,11 +97,11 @@ fn reads_into(
 }
 
 /// A section in hexadecimal, the fields that it is read as, and how many insertions it requires.
-type Read = (&'static [u8], &'static [Row], usize);
+type Read = (&'static [u8], Lines, Required);
 
 /// Each section is read so.
 fn read_all(alloc: Global, table: &DynamicTable, sections: &[Read]) -> Result<(), Fail> {
-    for (section, rows, required) in sections {
+    for (section, rows, Required(required)) in sections {
         reads(alloc, table, section, rows, *required)?;
     }
     Ok(())
@@ -172,24 +166,32 @@ fn give_none(alloc: Global, table: &DynamicTable, sections: &[Refused]) -> Resul
     Ok(())
 }
 
+/// A field of the static table, `:method: GET`.
+const GET: Line = Plain(b":method", b"GET");
+
+/// A field of the static table, `:path: /`.
+const ROOT: Line = Plain(b":path", b"/");
+
+/// The field of an entry, `foo: bar`.
+const FOO: Line = Plain(b"foo", b"bar");
+
+/// The field of an entry, `baz: bar`.
+const BAZ: Line = Plain(b"baz", b"bar");
+
 /// Fields of the static table, with values of their own or without.
 const STATIC: &[Read] = &[
-    (b"0000", &[], 0),
-    (
-        b"0000d1c1",
-        &[(b":method", b"GET", false), (b":path", b"/", false)],
-        0,
-    ),
+    (b"0000", &[], Required(0)),
+    (b"0000d1c1", &[GET, ROOT], Required(0)),
     // A delta base means nothing where nothing is required.
-    (b"0005d1", &[(b":method", b"GET", false)], 0),
-    (b"000051022f61", &[(b":path", b"/a", false)], 0),
-    (b"0000518260bf", &[(b":path", b"/e", false)], 0),
+    (b"0005d1", &[GET], Required(0)),
+    (b"000051022f61", &[Plain(b":path", b"/a")], Required(0)),
+    (b"0000518260bf", &[Plain(b":path", b"/e")], Required(0)),
 ];
 
 /// Literals with names of their own.
 const LITERALS: &[Read] = &[
-    (b"00002261620163", &[(b"ab", b"c", false)], 0),
-    (b"00002000", &[(b"", b"", false)], 0),
+    (b"00002261620163", &[Plain(b"ab", b"c")], Required(0)),
+    (b"00002000", &[Plain(b"", b"")], Required(0)),
 ];
 
 #[test]
@@ -212,32 +214,24 @@ fn read_both(
 /// References to the entries `foo: bar` and `baz: bar`, in this order.
 const REFERENCES: &[Read] = &[
     // Required insert count 2 and base 2.
-    (
-        b"03008081",
-        &[(b"baz", b"bar", false), (b"foo", b"bar", false)],
-        2,
-    ),
+    (b"03008081", &[BAZ, FOO], Required(2)),
     // Required insert count 2 and base 0.
-    (
-        b"03811011",
-        &[(b"foo", b"bar", false), (b"baz", b"bar", false)],
-        2,
-    ),
+    (b"03811011", &[FOO, BAZ], Required(2)),
     // More is required than the lines reference.
-    (b"030081", &[(b"foo", b"bar", false)], 2),
+    (b"030081", &[FOO], Required(2)),
 ];
 
 /// References to their names, at the same counts and bases.
 const NAME_REFERENCES: &[Read] = &[
     (
         b"03004001634100",
-        &[(b"baz", b"c", false), (b"foo", b"", false)],
-        2,
+        &[Plain(b"baz", b"c"), Plain(b"foo", b"")],
+        Required(2),
     ),
     (
         b"03810001630100",
-        &[(b"foo", b"c", false), (b"baz", b"", false)],
-        2,
+        &[Plain(b"foo", b"c"), Plain(b"baz", b"")],
+        Required(2),
     ),
 ];
 
@@ -249,17 +243,21 @@ fn entries_are_read(rt: HostRuntime) -> Result<(), Fail> {
 
 /// Literals that are never to be indexed.
 const NEVER_INDEXED: &[Read] = &[
-    (b"000071022f61", &[(b":path", b"/a", true)], 0),
-    (b"00003261620163", &[(b"ab", b"c", true)], 0),
-    (b"0200600163", &[(b"foo", b"c", true)], 1),
-    (b"0280080163", &[(b"foo", b"c", true)], 1),
+    (b"000071022f61", &[Marked(b":path", b"/a")], Required(0)),
+    (b"00003261620163", &[Marked(b"ab", b"c")], Required(0)),
+    (b"0200600163", &[Marked(b"foo", b"c")], Required(1)),
+    (b"0280080163", &[Marked(b"foo", b"c")], Required(1)),
 ];
 
 /// The bit H of a name, and the high bits of indexes, are no N.
 const INDEXED: &[Read] = &[
-    (b"00002a60bf0163", &[(b"/e", b"c", false)], 0),
-    (b"0000ff22", &[(b"x-frame-options", b"deny", false)], 0),
-    (b"00005f000163", &[(b":method", b"c", false)], 0),
+    (b"00002a60bf0163", &[Plain(b"/e", b"c")], Required(0)),
+    (
+        b"0000ff22",
+        &[Plain(b"x-frame-options", b"deny")],
+        Required(0),
+    ),
+    (b"00005f000163", &[Plain(b":method", b"c")], Required(0)),
 ];
 
 #[test]
@@ -305,7 +303,7 @@ const PAST_REQUIRED: &[Refused] = &[
 ];
 
 /// Required insert count 1, base 2: the oldest entry is not past the count.
-const NOT_PAST: &[Row] = &[(b"foo", b"bar", false)];
+const NOT_PAST: &[Line] = &[FOO];
 
 /// Reads a reference within the required insert count, and refuses those past it.
 fn keeps_to_the_count(alloc: Global, table: &DynamicTable) -> Result<(), Fail> {
@@ -395,22 +393,30 @@ fn lines_are_refused_where_they_stand(rt: HostRuntime) -> Result<(), Fail> {
 const ONE_TOO_LARGE: &str = "Line { number: 1, offset: 2, error: TooLarge(42) }";
 
 /// Limits, sections that pass them, and what is printed of the answers. A field `:method: GET` is of 42 bytes.
-const PAST_LIMITS: [(u64, &[u8], &str); 6] = [
+const PAST_LIMITS: [(Limit, &[u8], &str); 6] = [
     (
-        83,
+        Limit(83),
         b"0000d1d1",
         "Line { number: 2, offset: 3, error: TooLarge(84) }",
     ),
-    (41, b"0000d1d1", ONE_TOO_LARGE),
-    (0, b"0000d1", ONE_TOO_LARGE),
+    (Limit(41), b"0000d1d1", ONE_TOO_LARGE),
+    (Limit(0), b"0000d1", ONE_TOO_LARGE),
     // At a limit of 0 no section is longer than twenty bytes.
     (
-        0,
+        Limit(0),
         b"0000d1d1d1d1d1d1d1d1d1d1d1d1d1d1d1d1d1d1",
         ONE_TOO_LARGE,
     ),
-    (0, b"0000d1d1d1d1d1d1d1d1d1d1d1d1d1d1d1d1d1d1d1", "TooLong"),
-    (0, b"ffd1d1d1d1d1d1d1d1d1d1d1d1d1d1d1d1d1d1d1d1", "TooLong"),
+    (
+        Limit(0),
+        b"0000d1d1d1d1d1d1d1d1d1d1d1d1d1d1d1d1d1d1d1",
+        "TooLong",
+    ),
+    (
+        Limit(0),
+        b"ffd1d1d1d1d1d1d1d1d1d1d1d1d1d1d1d1d1d1d1d1",
+        "TooLong",
+    ),
 ];
 
 /// Reads a section of two such fields at its limit, and refuses those past theirs.
@@ -426,7 +432,7 @@ fn keeps_to_limits(
 
 /// Refuses sections past their limits.
 fn keeps_within_limits(alloc: Global, table: &DynamicTable) -> Result<(), Fail> {
-    for (limit, section, answer) in PAST_LIMITS {
+    for (Limit(limit), section, answer) in PAST_LIMITS {
         gives_none(alloc, table, limit, section, answer)?;
     }
     Ok(())
@@ -446,7 +452,7 @@ const WAITING: &[Refused] = &[
 ];
 
 /// The field of the second insertion.
-const SECOND: &[Row] = &[(b"baz", b"bar", false)];
+const SECOND: &[Line] = &[BAZ];
 
 /// Sections wait for the second insertion, and one is read behind it.
 fn waits(alloc: Global, table: &mut DynamicTable) -> Result<(), Fail> {
@@ -462,10 +468,10 @@ fn sections_wait_for_insertions(rt: HostRuntime) -> Result<(), Fail> {
 }
 
 /// Two fields of the static table.
-const TWO_STATIC: &[Row] = &[(b":method", b"GET", false), (b":path", b"/", false)];
+const TWO_STATIC: &[Line] = &[GET, ROOT];
 
 /// The field of the one entry.
-const ENTRY: &[Row] = &[(b"foo", b"bar", false)];
+const ENTRY: &[Line] = &[FOO];
 
 /// Reads sections into the same fields, one of which waits, and clears them.
 fn is_used_again(table: &DynamicTable, fields: &mut FieldSection) -> Result<(), Fail> {
