@@ -87,12 +87,21 @@ const SECOND: &[Step] = &[
     Step::Writes(b"0000"),
 ];
 
+/// An end of this maximum and this capacity that is wanted tells its capacity once.
+fn is_told_once(
+    alloc: Global,
+    max_capacity: usize,
+    capacity: usize,
+    told: &[u8],
+) -> Result<(), Fail> {
+    let mut sender = Sender::new(alloc, wanting(max_capacity, capacity))?;
+    tells_once(alloc, &mut sender, told, capacity.min(max_capacity))
+}
+
 #[test]
 fn the_first_section_tells_the_capacity(rt: HostRuntime) -> Result<(), Fail> {
-    let alloc = rt.alloc();
     for (Maximum(max_capacity), Capacity(capacity), told) in TOLD {
-        let mut sender = Sender::new(alloc, wanting(max_capacity, capacity))?;
-        tells_once(alloc, &mut sender, told, capacity.min(max_capacity))?;
+        is_told_once(rt.alloc(), max_capacity, capacity, told)?;
     }
     Ok(())
 }
@@ -120,11 +129,21 @@ const SET: [(Maximum, Capacity, &[u8]); 4] = [
     (Maximum(0), Capacity(0), b""),
 ];
 
+/// An end of this maximum is set a capacity before its first section.
+fn is_set_before(
+    alloc: Global,
+    max_capacity: usize,
+    capacity: usize,
+    told: &[u8],
+) -> Result<(), Fail> {
+    let mut sender = Sender::new(alloc, EncoderSettings::new(max_capacity, 0))?;
+    sets_before(alloc, &mut sender, capacity, told)
+}
+
 #[test]
 fn a_capacity_set_before_is_told_in_its_place(rt: HostRuntime) -> Result<(), Fail> {
     for (Maximum(max_capacity), Capacity(capacity), told) in SET {
-        let mut sender = Sender::new(rt.alloc(), EncoderSettings::new(max_capacity, 0))?;
-        sets_before(rt.alloc(), &mut sender, capacity, told)?;
+        is_set_before(rt.alloc(), max_capacity, capacity, told)?;
     }
     Ok(())
 }

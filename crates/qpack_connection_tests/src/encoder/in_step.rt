@@ -169,12 +169,17 @@ const BOUNDS: [(Capacity, Blocked, IsDynamic); 5] = [
     (Capacity(0), Blocked(100), IsDynamic(false)),
 ];
 
+/// Ends of this capacity, of which nothing has happened, encode the sections; answers how many require insertions.
+fn run_anew(alloc: Global, capacity: usize, max_blocked: usize) -> Result<usize, Fail> {
+    let mut ends = InStep::new(alloc, capacity, max_blocked)?;
+    ends.run(alloc, capacity)
+}
+
 #[test]
 fn sections_are_those_of_the_encoder(rt: HostRuntime) -> Result<(), Fail> {
-    let alloc = rt.alloc();
     for (Capacity(capacity), Blocked(max_blocked), IsDynamic(is_dynamic)) in BOUNDS {
-        let mut ends = InStep::new(alloc, capacity, max_blocked)?;
-        same(ends.run(alloc, capacity)? > 3, is_dynamic)?;
+        let dynamic = run_anew(rt.alloc(), capacity, max_blocked)?;
+        same(dynamic > 3, is_dynamic)?;
     }
     Ok(())
 }

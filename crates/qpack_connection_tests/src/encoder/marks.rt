@@ -148,16 +148,25 @@ fn passes_marks(alloc: Global, ends: &mut Ends) -> Result<(), Fail> {
     ends.pass(0, &fields, 1)
 }
 
-// RFC 9204, section 7.1.3.
-#[test]
-fn marks_are_handed_on(rt: HostRuntime) -> Result<(), Fail> {
-    let alloc = rt.alloc();
-    let mut first = Ends::new(alloc)?;
-    let mut second = Ends::new(alloc)?;
-    passes_marks(alloc, &mut first)?;
-    hands_on(alloc, &first.fields, &mut second)?;
+/// Ends pass fields, of which two are marked, and the next ends hand them on, in the same bytes.
+fn hand_on_marks(alloc: Global, first: &mut Ends, second: &mut Ends) -> Result<(), Fail> {
+    passes_marks(alloc, first)?;
+    hands_on(alloc, &first.fields, second)?;
     same(
         second.sender.section.as_slice(),
         first.sender.section.as_slice(),
     )
+}
+
+/// The same of ends that begin here.
+fn hand_on_to_others(alloc: Global, first: &mut Ends) -> Result<(), Fail> {
+    let mut second = Ends::new(alloc)?;
+    hand_on_marks(alloc, first, &mut second)
+}
+
+// RFC 9204, section 7.1.3.
+#[test]
+fn marks_are_handed_on(rt: HostRuntime) -> Result<(), Fail> {
+    let mut first = Ends::new(rt.alloc())?;
+    hand_on_to_others(rt.alloc(), &mut first)
 }

@@ -125,11 +125,17 @@ fn encodes(
 
 /// The last section is decoded to these fields with no table at all.
 fn decodes_alone(alloc: Global, sender: &Sender, lines: Lines) -> Result<(), Fail> {
+    let expected = fields_of(alloc, lines)?;
     let mut fields = FieldSection::new(alloc);
+    decodes_into(alloc, sender, &mut fields)?;
+    has(&fields, &expected)
+}
+
+/// The last section is decoded with no table at all.
+fn decodes_into(alloc: Global, sender: &Sender, fields: &mut FieldSection) -> Result<(), Fail> {
     let mut receiver = begin_decoder(alloc, 0, 0)?;
-    let answer = decode(&mut receiver, 8, &sender.section, &mut fields);
-    same(answer, Ok(Reading::Fields { required: 0 }))?;
-    has(&fields, &fields_of(alloc, lines)?)
+    let answer = decode(&mut receiver, 8, &sender.section, fields);
+    same(answer, Ok(Reading::Fields { required: 0 }))
 }
 
 /// There is no stream of this number, and the connection goes on.
