@@ -14,6 +14,7 @@ pub mod Walks
 pub mod Lookups
 pub mod Changes
 pub mod Halvings
+pub mod Lengths
 pub mod Pieces
 pub mod RowOrder
 pub mod RowSearches

@@ -1,11 +1,10 @@
 -- A row that takes a slot in, or lets one go.
 use Rattle.std.proofs.Common.{◌≡◌, ℕ, zero, suc, ◌+◌, ◌-◌, ◌<◌, ◌≤◌, ◌∷◌, List, length, get_or, set, refl, sym}
 use Rattle.std.proofs.Common.{ap, subst, ◌∙◌, inl, inr, ◌⊎◌, arith}
-use Rattle.std.specs.Prelude.{Contains, Result, Ok, Err, IsOk, OnOk, take, drop, ◌++◌}
+use Rattle.std.specs.Prelude.{Contains}
 use Rattle.std.specs.declared.cmp.Ordering.TheVariants.{Less, Equal}
-use Rattle.std.specs.List.{AllPairs, insert, remove, refill}
+use Rattle.std.specs.List.{AllPairs, insert, remove}
 use Rattle.std.specs.List.Sorted.{IsPermutation}
-use Rattle.std.proofs.Math.Seq.{take-append_seam}
 use Rattle.std.proofs.lemmas.Bool.{cases_lt, cases_eq}
 use Rattle.std.proofs.lemmas.List.{get_or_default, length-set, get_or-set_other, get_or-set_same}
 use Rattle.std.proofs.lemmas.List.Sorted.{IsPermutation-insert, IsPermutation-remove, IsPermutation-sym}
@@ -180,19 +179,6 @@ module _ (part : Part) (dropped : ℕ) (live : List Field) (row : List Slot) (is
           (contains_more row slot s c));
       only = from_insert;
     }
-
--- an insertion that has room is made
-pub inserted_there : {X E : Type 0} (r : Result X E) (P : Type 0) → OnOk r P → IsOk r → P
-inserted_there (Ok x) P made ok = made
-inserted_there (Err x) P made ok = absurd cc
-
--- a slot that is written in place
-pub written_there : (row slots : List Slot) (p : ℕ) (slot : Slot) → slots ≡ row
-    → refill (length row) row (set slots p slot) ≡ set row p slot
-written_there row slots p slot same =
-    ap (λ (xs : List Slot). refill (length row) row (set xs p slot)) same
-    ∙ ap (λ (n : ℕ). take n (set row p slot ++ drop (length (set row p slot)) row)) (sym (length-set row p slot))
-    ∙ take-append_seam (set row p slot) (drop (length (set row p slot)) row)
 
 -- ---- an index goes out
 

@@ -6,6 +6,7 @@ pub mod Commits
 pub mod OpenBlocks
 pub mod BlockedBlocks
 pub mod Tables
+pub mod Lengths
 pub mod Pieces
 pub mod SlotLists
 pub mod Slots

@@ -1,5 +1,5 @@
 -- The slots of a row, as the code holds them.
-use Rattle.std.specs.Prelude.{◌≡◌, ℕ, ◌≤◌, ◌^◌, [], length, min, is_some, vec_capacity, if◌then◌else◌}
+use Rattle.std.specs.Prelude.{◌≡◌, ◌≤◌, ◌^◌, [], length, min, is_some, vec_capacity, if◌then◌else◌}
 use Rattle.qpack_table.specs.SlotLists.{SlotList}
 use Rattle.qpack_table.specs.Pieces.{slots_in, ArePieces}
 use Rattle.qpack_table.specs.declared.dynamic.index.slots.Kept.{Kept}

@@ -11,10 +11,12 @@ ghost use Rattle.qpack_table.specs.Hashes.{name_hash};
 ghost use Rattle.qpack_table.specs.Indexes.{AreHashesOf, IsIndexOf, HasRoomForEntry, IsNewestIn};
 
 mod hash;
+mod lengths;
 mod pieces;
 mod row;
 mod rows;
 mod slots;
+mod window;
 
 use crate::dynamic::entry::Entry;
 pub(super) use crate::dynamic::index::hash::Hashes;

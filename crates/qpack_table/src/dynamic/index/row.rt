@@ -13,7 +13,9 @@ ghost use Rattle.qpack_table.specs.Tables.{live_fields};
 ghost use Rattle.qpack_table.specs.declared.dynamic.index.row.Slot.{Slot};
 
 use crate::dynamic::entry::Entry;
+use crate::dynamic::index::lengths::Span;
 use crate::dynamic::index::slots::Slots;
+use crate::dynamic::index::window::Window;
 use crate::dynamic::steps::Steps;
 use qpack_base::bytes::same;
 use qpack_base::field::FieldLine;
@@ -119,6 +121,15 @@ fn search_two(
     Err(slots.len())
 }
 
+/// How many binary digits a number has; 0 has none.
+fn digits_of(number: usize) -> u32
+    ensures above { number < 2 ^ result }
+    ensures least { (digits : ℕ) → number < 2 ^ digits → result ≤ digits }
+    ensures few { result ≤ 64 }
+{
+    if number == 0 { 0 } else { number.ilog2() + 1 }
+}
+
 /// Slots of live entries, rising by the hash and the part; no two have the same part.
 #[derive(Debug, Drop)]
 pub(super) struct Row {
@@ -163,7 +174,8 @@ impl Row {
         }
     }
 
-    /// The same in a row of any length, by halves.
+    /// The same in a row of any length, by halves: each comparison leaves fewer slots than one binary digit less can
+    /// count. Of the positions that do so it takes one whose piece need not be sought, if there is one.
     fn search_by_halves(
         &self,
         entries: &VecDeque<Entry>,
@@ -178,12 +190,27 @@ impl Row {
     {
         let mut low = 0;
         let mut high = self.slots.len();
+        let mut digits = digits_of(high);
+        let mut span = Span::WHOLE;
+        let mut window = Window::new();
         while low < high {
-            let middle = low + (high - low) / 2;
-            match compare(sought, self.slots.get(middle), entries, dropped, steps) {
-                Ordering::Less => low = middle + 1,
+            digits -= 1;
+            let side = (high - low).min(1 << digits);
+            window = self
+                .slots
+                .window_near(high - side, low + side, window, span);
+            let middle = window.middle(high - side, low + side);
+            let slot = window.slots[middle - window.start];
+            match compare(sought, slot, entries, dropped, steps) {
+                Ordering::Less => {
+                    low = middle + 1;
+                    span.first = window.piece;
+                }
                 Ordering::Equal => return Ok(middle),
-                Ordering::Greater => high = middle,
+                Ordering::Greater => {
+                    high = middle;
+                    span.last = window.piece;
+                }
             }
         }
         Err(low)

@@ -3,10 +3,12 @@
 ghost use Rattle.std.specs.Prelude.{◌≡◌, ◌+◌, ◌<◌, ◌≤◌, [], length, IfSome, OnOk, slice_index_or};
 ghost use Rattle.std.specs.Prelude.{slice_set, vec_capacity};
 ghost use Rattle.std.specs.List.{insert, remove};
-ghost use Rattle.qpack_table.specs.SlotLists.{HasRoomIn};
+ghost use Rattle.qpack_table.specs.SlotLists.{HasRoomIn, IsWindow, HasPosition, Meets};
 
+use crate::dynamic::index::lengths::Span;
 use crate::dynamic::index::pieces::{MOST_IN_PIECE, Pieces};
 use crate::dynamic::index::row::Slot;
+use crate::dynamic::index::window::Window;
 use std::alloc::{AllocError, Global};
 use std::marker::Model;
 
@@ -126,8 +128,57 @@ impl Slots {
             Kept::One(slots) => slots[position],
             Kept::Two(slots) => slots[position],
             Kept::Few(slots) => slots[position],
-            Kept::Many(pieces) => pieces.get(position),
+            Kept::Many(pieces) => {
+                let window = pieces.window(position, Span::WHOLE);
+                window.slots[position - window.start]
+            }
         }
+    }
+
+    /// A window with a position, whose piece is sought in a span first.
+    #[inline(always)]
+    fn window(&self, position: usize, span: Span) -> Window<'_>
+        requires { position < length self.now.items }
+        ensures slots { IsWindow self.now.items result.start result.slots.now }
+        ensures has { HasPosition result.start result.slots.now position }
+    {
+        let slots: &[Slot] = match &self.kept {
+            Kept::None => &[],
+            Kept::One(slots) => slots,
+            Kept::Two(slots) => slots,
+            Kept::Few(slots) => slots,
+            Kept::Many(pieces) => return pieces.window(position, span),
+        };
+        Window {
+            start: 0,
+            slots,
+            piece: 0,
+        }
+    }
+
+    /// A window with a slot from a position on and before another, near the middle: this one, if it has the middle.
+    #[inline(always)]
+    pub(super) fn window_near<'a>(
+        &'a self,
+        low: usize,
+        high: usize,
+        window: Window<'a>,
+        span: Span,
+    ) -> Window<'a>
+        requires range { low < high }
+        requires within { high ≤ length self.now.items }
+        requires window { IsWindow self.now.items window.start window.slots.now }
+        ensures slots { IsWindow self.now.items result.start result.slots.now }
+        ensures meets { Meets result.start result.slots.now low high }
+    {
+        let middle = low + (high - low) / 2;
+        if window.has(middle) {
+            return window;
+        }
+        if let Kept::Many(pieces) = &self.kept {
+            return pieces.window_near(low, high, span);
+        }
+        self.window(middle, span)
     }
 
     /// Puts another slot in the place of one.

@@ -1,4 +1,4 @@
-use Rattle.std.proofs.Common.{ℕ, ◌≡◌, ◌+◌, ◌≤◌, length, slice_index_or, sym, ◌∙◌, arith}
+use Rattle.std.proofs.Common.{length, slice_index_or, sym, ◌∙◌, arith}
 use Rattle.std.proofs.lemmas.List.{get_or_default}
 use Rattle.qpack_table.specs.Rows.{key_of}
 use Rattle.qpack_table.specs.declared.dynamic.index.row.Slot.{Slot}

@@ -1,4 +1,4 @@
-use Rattle.std.proofs.Common.{ℕ, ◌+◌, ◌≤◌, length}
+use Rattle.std.proofs.Common.{◌+◌, ◌≤◌, length}
 use Rattle.qpack_table.specs.Rows.{key_of}
 use Rattle.qpack_table.specs.Tables.{live_fields}
 use Rattle.qpack_table.proofs.RowSearches.{Searching}

@@ -1,5 +1,6 @@
-use Rattle.std.proofs.Common.{◌-◌, length}
+use Rattle.std.proofs.Common.{◌-◌, ◌≤◌, length}
 use Rattle.qpack_table.specs.Rows.{key_of}
+use Rattle.qpack_table.specs.SlotLists.{IsWindow}
 use Rattle.qpack_table.specs.Tables.{live_fields}
 use Rattle.qpack_table.proofs.Halvings.{CountsHalved}
 use Rattle.qpack_table.proofs.RowSearches.{Searching}
@@ -9,7 +10,9 @@ abbrev pub invariant-loop-low : goal.invariant-loop-low
 invariant-loop-low l = record {
   parted : Searching l.sought.part l.dropped (live_fields l.entries.items) l.self.slots.items (key_of l.sought) l.low
       l.high;
-  counted : CountsHalved (length l.self.slots.items) (l.high - l.low) l.initial.steps.count l.steps.count;
+  counted : CountsHalved (length l.self.slots.items) (l.high - l.low) l.digits l.initial.steps.count l.steps.count;
+  few : l.digits ≤ 64;
+  window : IsWindow l.self.slots.items l.window.start l.window.slots.now;
 }
 
 abbrev pub decreases-loop-low : goal.decreases-loop-low
