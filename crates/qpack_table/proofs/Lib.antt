@@ -16,6 +16,8 @@ pub mod Changes
 pub mod Halvings
 pub mod Lengths
 pub mod Pieces
+pub mod Parts
+pub mod Groups
 pub mod RowOrder
 pub mod RowSearches
 pub mod RowSlots

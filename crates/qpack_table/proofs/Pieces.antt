@@ -1,5 +1,5 @@
 -- The pieces of a large row: where a position is, and what an edit of one piece makes of all slots.
-use Rattle.std.proofs.Common.{◌≡◌, ℕ, zero, suc, ◌+◌, ◌-◌, ◌<◌, ◌≤◌, [], ◌∷◌, ◌++◌, List, length, get_or, set}
+use Rattle.std.proofs.Common.{◌≡◌, ℕ, zero, suc, ◌+◌, ◌-◌, ◌*◌, ◌<◌, ◌≤◌, [], ◌∷◌, ◌++◌, List, length, get_or, set}
 use Rattle.std.proofs.Common.{append_assoc, refl, sym, ap, subst, ◌∙◌, arith}
 use Rattle.std.specs.Prelude.{vec_capacity}
 use Rattle.std.specs.Global.{Vec}
@@ -30,6 +30,11 @@ pub all_length : (ps : List (Vec Slot)) → all_slots (lengths_of ps) ≡ length
 all_length [] = refl
 all_length (p ∷ ps) = omega (arith, all_length ps, length-append p.items (slots_in ps))
 
+-- a piece has at most 128
+pub few_slots : (ps : List (Vec Slot)) → AreFit ps → length (slots_in ps) ≤ 128 * length ps
+few_slots [] fit = omega arith
+few_slots (p ∷ ps) fit = omega (arith, few_slots ps fit.1, fit.0.0, length-append p.items (slots_in ps))
+
 pub all_known : (ps : List (Vec Slot)) (ns : List ℕ) → ns ≡ lengths_of ps → all_slots ns ≡ length (slots_in ps)
 all_known ps ns counted = ap (λ (l : List ℕ). all_slots l) counted ∙ all_length ps
 
@@ -43,12 +48,25 @@ fit_set [] k q fit is = fit
 fit_set (p ∷ ps) zero q fit is = (is, fit.1)
 fit_set (p ∷ ps) (suc k) q fit is = (fit.0, fit_set ps k q fit.1 is)
 
+-- pieces behind each other
+pub fit_both : (ps qs : List (Vec Slot)) → AreFit ps → AreFit qs → AreFit (ps ++ qs)
+fit_both [] qs front behind = behind
+fit_both (p ∷ ps) qs front behind = (front.0, fit_both ps qs front.1 behind)
+
+pub fit_front : (ps qs : List (Vec Slot)) → AreFit (ps ++ qs) → AreFit ps
+fit_front [] qs fit = tt
+fit_front (p ∷ ps) qs fit = (fit.0, fit_front ps qs fit.1)
+
+pub fit_behind : (ps qs : List (Vec Slot)) → AreFit (ps ++ qs) → AreFit qs
+fit_behind [] qs fit = fit
+fit_behind (p ∷ ps) qs fit = fit_behind ps qs fit.1
+
 lengths_set : (ps : List (Vec Slot)) (k : ℕ) (q : Vec Slot) → lengths_of (set ps k q) ≡ set (lengths_of ps) k (size q)
 lengths_set [] k q = refl
 lengths_set (p ∷ ps) zero q = refl
 lengths_set (p ∷ ps) (suc k) q = (λ i. size p ∷ lengths_set ps k q i)
 
-set_same : (ns : List ℕ) (k : ℕ) → k < length ns → set ns k (get_or ns k 0) ≡ ns
+pub set_same : (ns : List ℕ) (k : ℕ) → k < length ns → set ns k (get_or ns k 0) ≡ ns
 set_same [] k h = absurd (omega (arith, h))
 set_same (n ∷ ns) zero h = refl
 set_same (n ∷ ns) (suc k) h = (λ i. n ∷ set_same ns k (omega (arith, h)) i)

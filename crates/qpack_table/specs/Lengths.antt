@@ -1,5 +1,5 @@
 -- The lengths of the pieces of a large row, and what is before each.
-use Rattle.std.specs.Prelude.{◌≡◌, ℕ, zero, suc, ◌+◌, ◌*◌, ◌/◌, ◌<◌, ◌≤◌, ◌^◌, List, [], ◌∷◌, length, slice_index_or}
+use Rattle.std.specs.Prelude.{◌≡◌, ℕ, zero, suc, ◌+◌, ◌<◌, ◌≤◌, ◌^◌, List, [], ◌∷◌, length, slice_index_or}
 
 -- how many slots are before the piece at a position, among pieces of these lengths
 abbrev pub slots_before : List ℕ → ℕ → ℕ
@@ -30,28 +30,18 @@ pub record IsWithinSpan (lengths : List ℕ) (position first end : ℕ) : Type 0
   pub from : slots_before lengths first ≤ position
   pub before : end < length lengths → position < slots_before lengths end
 
--- the numbers from one on and before another are greater by 1
-pub record AreRaised (from to : ℕ) (old new : List ℕ) : Type 0 where
+-- these numbers are each greater by 1 than those
+pub record AreRaised (old new : List ℕ) : Type 0 where
   pub counted : length new ≡ length old
-  pub before : (k d : ℕ) → k < from → slice_index_or new k d ≡ slice_index_or old k d
-  pub between : (k d : ℕ) → from ≤ k → k < to → slice_index_or new k d ≡ slice_index_or old k d + 1
-  pub behind : (k d : ℕ) → to ≤ k → slice_index_or new k d ≡ slice_index_or old k d
+  pub each : (k d : ℕ) → k < length old → slice_index_or new k d ≡ slice_index_or old k d + 1
 
--- what is before each block of 32 pieces, and what each piece's block has before it
-pub record AreBefore (lengths in_block before_block : List ℕ) : Type 0 where
-  pub blocks : (k d : ℕ) → k * 32 < length lengths
-      → slice_index_or before_block k d ≡ slots_before lengths (k * 32)
-  pub pieces : (k d : ℕ) → k < length lengths
-      → slice_index_or in_block k d + slots_before lengths (k / 32 * 32) ≡ slots_before lengths k
-
--- each piece has a number, and its block another
-pub record HavePlaces (lengths in_block before_block : List ℕ) : Type 0 where
-  pub counted : length in_block ≡ length lengths
-  pub blocks : (k : ℕ) → k < length lengths → k / 32 < length before_block
+-- how many slots are before each piece
+pub record AreStarts (lengths starts : List ℕ) : Type 0 where
+  pub counted : length starts ≡ length lengths
+  pub each : (k d : ℕ) → k < length lengths → slice_index_or starts k d ≡ slots_before lengths k
 
 -- lengths, with what is before each, and in all
-pub record AreLengths (lengths in_block before_block : List ℕ) (total : ℕ) : Type 0 where
-  pub places : HavePlaces lengths in_block before_block
-  pub before : AreBefore lengths in_block before_block
+pub record AreLengths (lengths starts : List ℕ) (total : ℕ) : Type 0 where
+  pub before : AreStarts lengths starts
   pub counted : total ≡ all_slots lengths
   pub few : total ≤ 2 ^ 62

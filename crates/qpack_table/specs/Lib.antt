@@ -8,6 +8,7 @@ pub mod BlockedBlocks
 pub mod Tables
 pub mod Lengths
 pub mod Pieces
+pub mod Groups
 pub mod SlotLists
 pub mod Slots
 pub mod Rows

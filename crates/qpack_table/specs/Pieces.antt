@@ -1,8 +1,7 @@
--- The slots of a large row, in pieces.
-use Rattle.std.specs.Prelude.{◌≡◌, ℕ, ◌<◌, ◌≤◌, ◌^◌, List, [], ◌∷◌, length, map, vec_capacity, IfSome, IsSome}
+-- Slots in pieces.
+use Rattle.std.specs.Prelude.{◌≡◌, ℕ, ◌≤◌, List, [], ◌∷◌, length, map, vec_capacity}
 use Rattle.std.specs.Global.{Vec}
 use Rattle.std.specs.List.{flat_map}
-use Rattle.qpack_table.specs.declared.dynamic.index.pieces.Pieces.{Pieces}
 use Rattle.qpack_table.specs.declared.dynamic.index.row.Slot.{Slot}
 
 -- all slots, piece by piece
@@ -17,6 +16,7 @@ lengths_of pieces = map (λ (p : Vec Slot). length p.items) pieces
 abbrev pub IsPiece : Vec Slot → Type 0
 IsPiece p = (length p.items ≤ 128) × (128 ≤ vec_capacity p)
 
+-- all of them are such pieces
 abbrev pub AreFit : List (Vec Slot) → Type 0
 AreFit [] = Unit {0}
 AreFit (p ∷ ps) = IsPiece p × AreFit ps
@@ -24,15 +24,3 @@ AreFit (p ∷ ps) = IsPiece p × AreFit ps
 -- a vector to which half of a piece may go
 abbrev pub IsSpare : Vec Slot → Type 0
 IsSpare v = (v.items ≡ []) × (128 ≤ vec_capacity v)
-
--- there is a piece, their lengths are known, and a spare one has room among them
-pub record ArePieces (p : Pieces) : Type 0 where
-  pub some : 0 < length p.pieces.items
-  pub fit : AreFit p.pieces.items
-  pub counted : p.lengths.items ≡ lengths_of p.pieces.items
-  pub spare : IfSome p.spare (λ v. IsSpare v × (length p.pieces.items < vec_capacity p.pieces)
-      × (length p.lengths.items < p.lengths.capacity))
-
--- one more slot may come in
-abbrev pub HasSpare : Pieces → Type 0
-HasSpare p = IsSome p.spare × (length (slots_in p.pieces.items) < 2 ^ 62)

@@ -1,17 +1,15 @@
-//! The lengths of pieces, by which the piece of a position is found. How many slots are before a piece is kept in two
-//! numbers, before its block of 32 pieces and in that block: so few numbers change where a piece grows by a slot.
+//! The lengths of pieces, by which the piece of a position is found. How many slots are before each piece is kept too,
+//! so a piece that grows by a slot tells those behind it.
 
-ghost use Rattle.std.specs.Prelude.{◌≡◌, ◌≢◌, ◌+◌, ◌-◌, ◌/◌, ◌%◌, ◌^◌, ◌<◌, ◌≤◌, ℕ, suc, [], ◌∷◌, length, IfOk, OnOk};
+ghost use Rattle.std.specs.Prelude.{◌≡◌, ◌+◌, ◌-◌, ◌^◌, ◌<◌, ◌≤◌, ℕ, suc, [], ◌∷◌, length, IfOk, OnOk};
 ghost use Rattle.std.specs.Prelude.{slice_index_or, slice_set, vec_capacity, true};
 ghost use Rattle.std.specs.List.{insert, remove};
-ghost use Rattle.qpack_table.specs.Lengths.{slots_before, all_slots, IsPieceOf, IsWithinSpan, AreRaised, AreBefore};
-ghost use Rattle.qpack_table.specs.Lengths.{HavePlaces};
+ghost use Rattle.qpack_table.specs.Lengths.{slots_before, all_slots, IsPieceOf, IsWithinSpan, AreRaised, AreStarts};
+ghost use Rattle.qpack_table.specs.Pieces.{slots_in, lengths_of};
 
+use crate::dynamic::index::row::Slot;
 use std::alloc::{AllocError, Global};
 use std::marker::Model;
-
-/// How many pieces a block has; the last one may have fewer.
-const IN_BLOCK: usize = 32;
 
 /// Pieces among which a search looks: those from the first to the last one. It is a hint, and may be any.
 #[derive(Debug, Clone, Copy)]
@@ -32,28 +30,38 @@ impl Span {
 #[derive(Debug, Drop)]
 pub(super) struct Lengths {
     lengths: Vec<usize>,
-    /// For each piece, how many slots its block has before it.
-    in_block: Vec<usize>,
-    /// For each block, how many slots are before it.
-    before_block: Vec<usize>,
+    /// For each piece, how many slots are before it.
+    starts: Vec<usize>,
     total: usize,
 }
 
 impl Model for Lengths {
-    ghost use Rattle.std.specs.Prelude.{◌*◌, length, min, vec_capacity};
+    ghost use Rattle.std.specs.Prelude.{min, vec_capacity};
     ghost use Rattle.qpack_table.specs.Lengths.{LengthList, AreLengths};
 
     ghost Value = { LengthList };
 
     ghost view = { λ a. record {
       items = a.lengths.items;
-      capacity = min (min (vec_capacity a.lengths) (vec_capacity a.in_block)) (32 * length a.before_block.items);
+      capacity = min (vec_capacity a.lengths) (vec_capacity a.starts);
     } };
 
-    ghost invariant = { λ a. AreLengths a.lengths.items a.in_block.items a.before_block.items a.total };
+    ghost invariant = { λ a. AreLengths a.lengths.items a.starts.items a.total };
 }
 
 impl Lengths {
+    /// No lengths, and room for so many.
+    pub(super) fn with_room(alloc: Global, count: usize) -> Result<Lengths, AllocError>
+        ensures items { IfOk result (λ lengths. lengths.items ≡ []) }
+        ensures room { IfOk result (λ lengths. count ≤ lengths.capacity) }
+    {
+        Ok(Lengths {
+            lengths: Vec::with_capacity(alloc, count)?,
+            starts: Vec::with_capacity(alloc, count)?,
+            total: 0,
+        })
+    }
+
     /// The length of one piece.
     pub(super) fn of(alloc: Global, count: usize) -> Result<Lengths, AllocError>
         requires { count ≤ 2 ^ 62 }
@@ -61,14 +69,11 @@ impl Lengths {
     {
         let mut lengths = Vec::new(alloc);
         lengths.push(count)?;
-        let mut in_block = Vec::new(alloc);
-        in_block.push(0)?;
-        let mut before_block = Vec::new(alloc);
-        before_block.push(0)?;
+        let mut starts = Vec::new(alloc);
+        starts.push(0)?;
         Ok(Lengths {
             lengths,
-            in_block,
-            before_block,
+            starts,
             total: count,
         })
     }
@@ -79,11 +84,17 @@ impl Lengths {
         ensures room { OnOk result (length self.new.items < self.new.capacity) }
     {
         self.lengths.reserve(1)?;
-        self.in_block.reserve(1)?;
-        if self.lengths.len() / IN_BLOCK >= self.before_block.len() {
-            self.before_block.push(0)?;
-        }
-        Ok(())
+        self.starts.reserve(1)
+    }
+
+    /// The lengths of these pieces in place of what was there, for which there is room.
+    pub(super) fn count_anew(&mut self, pieces: &[Vec<Slot>])
+        requires few { length (slots_in pieces.now) ≤ 2 ^ 62 }
+        requires room { length pieces.now ≤ self.old.capacity }
+        ensures items { self.new.items ≡ lengths_of pieces.now }
+        ensures capacity { self.new.capacity ≡ self.old.capacity }
+    {
+        self.total = count_anew(pieces, &mut self.lengths, &mut self.starts);
     }
 
     /// How many slots there are in all.
@@ -99,9 +110,10 @@ impl Lengths {
     #[inline(always)]
     pub(super) fn before(&self, at: usize) -> usize
         requires { at < length self.now.items }
-        ensures { result ≡ slots_before self.now.items at }
+        ensures before { result ≡ slots_before self.now.items at }
+        ensures few { result ≤ 2 ^ 62 }
     {
-        self.in_block[at] + self.before_block[at / IN_BLOCK]
+        self.starts[at]
     }
 
     /// The last piece that begins at or before a position.
@@ -164,19 +176,8 @@ impl Lengths {
         ensures items { self.new.items ≡ slice_set self.old.items at (slice_index_or self.old.items at 0 + 1) }
         ensures capacity { self.new.capacity ≡ self.old.capacity }
     {
-        let count = self.lengths.len();
-        let block = at / IN_BLOCK;
-        raise(
-            &mut self.in_block,
-            at + 1,
-            count.min(block * IN_BLOCK + IN_BLOCK),
-        );
-        raise(
-            &mut self.before_block,
-            block + 1,
-            (count - 1) / IN_BLOCK + 1,
-        );
         self.lengths[at] += 1;
+        raise(&mut self.starts[at + 1..]);
         self.total += 1;
     }
 
@@ -187,19 +188,8 @@ impl Lengths {
         ensures items { self.new.items ≡ slice_set self.old.items at (slice_index_or self.old.items at 0 - 1) }
         ensures capacity { self.new.capacity ≡ self.old.capacity }
     {
-        let count = self.lengths.len();
-        let block = at / IN_BLOCK;
-        lower(
-            &mut self.in_block,
-            at + 1,
-            count.min(block * IN_BLOCK + IN_BLOCK),
-        );
-        lower(
-            &mut self.before_block,
-            block + 1,
-            (count - 1) / IN_BLOCK + 1,
-        );
         self.lengths[at] -= 1;
+        lower(&mut self.starts[at + 1..]);
         self.total -= 1;
     }
 
@@ -208,14 +198,14 @@ impl Lengths {
         requires within { at < length self.old.items }
         requires upper { upper ≤ slice_index_or self.old.items at 0 }
         requires room { length self.old.items < self.old.capacity }
-        ensures { self.new.items
+        ensures items { self.new.items
             ≡ insert (slice_set self.old.items at (slice_index_or self.old.items at 0 - upper)) (at + 1) upper }
+        ensures capacity { self.new.capacity ≡ self.old.capacity }
     {
         self.lengths[at] -= upper;
+        let start = self.starts[at] + self.lengths[at];
         insert_with_room(&mut self.lengths, at + 1, upper);
-        let end = self.in_block.len();
-        insert_with_room(&mut self.in_block, end, 0);
-        count_anew(&self.lengths, &mut self.in_block, &mut self.before_block);
+        insert_with_room(&mut self.starts, at + 1, start);
     }
 
     /// The slots of the next piece come to this one.
@@ -227,70 +217,50 @@ impl Lengths {
     {
         self.lengths[at] += self.lengths[at + 1];
         self.lengths.remove(at + 1);
-        self.in_block.pop();
-        count_anew(&self.lengths, &mut self.in_block, &mut self.before_block);
+        self.starts.remove(at + 1);
     }
 }
 
-/// The numbers from one on and before another grow by 1.
-fn raise(numbers: &mut Vec<usize>, from: usize, to: usize)
-    requires ordered { from ≤ to }
-    requires within { to ≤ length numbers.old.items }
-    requires few { (k d : ℕ) → from ≤ k → k < to → slice_index_or numbers.old.items k d < 2 ^ 63 }
-    ensures raised { AreRaised from to numbers.old.items numbers.new.items }
-    ensures capacity { vec_capacity numbers.new ≡ vec_capacity numbers.old }
+/// Each of these numbers grows by 1.
+fn raise(numbers: &mut [usize])
+    requires { (k d : ℕ) → k < length numbers.old → slice_index_or numbers.old k d < 2 ^ 63 }
+    ensures { AreRaised numbers.old numbers.new }
 {
-    for k in from..to {
-        numbers[k] += 1;
+    for number in numbers.iter_mut() {
+        *number += 1;
     }
 }
 
-/// The numbers from one on and before another shrink by 1.
-fn lower(numbers: &mut Vec<usize>, from: usize, to: usize)
-    requires ordered { from ≤ to }
-    requires within { to ≤ length numbers.old.items }
-    requires some { (k d : ℕ) → from ≤ k → k < to → 0 < slice_index_or numbers.old.items k d }
-    ensures lowered { AreRaised from to numbers.new.items numbers.old.items }
-    ensures capacity { vec_capacity numbers.new ≡ vec_capacity numbers.old }
+/// Each of these numbers shrinks by 1.
+fn lower(numbers: &mut [usize])
+    requires { (k d : ℕ) → k < length numbers.old → 0 < slice_index_or numbers.old k d }
+    ensures { AreRaised numbers.new numbers.old }
 {
-    for k in from..to {
-        numbers[k] -= 1;
+    for number in numbers.iter_mut() {
+        *number -= 1;
     }
 }
 
-/// Counts anew what is before each piece.
-fn count_anew(lengths: &[usize], in_block: &mut Vec<usize>, before_block: &mut Vec<usize>)
-    requires places { HavePlaces lengths.now in_block.old.items before_block.old.items }
-    requires few { all_slots lengths.now ≤ 2 ^ 62 }
-    ensures places { HavePlaces lengths.now in_block.new.items before_block.new.items }
-    ensures before { AreBefore lengths.now in_block.new.items before_block.new.items }
-    ensures capacity { vec_capacity in_block.new ≡ vec_capacity in_block.old }
-    ensures blocks { length before_block.new.items ≡ length before_block.old.items }
+/// The lengths of pieces, and what is before each, in place of what was there. Answers how many slots there are in all.
+fn count_anew(pieces: &[Vec<Slot>], lengths: &mut Vec<usize>, starts: &mut Vec<usize>) -> usize
+    requires few { length (slots_in pieces.now) ≤ 2 ^ 62 }
+    requires lengths_room { length pieces.now ≤ vec_capacity lengths.old }
+    requires starts_room { length pieces.now ≤ vec_capacity starts.old }
+    ensures lengths { lengths.new.items ≡ lengths_of pieces.now }
+    ensures starts { AreStarts (lengths_of pieces.now) starts.new.items }
+    ensures total { result ≡ all_slots (lengths_of pieces.now) }
+    ensures lengths_capacity { vec_capacity lengths.new ≡ vec_capacity lengths.old }
+    ensures starts_capacity { vec_capacity starts.new ≡ vec_capacity starts.old }
 {
-    let mut before = 0;
-    for k in 0..lengths.len() {
-        let start = start_of_block(before_block, k, before);
-        in_block[k] = before - start;
-        before += lengths[k];
+    lengths.clear();
+    starts.clear();
+    let mut total = 0;
+    for piece in pieces {
+        lengths.push_reserved(piece.len());
+        starts.push_reserved(total);
+        total += piece.len();
     }
-}
-
-/// How many slots are before the block of a piece: where the piece is the first one, those that are before that.
-#[inline]
-fn start_of_block(before_block: &mut Vec<usize>, at: usize, before: usize) -> usize
-    requires { at / 32 < length before_block.old.items }
-    ensures start { (d : ℕ) → slice_index_or before_block.new.items (at / 32) d ≡ result }
-    ensures first { at % 32 ≡ 0 → result ≡ before }
-    ensures later { (d : ℕ) → 0 < at % 32 → result ≡ slice_index_or before_block.old.items (at / 32) d }
-    ensures others { (k d : ℕ) → k ≢ at / 32
-        → slice_index_or before_block.new.items k d ≡ slice_index_or before_block.old.items k d }
-    ensures length { length before_block.new.items ≡ length before_block.old.items }
-{
-    let block = at / IN_BLOCK;
-    if at % IN_BLOCK == 0 {
-        before_block[block] = before;
-    }
-    before_block[block]
+    total
 }
 
 /// An item comes into a vector that has room for it.

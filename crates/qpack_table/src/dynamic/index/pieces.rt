@@ -1,24 +1,20 @@
-//! Many slots in pieces of at most 128, so that one that comes in or goes out moves few others.
+//! Many slots, in pieces that stand in groups, so that one that comes in or goes out moves few others. What is told to
+//! those behind it is told to the groups, of which there is one for each thousand slots or more.
 
-ghost use Rattle.std.specs.Prelude.{◌≡◌, ◌+◌, ◌-◌, ◌^◌, ◌<◌, ◌≤◌, ◌++◌, [], length, IfOk, OnOk, slice_index_or};
-ghost use Rattle.std.specs.Prelude.{slice_set, vec_capacity};
-ghost use Rattle.std.specs.Global.{Vec};
+ghost use Rattle.std.specs.Prelude.{◌≡◌, ◌+◌, ◌-◌, ◌^◌, ◌<◌, ◌≤◌, [], length, IfOk, IfSome, IsSome, OnOk};
+ghost use Rattle.std.specs.Prelude.{slice_index_or, slice_set};
 ghost use Rattle.std.specs.List.{insert, remove};
-ghost use Rattle.qpack_table.specs.Lengths.{IsPieceOf, slots_before};
-ghost use Rattle.qpack_table.specs.Pieces.{slots_in, ArePieces, HasSpare, IsSpare};
-ghost use Rattle.qpack_table.specs.SlotLists.{IsWindow, HasPosition, Meets};
+ghost use Rattle.qpack_table.specs.Groups.{slots_in_groups, ArePieces, StandInGroups, HaveRoomBut, HasSpare};
+ghost use Rattle.qpack_table.specs.Groups.{IsSpareGroup, HasPlaceForGroup, IsWindowOf};
+ghost use Rattle.qpack_table.specs.SlotLists.{HasPosition, Meets, IsWindow};
 ghost use Rattle.qpack_table.specs.declared.dynamic.index.row.Slot.{Slot};
+ghost use Rattle.qpack_table.specs.declared.dynamic.index.group.Group.{Group};
 
+use crate::dynamic::index::group::{Group, HALF_GROUP, MOST_IN_GROUP, MOST_IN_PIECE};
 use crate::dynamic::index::lengths::{Lengths, Span, insert_with_room};
 use crate::dynamic::index::row::Slot;
-use crate::dynamic::index::window::Window;
+use crate::dynamic::index::window::{Place, Reach, Window};
 use std::alloc::{AllocError, Global};
-
-/// How many slots a piece has at most.
-pub(super) const MOST_IN_PIECE: usize = 128;
-
-/// How many it has once it was cut. Two neighbours of no more together are joined.
-const HALF: usize = MOST_IN_PIECE / 2;
 
 /// The number of slots at which there is no memory for another.
 const MOST_SLOTS: usize = 1 << 62;
@@ -26,10 +22,13 @@ const MOST_SLOTS: usize = 1 << 62;
 /// Slots in order, in pieces.
 #[derive(Debug, Drop)]
 pub(super) struct Pieces {
-    pieces: Vec<Vec<Slot>>,
+    groups: Vec<Group>,
+    /// How many slots each group has.
     lengths: Lengths,
     /// Where half of a full piece goes.
-    spare: Option<Vec<Slot>>,
+    spare_piece: Option<Vec<Slot>>,
+    /// Where half of a full group goes.
+    spare_group: Option<Group>,
 }
 
 impl Pieces {
@@ -37,17 +36,16 @@ impl Pieces {
     pub(super) fn of(alloc: Global, slots: &[Slot]) -> Result<Pieces, AllocError>
         requires { length slots.now ≤ 128 }
         ensures pieces { IfOk result ArePieces }
-        ensures slots { IfOk result (λ pieces. slots_in pieces.pieces.items ≡ slots.now) }
+        ensures slots { IfOk result (λ pieces. slots_in_groups pieces.groups.items ≡ slots.now) }
         ensures room { IfOk result HasSpare }
     {
-        let mut first = Vec::with_capacity(alloc, MOST_IN_PIECE)?;
-        first.extend_from_slice(slots)?;
-        let mut pieces = Vec::new(alloc);
-        pieces.push(first)?;
+        let mut groups = Vec::new(alloc);
+        groups.push(Group::of(alloc, slots)?)?;
         let mut made = Pieces {
-            pieces,
+            groups,
             lengths: Lengths::of(alloc, slots.len())?,
-            spare: None,
+            spare_piece: None,
+            spare_group: None,
         };
         made.reserve(alloc)?;
         Ok(made)
@@ -57,7 +55,7 @@ impl Pieces {
     #[inline]
     pub(super) fn len(&self) -> usize
         requires { ArePieces self.now }
-        ensures { result ≡ length (slots_in self.now.pieces.items) }
+        ensures { result ≡ length (slots_in_groups self.now.groups.items) }
     {
         self.lengths.total()
     }
@@ -66,221 +64,241 @@ impl Pieces {
     pub(super) fn reserve(&mut self, alloc: Global) -> Result<(), AllocError>
         requires { ArePieces self.old }
         ensures pieces { ArePieces self.new }
-        ensures slots { slots_in self.new.pieces.items ≡ slots_in self.old.pieces.items }
+        ensures slots { slots_in_groups self.new.groups.items ≡ slots_in_groups self.old.groups.items }
         ensures room { OnOk result (HasSpare self.new) }
     {
         if self.lengths.total() >= MOST_SLOTS {
             return Err(AllocError);
         }
-        if self.spare.is_none() {
-            self.pieces.reserve(1)?;
-            self.lengths.reserve()?;
-            self.spare = Some(Vec::with_capacity(alloc, MOST_IN_PIECE)?);
+        self.reserve_piece(alloc)?;
+        self.reserve_group(alloc)
+    }
+
+    /// Makes a spare piece, if there is none.
+    fn reserve_piece(&mut self, alloc: Global) -> Result<(), AllocError>
+        requires { ArePieces self.old }
+        ensures pieces { ArePieces self.new }
+        ensures groups { self.new.groups.items ≡ self.old.groups.items }
+        ensures spare { OnOk result (IsSome self.new.spare_piece) }
+    {
+        if self.spare_piece.is_none() {
+            self.spare_piece = Some(Vec::with_capacity(alloc, MOST_IN_PIECE)?);
         }
         Ok(())
     }
 
-    /// The piece of a position, which is sought in a span first.
-    pub(super) fn window(&self, position: usize, span: Span) -> Window<'_>
+    /// Makes a spare group, if there is none, and room for it.
+    fn reserve_group(&mut self, alloc: Global) -> Result<(), AllocError>
+        requires { ArePieces self.old }
+        ensures pieces { ArePieces self.new }
+        ensures groups { self.new.groups.items ≡ self.old.groups.items }
+        ensures piece { self.new.spare_piece ≡ self.old.spare_piece }
+        ensures spare { OnOk result (IsSome self.new.spare_group) }
+    {
+        if self.spare_group.is_none() {
+            self.groups.reserve(1)?;
+            self.lengths.reserve()?;
+            self.spare_group = Some(Group::with_room(alloc)?);
+        }
+        Ok(())
+    }
+
+    /// The piece of a position, which is sought within reach first.
+    pub(super) fn window(&self, position: usize, reach: Reach) -> Window<'_>
         requires pieces { ArePieces self.now }
-        requires within { position < length (slots_in self.now.pieces.items) }
-        ensures slots { IsWindow (slots_in self.now.pieces.items) result.start result.slots.now }
+        requires within { position < length (slots_in_groups self.now.groups.items) }
+        ensures slots { IsWindow (slots_in_groups self.now.groups.items) result.start result.slots.now }
         ensures has { HasPosition result.start result.slots.now position }
     {
-        self.piece(self.lengths.piece_of(position, span))
+        let at = self.lengths.piece_of(position, reach.groups());
+        let before = self.lengths.before(at);
+        self.groups[at]
+            .window(position - before, reach.pieces(at))
+            .in_group(at, before)
     }
 
-    /// A piece.
+    /// The piece in the middle of those within reach, if there are many.
     #[inline(always)]
-    fn piece(&self, at: usize) -> Window<'_>
-        requires pieces { ArePieces self.now }
-        requires within { at < length self.now.pieces.items }
-        ensures slots { IsWindow (slots_in self.now.pieces.items) result.start result.slots.now }
-        ensures start { result.start ≡ slots_before self.now.lengths.items at }
-        ensures length { length result.slots.now ≡ slice_index_or self.now.lengths.items at 0 }
+    fn middle(&self, reach: Reach) -> Option<Window<'_>>
+        requires { ArePieces self.now }
+        ensures { IfSome result (λ window. IsWindow (slots_in_groups self.now.groups.items) window.start
+            window.slots.now) }
     {
-        Window {
-            start: self.lengths.before(at),
-            slots: &self.pieces[at],
-            piece: at,
+        let groups = reach.groups();
+        let last = groups.last.min(self.groups.len() - 1);
+        if groups.first > last {
+            return None;
         }
+        let at = groups.first + (last - groups.first) / 2;
+        let window = self.groups[at].middle(reach.pieces(at))?;
+        Some(window.in_group(at, self.lengths.before(at)))
     }
 
-    /// A piece with a slot from a position on and before another: the middle one of a span of more than two, if it has
-    /// such a slot, and else that of the position in the middle.
+    /// A piece with a slot from a position on and before another: the middle one of those within reach, if it has such
+    /// a slot, and else that of the position in the middle.
     #[inline(always)]
-    pub(super) fn window_near(&self, low: usize, high: usize, span: Span) -> Window<'_>
+    pub(super) fn window_near(&self, low: usize, high: usize, reach: Reach) -> Window<'_>
         requires pieces { ArePieces self.now }
         requires range { low < high }
-        requires within { high ≤ length (slots_in self.now.pieces.items) }
-        ensures slots { IsWindow (slots_in self.now.pieces.items) result.start result.slots.now }
+        requires within { high ≤ length (slots_in_groups self.now.groups.items) }
+        ensures slots { IsWindow (slots_in_groups self.now.groups.items) result.start result.slots.now }
         ensures meets { Meets result.start result.slots.now low high }
     {
-        let last = span.last.min(self.pieces.len() - 1);
-        if span.first < last && last - span.first > 1 {
-            let window = self.piece(span.first + (last - span.first) / 2);
+        if let Some(window) = self.middle(reach) {
             if window.meets(low, high) {
                 return window;
             }
         }
-        self.window(low + (high - low) / 2, span)
+        self.window(low + (high - low) / 2, reach)
     }
 
     /// Puts another slot in the place of one.
     pub(super) fn set(&mut self, position: usize, slot: Slot)
         requires pieces { ArePieces self.old }
-        requires within { position < length (slots_in self.old.pieces.items) }
+        requires within { position < length (slots_in_groups self.old.groups.items) }
         ensures pieces { ArePieces self.new }
-        ensures slots { slots_in self.new.pieces.items ≡ slice_set (slots_in self.old.pieces.items) position slot }
+        ensures slots { slots_in_groups self.new.groups.items
+            ≡ slice_set (slots_in_groups self.old.groups.items) position slot }
         ensures room { HasSpare self.old → HasSpare self.new }
     {
         let at = self.lengths.piece_of(position, Span::WHOLE);
         let offset = position - self.lengths.before(at);
-        self.pieces[at][offset] = slot;
+        self.groups[at].set(offset, slot);
     }
 
     /// A slot comes in at a position, for which there is room.
     pub(super) fn insert(&mut self, position: usize, slot: Slot)
         requires pieces { ArePieces self.old }
-        requires within { position ≤ length (slots_in self.old.pieces.items) }
+        requires within { position ≤ length (slots_in_groups self.old.groups.items) }
         requires room { HasSpare self.old }
         ensures pieces { ArePieces self.new }
-        ensures slots { slots_in self.new.pieces.items ≡ insert (slots_in self.old.pieces.items) position slot }
+        ensures slots { slots_in_groups self.new.groups.items
+            ≡ insert (slots_in_groups self.old.groups.items) position slot }
     {
-        let at = self.piece_with_room(position);
-        let offset = position - self.lengths.before(at);
-        insert_with_room(&mut self.pieces[at], offset, slot);
-        self.lengths.raise(at);
+        let at = self.insert_into_group(position, slot);
+        if self.groups[at].count() == MOST_IN_GROUP {
+            self.cut(at);
+        }
     }
 
-    /// A piece that has room at a position: where it was full, it is cut.
-    fn piece_with_room(&mut self, position: usize) -> usize
+    /// A slot comes in at a position of its group, which is answered.
+    fn insert_into_group(&mut self, position: usize, slot: Slot) -> usize
         requires pieces { ArePieces self.old }
-        requires within { position ≤ length (slots_in self.old.pieces.items) }
+        requires within { position ≤ length (slots_in_groups self.old.groups.items) }
         requires room { HasSpare self.old }
-        ensures pieces { ArePieces self.new }
-        ensures slots { slots_in self.new.pieces.items ≡ slots_in self.old.pieces.items }
-        ensures at { IsPieceOf self.new.lengths.items position result }
-        ensures free { (d : Vec Slot) → length (slice_index_or self.new.pieces.items result d).items < 128 }
+        ensures stand { StandInGroups self.new }
+        ensures slots { slots_in_groups self.new.groups.items
+            ≡ insert (slots_in_groups self.old.groups.items) position slot }
+        ensures within { result < length self.new.groups.items }
+        ensures others { HaveRoomBut self.new.groups.items result }
+        ensures spare { IsSome self.new.spare_group }
     {
         let at = self.lengths.piece_of(position, Span::WHOLE);
-        if self.pieces[at].len() < MOST_IN_PIECE {
-            return at;
-        }
         let offset = position - self.lengths.before(at);
-        self.cut(at);
-        if offset < HALF { at } else { at + 1 }
+        self.groups[at].insert(offset, slot, &mut self.spare_piece);
+        self.lengths.raise(at);
+        at
     }
 
-    /// A full piece is cut into two halves.
+    /// A group of as many pieces as may be is cut into two halves.
     fn cut(&mut self, at: usize)
-        requires pieces { ArePieces self.old }
-        requires within { at < length self.old.pieces.items }
-        requires full { (d : Vec Slot) → length (slice_index_or self.old.pieces.items at d).items ≡ 128 }
-        requires room { HasSpare self.old }
+        requires stand { StandInGroups self.old }
+        requires within { at < length self.old.groups.items }
+        requires others { HaveRoomBut self.old.groups.items at }
+        requires full { (d : Group) → length (slice_index_or self.old.groups.items at d).pieces.items ≡ 64 }
+        requires spare { IsSome self.old.spare_group }
         ensures pieces { ArePieces self.new }
-        ensures slots { slots_in self.new.pieces.items ≡ slots_in self.old.pieces.items }
-        ensures lengths { self.new.lengths.items ≡ insert (slice_set self.old.lengths.items at 64) (at + 1) 64 }
+        ensures slots { slots_in_groups self.new.groups.items ≡ slots_in_groups self.old.groups.items }
     {
-        if let Some(upper) = self.spare.take() {
+        if let Some(upper) = self.spare_group.take() {
             self.cut_into(at, upper);
         }
     }
 
-    /// The upper half of a full piece goes to one of its own, for which there is room.
-    fn cut_into(&mut self, at: usize, upper: Vec<Slot>)
-        requires pieces { ArePieces self.old }
-        requires within { at < length self.old.pieces.items }
-        requires full { (d : Vec Slot) → length (slice_index_or self.old.pieces.items at d).items ≡ 128 }
-        requires upper { IsSpare upper }
-        requires room { length self.old.pieces.items < vec_capacity self.old.pieces }
-        requires place { length self.old.lengths.items < self.old.lengths.capacity }
-        requires no_spare { self.old.spare ≡ None }
+    /// The upper half of a group goes to one of its own, for which there is room.
+    fn cut_into(&mut self, at: usize, upper: Group)
+        requires stand { StandInGroups self.old }
+        requires within { at < length self.old.groups.items }
+        requires others { HaveRoomBut self.old.groups.items at }
+        requires full { (d : Group) → length (slice_index_or self.old.groups.items at d).pieces.items ≡ 64 }
+        requires upper { IsSpareGroup upper }
+        requires room { HasPlaceForGroup self.old }
+        requires no_spare { self.old.spare_group ≡ None }
         ensures pieces { ArePieces self.new }
-        ensures slots { slots_in self.new.pieces.items ≡ slots_in self.old.pieces.items }
-        ensures lengths { self.new.lengths.items ≡ insert (slice_set self.old.lengths.items at 64) (at + 1) 64 }
+        ensures slots { slots_in_groups self.new.groups.items ≡ slots_in_groups self.old.groups.items }
     {
-        let mut upper = upper;
-        extend_with_room(&mut upper, &self.pieces[at][HALF..]);
-        self.pieces[at].truncate(HALF);
-        insert_with_room(&mut self.pieces, at + 1, upper);
-        self.lengths.cut(at, HALF);
+        let upper = self.groups[at].cut_off(upper);
+        self.lengths.cut(at, upper.len());
+        insert_with_room(&mut self.groups, at + 1, upper);
     }
 
     /// The slot at a position goes out.
     pub(super) fn remove(&mut self, position: usize)
         requires pieces { ArePieces self.old }
-        requires within { position < length (slots_in self.old.pieces.items) }
+        requires within { position < length (slots_in_groups self.old.groups.items) }
         ensures pieces { ArePieces self.new }
-        ensures slots { slots_in self.new.pieces.items ≡ remove (slots_in self.old.pieces.items) position }
+        ensures slots { slots_in_groups self.new.groups.items
+            ≡ remove (slots_in_groups self.old.groups.items) position }
         ensures room { HasSpare self.old → HasSpare self.new }
     {
-        let at = self.remove_from_piece(position);
+        let at = self.remove_from_group(position);
         self.join(at);
         if at > 0 {
             self.join(at - 1);
         }
     }
 
-    /// The slot at a position goes out of its piece, which is answered.
-    fn remove_from_piece(&mut self, position: usize) -> usize
+    /// The slot at a position goes out of its group, which is answered.
+    fn remove_from_group(&mut self, position: usize) -> usize
         requires pieces { ArePieces self.old }
-        requires within { position < length (slots_in self.old.pieces.items) }
+        requires within { position < length (slots_in_groups self.old.groups.items) }
         ensures pieces { ArePieces self.new }
-        ensures slots { slots_in self.new.pieces.items ≡ remove (slots_in self.old.pieces.items) position }
+        ensures slots { slots_in_groups self.new.groups.items
+            ≡ remove (slots_in_groups self.old.groups.items) position }
         ensures room { HasSpare self.old → HasSpare self.new }
-        ensures within { result < length self.new.pieces.items }
+        ensures within { result < length self.new.groups.items }
     {
         let at = self.lengths.piece_of(position, Span::WHOLE);
         let offset = position - self.lengths.before(at);
-        self.pieces[at].remove(offset);
+        self.groups[at].remove(offset);
         self.lengths.lower(at);
         at
     }
 
-    /// A piece takes up the next one, if there is one and both are small.
+    /// A group takes up the next one, if there is one and both are small.
     fn join(&mut self, at: usize)
         requires pieces { ArePieces self.old }
-        requires within { at < length self.old.pieces.items }
+        requires within { at < length self.old.groups.items }
         ensures pieces { ArePieces self.new }
-        ensures slots { slots_in self.new.pieces.items ≡ slots_in self.old.pieces.items }
+        ensures slots { slots_in_groups self.new.groups.items ≡ slots_in_groups self.old.groups.items }
         ensures room { HasSpare self.old → HasSpare self.new }
-        ensures within { at < length self.new.pieces.items }
-        ensures joined { at + 1 < length self.old.pieces.items
-            → ((d : Vec Slot) → length (slice_index_or self.old.pieces.items at d).items
-            + length (slice_index_or self.old.pieces.items (at + 1) d).items ≤ 64)
-            → length self.new.pieces.items + 1 ≡ length self.old.pieces.items }
+        ensures within { at < length self.new.groups.items }
+        ensures joined { at + 1 < length self.old.groups.items
+            → ((d : Group) → length (slice_index_or self.old.groups.items at d).pieces.items
+            + length (slice_index_or self.old.groups.items (at + 1) d).pieces.items ≤ 32)
+            → length self.new.groups.items + 1 ≡ length self.old.groups.items }
     {
-        if self.pieces.len() - at < 2 {
+        if self.groups.len() - at < 2 {
             return;
         }
-        if self.pieces[at].len() + self.pieces[at + 1].len() <= HALF {
+        if self.groups[at].count() + self.groups[at + 1].count() <= HALF_GROUP {
             self.take_up_next(at);
         }
     }
 
-    /// A piece takes up the next one.
+    /// A group takes up the next one.
     fn take_up_next(&mut self, at: usize)
         requires pieces { ArePieces self.old }
-        requires within { at + 1 < length self.old.pieces.items }
-        requires small { (d : Vec Slot) → length (slice_index_or self.old.pieces.items at d).items
-            + length (slice_index_or self.old.pieces.items (at + 1) d).items ≤ 64 }
+        requires within { at + 1 < length self.old.groups.items }
+        requires small { (d : Group) → length (slice_index_or self.old.groups.items at d).pieces.items
+            + length (slice_index_or self.old.groups.items (at + 1) d).pieces.items ≤ 32 }
         ensures pieces { ArePieces self.new }
-        ensures slots { slots_in self.new.pieces.items ≡ slots_in self.old.pieces.items }
+        ensures slots { slots_in_groups self.new.groups.items ≡ slots_in_groups self.old.groups.items }
         ensures room { HasSpare self.old → HasSpare self.new }
-        ensures joined { length self.new.pieces.items + 1 ≡ length self.old.pieces.items }
+        ensures joined { length self.new.groups.items + 1 ≡ length self.old.groups.items }
     {
-        let next = self.pieces.remove(at + 1);
-        extend_with_room(&mut self.pieces[at], &next);
+        let next = self.groups.remove(at + 1);
+        self.groups[at].append(next);
         self.lengths.join(at);
     }
-}
-
-/// Slots come behind those of a vector that has room for them.
-fn extend_with_room(slots: &mut Vec<Slot>, more: &[Slot])
-    requires { length slots.old.items + length more.now ≤ vec_capacity slots.old }
-    ensures slots { slots.new.items ≡ slots.old.items ++ more.now }
-    ensures capacity { vec_capacity slots.old ≤ vec_capacity slots.new }
-{
-    if let Err(_full) = slots.extend_from_slice(more) {}
 }

@@ -13,9 +13,8 @@ ghost use Rattle.qpack_table.specs.Tables.{live_fields};
 ghost use Rattle.qpack_table.specs.declared.dynamic.index.row.Slot.{Slot};
 
 use crate::dynamic::entry::Entry;
-use crate::dynamic::index::lengths::Span;
 use crate::dynamic::index::slots::Slots;
-use crate::dynamic::index::window::Window;
+use crate::dynamic::index::window::{Reach, Window};
 use crate::dynamic::steps::Steps;
 use qpack_base::bytes::same;
 use qpack_base::field::FieldLine;
@@ -191,25 +190,25 @@ impl Row {
         let mut low = 0;
         let mut high = self.slots.len();
         let mut digits = digits_of(high);
-        let mut span = Span::WHOLE;
-        let mut window = Window::new();
+        let mut reach = Reach::WHOLE;
+        let mut window = Window::of(&[]);
         while low < high {
             digits -= 1;
             let side = (high - low).min(1 << digits);
             window = self
                 .slots
-                .window_near(high - side, low + side, window, span);
+                .window_near(high - side, low + side, window, reach);
             let middle = window.middle(high - side, low + side);
             let slot = window.slots[middle - window.start];
             match compare(sought, slot, entries, dropped, steps) {
                 Ordering::Less => {
                     low = middle + 1;
-                    span.first = window.piece;
+                    reach.first = window.place;
                 }
                 Ordering::Equal => return Ok(middle),
                 Ordering::Greater => {
                     high = middle;
-                    span.last = window.piece;
+                    reach.last = window.place;
                 }
             }
         }

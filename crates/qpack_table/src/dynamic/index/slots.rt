@@ -5,10 +5,10 @@ ghost use Rattle.std.specs.Prelude.{slice_set, vec_capacity};
 ghost use Rattle.std.specs.List.{insert, remove};
 ghost use Rattle.qpack_table.specs.SlotLists.{HasRoomIn, IsWindow, HasPosition, Meets};
 
-use crate::dynamic::index::lengths::Span;
-use crate::dynamic::index::pieces::{MOST_IN_PIECE, Pieces};
+use crate::dynamic::index::group::MOST_IN_PIECE;
+use crate::dynamic::index::pieces::Pieces;
 use crate::dynamic::index::row::Slot;
-use crate::dynamic::index::window::Window;
+use crate::dynamic::index::window::{Reach, Window};
 use std::alloc::{AllocError, Global};
 use std::marker::Model;
 
@@ -129,15 +129,15 @@ impl Slots {
             Kept::Two(slots) => slots[position],
             Kept::Few(slots) => slots[position],
             Kept::Many(pieces) => {
-                let window = pieces.window(position, Span::WHOLE);
+                let window = pieces.window(position, Reach::WHOLE);
                 window.slots[position - window.start]
             }
         }
     }
 
-    /// A window with a position, whose piece is sought in a span first.
+    /// A window with a position, whose piece is sought within reach first.
     #[inline(always)]
-    fn window(&self, position: usize, span: Span) -> Window<'_>
+    fn window(&self, position: usize, reach: Reach) -> Window<'_>
         requires { position < length self.now.items }
         ensures slots { IsWindow self.now.items result.start result.slots.now }
         ensures has { HasPosition result.start result.slots.now position }
@@ -147,13 +147,9 @@ impl Slots {
             Kept::One(slots) => slots,
             Kept::Two(slots) => slots,
             Kept::Few(slots) => slots,
-            Kept::Many(pieces) => return pieces.window(position, span),
+            Kept::Many(pieces) => return pieces.window(position, reach),
         };
-        Window {
-            start: 0,
-            slots,
-            piece: 0,
-        }
+        Window::of(slots)
     }
 
     /// A window with a slot from a position on and before another, near the middle: this one, if it has the middle.
@@ -163,7 +159,7 @@ impl Slots {
         low: usize,
         high: usize,
         window: Window<'a>,
-        span: Span,
+        reach: Reach,
     ) -> Window<'a>
         requires range { low < high }
         requires within { high ≤ length self.now.items }
@@ -176,9 +172,9 @@ impl Slots {
             return window;
         }
         if let Kept::Many(pieces) = &self.kept {
-            return pieces.window_near(low, high, span);
+            return pieces.window_near(low, high, reach);
         }
-        self.window(middle, span)
+        self.window(middle, reach)
     }
 
     /// Puts another slot in the place of one.

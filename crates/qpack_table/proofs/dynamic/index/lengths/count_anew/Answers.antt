@@ -1,64 +1,63 @@
-use Rattle.std.proofs.Common.{arith, ℕ, ◌+◌, ◌-◌, ◌*◌, ◌/◌, ◌∙◌, get_or, set, refl, sym, ap}
-use Rattle.std.proofs.lemmas.List.{length-set}
-use Rattle.qpack_table.specs.Lengths.{slots_before}
-use Rattle.qpack_table.proofs.Lengths.{before_none, before_most, before_next, started_less, begun_more, done_more}
+use Rattle.std.proofs.Common.{arith, ◌≡◌, ℕ, ◌+◌, [], ◌∷◌, ◌++◌, ◌∙◌, List, length, get_or, take, sym, ap}
+use Rattle.std.proofs.lemmas.List.{map_more}
+use Rattle.std.specs.Global.{Vec}
+use Rattle.qpack_table.specs.Pieces.{lengths_of}
+use Rattle.qpack_table.specs.declared.dynamic.index.row.Slot.{Slot}
+use Rattle.qpack_table.proofs.Lengths.{before_none, before_most, before_next, starts_more}
+use Rattle.qpack_table.proofs.Pieces.{size, lengths_long, length_at, all_length}
 use Rattle.qpack_table.proofs.dynamic.index.lengths.count_anew.Goals as goal
 
-pub loop-k-init : goal.loop-k-init
-loop-k-init c = record {
-  counted = refl;
-  blocks = refl;
-  capacity = refl;
-  before = sym (before_none c.args.lengths.now);
-  begun = λ j d h. absurd (omega (arith, h));
-  done = λ j d h. absurd (omega (arith, h));
+pub loop-piece-init : goal.loop-piece-init
+loop-piece-init c = record {
+  lengths = c.clear.ensures.items;
+  counted = ap (λ (l : List ℕ). length l) c.clear-2.ensures.items;
+  each = λ k d h. absurd (omega (arith, h));
+  total = sym (before_none (lengths_of c.args.pieces.now));
+  lengths_room = c.clear.ensures.capacity;
+  starts_room = c.clear-2.ensures.capacity;
 }
 
-pub overflow_sub-before : goal.overflow_sub-before
-overflow_sub-before c =
-    let ns = c.args.lengths.now in
-    let known = c.loop-k.invariant in
-    let made = c.start_of_block-start.ensures in
+pub overflow_add-total : goal.overflow_add-total
+overflow_add-total c =
+    let ps = c.args.pieces.now in
+    let at : ℕ = c.loop-piece.piece-index in
     omega (
       arith,
-      known.before,
-      started_less ns c.loop-k.in_block.items c.loop-k.before_block.items
-          c.start_of_block-start.new.before_block.items c.loop-k.k c.start_of_block-start.result c.loop-k-test.true
-          (known.counted ∙ c.requires.places.counted) known.begun made.start (λ e. made.first e ∙ known.before)
-          made.later made.others,
-    )
-
-pub overflow_add-before : goal.overflow_add-before
-overflow_add-before c =
-    let ns = c.args.lengths.now in
-    omega (
-      arith,
-      c.loop-k.invariant.before,
-      before_next ns c.loop-k.k 0 c.loop-k-test.true,
-      before_most ns (c.loop-k.k + 1),
+      c.loop-piece.invariant.total,
+      c.len-total.ensures,
+      ap (λ (p : Vec Slot). size p) c.piece-item.is,
+      length_at ps at c.piece-item.result 0 c.loop-piece-test.true,
+      before_next (lengths_of ps) at 0 (omega (arith, lengths_long ps, c.loop-piece-test.true)),
+      before_most (lengths_of ps) (at + 1),
+      all_length ps,
       c.requires.few,
     )
 
-pub loop-k-preserved : goal.loop-k-preserved
-loop-k-preserved c =
-    let ns = c.args.lengths.now in
-    let xs = c.loop-k.in_block.items in
-    let bs = c.loop-k.before_block.items in
-    let cs = c.start_of_block-start.new.before_block.items in
-    let known = c.loop-k.invariant in
-    let made = c.start_of_block-start.ensures in
-    let long = known.counted ∙ c.requires.places.counted in
-    let at : ℕ = c.loop-k.k in
-    let start : ℕ = c.start_of_block-start.result in
+pub loop-piece-preserved : goal.loop-piece-preserved
+loop-piece-preserved c =
+    let ps = c.args.pieces.now in
+    let at : ℕ = c.loop-piece.piece-index in
+    let known = c.loop-piece.invariant in
+    let piece : Vec Slot = c.piece-item.result in
+    let same : c.len.result ≡ size (get_or ps at piece) =
+    omega (arith, c.len.ensures, ap (λ (p : Vec Slot). size p) c.piece-item.is) in
     record {
-      counted = length-set xs at (c.loop-k.before - start) ∙ known.counted;
-      blocks = made.length ∙ known.blocks;
-      capacity = known.capacity;
-      before = omega (arith, known.before, before_next ns at 0 c.loop-k-test.true);
-      begun = begun_more ns xs bs cs at start c.loop-k-test.true long known.begun made.start
-          (λ e. made.first e ∙ known.before) made.later made.others;
-      done = λ j d h.
-          ap (λ (v : ℕ). get_or (set xs at (v - start)) j d + slots_before ns (j / 32 * 32)) known.before
-          ∙ done_more ns xs bs cs at start c.loop-k-test.true long known.begun made.start
-          (λ e. made.first e ∙ known.before) made.later made.others known.done j d h;
+      lengths = c.push_reserved.ensures.items
+          ∙ ap (λ (l : List ℕ). l ++ c.len.result ∷ []) known.lengths
+          ∙ ap (λ (n : ℕ). lengths_of (take at ps) ++ n ∷ []) same
+          ∙ sym (map_more size ps at piece c.loop-piece-test.true);
+      counted = omega (arith, c.push_reserved-in-loop-piece.ensures.len, known.counted);
+      each = λ k d h. ap (λ (l : List ℕ). get_or l k d) c.push_reserved-in-loop-piece.ensures.items
+          ∙ starts_more (lengths_of ps) c.loop-piece.starts.items at c.loop-piece.total known.counted known.total
+          known.each k d h;
+      total = omega (
+        arith,
+        known.total,
+        c.len-total.ensures,
+        ap (λ (p : Vec Slot). size p) c.piece-item.is,
+        length_at ps at piece 0 c.loop-piece-test.true,
+        before_next (lengths_of ps) at 0 (omega (arith, lengths_long ps, c.loop-piece-test.true)),
+      );
+      lengths_room = c.push_reserved.ensures.capacity ∙ known.lengths_room;
+      starts_room = c.push_reserved-in-loop-piece.ensures.capacity ∙ known.starts_room;
     }

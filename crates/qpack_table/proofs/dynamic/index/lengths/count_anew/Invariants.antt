@@ -1,15 +1,15 @@
-use Rattle.std.proofs.Common.{◌≡◌, ℕ, ◌+◌, ◌*◌, ◌/◌, ◌<◌, length, slice_index_or}
+use Rattle.std.proofs.Common.{◌≡◌, ℕ, ◌<◌, length, take, slice_index_or}
 use Rattle.std.specs.Prelude.{vec_capacity}
 use Rattle.qpack_table.specs.Lengths.{slots_before}
+use Rattle.qpack_table.specs.Pieces.{lengths_of}
 use Rattle.qpack_table.proofs.dynamic.index.lengths.count_anew.Given as goal
 
-abbrev pub invariant-loop-k : goal.invariant-loop-k
-invariant-loop-k l = record {
-  counted : length l.in_block.items ≡ length l.fn.in_block.items;
-  blocks : length l.before_block.items ≡ length l.fn.before_block.items;
-  capacity : vec_capacity l.in_block ≡ vec_capacity l.fn.in_block;
-  before : l.before ≡ slots_before l.lengths l.k;
-  begun : (j d : ℕ) → j * 32 < l.k → slice_index_or l.before_block.items j d ≡ slots_before l.lengths (j * 32);
-  done : (j d : ℕ) → j < l.k
-      → slice_index_or l.in_block.items j d + slots_before l.lengths (j / 32 * 32) ≡ slots_before l.lengths j;
+abbrev pub invariant-loop-piece : goal.invariant-loop-piece
+invariant-loop-piece l = record {
+  lengths : l.lengths.items ≡ lengths_of (take l.piece-index l.pieces);
+  counted : length l.starts.items ≡ l.piece-index;
+  each : (k d : ℕ) → k < l.piece-index → slice_index_or l.starts.items k d ≡ slots_before (lengths_of l.pieces) k;
+  total : l.total ≡ slots_before (lengths_of l.pieces) l.piece-index;
+  lengths_room : vec_capacity l.lengths ≡ vec_capacity l.fn.lengths;
+  starts_room : vec_capacity l.starts ≡ vec_capacity l.fn.starts;
 }

@@ -1,28 +1,8 @@
-use Rattle.std.proofs.Common.{arith, ◌-◌, ◌<◌, length, get_or, ap}
-use Rattle.std.proofs.lemmas.List.{get_or_default, length-set}
-use Rattle.qpack_table.specs.Lengths.{LengthList}
-use Rattle.qpack_table.proofs.Lengths.{piece_behind, block_behind, all_has, one_less, lengths_lowered}
+use Rattle.std.proofs.Common.{arith, ◌<◌, ◌-◌, ◌∙◌, List, ℕ, length, get_or, set, ap, sym, subst}
+use Rattle.std.proofs.lemmas.List.{get_or_default, with_items_is}
+use Rattle.qpack_table.specs.Lengths.{LengthList, AreLengths}
+use Rattle.qpack_table.proofs.Lengths.{all_has, starts_some, lowered_at, same_long, is_start}
 use Rattle.qpack_table.proofs.dynamic.index.lengths.Lengths.lower.Goals as goal
-
-pub lower-requires-clause-some : goal.lower-requires-clause-some
-lower-requires-clause-some c k d from to =
-    let ns = c.self.inside.lengths.items in
-    let inside : c.args.at < length ns =
-    omega (arith, c.requires.within, ap (λ (l : LengthList). length l.items) c.self.view_is) in
-    let some : 0 < get_or ns c.args.at 0 =
-    omega (arith, c.requires.some, ap (λ (l : LengthList). get_or l.items c.args.at 0) c.self.view_is) in
-    piece_behind _ _ _ _ c.self.invariant c.args.at k d inside some (omega (arith, from))
-    (omega (arith, to, c.min.ensures, c.len-count.ensures)) (omega (arith, to, c.min.ensures))
-
-pub lower-requires-2-clause-some : goal.lower-requires-2-clause-some
-lower-requires-2-clause-some c k d from to =
-    let ns = c.self.inside.lengths.items in
-    let inside : c.args.at < length ns =
-    omega (arith, c.requires.within, ap (λ (l : LengthList). length l.items) c.self.view_is) in
-    let some : 0 < get_or ns c.args.at 0 =
-    omega (arith, c.requires.some, ap (λ (l : LengthList). get_or l.items c.args.at 0) c.self.view_is) in
-    block_behind _ _ _ _ c.self.invariant c.args.at k d inside some (omega (arith, from))
-    (omega (arith, from, to, c.len-count.ensures))
 
 pub overflow_sub-self : goal.overflow_sub-self
 overflow_sub-self c =
@@ -31,22 +11,40 @@ overflow_sub-self c =
     omega (arith, c.requires.within, ap (λ (l : LengthList). length l.items) c.self.view_is) in
     let some : 0 < get_or ns c.args.at 0 =
     omega (arith, c.requires.some, ap (λ (l : LengthList). get_or l.items c.args.at 0) c.self.view_is) in
-    omega (arith, c.self.invariant.counted, all_has ns c.args.at 0 inside, some)
+    omega (arith, all_has ns _ _ c.self.invariant c.args.at 0 inside, some)
 
-pub invariant_of-self : goal.invariant_of-self
-invariant_of-self c =
+pub lower-requires : goal.lower-requires
+lower-requires c k d h =
     let ns = c.self.inside.lengths.items in
+    let xs = c.deref_mut.result.now in
     let inside : c.args.at < length ns =
     omega (arith, c.requires.within, ap (λ (l : LengthList). length l.items) c.self.view_is) in
     let some : 0 < get_or ns c.args.at 0 =
     omega (arith, c.requires.some, ap (λ (l : LengthList). get_or l.items c.args.at 0) c.self.view_is) in
-    let long = length-set ns c.args.at (c.index_mut.result.now - 1) in
-    lengths_lowered c.args.at c.min.result _ _ _ _ _ _ _ (omega (arith, inside, long))
-    (one_less ns c.args.at _ inside (omega (
+    let are : AreLengths ns xs c.self.inside.total =
+    subst (λ (l : List ℕ). AreLengths ns l c.self.inside.total) (sym c.deref_mut.ensures.value) c.self.invariant in
+    omega (arith, starts_some ns xs c.self.inside.total c.args.at are inside some k d h)
+
+pub invariant_of-self : goal.invariant_of-self
+invariant_of-self c =
+    let ns = c.self.inside.lengths.items in
+    let xs = c.deref_mut.result.now in
+    let ys = c.lower.new.numbers in
+    let inside : c.args.at < length ns =
+    omega (arith, c.requires.within, ap (λ (l : LengthList). length l.items) c.self.view_is) in
+    let some : 0 < get_or ns c.args.at 0 =
+    omega (arith, c.requires.some, ap (λ (l : LengthList). get_or l.items c.args.at 0) c.self.view_is) in
+    let are : AreLengths ns xs c.self.inside.total =
+    subst (λ (l : List ℕ). AreLengths ns l c.self.inside.total) (sym c.deref_mut.ensures.value) c.self.invariant in
+    subst (λ (l : List ℕ). AreLengths (set ns c.args.at (c.index_mut.result.now - 1)) l (c.self.inside.total - 1))
+    (sym (with_items_is c.self.inside.starts _ (
+    same_long c.args.at xs ys (is_start ns xs _ c.args.at are inside) (sym c.lower.ensures.counted)
+    ∙ c.deref_mut.ensures.len
+    )))
+    (lowered_at ns xs c.self.inside.total c.args.at are inside ys (c.index_mut.result.now - 1) (omega (
       arith,
       c.index_mut.ensures.value,
       get_or_default ns c.args.at c.index_mut.result.now 0 inside,
       some,
-    )))
-    (omega (arith, c.min.ensures, c.len-count.ensures, long)) (omega (arith, c.len-count.ensures, long))
-    c.lower.ensures.lowered c.lower-2.ensures.lowered _ c.self.invariant
+    ))
+    c.lower.ensures)

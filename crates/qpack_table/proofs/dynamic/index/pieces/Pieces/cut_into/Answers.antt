@@ -1,93 +1,65 @@
-use Rattle.std.proofs.Common.{◌≡◌, ℕ, suc, ◌+◌, ◌-◌, ◌<◌, ◌∙◌, ◌++◌, List, length, get_or, set, take, drop, sym, ap, subst, arith}
-use Rattle.std.specs.Global.{Vec}
-use Rattle.std.specs.List.{insert}
-use Rattle.std.proofs.lemmas.List.{get_or_read, length-set, take-append-drop, length-drop, length-take-le, take_rest}
-use Rattle.std.proofs.lemmas.List.Edits.{length-insert}
+use Rattle.std.proofs.Common.{◌≡◌, ℕ, suc, ◌+◌, ◌-◌, ◌<◌, ◌∙◌, length, get_or, set, sym, ap, subst, arith}
 use Rattle.std.specs.Prelude.{Option, IfSome, vec_capacity}
-use Rattle.qpack_table.specs.Pieces.{slots_in, IsSpare}
-use Rattle.qpack_table.specs.declared.dynamic.index.row.Slot.{Slot}
-use Rattle.qpack_table.proofs.Pieces.{size, length_at, Become, pieces_cut}
+use Rattle.std.specs.List.{insert}
+use Rattle.std.proofs.lemmas.List.{get_or_read, length-set}
+use Rattle.std.proofs.lemmas.List.Edits.{length-insert}
+use Rattle.qpack_table.specs.Groups.{slots_in_groups, IsGroup, IsSpareGroup, HaveRoom}
+use Rattle.qpack_table.specs.declared.dynamic.index.group.Group.{Group}
+use Rattle.qpack_table.proofs.Groups.{Come, count_of, group_at, group_cut, room_cut}
 use Rattle.qpack_table.proofs.dynamic.index.pieces.Pieces.cut_into.Goals as goal
 
-pub returns-clause-lengths : goal.returns-clause-lengths
-returns-clause-lengths c =
-    let ps = c.args.self.now.pieces.items in
-    let ns = c.args.self.now.lengths.items in
-    let at : ℕ = c.args.at in
-    let left : get_or ns at 0 - 64 ≡ 64 = omega (
-      arith,
-      ap (λ (l : List ℕ). get_or l at 0) c.requires.pieces.counted,
-      length_at ps at c.args.upper 0 c.requires.within,
-      c.requires.full c.args.upper,
-    ) in
-    c.cut.ensures ∙ ap (λ (n : ℕ). insert (set ns at n) (at + 1) 64) left
+pub cut_off-upper-requires-clause-group : goal.cut_off-upper-requires-clause-group
+cut_off-upper-requires-clause-group c =
+    subst IsGroup (sym c.index_mut.ensures.value)
+    (group_at c.args.self.now.groups.items c.args.at c.index_mut.result.now c.requires.stand.groups c.requires.within)
 
 pub returns-clause-pieces : goal.returns-clause-pieces
 returns-clause-pieces c =
-    let ps = c.args.self.now.pieces.items in
+    let gs = c.args.self.now.groups.items in
     let ns = c.args.self.now.lengths.items in
     let at : ℕ = c.args.at in
-    let p : Vec Slot = c.index_mut.result.now in
-    let lower : Vec Slot = c.truncate.new.self in
-    let upper : Vec Slot = c.extend_with_room.new.slots in
-    let read = get_or_read ps at p c.requires.within c.index_mut.ensures.value in
-    let again = get_or_read ps at c.index.result.now c.requires.within c.index.ensures in
-    let full : size p ≡ 128 = ap (λ (x : Vec Slot). size x) (read p) ∙ c.requires.full p in
-    let high : upper.items ≡ drop 64 p.items =
-    c.extend_with_room.ensures.slots
-    ∙ ap (λ xs. xs ++ take (length c.deref.result.now - 64) (drop 64 c.deref.result.now)) c.requires.upper.0
-    ∙ take_rest c.deref.result.now 64
-    ∙ ap (λ xs. drop 64 xs) (c.deref.ensures.value ∙ ap (λ (x : Vec Slot). x.items) (again p ∙ sym (read p))) in
-    let low : size lower ≡ 64 =
-    ap (λ xs. length xs) c.truncate.ensures.items ∙ length-take-le 64 p.items (omega (arith, full)) in
-    let top : size upper ≡ 64 =
-    ap (λ xs. length xs) high ∙ omega (arith, length-drop 64 p.items, full) in
+    let g : Group = c.index_mut.result.now in
+    let lower : Group = c.cut_off-upper.new.self in
+    let upper : Group = c.cut_off-upper.result in
+    let halves = c.cut_off-upper.ensures in
     let next : suc at ≡ at + 1 = omega arith in
-    let become = pieces_cut ps ns at p lower upper c.requires.pieces.fit c.requires.pieces.counted c.requires.within
-    read ((λ t. c.truncate.ensures.items t ++ high t) ∙ take-append-drop 64 p.items)
-    (omega (arith, c.truncate.ensures.capacity))
-    (omega (arith, c.requires.upper.1, c.extend_with_room.ensures.capacity)) in
-    let there = subst (λ xs. Become xs (insert (set ns at (size lower)) (suc at) (size upper)) (slots_in ps))
-    (ap (λ (n : ℕ). insert (set ps at lower) n upper) next ∙ sym c.insert_with_room.ensures.items) become in
+    let come = group_cut gs ns at g lower upper c.requires.stand.groups c.requires.stand.counted c.requires.within
+    (get_or_read gs at g c.requires.within c.index_mut.ensures.value) halves.lower halves.upper halves.slots in
+    let put = ap (λ (n : ℕ). insert (set gs at lower) n upper) next ∙ sym c.insert_with_room.ensures.items in
+    let there = subst (λ xs. Come xs
+    (insert (set ns at (get_or ns at 0 - count_of upper)) (suc at) (count_of upper)) (slots_in_groups gs)) put come in
     record {
-      some = omega (
-        arith,
-        ap (λ xs. length xs) c.insert_with_room.ensures.items,
-        length-insert (set ps at lower) (at + 1) upper (omega (arith, c.requires.within, length-set ps at lower)),
-      );
-      fit = there.fit;
-      counted = returns-clause-lengths c
-          ∙ (λ t. insert (set ns at (sym low t)) (sym next t) (sym top t)) ∙ there.counted;
-      spare = subst (λ (s : Option (Vec Slot)). IfSome s (λ v. IsSpare v
-          × (length c.insert_with_room.new.items.items < vec_capacity c.insert_with_room.new.items)
-          × (length c.cut.new.self.items < c.cut.new.self.capacity))) (sym c.requires.no_spare) tt;
+      stand = record {
+        some = omega (
+          arith,
+          ap (λ xs. length xs) c.insert_with_room.ensures.items,
+          length-insert (set gs at lower) (at + 1) upper (omega (arith, c.requires.within, length-set gs at lower)),
+        );
+        groups = there.groups;
+        counted = c.cut.ensures.items
+            ∙ (λ t. insert (set ns at (get_or ns at 0 - c.len.ensures t)) (sym next t) (c.len.ensures t))
+            ∙ there.counted;
+        spare_piece = c.requires.stand.spare_piece;
+        spare_group = subst (λ (s : Option Group). IfSome s (λ v. IsSpareGroup v
+            × ((length c.insert_with_room.new.items.items < vec_capacity c.insert_with_room.new.items)
+            × (length c.cut.new.self.items < c.cut.new.self.capacity)))) (sym c.requires.no_spare) tt;
+      };
+      room = subst HaveRoom put
+          (room_cut lower upper gs at c.requires.others c.requires.within (omega (arith, halves.halves.0))
+          (omega (arith, halves.halves.1)));
     }
 
 pub returns-clause-slots : goal.returns-clause-slots
 returns-clause-slots c =
-    let ps = c.args.self.now.pieces.items in
+    let gs = c.args.self.now.groups.items in
     let ns = c.args.self.now.lengths.items in
     let at : ℕ = c.args.at in
-    let p : Vec Slot = c.index_mut.result.now in
-    let lower : Vec Slot = c.truncate.new.self in
-    let upper : Vec Slot = c.extend_with_room.new.slots in
-    let read = get_or_read ps at p c.requires.within c.index_mut.ensures.value in
-    let again = get_or_read ps at c.index.result.now c.requires.within c.index.ensures in
-    let full : size p ≡ 128 = ap (λ (x : Vec Slot). size x) (read p) ∙ c.requires.full p in
-    let high : upper.items ≡ drop 64 p.items =
-    c.extend_with_room.ensures.slots
-    ∙ ap (λ xs. xs ++ take (length c.deref.result.now - 64) (drop 64 c.deref.result.now)) c.requires.upper.0
-    ∙ take_rest c.deref.result.now 64
-    ∙ ap (λ xs. drop 64 xs) (c.deref.ensures.value ∙ ap (λ (x : Vec Slot). x.items) (again p ∙ sym (read p))) in
-    let low : size lower ≡ 64 =
-    ap (λ xs. length xs) c.truncate.ensures.items ∙ length-take-le 64 p.items (omega (arith, full)) in
-    let top : size upper ≡ 64 =
-    ap (λ xs. length xs) high ∙ omega (arith, length-drop 64 p.items, full) in
+    let g : Group = c.index_mut.result.now in
+    let lower : Group = c.cut_off-upper.new.self in
+    let upper : Group = c.cut_off-upper.result in
+    let halves = c.cut_off-upper.ensures in
     let next : suc at ≡ at + 1 = omega arith in
-    let become = pieces_cut ps ns at p lower upper c.requires.pieces.fit c.requires.pieces.counted c.requires.within
-    read ((λ t. c.truncate.ensures.items t ++ high t) ∙ take-append-drop 64 p.items)
-    (omega (arith, c.truncate.ensures.capacity))
-    (omega (arith, c.requires.upper.1, c.extend_with_room.ensures.capacity)) in
-    let there = subst (λ xs. Become xs (insert (set ns at (size lower)) (suc at) (size upper)) (slots_in ps))
-    (ap (λ (n : ℕ). insert (set ps at lower) n upper) next ∙ sym c.insert_with_room.ensures.items) become in
-    there.slots
+    let come = group_cut gs ns at g lower upper c.requires.stand.groups c.requires.stand.counted c.requires.within
+    (get_or_read gs at g c.requires.within c.index_mut.ensures.value) halves.lower halves.upper halves.slots in
+    ap slots_in_groups (c.insert_with_room.ensures.items ∙ ap (λ (n : ℕ). insert (set gs at lower) n upper) (sym next))
+    ∙ come.slots
