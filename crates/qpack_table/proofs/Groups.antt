@@ -10,7 +10,8 @@ use Rattle.qpack_table.specs.Groups.{IsGroup, slots_in_groups, counts_of, AreGro
 use Rattle.qpack_table.specs.SlotLists.{IsWindow}
 use Rattle.qpack_table.specs.declared.dynamic.index.row.Slot.{Slot}
 use Rattle.qpack_table.specs.declared.dynamic.index.group.Group.{Group}
-use Rattle.qpack_table.proofs.Pieces.{few_slots, IsEdit, set_edit, insert_edit, remove_edit, set_same}
+use Rattle.qpack_table.proofs.Pieces.{few_slots, set_same}
+use Rattle.qpack_table.proofs.Parts.{IsEdit, set_edit, insert_edit, remove_edit}
 use Rattle.qpack_table.proofs.Parts.{counts_long, item_edited, counts_set, counts_all, item_within, count_known, position_to}
 use Rattle.qpack_table.proofs.Parts.{position_inside, counts_cut, item_cut, counts_joined, items_joined, count_at, slot_of_item}
 

@@ -15,8 +15,8 @@ pub mod Lookups
 pub mod Changes
 pub mod Halvings
 pub mod Lengths
-pub mod Pieces
 pub mod Parts
+pub mod Pieces
 pub mod Groups
 pub mod RowOrder
 pub mod RowSearches

@@ -3,10 +3,37 @@ use Rattle.std.proofs.Common.{◌≡◌, ℕ, zero, suc, ◌+◌, ◌-◌, ◌<�
 use Rattle.std.proofs.Common.{append_assoc, refl, sym, ap, ◌∙◌, arith}
 use Rattle.std.specs.List.{flat_map, insert, remove}
 use Rattle.std.proofs.lemmas.List.{length-append, length-map, get_or_append_left, get_or-append_right, get_or-map}
+use Rattle.std.proofs.lemmas.List.{set-append_left, set-append_right}
+use Rattle.std.proofs.lemmas.List.Edits.{insert-append_left, insert-append_right, remove-append_left, remove-append_right}
 use Rattle.qpack_table.specs.Lengths.{slots_before, all_slots, IsPieceOf}
 use Rattle.qpack_table.specs.declared.dynamic.index.row.Slot.{Slot}
 use Rattle.qpack_table.proofs.Lengths.{before_more}
-use Rattle.qpack_table.proofs.Pieces.{IsEdit}
+
+-- an edit of a list at a place, which leaves alone what is before and behind
+pub record IsEdit (Fits : List Slot → ℕ → Type 0) (edit : List Slot → ℕ → List Slot) : Type 0 where
+  pub left : (xs ys : List Slot) (i : ℕ) → Fits xs i → edit (xs ++ ys) i ≡ edit xs i ++ ys
+  pub right : (xs ys : List Slot) (i : ℕ) → length xs ≤ i → edit (xs ++ ys) i ≡ xs ++ edit ys (i - length xs)
+
+-- what each edit of one list is
+pub set_edit : (slot : Slot) → IsEdit (λ xs i. i < length xs) (λ xs i. set xs i slot)
+set_edit slot = record {
+  left = λ xs ys i h. set-append_left xs ys i slot h;
+  right = λ xs ys i h. set-append_right xs ys (length xs) i slot refl h;
+}
+
+pub insert_edit : (slot : Slot) → IsEdit (λ xs i. i ≤ length xs) (λ xs i. insert xs i slot)
+insert_edit slot = record {
+  left = λ xs ys i h. insert-append_left xs ys i slot h;
+  right = λ xs ys i h. insert-append_right xs ys (length xs) i slot refl h;
+}
+
+pub remove_edit : IsEdit (λ xs i. i < length xs) (λ xs i. remove xs i)
+remove_edit = record {
+  left = λ xs ys i h. remove-append_left xs ys i h;
+  right = λ xs ys i h. remove-append_right xs ys (length xs) i refl h;
+}
+
+-- ---- of each item a list
 
 module _ (A : Type 0) (f : A → List Slot) where
   -- how many slots each item has

@@ -1,34 +1,37 @@
 -- The pieces of a large row: where a position is, and what an edit of one piece makes of all slots.
 use Rattle.std.proofs.Common.{◌≡◌, ℕ, zero, suc, ◌+◌, ◌-◌, ◌*◌, ◌<◌, ◌≤◌, [], ◌∷◌, ◌++◌, List, length, get_or, set}
-use Rattle.std.proofs.Common.{append_assoc, refl, sym, ap, subst, ◌∙◌, arith}
+use Rattle.std.proofs.Common.{refl, sym, ap, subst, ◌∙◌, arith}
 use Rattle.std.specs.Prelude.{vec_capacity}
 use Rattle.std.specs.Global.{Vec}
 use Rattle.std.specs.List.{insert, remove}
-use Rattle.std.proofs.lemmas.List.{length-append, length-map, get_or_append_left, get_or-append_right, length-set}
-use Rattle.std.proofs.lemmas.List.{get_or-map, set-append_left, set-append_right}
-use Rattle.std.proofs.lemmas.List.Edits.{insert-append_left, insert-append_right, remove-append_left}
-use Rattle.std.proofs.lemmas.List.Edits.{remove-append_right, length-insert, length-remove}
+use Rattle.std.proofs.lemmas.List.{length-append, length-set}
+use Rattle.std.proofs.lemmas.List.Edits.{length-insert, length-remove}
 use Rattle.qpack_table.specs.Lengths.{slots_before, all_slots, IsPieceOf}
 use Rattle.qpack_table.specs.Pieces.{slots_in, lengths_of, IsPiece, AreFit}
 use Rattle.qpack_table.specs.declared.dynamic.index.row.Slot.{Slot}
 use Rattle.qpack_table.proofs.Lengths.{before_more, all_cut}
+use Rattle.qpack_table.proofs.Parts.{IsEdit, set_edit, insert_edit, remove_edit, counts_long, count_at, counts_all, slot_of_item}
+use Rattle.qpack_table.proofs.Parts.{item_within, count_known, position_to, position_inside, item_edited, counts_set}
+use Rattle.qpack_table.proofs.Parts.{counts_cut, item_cut, counts_joined, items_joined}
 
--- how many slots a piece has
+-- the slots of a piece, and how many they are
+abbrev pub slots_of_piece : Vec Slot → List Slot
+slots_of_piece p = p.items
+
 abbrev pub size : Vec Slot → ℕ
 size p = length p.items
 
 -- ---- pieces and their lengths
 
 pub lengths_long : (ps : List (Vec Slot)) → length (lengths_of ps) ≡ length ps
-lengths_long ps = length-map ps size
+lengths_long ps = counts_long (Vec Slot) slots_of_piece ps
 
 pub length_at : (ps : List (Vec Slot)) (k : ℕ) (d : Vec Slot) (e : ℕ) → k < length ps
     → get_or (lengths_of ps) k e ≡ size (get_or ps k d)
-length_at ps k d e h = get_or-map size ps k d e h
+length_at ps k d e h = count_at (Vec Slot) slots_of_piece ps k d e h
 
 pub all_length : (ps : List (Vec Slot)) → all_slots (lengths_of ps) ≡ length (slots_in ps)
-all_length [] = refl
-all_length (p ∷ ps) = omega (arith, all_length ps, length-append p.items (slots_in ps))
+all_length ps = counts_all (Vec Slot) slots_of_piece ps
 
 -- a piece has at most 128
 pub few_slots : (ps : List (Vec Slot)) → AreFit ps → length (slots_in ps) ≤ 128 * length ps
@@ -61,11 +64,6 @@ pub fit_behind : (ps qs : List (Vec Slot)) → AreFit (ps ++ qs) → AreFit qs
 fit_behind [] qs fit = fit
 fit_behind (p ∷ ps) qs fit = fit_behind ps qs fit.1
 
-lengths_set : (ps : List (Vec Slot)) (k : ℕ) (q : Vec Slot) → lengths_of (set ps k q) ≡ set (lengths_of ps) k (size q)
-lengths_set [] k q = refl
-lengths_set (p ∷ ps) zero q = refl
-lengths_set (p ∷ ps) (suc k) q = (λ i. size p ∷ lengths_set ps k q i)
-
 pub set_same : (ns : List ℕ) (k : ℕ) → k < length ns → set ns k (get_or ns k 0) ≡ ns
 set_same [] k h = absurd (omega (arith, h))
 set_same (n ∷ ns) zero h = refl
@@ -75,85 +73,25 @@ set_same (n ∷ ns) (suc k) h = (λ i. n ∷ set_same ns k (omega (arith, h)) i)
 
 pub slot_at : (ps : List (Vec Slot)) (k : ℕ) (d : Vec Slot) (i : ℕ) (e : Slot) → k < length ps → i < size (get_or ps k d)
     → get_or (slots_in ps) (slots_before (lengths_of ps) k + i) e ≡ get_or (get_or ps k d).items i e
-slot_at [] k d i e h lt = absurd (omega (arith, h))
-slot_at (p ∷ ps) zero d i e h lt =
-    ap (λ (j : ℕ). get_or (p.items ++ slots_in ps) j e) {y = i} (omega arith)
-    ∙ get_or_append_left p.items (slots_in ps) e i lt
-slot_at (p ∷ ps) (suc k) d i e h lt =
-    get_or-append_right p.items (slots_in ps) (size p) (size p + slots_before (lengths_of ps) k + i) e refl
-    (omega arith)
-    ∙ ap (λ (j : ℕ). get_or (slots_in ps) j e) {y = slots_before (lengths_of ps) k + i} (omega arith)
-    ∙ slot_at ps k d i e (omega (arith, h)) lt
+slot_at ps k d i e h lt = slot_of_item (Vec Slot) slots_of_piece ps k d i e h lt
 
 -- where a position is in its piece
 module _ (ps : List (Vec Slot)) (ns : List ℕ) (position k : ℕ) (counted : ns ≡ lengths_of ps)
     (at : IsPieceOf ns position k) where
   pub piece_within : k < length ps
-  piece_within = omega (arith, at.within, ap (λ (l : List ℕ). length l) counted, lengths_long ps)
+  piece_within = item_within (Vec Slot) slots_of_piece ps ns position k counted at
 
   pub size_known : (d : Vec Slot) → get_or ns k 0 ≡ size (get_or ps k d)
-  size_known d = ap (λ (l : List ℕ). get_or l k 0) counted ∙ length_at ps k d 0 piece_within
+  size_known d = count_known (Vec Slot) slots_of_piece ps ns position k counted at d
 
   pub offset_to : (d : Vec Slot) → position - slots_before ns k ≤ size (get_or ps k d)
-  offset_to d = omega (arith, at.from, at.to, before_more ns k 0 at.within, size_known d)
+  offset_to d = position_to (Vec Slot) slots_of_piece ps ns position k counted at d
 
   pub offset_inside : (d : Vec Slot) → position < length (slots_in ps)
       → position - slots_before ns k < size (get_or ps k d)
-  offset_inside d h = omega (
-    arith,
-    at.from,
-    at.inside (omega (arith, h, ap (λ (l : List ℕ). all_slots l) counted, all_length ps)),
-    before_more ns k 0 at.within,
-    size_known d,
-  )
-
-  pub slot_read : (d : Vec Slot) (e : Slot) → position < length (slots_in ps)
-      → get_or (slots_in ps) position e ≡ get_or (get_or ps k d).items (position - slots_before ns k) e
-  slot_read d e h =
-      ap (λ (j : ℕ). get_or (slots_in ps) j e)
-      {y = slots_before (lengths_of ps) k + (position - slots_before ns k)}
-      (omega (arith, at.from, ap (λ (l : List ℕ). slots_before l k) counted))
-      ∙ slot_at ps k d (position - slots_before ns k) e piece_within (offset_inside d h)
+  offset_inside d h = position_inside (Vec Slot) slots_of_piece ps ns position k counted at d h
 
 -- ---- one piece is edited
-
--- an edit of a list at a place, which leaves alone what is before and behind
-pub record IsEdit (Fits : List Slot → ℕ → Type 0) (edit : List Slot → ℕ → List Slot) : Type 0 where
-  pub left : (xs ys : List Slot) (i : ℕ) → Fits xs i → edit (xs ++ ys) i ≡ edit xs i ++ ys
-  pub right : (xs ys : List Slot) (i : ℕ) → length xs ≤ i → edit (xs ++ ys) i ≡ xs ++ edit ys (i - length xs)
-
-edited : (Fits : List Slot → ℕ → Type 0) (edit : List Slot → ℕ → List Slot) → IsEdit Fits edit
-    → (ps : List (Vec Slot)) (k : ℕ) (d q : Vec Slot) (i : ℕ) → k < length ps → Fits (get_or ps k d).items i
-    → q.items ≡ edit (get_or ps k d).items i
-    → slots_in (set ps k q) ≡ edit (slots_in ps) (slots_before (lengths_of ps) k + i)
-edited Fits edit is [] k d q i h fit e = absurd (omega (arith, h))
-edited Fits edit is (p ∷ ps) zero d q i h fit e =
-    (λ t. e t ++ slots_in ps) ∙ sym (is.left p.items (slots_in ps) i fit)
-    ∙ ap (λ (j : ℕ). edit (p.items ++ slots_in ps) j) {x = i} (omega arith)
-edited Fits edit is (p ∷ ps) (suc k) d q i h fit e =
-    (λ t. p.items ++ edited Fits edit is ps k d q i (omega (arith, h)) fit e t)
-    ∙ ap (λ (j : ℕ). p.items ++ edit (slots_in ps) j) {y = size p + slots_before (lengths_of ps) k + i - size p}
-    (omega arith)
-    ∙ sym (is.right p.items (slots_in ps) (size p + slots_before (lengths_of ps) k + i) (omega arith))
-
--- what each edit of one list is
-pub set_edit : (slot : Slot) → IsEdit (λ xs i. i < length xs) (λ xs i. set xs i slot)
-set_edit slot = record {
-  left = λ xs ys i h. set-append_left xs ys i slot h;
-  right = λ xs ys i h. set-append_right xs ys (length xs) i slot refl h;
-}
-
-pub insert_edit : (slot : Slot) → IsEdit (λ xs i. i ≤ length xs) (λ xs i. insert xs i slot)
-insert_edit slot = record {
-  left = λ xs ys i h. insert-append_left xs ys i slot h;
-  right = λ xs ys i h. insert-append_right xs ys (length xs) i slot refl h;
-}
-
-pub remove_edit : IsEdit (λ xs i. i < length xs) (λ xs i. remove xs i)
-remove_edit = record {
-  left = λ xs ys i h. remove-append_left xs ys i h;
-  right = λ xs ys i h. remove-append_right xs ys (length xs) i refl h;
-}
 
 -- pieces that fit, with their lengths and these slots
 pub record Become (ps : List (Vec Slot)) (ns : List ℕ) (all : List Slot) : Type 0 where
@@ -176,8 +114,8 @@ module _ (ps : List (Vec Slot)) (ns : List ℕ) (position k : ℕ) (p q : Vec Sl
       → Become (set ps k q) (set ns k (size q)) (edit (slots_in ps) position)
   become Fits edit is fits made few = record {
     fit = fit_set ps k q fit (few, omega (arith, piece_there.1, room));
-    counted = ap (λ (l : List ℕ). set l k (size q)) counted ∙ sym (lengths_set ps k q);
-    slots = edited Fits edit is ps k p q offset (piece_within ps ns position k counted at)
+    counted = ap (λ (l : List ℕ). set l k (size q)) counted ∙ sym (counts_set (Vec Slot) slots_of_piece ps k q);
+    slots = item_edited (Vec Slot) slots_of_piece Fits edit is ps k p q offset (piece_within ps ns position k counted at)
         (subst (λ (x : Vec Slot). Fits x.items offset) (read p) fits)
         (made ∙ ap (λ (x : Vec Slot). edit x.items offset) (read p))
         ∙ ap (λ (j : ℕ). edit (slots_in ps) j)
@@ -221,27 +159,11 @@ module _ (ps : List (Vec Slot)) (ns : List ℕ) (position k : ℕ) (p q : Vec Sl
 
 -- ---- a piece is cut
 
-module _ (lower upper : Vec Slot) (d : Vec Slot) where
-  fit_cut : (ps : List (Vec Slot)) (k : ℕ) → AreFit ps → k < length ps → IsPiece lower → IsPiece upper
-      → AreFit (insert (set ps k lower) (suc k) upper)
-  fit_cut [] k fit h low up = absurd (omega (arith, h))
-  fit_cut (p ∷ ps) zero fit h low up = (low, (up, fit.1))
-  fit_cut (p ∷ ps) (suc k) fit h low up = (fit.0, fit_cut ps k fit.1 (omega (arith, h)) low up)
-
-  lengths_cut : (ps : List (Vec Slot)) (k : ℕ) → k < length ps
-      → lengths_of (insert (set ps k lower) (suc k) upper)
-      ≡ insert (set (lengths_of ps) k (size lower)) (suc k) (size upper)
-  lengths_cut [] k h = absurd (omega (arith, h))
-  lengths_cut (p ∷ ps) zero h = refl
-  lengths_cut (p ∷ ps) (suc k) h = (λ t. size p ∷ lengths_cut ps k (omega (arith, h)) t)
-
-  slots_cut : (ps : List (Vec Slot)) (k : ℕ) → k < length ps
-      → lower.items ++ upper.items ≡ (get_or ps k d).items
-      → slots_in (insert (set ps k lower) (suc k) upper) ≡ slots_in ps
-  slots_cut [] k h both = absurd (omega (arith, h))
-  slots_cut (p ∷ ps) zero h both =
-      sym (append_assoc lower.items upper.items (slots_in ps)) ∙ (λ t. both t ++ slots_in ps)
-  slots_cut (p ∷ ps) (suc k) h both = (λ t. p.items ++ slots_cut ps k (omega (arith, h)) both t)
+fit_cut : (lower upper : Vec Slot) (ps : List (Vec Slot)) (k : ℕ) → AreFit ps → k < length ps → IsPiece lower
+    → IsPiece upper → AreFit (insert (set ps k lower) (suc k) upper)
+fit_cut lower upper [] k fit h low up = absurd (omega (arith, h))
+fit_cut lower upper (p ∷ ps) zero fit h low up = (low, (up, fit.1))
+fit_cut lower upper (p ∷ ps) (suc k) fit h low up = (fit.0, fit_cut lower upper ps k fit.1 (omega (arith, h)) low up)
 
 -- a piece as it was read, and its halves
 pub pieces_cut : (ps : List (Vec Slot)) (ns : List ℕ) (k : ℕ) (p lower upper : Vec Slot) → AreFit ps
@@ -253,11 +175,11 @@ pieces_cut ps ns k p lower upper fit counted h read both room spare =
     let long : size lower + size upper ≡ size p =
     sym (length-append lower.items upper.items) ∙ ap (λ (l : List Slot). length l) both in
     record {
-      fit = fit_cut lower upper p ps k fit h (omega (arith, long, is.0), omega (arith, is.1, room))
+      fit = fit_cut lower upper ps k fit h (omega (arith, long, is.0), omega (arith, is.1, room))
           (omega (arith, long, is.0), spare);
       counted = ap (λ (l : List ℕ). insert (set l k (size lower)) (suc k) (size upper)) counted
-          ∙ sym (lengths_cut lower upper p ps k h);
-      slots = slots_cut lower upper p ps k h (both ∙ ap (λ (x : Vec Slot). x.items) (read p));
+          ∙ sym (counts_cut (Vec Slot) slots_of_piece lower upper p ps k h);
+      slots = item_cut (Vec Slot) slots_of_piece lower upper p ps k h (both ∙ ap (λ (x : Vec Slot). x.items) (read p));
     }
 
 -- what is before the halves of a piece that was cut
@@ -313,30 +235,12 @@ module _ (ns : List ℕ) (position k : ℕ) (at : IsPieceOf ns position k) (full
 
 -- ---- two pieces are joined
 
-module _ (joined : Vec Slot) (d : Vec Slot) where
-  fit_joined : (ps : List (Vec Slot)) (k : ℕ) → AreFit ps → suc k < length ps → IsPiece joined
-      → AreFit (set (remove ps (suc k)) k joined)
-  fit_joined [] k fit h is = absurd (omega (arith, h))
-  fit_joined (p ∷ []) k fit h is = absurd (omega (arith, h))
-  fit_joined (p ∷ q ∷ ps) zero fit h is = (is, fit.1.1)
-  fit_joined (p ∷ q ∷ ps) (suc k) fit h is = (fit.0, fit_joined (q ∷ ps) k fit.1 (omega (arith, h)) is)
-
-  lengths_joined : (ps : List (Vec Slot)) (k m : ℕ) → suc k < length ps → m ≡ size joined
-      → lengths_of (set (remove ps (suc k)) k joined) ≡ remove (set (lengths_of ps) k m) (suc k)
-  lengths_joined [] k m h e = absurd (omega (arith, h))
-  lengths_joined (p ∷ []) k m h e = absurd (omega (arith, h))
-  lengths_joined (p ∷ q ∷ ps) zero m h e = (λ t. sym e t ∷ lengths_of ps)
-  lengths_joined (p ∷ q ∷ ps) (suc k) m h e = (λ t. size p ∷ lengths_joined (q ∷ ps) k m (omega (arith, h)) e t)
-
-  slots_joined : (ps : List (Vec Slot)) (k : ℕ) → suc k < length ps
-      → joined.items ≡ (get_or ps k d).items ++ (get_or ps (suc k) d).items
-      → slots_in (set (remove ps (suc k)) k joined) ≡ slots_in ps
-  slots_joined [] k h both = absurd (omega (arith, h))
-  slots_joined (p ∷ []) k h both = absurd (omega (arith, h))
-  slots_joined (p ∷ q ∷ ps) zero h both =
-      (λ t. both t ++ slots_in ps) ∙ append_assoc p.items q.items (slots_in ps)
-  slots_joined (p ∷ q ∷ ps) (suc k) h both =
-      (λ t. p.items ++ slots_joined (q ∷ ps) k (omega (arith, h)) both t)
+fit_joined : (joined : Vec Slot) (ps : List (Vec Slot)) (k : ℕ) → AreFit ps → suc k < length ps → IsPiece joined
+    → AreFit (set (remove ps (suc k)) k joined)
+fit_joined joined [] k fit h is = absurd (omega (arith, h))
+fit_joined joined (p ∷ []) k fit h is = absurd (omega (arith, h))
+fit_joined joined (p ∷ q ∷ ps) zero fit h is = (is, fit.1.1)
+fit_joined joined (p ∷ q ∷ ps) (suc k) fit h is = (fit.0, fit_joined joined (q ∷ ps) k fit.1 (omega (arith, h)) is)
 
 -- a piece and the next one, as they were read, and what both became
 pub pieces_joined : (ps : List (Vec Slot)) (ns : List ℕ) (k : ℕ) (p q joined : Vec Slot) → AreFit ps
@@ -360,8 +264,8 @@ pieces_joined ps ns k p q joined fit counted h first second both few room =
       long,
     ) in
     record {
-      fit = fit_joined joined p ps k fit h (omega (arith, long, few), omega (arith, is.1, room));
+      fit = fit_joined joined ps k fit h (omega (arith, long, few), omega (arith, is.1, room));
       counted = ap (λ (l : List ℕ). remove (set l k (get_or ns k 0 + get_or ns (suc k) 0)) (suc k)) counted
-          ∙ sym (lengths_joined joined p ps k (get_or ns k 0 + get_or ns (suc k) 0) h sizes);
-      slots = slots_joined joined p ps k h (both ∙ (λ t. (first p t).items ++ (second p t).items));
+          ∙ sym (counts_joined (Vec Slot) slots_of_piece joined p ps k (get_or ns k 0 + get_or ns (suc k) 0) h sizes);
+      slots = items_joined (Vec Slot) slots_of_piece joined p ps k h (both ∙ (λ t. (first p t).items ++ (second p t).items));
     }

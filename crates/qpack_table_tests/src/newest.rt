@@ -226,23 +226,23 @@ fn alike(number: usize) -> [u8; 16] {
 
 #[test]
 fn a_row_of_equal_hashes_finds_what_a_scan_finds(rt: HostRuntime) -> Result<(), Fail> {
-    let mut table = table(rt.alloc(), 160_000, 0)?;
+    let mut table = table(rt.alloc(), 320_000, 0)?;
     let mut numbers = Numbers::new(0x0123_4567_89AB_CDEF);
     finds_among_alike(rt.alloc(), &mut table, &mut numbers)
 }
 
-/// Puts so many fields of equal hashes that they stand in pieces of several blocks, lets nearly all of them go, and
+/// Puts so many fields of equal hashes that they stand in pieces of several groups, lets nearly all of them go, and
 /// begins again.
 fn finds_among_alike(
     alloc: Global,
     table: &mut DynamicTable,
     numbers: &mut Numbers,
 ) -> Result<(), Fail> {
-    for capacity in [160_000, 1_000, 0, 160_000] {
+    for capacity in [320_000, 1_000, 0, 320_000] {
         table.set_max_size(capacity)?;
         finds_behind_alike(alloc, table, numbers)?;
     }
-    same(live_count(table) > 3000, true)
+    same(live_count(table) > 6000, true)
 }
 
 /// Puts fields of equal hashes, some of them equal, and finds one behind some of them.
@@ -251,9 +251,9 @@ fn finds_behind_alike(
     table: &mut DynamicTable,
     numbers: &mut Numbers,
 ) -> Result<(), Fail> {
-    for _ in 0..250 {
+    for _ in 0..500 {
         put_alike(alloc, table, numbers)?;
-        finds(alloc, table, &alike(numbers.below(20_000)), &[])?;
+        finds(alloc, table, &alike(numbers.below(40_000)), &[])?;
     }
     Ok(())
 }
@@ -261,7 +261,7 @@ fn finds_behind_alike(
 /// Puts some fields of equal hashes.
 fn put_alike(alloc: Global, table: &mut DynamicTable, numbers: &mut Numbers) -> Result<(), Fail> {
     for _ in 0..15 {
-        put_or_leave(alloc, table, &alike(numbers.below(20_000)), &[])?;
+        put_or_leave(alloc, table, &alike(numbers.below(40_000)), &[])?;
     }
     Ok(())
 }
