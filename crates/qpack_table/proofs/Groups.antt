@@ -32,8 +32,8 @@ groups_known gs ns counted = ap (λ (l : List ℕ). all_slots l) counted ∙ cou
 pub groups_long : (gs : List Group) → length (counts_of gs) ≡ length gs
 groups_long gs = counts_long Group slots_of_group gs
 
--- 64 pieces have at most 8,192
-pub count_is_few : (g : Group) → IsGroup g → count_of g ≤ 8192
+-- 32 pieces have at most 4,096
+pub count_is_few : (g : Group) → IsGroup g → count_of g ≤ 4096
 count_is_few g is = omega (arith, few_slots g.pieces.items is.fit, is.few)
 
 -- ---- each group, and its room
@@ -48,12 +48,12 @@ groups_set [] k q are is = are
 groups_set (g ∷ gs) zero q are is = (is, are.1)
 groups_set (g ∷ gs) (suc k) q are is = (are.0, groups_set gs k q are.1 is)
 
-pub room_at : (gs : List Group) (k : ℕ) (d : Group) → HaveRoom gs → k < length gs → pieces_of (get_or gs k d) < 64
+pub room_at : (gs : List Group) (k : ℕ) (d : Group) → HaveRoom gs → k < length gs → pieces_of (get_or gs k d) < 32
 room_at [] k d room h = absurd (omega (arith, h))
 room_at (g ∷ gs) zero d room h = room.0
 room_at (g ∷ gs) (suc k) d room h = room_at gs k d room.1 (omega (arith, h))
 
-pub room_set : (gs : List Group) (k : ℕ) (q : Group) → HaveRoom gs → pieces_of q < 64 → HaveRoom (set gs k q)
+pub room_set : (gs : List Group) (k : ℕ) (q : Group) → HaveRoom gs → pieces_of q < 32 → HaveRoom (set gs k q)
 room_set [] k q room lt = room
 room_set (g ∷ gs) zero q room lt = (lt, room.1)
 room_set (g ∷ gs) (suc k) q room lt = (room.0, room_set gs k q room.1 lt)
@@ -63,7 +63,7 @@ room_but [] k q room = tt
 room_but (g ∷ gs) zero q room = room.1
 room_but (g ∷ gs) (suc k) q room = (room.0, room_but gs k q room.1)
 
-pub room_all : (gs : List Group) (k : ℕ) (d : Group) → HaveRoomBut gs k → k < length gs → pieces_of (get_or gs k d) < 64
+pub room_all : (gs : List Group) (k : ℕ) (d : Group) → HaveRoomBut gs k → k < length gs → pieces_of (get_or gs k d) < 32
     → HaveRoom gs
 room_all [] k d room h lt = absurd (omega (arith, h))
 room_all (g ∷ gs) zero d room h lt = (lt, room)
@@ -166,8 +166,8 @@ module _ (lower upper : Group) where
   groups_cut (g ∷ gs) zero are h low up = (low, (up, are.1))
   groups_cut (g ∷ gs) (suc k) are h low up = (are.0, groups_cut gs k are.1 (omega (arith, h)) low up)
 
-  pub room_cut : (gs : List Group) (k : ℕ) → HaveRoomBut gs k → k < length gs → pieces_of lower < 64
-      → pieces_of upper < 64 → HaveRoom (insert (set gs k lower) (suc k) upper)
+  pub room_cut : (gs : List Group) (k : ℕ) → HaveRoomBut gs k → k < length gs → pieces_of lower < 32
+      → pieces_of upper < 32 → HaveRoom (insert (set gs k lower) (suc k) upper)
   room_cut [] k room h low up = absurd (omega (arith, h))
   room_cut (g ∷ gs) zero room h low up = (low, (up, room))
   room_cut (g ∷ gs) (suc k) room h low up = (room.0, room_cut gs k room.1 (omega (arith, h)) low up)
@@ -207,7 +207,7 @@ module _ (joined : Group) where
   groups_joined (g ∷ e ∷ gs) zero are h is = (is, are.1.1)
   groups_joined (g ∷ e ∷ gs) (suc k) are h is = (are.0, groups_joined (e ∷ gs) k are.1 (omega (arith, h)) is)
 
-  pub room_joined : (gs : List Group) (k : ℕ) → HaveRoom gs → suc k < length gs → pieces_of joined < 64
+  pub room_joined : (gs : List Group) (k : ℕ) → HaveRoom gs → suc k < length gs → pieces_of joined < 32
       → HaveRoom (set (remove gs (suc k)) k joined)
   room_joined [] k room h lt = absurd (omega (arith, h))
   room_joined (g ∷ []) k room h lt = absurd (omega (arith, h))

@@ -7,20 +7,20 @@ use Rattle.qpack_table.specs.declared.dynamic.index.group.Group.{Group}
 use Rattle.qpack_table.specs.declared.dynamic.index.pieces.Pieces.{Pieces}
 use Rattle.qpack_table.specs.declared.dynamic.index.row.Slot.{Slot}
 
--- at least one and at most 64 pieces, whose lengths are known, with room for as many
+-- at least one and at most 32 pieces, whose lengths are known, with room for as many
 pub record IsGroup (g : Group) : Type 0 where
   pub some : 0 < length g.pieces.items
-  pub few : length g.pieces.items ≤ 64
+  pub few : length g.pieces.items ≤ 32
   pub fit : AreFit g.pieces.items
   pub counted : g.lengths.items ≡ lengths_of g.pieces.items
-  pub room : 64 ≤ vec_capacity g.pieces
-  pub places : 64 ≤ g.lengths.capacity
+  pub room : 32 ≤ vec_capacity g.pieces
+  pub places : 32 ≤ g.lengths.capacity
 
 -- a group to which half of the pieces of another may go
 pub record IsSpareGroup (g : Group) : Type 0 where
   pub none : g.pieces.items ≡ []
-  pub room : 64 ≤ vec_capacity g.pieces
-  pub places : 64 ≤ g.lengths.capacity
+  pub room : 32 ≤ vec_capacity g.pieces
+  pub places : 32 ≤ g.lengths.capacity
 
 -- all slots, group by group
 abbrev pub slots_in_groups : List Group → List Slot
@@ -38,13 +38,13 @@ AreGroups (g ∷ gs) = IsGroup g × AreGroups gs
 -- each may get another piece
 abbrev pub HaveRoom : List Group → Type 0
 HaveRoom [] = Unit {0}
-HaveRoom (g ∷ gs) = (length g.pieces.items < 64) × HaveRoom gs
+HaveRoom (g ∷ gs) = (length g.pieces.items < 32) × HaveRoom gs
 
 -- each but the one at a place may
 abbrev pub HaveRoomBut : List Group → ℕ → Type 0
 HaveRoomBut [] at = Unit {0}
 HaveRoomBut (g ∷ gs) zero = HaveRoom gs
-HaveRoomBut (g ∷ gs) (suc at) = (length g.pieces.items < 64) × HaveRoomBut gs at
+HaveRoomBut (g ∷ gs) (suc at) = (length g.pieces.items < 32) × HaveRoomBut gs at
 
 -- another group may come in
 abbrev pub HasPlaceForGroup : Pieces → Type 0

@@ -238,20 +238,23 @@ fn finds_among_alike(
     table: &mut DynamicTable,
     numbers: &mut Numbers,
 ) -> Result<(), Fail> {
-    for capacity in [320_000, 1_000, 0, 320_000] {
+    finds_behind_alike(alloc, table, numbers, 250)?;
+    same(live_count(table) > 6000, true)?;
+    for capacity in [1_000, 0, 160_000] {
         table.set_max_size(capacity)?;
-        finds_behind_alike(alloc, table, numbers)?;
+        finds_behind_alike(alloc, table, numbers, 80)?;
     }
-    same(live_count(table) > 6000, true)
+    same(live_count(table) > 2000, true)
 }
 
-/// Puts fields of equal hashes, some of them equal, and finds one behind some of them.
+/// Puts fields of equal hashes so often, some of them equal, and finds one behind some of them.
 fn finds_behind_alike(
     alloc: Global,
     table: &mut DynamicTable,
     numbers: &mut Numbers,
+    rounds: usize,
 ) -> Result<(), Fail> {
-    for _ in 0..500 {
+    for _ in 0..rounds {
         put_alike(alloc, table, numbers)?;
         finds(alloc, table, &alike(numbers.below(40_000)), &[])?;
     }
@@ -260,7 +263,7 @@ fn finds_behind_alike(
 
 /// Puts some fields of equal hashes.
 fn put_alike(alloc: Global, table: &mut DynamicTable, numbers: &mut Numbers) -> Result<(), Fail> {
-    for _ in 0..15 {
+    for _ in 0..30 {
         put_or_leave(alloc, table, &alike(numbers.below(40_000)), &[])?;
     }
     Ok(())

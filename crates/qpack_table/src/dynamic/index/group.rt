@@ -1,4 +1,4 @@
-//! Slots in a group of at most 64 pieces of at most 128, so that one that comes in or goes out moves few others, and a
+//! Slots in a group of at most 32 pieces of at most 128, so that one that comes in or goes out moves few others, and a
 //! piece few others too.
 
 ghost use Rattle.std.specs.Prelude.{◌≡◌, ◌+◌, ◌-◌, ◌^◌, ◌<◌, ◌≤◌, ◌++◌, [], length, IfOk, IfSome, IsSome};
@@ -23,7 +23,7 @@ pub(super) const MOST_IN_PIECE: usize = 128;
 const HALF_PIECE: usize = MOST_IN_PIECE / 2;
 
 /// How many pieces a group has at most.
-pub(super) const MOST_IN_GROUP: usize = 64;
+pub(super) const MOST_IN_GROUP: usize = 32;
 
 /// How many it has once it was cut. Two neighbours of no more together are joined.
 pub(super) const HALF_GROUP: usize = MOST_IN_GROUP / 2;
@@ -139,7 +139,7 @@ impl Group {
     pub(super) fn insert(&mut self, position: usize, slot: Slot, spare: &mut Option<Vec<Slot>>)
         requires group { IsGroup self.old }
         requires within { position ≤ length (slots_in self.old.pieces.items) }
-        requires room { length self.old.pieces.items < 64 }
+        requires room { length self.old.pieces.items < 32 }
         requires some { IsSome spare.old }
         requires spare { IfSome spare.old IsSpare }
         ensures group { IsGroup self.new }
@@ -156,7 +156,7 @@ impl Group {
     fn piece_with_room(&mut self, position: usize, spare: &mut Option<Vec<Slot>>) -> usize
         requires group { IsGroup self.old }
         requires within { position ≤ length (slots_in self.old.pieces.items) }
-        requires room { length self.old.pieces.items < 64 }
+        requires room { length self.old.pieces.items < 32 }
         requires some { IsSome spare.old }
         requires spare { IfSome spare.old IsSpare }
         ensures group { IsGroup self.new }
@@ -179,7 +179,7 @@ impl Group {
         requires group { IsGroup self.old }
         requires within { at < length self.old.pieces.items }
         requires full { (d : Vec Slot) → length (slice_index_or self.old.pieces.items at d).items ≡ 128 }
-        requires room { length self.old.pieces.items < 64 }
+        requires room { length self.old.pieces.items < 32 }
         requires some { IsSome spare.old }
         requires spare { IfSome spare.old IsSpare }
         ensures group { IsGroup self.new }
@@ -197,7 +197,7 @@ impl Group {
         requires group { IsGroup self.old }
         requires within { at < length self.old.pieces.items }
         requires full { (d : Vec Slot) → length (slice_index_or self.old.pieces.items at d).items ≡ 128 }
-        requires room { length self.old.pieces.items < 64 }
+        requires room { length self.old.pieces.items < 32 }
         requires upper { IsSpare upper }
         ensures group { IsGroup self.new }
         ensures slots { slots_in self.new.pieces.items ≡ slots_in self.old.pieces.items }
@@ -280,13 +280,13 @@ impl Group {
     /// The upper half of as many pieces as may be goes to a group that has none, and that is answered.
     pub(super) fn cut_off(&mut self, upper: Group) -> Group
         requires group { IsGroup self.old }
-        requires full { length self.old.pieces.items ≡ 64 }
+        requires full { length self.old.pieces.items ≡ 32 }
         requires upper { IsSpareGroup upper }
         ensures lower { IsGroup self.new }
         ensures upper { IsGroup result }
         ensures slots { slots_in self.new.pieces.items ++ slots_in result.pieces.items
             ≡ slots_in self.old.pieces.items }
-        ensures halves { (length self.new.pieces.items ≡ 32) × (length result.pieces.items ≡ 32) }
+        ensures halves { (length self.new.pieces.items ≡ 16) × (length result.pieces.items ≡ 16) }
     {
         let mut upper = upper;
         move_upper(&mut self.pieces, HALF_GROUP, &mut upper.pieces);
@@ -299,7 +299,7 @@ impl Group {
     pub(super) fn append(&mut self, next: Group)
         requires group { IsGroup self.old }
         requires next { IsGroup next }
-        requires room { length self.old.pieces.items + length next.pieces.items ≤ 64 }
+        requires room { length self.old.pieces.items + length next.pieces.items ≤ 32 }
         ensures group { IsGroup self.new }
         ensures slots { slots_in self.new.pieces.items
             ≡ slots_in self.old.pieces.items ++ slots_in next.pieces.items }

@@ -1,5 +1,5 @@
 //! Many slots, in pieces that stand in groups, so that one that comes in or goes out moves few others. What is told to
-//! those behind it is told to the groups, of which there is one for each thousand slots or more.
+//! those behind it is told to the groups, of which there is one for each 256 slots or more.
 
 ghost use Rattle.std.specs.Prelude.{◌≡◌, ◌+◌, ◌-◌, ◌^◌, ◌<◌, ◌≤◌, [], length, IfOk, IfSome, IsSome, OnOk};
 ghost use Rattle.std.specs.Prelude.{slice_index_or, slice_set};
@@ -205,7 +205,7 @@ impl Pieces {
         requires stand { StandInGroups self.old }
         requires within { at < length self.old.groups.items }
         requires others { HaveRoomBut self.old.groups.items at }
-        requires full { (d : Group) → length (slice_index_or self.old.groups.items at d).pieces.items ≡ 64 }
+        requires full { (d : Group) → length (slice_index_or self.old.groups.items at d).pieces.items ≡ 32 }
         requires spare { IsSome self.old.spare_group }
         ensures pieces { ArePieces self.new }
         ensures slots { slots_in_groups self.new.groups.items ≡ slots_in_groups self.old.groups.items }
@@ -220,7 +220,7 @@ impl Pieces {
         requires stand { StandInGroups self.old }
         requires within { at < length self.old.groups.items }
         requires others { HaveRoomBut self.old.groups.items at }
-        requires full { (d : Group) → length (slice_index_or self.old.groups.items at d).pieces.items ≡ 64 }
+        requires full { (d : Group) → length (slice_index_or self.old.groups.items at d).pieces.items ≡ 32 }
         requires upper { IsSpareGroup upper }
         requires room { HasPlaceForGroup self.old }
         requires no_spare { self.old.spare_group ≡ None }
@@ -275,7 +275,7 @@ impl Pieces {
         ensures within { at < length self.new.groups.items }
         ensures joined { at + 1 < length self.old.groups.items
             → ((d : Group) → length (slice_index_or self.old.groups.items at d).pieces.items
-            + length (slice_index_or self.old.groups.items (at + 1) d).pieces.items ≤ 32)
+            + length (slice_index_or self.old.groups.items (at + 1) d).pieces.items ≤ 16)
             → length self.new.groups.items + 1 ≡ length self.old.groups.items }
     {
         if self.groups.len() - at < 2 {
@@ -291,7 +291,7 @@ impl Pieces {
         requires pieces { ArePieces self.old }
         requires within { at + 1 < length self.old.groups.items }
         requires small { (d : Group) → length (slice_index_or self.old.groups.items at d).pieces.items
-            + length (slice_index_or self.old.groups.items (at + 1) d).pieces.items ≤ 32 }
+            + length (slice_index_or self.old.groups.items (at + 1) d).pieces.items ≤ 16 }
         ensures pieces { ArePieces self.new }
         ensures slots { slots_in_groups self.new.groups.items ≡ slots_in_groups self.old.groups.items }
         ensures room { HasSpare self.old → HasSpare self.new }

@@ -47,7 +47,7 @@ pub returns-clause-upper : goal.returns-clause-upper
 returns-clause-upper c =
     let ps = c.move_upper.new.pieces.items in
     let qs = c.move_upper.new.upper.items in
-    let long : length ps + length qs ≡ 64 =
+    let long : length ps + length qs ≡ 32 =
     sym (length-append ps qs) ∙ ap (λ (l : List (Vec Slot)). length l) c.move_upper.ensures.pieces ∙ c.requires.full in
     record {
       some = omega (arith, long, c.move_upper.ensures.count);
