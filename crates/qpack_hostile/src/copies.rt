@@ -1,8 +1,11 @@
 //! Few bytes that make a decoder copy many: lines and instructions that name a large entry.
 
-use crate::ends::{decoder_of, prefix_of, tell_decoded, tell_received, write_insertion};
+use crate::ends::{
+    decoder_of, has_entries, insertions, prefix_of, tell_decoded, tell_received, write_insertion,
+};
+use crate::fields::{FIELD_SIZE, Kind};
 use crate::meter::{Case, Meter};
-use anyhow::{Result, bail};
+use anyhow::{Result, bail, ensure};
 use h3_qpack::coding::Cursor;
 use h3_qpack::decoder::Decoder;
 use h3_qpack::stream::{Duplicate, DynamicTableSizeUpdate, InsertWithNameRef};
@@ -158,17 +161,49 @@ fn tell_stream(
     tell_received(meter, alloc, case, &mut decoder, stream, expected as u64)
 }
 
-/// Tells how long it takes to set the capacity to 0 and back so often, on a table of so many small entries.
+/// Tells how long it takes to set the capacity of a table of so many different entries to 0, and then back and to 0
+/// again and again.
 fn tell_capacities(meter: &Meter, alloc: Global, size: usize) -> Result<()> {
-    let stream = capacities(alloc, size)?;
-    let mut decoder = with_small_entries(alloc, size)?;
+    let mut decoder = with_different_entries(alloc, size)?;
+    tell_capacities_of(meter, alloc, size, &mut decoder)
+}
+
+/// The same, of this decoder.
+fn tell_capacities_of(
+    meter: &Meter,
+    alloc: Global,
+    size: usize,
+    decoder: &mut Decoder,
+) -> Result<()> {
+    ensure!(has_entries(decoder, size), "entries are missing");
+    tell_emptied(meter, alloc, size, decoder)?;
+    ensure!(has_entries(decoder, 0), "an entry is left");
+    tell_empty(meter, alloc, size, decoder)
+}
+
+/// Tells how long one instruction takes, for each of so many entries that go by it.
+fn tell_emptied(meter: &Meter, alloc: Global, size: usize, decoder: &mut Decoder) -> Result<()> {
+    let mut stream = Vec::new(alloc);
+    DynamicTableSizeUpdate(0).encode(&mut stream)?;
     let case = Case {
-        name: "capacity to 0 and back",
+        name: "a capacity of 0, for each of the entries that go",
+        size,
+        calls: size,
+        bytes: stream.len(),
+    };
+    tell_received(meter, alloc, case, decoder, &stream, size as u64)
+}
+
+/// Tells how long it takes to set the capacity to 0 and back so often, where no entry goes any more.
+fn tell_empty(meter: &Meter, alloc: Global, size: usize, decoder: &mut Decoder) -> Result<()> {
+    let stream = capacities(alloc, size)?;
+    let case = Case {
+        name: "capacity to 0 and back, the table being empty",
         size,
         calls: size.saturating_mul(2),
         bytes: stream.len(),
     };
-    tell_received(meter, alloc, case, &mut decoder, &stream, size as u64)
+    tell_received(meter, alloc, case, decoder, &stream, size as u64)
 }
 
 /// The instructions that set the capacity to 0 and back so often.
@@ -179,6 +214,18 @@ fn capacities(alloc: Global, count: usize) -> Result<Vec<u8>> {
         DynamicTableSizeUpdate(CAPACITY).encode(&mut stream)?;
     }
     Ok(stream)
+}
+
+/// A decoder with so many entries, all different.
+fn with_different_entries(alloc: Global, size: usize) -> Result<Decoder> {
+    let stream = different_insertions(alloc, size)?;
+    decoder_of(alloc, size.saturating_mul(FIELD_SIZE), &stream)
+}
+
+/// The insertions of so many different fields.
+fn different_insertions(alloc: Global, size: usize) -> Result<Vec<u8>> {
+    let fields = Kind::Random.fields(alloc, size)?;
+    insertions(alloc, &fields)
 }
 
 /// A decoder that received so many small entries.

@@ -41,6 +41,25 @@ pub(crate) fn write_insertion(name: &[u8], value: &[u8], stream: &mut Vec<u8>) -
     Ok(InsertWithoutNameRef::write(name, value, stream)?)
 }
 
+/// The insertions of the fields, each with its name.
+pub(crate) fn insertions(alloc: Global, fields: &[HeaderField]) -> Result<Vec<u8>> {
+    let mut stream = Vec::new(alloc);
+    for field in fields {
+        write_insertion(field.name.as_slice(), field.value.as_slice(), &mut stream)?;
+    }
+    Ok(stream)
+}
+
+/// Whether a decoder's table has so many entries, and no more.
+pub(crate) fn has_entries(decoder: &Decoder, count: usize) -> bool {
+    let table = decoder.table();
+    let has_oldest = match count.checked_sub(1) {
+        Some(oldest) => table.get_relative(oldest).is_ok(),
+        None => true,
+    };
+    has_oldest && table.get_relative(count).is_err()
+}
+
 /// A decoder takes bytes of an encoder stream; how many insertions it ever made.
 pub(crate) fn receive(alloc: Global, decoder: &mut Decoder, stream: &[u8]) -> Result<u64> {
     let received = decoder.on_encoder_recv(&mut Cursor::new(stream), &mut Vec::new(alloc))?;

@@ -1,8 +1,8 @@
 //! Tables of many entries, as both ends find, insert and read them.
 
 use crate::ends::{
-    empty_table, encode_block, hear, new_decoder, prefix_of, tell_decoded, tell_received,
-    write_insertion,
+    empty_table, encode_block, hear, insertions, new_decoder, prefix_of, tell_decoded,
+    tell_received,
 };
 use crate::fields::{FIELD_SIZE, Kind};
 use crate::meter::{Case, Meter, case_name};
@@ -145,30 +145,15 @@ fn is_referenced(
     Ok(true)
 }
 
-/// Writes the insertions of the fields, each with its name.
-fn write_insertions(fields: &[HeaderField], stream: &mut Vec<u8>) -> Result<()> {
-    for field in fields {
-        write_insertion(field.name.as_slice(), field.value.as_slice(), stream)?;
-    }
-    Ok(())
-}
-
-/// Tells how long a decoder takes to receive the fields twice, and to decode a block of all of them.
+/// Tells how long a decoder takes to receive the fields, to receive them again, and to decode a block of all of them.
 fn tell_repeated(meter: &Meter, alloc: Global, kind: Kind, fields: &[HeaderField]) -> Result<()> {
-    let stream = repeated(alloc, fields)?;
+    let stream = insertions(alloc, fields)?;
     let mut decoder = new_decoder(alloc, fields.len().saturating_mul(FIELD_SIZE))?;
     tell_stream(meter, alloc, kind, fields.len(), &mut decoder, &stream)
 }
 
-/// The insertions of the fields, twice.
-fn repeated(alloc: Global, fields: &[HeaderField]) -> Result<Vec<u8>> {
-    let mut stream = Vec::new(alloc);
-    write_insertions(fields, &mut stream)?;
-    write_insertions(fields, &mut stream)?;
-    Ok(stream)
-}
-
-/// Tells how long a decoder takes to receive so many entries twice, and to decode a block of them.
+/// Tells how long so many insertions take where the table grows by each; the same again, where the table is full and
+/// an entry goes for each; and a block of all entries.
 fn tell_stream(
     meter: &Meter,
     alloc: Global,
@@ -177,16 +162,49 @@ fn tell_stream(
     decoder: &mut Decoder,
     stream: &[u8],
 ) -> Result<()> {
-    let name = case_name(alloc, "receive", kind.label())?;
-    let insertions = size.saturating_mul(2);
+    tell_growing(meter, alloc, kind, size, decoder, stream)?;
+    tell_full(meter, alloc, kind, size, decoder, stream)?;
+    tell_newest(meter, alloc, kind, size, decoder)
+}
+
+/// Tells how long a decoder takes to receive so many entries into its table, which is empty and has room for all.
+fn tell_growing(
+    meter: &Meter,
+    alloc: Global,
+    kind: Kind,
+    size: usize,
+    decoder: &mut Decoder,
+    stream: &[u8],
+) -> Result<()> {
+    let name = case_name(alloc, "receive into a table that grows", kind.label())?;
     let case = Case {
         name: name.as_str(),
         size,
-        calls: insertions,
+        calls: size,
         bytes: stream.len(),
     };
-    tell_received(meter, alloc, case, decoder, stream, insertions as u64)?;
-    tell_newest(meter, alloc, kind, size, decoder)
+    tell_received(meter, alloc, case, decoder, stream, size as u64)
+}
+
+/// Tells how long a decoder takes to receive so many entries that its table already has, which is full: for each that
+/// comes the oldest goes.
+fn tell_full(
+    meter: &Meter,
+    alloc: Global,
+    kind: Kind,
+    size: usize,
+    decoder: &mut Decoder,
+    stream: &[u8],
+) -> Result<()> {
+    let name = case_name(alloc, "receive", kind.label())?;
+    let case = Case {
+        name: name.as_str(),
+        size,
+        calls: size,
+        bytes: stream.len(),
+    };
+    let insertions = size.saturating_mul(2);
+    tell_received(meter, alloc, case, decoder, stream, insertions as u64)
 }
 
 /// Tells how long a decoder takes to decode a block of its newest entries, so many.

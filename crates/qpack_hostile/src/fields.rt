@@ -88,6 +88,12 @@ impl Kind {
     }
 }
 
+/// The field of a place. All such have equal hashes, and sorted they stand in the order of their places, since a value
+/// begins with its place, the greatest byte first.
+pub(crate) fn field_of_place(alloc: Global, place: u64) -> Result<HeaderField> {
+    Kind::EqualFields.field(alloc, place.swap_bytes())
+}
+
 /// A name, or a value, that all fields have.
 const ONE: [u8; 16] = *b"x-one-x-one-x-on";
 

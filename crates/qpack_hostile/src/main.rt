@@ -11,6 +11,7 @@ mod fields;
 mod limits;
 mod meter;
 mod pieces;
+mod rows;
 mod sessions;
 mod short_lists;
 mod strict;
@@ -42,6 +43,7 @@ fn tell_all(meter: &Meter, alloc: Global, size: usize) -> Result<()> {
             entries::tell(meter, alloc, kind, size)?;
         }
     }
+    rows::tell(meter, alloc, size)?;
     strings::tell(meter, alloc, size)?;
     unacknowledged::tell(meter, alloc, size)?;
     copies::tell(meter, alloc, size)?;

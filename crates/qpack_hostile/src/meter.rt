@@ -12,7 +12,7 @@ pub(crate) struct Case<'a> {
     pub(crate) size: usize,
     /// How many calls are made; of a call that reads many lines or instructions, how many it reads.
     pub(crate) calls: usize,
-    /// How many bytes of a peer are read, 0 where none are.
+    /// How many bytes of a peer are handed in, each as often as it is, 0 where none are.
     pub(crate) bytes: usize,
 }
 

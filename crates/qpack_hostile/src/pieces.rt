@@ -1,4 +1,5 @@
-//! An instruction that comes byte by byte, and is offered again from its start each time.
+//! An instruction that comes byte by byte, and is offered again from its start each time: so each call is handed all
+//! bytes that came so far, and what is handed in is the sum of the lengths of all fronts.
 
 use crate::ends::{new_decoder, receive, write_insertion};
 use crate::meter::{Case, Meter};
@@ -25,7 +26,8 @@ fn tell_both(meter: &Meter, alloc: Global, long: &[u8]) -> Result<()> {
     )
 }
 
-/// Tells how long the bytes of an insertion take, each given with all before it.
+/// Tells how long the bytes of an insertion take, each given with all before it: a call is handed one front, and a byte
+/// is told once for each front that has it.
 fn tell_pieces(meter: &Meter, alloc: Global, case: &str, name: &[u8], value: &[u8]) -> Result<()> {
     let mut stream = Vec::new(alloc);
     write_insertion(name, value, &mut stream)?;
@@ -33,10 +35,15 @@ fn tell_pieces(meter: &Meter, alloc: Global, case: &str, name: &[u8], value: &[u
         name: case,
         size: value.len(),
         calls: stream.len(),
-        bytes: stream.len(),
+        bytes: size_of_fronts(stream.len()),
     };
     let mut decoder = new_decoder(alloc, 1 << 20)?;
     tell_offered(meter, alloc, case, &mut decoder, &stream)
+}
+
+/// How many bytes all fronts of so many bytes have together, from the first byte to the whole.
+fn size_of_fronts(len: usize) -> usize {
+    len.saturating_mul(len.saturating_add(1)) / 2
 }
 
 /// Tells how long the fronts of a stream take, of which the last is the whole, one insertion.
