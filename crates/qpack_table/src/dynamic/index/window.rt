@@ -23,10 +23,7 @@ pub(super) struct Reach {
 impl Reach {
     /// All pieces.
     pub(super) const WHOLE: Reach = Reach {
-        first: Place {
-            group: 0,
-            piece: 0,
-        },
+        first: Place { group: 0, piece: 0 },
         last: Place {
             group: usize::MAX,
             piece: usize::MAX,
@@ -80,10 +77,7 @@ impl<'a> Window<'a> {
         Window {
             start: 0,
             slots,
-            place: Place {
-                group: 0,
-                piece: 0,
-            },
+            place: Place { group: 0, piece: 0 },
         }
     }
 
