@@ -1,11 +1,13 @@
 -- The slots of a large row, in pieces that stand in groups.
 use Rattle.std.specs.Prelude.{◌≡◌, ℕ, zero, suc, ◌+◌, ◌<◌, ◌≤◌, ◌^◌, List, [], ◌∷◌, length, map, vec_capacity, IfSome, IsSome}
+use Rattle.std.specs.Prelude.{slice_index_or}
 use Rattle.std.specs.List.{flat_map}
 use Rattle.qpack_table.specs.Pieces.{slots_in, lengths_of, AreFit, IsSpare}
 use Rattle.qpack_table.specs.SlotLists.{IsWindow}
 use Rattle.qpack_table.specs.declared.dynamic.index.group.Group.{Group}
 use Rattle.qpack_table.specs.declared.dynamic.index.pieces.Pieces.{Pieces}
 use Rattle.qpack_table.specs.declared.dynamic.index.row.Slot.{Slot}
+use Rattle.qpack_table.specs.declared.dynamic.index.window.Place.{Place}
 
 -- at least one and at most 32 pieces, whose lengths are known, with room for as many
 pub record IsGroup (g : Group) : Type 0 where
@@ -66,6 +68,11 @@ pub record ArePieces (p : Pieces) : Type 0 where
 -- one more slot may come in
 abbrev pub HasSpare : Pieces → Type 0
 HasSpare p = IsSome p.spare_piece × IsSome p.spare_group × (length (slots_in_groups p.groups.items) < 2 ^ 62)
+
+-- a place has a piece
+pub record IsPlaceIn (groups : List Group) (place : Place) : Type 0 where
+  pub group : place.group < length groups
+  pub piece : (d : Group) → place.piece < length (slice_index_or groups place.group d).pieces.items
 
 -- slots that stand in a list from a position on, within it
 abbrev pub IsWindowOf : List Slot → ℕ → List Slot → Type 0

@@ -89,22 +89,9 @@ impl Group {
         self.piece(self.lengths.piece_of(position, span))
     }
 
-    /// The piece in the middle of a span of more than two.
-    #[inline(always)]
-    pub(super) fn middle(&self, span: Span) -> Option<Window<'_>>
-        requires { IsGroup self.now }
-        ensures { IfSome result (λ window. IsWindowOf (slots_in self.now.pieces.items) window.start window.slots.now) }
-    {
-        let last = span.last.min(self.pieces.len() - 1);
-        if span.first < last && last - span.first > 1 {
-            return Some(self.piece(span.first + (last - span.first) / 2));
-        }
-        None
-    }
-
     /// A piece.
     #[inline(always)]
-    fn piece(&self, at: usize) -> Window<'_>
+    pub(super) fn piece(&self, at: usize) -> Window<'_>
         requires group { IsGroup self.now }
         requires within { at < length self.now.pieces.items }
         ensures slots { IsWindowOf (slots_in self.now.pieces.items) result.start result.slots.now }

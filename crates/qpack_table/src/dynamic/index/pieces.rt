@@ -5,7 +5,7 @@ ghost use Rattle.std.specs.Prelude.{◌≡◌, ◌+◌, ◌-◌, ◌^◌, ◌<�
 ghost use Rattle.std.specs.Prelude.{slice_index_or, slice_set};
 ghost use Rattle.std.specs.List.{insert, remove};
 ghost use Rattle.qpack_table.specs.Groups.{slots_in_groups, ArePieces, StandInGroups, HaveRoomBut, HasSpare};
-ghost use Rattle.qpack_table.specs.Groups.{IsSpareGroup, HasPlaceForGroup, IsWindowOf};
+ghost use Rattle.qpack_table.specs.Groups.{IsSpareGroup, HasPlaceForGroup, IsPlaceIn};
 ghost use Rattle.qpack_table.specs.SlotLists.{HasPosition, Meets, IsWindow};
 ghost use Rattle.qpack_table.specs.declared.dynamic.index.row.Slot.{Slot};
 ghost use Rattle.qpack_table.specs.declared.dynamic.index.group.Group.{Group};
@@ -117,21 +117,85 @@ impl Pieces {
             .in_group(at, before)
     }
 
-    /// The piece in the middle of those within reach, if there are many.
+    /// The piece at a place.
     #[inline(always)]
-    fn middle(&self, reach: Reach) -> Option<Window<'_>>
-        requires { ArePieces self.now }
-        ensures { IfSome result (λ window. IsWindow (slots_in_groups self.now.groups.items) window.start
-            window.slots.now) }
+    fn piece(&self, place: Place) -> Window<'_>
+        requires pieces { ArePieces self.now }
+        requires place { IsPlaceIn self.now.groups.items place }
+        ensures { IsWindow (slots_in_groups self.now.groups.items) result.start result.slots.now }
     {
-        let groups = reach.groups();
-        let last = groups.last.min(self.groups.len() - 1);
-        if groups.first > last {
+        let before = self.lengths.before(place.group);
+        self.groups[place.group]
+            .piece(place.piece)
+            .in_group(place.group, before)
+    }
+
+    /// The piece in the middle of those within reach, between the first and the last: if there are groups between theirs,
+    /// that in the middle of such a group.
+    #[inline(always)]
+    fn middle(&self, reach: Reach) -> Option<Place>
+        requires { ArePieces self.now }
+        ensures { IfSome result (IsPlaceIn self.now.groups.items) }
+    {
+        let first = reach.first;
+        let last = reach.last.group.min(self.groups.len() - 1);
+        if first.group > last {
             return None;
         }
-        let at = groups.first + (last - groups.first) / 2;
-        let window = self.groups[at].middle(reach.pieces(at))?;
-        Some(window.in_group(at, self.lengths.before(at)))
+        if last == first.group {
+            return self.middle_of_one(first, reach.last.piece);
+        }
+        if last - first.group == 1 {
+            return self.middle_of_two(first, reach.last.piece);
+        }
+        let group = first.group + (last - first.group) / 2;
+        Some(Place {
+            group,
+            piece: self.groups[group].count() / 2,
+        })
+    }
+
+    /// The piece in the middle between two of a group.
+    #[inline(always)]
+    fn middle_of_one(&self, first: Place, last: usize) -> Option<Place>
+        requires pieces { ArePieces self.now }
+        requires within { first.group < length self.now.groups.items }
+        ensures { IfSome result (IsPlaceIn self.now.groups.items) }
+    {
+        let last = last.min(self.groups[first.group].count() - 1);
+        if first.piece < last && last - first.piece > 1 {
+            return Some(Place {
+                group: first.group,
+                piece: first.piece + (last - first.piece) / 2,
+            });
+        }
+        None
+    }
+
+    /// The piece in the middle between one of a group and one of the next.
+    #[inline(always)]
+    fn middle_of_two(&self, first: Place, last: usize) -> Option<Place>
+        requires pieces { ArePieces self.now }
+        requires within { first.group + 1 < length self.now.groups.items }
+        ensures { IfSome result (IsPlaceIn self.now.groups.items) }
+    {
+        let count = self.groups[first.group].count();
+        let behind = count.saturating_sub(first.piece).saturating_sub(1);
+        let ahead = last.min(self.groups[first.group + 1].count());
+        let middle = (behind + ahead) / 2;
+        if middle < behind {
+            return Some(Place {
+                group: first.group,
+                piece: first.piece + 1 + middle,
+            });
+        }
+        if ahead == 0 {
+            return None;
+        }
+        Some(Place {
+            group: first.group + 1,
+            piece: middle - behind,
+        })
     }
 
     /// A piece with a slot from a position on and before another: the middle one of those within reach, if it has such
@@ -144,7 +208,8 @@ impl Pieces {
         ensures slots { IsWindow (slots_in_groups self.now.groups.items) result.start result.slots.now }
         ensures meets { Meets result.start result.slots.now low high }
     {
-        if let Some(window) = self.middle(reach) {
+        if let Some(place) = self.middle(reach) {
+            let window = self.piece(place);
             if window.meets(low, high) {
                 return window;
             }
