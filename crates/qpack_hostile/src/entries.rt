@@ -167,7 +167,28 @@ fn tell_stream(
     tell_newest(meter, alloc, kind, size, decoder)
 }
 
-/// Tells how long a decoder takes to receive so many entries into its table, which is empty and has room for all.
+/// How many rows the table's index has at first.
+const FIRST_ROWS: usize = 32;
+
+/// How often more rows are made, at most: as many as these are more than a table can have entries.
+const MOST_GROWTHS: usize = 12;
+
+/// How often an entry is entered into the index while so many come: each once, and all again whenever they are as many
+/// as the rows, of which four times as many are made then.
+fn entered(count: usize) -> usize {
+    let mut entered = count;
+    let mut rows = FIRST_ROWS;
+    for _ in 0..MOST_GROWTHS {
+        if rows < count {
+            entered = entered.saturating_add(rows);
+        }
+        rows = rows.saturating_mul(4);
+    }
+    entered
+}
+
+/// Tells how long a decoder takes to receive so many entries into its table, which is empty and has room for all: for
+/// each that is entered into the index, which is made anew as it grows.
 fn tell_growing(
     meter: &Meter,
     alloc: Global,
@@ -180,7 +201,7 @@ fn tell_growing(
     let case = Case {
         name: name.as_str(),
         size,
-        calls: size,
+        calls: entered(size),
         bytes: stream.len(),
     };
     tell_received(meter, alloc, case, decoder, stream, size as u64)

@@ -135,14 +135,14 @@ fn encode_value(
     encode_block(encoder, stream_id, &fields, &mut block, &mut stream)
 }
 
-/// Tells how long it takes to cancel a stream that has all the blocks.
+/// Tells how long it takes to cancel a stream that has all the blocks, for each of them.
 fn tell_one_stream(meter: &Meter, alloc: Global, size: usize) -> Result<()> {
     let mut stream = Vec::new(alloc);
     StreamCancel(0).encode(&mut stream)?;
     let case = Case {
         name: "cancel the stream of all blocks",
         size,
-        calls: 1,
+        calls: size,
         bytes: stream.len(),
     };
     let mut encoder = with_unacknowledged(alloc, size, false)?;
