@@ -2,6 +2,7 @@
 //! strictly and acknowledged, and the decoder's instructions taken.
 
 use crate::strict;
+use crate::timing::tell_rate;
 use anyhow::Result;
 use h3_qpack::coding::Cursor;
 use h3_qpack::decoder::{Decoder, ack_header};
@@ -118,16 +119,25 @@ impl Connection {
         clock: &mut Clock,
     ) -> Result<bool> {
         self.send(rt, stream_id, list, clock)?;
-        let decoded = self.decode(rt, clock)?;
-        self.answer(rt, stream_id, decoded.dyn_ref, clock)?;
-        Ok(decoded.fields == *list && strict::are_of(&self.fields, list))
+        let is_dynamic = self.is_dynamic()?;
+        clock.lap(rt, 2)?;
+        self.answer(rt, stream_id, is_dynamic, clock)?;
+        Ok(self.is_decoded_as(list)? && strict::are_of(&self.fields, list))
     }
 
-    /// The phase in which a block is decoded.
-    fn decode(&self, rt: &HostRuntime, clock: &mut Clock) -> Result<Decoded> {
-        let decoded = self.decoder.decode_header(&mut Cursor::new(&self.block))?;
-        clock.lap(rt, 2)?;
-        Ok(decoded)
+    /// Decodes the block, whose fields are freed; whether it references the table.
+    fn is_dynamic(&self) -> Result<bool> {
+        Ok(self.decoded()?.dyn_ref)
+    }
+
+    /// Whether the block's fields are those of a list.
+    fn is_decoded_as(&self, list: &Vec<HeaderField>) -> Result<bool> {
+        Ok(self.decoded()?.fields == *list)
+    }
+
+    /// The block, decoded.
+    fn decoded(&self) -> Result<Decoded> {
+        Ok(self.decoder.decode_header(&mut Cursor::new(&self.block))?)
     }
 
     /// All phases of one list; what it made the encoder write, behind the bytes of its stream that stand ahead.
@@ -344,8 +354,7 @@ fn tell_phases(rt: &HostRuntime, clock: &Clock, fields: u64) -> Result<()> {
         return Ok(());
     }
     for (phase, nanos) in PHASES.iter().zip(&clock.nanos) {
-        let tenths = nanos.saturating_mul(10) / u128::from(fields.max(1));
-        println!(rt; "    {phase}: {}.{} ns a field", tenths / 10, tenths % 10)?;
+        tell_rate(rt, phase, *nanos, fields)?;
     }
     Ok(())
 }

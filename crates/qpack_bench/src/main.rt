@@ -6,6 +6,7 @@ mod comparing;
 mod connection;
 mod corpus;
 mod decoding;
+mod ends;
 mod inspected;
 mod long;
 mod mutated;
@@ -73,6 +74,7 @@ fn tell(rt: &HostRuntime, alloc: Global, lists: &[Vec<HeaderField>], words: Word
     for capacity in [4096, 65536] {
         connection::tell(rt, alloc, lists, capacity, words.rounds)?;
         decoding::tell(rt, alloc, lists, capacity, words.rounds)?;
+        ends::tell(rt, alloc, lists, capacity, words.rounds)?;
     }
     long::tell(rt, alloc, words.rounds > 0)?;
     if words.entries > 0 {

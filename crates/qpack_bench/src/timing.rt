@@ -258,3 +258,10 @@ fn tell(rt: &HostRuntime, what: &str, work: Work, start: Instant, sum: u64) -> R
     )?;
     Ok(())
 }
+
+/// Tells how many nanoseconds something takes for a field, of so many fields in all.
+pub(crate) fn tell_rate(rt: &HostRuntime, what: &str, nanos: u128, fields: u64) -> Result<()> {
+    let tenths = nanos.saturating_mul(10) / u128::from(fields.max(1));
+    println!(rt; "    {what}: {}.{} ns a field", tenths / 10, tenths % 10)?;
+    Ok(())
+}
