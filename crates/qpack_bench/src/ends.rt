@@ -80,7 +80,7 @@ fn decoding_end(alloc: Global, capacity: usize) -> Result<ConnectionDecoder> {
 }
 
 /// Both ends of this capacity.
-fn ends(alloc: Global, capacity: usize) -> Result<Ends> {
+fn new_ends(alloc: Global, capacity: usize) -> Result<Ends> {
     Ok(Ends {
         encoder: encoding_end(alloc, capacity)?,
         decoder: decoding_end(alloc, capacity)?,
@@ -182,7 +182,7 @@ fn connect(
     capacity: usize,
     nanos: &mut Nanos,
 ) -> Result<usize> {
-    let mut ends = ends(alloc, capacity)?;
+    let mut ends = new_ends(alloc, capacity)?;
     ends.exchange_all(rt, alloc, lists, nanos)
 }
 
