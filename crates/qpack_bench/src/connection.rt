@@ -29,14 +29,14 @@ const BLOCKED: usize = 100;
 
 /// How long each phase took in all, in nanoseconds.
 #[derive(Drop)]
-struct Clock {
-    last: Instant,
-    nanos: [u128; 6],
+pub(crate) struct Clock {
+    pub(crate) last: Instant,
+    pub(crate) nanos: [u128; 6],
 }
 
 impl Clock {
     /// A clock that begins now.
-    fn new(rt: &HostRuntime) -> Result<Clock> {
+    pub(crate) fn new(rt: &HostRuntime) -> Result<Clock> {
         Ok(Clock {
             last: Instant::now(rt)?,
             nanos: [0; 6],
@@ -44,7 +44,7 @@ impl Clock {
     }
 
     /// Adds the time since the last call to a phase.
-    fn lap(&mut self, rt: &HostRuntime, phase: usize) -> Result<()> {
+    pub(crate) fn lap(&mut self, rt: &HostRuntime, phase: usize) -> Result<()> {
         let now = Instant::now(rt)?;
         let passed = now.duration_since(self.last).as_nanos();
         if let Some(nanos) = self.nanos.get_mut(phase) {

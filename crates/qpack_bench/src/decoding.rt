@@ -15,7 +15,7 @@ use std::alloc::Global;
 use std::time::Instant;
 
 /// How many streams may be blocked.
-const BLOCKED: usize = 100;
+pub(crate) const BLOCKED: usize = 100;
 
 /// The calls of `h3_qpack` at a decoding end.
 #[derive(Drop)]
@@ -73,6 +73,16 @@ impl Ported {
     }
 }
 
+/// A decoding end of this maximum capacity. No section is too large for it.
+pub(crate) fn decoding_end(alloc: Global, capacity: usize) -> Result<ConnectionDecoder> {
+    let settings = DecoderSettings {
+        max_capacity: capacity,
+        max_blocked: BLOCKED,
+        max_section_size: u64::MAX,
+    };
+    Ok(ConnectionDecoder::new(alloc, settings)?)
+}
+
 /// A decoding end of a connection, with one field section that is kept.
 #[derive(Drop)]
 struct Whole {
@@ -81,15 +91,10 @@ struct Whole {
 }
 
 impl Whole {
-    /// An end of this maximum capacity. No section is too large for it.
+    /// An end of this maximum capacity.
     fn new(alloc: Global, capacity: usize) -> Result<Whole> {
-        let settings = DecoderSettings {
-            max_capacity: capacity,
-            max_blocked: BLOCKED,
-            max_section_size: u64::MAX,
-        };
         Ok(Whole {
-            end: ConnectionDecoder::new(alloc, settings)?,
+            end: decoding_end(alloc, capacity)?,
             fields: FieldSection::new(alloc),
         })
     }

@@ -1,13 +1,15 @@
 //! Both ends of a connection: field sections encoded, their instructions received, the sections decoded, and what the
 //! decoding end answers heard.
 
+use crate::connection::Clock;
 use crate::corpus::fields_len;
+use crate::decoding::{BLOCKED, decoding_end};
 use crate::strict;
 use crate::timing::tell_rate;
 use anyhow::{Result, ensure};
 use h3_qpack::HeaderField;
 use h3_qpack::coding::Cursor;
-use qpack_connection::decoder::{ConnectionDecoder, DecoderSettings};
+use qpack_connection::decoder::ConnectionDecoder;
 use qpack_connection::encoder::{ConnectionEncoder, EncoderSettings};
 use qpack_connection::{FieldSection, Reading};
 use std::alloc::Global;
@@ -16,42 +18,10 @@ use std::time::Instant;
 /// What is done with each list, in this order.
 const PHASES: [&str; 4] = ["encode", "receive", "decode", "hear"];
 
-/// How many streams may be blocked.
-const BLOCKED: usize = 100;
-
 /// For how many fields, and bytes of names and values, a field section has room at first.
 const USUAL_FIELDS: usize = 32;
 
 const USUAL_BYTES: usize = 2048;
-
-/// How long each phase took in all, in nanoseconds.
-#[derive(Clone, Copy)]
-struct Nanos {
-    phases: [u128; 4],
-}
-
-impl Nanos {
-    /// No time.
-    fn new() -> Nanos {
-        Nanos { phases: [0; 4] }
-    }
-
-    /// Adds the time from one look at the clock to the next to a phase.
-    fn add(&mut self, phase: usize, from: &Instant, to: &Instant) {
-        if let Some(nanos) = self.phases.get_mut(phase) {
-            *nanos = nanos.saturating_add(to.duration_since(*from).as_nanos());
-        }
-    }
-
-    /// How long all phases took.
-    fn total(&self) -> u128 {
-        let mut total = 0u128;
-        for nanos in &self.phases {
-            total = total.saturating_add(*nanos);
-        }
-        total
-    }
-}
 
 /// Both ends, and what the last list became.
 #[derive(Drop)]
@@ -67,16 +37,6 @@ fn encoding_end(alloc: Global, capacity: usize) -> Result<ConnectionEncoder> {
     let mut settings = EncoderSettings::new(capacity, BLOCKED);
     settings.capacity = capacity;
     Ok(ConnectionEncoder::new(alloc, settings)?)
-}
-
-/// A decoding end of this maximum capacity. No section is too large for it.
-fn decoding_end(alloc: Global, capacity: usize) -> Result<ConnectionDecoder> {
-    let settings = DecoderSettings {
-        max_capacity: capacity,
-        max_blocked: BLOCKED,
-        max_section_size: u64::MAX,
-    };
-    Ok(ConnectionDecoder::new(alloc, settings)?)
 }
 
 /// Both ends of this capacity.
@@ -135,21 +95,17 @@ impl Ends {
         alloc: Global,
         stream: u64,
         list: &[HeaderField],
-        nanos: &mut Nanos,
+        clock: &mut Clock,
     ) -> Result<usize> {
-        let start = Instant::now(rt)?;
+        clock.last = Instant::now(rt)?;
         self.encode(stream, list)?;
-        let encoded = Instant::now(rt)?;
+        clock.lap(rt, 0)?;
         self.receive()?;
-        let received = Instant::now(rt)?;
+        clock.lap(rt, 1)?;
         let count = self.decode(alloc, stream)?;
-        let decoded = Instant::now(rt)?;
+        clock.lap(rt, 2)?;
         self.hear()?;
-        let heard = Instant::now(rt)?;
-        nanos.add(0, &start, &encoded);
-        nanos.add(1, &encoded, &received);
-        nanos.add(2, &received, &decoded);
-        nanos.add(3, &decoded, &heard);
+        clock.lap(rt, 3)?;
         Ok(count)
     }
 
@@ -159,12 +115,12 @@ impl Ends {
         rt: &HostRuntime,
         alloc: Global,
         lists: &[Vec<HeaderField>],
-        nanos: &mut Nanos,
+        clock: &mut Clock,
     ) -> Result<usize> {
         let mut alike = 0usize;
         let mut stream = 0u64;
         for list in lists {
-            let count = self.exchange(rt, alloc, stream, list, nanos)?;
+            let count = self.exchange(rt, alloc, stream, list, clock)?;
             if count == list.len() && strict::are_of(&self.fields, list) {
                 alike = alike.saturating_add(1);
             }
@@ -180,10 +136,10 @@ fn connect(
     alloc: Global,
     lists: &[Vec<HeaderField>],
     capacity: usize,
-    nanos: &mut Nanos,
+    clock: &mut Clock,
 ) -> Result<usize> {
     let mut ends = new_ends(alloc, capacity)?;
-    ends.exchange_all(rt, alloc, lists, nanos)
+    ends.exchange_all(rt, alloc, lists, clock)
 }
 
 /// Tells how many lists both ends exchange, and, with rounds, how long each phase takes for a field in the round that
@@ -195,7 +151,7 @@ pub(crate) fn tell(
     capacity: usize,
     rounds: u64,
 ) -> Result<()> {
-    let alike = connect(rt, alloc, lists, capacity, &mut Nanos::new())?;
+    let alike = connect(rt, alloc, lists, capacity, &mut Clock::new(rt)?)?;
     println!(rt;
         "capacity {capacity}: {alike} sections exchanged by both ends, decoded as encoded"
     )?;
@@ -206,29 +162,38 @@ pub(crate) fn tell(
     tell_phases(rt, &least, fields_len(lists))
 }
 
-/// The times of the round that took the least time, of so many.
+/// How long each phase took in the round that took the least time, of so many, in nanoseconds.
 fn least_of(
     rt: &HostRuntime,
     alloc: Global,
     lists: &[Vec<HeaderField>],
     capacity: usize,
     rounds: u64,
-) -> Result<Nanos> {
-    let mut least = Nanos::new();
+) -> Result<[u128; 6]> {
+    let mut least = [0; 6];
     for round in 0..rounds {
-        let mut nanos = Nanos::new();
-        connect(rt, alloc, lists, capacity, &mut nanos)?;
-        if round == 0 || nanos.total() < least.total() {
-            least = nanos;
+        let mut clock = Clock::new(rt)?;
+        connect(rt, alloc, lists, capacity, &mut clock)?;
+        if round == 0 || total(&clock.nanos) < total(&least) {
+            least = clock.nanos;
         }
     }
     Ok(least)
 }
 
+/// How long all phases took.
+fn total(nanos: &[u128]) -> u128 {
+    let mut total = 0u128;
+    for phase in nanos {
+        total = total.saturating_add(*phase);
+    }
+    total
+}
+
 /// Tells the time of each phase for a field, and of all.
-fn tell_phases(rt: &HostRuntime, nanos: &Nanos, fields: u64) -> Result<()> {
-    for (phase, nanos) in PHASES.iter().zip(&nanos.phases) {
+fn tell_phases(rt: &HostRuntime, nanos: &[u128], fields: u64) -> Result<()> {
+    for (phase, nanos) in PHASES.iter().zip(nanos) {
         tell_rate(rt, phase, *nanos, fields)?;
     }
-    tell_rate(rt, "all", nanos.total(), fields)
+    tell_rate(rt, "all", total(nanos), fields)
 }

@@ -238,23 +238,22 @@ fn finds_among_alike(
     table: &mut DynamicTable,
     numbers: &mut Numbers,
 ) -> Result<(), Fail> {
-    finds_behind_alike(alloc, table, numbers, 250)?;
+    finds_behind_alike(alloc, table, numbers)?;
     same(live_count(table) > 6000, true)?;
     for capacity in [1_000, 0, 160_000] {
         table.set_max_size(capacity)?;
-        finds_behind_alike(alloc, table, numbers, 80)?;
+        finds_behind_alike(alloc, table, numbers)?;
     }
-    same(live_count(table) > 2000, true)
+    same(live_count(table) > 3000, true)
 }
 
-/// Puts fields of equal hashes so often, some of them equal, and finds one behind some of them.
+/// Puts fields of equal hashes, some of them equal, and finds one behind some of them.
 fn finds_behind_alike(
     alloc: Global,
     table: &mut DynamicTable,
     numbers: &mut Numbers,
-    rounds: usize,
 ) -> Result<(), Fail> {
-    for _ in 0..rounds {
+    for _ in 0..250 {
         put_alike(alloc, table, numbers)?;
         finds(alloc, table, &alike(numbers.below(40_000)), &[])?;
     }
