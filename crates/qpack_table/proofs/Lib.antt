@@ -14,6 +14,7 @@ pub mod Walks
 pub mod Lookups
 pub mod Changes
 pub mod Halvings
+pub mod Places
 pub mod Lengths
 pub mod Parts
 pub mod Pieces

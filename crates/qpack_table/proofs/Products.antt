@@ -2,9 +2,9 @@
 use Rattle.std.proofs.Common.{◌≡◌, ℕ, suc, ◌+◌, ◌-◌, ◌*◌, ◌/◌, ◌^◌, ◌<◌, ◌≤◌, List, length, take, drop, refl, sym, ap}
 use Rattle.std.proofs.Common.{◌∙◌, arith}
 use Rattle.std.proofs.Math.Nat.{mul-le-mul_right}
-use Rattle.std.specs.Int.{from_le_bytes, w64}
+use Rattle.std.specs.Int.{from_le_bytes, w32, w64}
 use Rattle.std.proofs.lemmas.Bool.{le-leb, lt-leb}
-use Rattle.qpack_table.specs.Hashes.{words_hash, few_bytes, pieces_hash, piece_hash, rest_hash}
+use Rattle.qpack_table.specs.Hashes.{words_hash, few_bytes, pieces_hash, piece_hash, rest_hash, short_hash}
 
 pub product_below : (a b : ℕ) → a < 2 ^ 64 → b < 2 ^ 64 → a * b ≤ (2 ^ 64 - 1) * (2 ^ 64 - 1)
 product_below a b g h =
@@ -29,7 +29,7 @@ no_piece hash bytes few =
     sym (ap (λ (n : ℕ). pieces_hash n hash bytes) count)
 
 pub rest_short : (hash : ℕ) (rest : List ℕ) → length rest < 8
-    → words_hash hash (few_bytes rest) 0 ≡ rest_hash hash rest
+    → short_hash hash rest ≡ rest_hash hash rest
 unfolding rest_hash
 rest_short hash rest few = rw (lt-leb 8 (length rest) few) refl
 
@@ -38,3 +38,14 @@ pub rest_long : (hash : ℕ) (rest first last : List ℕ) → 8 ≤ length rest 
     → words_hash hash (from_le_bytes w64 first) (from_le_bytes w64 last) ≡ rest_hash hash rest
 unfolding rest_hash
 rest_long hash rest first last long a b = rw (a, b, le-leb 8 (length rest) long) refl
+
+pub short_few : (hash : ℕ) (rest : List ℕ) → length rest < 4
+    → words_hash hash (few_bytes rest) 0 ≡ short_hash hash rest
+unfolding short_hash
+short_few hash rest few = rw (lt-leb 4 (length rest) few) refl
+
+pub short_long : (hash : ℕ) (rest first last : List ℕ) → 4 ≤ length rest → first ≡ take 4 rest
+    → last ≡ drop (length rest - 4) rest
+    → words_hash hash (from_le_bytes w32 first) (from_le_bytes w32 last) ≡ short_hash hash rest
+unfolding short_hash
+short_long hash rest first last long a b = rw (a, b, le-leb 4 (length rest) long) refl

@@ -1,7 +1,7 @@
 -- The hashes by which the dynamic table's index cuts its rows. Nothing is promised of how well they spread.
 use Rattle.std.specs.Prelude.{ℕ, zero, suc, ◌+◌, ◌-◌, ◌*◌, ◌/◌, ◌%◌, ◌^◌, List, fold, take, drop, length, nat_le}
 use Rattle.std.specs.Prelude.{if◌then◌else◌}
-use Rattle.std.specs.Int.{from_le_bytes, w64, w128}
+use Rattle.std.specs.Int.{from_le_bytes, w32, w64, w128}
 use Rattle.std.specs.Int.RustNames.{bit_and, bit_xor}
 use Rattle.qpack_spec.specs.Field.{Field}
 
@@ -22,12 +22,19 @@ unfoldable pub piece_hash : ℕ → List ℕ → ℕ
 piece_hash hash piece = words_hash hash (bit_and (from_le_bytes w128 piece) (2 ^ 64 - 1))
     (from_le_bytes w128 piece / 2 ^ 64)
 
--- the last step, over fewer: the first and the last eight, which may overlap, or all
+-- the last step over fewer than eight: the first and the last four, which may overlap, or all
+unfoldable pub short_hash : ℕ → List ℕ → ℕ
+short_hash hash rest =
+    if nat_le 4 (length rest)
+    then words_hash hash (from_le_bytes w32 (take 4 rest)) (from_le_bytes w32 (drop (length rest - 4) rest))
+    else words_hash hash (few_bytes rest) 0
+
+-- the last step, over fewer than sixteen: the first and the last eight, which may overlap
 unfoldable pub rest_hash : ℕ → List ℕ → ℕ
 rest_hash hash rest =
     if nat_le 8 (length rest)
     then words_hash hash (from_le_bytes w64 (take 8 rest)) (from_le_bytes w64 (drop (length rest - 8) rest))
-    else words_hash hash (few_bytes rest) 0
+    else short_hash hash rest
 
 -- so many steps, and the last one
 unfoldable pub pieces_hash : ℕ → ℕ → List ℕ → ℕ

@@ -1,6 +1,6 @@
 -- A row of the dynamic table's index: slots with the absolute indexes of entries, in the order of a part of their
 -- fields.
-use Rattle.std.specs.Prelude.{◌≡◌, ◌≢◌, ℕ, ◌+◌, ◌-◌, ◌<◌, ◌≤◌, ◌^◌, List, [], length, slice_index_or}
+use Rattle.std.specs.Prelude.{◌≡◌, ◌≢◌, ℕ, zero, suc, ◌+◌, ◌-◌, ◌<◌, ◌≤◌, ◌^◌, List, [], length, slice_index_or}
 use Rattle.std.specs.Prelude.{Option, MatchOption, Result, Ok, Err, Contains, ◌⊎◌}
 use Rattle.std.specs.List.{AllPairs}
 use Rattle.std.specs.declared.cmp.Ordering.{Ordering}
@@ -88,6 +88,15 @@ pub record IsGap (part : Part) (dropped : ℕ) (live : List Field) (row : List S
         → key_cmp (key_at part dropped live (slice_index_or row j d)) k ≡ Less
     pub after : (j : ℕ) (d : Slot) → position ≤ j → j < length row
         → key_cmp (key_at part dropped live (slice_index_or row j d)) k ≡ Greater
+
+-- where a hash that neither of two places has would stand, if their slots rise
+abbrev pub IsGapByHash : Slot → Slot → ℕ → ℕ → Type 0
+IsGapByHash first second hash zero = (first.index ≡ 0) ⊎ (hash < first.hash)
+IsGapByHash first second hash (suc zero) = (first.index ≢ 0) × (first.hash < hash)
+    × ((second.index ≡ 0) ⊎ (hash < second.hash))
+IsGapByHash first second hash (suc (suc zero)) = (first.index ≢ 0) × (first.hash < hash) × (second.index ≢ 0)
+    × (second.hash < hash)
+IsGapByHash first second hash (suc (suc (suc _))) = ⊥
 
 -- what a search found: where it is, or where it would stand
 abbrev pub IsPlace : Part → ℕ → List Field → List Slot → Key → Result ℕ ℕ → Type 0

@@ -3,7 +3,7 @@
 ghost use Rattle.std.specs.Prelude.{◌≡◌, ◌<◌};
 ghost use Rattle.qpack_base.specs.HeaderFields.{line_of};
 ghost use Rattle.qpack_table.specs.Hashes.{bytes_hash, name_hash, field_hash, position_among};
-ghost use Rattle.qpack_table.specs.Hashes.{words_hash, piece_hash, rest_hash, few_bytes, folded_product};
+ghost use Rattle.qpack_table.specs.Hashes.{words_hash, piece_hash, rest_hash, short_hash, few_bytes, folded_product};
 
 use qpack_base::field::FieldLine;
 
@@ -76,17 +76,32 @@ fn hash_piece(hash: u64, piece: [u8; 16]) -> u64
     hash_words(hash, (word & LOW_HALF) as u64, (word >> 64) as u64)
 }
 
-/// The last step, over fewer bytes: the first and the last eight, which may overlap, or all.
+/// The last step, over fewer bytes: the first and the last eight, which may overlap.
 fn hash_rest(hash: u64, rest: &[u8]) -> u64
     ensures { result ≡ rest_hash hash rest.now }
 {
     let Some((first, _)) = rest.split_first_chunk::<8>() else {
-        return hash_words(hash, few_bytes(rest), 0);
+        return hash_short(hash, rest);
     };
     let Some((_, last)) = rest.split_last_chunk::<8>() else {
         unreachable!()
     };
     hash_words(hash, u64::from_le_bytes(*first), u64::from_le_bytes(*last))
+}
+
+/// The same over fewer than eight: the first and the last four, or all.
+fn hash_short(hash: u64, rest: &[u8]) -> u64
+    ensures { result ≡ short_hash hash rest.now }
+{
+    let Some((first, _)) = rest.split_first_chunk::<4>() else {
+        return hash_words(hash, few_bytes(rest), 0);
+    };
+    let Some((_, last)) = rest.split_last_chunk::<4>() else {
+        unreachable!()
+    };
+    let low = u32::from_le_bytes(*first);
+    let high = u32::from_le_bytes(*last);
+    hash_words(hash, u64::from(low), u64::from(high))
 }
 
 /// A number of a few bytes, the greatest first.

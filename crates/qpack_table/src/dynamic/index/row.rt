@@ -1,14 +1,15 @@
 //! A row of the index: slots that rise by the hash of a part of their entries' fields, then by that part. It is
 //! searched by halving.
 
-ghost use Rattle.std.specs.Prelude.{◌≡◌, ◌+◌, ◌-◌, ◌^◌, ◌<◌, ◌≤◌, [], min, length, OnOk, IfSome, IfNone};
+ghost use Rattle.std.specs.Prelude.{◌≡◌, ◌≢◌, ◌==◌, ◌+◌, ◌-◌, ◌^◌, ◌<◌, ◌≤◌, [], min, length, OnOk, IfSome, IfNone};
 ghost use Rattle.std.specs.Prelude.{ℕ, slice_index};
 ghost use Rattle.std.specs.Cmp.Lexicographic.{slice_cmp};
 ghost use Rattle.std.specs.Ordering.{nat_cmp};
 ghost use Rattle.qpack_base.specs.HeaderFields.{field_of, line_of, field_cmp};
 ghost use Rattle.qpack_table.specs.Rows.{part_of, part_at, key_cmp, key_at, key_of, field_of_sought, IsHashed, IsSlot};
 ghost use Rattle.qpack_table.specs.Rows.{HasRoom, IsRow, IsPlace, FindsSlot, Enters, Leaves, HasIndexAt, HasNoIndex};
-ghost use Rattle.qpack_table.specs.Rows.{Counts};
+ghost use Rattle.qpack_table.specs.Rows.{Counts, IsGapByHash};
+ghost use Rattle.qpack_table.specs.SlotLists.{slots_here, ArePlaces};
 ghost use Rattle.qpack_table.specs.Tables.{live_fields};
 ghost use Rattle.qpack_table.specs.declared.dynamic.index.row.Slot.{Slot};
 
@@ -40,11 +41,24 @@ pub(super) struct Sought<'a> {
     pub(super) hash: u32,
 }
 
-/// The absolute index of an entry, and the hash of its part.
+/// The absolute index of an entry, and the hash of its part; or none, where the index is 0, which no entry has.
 #[derive(Debug, Clone, Copy, Default)]
 pub(super) struct Slot {
     hash: u32,
     index: usize,
+}
+
+impl Slot {
+    /// No slot.
+    pub(super) const NONE: Slot = Slot { hash: 0, index: 0 };
+
+    /// Whether it is none.
+    #[inline(always)]
+    pub(super) fn is_none(&self) -> bool
+        ensures { result ≡ (self.now.index == 0) }
+    {
+        self.index == 0
+    }
 }
 
 /// How an entry stands to what is sought. Nothing else compares the two, and nothing else raises the count.
@@ -95,29 +109,76 @@ fn compare(
     }
 }
 
-/// Where the slot with what is sought is among at most two, or where it would stand, slot by slot.
+/// Where the slot with what is sought is in two places, or where it would stand. In most rows no slot has the hash that is
+/// sought: that is found out first, of both at once.
 #[inline(always)]
-fn search_two(
-    slots: &[Slot],
+fn search_here(
+    places: &[Slot; 2],
     entries: &VecDeque<Entry>,
     dropped: usize,
     sought: &Sought<'_>,
     steps: &mut Steps,
 ) -> Result<usize, usize>
-    requires few { length slots.now ≤ 2 }
-    requires row { IsRow sought.now.part dropped (live_fields entries.now.items) slots.now }
-    ensures place { IsPlace sought.now.part dropped (live_fields entries.now.items) slots.now (key_of sought.now)
-        result }
-    ensures steps { Counts (length slots.now) steps.old.count steps.new.count }
+    requires places { ArePlaces places.now }
+    requires row { IsRow sought.now.part dropped (live_fields entries.now.items) (slots_here places.now) }
+    ensures place { IsPlace sought.now.part dropped (live_fields entries.now.items) (slots_here places.now)
+        (key_of sought.now) result }
+    ensures steps { Counts (length (slots_here places.now)) steps.old.count steps.new.count }
 {
-    for position in 0..slots.len() {
-        match compare(sought, slots[position], entries, dropped, steps) {
-            Ordering::Less => {}
-            Ordering::Equal => return Ok(position),
-            Ordering::Greater => return Err(position),
-        }
+    let [first, second] = *places;
+    if first.hash != sought.hash && second.hash != sought.hash {
+        return Err(gap_here(first, second, sought.hash));
     }
-    Err(slots.len())
+    if first.is_none() {
+        return Err(0);
+    }
+    match compare(sought, first, entries, dropped, steps) {
+        Ordering::Less => {}
+        Ordering::Equal => return Ok(0),
+        Ordering::Greater => return Err(0),
+    }
+    if second.is_none() {
+        return Err(1);
+    }
+    match compare(sought, second, entries, dropped, steps) {
+        Ordering::Less => Err(2),
+        Ordering::Equal => Ok(1),
+        Ordering::Greater => Err(1),
+    }
+}
+
+/// Where a slot of a hash would stand in two places that rise, of which neither has it.
+#[inline(always)]
+fn gap_here(first: Slot, second: Slot, hash: u32) -> usize
+    requires first { first.hash ≢ hash }
+    requires second { second.hash ≢ hash }
+    ensures { IsGapByHash first second hash result }
+{
+    if first.is_none() || first.hash > hash {
+        return 0;
+    }
+    if second.is_none() || second.hash > hash {
+        return 1;
+    }
+    2
+}
+
+/// The position of an index in two places.
+#[inline(always)]
+fn position_here(places: &[Slot; 2], index: usize) -> Option<usize>
+    requires places { ArePlaces places.now }
+    requires some { 0 < index }
+    ensures some { IfSome result (λ position. HasIndexAt (slots_here places.now) index position) }
+    ensures none { IfNone result (HasNoIndex (slots_here places.now) index) }
+{
+    let [first, second] = places;
+    if first.index == index {
+        return Some(0);
+    }
+    if second.index == index {
+        return Some(1);
+    }
+    None
 }
 
 /// How many binary digits a number has; 0 has none.
@@ -167,8 +228,8 @@ impl Row {
             (key_of sought.now) result }
         ensures steps { Counts (length self.now.slots.items) steps.old.count steps.new.count }
     {
-        match self.slots.as_two() {
-            Some(slots) => search_two(slots, entries, dropped, sought, steps),
+        match self.slots.here() {
+            Some(places) => search_here(places, entries, dropped, sought, steps),
             None => self.search_by_halves(entries, dropped, sought, steps),
         }
     }
@@ -277,6 +338,7 @@ impl Row {
         requires field { field_of_sought sought.now
             ≡ part_at sought.now.part dropped (live_fields entries.now.items) index }
         requires hashed { IsHashed sought.now }
+        requires some { 0 < index }
         ensures row { IsRow sought.now.part dropped (live_fields entries.now.items) self.new.slots.items }
         ensures slots { Leaves self.old.slots.items self.new.slots.items index }
         ensures room { HasRoom self.old → HasRoom self.new }
@@ -298,9 +360,13 @@ impl Row {
         requires field { field_of_sought sought.now
             ≡ part_at sought.now.part dropped (live_fields entries.now.items) index }
         requires hashed { IsHashed sought.now }
+        requires some { 0 < index }
         ensures some { IfSome result (λ position. HasIndexAt self.now.slots.items index position) }
         ensures none { IfNone result (HasNoIndex self.now.slots.items index) }
     {
+        if let Some(places) = self.slots.here() {
+            return position_here(places, index);
+        }
         if self.slots.len() <= MOST_SCANNED {
             return self.scan(index);
         }

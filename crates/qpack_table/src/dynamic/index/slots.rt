@@ -1,9 +1,9 @@
 //! The slots of a row, in order: hardly any in the row itself, few in a vector, many in pieces.
 
-ghost use Rattle.std.specs.Prelude.{◌≡◌, ◌+◌, ◌<◌, ◌≤◌, [], length, IfSome, OnOk, slice_index_or};
+ghost use Rattle.std.specs.Prelude.{◌≡◌, ◌+◌, ◌<◌, ◌≤◌, [], length, take, IfSome, OnOk, slice_index_or};
 ghost use Rattle.std.specs.Prelude.{slice_set, vec_capacity};
 ghost use Rattle.std.specs.List.{insert, remove};
-ghost use Rattle.qpack_table.specs.SlotLists.{HasRoomIn, IsWindow, HasPosition, Meets};
+ghost use Rattle.qpack_table.specs.SlotLists.{HasRoomIn, IsWindow, HasPosition, Meets, slots_here, ArePlaces};
 
 use crate::dynamic::index::group::MOST_IN_PIECE;
 use crate::dynamic::index::pieces::Pieces;
@@ -15,12 +15,12 @@ use std::marker::Model;
 /// For how many slots a vector has room at first.
 const FEW: usize = 4;
 
-/// Where slots stand. Two stand in the row itself, so that hardly a row takes memory.
+/// Where slots stand. Two stand in the row itself, so that hardly a row takes memory: in places, of which the second has
+/// none unless the first has one. That they are told apart by what they hold, and not by one kind of row for each number
+/// of them, spares a jump that no processor foretells.
 #[derive(Debug, Drop)]
 enum Kept {
-    None,
-    One([Slot; 1]),
-    Two([Slot; 2]),
+    Here([Slot; 2]),
     Few(Vec<Slot>),
     Many(Box<Pieces>),
 }
@@ -48,7 +48,9 @@ impl Slots {
     pub(super) fn new() -> Slots
         ensures { result.items ≡ [] }
     {
-        Slots { kept: Kept::None }
+        Slots {
+            kept: Kept::Here([Slot::NONE; 2]),
+        }
     }
 
     /// How many there are.
@@ -57,25 +59,20 @@ impl Slots {
         ensures { result ≡ length self.now.items }
     {
         match &self.kept {
-            Kept::None => 0,
-            Kept::One(_) => 1,
-            Kept::Two(_) => 2,
+            Kept::Here(places) => count_of(places),
             Kept::Few(slots) => slots.len(),
             Kept::Many(pieces) => pieces.len(),
         }
     }
 
-    /// The slots, where they are at most two.
-    #[inline]
-    pub(super) fn as_two(&self) -> Option<&[Slot]>
-        ensures slots { IfSome result (λ slots. slots.now ≡ self.now.items) }
-        ensures few { IfSome result (λ slots. length slots.now ≤ 2) }
+    /// The two places in the row itself, where the slots stand in these.
+    #[inline(always)]
+    pub(super) fn here(&self) -> Option<&[Slot; 2]>
+        ensures slots { IfSome result (λ places. slots_here places.now ≡ self.now.items) }
+        ensures places { IfSome result (λ places. ArePlaces places.now) }
     {
         match &self.kept {
-            Kept::None => Some(&[]),
-            Kept::One(slots) => Some(slots),
-            Kept::Two(slots) => Some(slots),
-            Kept::Few(slots) if slots.len() <= 2 => Some(slots),
+            Kept::Here(places) => Some(places),
             Kept::Few(_) | Kept::Many(_) => None,
         }
     }
@@ -87,8 +84,8 @@ impl Slots {
         ensures ok { OnOk result (HasRoomIn self.new) }
     {
         match &self.kept {
-            Kept::None | Kept::One(_) => Ok(()),
-            Kept::Two(_) | Kept::Few(_) | Kept::Many(_) => self.reserve_outside(alloc),
+            Kept::Here([_, second]) if second.is_none() => Ok(()),
+            Kept::Here(_) | Kept::Few(_) | Kept::Many(_) => self.reserve_outside(alloc),
         }
     }
 
@@ -98,10 +95,9 @@ impl Slots {
         ensures ok { OnOk result (HasRoomIn self.new) }
     {
         match &mut self.kept {
-            Kept::None | Kept::One(_) => Ok(()),
-            Kept::Two(slots) => {
+            Kept::Here(places) => {
                 let mut few = Vec::with_capacity(alloc, FEW)?;
-                few.extend_from_slice(&slots[..])?;
+                few.extend_from_slice(&places[..count_of(places)])?;
                 self.kept = Kept::Few(few);
                 Ok(())
             }
@@ -124,9 +120,7 @@ impl Slots {
         ensures { result ≡ slice_index_or self.now.items position result }
     {
         match &self.kept {
-            Kept::None => unreachable!(),
-            Kept::One(slots) => slots[position],
-            Kept::Two(slots) => slots[position],
+            Kept::Here(places) => places[position],
             Kept::Few(slots) => slots[position],
             Kept::Many(pieces) => {
                 let window = pieces.window(position, Reach::WHOLE);
@@ -143,9 +137,7 @@ impl Slots {
         ensures has { HasPosition result.start result.slots.now position }
     {
         let slots: &[Slot] = match &self.kept {
-            Kept::None => &[],
-            Kept::One(slots) => slots,
-            Kept::Two(slots) => slots,
+            Kept::Here(places) => &places[..count_of(places)],
             Kept::Few(slots) => slots,
             Kept::Many(pieces) => return pieces.window(position, reach),
         };
@@ -180,14 +172,13 @@ impl Slots {
     /// Puts another slot in the place of one.
     #[inline]
     pub(super) fn set(&mut self, position: usize, slot: Slot)
-        requires { position < length self.old.items }
+        requires within { position < length self.old.items }
+        requires slot { 0 < slot.index }
         ensures slots { self.new.items ≡ slice_set self.old.items position slot }
         ensures room { HasRoomIn self.old → HasRoomIn self.new }
     {
         match &mut self.kept {
-            Kept::None => unreachable!(),
-            Kept::One(slots) => slots[position] = slot,
-            Kept::Two(slots) => slots[position] = slot,
+            Kept::Here(places) => places[position] = slot,
             Kept::Few(slots) => slots[position] = slot,
             Kept::Many(pieces) => pieces.set(position, slot),
         }
@@ -198,19 +189,18 @@ impl Slots {
     pub(super) fn insert(&mut self, position: usize, slot: Slot)
         requires within { position ≤ length self.old.items }
         requires room { HasRoomIn self.old }
+        requires slot { 0 < slot.index }
         ensures { self.new.items ≡ insert self.old.items position slot }
     {
         match &mut self.kept {
-            Kept::None => self.kept = Kept::One([slot]),
-            Kept::One(slots) => {
-                let [other] = *slots;
-                self.kept = Kept::Two(if position == 0 {
-                    [slot, other]
+            Kept::Here(places) => {
+                let [first, _] = *places;
+                *places = if position == 0 {
+                    [slot, first]
                 } else {
-                    [other, slot]
-                });
+                    [first, slot]
+                };
             }
-            Kept::Two(_) => unreachable!(),
             Kept::Few(slots) => if let Err(_full) = slots.insert(position, slot) {},
             Kept::Many(pieces) => pieces.insert(position, slot),
         }
@@ -224,16 +214,30 @@ impl Slots {
         ensures room { HasRoomIn self.old → HasRoomIn self.new }
     {
         match &mut self.kept {
-            Kept::None => unreachable!(),
-            Kept::One(_) => self.kept = Kept::None,
-            Kept::Two(slots) => {
-                let [first, second] = *slots;
-                self.kept = Kept::One([if position == 0 { second } else { first }]);
+            Kept::Here(places) => {
+                let [first, second] = *places;
+                *places = [if position == 0 { second } else { first }, Slot::NONE];
             }
             Kept::Few(slots) => {
                 slots.remove(position);
             }
             Kept::Many(pieces) => pieces.remove(position),
         }
+    }
+}
+
+/// How many slots stand in two places.
+#[inline(always)]
+fn count_of(places: &[Slot; 2]) -> usize
+    ensures count { result ≡ length (slots_here places.now) }
+    ensures front { take result places.now ≡ slots_here places.now }
+{
+    let [first, second] = places;
+    if first.is_none() {
+        0
+    } else if second.is_none() {
+        1
+    } else {
+        2
     }
 }
