@@ -16,13 +16,13 @@ use crate::decoder::instructions::take_instructions;
 use crate::decoder::sections::read_section;
 use qpack_base::coding::{Cursor, NoMemory};
 use qpack_base::field::HeaderField;
-use qpack_table::dynamic::DynamicTable;
+use qpack_table::dynamic::{DynamicTable, EntryIndex, Index};
 use qpack_wire::stream::{HeaderAck, StreamCancel};
 use std::alloc::Allocator;
 use std::marker::Model;
 
 mod instructions;
-mod sections;
+pub(crate) mod sections;
 
 pub use crate::decoder::instructions::{take_instruction, write_increments};
 pub use crate::error::DecoderError;
@@ -39,15 +39,17 @@ pub struct Decoded {
     pub mem_size: u64,
 }
 
-/// The decoder of a connection.
+/// The decoder of a connection, over a table with an index of its entries or without one
+/// ([`ReceivedTable`](crate::dynamic::ReceivedTable)). It asks for entries by their places alone, and receives faster
+/// over a table without one.
 #[derive(Debug, Drop)]
-pub struct Decoder {
-    table: DynamicTable,
+pub struct Decoder<I: EntryIndex = Index> {
+    table: DynamicTable<I>,
     /// How many insertions no increment has reported yet.
     unreported: usize,
 }
 
-impl Model for Decoder {
+impl<I: EntryIndex> Model for Decoder<I> {
     ghost use Rattle.std.specs.Prelude.{◌≤◌};
     ghost use Rattle.qpack_spec.specs.Table.{insert_count};
     ghost use Rattle.h3_qpack.specs.Receiving.{DecoderView};
@@ -59,11 +61,11 @@ impl Model for Decoder {
     ghost invariant = { λ d. d.unreported ≤ insert_count d.table };
 }
 
-impl From<DynamicTable> for Decoder {
+impl<I: EntryIndex> From<DynamicTable<I>> for Decoder<I> {
     ghost from_gives = { λ t d. d ≡ record { table = t; unreported = 0 } };
 
     /// A decoder over a table, the insertions of which are reported.
-    fn from(table: DynamicTable) -> Decoder {
+    fn from(table: DynamicTable<I>) -> Decoder<I> {
         Decoder {
             table,
             unreported: 0,
@@ -71,9 +73,9 @@ impl From<DynamicTable> for Decoder {
     }
 }
 
-impl Decoder {
+impl<I: EntryIndex> Decoder<I> {
     /// The table.
-    pub fn table(&self) -> &DynamicTable
+    pub fn table(&self) -> &DynamicTable<I>
         ensures { result.now ≡ self.now.table }
     {
         &self.table

@@ -19,6 +19,7 @@ ghost use Rattle.h3_qpack.specs.declared.error.DecoderError.TheVariants.{Memory}
 ghost use Rattle.h3_qpack.specs.declared.error.EncoderError.TheVariants.{Memory as EncoderMemory};
 
 use crate::decoder::Decoded;
+use crate::decoder::sections::room_for_fields;
 use crate::error::{DecoderError, EncoderError};
 use crate::stateless::field_lines::append_unmarked;
 use qpack_base::coding::Cursor;
@@ -126,7 +127,7 @@ fn read_stateless_fields(
     ensures finished { OnOk result (IsFinished buf.old buf.new) }
     ensures memory { result ≡ Err Memory → Begins AsksLine buf.old.rest }
 {
-    let mut fields = Vec::new(alloc);
+    let mut fields = room_for_fields(alloc, buf.remaining());
     let mut mem_size = 0u64;
     while let Some(byte) = buf.chunk().first() {
         let field = read_stateless_field(alloc, *byte, buf)?;

@@ -28,8 +28,8 @@ const GREATEST_PIECE: usize = 64;
 
 /// Takes all instructions that stand whole at the cursor, and moves past them. At the first one that is refused it
 /// ends; the cursor moves past that one exactly if the table refuses it for what it asks.
-pub(super) fn take_instructions(
-    table: &mut DynamicTable,
+pub(super) fn take_instructions<I: EntryIndex>(
+    table: &mut DynamicTable<I>,
     buf: &mut Cursor,
 ) -> Result<(), DecoderError>
     ensures takes { TakesInstructions table.old table.new buf.old.rest buf.new.rest result }

@@ -1,6 +1,6 @@
 //! Field sections under a dynamic table (RFC 9204, sections 2.2 and 4.5).
 
-ghost use Rattle.std.specs.Prelude.{◌≡◌, Err, OnOk};
+ghost use Rattle.std.specs.Prelude.{◌≡◌, Err, OnOk, []};
 ghost use Rattle.qpack_spec.specs.Bytes.{Begins};
 ghost use Rattle.qpack_spec.specs.BlockReading.{fields_in_bytes, reading_of_bytes};
 ghost use Rattle.qpack_spec.specs.Reading.{line_field};
@@ -17,11 +17,14 @@ use crate::error::DecoderError;
 use qpack_base::coding::Cursor;
 use qpack_base::field::HeaderField;
 use qpack_base::static_::StaticTable;
-use qpack_table::dynamic::{DynamicTable, DynamicTableDecoder};
+use qpack_table::dynamic::{DynamicTable, DynamicTableDecoder, EntryIndex};
 use qpack_wire::block::{
     BlockLine, HeaderPrefix, Indexed, Literal, LiteralWithNameRef, LiteralWithPostBaseNameRef,
 };
 use std::alloc::Global;
+
+/// For how many fields room is made at once at most.
+const FIELDS_AT_ONCE: usize = 16;
 
 /// The fields of lines, in order, and the sum of their sizes in bytes, at most 2^64 - 1.
 #[derive(Drop)]
@@ -32,7 +35,10 @@ struct Fields {
 
 /// Decodes the section that the cursor has left.
 #[tactic(auto, unfolding(qpack_spec::specs::BlockReading::reading_of_bytes))]
-pub(super) fn read_section(table: &DynamicTable, buf: &mut Cursor) -> Result<Decoded, DecoderError>
+pub(super) fn read_section<I: EntryIndex>(
+    table: &DynamicTable<I>,
+    buf: &mut Cursor,
+) -> Result<Decoded, DecoderError>
     ensures exact { DecodesSection result (reading_of_bytes (window table.now) buf.old.rest) }
     ensures finished { OnOk result (IsFinished buf.old buf.new) }
     ensures memory { result ≡ Err Memory → AsksSectionForMemory buf.old.rest }
@@ -51,17 +57,28 @@ pub(super) fn read_section(table: &DynamicTable, buf: &mut Cursor) -> Result<Dec
     })
 }
 
+/// An empty list, with room for as many fields as there can be lines in so many bytes, but for at most 16 (a list of 16
+/// fields of 64 bytes is 1 KiB; greater blocks are slower to ask for and to free). Where memory is refused it has none,
+/// and asks for it as fields come.
+pub(crate) fn room_for_fields(alloc: Global, bytes: usize) -> Vec<HeaderField>
+    ensures { result.items ≡ [] }
+{
+    let mut fields = Vec::new(alloc);
+    let _is_made = fields.reserve(bytes.min(FIELDS_AT_ONCE)).is_ok();
+    fields
+}
+
 /// Reads lines to the end of the cursor.
-fn read_fields(
+fn read_fields<I: EntryIndex>(
     alloc: Global,
-    table: &DynamicTableDecoder,
+    table: &DynamicTableDecoder<'_, I>,
     buf: &mut Cursor,
 ) -> Result<Fields, DecoderError>
     ensures exact { ReadsFields result (fields_in_bytes (window table.now.table.now) table.now.base buf.old.rest) }
     ensures finished { OnOk result (IsFinished buf.old buf.new) }
     ensures memory { result ≡ Err Memory → Begins AsksLine buf.old.rest }
 {
-    let mut fields = Vec::new(alloc);
+    let mut fields = room_for_fields(alloc, buf.remaining());
     let mut mem_size = 0u64;
     while buf.remaining() > 0 {
         let field = read_field(alloc, table, buf)?;
@@ -72,9 +89,9 @@ fn read_fields(
 }
 
 /// Reads the line at the cursor, and gives its field.
-fn read_field(
+fn read_field<I: EntryIndex>(
     alloc: Global,
-    table: &DynamicTableDecoder,
+    table: &DynamicTableDecoder<'_, I>,
     buf: &mut Cursor,
 ) -> Result<HeaderField, DecoderError>
     ensures exact { ReadsField buf.old buf.new result
@@ -87,7 +104,10 @@ fn read_field(
 
 /// The field that a line means (RFC 9204, sections 4.5.2 to 4.5.6).
 #[tactic(auto, unfolding(qpack_spec::specs::Reading::line_field))]
-fn field_of_line(table: &DynamicTableDecoder, line: BlockLine) -> Result<HeaderField, DecoderError>
+fn field_of_line<I: EntryIndex>(
+    table: &DynamicTableDecoder<'_, I>,
+    line: BlockLine,
+) -> Result<HeaderField, DecoderError>
     ensures { GivesLineField result (line_field (window table.now.table.now) table.now.base (line_of line)) }
 {
     match line {
@@ -104,7 +124,10 @@ fn field_of_line(table: &DynamicTableDecoder, line: BlockLine) -> Result<HeaderF
 /// The field that an indexed field line means.
 #[inline(always)]
 #[tactic(auto, unfolding(qpack_spec::specs::Reading::line_field, qpack_spec::specs::Reading::static_field))]
-fn field_of_indexed(table: &DynamicTableDecoder, line: Indexed) -> Result<HeaderField, DecoderError>
+fn field_of_indexed<I: EntryIndex>(
+    table: &DynamicTableDecoder<'_, I>,
+    line: Indexed,
+) -> Result<HeaderField, DecoderError>
     ensures { GivesLineField result
         (line_field (window table.now.table.now) table.now.base (line_of_indexed line)) }
 {
@@ -117,8 +140,8 @@ fn field_of_indexed(table: &DynamicTableDecoder, line: Indexed) -> Result<Header
 /// The field that a literal field line with a name reference means.
 #[inline(always)]
 #[tactic(auto, unfolding(qpack_spec::specs::Reading::line_field, qpack_spec::specs::Reading::static_field))]
-fn field_of_literal_with_name_ref(
-    table: &DynamicTableDecoder,
+fn field_of_literal_with_name_ref<I: EntryIndex>(
+    table: &DynamicTableDecoder<'_, I>,
     line: LiteralWithNameRef,
 ) -> Result<HeaderField, DecoderError>
     ensures { GivesLineField result

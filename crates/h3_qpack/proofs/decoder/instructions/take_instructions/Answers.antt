@@ -7,10 +7,10 @@ use Rattle.h3_qpack.proofs.decoder.instructions.take_instructions.Goals as goal
 use Rattle.h3_qpack.proofs.Taking.{taken_none, taken_more, taken_all, taken_until, one_was, one_shortens}
 
 pub loop-init : goal.loop-init
-loop-init c = record { taken = taken_none encoder_instruction_form apply_encoder_instruction Stops _ _; total = refl }
+loop-init g c = record { taken = taken_none encoder_instruction_form apply_encoder_instruction Stops _ _; total = refl }
 
 pub returns-in_err-take_instruction-clause-takes : goal.returns-in_err-take_instruction-clause-takes
-returns-in_err-take_instruction-clause-takes c =
+returns-in_err-take_instruction-clause-takes g c =
     let p = err_from_is_err_and c.from_residual.result c.from_residual.ensures.1 in
     rw (p.1, p.2)
     (taken_until encoder_instruction_form apply_encoder_instruction Stops c.args.table.now c.loop.table
@@ -18,11 +18,11 @@ returns-in_err-take_instruction-clause-takes c =
     c.in_err-take_instruction.field-0.0 c.loop.invariant.taken c.in_err-take_instruction.ensures.takes)
 
 pub returns-in_err-take_instruction-clause-total : goal.returns-in_err-take_instruction-clause-total
-returns-in_err-take_instruction-clause-total c =
+returns-in_err-take_instruction-clause-total g c =
     c.in_err-take_instruction.ensures.total ∙ c.loop.invariant.total
 
 pub loop-smaller : goal.loop-smaller
-loop-smaller c =
+loop-smaller g c =
     one_shortens encoder_instruction_form apply_encoder_instruction Stops c.loop.table c.take_instruction.new.table
     c.loop.buf.rest c.take_instruction.new.buf.rest
     (one_was encoder_instruction_form apply_encoder_instruction Stops c.loop.table c.take_instruction.new.table
@@ -30,7 +30,7 @@ loop-smaller c =
     c.in_ok-take_instruction.ensures.takes c.if-branch.true)
 
 pub loop-preserved : goal.loop-preserved
-loop-preserved c =
+loop-preserved g c =
     record {
       taken = taken_more encoder_instruction_form apply_encoder_instruction Stops c.args.table.now c.loop.table
           c.take_instruction.new.table c.args.buf.now.rest c.loop.buf.rest c.take_instruction.new.buf.rest
@@ -41,10 +41,10 @@ loop-preserved c =
     }
 
 pub returns-clause-takes : goal.returns-clause-takes
-returns-clause-takes c =
+returns-clause-takes g c =
     taken_all encoder_instruction_form apply_encoder_instruction Stops c.args.table.now c.loop.table
     c.take_instruction.new.table c.args.buf.now.rest c.loop.buf.rest c.take_instruction.new.buf.rest
     c.in_ok-take_instruction.field-0 c.loop.invariant.taken c.in_ok-take_instruction.ensures.takes c.if-branch.false
 
 pub returns-clause-total : goal.returns-clause-total
-returns-clause-total c = c.in_ok-take_instruction.ensures.total ∙ c.loop.invariant.total
+returns-clause-total g c = c.in_ok-take_instruction.ensures.total ∙ c.loop.invariant.total

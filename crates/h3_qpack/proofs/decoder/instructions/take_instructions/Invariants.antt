@@ -6,10 +6,10 @@ use Rattle.h3_qpack.proofs.decoder.instructions.take_instructions.Given as goal
 use Rattle.h3_qpack.proofs.Taking.{HasTaken}
 
 abbrev pub invariant-loop : goal.invariant-loop
-invariant-loop l = record {
+invariant-loop g l = record {
   taken : HasTaken encoder_instruction_form apply_encoder_instruction Stops l.fn.table l.table l.fn.buf.rest l.buf.rest;
   total : l.buf.total ≡ l.fn.buf.total;
 }
 
 abbrev pub decreases-loop : goal.decreases-loop
-decreases-loop l = length l.buf.rest
+decreases-loop g l = length l.buf.rest

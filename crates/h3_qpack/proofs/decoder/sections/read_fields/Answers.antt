@@ -12,7 +12,7 @@ use Rattle.h3_qpack.proofs.ReadSections.{none_of}
 use Rattle.h3_qpack.proofs.decoder.sections.read_fields.Goals as goal
 
 pub returns-in_err-field-clause-exact : goal.returns-in_err-field-clause-exact
-returns-in_err-field-clause-exact c =
+returns-in_err-field-clause-exact g c =
     let p = err_from_is_err_and c.from_residual.result c.from_residual.ensures.1 in
     let inv = c.loop-alloc.invariant.lines in
     rw (p.1, p.2)
@@ -21,26 +21,26 @@ returns-in_err-field-clause-exact c =
     (omega (arith, c.remaining.ensures, c.loop-alloc-test.true)) c.in_err-field.ensures.exact)
 
 pub returns-in_err-field-clause-memory : goal.returns-in_err-field-clause-memory
-returns-in_err-field-clause-memory c e =
+returns-in_err-field-clause-memory g c e =
     let p = err_from_is_err_and c.from_residual.result c.from_residual.ensures.1 in
     asks_begun c.args.buf.now.rest c.loop-alloc.buf.rest c.loop-alloc.invariant.begun
     (c.in_err-field.ensures.memory (let s = p.1 in let t = p.2 in cc))
 
 pub returns-in_err-push-clause-memory : goal.returns-in_err-push-clause-memory
-returns-in_err-push-clause-memory c e =
+returns-in_err-push-clause-memory g c e =
     asks_held c.args.buf.now.rest
     (line_begun (window c.args.table.now.table.now) c.args.table.now.base c.args.buf.now.rest c.loop-alloc.buf.rest
     (field_of c.in_ok-field.field) c.read_field.new.buf.rest c.loop-alloc.invariant.begun c.in_ok-field.ensures.exact.0)
 
 pub loop-alloc-smaller : goal.loop-alloc-smaller
-loop-alloc-smaller c =
+loop-alloc-smaller g c =
     let inv = c.loop-alloc.invariant.lines in
     (turn_good inv.0 (window c.args.table.now.table.now) c.args.table.now.base c.loop-alloc.buf.rest
     (fields_in c.loop-alloc.fields.items) _ (field_of c.in_ok-field.field) c.read_field.new.buf.rest inv.1 inv.2
     (omega (arith, c.remaining.ensures, c.loop-alloc-test.true)) c.in_ok-field.ensures.exact.0).shorter
 
 pub loop-alloc-preserved : goal.loop-alloc-preserved
-loop-alloc-preserved c =
+loop-alloc-preserved g c =
     let inv = c.loop-alloc.invariant.lines in
     let sum = total_size (fields_in c.loop-alloc.fields.items) in
     let saturated = saturated_is sum (field_size (field_of c.in_ok-field.field)) c.mem_size.result c.loop-alloc.mem_size
@@ -65,7 +65,7 @@ loop-alloc-preserved c =
     }
 
 pub returns-clause-exact : goal.returns-clause-exact
-returns-clause-exact c =
+returns-clause-exact g c =
     let inv = c.loop-alloc.invariant.lines in (
       fields_end inv.0 (window c.args.table.now.table.now) c.args.table.now.base c.loop-alloc.buf.rest
           (fields_in c.loop-alloc.fields.items) _ inv.2
@@ -74,7 +74,7 @@ returns-clause-exact c =
     )
 
 pub returns-clause-finished : goal.returns-clause-finished
-returns-clause-finished c = (
+returns-clause-finished g c = (
   none_of c.loop-alloc.buf.rest (omega (arith, c.remaining.ensures, c.loop-alloc-test.false)),
   c.loop-alloc.invariant.total,
 )

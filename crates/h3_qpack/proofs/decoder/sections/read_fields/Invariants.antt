@@ -9,7 +9,7 @@ use Rattle.h3_qpack.proofs.ReadSections.{with_front}
 use Rattle.h3_qpack.proofs.decoder.sections.read_fields.Given as goal
 
 abbrev pub invariant-loop-alloc : goal.invariant-loop-alloc
-invariant-loop-alloc l = record {
+invariant-loop-alloc g l = record {
   lines :
       (k : ℕ) × (length l.buf.rest ≤ k)
       × (with_front (fields_in l.fields.items) (fields_at k (window l.fn.table.table.now) l.fn.table.base
@@ -21,4 +21,4 @@ invariant-loop-alloc l = record {
 }
 
 abbrev pub decreases-loop-alloc : goal.decreases-loop-alloc
-decreases-loop-alloc l = length l.buf.rest
+decreases-loop-alloc g l = length l.buf.rest

@@ -11,7 +11,7 @@ use Rattle.h3_qpack.proofs.SectionAnswers.{section_out, section_missing, section
 use Rattle.h3_qpack.proofs.decoder.sections.read_section.Goals as goal
 
 pub returns-in_err-required-clause-exact : goal.returns-in_err-required-clause-exact
-returns-in_err-required-clause-exact c =
+returns-in_err-required-clause-exact g c =
     let p = err_from_is_err_and c.from_residual-in_err-required.result c.from_residual-in_err-required.ensures.1 in
     rw (p.1, p.2)
     (section_out c.args.table.now c.args.buf.now.rest c.decode.new.buf.rest (prefix_of c.in_ok-prefix.prefix)
@@ -20,14 +20,14 @@ returns-in_err-required-clause-exact c =
     c.in_err-required.ensures)
 
 pub returns-then-required-inserted-clause-exact : goal.returns-then-required-inserted-clause-exact
-returns-then-required-inserted-clause-exact c =
+returns-then-required-inserted-clause-exact g c =
     rw (section_missing c.args.table.now c.args.buf.now.rest c.decode.new.buf.rest (prefix_of c.in_ok-prefix.prefix)
     c.total_inserted-inserted.result c.agreed_max.result c.in_ok-required.required c.in_ok-required.base
     c.in_ok-prefix.ensures.exact.0 c.total_inserted-inserted.ensures c.agreed_max.ensures.exact c.in_ok-required.ensures
     c.if-required-inserted.true) refl
 
 pub returns-in_err-read-clause-exact : goal.returns-in_err-read-clause-exact
-returns-in_err-read-clause-exact c =
+returns-in_err-read-clause-exact g c =
     let same : fields_in_bytes (window c.decoder.result.table.now) c.decoder.result.base c.decode.new.buf.rest
     ≡ fields_in_bytes (window c.args.table.now) c.in_ok-required.base c.decode.new.buf.rest =
     (λ i. fields_in_bytes (window (c.decoder.ensures.table i)) (c.decoder.ensures.base i) c.decode.new.buf.rest) in
@@ -43,14 +43,14 @@ returns-in_err-read-clause-exact c =
     (subst (λ (q : Result (List Field) Fault). FailsWith c.in_err-read.field-0.0 q) same c.in_err-read.ensures.exact))
 
 pub returns-in_err-read-clause-memory : goal.returns-in_err-read-clause-memory
-returns-in_err-read-clause-memory c e =
+returns-in_err-read-clause-memory g c e =
     let p = err_from_is_err_and c.from_residual-in_err-read.result c.from_residual-in_err-read.ensures.1 in
     asks_section c.args.buf.now c.decode.new.buf (prefix_of c.in_ok-prefix.prefix)
     c.in_ok-prefix.ensures.decodes.found
     (c.in_err-read.ensures.memory (let s = p.1 in let t = p.2 in cc))
 
 pub returns-clause-exact : goal.returns-clause-exact
-returns-clause-exact c =
+returns-clause-exact g c =
     let same : fields_in_bytes (window c.decoder.result.table.now) c.decoder.result.base c.decode.new.buf.rest
     ≡ fields_in_bytes (window c.args.table.now) c.in_ok-required.base c.decode.new.buf.rest =
     (λ i. fields_in_bytes (window (c.decoder.ensures.table i)) (c.decoder.ensures.base i) c.decode.new.buf.rest) in (
