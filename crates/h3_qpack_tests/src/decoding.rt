@@ -2,8 +2,9 @@
 
 use h3_qpack::coding::{Cursor, NoMemory};
 use h3_qpack::decoder::{Decoded, Decoder, DecoderError, ack_header, stream_canceled};
-use h3_qpack::dynamic::{DynamicTable, Error};
-use h3_qpack::{HeaderField, prefix_int};
+use h3_qpack::dynamic::{DynamicTable, EntryIndex, Error};
+use h3_qpack::static_::StaticTable;
+use h3_qpack::{HeaderField, decode_stateless, prefix_int};
 use qpack_testing::{again, bytes, prints, same};
 use std::alloc::Global;
 use std::fmt::{self, Display, Formatter, Write};
@@ -61,7 +62,7 @@ impl Display for Shown {
 }
 
 /// What a section is decoded to, again where memory was refused.
-fn decode(decoder: &Decoder, section: &[u8]) -> Result<Decoded, DecoderError> {
+fn decode<I: EntryIndex>(decoder: &Decoder<I>, section: &[u8]) -> Result<Decoded, DecoderError> {
     match decoder.decode_header(&mut Cursor::new(section)) {
         Err(DecoderError::Memory) => decoder.decode_header(&mut Cursor::new(section)),
         answer => answer,
@@ -69,7 +70,12 @@ fn decode(decoder: &Decoder, section: &[u8]) -> Result<Decoded, DecoderError> {
 }
 
 /// A section in hexadecimal is decoded to this.
-fn decodes(alloc: Global, decoder: &Decoder, section: &[u8], to: &str) -> Result<(), Fail> {
+fn decodes<I: EntryIndex>(
+    alloc: Global,
+    decoder: &Decoder<I>,
+    section: &[u8],
+    to: &str,
+) -> Result<(), Fail> {
     let section = bytes(alloc, section)?;
     prints(alloc, &Shown(decode(decoder, &section)), to)
 }
@@ -206,9 +212,9 @@ fn a_base_past_the_insertions_points_behind_the_newest(rt: HostRuntime) -> Resul
 }
 
 /// Bytes in hexadecimal are answered so, and the cursor is left at this position.
-fn receives(
+fn receives<I: EntryIndex>(
     alloc: Global,
-    decoder: &mut Decoder,
+    decoder: &mut Decoder<I>,
     written: &mut Vec<u8>,
     offered: &[u8],
     to: (&Result<usize, DecoderError>, usize),
@@ -220,8 +226,8 @@ fn receives(
 }
 
 /// What bytes are answered; they are offered again where memory was refused, and then nothing was written.
-fn receive(
-    decoder: &mut Decoder,
+fn receive<I: EntryIndex>(
+    decoder: &mut Decoder<I>,
     buf: &mut Cursor,
     written: &mut Vec<u8>,
 ) -> Result<Result<usize, DecoderError>, Fail> {
@@ -419,6 +425,58 @@ fn a_capacity_may_fall_to_0(rt: HostRuntime) -> Result<(), Fail> {
         Step::HasCapacity(0),
     ];
     take_all(rt.alloc(), (4096, 1), STEPS)
+}
+
+/// A decoder over this empty table receives an insertion, has it in its table, and decodes a section that names it.
+fn has_what_it_receives<I: EntryIndex>(
+    alloc: Global,
+    mut table: DynamicTable<I>,
+) -> Result<(), Fail> {
+    table.set_max_size(4096)?;
+    let mut decoder = Decoder::from(table);
+    let mut written = Vec::new(alloc);
+    receives(
+        alloc,
+        &mut decoder,
+        &mut written,
+        b"6294e7838c767f",
+        (&Ok(1), 7),
+    )?;
+    is_hex(alloc, &written, b"01")?;
+    same(decoder.table().total_inserted(), 1)?;
+    prints(alloc, decoder.table().get_relative(0)?, "\"foo\": \"bar\"")?;
+    decodes(alloc, &decoder, b"020080", "\"foo\": \"bar\", 38 true")
+}
+
+#[test]
+fn a_table_with_or_without_an_index_receives(rt: HostRuntime) -> Result<(), Fail> {
+    has_what_it_receives(rt.alloc(), DynamicTable::new(rt.alloc()))?;
+    has_what_it_receives(rt.alloc(), DynamicTable::without_index(rt.alloc()))
+}
+
+/// The fields are the first twenty of the static table.
+fn are_first_twenty(fields: &[HeaderField]) -> Result<(), Fail> {
+    same(fields.len(), 20)?;
+    for (index, field) in fields.iter().enumerate() {
+        same(field, &StaticTable::get(index)?)?;
+    }
+    Ok(())
+}
+
+/// Decodes without a dynamic table, and again where memory was refused.
+fn decode_alone(alloc: Global, section: &[u8]) -> Result<Decoded, DecoderError> {
+    match decode_stateless(alloc, &mut Cursor::new(section), u64::MAX) {
+        Err(DecoderError::Memory) => decode_stateless(alloc, &mut Cursor::new(section), u64::MAX),
+        answer => answer,
+    }
+}
+
+#[test]
+fn a_list_may_be_longer_than_the_room_that_is_made(rt: HostRuntime) -> Result<(), Fail> {
+    let section = bytes(rt.alloc(), b"0000c0c1c2c3c4c5c6c7c8c9cacbcccdcecfd0d1d2d3")?;
+    let decoder = decoder(rt.alloc(), (0, 0))?;
+    are_first_twenty(&decode(&decoder, &section)?.fields)?;
+    are_first_twenty(&decode_alone(rt.alloc(), &section)?.fields)
 }
 
 /// Appends an acknowledgment and a cancellation of stream 4.
