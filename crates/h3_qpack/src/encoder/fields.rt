@@ -202,6 +202,7 @@ fn write_instruction<A: Allocator>(
 
 /// Appends the line of a field that was inserted, or was not. On error the vector is as
 /// before.
+#[inline(always)]
 fn append_inserted<A: Allocator>(
     field: &FieldLine<'_>,
     insertion: DynamicInsertionResult,

@@ -153,6 +153,7 @@ impl DynamicTableEncoder<'_> {
     /// The same of a field that is lent, whose name the static table has at this index if at any. What was sought is
     /// kept
     /// with the answer, for `insert_found`.
+    #[inline(always)]
     pub fn find_and_keep(
         &mut self,
         field: &FieldLine<'_>,
@@ -207,6 +208,7 @@ impl DynamicTableEncoder<'_> {
 
     /// The same of a field that `find_and_keep` looked for and did not find among what may be referenced; since then
     /// nothing was inserted. Nothing is looked for again.
+    #[inline(always)]
     pub fn insert_found(
         &mut self,
         field: &FieldLine<'_>,
@@ -225,6 +227,7 @@ impl DynamicTableEncoder<'_> {
     /// Ends the block, whose required insert count is this. It waits for an acknowledgment if it references an entry,
     /// and counts as blocked while its required insert count is above the known received count. On error, which is for
     /// memory alone, what it references is given back.
+    #[inline(always)]
     pub fn commit(self, largest_ref: usize) -> Result<(), Error>
         ensures { Commits result self.entry.stream_id largest_ref self.entry.table.now self.exit.0.now }
     {

@@ -131,6 +131,7 @@ fn grow(entries: &mut VecDeque<Entry>) -> Result<(), AllocError>
 /// The oldest entries go, and another comes in behind the newest; the sum of their sizes is counted along. Refused,
 /// which is for memory alone, none goes and none comes in. With free room for it the list is not grown. The key is
 /// that of the entry's field.
+#[inline(always)]
 pub(super) fn replace_oldest<I: EntryIndex>(
     entries: &mut VecDeque<Entry>,
     index: &mut I,

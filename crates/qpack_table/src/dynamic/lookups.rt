@@ -127,6 +127,7 @@ impl DynamicTable {
 
     /// How many of the oldest entries go before a field is inserted, if one more block may be blocked and there is
     /// room.
+    #[inline(always)]
     fn insertable(&self, field: &FieldLine<'_>) -> Option<usize>
         ensures inserted { IfSome result
             (λ evicted. (below_limit self.now && has_room self.now (line_of field.now).field) ≡ true) }
@@ -154,6 +155,7 @@ impl DynamicTable {
     }
 
     /// The same of a field that was sought.
+    #[inline(always)]
     pub(super) fn insert_sought(
         &mut self,
         base: usize,
@@ -172,6 +174,7 @@ impl DynamicTable {
 
     /// Inserts a field for which there is room, and references it. What was sought of an equal entry or one of its name
     /// is told first, before what has to go is evicted. On error, which is want of memory alone, nothing changes.
+    #[inline(always)]
     fn insert_in_room(
         &mut self,
         base: usize,
@@ -244,6 +247,7 @@ impl DynamicTable {
 }
 
 /// A copy of the field, as it is stored: with the name of the static field lent, if one has it.
+#[inline(always)]
 fn stored(
     alloc: Global,
     field: &FieldLine<'_>,

@@ -30,6 +30,7 @@ pub(super) struct SoughtField {
 
 impl SoughtField {
     /// Its hashes, which are taken now if they were not.
+    #[inline(always)]
     pub(super) fn hashes_of(&self, field: &FieldLine<'_>) -> Hashes
         requires { IfSome self.now.hashes (λ hashes. AreHashesOf hashes (line_of field.now).field) }
         ensures { AreHashesOf result (line_of field.now).field }
@@ -61,6 +62,7 @@ impl FoundField {
 impl DynamicTable {
     /// Seeks a field, whose name the static table has at this index if at any. Where there is no entry, nothing is
     /// hashed.
+    #[inline(always)]
     pub(super) fn seek(&self, field: &FieldLine<'_>, static_name: Option<usize>) -> SoughtField
         requires { static_name ≡ static_name_index (line_of field.now).field.name }
         ensures { IsSoughtIn self.now (line_of field.now).field result }
@@ -81,6 +83,7 @@ impl DynamicTable {
     }
 
     /// Seeks a field, and finds the newest entry that is it, which is referenced if it may be.
+    #[inline(always)]
     pub(super) fn find_and_keep(
         &mut self,
         base: usize,

@@ -108,6 +108,7 @@ impl DynamicTable {
 
     /// Inserts a field that an encoder sends, which has such hashes, and the block in progress references it. Refused,
     /// which is for memory alone, nothing changes.
+    #[inline(always)]
     pub(super) fn insert_sent(
         &mut self,
         field: HeaderField,

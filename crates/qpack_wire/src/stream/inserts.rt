@@ -134,6 +134,7 @@ impl InsertWithNameRef {
     }
 }
 
+#[inline(always)]
 #[tactic(auto, unfolding(crate::specs::Alone::kind_at, qpack_spec::specs::Form::made_at))]
 pub(crate) fn read_insert_with_name_ref(
     alloc: Global,

@@ -66,6 +66,7 @@ pub trait Wire: Sized + Drop {
 
 /// Reads the line at the cursor and moves past exactly it. Where none is read, of a truncated line or
 /// at a refusal, the cursor stays where it was.
+#[inline(always)]
 pub fn next_line<W: Wire>(alloc: Global, cursor: &mut Cursor) -> Result<Option<W>, ParseError>
     ensures decodes { DecodesInstruction W.line_of W.spells W.refuses cursor.old cursor.new result }
     ensures stays { StaysUnlessRead cursor.old cursor.new result }

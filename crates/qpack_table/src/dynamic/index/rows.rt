@@ -39,7 +39,7 @@ impl Rows {
     {
         let mut rows = Vec::with_capacity(alloc, count)?;
         for _ in 0..count {
-            rows.push(Row::new())?;
+            rows.push_reserved(Row::new());
         }
         Ok(Rows { rows })
     }
