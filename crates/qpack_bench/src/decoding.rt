@@ -3,6 +3,7 @@
 
 use crate::connection::{Written, record};
 use crate::corpus::fields_len;
+use crate::ported::BLOCKED;
 use crate::strict;
 use anyhow::{Result, ensure};
 use h3_qpack::HeaderField;
@@ -13,9 +14,6 @@ use qpack_connection::decoder::{ConnectionDecoder, DecoderSettings};
 use qpack_connection::{FieldSection, Reading};
 use std::alloc::Global;
 use std::time::Instant;
-
-/// How many streams may be blocked.
-pub(crate) const BLOCKED: usize = 100;
 
 /// The calls of `h3_qpack` at a decoding end.
 #[derive(Drop)]
@@ -212,7 +210,7 @@ pub(crate) fn tell(
     capacity: usize,
     rounds: u64,
 ) -> Result<()> {
-    let written = record(rt, alloc, lists, capacity)?;
+    let written = record(alloc, lists, capacity)?;
     tell_written(rt, alloc, lists, &written, capacity, rounds)
 }
 

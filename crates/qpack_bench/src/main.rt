@@ -10,16 +10,22 @@ mod ends;
 mod inspected;
 mod long;
 mod mutated;
+mod ported;
 mod recorded;
 mod replay;
+mod rounds;
 mod strict;
 mod table;
 mod timing;
 
 use anyhow::Result;
+use ends::Both;
 use h3_qpack::HeaderField;
+use h3_qpack::dynamic::{Index, NoIndex};
 use mutated::Answers;
+use ported::Ported;
 use qpack_testing::Numbers;
+use rounds::Load;
 use std::alloc::Global;
 use std::{env, fs};
 
@@ -33,35 +39,65 @@ const RECORDINGS: [(&str, usize); 5] = [
 ];
 
 /// What the words ask for.
-#[derive(Clone, Copy)]
+#[derive(Drop)]
 struct Words {
     /// So many rounds over the corpus.
     rounds: u64,
     /// Then a dynamic table of so many entries, and as many blocks.
     entries: usize,
+    /// Instead of all that, rounds over the lists of this file alone.
+    file: Option<String>,
+    /// At this capacity in bytes.
+    capacity: usize,
+    /// So many of its lists are not timed.
+    untimed: usize,
 }
 
-/// The words: two numbers, each 0 where there is none.
+/// The words: two numbers, and perhaps a file and two numbers. A number that is not there is 0.
 fn words_of(rt: &HostRuntime) -> Result<Words> {
     let mut words = env::args(rt)?.skip(1);
-    let rounds = words
-        .next()
-        .map_or(0, |word| word.as_str().parse().unwrap_or(0));
-    let entries = words
-        .next()
-        .map_or(0, |word| word.as_str().parse().unwrap_or(0));
-    Ok(Words { rounds, entries })
+    Ok(Words {
+        rounds: number_of(words.next()) as u64,
+        entries: number_of(words.next()),
+        file: words.next(),
+        capacity: number_of(words.next()),
+        untimed: number_of(words.next()),
+    })
+}
+
+/// The number of a word, 0 where there is none.
+fn number_of(word: Option<String>) -> usize {
+    word.map_or(0, |word| word.as_str().parse().unwrap_or(0))
+}
+
+/// Reads the corpus, or a file of lists, and tells what is counted and timed of it.
+fn run(rt: &HostRuntime, alloc: Global) -> Result<()> {
+    let words = words_of(rt)?;
+    match &words.file {
+        Some(file) => tell_file(rt, alloc, file.as_str(), &words),
+        None => tell_corpus(rt, alloc, &words),
+    }
+}
+
+/// Tells of a file of lists how long the loops take, by phase.
+fn tell_file(rt: &HostRuntime, alloc: Global, file: &str, words: &Words) -> Result<()> {
+    let lists = corpus::read_lists(rt, alloc, file)?;
+    let load = Load {
+        lists: &lists,
+        untimed: words.untimed,
+        capacity: words.capacity,
+    };
+    tell_rounds(rt, alloc, load, words.rounds)
 }
 
 /// Reads the corpus, and tells what is counted and timed of it.
-fn run(rt: &HostRuntime, alloc: Global) -> Result<()> {
-    let words = words_of(rt)?;
+fn tell_corpus(rt: &HostRuntime, alloc: Global, words: &Words) -> Result<()> {
     let lists = corpus::read_lists(rt, alloc, "corpus.qif")?;
     tell(rt, alloc, &lists, words)
 }
 
 /// Tells what is counted of the lists, and times the rounds.
-fn tell(rt: &HostRuntime, alloc: Global, lists: &[Vec<HeaderField>], words: Words) -> Result<()> {
+fn tell(rt: &HostRuntime, alloc: Global, lists: &[Vec<HeaderField>], words: &Words) -> Result<()> {
     tell_lists(rt, lists)?;
     comparing::tell_of_h3(rt, alloc, lists)?;
     comparing::tell_of_nghttp3(rt, alloc, lists)?;
@@ -72,15 +108,32 @@ fn tell(rt: &HostRuntime, alloc: Global, lists: &[Vec<HeaderField>], words: Word
         tell_recording(rt, alloc, lists, file, max_capacity)?;
     }
     for capacity in [4096, 65536] {
-        connection::tell(rt, alloc, lists, capacity, words.rounds)?;
+        connection::tell(rt, alloc, lists, capacity)?;
         decoding::tell(rt, alloc, lists, capacity, words.rounds)?;
-        ends::tell(rt, alloc, lists, capacity, words.rounds)?;
+        ends::tell(rt, alloc, lists, capacity)?;
+        let load = Load {
+            lists,
+            untimed: 0,
+            capacity,
+        };
+        tell_rounds(rt, alloc, load, words.rounds)?;
     }
     long::tell(rt, alloc, words.rounds > 0)?;
     if words.entries > 0 {
         tell_table(rt, alloc, words.entries)?;
     }
     Ok(())
+}
+
+/// Tells how long the loops take for a field, by phase, where there are rounds.
+fn tell_rounds(rt: &HostRuntime, alloc: Global, load: Load<'_>, rounds: u64) -> Result<()> {
+    if rounds == 0 {
+        return Ok(());
+    }
+    rounds::tell::<Ported<NoIndex>>(rt, alloc, "the ported calls", load, rounds)?;
+    let indexed = "the ported calls, with an index at the decoder too";
+    rounds::tell::<Ported<Index>>(rt, alloc, indexed, load, rounds)?;
+    rounds::tell::<Both>(rt, alloc, "both ends", load, rounds)
 }
 
 /// Tells how many lists there are, fields, and bytes of text.
