@@ -170,7 +170,7 @@ fn tell_stream(
 /// How many rows the table's index has at first.
 const FIRST_ROWS: usize = 32;
 
-/// How often more rows are made, at most: as many as these are more than a table can have entries.
+/// How often rows are made anew at most: 32 times 4^12 rows are more than a table can have entries.
 const MOST_GROWTHS: usize = 12;
 
 /// How often an entry is entered into the index while so many come: each once, and all again whenever they are as many

@@ -7,7 +7,7 @@ pub record SlotList : Type 0 where
   pub items : List Slot
   pub capacity : ℕ
 
--- the slots in places of a row; one that has none holds the index 0, which no entry has (RFC 9204, section 3.2.4)
+-- the slots in places of a row; a place that has none holds the index 0, since those of entries are counted from 1
 abbrev pub slots_here : List Slot → List Slot
 slots_here [] = []
 slots_here (slot ∷ rest) = if slot.index == 0 then [] else slot ∷ slots_here rest

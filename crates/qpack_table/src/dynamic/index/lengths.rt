@@ -1,5 +1,5 @@
 //! The lengths of pieces, by which the piece of a position is found. How many slots are before each piece is kept too,
-//! so a piece that grows by a slot tells those behind it.
+//! so a piece that grows by a slot tells those behind it. A piece here is also a group of pieces, among groups.
 
 ghost use Rattle.std.specs.Prelude.{◌≡◌, ◌+◌, ◌-◌, ◌^◌, ◌<◌, ◌≤◌, ℕ, suc, [], ◌∷◌, length, IfOk, OnOk};
 ghost use Rattle.std.specs.Prelude.{slice_index_or, slice_set, vec_capacity, true};

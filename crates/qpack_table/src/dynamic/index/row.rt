@@ -41,7 +41,7 @@ pub(super) struct Sought<'a> {
     pub(super) hash: u32,
 }
 
-/// The absolute index of an entry, and the hash of its part; or none, where the index is 0, which no entry has.
+/// The absolute index of an entry, counted from 1, and the hash of its part; or none, where the index is 0.
 #[derive(Debug, Clone, Copy, Default)]
 pub(super) struct Slot {
     hash: u32,
