@@ -1,10 +1,10 @@
 -- Two places of a row, by what is known of the slots in them.
-use Rattle.std.proofs.Common.{◌≡◌, ℕ, zero, suc, ◌+◌, ◌<◌, ◌≤◌, ◌==◌, Bool, true, false, List, [], ◌∷◌, length, get_or}
-use Rattle.std.proofs.Common.{refl, sym, ap, subst, ◌∙◌, inl, inr, ◌⊎◌, arith}
-use Rattle.std.proofs.lemmas.Bool.{ne_eqb, eqb-false}
+use Rattle.std.proofs.Common.{◌≡◌, ℕ, zero, suc, ◌<◌, ◌==◌, Bool, false, List, [], ◌∷◌, length, get_or}
+use Rattle.std.proofs.Common.{sym, ap, subst, ◌∙◌, inl, inr, ◌⊎◌, arith}
+use Rattle.std.proofs.lemmas.Bool.{ne_eqb, eqb-false, cases_eq}
 use Rattle.std.specs.Prelude.{if◌then◌else◌}
 use Rattle.std.specs.Cmp.{nat_cmp_is}
-use Rattle.std.specs.declared.cmp.Ordering.TheVariants.{Less, Equal, Greater}
+use Rattle.std.specs.declared.cmp.Ordering.TheVariants.{Less, Greater}
 use Rattle.qpack_spec.specs.Field.{Field}
 use Rattle.qpack_table.specs.Rows.{Key, key_cmp, key_at, IsSlot, IsRow, IsGap, IsGapByHash}
 use Rattle.qpack_table.specs.SlotLists.{slots_here, ArePlaces}
@@ -45,44 +45,41 @@ module _ (part : Part) (dropped : ℕ) (live : List Field) where
   }
 
   -- of a list that begins with a slot
-  module _ (row : List Slot) (is : IsRow part dropped live row) (k : Key) (first : Slot) (some : 0 < length row)
-      (read : first ≡ get_or row 0 first) where
-    in_front : key_cmp (key_at part dropped live first) k ≡ Greater → IsGap part dropped live row k 0
+  module _ (slots : List Slot) (is : IsRow part dropped live slots) (k : Key) (first : Slot) (some : 0 < length slots)
+      (read : first ≡ get_or slots 0 first) where
+    in_front : key_cmp (key_at part dropped live first) k ≡ Greater → IsGap part dropped live slots k 0
     in_front greater =
-        ends part dropped live row is k 0 0
-        (searching_lower part dropped live row is k 0 (length row) 0 (begins part dropped live row is k)
+        ends part dropped live slots is k 0 0
+        (searching_lower part dropped live slots is k 0 (length slots) 0 (begins part dropped live slots is k)
         (omega arith) some first read greater)
         (omega arith)
 
     module _ (less : key_cmp (key_at part dropped live first) k ≡ Less) where
-      passed : Searching part dropped live row k 1 (length row)
+      passed : Searching part dropped live slots k 1 (length slots)
       passed =
-          searching_higher part dropped live row is k 0 (length row) 0 (begins part dropped live row is k)
+          searching_higher part dropped live slots is k 0 (length slots) 0 (begins part dropped live slots is k)
           (omega arith) some first read less
 
-      behind_one : length row ≡ 1 → IsGap part dropped live row k 1
-      behind_one one = ends part dropped live row is k 1 (length row) passed (omega (arith, one))
+      behind_one : length slots ≡ 1 → IsGap part dropped live slots k 1
+      behind_one one = ends part dropped live slots is k 1 (length slots) passed (omega (arith, one))
 
-      module _ (second : Slot) (two : length row ≡ 2) (next : second ≡ get_or row 1 second) where
-        between : key_cmp (key_at part dropped live second) k ≡ Greater → IsGap part dropped live row k 1
+      module _ (second : Slot) (two : length slots ≡ 2) (next : second ≡ get_or slots 1 second) where
+        between : key_cmp (key_at part dropped live second) k ≡ Greater → IsGap part dropped live slots k 1
         between greater =
-            ends part dropped live row is k 1 1
-            (searching_lower part dropped live row is k 1 (length row) 1 passed (omega arith)
+            ends part dropped live slots is k 1 1
+            (searching_lower part dropped live slots is k 1 (length slots) 1 passed (omega arith)
             (omega (arith, two)) second next greater)
             (omega arith)
 
-        behind_two : key_cmp (key_at part dropped live second) k ≡ Less → IsGap part dropped live row k 2
+        behind_two : key_cmp (key_at part dropped live second) k ≡ Less → IsGap part dropped live slots k 2
         behind_two lesser =
-            ends part dropped live row is k 2 (length row)
-            (searching_higher part dropped live row is k 1 (length row) 1 passed (omega arith)
+            ends part dropped live slots is k 2 (length slots)
+            (searching_higher part dropped live slots is k 1 (length slots) 1 passed (omega arith)
             (omega (arith, two)) second next lesser)
             (omega (arith, two))
 
   -- of two places
   module _ (a b : Slot) (is : IsRow part dropped live (slots_here (a ∷ b ∷ []))) (k : Key) where
-    row : List Slot
-    row = slots_here (a ∷ b ∷ [])
-
     none_gap : a.index ≡ 0 → IsGap part dropped live (slots_here (a ∷ b ∷ [])) k 0
     none_gap e = subst (λ (r : List Slot). IsGap part dropped live r k 0) (sym (none_here a (b ∷ []) e)) (gap_of_none k)
 
@@ -109,14 +106,10 @@ module _ (part : Part) (dropped : ℕ) (live : List Field) where
         read_second : b ≡ get_or (slots_here (a ∷ b ∷ [])) 1 b
         read_second = sym (ap (λ (r : List Slot). get_or r 1 b) both)
 
-    either : (n : ℕ) → (n ≡ 0) ⊎ (n ≡ 0 → ⊥)
-    either zero = inl refl
-    either (suc n) = inr (λ q. absurd (omega (arith, q)))
-
     by_hash : (position : ℕ) → IsGapByHash a b k.hash position
         → IsGap part dropped live (slots_here (a ∷ b ∷ [])) k position
     by_hash zero (inl e) = none_gap e
-    by_hash zero (inr h) = pick (either a.index)
+    by_hash zero (inr h) = pick (cases_eq a.index 0)
       where
         pick : (a.index ≡ 0) ⊎ (a.index ≡ 0 → ⊥) → IsGap part dropped live (slots_here (a ∷ b ∷ [])) k 0
         pick (inl e) = none_gap e
@@ -126,7 +119,7 @@ module _ (part : Part) (dropped : ℕ) (live : List Field) where
     by_hash (suc zero) (some, less, inl e) =
         behind_one (slots_here (a ∷ b ∷ [])) is k a (long some) (read_first some) (less_hash part dropped live a k less)
         (alone some e)
-    by_hash (suc zero) (some, less, inr h) = pick (either b.index)
+    by_hash (suc zero) (some, less, inr h) = pick (cases_eq b.index 0)
       where
         pick : (b.index ≡ 0) ⊎ (b.index ≡ 0 → ⊥) → IsGap part dropped live (slots_here (a ∷ b ∷ [])) k 1
         pick (inl e) =

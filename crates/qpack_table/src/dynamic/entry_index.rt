@@ -74,6 +74,7 @@ impl EntryIndex for Index {
         Hashes::of(field)
     }
 
+    #[inline(always)]
     fn reserve(
         &mut self,
         entries: &VecDeque<Entry>,
@@ -83,10 +84,12 @@ impl EntryIndex for Index {
         Index::reserve(self, entries, dropped, key)
     }
 
+    #[inline(always)]
     fn enter(&mut self, entries: &VecDeque<Entry>, dropped: usize, key: Hashes) {
         Index::enter(self, entries, dropped, dropped + entries.len(), key);
     }
 
+    #[inline(always)]
     fn leave(&mut self, entries: &VecDeque<Entry>, dropped: usize) {
         Index::leave(self, entries, dropped);
     }

@@ -93,6 +93,7 @@ impl Index {
     }
 
     /// The newest entry with a field that has such hashes.
+    #[inline(always)]
     pub(super) fn newest_hashed(
         &self,
         entries: &VecDeque<Entry>,
@@ -155,6 +156,7 @@ impl Index {
     }
 
     /// Makes room for one entry more, with such hashes. On error the index is as before.
+    #[inline(always)]
     pub(super) fn reserve(
         &mut self,
         entries: &VecDeque<Entry>,
@@ -218,6 +220,7 @@ impl Index {
     }
 
     /// An entry comes in behind all that are in, of which it is the next newer one. There is room.
+    #[inline(always)]
     pub(super) fn enter(
         &mut self,
         entries: &VecDeque<Entry>,

@@ -55,6 +55,7 @@ impl DynamicTable {
     }
 
     /// The same of a field that was sought.
+    #[inline(always)]
     fn find_sought_name(
         &mut self,
         base: usize,

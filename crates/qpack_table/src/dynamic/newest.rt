@@ -41,6 +41,7 @@ impl DynamicTable {
     }
 
     /// The same of a field with such hashes.
+    #[inline(always)]
     pub(super) fn newest_hashed(
         &self,
         field: &FieldLine<'_>,

@@ -26,6 +26,7 @@ pub struct Hashes {
 
 impl Hashes {
     /// Those of a field: what goes on from the name over the value is not hashed twice.
+    #[inline(always)]
     pub(in crate::dynamic) fn of(field: &FieldLine<'_>) -> Hashes
         ensures name { result.name ≡ name_hash (line_of field.now).field.name }
         ensures field { result.field ≡ field_hash (line_of field.now).field }

@@ -147,6 +147,31 @@ fn search_here(
     }
 }
 
+/// Where the slot with what is sought is among at most two, or where it would stand, slot by slot.
+#[inline(always)]
+fn search_two(
+    slots: &[Slot],
+    entries: &VecDeque<Entry>,
+    dropped: usize,
+    sought: &Sought<'_>,
+    steps: &mut Steps,
+) -> Result<usize, usize>
+    requires few { length slots.now ≤ 2 }
+    requires row { IsRow sought.now.part dropped (live_fields entries.now.items) slots.now }
+    ensures place { IsPlace sought.now.part dropped (live_fields entries.now.items) slots.now (key_of sought.now)
+        result }
+    ensures steps { Counts (length slots.now) steps.old.count steps.new.count }
+{
+    for position in 0..slots.len() {
+        match compare(sought, slots[position], entries, dropped, steps) {
+            Ordering::Less => {}
+            Ordering::Equal => return Ok(position),
+            Ordering::Greater => return Err(position),
+        }
+    }
+    Err(slots.len())
+}
+
 /// Where a slot of a hash would stand in two places that rise, of which neither has it.
 #[inline(always)]
 fn gap_here(first: Slot, second: Slot, hash: u32) -> usize
@@ -230,6 +255,26 @@ impl Row {
     {
         match self.slots.here() {
             Some(places) => search_here(places, entries, dropped, sought, steps),
+            None => self.search_outside(entries, dropped, sought, steps),
+        }
+    }
+
+    /// The same where the slots stand outside the row itself: of two that were left behind it looks at one after the
+    /// other.
+    fn search_outside(
+        &self,
+        entries: &VecDeque<Entry>,
+        dropped: usize,
+        sought: &Sought<'_>,
+        steps: &mut Steps,
+    ) -> Result<usize, usize>
+        requires { IsRow sought.now.part dropped (live_fields entries.now.items) self.now.slots.items }
+        ensures place { IsPlace sought.now.part dropped (live_fields entries.now.items) self.now.slots.items
+            (key_of sought.now) result }
+        ensures steps { Counts (length self.now.slots.items) steps.old.count steps.new.count }
+    {
+        match self.slots.as_two() {
+            Some(slots) => search_two(slots, entries, dropped, sought, steps),
             None => self.search_by_halves(entries, dropped, sought, steps),
         }
     }
@@ -277,6 +322,7 @@ impl Row {
     }
 
     /// The index whose entry has what is sought.
+    #[inline(always)]
     pub(super) fn find(
         &self,
         entries: &VecDeque<Entry>,

@@ -52,6 +52,7 @@ impl Rows {
     }
 
     /// The newest index whose entry has what is sought.
+    #[inline(always)]
     pub(super) fn newest(
         &self,
         entries: &VecDeque<Entry>,
@@ -74,6 +75,7 @@ impl Rows {
     }
 
     /// Makes room for one index more in the row of a hash.
+    #[inline(always)]
     pub(super) fn reserve(&mut self, alloc: Global, hash: u32) -> Result<(), AllocError>
         requires { 0 < length self.old.rows.items }
         ensures rows { (part : Part) (dropped entered : ℕ) (live : List Field)

@@ -77,6 +77,18 @@ impl Slots {
         }
     }
 
+    /// The slots in a vector, where they are at most two.
+    #[inline(always)]
+    pub(super) fn as_two(&self) -> Option<&[Slot]>
+        ensures slots { IfSome result (λ slots. slots.now ≡ self.now.items) }
+        ensures few { IfSome result (λ slots. length slots.now ≤ 2) }
+    {
+        match &self.kept {
+            Kept::Few(slots) if slots.len() <= 2 => Some(slots),
+            Kept::Here(_) | Kept::Few(_) | Kept::Many(_) => None,
+        }
+    }
+
     /// Makes room for one slot more.
     #[inline(always)]
     pub(super) fn reserve(&mut self, alloc: Global) -> Result<(), AllocError>
@@ -89,7 +101,8 @@ impl Slots {
         }
     }
 
-    /// The same where the row itself has no room.
+    /// The same where the row itself has no room. It is a call of its own, so that whoever finds room saves no registers.
+    #[inline(never)]
     fn reserve_outside(&mut self, alloc: Global) -> Result<(), AllocError>
         ensures slots { self.new.items ≡ self.old.items }
         ensures ok { OnOk result (HasRoomIn self.new) }
@@ -185,7 +198,7 @@ impl Slots {
     }
 
     /// A slot comes in at a position, for which there is room.
-    #[inline]
+    #[inline(always)]
     pub(super) fn insert(&mut self, position: usize, slot: Slot)
         requires within { position ≤ length self.old.items }
         requires room { HasRoomIn self.old }
