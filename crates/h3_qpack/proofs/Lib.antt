@@ -6,6 +6,7 @@ pub mod ReadSections
 pub mod SectionAnswers
 pub mod LonePrefixes
 pub mod Taking
+pub mod Turns
 pub mod Instructions
 pub mod Increments
 pub mod Counts

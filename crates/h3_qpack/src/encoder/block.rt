@@ -17,6 +17,9 @@ use qpack_table::dynamic::DynamicTableEncoder;
 use qpack_wire::block::HeaderPrefix;
 use std::alloc::Allocator;
 
+/// At most so many bytes of a prefix are moved one by one.
+const MOST_ONE_BY_ONE: usize = 5;
+
 /// Appends the block of the fields and the instructions of what is inserted, and answers the block's required insert
 /// count. The lines are written first, and then the prefix is put in front of them. Refused,
 /// what stood in the block's vector is still at its front.
@@ -102,18 +105,19 @@ fn put_in_front<A: Allocator>(
     Ok(())
 }
 
-/// Moves so many bytes from the end to the front. Two, as most prefixes have, are moved one by one: to move more at
-/// once takes room on the stack, which is cleared first.
+/// Moves so many bytes from the end to the front. A few, as nearly every prefix has, are moved one by one: to move more
+/// at once takes room on the stack, which is cleared first.
 fn move_to_front(bytes: &mut [u8], count: usize)
     requires { count ≤ length bytes.old }
     ensures len { length bytes.new ≡ length bytes.old }
     ensures after { bytes.new
         ≡ drop (length bytes.old - count) bytes.old ++ take (length bytes.old - count) bytes.old }
 {
-    if count == 2 {
-        bytes.rotate_right(1);
-        bytes.rotate_right(1);
+    if count > MOST_ONE_BY_ONE {
+        bytes.rotate_right(count);
         return;
     }
-    bytes.rotate_right(count);
+    for _ in 0..count {
+        bytes.rotate_right(1);
+    }
 }
