@@ -80,7 +80,7 @@ live_whole t h i g e q =
     rw (lt-ltb 0 (t.dropped + i + 1) (omega arith), n, ← get_drop, ← l) q
 
 -- a line that names nothing
-drafting_writes : (t0 : Table) (h0 : History) (done : List Field) (d : Draft) (l : Line) (f : Field)
+pub drafting_writes : (t0 : Table) (h0 : History) (done : List Field) (d : Draft) (l : Line) (f : Field)
     (k : Drafting t0 h0 done d)
     → references_of_line (insert_count t0) l ≡ [] → line_field (whole_window k.history) (insert_count t0) l ≡ Ok f
     → Drafting t0 h0 (done ++ f ∷ []) (with_line d l)
@@ -101,7 +101,7 @@ unfolding with_reference window
 keeps_naming h t a k = record { shares = k.shares; marked = k.marked; behind = k.behind; held = k.held }
 
 -- a line that names a live entry
-drafting_names : (t0 : Table) (h0 : History) (done : List Field) (d : Draft) (a : ℕ) (l : Line) (f : Field)
+pub drafting_names : (t0 : Table) (h0 : History) (done : List Field) (d : Draft) (a : ℕ) (l : Line) (f : Field)
     (k : Drafting t0 h0 done d)
     → references_of_line (insert_count t0) l ≡ a ∷ [] → line_field (whole_window k.history) (insert_count t0) l ≡ Ok f
     → IsLive d.table a
@@ -122,7 +122,7 @@ valued_found : (r : Result Field Fault) (g f : Field) → r ≡ Ok g → f.name 
 valued_found r g f e n = rw e (ap (λ (x : Field). let q : Result Field Fault = Ok x in q) (named_field f g n))
 
 -- what may be referenced stays within the limit
-may_stand : (t0 : Table) (h0 : History) (done : List Field) (d : Draft) (a : ℕ) → Drafting t0 h0 done d
+pub may_stand : (t0 : Table) (h0 : History) (done : List Field) (d : Draft) (a : ℕ) → Drafting t0 h0 done d
     → may_reference d.table a ≡ true → MayStand t0 a
 unfolding may_reference
 may_stand t0 h0 done d a k h = pick (or_cases (below_limit d.table) (nat_le a d.table.known_received_count) h)
@@ -166,7 +166,7 @@ unfolding with_entry
 dropped_after t f = refl
 
 -- numbers live before, none of which went, are live after
-live_after : (t : Table) (f : Field) (xs : List ℕ) → eviction_count_for t f ≤ length t.live
+pub live_after : (t : Table) (f : Field) (xs : List ℕ) → eviction_count_for t f ≤ length t.live
     → ((x : ℕ) → t.dropped < x → x ≤ t.dropped + eviction_count_for t f → has_number x xs ≡ false)
     → AllByRecursion (IsLive t) xs → AllByRecursion (IsLive (with_entry t (sent_entry f))) xs
 live_after t f xs b none h =
@@ -190,7 +190,7 @@ opened_after t f b none h =
     (λ a q. (rw (dropped_after t f) q.0, omega (arith, count_after t f b, q.1))) x.entries r)
     t.unacknowledged (opened_above t.dropped (insert_count t) (eviction_count_for t f) t.unacknowledged none h)
 
-keeps_inserted : (h : History) (t : Table) (f : Field) → Sound h → KeepsTable h t → Room t f
+pub keeps_inserted : (h : History) (t : Table) (f : Field) → Sound h → KeepsTable h t → Room t f
     → KeepsTable (history_after h (Inserts f)) (with_entry t (sent_entry f))
 unfolding with_entry
 keeps_inserted h t f s k r =
@@ -221,7 +221,7 @@ unfolding line_field
 post_line w base n f le e = let q : base + (n - base) + 1 ≡ n + 1 =
     omega arith in entry_post_base w base (n - base) f (rw q e)
 
-one_effect : (t : Table) (h : History) (f : Field) → window t ≡ window_of h → eviction_count_for t f ≤ length t.live
+pub one_effect : (t : Table) (h : History) (f : Field) → window t ≡ window_of h → eviction_count_for t f ≤ length t.live
     → Room t f → effect (window_of h) (instruction_for f (entries_left t f)) ≡ Ok (Inserts f)
 unfolding window
 one_effect t h f e b r =
@@ -244,7 +244,7 @@ live_same : (t t' : Table) (xs : List ℕ) → t'.dropped ≡ t.dropped → t'.l
 live_same t t' xs d l h =
     every_weaker (IsLive t) (IsLive t') (λ a q. (omega (arith, q.0, d), omega (arith, q.1, d, ap length l))) xs h
 
-drafting_inserts : (t0 : Table) (h0 : History) (done : List Field) (d : Draft) (f : Field) → Sound h0
+pub drafting_inserts : (t0 : Table) (h0 : History) (done : List Field) (d : Draft) (f : Field) → Sound h0
     → Drafting t0 h0 done d → length t0.blocked < t0.limit → Room d.table f
     → Drafting t0 h0 (done ++ f ∷ []) (with_new_entry (insert_count t0) d f)
 drafting_inserts t0 h0 done d f s0 k blocked r =
@@ -285,7 +285,7 @@ drafting_inserts t0 h0 done d f s0 k blocked r =
       may = rw same.now_named (every_track (MayStand t0) t.referenced (insert_count t + 1) k.may (inl blocked));
     }
 
-indexed_line : (w : Window) (base a : ℕ) (f : Field) → a ≤ base → absolute_entry w a ≡ Some f
+pub indexed_line : (w : Window) (base a : ℕ) (f : Field) → a ≤ base → absolute_entry w a ≡ Some f
     → line_field w base (IndexedDynamic (base - a)) ≡ Ok f
 unfolding line_field
 indexed_line w base a f le e = let q : base - (base - a) ≡ a =
@@ -306,7 +306,7 @@ unfolding line_field
 literal_line w base f = refl
 
 -- a name's line, before or after the base
-line_by_name : (w : Window) (base a : ℕ) (f g : Field) → absolute_entry w a ≡ Some g → f.name ≡ g.name
+pub line_by_name : (w : Window) (base a : ℕ) (f g : Field) → absolute_entry w a ≡ Some g → f.name ≡ g.name
     → line_field w base (name_reference_line base a f) ≡ Ok f
 unfolding line_field
 line_by_name w base a f g e q =
@@ -318,8 +318,8 @@ line_by_name w base a f g e q =
     valued_found _ g f (entry_post_base w base (a - base - 1) g (rw n e)) q)
 
 -- an entry that was found, among all insertions
-found_whole : (t : Table) (h : History) (p : Field → Bool) (a : ℕ) → window t ≡ window_of h → (at : FoundEntry t p a)
-    → absolute_entry (whole_window h) a ≡ Some at.item
+pub found_whole : (t : Table) (h : History) (p : Field → Bool) (a : ℕ) → window t ≡ window_of h
+    → (at : FoundEntry t p a) → absolute_entry (whole_window h) a ≡ Some at.item
 found_whole t h p a e at =
     subst (λ (x : ℕ). absolute_entry (whole_window h) x ≡ Some at.item) at.index
     (live_whole t h at.position at.item e at.there)

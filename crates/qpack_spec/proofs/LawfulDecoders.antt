@@ -174,7 +174,7 @@ shorter zero es = omega arith
 shorter (suc n) [] = omega arith
 shorter (suc n) (e ∷ es) = omega (arith, shorter n es)
 
-has_room_quiet : (t : Table) (f : Field) → IsQuiet t → t.referenced ≡ [] → field_size f ≤ t.capacity
+pub has_room_quiet : (t : Table) (f : Field) → IsQuiet t → t.referenced ≡ [] → field_size f ≤ t.capacity
     → insert_count t < 2 ^ 62 → has_room t f ≡ true
 unfolding has_room
 has_room_quiet t f quiet unnamed fits few =

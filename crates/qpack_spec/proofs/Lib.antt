@@ -58,8 +58,15 @@ pub mod StrictWritten
 pub mod MarkedDrafts
 pub mod AloneSections
 pub mod MarkedInsertions
+pub mod ChosenSteps
+pub mod ChosenDrafts
+pub mod ChosenWritten
+pub mod ChosenLines
+pub mod MarkedChosen
+pub mod ChosenRows
 pub mod LawfulStreams
 pub mod LawfulEncoders
 pub mod LawfulEncoderRows
 pub mod LawfulDecoders
+pub mod ChosenGoesOn
 pub mod LawfulDecoderRows

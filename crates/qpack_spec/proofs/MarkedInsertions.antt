@@ -42,7 +42,7 @@ equal_inserts : (c : ℕ) (f : Field) (stay : List Field) (o : Option ℕ) → 0
 equal_inserts c f stay (Some i) h = h
 equal_inserts c f stay None h = static_inserts c f stay (static_name_index f.name) h
 
-instruction_inserts : (c : ℕ) (f : Field) (stay : List Field) → 0 < c → InsertsAt c (instruction_for f stay)
+pub instruction_inserts : (c : ℕ) (f : Field) (stay : List Field) → 0 < c → InsertsAt c (instruction_for f stay)
 unfolding instruction_for
 instruction_inserts c f stay h = equal_inserts c f stay (last_position (is_field f) stay) h
 

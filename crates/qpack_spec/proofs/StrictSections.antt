@@ -49,7 +49,7 @@ abbrev pub AtZero : Draft → Type 0
 AtZero d = (d.table.capacity ≡ 0) × (d.instructions ≡ [])
 
 -- no field fits
-no_room : (t : Table) (f : Field) → t.capacity ≡ 0 → has_room t f ≡ false
+pub no_room : (t : Table) (f : Field) → t.capacity ≡ 0 → has_room t f ≡ false
 unfolding has_room
 no_room t f none =
     let above : nat_le (field_size f) t.capacity ≡ false = lt-leb (field_size f) t.capacity (omega (arith, none)) in

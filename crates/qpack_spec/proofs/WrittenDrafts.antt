@@ -42,7 +42,7 @@ pub record WrittenDraft (d : Draft) : Type 0 where
 pub static_small : (i : ℕ) (f : Field) → slice_get static_table i ≡ Some f → IsSmall i
 static_small i f e = omega (arith, slice_get_within static_table i f e, has_99)
 
-writes_written : (d : Draft) (l : Line) → WrittenDraft d → IsByteLine l → WrittenDraft (with_line d l)
+pub writes_written : (d : Draft) (l : Line) → WrittenDraft d → IsByteLine l → WrittenDraft (with_line d l)
 writes_written d l k w =
     record {
       few = k.few;
@@ -54,7 +54,7 @@ pub count_naming : (t : Table) (a : ℕ) → insert_count (with_reference t a) �
 unfolding with_reference
 count_naming t a = refl
 
-naming_written : (d : Draft) (a : ℕ) (l : Line) → WrittenDraft d → IsByteLine l
+pub naming_written : (d : Draft) (a : ℕ) (l : Line) → WrittenDraft d → IsByteLine l
     → WrittenDraft (with_referencing_line d a l)
 naming_written d a l k w =
     record {
@@ -80,7 +80,7 @@ equal_instruction : (f : Field) (stay : List Field) → length stay ≤ 2 ^ 62 �
 equal_instruction f stay few w (Some i) = omega arith
 equal_instruction f stay few w None = static_instruction f stay few w (static_name_index f.name) refl
 
-instruction_written : (f : Field) (stay : List Field) → length stay ≤ 2 ^ 62 → IsByteField f
+pub instruction_written : (f : Field) (stay : List Field) → length stay ≤ 2 ^ 62 → IsByteField f
     → IsByteEncoderInstruction (instruction_for f stay)
 unfolding instruction_for
 instruction_written f stay few w = equal_instruction f stay few w (last_position (is_field f) stay)
@@ -90,7 +90,7 @@ instruction_written f stay few w = equal_instruction f stay few w (last_position
 pub count_entered : (t : Table) (f : Field) → Room t f → insert_count (with_entry t (sent_entry f)) ≡ insert_count t + 1
 count_entered t f r = count_after t f (evicted_bound t f r.fits)
 
-inserts_written : (base : ℕ) (d : Draft) (f : Field) → WrittenDraft d → IsByteField f → Room d.table f
+pub inserts_written : (base : ℕ) (d : Draft) (f : Field) → WrittenDraft d → IsByteField f → Room d.table f
     → WrittenDraft (with_new_entry base d f)
 inserts_written base d f k w r =
     let stay : length (entries_left d.table f) ≤ 2 ^ 62 =
@@ -115,7 +115,7 @@ inserts_written base d f k w r =
           (instruction_written f (entries_left d.table f) stay w, tt);
     }
 
-entry_line : (base a : ℕ) (f : Field) → base ≤ 2 ^ 62 → a ≤ 2 ^ 62 → IsByteField f
+pub entry_line : (base a : ℕ) (f : Field) → base ≤ 2 ^ 62 → a ≤ 2 ^ 62 → IsByteField f
     → IsByteLine (name_reference_line base a f)
 entry_line base a f b le w =
     cond_both (nat_le a base) (NamedDynamic (base - a) f.value) (NamedPostBase (a - base - 1) f.value) IsByteLine

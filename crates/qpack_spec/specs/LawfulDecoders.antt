@@ -1,7 +1,8 @@
 -- What a decoder that keeps to the standard may write on the decoder stream, and what an encoder keeps for any decoder,
 -- as statements (RFC 9204, sections 2.1, 2.2.2 and 4.4).
-use Rattle.std.specs.Prelude.{◌≡◌, ℕ, ◌+◌, ◌^◌, ◌<◌, ◌≤◌, max, false, List, [], ◌∷◌, ◌++◌, length, None, Some, Ok}
+use Rattle.std.specs.Prelude.{◌≡◌, ℕ, ◌+◌, ◌^◌, ◌<◌, ◌≤◌, max, Bool, false, List, [], ◌∷◌, ◌++◌, length, None, Some, Ok}
 use Rattle.std.specs.List.{AllByRecursion}
+use Rattle.qpack_spec.specs.Chosen.{Chosen, Inserts, chosen_rule}
 use Rattle.qpack_spec.specs.Field.{FieldLine, field_size, is_field}
 use Rattle.qpack_spec.specs.Instruction.{DecoderInstruction, Acknowledgment, Cancellation, Increment}
 use Rattle.qpack_spec.specs.Marked.{marked_rule, marked_fields}
@@ -86,3 +87,12 @@ InsertionsGoOn =
     → (marked_rule t (l ∷ more)
     ≡ marked_fields (insert_count t) (with_new_entry (insert_count t) (empty_draft t) l.field) more)
     × (insert_count t < required_insert_count (marked_rule t (l ∷ more)))
+
+-- whatever is chosen of the other fields, where nothing is under way a section whose first field is chosen to be
+-- inserted requires a new insertion (section 2.1.2)
+abbrev pub ChosenInsertionsGoOn : Type 0
+ChosenInsertionsGoOn =
+    (t : Table) (l : FieldLine) (more : List FieldLine) (unreferenced : Bool) (cs : List Chosen) → IsQuiet t
+    → l.never_indexed ≡ false → field_size l.field ≤ t.capacity → length t.blocked < t.limit → insert_count t < 2 ^ 62
+    → (let first : Chosen = record { line = Inserts; unreferenced = unreferenced } in
+    insert_count t < required_insert_count (chosen_rule t (l ∷ more) (first ∷ cs)))

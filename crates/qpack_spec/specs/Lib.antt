@@ -44,6 +44,8 @@ pub mod Marked
 pub mod MarkedLaws
 pub mod Stateless
 pub mod StatelessMeaning
+-- how fields are written under any choices of an encoder (section 2.1)
+pub mod Chosen
 -- sessions of two ends, and what any lawful peer keeps to
 pub mod Session
 pub mod SessionLaws

@@ -1,6 +1,6 @@
 //! Laws of each end alone, against any peer that keeps to the standard (RFC 9204, sections 2.1, 2.2, 3.2 and 4.5).
 
-ghost use Rattle.qpack_spec.specs.LawfulDecoders.{InsertionsGoOn, LawfulInstructionsAreHeard};
+ghost use Rattle.qpack_spec.specs.LawfulDecoders.{ChosenInsertionsGoOn, InsertionsGoOn, LawfulInstructionsAreHeard};
 ghost use Rattle.qpack_spec.specs.LawfulDecoders.{MoreSectionsChangeNothing};
 ghost use Rattle.qpack_spec.specs.LawfulEncoders.{EntriesStayLive, LawfulSectionsAreRead};
 
@@ -15,9 +15,10 @@ pub fn lawful_sections_are_read()
 
 /// A strict encoder hears whatever a lawful decoder writes, also once it has written more sections; and where nothing
 /// is under way it inserts a field that is to be inserted, and references it, as far as the limit of blocked sections
-/// lets it.
+/// lets it. Under any choices, a section whose first field is chosen to be inserted requires a new insertion there.
 pub fn lawful_decoders_are_heard()
     ensures heard { LawfulInstructionsAreHeard }
     ensures later { MoreSectionsChangeNothing }
     ensures inserted { InsertionsGoOn }
+    ensures chosen { ChosenInsertionsGoOn }
 {}

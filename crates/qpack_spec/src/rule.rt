@@ -1,6 +1,7 @@
 //! Laws of the rule by which field sections are written (RFC 9204, section 2.1).
 
 ghost use Rattle.qpack_spec.specs.BlockLaws.{BlocksRequireReferences};
+ghost use Rattle.qpack_spec.specs.Chosen.{ChosenFieldsHaveLines, MarkedRuleIsChosen, NothingIsChosenAtZero};
 ghost use Rattle.std.specs.Prelude.{List};
 ghost use Rattle.qpack_spec.specs.Field.{Field};
 ghost use Rattle.qpack_spec.specs.Handle.{HandleIsTheRule};
@@ -35,4 +36,12 @@ pub fn marked_fields_are_literals()
     ensures handle { HandleIsTheMarkedRule }
     ensures lines { MarkedLinesAreOfFields }
     ensures unmarked { (t : Table) (fs : List Field) → IsTheRuleUnmarked t fs }
+{}
+
+/// Whatever an encoder chooses, each field has a line, a marked one a literal, and nothing is inserted at capacity 0.
+/// The rule for marked fields is one list of choices.
+pub fn chosen_fields_have_lines()
+    ensures lines { ChosenFieldsHaveLines }
+    ensures insertions { NothingIsChosenAtZero }
+    ensures rule { MarkedRuleIsChosen }
 {}

@@ -1,3 +1,4 @@
+use Rattle.qpack_spec.proofs.ChosenGoesOn.{go_on_chosen}
 use Rattle.qpack_spec.proofs.LawfulDecoders.{instructions_heard, more_sections, go_on}
 use Rattle.qpack_spec.proofs.lawful.lawful_decoders_are_heard.Goals as goal
 
@@ -9,3 +10,6 @@ returns-clause-later c = more_sections
 
 pub returns-clause-inserted : goal.returns-clause-inserted
 returns-clause-inserted c = go_on
+
+pub returns-clause-chosen : goal.returns-clause-chosen
+returns-clause-chosen c = go_on_chosen
