@@ -8,14 +8,14 @@ use Rattle.std.proofs.lemmas.List.{append-nil, map-append}
 use Rattle.std.proofs.lemmas.List.Elements.{filter-append}
 use Rattle.qpack_spec.specs.Field.{FieldLine, Field, fields_of_lines}
 use Rattle.qpack_spec.specs.Instruction.{EncoderInstruction, DecoderInstruction}
-use Rattle.qpack_spec.specs.Marked.{marked_rule}
+use Rattle.qpack_spec.specs.Chosen.{chosen_rule}
 use Rattle.qpack_spec.specs.Reading.{greatest_of}
 use Rattle.qpack_spec.specs.Rule.{Draft}
 use Rattle.qpack_spec.specs.Session.{KeptBlock, KeptStream, stream_at, with_stream, oldest_undecoded, is_read, sum_of}
 use Rattle.qpack_spec.specs.Session.{pieces_of, blocked_on, blocked_among}
 use Rattle.qpack_spec.specs.Table.{Table, has_number, without_references, with_capacity, apply_decoder_instruction}
 use Rattle.qpack_spec.specs.Window.{Window, TableRefusal, apply}
-use Rattle.qpack_spec.proofs.MarkedDrafts.{marked_drafts}
+use Rattle.qpack_spec.proofs.ChosenDrafts.{chosen_drafts}
 use Rattle.qpack_safety.specs.AbstractSession.{AbstractBlock, required_count, is_dynamic, AbstractStream, AbstractSession}
 use Rattle.qpack_safety.specs.AbstractSession.{abstract_start, next_reading, waits_for_acknowledgment, after_encode}
 use Rattle.qpack_safety.specs.AbstractSession.{after_abandon, after_alone, after_resize, after_take, take_next, after_hear}
@@ -203,14 +203,14 @@ counted_decoding w s (Some b) c = both (is_read (next_reading w s)) (is_dynamic 
 
 counted_step : (capacity maximum limit : ℕ) (w : AbstractSession) (e : EndStep) → Holds capacity maximum limit w
     → Counted w → Counted (after_end_step w e)
-counted_step capacity maximum limit w (Encode s ls) h c =
+counted_step capacity maximum limit w (Encode s ls cs) h c =
     let k = h.invariant in
-    let p = (marked_drafts w.encoder k.made ls (sound_made capacity maximum limit w k) k.encoder).references in
-    counted_drafted w s (fields_of_lines ls) (marked_rule w.encoder ls) p.known_received_count p.blocked c
-counted_step capacity maximum limit w (Abandon ls) h c =
+    let p = (chosen_drafts w.encoder k.made ls cs (sound_made capacity maximum limit w k) k.encoder).references in
+    counted_drafted w s (fields_of_lines ls) (chosen_rule w.encoder ls cs) p.known_received_count p.blocked c
+counted_step capacity maximum limit w (Abandon ls cs) h c =
     let k = h.invariant in
-    let p = (marked_drafts w.encoder k.made ls (sound_made capacity maximum limit w k) k.encoder).references in
-    counted_given_up w (marked_rule w.encoder ls) p.known_received_count p.blocked c
+    let p = (chosen_drafts w.encoder k.made ls cs (sound_made capacity maximum limit w k) k.encoder).references in
+    counted_given_up w (chosen_rule w.encoder ls cs) p.known_received_count p.blocked c
 counted_step capacity maximum limit w (EncodeAlone s ls) h c = counted_alone w s ls c
 counted_step capacity maximum limit w (Resize n) h c = counted_resized w n c
 counted_step capacity maximum limit w Take h c = counted_taken w w.in_flight c

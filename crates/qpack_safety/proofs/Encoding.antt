@@ -14,7 +14,8 @@ use Rattle.qpack_spec.specs.Prefix.{prefix_for}
 use Rattle.qpack_spec.specs.Reading.{greatest_of}
 use Rattle.qpack_spec.specs.Table.{UnacknowledgedBlock, Table, window, insert_count, with_unacknowledged, commit}
 use Rattle.qpack_spec.specs.Table.{with_numbers, without_references}
-use Rattle.qpack_spec.specs.Marked.{marked_rule, stateless_block_marked}
+use Rattle.qpack_spec.specs.Chosen.{Chosen, chosen_rule}
+use Rattle.qpack_spec.specs.Marked.{stateless_block_marked}
 use Rattle.qpack_spec.specs.Rule.{Draft, rule, block_of}
 use Rattle.qpack_spec.specs.Session.{stream_at, with_stream}
 use Rattle.qpack_safety.specs.AbstractSession.{AbstractBlock, is_dynamic, AbstractStream, AbstractSession, after_encode}
@@ -24,7 +25,7 @@ use Rattle.qpack_spec.proofs.Windows.{Sound, Agreed, leads_append, leads_sound, 
 use Rattle.qpack_spec.proofs.Readings.{greatest_bound, greatest_has}
 use Rattle.qpack_spec.proofs.Drafts.{IsLive, MayStand, KeepsTable, Drafting, count_inserted, keeps_unnamed, rule_drafts}
 use Rattle.qpack_spec.proofs.AloneSections.{lines_alone, none_referenced, prefix_alone}
-use Rattle.qpack_spec.proofs.MarkedDrafts.{marked_drafts}
+use Rattle.qpack_spec.proofs.ChosenDrafts.{chosen_drafts}
 use Rattle.qpack_safety.proofs.OpenBlocks.{open_of, open_push}
 use Rattle.qpack_safety.proofs.DecoderInstructions.{acks_in, fits_more, fits_count}
 use Rattle.qpack_safety.proofs.Fronts.{filter_take, filter_take_append}
@@ -272,12 +273,12 @@ inv_encoded capacity maximum limit w s fs k =
     inv_drafted capacity maximum limit w s fs (rule w.encoder fs) k
     (rule_drafts w.encoder k.made fs (sound_made capacity maximum limit w k) k.encoder)
 
-pub inv_marked : (capacity maximum limit : ℕ) (w : AbstractSession) (s : ℕ) (ls : List FieldLine)
+pub inv_chosen : (capacity maximum limit : ℕ) (w : AbstractSession) (s : ℕ) (ls : List FieldLine) (cs : List Chosen)
     → Invariant capacity maximum limit w
-    → Invariant capacity maximum limit (after_encode w s (fields_of_lines ls) (marked_rule w.encoder ls))
-inv_marked capacity maximum limit w s ls k =
-    inv_drafted capacity maximum limit w s (fields_of_lines ls) (marked_rule w.encoder ls) k
-    (marked_drafts w.encoder k.made ls (sound_made capacity maximum limit w k) k.encoder)
+    → Invariant capacity maximum limit (after_encode w s (fields_of_lines ls) (chosen_rule w.encoder ls cs))
+inv_chosen capacity maximum limit w s ls cs k =
+    inv_drafted capacity maximum limit w s (fields_of_lines ls) (chosen_rule w.encoder ls cs) k
+    (chosen_drafts w.encoder k.made ls cs (sound_made capacity maximum limit w k) k.encoder)
 
 -- what is given up leaves the rest of the table
 pub record SameUnnamed (t t' : Table) : Type 0 where
@@ -321,12 +322,12 @@ inv_abandoned capacity maximum limit w fs k =
     inv_given_up capacity maximum limit w fs (rule w.encoder fs) k
     (rule_drafts w.encoder k.made fs (sound_made capacity maximum limit w k) k.encoder)
 
-pub inv_abandoned_marked : (capacity maximum limit : ℕ) (w : AbstractSession) (ls : List FieldLine)
+pub inv_abandoned_chosen : (capacity maximum limit : ℕ) (w : AbstractSession) (ls : List FieldLine) (cs : List Chosen)
     → Invariant capacity maximum limit w
-    → Invariant capacity maximum limit (after_abandon w (marked_rule w.encoder ls))
-inv_abandoned_marked capacity maximum limit w ls k =
-    inv_given_up capacity maximum limit w (fields_of_lines ls) (marked_rule w.encoder ls) k
-    (marked_drafts w.encoder k.made ls (sound_made capacity maximum limit w k) k.encoder)
+    → Invariant capacity maximum limit (after_abandon w (chosen_rule w.encoder ls cs))
+inv_abandoned_chosen capacity maximum limit w ls cs k =
+    inv_given_up capacity maximum limit w (fields_of_lines ls) (chosen_rule w.encoder ls cs) k
+    (chosen_drafts w.encoder k.made ls cs (sound_made capacity maximum limit w k) k.encoder)
 
 -- ---- a block that references no entry
 

@@ -11,7 +11,8 @@ use Rattle.qpack_spec.specs.History.{History, window_of, whole_window, initial_h
 use Rattle.qpack_spec.specs.Instruction.{EncoderInstruction, DecoderInstruction}
 use Rattle.qpack_spec.specs.Line.{Line, IndexedStatic, IndexedDynamic, IndexedPostBase, NamedStatic, NamedDynamic}
 use Rattle.qpack_spec.specs.Line.{NamedPostBase, Literal, written_lines}
-use Rattle.qpack_spec.specs.Marked.{marked_rule, stateless_block_marked, written_marked_lines, written_marked_block}
+use Rattle.qpack_spec.specs.Chosen.{Chosen, chosen_rule}
+use Rattle.qpack_spec.specs.Marked.{stateless_block_marked, written_marked_lines, written_marked_block}
 use Rattle.qpack_spec.specs.MarkedLaws.{AreLiteralsWhereMarked}
 use Rattle.qpack_spec.specs.Prefix.{Prefix, prefix_for, read_prefix, written_prefix}
 use Rattle.qpack_spec.specs.Reading.{fields_of, references_of_line, references_of, greatest_of}
@@ -23,7 +24,8 @@ use Rattle.qpack_spec.specs.WrittenLaws.{IsByteField, IsByteLine, IsWritableBloc
 use Rattle.qpack_spec.proofs.AloneSections.{literals_alone, written_alone}
 use Rattle.qpack_spec.proofs.Drafts.{IsLive}
 use Rattle.qpack_spec.proofs.Lists.{every_both, every_get}
-use Rattle.qpack_spec.proofs.MarkedDrafts.{marked_written, marked_are_literals}
+use Rattle.qpack_spec.proofs.ChosenLines.{chosen_have_lines}
+use Rattle.qpack_spec.proofs.ChosenWritten.{chosen_written}
 use Rattle.qpack_spec.proofs.Positions.{every_number, numbers_none}
 use Rattle.qpack_spec.proofs.Prefixes.{InReach, ReadsAs, maximum_of, prefix_dynamic, prefix_plain}
 use Rattle.qpack_spec.proofs.Readings.{fields_kept, fields_plain, below_greatest, greatest_has, nil_parts}
@@ -49,16 +51,16 @@ use Rattle.qpack_safety.proofs.WritingEvents.{few_insertions}
 
 -- ---- each block is of what was handed
 
-pub marked_block : (capacity maximum limit : ℕ) (w : AbstractSession) (s : ℕ) (fields : List FieldLine)
-    → Invariant capacity maximum limit w → (b : AbstractBlock) → b.fields ≡ fields_of_lines fields
-    → b.block.lines ≡ (marked_rule w.encoder fields).lines → IsBlockOf fields b
-marked_block capacity maximum limit w s fields k b same lines =
+pub chosen_block : (capacity maximum limit : ℕ) (w : AbstractSession) (s : ℕ) (fields : List FieldLine)
+    (cs : List Chosen) → Invariant capacity maximum limit w → (b : AbstractBlock) → b.fields ≡ fields_of_lines fields
+    → b.block.lines ≡ (chosen_rule w.encoder fields cs).lines → IsBlockOf fields b
+chosen_block capacity maximum limit w s fields cs k b same lines =
     record {
       fields_are = same;
       literals = subst (λ (ls : List Line). AreLiteralsWhereMarked fields ls) (sym lines)
-          (marked_are_literals w.encoder fields);
+          (chosen_have_lines w.encoder fields cs).0;
       bytes = λ are. subst (AllByRecursion IsByteLine) (sym lines)
-          (marked_written w.encoder fields (few_insertions capacity maximum limit w k) are).lines;
+          (chosen_written w.encoder fields cs (few_insertions capacity maximum limit w k) are).lines;
     }
 
 pub alone_block : (fields : List FieldLine) (b : AbstractBlock) → b.fields ≡ fields_of_lines fields
@@ -173,9 +175,10 @@ none_handed s handed w h = subst (λ (x : List (List FieldLine)). HasHanded s x 
 step_handed : (capacity maximum limit : ℕ) (s : ℕ) (handed : List (List FieldLine)) (w : AbstractSession) (e : EndStep)
     → Holds capacity maximum limit w → HasHanded s handed w
     → HasHanded s (handed ++ handed_by s e) (after_end_step w e)
-step_handed capacity maximum limit s handed w (Encode t ls) k h =
-    one_more s t handed ls w.streams _ (marked_block capacity maximum limit w t ls k.invariant _ refl refl) h
-step_handed capacity maximum limit s handed w (Abandon ls) k h = none_handed s handed (after_end_step w (Abandon ls)) h
+step_handed capacity maximum limit s handed w (Encode t ls cs) k h =
+    one_more s t handed ls w.streams _ (chosen_block capacity maximum limit w t ls cs k.invariant _ refl refl) h
+step_handed capacity maximum limit s handed w (Abandon ls cs) k h =
+    none_handed s handed (after_end_step w (Abandon ls cs)) h
 step_handed capacity maximum limit s handed w (EncodeAlone t ls) k h =
     one_more s t handed ls w.streams _ (alone_block ls _ refl refl) h
 step_handed capacity maximum limit s handed w (Resize n) k h =

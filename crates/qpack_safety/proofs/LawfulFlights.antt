@@ -142,8 +142,8 @@ decoding_taken start w s (Some b) h = both (is_read (next_reading w s)) (is_dyna
 
 step_taken : (capacity maximum limit : ℕ) (start : Table) (w : AbstractSession) (e : EndStep)
     → Holds capacity maximum limit w → HasTaken start w → HasTaken start (after_end_step w e)
-step_taken capacity maximum limit start w (Encode s ls) k h = h
-step_taken capacity maximum limit start w (Abandon ls) k h = h
+step_taken capacity maximum limit start w (Encode s ls cs) k h = h
+step_taken capacity maximum limit start w (Abandon ls cs) k h = h
 step_taken capacity maximum limit start w (EncodeAlone s ls) k h = h
 step_taken capacity maximum limit start w (Resize n) k h = resized_taken start w n (with_capacity w.encoder n) h
 step_taken capacity maximum limit start w Take k h =

@@ -4,11 +4,12 @@ use Rattle.std.specs.Prelude.{nat_eq}
 use Rattle.std.proofs.lemmas.Bool.{cond_both, eqb-true}
 use Rattle.qpack_spec.specs.Session.{stream_at, sum_of, increments, is_read}
 use Rattle.qpack_safety.specs.AbstractSession.{AbstractSession, SmallStep, Encode, Abandon, Resize, Take, Report, Hear}
-use Rattle.qpack_safety.specs.AbstractSession.{Decode, Acknowledge, Cancel, EncodeMarked, AbandonMarked, EncodeAlone, Forget}
+use Rattle.qpack_safety.specs.AbstractSession.{Decode, Acknowledge, Cancel, EncodeChosen, AbandonChosen, EncodeAlone}
+use Rattle.qpack_safety.specs.AbstractSession.{Forget}
 use Rattle.qpack_safety.specs.AbstractSession.{next_reading, waits_for_acknowledgment}
 use Rattle.qpack_safety.specs.AbstractSession.{after_step, after_steps}
 use Rattle.qpack_safety.proofs.Invariant.{Invariant}
-use Rattle.qpack_safety.proofs.Encoding.{inv_encoded, inv_marked, inv_abandoned, inv_abandoned_marked, inv_alone}
+use Rattle.qpack_safety.proofs.Encoding.{inv_encoded, inv_chosen, inv_abandoned, inv_abandoned_chosen, inv_alone}
 use Rattle.qpack_safety.proofs.Encoding.{inv_forgotten}
 use Rattle.qpack_safety.proofs.Taking.{inv_takes, inv_reported}
 use Rattle.qpack_safety.proofs.Hearing.{inv_hears}
@@ -37,8 +38,8 @@ inv_happens capacity maximum limit w (Acknowledge s) k =
 inv_happens capacity maximum limit w (Cancel s) k =
     cond_both (stream_at w.streams s).cancelled w _ (Invariant capacity maximum limit) (λ _. k)
     (λ _. inv_cancelled capacity maximum limit w s k)
-inv_happens capacity maximum limit w (EncodeMarked s ls) k = inv_marked capacity maximum limit w s ls k
-inv_happens capacity maximum limit w (AbandonMarked ls) k = inv_abandoned_marked capacity maximum limit w ls k
+inv_happens capacity maximum limit w (EncodeChosen s ls cs) k = inv_chosen capacity maximum limit w s ls cs k
+inv_happens capacity maximum limit w (AbandonChosen ls cs) k = inv_abandoned_chosen capacity maximum limit w ls cs k
 inv_happens capacity maximum limit w (EncodeAlone s ls) k = inv_alone capacity maximum limit w s ls k
 inv_happens capacity maximum limit w (Forget s) k = inv_forgotten capacity maximum limit w s k
 

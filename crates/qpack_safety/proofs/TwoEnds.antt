@@ -6,7 +6,7 @@ use Rattle.std.specs.Prelude.{nat_eq, not, ◌&&◌}
 use Rattle.std.proofs.lemmas.Bool.{cond_both, cases_lt, eq-eqb, ne_eqb, eqb-true, lt-ltb}
 use Rattle.qpack_spec.specs.Field.{fields_of_lines}
 use Rattle.qpack_spec.specs.Instruction.{EncoderInstruction, DecoderInstruction, Acknowledgment}
-use Rattle.qpack_spec.specs.Marked.{marked_rule}
+use Rattle.qpack_spec.specs.Chosen.{chosen_rule}
 use Rattle.qpack_spec.specs.Reading.{Reading, reading}
 use Rattle.qpack_spec.specs.Session.{IsPiece, stream_at, with_stream, oldest_undecoded, is_read, sum_of}
 use Rattle.qpack_spec.specs.Session.{pieces_of, increments}
@@ -15,8 +15,8 @@ use Rattle.qpack_spec.specs.Table.{Table, table_of, apply_encoder_instruction, w
 use Rattle.qpack_spec.specs.Window.{Window, window_insert_count, TableRefusal, DoesNotFit}
 use Rattle.qpack_spec.specs.History.{Leads, window_of, initial_history}
 use Rattle.qpack_spec.proofs.Lists.{every_weaker}
-use Rattle.qpack_spec.proofs.MarkedDrafts.{marked_drafts}
-use Rattle.qpack_spec.proofs.MarkedInsertions.{marked_inserts}
+use Rattle.qpack_spec.proofs.ChosenDrafts.{chosen_drafts}
+use Rattle.qpack_spec.proofs.ChosenWritten.{chosen_inserts}
 use Rattle.qpack_spec.proofs.Pieces.{pieces_add_up, pieces_small}
 use Rattle.qpack_safety.specs.AbstractSafety.{DecodesExactly}
 use Rattle.qpack_safety.specs.AbstractSession.{AbstractBlock, required_count, is_dynamic, AbstractStream, AbstractSession}
@@ -268,12 +268,14 @@ decoded_dynamic capacity maximum limit w s b t e h dynamic =
 
 strict_step : (capacity maximum limit : ℕ) (w : AbstractSession) (e : EndStep) → Invariant capacity maximum limit w
     → Strict w → Strict (after_end_step w e)
-strict_step capacity maximum limit w (Encode s ls) k t =
-    strict_drafted capacity maximum limit w s (fields_of_lines ls) (marked_rule w.encoder ls) k
-    (marked_drafts w.encoder k.made ls (sound_made capacity maximum limit w k) k.encoder) (marked_inserts w.encoder ls) t
-strict_step capacity maximum limit w (Abandon ls) k t =
-    strict_given_up capacity maximum limit w (fields_of_lines ls) (marked_rule w.encoder ls) k
-    (marked_drafts w.encoder k.made ls (sound_made capacity maximum limit w k) k.encoder) (marked_inserts w.encoder ls) t
+strict_step capacity maximum limit w (Encode s ls cs) k t =
+    strict_drafted capacity maximum limit w s (fields_of_lines ls) (chosen_rule w.encoder ls cs) k
+    (chosen_drafts w.encoder k.made ls cs (sound_made capacity maximum limit w k) k.encoder)
+    (chosen_inserts w.encoder ls cs) t
+strict_step capacity maximum limit w (Abandon ls cs) k t =
+    strict_given_up capacity maximum limit w (fields_of_lines ls) (chosen_rule w.encoder ls cs) k
+    (chosen_drafts w.encoder k.made ls cs (sound_made capacity maximum limit w k) k.encoder)
+    (chosen_inserts w.encoder ls cs) t
 strict_step capacity maximum limit w (EncodeAlone s ls) k t = strict_alone w s ls t
 strict_step capacity maximum limit w (Resize n) k t = strict_resizing w n t
 strict_step capacity maximum limit w Take k t = strict_takes capacity maximum limit w w.in_flight refl k t

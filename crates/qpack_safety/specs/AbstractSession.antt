@@ -7,7 +7,8 @@ use Rattle.qpack_spec.specs.Instruction.{EncoderInstruction, SetCapacity, Decode
 use Rattle.qpack_spec.specs.Instruction.{Cancellation}
 use Rattle.qpack_spec.specs.Window.{Window, window_insert_count, TableRefusal, apply}
 use Rattle.qpack_spec.specs.History.{initial_history, window_of}
-use Rattle.qpack_spec.specs.Marked.{marked_rule, stateless_block_marked}
+use Rattle.qpack_spec.specs.Chosen.{Chosen, chosen_rule}
+use Rattle.qpack_spec.specs.Marked.{stateless_block_marked}
 use Rattle.qpack_spec.specs.Reading.{Block, Reading, reading, greatest_of}
 use Rattle.qpack_spec.specs.Table.{Table, empty_table, without_references, apply_decoder_instruction, with_capacity}
 use Rattle.qpack_spec.specs.Rule.{Draft, rule, block_of, committed_table}
@@ -49,8 +50,8 @@ pub record AbstractSession : Type 0 where
 -- the small steps: the encoder writes a block; it is refused memory behind some fields of a block; it sets a capacity;
 -- the decoder takes an instruction; it reports its insertions, in pieces; the encoder takes a decoder instruction; the
 -- decoder decodes the next block of a stream; it acknowledges one; it cancels a stream. And what only the ends of a
--- connection do: the encoder writes a block of fields some of which are marked, or is refused memory behind some of
--- them, or writes a block that references no entry; the decoder gives up a stream and tells nothing
+-- connection do: the encoder writes a block of fields some of which are marked, under any choices, or runs out of memory
+-- after some of them, or writes a block that references no entry; the decoder gives up a stream and tells nothing
 pub data SmallStep : Type 0 where
   Encode : (stream : ℕ) (fields : List Field) → SmallStep
   Abandon : (fields : List Field) → SmallStep
@@ -61,8 +62,8 @@ pub data SmallStep : Type 0 where
   Decode : (stream : ℕ) → SmallStep
   Acknowledge : (stream : ℕ) → SmallStep
   Cancel : (stream : ℕ) → SmallStep
-  EncodeMarked : (stream : ℕ) (lines : List FieldLine) → SmallStep
-  AbandonMarked : (lines : List FieldLine) → SmallStep
+  EncodeChosen : (stream : ℕ) (lines : List FieldLine) (choices : List Chosen) → SmallStep
+  AbandonChosen : (lines : List FieldLine) (choices : List Chosen) → SmallStep
   EncodeAlone : (stream : ℕ) (lines : List FieldLine) → SmallStep
   Forget : (stream : ℕ) → SmallStep
 
@@ -195,8 +196,8 @@ after_step w (Cancel s) =
       decoder_in_flight = w.decoder_in_flight ++ Cancellation s ∷ [];
       streams = with_stream w.streams s (record st { cancelled = true });
     }
-after_step w (EncodeMarked s ls) = after_encode w s (fields_of_lines ls) (marked_rule w.encoder ls)
-after_step w (AbandonMarked ls) = after_abandon w (marked_rule w.encoder ls)
+after_step w (EncodeChosen s ls cs) = after_encode w s (fields_of_lines ls) (chosen_rule w.encoder ls cs)
+after_step w (AbandonChosen ls cs) = after_abandon w (chosen_rule w.encoder ls cs)
 after_step w (EncodeAlone s ls) = after_alone w s ls
 after_step w (Forget s) =
     record w { streams = with_stream w.streams s (record (stream_at w.streams s) { cancelled = true }) }

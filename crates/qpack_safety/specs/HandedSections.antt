@@ -17,7 +17,7 @@ use Rattle.qpack_safety.specs.TwoEnds.{EndStep, Encode, EncodeAlone, after_end_s
 
 -- the fields of the section that a step writes on a stream, if it does
 abbrev pub handed_by : ℕ → EndStep → List (List FieldLine)
-handed_by s (Encode t fields) = if nat_eq t s then fields ∷ [] else []
+handed_by s (Encode t fields choices) = if nat_eq t s then fields ∷ [] else []
 handed_by s (EncodeAlone t fields) = if nat_eq t s then fields ∷ [] else []
 handed_by s e = []
 

@@ -2,6 +2,7 @@
 -- 2): each end is strict, writes acknowledgments behind the increments for all that it received, and knows marked
 -- fields. No contract names it.
 use Rattle.std.specs.Prelude.{◌≡◌, ℕ, ◌≤◌, not, if◌then◌else◌, List, [], ◌∷◌, Option, None, Some, Ok}
+use Rattle.qpack_spec.specs.Chosen.{Chosen}
 use Rattle.qpack_spec.specs.Field.{FieldLine}
 use Rattle.qpack_spec.specs.Instruction.{EncoderInstruction, DecoderInstruction}
 use Rattle.qpack_spec.specs.Session.{stream_at, oldest_undecoded, is_read, pieces_of}
@@ -12,13 +13,13 @@ use Rattle.qpack_safety.specs.AbstractSession.{AbstractBlock, is_dynamic, Abstra
 use Rattle.qpack_safety.specs.AbstractSession.{next_reading, after_steps}
 use Rattle.qpack_safety.specs.AbstractSession as small
 
--- what an end does: the encoder writes a section, is refused memory behind some of its fields, writes one that
--- references no entry, or sets a capacity; the decoder takes an instruction, or reports what it received; the encoder
--- hears an instruction; the decoder decodes the next section of a stream, cancels a stream, or gives it up and tells
--- nothing
+-- what an end does: the encoder writes a section under any choices, runs out of memory after some of its fields, writes
+-- one that references no entry, or sets a capacity; the decoder takes an instruction, or reports what it received; the
+-- encoder hears an instruction; the decoder decodes the next section of a stream, cancels a stream, or gives it up and
+-- tells nothing
 pub data EndStep : Type 0 where
-  Encode : (stream : ℕ) (lines : List FieldLine) → EndStep
-  Abandon : (lines : List FieldLine) → EndStep
+  Encode : (stream : ℕ) (lines : List FieldLine) (choices : List Chosen) → EndStep
+  Abandon : (lines : List FieldLine) (choices : List Chosen) → EndStep
   EncodeAlone : (stream : ℕ) (lines : List FieldLine) → EndStep
   Resize : (capacity : ℕ) → EndStep
   Take : EndStep
@@ -40,8 +41,8 @@ decode_steps w s (Some b) =
 
 -- the small steps of what an end does
 abbrev pub small_steps : AbstractSession → EndStep → List SmallStep
-small_steps w (Encode s ls) = small.EncodeMarked s ls ∷ []
-small_steps w (Abandon ls) = small.AbandonMarked ls ∷ []
+small_steps w (Encode s ls cs) = small.EncodeChosen s ls cs ∷ []
+small_steps w (Abandon ls cs) = small.AbandonChosen ls cs ∷ []
 small_steps w (EncodeAlone s ls) = small.EncodeAlone s ls ∷ []
 small_steps w (Resize n) = small.Resize n ∷ []
 small_steps w Take = small.Take ∷ []

@@ -21,7 +21,8 @@ pub fn sessions_answer_what_was_handed()
 {}
 
 /// Of sessions in values: two strict ends that know marked fields, of which the decoder writes each acknowledgment behind
-/// the increments for all that it received, never send what the other refuses, and each section is decoded exactly.
+/// the increments for all that it received, never send what the other refuses, and each section is decoded exactly. This
+/// and the two laws below hold for any choices of the encoder, at every section.
 pub fn strict_ends_are_safe()
     ensures { StrictEndsAreSafe }
 {}
