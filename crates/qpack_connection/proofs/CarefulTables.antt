@@ -7,11 +7,11 @@ use Rattle.std.specs.Option.{option_map, unwrap_or}
 use Rattle.std.specs.Prelude.{nat_eq, nat_lt, find}
 use Rattle.std.proofs.lemmas.Bool.{cond_both, ltb-true, ltb-false}
 use Rattle.qpack_spec.specs.Bytes.{◌>>=◌}
+use Rattle.qpack_spec.specs.Chosen.{Chosen, chosen_rule}
 use Rattle.qpack_spec.specs.Field.{FieldLine}
 use Rattle.qpack_spec.specs.History.{History, history_after, initial_history, window_of}
 use Rattle.qpack_spec.specs.Instruction.{DecoderInstruction, Acknowledgment, Cancellation, Increment}
 use Rattle.qpack_spec.specs.LawfulDecoders.{KeepsNeeded}
-use Rattle.qpack_spec.specs.Marked.{marked_rule}
 use Rattle.qpack_spec.specs.Rule.{Draft, required_insert_count, committed_table}
 use Rattle.qpack_spec.specs.StrictInstructions.{required_by, oldest_required, known_at_least, or_unknown, strict_hear}
 use Rattle.qpack_spec.specs.StrictInstructions.{hear_in_turn}
@@ -19,9 +19,9 @@ use Rattle.qpack_spec.specs.Table.{Table, UnacknowledgedBlock, empty_table, inse
 use Rattle.qpack_spec.specs.Table.{without_references, without_oldest, without_stream, with_increment, with_capacity}
 use Rattle.qpack_spec.specs.Table.{apply_decoder_instruction}
 use Rattle.qpack_spec.specs.Window.{Resizes, UnknownStream, or_refusal, eviction_count}
+use Rattle.qpack_spec.proofs.ChosenDrafts.{chosen_drafts}
 use Rattle.qpack_spec.proofs.Drafts.{IsLive, KeepsTable, count_inserted, keeps_unnamed}
 use Rattle.qpack_spec.proofs.Lists.{every_append, every_weaker}
-use Rattle.qpack_spec.proofs.MarkedDrafts.{marked_drafts}
 use Rattle.qpack_spec.proofs.Positions.{eviction_count_live}
 use Rattle.qpack_spec.proofs.Readings.{greatest_bound}
 use Rattle.qpack_spec.proofs.Results.{bind_ok, ok_is}
@@ -92,11 +92,11 @@ waits_committed t s required within h =
     (λ above. every_append (Waits t.known_received_count (insert_count t)) t.blocked (required ∷ []) h
     ((ltb-true t.known_received_count required above, within), tt)) (λ _. h))
 
-pub careful_section : (limit : ℕ) (t : Table) (s : ℕ) (fields : List FieldLine) → IsCarefulTable limit t
-    → IsCarefulTable limit (committed_table (marked_rule t fields) s)
-careful_section limit t s fields k =
-    let d = marked_rule t fields in
-    let p = marked_drafts t k.history fields k.sound k.kept in
+pub careful_section : (limit : ℕ) (t : Table) (s : ℕ) (fields : List FieldLine) (cs : List Chosen)
+    → IsCarefulTable limit t → IsCarefulTable limit (committed_table (chosen_rule t fields cs) s)
+careful_section limit t s fields cs k =
+    let d = chosen_rule t fields cs in
+    let p = chosen_drafts t k.history fields cs k.sound k.kept in
     let required = required_insert_count d in
     let c = same_committed d.table s required in
     let count : insert_count (commit d.table s required) ≡ insert_count d.table =
@@ -123,12 +123,12 @@ careful_section limit t s fields k =
     }
 
 -- a section that is given up
-pub careful_given_up : (limit : ℕ) (t : Table) (fields : List FieldLine) → IsCarefulTable limit t
-    → IsCarefulTable limit (without_references (marked_rule t fields).table)
+pub careful_given_up : (limit : ℕ) (t : Table) (fields : List FieldLine) (cs : List Chosen) → IsCarefulTable limit t
+    → IsCarefulTable limit (without_references (chosen_rule t fields cs).table)
 unfolding without_references
-careful_given_up limit t fields k =
-    let d = marked_rule t fields in
-    let p = marked_drafts t k.history fields k.sound k.kept in
+careful_given_up limit t fields cs k =
+    let d = chosen_rule t fields cs in
+    let p = chosen_drafts t k.history fields cs k.sound k.kept in
     record {
       history = p.history;
       sound = leads_sound k.history d.instructions p.history p.leads k.sound;

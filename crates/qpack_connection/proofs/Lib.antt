@@ -10,6 +10,7 @@ pub mod BlockedStreams
 pub mod StrictCounts
 pub mod Decoders
 pub mod Encoders
+pub mod ChosenSections
 pub mod ReceivedStreams
 pub mod StrictHearing
 pub mod HeardBytes

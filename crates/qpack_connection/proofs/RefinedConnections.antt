@@ -5,10 +5,11 @@ use Rattle.std.proofs.Common.{length-append, IfSome}
 use Rattle.std.specs.List.{AllByRecursion}
 use Rattle.std.specs.Prelude.{nat_eq}
 use Rattle.std.proofs.lemmas.List.{append_assoc, append-nil, take-append-le}
+use Rattle.qpack_spec.specs.Chosen.{chosen_rule}
 use Rattle.qpack_spec.specs.Field.{FieldLine, fields_of_lines}
 use Rattle.qpack_spec.specs.Instruction.{EncoderInstruction, SetCapacity, SpellsEncoderInstruction}
 use Rattle.qpack_spec.specs.Instruction.{written_encoder_instruction, written_encoder_instructions}
-use Rattle.qpack_spec.specs.Marked.{marked_rule, written_marked_block}
+use Rattle.qpack_spec.specs.Marked.{written_marked_block}
 use Rattle.qpack_spec.specs.Reading.{greatest_of}
 use Rattle.qpack_spec.specs.Rule.{block_of, committed_table}
 use Rattle.qpack_spec.specs.Session.{RequestStream, stream_at, with_stream}
@@ -16,23 +17,25 @@ use Rattle.qpack_spec.specs.Stream.{SpellsAll}
 use Rattle.qpack_spec.specs.Table.{Table, with_capacity, empty_table}
 use Rattle.qpack_spec.specs.Window.{TableRefusal}
 use Rattle.qpack_spec.specs.WrittenLaws.{IsByteField, IsWritableEncoderInstruction}
+use Rattle.qpack_spec.proofs.ChosenWritten.{chosen_written}
 use Rattle.qpack_spec.proofs.Cuttings.{joined_append}
-use Rattle.qpack_spec.proofs.MarkedDrafts.{marked_written}
 use Rattle.qpack_spec.proofs.WrittenDrafts.{instructions_fit}
 use Rattle.qpack_safety.specs.AbstractSession.{AbstractBlock, AbstractStream, AbstractSession, abstract_start}
 use Rattle.qpack_safety.specs.AbstractSession.{after_resize}
 use Rattle.qpack_safety.specs.TwoEnds.{EndStep, Encode, EncodeAlone, Resize, after_end_step, after_end_steps}
-use Rattle.qpack_safety.proofs.HandedSections.{marked_block, alone_block}
+use Rattle.qpack_safety.proofs.HandedSections.{chosen_block, alone_block}
 use Rattle.qpack_safety.proofs.Invariant.{Invariant}
 use Rattle.qpack_safety.proofs.Shown.{agrees_push, instructions_joined}
 use Rattle.qpack_safety.proofs.TwoEnds.{holds_started, holds_behind}
 use Rattle.qpack_safety.proofs.WritingEvents.{few_insertions}
 use Rattle.qpack_connection.specs.Connections.{SentSection, Connection, with_encoder, with_section}
-use Rattle.qpack_connection.specs.Encoders.{EncodingEnd, IsToBeTold, begun, begun_with, WritesSection, WritesAlone}
+use Rattle.qpack_connection.specs.ChosenSections.{WritesChosen}
+use Rattle.qpack_connection.specs.Encoders.{EncodingEnd, IsToBeTold, begun, begun_with, WritesAlone}
 use Rattle.qpack_connection.specs.Hearing as hearing
 use Rattle.qpack_connection.specs.Receiving as receiving
 use Rattle.qpack_connection.specs.RefinedConnections.{received_of, RefinesSection, RefinesStream, RefinesSession}
 use Rattle.qpack_connection.specs.RefinedConnections.{EncodesAreRefined}
+use Rattle.qpack_connection.proofs.ChosenSections.{encode_chosen}
 use Rattle.qpack_connection.proofs.Encoders.{takes_capacity}
 
 -- ---- the encoder writes
@@ -103,37 +106,38 @@ section_more s k b ps qs is all q = both (nat_eq s q)
 
 -- ---- a section, where no capacity is to be told
 
--- the session's block of a section that is the rule's
+-- the session's block of a section under some choices
 section_refined : (maximum limit : ℕ) (c : Connection) (w : AbstractSession) (e : EncodingEnd) (s : ℕ)
     (fields : List FieldLine) (section : List ℕ) (required : ℕ) → Invariant 0 maximum limit w
     → RefinesSession maximum c w → AllByRecursion IsByteField (fields_of_lines fields)
     → length (c.encoder_stream.written ++ e.unsent) < 2 ^ 63 → length section < 2 ^ 63
-    → WritesSection c.encoder e s fields [] section required
+    → (writes : WritesChosen c.encoder e s fields [] section required)
     → RefinesSession maximum (with_section s fields section (Ok required) (with_encoder e c))
-    (after_end_step w (Encode s fields))
+    (after_end_step w (Encode s fields writes.section.choices))
 section_refined maximum limit c w e s fields section required k r are short small writes =
-    let d = marked_rule w.encoder fields in
     let x = writes.section in
+    let cs = x.choices in
+    let d = chosen_rule w.encoder fields cs in
     let table : e.table ≡ committed_table d s =
-    x.table ∙ ap (λ (t : Table). committed_table (marked_rule t fields) s) r.encoder_is in
+    x.table ∙ ap (λ (t : Table). committed_table (chosen_rule t fields cs) s) r.encoder_is in
     let unsent : e.unsent ≡ written_encoder_instructions d.instructions =
     x.written
-    ∙ ap (λ (b : List ℕ). b ++ written_encoder_instructions (marked_rule c.encoder.table fields).instructions)
+    ∙ ap (λ (b : List ℕ). b ++ written_encoder_instructions (chosen_rule c.encoder.table fields cs).instructions)
     r.encoder_sent
-    ∙ ap (λ (t : Table). written_encoder_instructions (marked_rule t fields).instructions) r.encoder_is in
+    ∙ ap (λ (t : Table). written_encoder_instructions (chosen_rule t fields cs).instructions) r.encoder_is in
     let fits : length (written_encoder_instructions d.instructions) < 2 ^ 63 =
     omega (arith, short, length-append c.encoder_stream.written e.unsent, ap length unsent) in
-    let wd = marked_written w.encoder fields (few_insertions 0 maximum limit w k) are in
+    let wd = chosen_written w.encoder fields cs (few_insertions 0 maximum limit w k) are in
     written_more maximum c w e (committed_table d s) d.instructions (w.in_flight ++ d.instructions) _ _ r table
     (ap (λ (y : EncodingEnd). y.stream) writes.new_is) unsent
     (instructions_fit d.instructions wd.instructions fits) refl
     (section_more s (record { fields = fields; bytes = section; required = required }) _ c.streams w.streams
     (record {
       bytes_are = x.block
-          ∙ ap (λ (t : Table). written_marked_block fields (block_of t (marked_rule t fields))) r.encoder_is;
+          ∙ ap (λ (t : Table). written_marked_block fields (block_of t (chosen_rule t fields cs))) r.encoder_is;
       required_is = x.required_is
-          ∙ ap (λ (t : Table). greatest_of (marked_rule t fields).table.referenced) r.encoder_is;
-      block_is = marked_block 0 maximum limit w s fields k _ refl refl;
+          ∙ ap (λ (t : Table). greatest_of (chosen_rule t fields cs).table.referenced) r.encoder_is;
+      block_is = chosen_block 0 maximum limit w s fields cs k _ refl refl;
       are_bytes = are;
       short = small;
     }) r.streams)
@@ -217,18 +221,20 @@ begun_first c e s fields section written required unsent =
     ∙ ap (λ (b : List ℕ). c.encoder_stream.written ++ b) (sym unsent))
 
 -- the section of a call behind the capacity
-rule_behind : (c : Connection) (e : EncodingEnd) (s : ℕ) (fields : List FieldLine) (section : List ℕ) (required : ℕ)
-    → WritesSection (begun c.encoder) e s fields [] section required
+chosen_behind : (c : Connection) (e : EncodingEnd) (s : ℕ) (fields : List FieldLine) (section : List ℕ) (required : ℕ)
+    → WritesChosen (begun c.encoder) e s fields [] section required
     → (written : List ℕ) × (e.unsent ≡ (begun c.encoder).unsent ++ written)
-    × WritesSection (with_encoder (begun c.encoder) c).encoder (record e { unsent = written }) s fields [] section
+    × WritesChosen (with_encoder (begun c.encoder) c).encoder (record e { unsent = written }) s fields [] section
     required
-rule_behind c e s fields section required writes =
-    let written = written_encoder_instructions (marked_rule (begun c.encoder).table fields).instructions in (
+chosen_behind c e s fields section required writes =
+    let cs = writes.section.choices in
+    let written = written_encoder_instructions (chosen_rule (begun c.encoder).table fields cs).instructions in (
       written,
       writes.section.written,
       record {
         room = writes.room;
         section = record {
+          choices = cs;
           required_is = writes.section.required_is;
           table = writes.section.table;
           block = writes.section.block;
@@ -262,18 +268,18 @@ encodes_refined maximum limit c new steps s fields required r sound are short ca
     let e = call.encoder in
     let k = (holds_behind 0 maximum limit first.0 w (holds_behind 0 maximum limit steps start
     (holds_started 0 maximum limit (omega arith)))).invariant in
-    elim call.call.1 [
+    elim (encode_chosen c.encoder e s fields [] call.section (Ok required) call.call).1 [
       | inl writes ↦
-          let b = rule_behind c e s fields call.section required writes in
+          let b = chosen_behind c e s fields call.section required writes in
           let same = begun_first c e s fields call.section b.0 required b.1 in
           let few : length (c1.encoder_stream.written ++ b.0) < 2 ^ 63 =
           rw (append_assoc c.encoder_stream.written (begun c.encoder).unsent b.0, ← b.1)
-          (subst (λ (x : Connection). length x.encoder_stream.written < 2 ^ 63) call.new_is short) in (
-            first.0 ++ Encode s fields ∷ [],
+          (subst (λ (x : Connection). length x.encoder_stream.written < 2 ^ 63) call.new_is short) in
+          let step = Encode s fields b.2.section.choices in (
+            first.0 ++ step ∷ [],
             subst (λ (x : AbstractSession). RefinesSession maximum new x)
-                (sym (after_last first.0 (Encode s fields) w)
-                ∙ sym (after_more steps (first.0 ++ Encode s fields ∷ []) start))
-                (subst (λ (x : Connection). RefinesSession maximum x (after_end_step w1 (Encode s fields)))
+                (sym (after_last first.0 step w) ∙ sym (after_more steps (first.0 ++ step ∷ []) start))
+                (subst (λ (x : Connection). RefinesSession maximum x (after_end_step w1 step))
                 (same ∙ sym call.new_is)
                 (section_refined maximum limit c1 w1 (record e { unsent = b.0 }) s fields call.section required k
                 first.1 are few small b.2)),

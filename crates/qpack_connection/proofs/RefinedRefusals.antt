@@ -3,12 +3,12 @@ use Rattle.std.proofs.Common.{◌≡◌, ◌<◌, ◌≤◌, ◌^◌, ℕ, zero,
 use Rattle.std.proofs.Common.{Ok, Err, refl, sym, ap, subst, ◌∙◌, arith, inl, inr, ◌⊎◌, length-append}
 use Rattle.std.specs.List.{AllByRecursion}
 use Rattle.std.proofs.lemmas.List.{append_assoc}
+use Rattle.qpack_spec.specs.Chosen.{chosen_rule}
 use Rattle.qpack_spec.specs.Field.{FieldLine, fields_of_lines}
 use Rattle.qpack_spec.specs.Instruction.{written_encoder_instructions}
-use Rattle.qpack_spec.specs.Marked.{marked_rule}
 use Rattle.qpack_spec.specs.Table.{Table, without_references}
 use Rattle.qpack_spec.specs.WrittenLaws.{IsByteField}
-use Rattle.qpack_spec.proofs.MarkedDrafts.{marked_written}
+use Rattle.qpack_spec.proofs.ChosenWritten.{chosen_written}
 use Rattle.qpack_spec.proofs.WrittenDrafts.{instructions_fit}
 use Rattle.qpack_safety.specs.AbstractSession.{AbstractSession, abstract_start}
 use Rattle.qpack_safety.specs.TwoEnds.{EndStep, Abandon, after_end_step, after_end_steps}
@@ -20,11 +20,13 @@ use Rattle.qpack_connection.specs.declared.encoder.EncodingError.TheVariants as 
 use Rattle.qpack_connection.specs.Decoders as decoders
 use Rattle.qpack_connection.specs.Connections.{Connection, with_encoder, with_decoder}
 use Rattle.qpack_connection.specs.Decoders.{DecodingEnd}
-use Rattle.qpack_connection.specs.Encoders.{EncodingEnd, begun, begun_with, GivesUpSection, StopsForMemory, Checks}
+use Rattle.qpack_connection.specs.ChosenSections.{StopsAmongChosen, RunsOutOfMemory}
+use Rattle.qpack_connection.specs.Encoders.{EncodingEnd, begun, begun_with, Checks}
 use Rattle.qpack_connection.specs.RefinedConnections.{RefinesSession}
 use Rattle.qpack_connection.specs.RefinedRefusals.{StopsEncoding, RefusedEncodesAreRefined}
 use Rattle.qpack_connection.specs.RefinedRefusals.{RefusedCapacitiesAreRefined, RefusedCancellationsAreRefined}
 use Rattle.qpack_connection.specs.RefinedStreams.{IsOpen}
+use Rattle.qpack_connection.proofs.ChosenSections.{encode_chosen}
 use Rattle.qpack_connection.proofs.RefinedCapacities.{same_refined}
 use Rattle.qpack_connection.proofs.RefinedConnections.{written_more, told_refined, after_more, after_last}
 use Rattle.qpack_connection.proofs.RefinedReceptions.{none_written}
@@ -57,22 +59,25 @@ first_bytes (suc many) (f ∷ fields) are = (are.0, first_bytes many fields are.
 
 given_up : (maximum limit : ℕ) (c : Connection) (w : AbstractSession) (e : EncodingEnd) (fields : List FieldLine)
     → Invariant 0 maximum limit w → RefinesSession maximum c w → AllByRecursion IsByteField (fields_of_lines fields)
-    → length (c.encoder_stream.written ++ e.unsent) < 2 ^ 63 → (g : GivesUpSection c.encoder e fields)
-    → RefinesSession maximum (with_encoder e c) (after_end_step w (Abandon (take g.lines.many fields)))
+    → length (c.encoder_stream.written ++ e.unsent) < 2 ^ 63 → (g : StopsAmongChosen c.encoder e fields)
+    → RefinesSession maximum (with_encoder e c)
+    (after_end_step w (Abandon (take g.lines.many fields) g.lines.choices))
 given_up maximum limit c w e fields k r are short g =
     let some = take g.lines.many fields in
-    let d = marked_rule w.encoder some in
+    let cs = g.lines.choices in
+    let d = chosen_rule w.encoder some cs in
     let unsent : e.unsent ≡ written_encoder_instructions d.instructions =
     g.lines.written
-    ∙ ap (λ (b : List ℕ). b ++ written_encoder_instructions (marked_rule c.encoder.table some).instructions)
+    ∙ ap (λ (b : List ℕ). b ++ written_encoder_instructions (chosen_rule c.encoder.table some cs).instructions)
     r.encoder_sent
-    ∙ ap (λ (t : Table). written_encoder_instructions (marked_rule t some).instructions) r.encoder_is in
+    ∙ ap (λ (t : Table). written_encoder_instructions (chosen_rule t some cs).instructions) r.encoder_is in
     let fits : length (written_encoder_instructions d.instructions) < 2 ^ 63 =
     omega (arith, short, length-append c.encoder_stream.written e.unsent, ap length unsent) in
-    let wd = marked_written w.encoder some (few_insertions 0 maximum limit w k) (first_bytes g.lines.many fields are) in
+    let wd =
+    chosen_written w.encoder some cs (few_insertions 0 maximum limit w k) (first_bytes g.lines.many fields are) in
     written_more maximum c w e (without_references d.table) d.instructions (w.in_flight ++ d.instructions) c.streams
     w.streams r
-    (g.lines.table ∙ ap (λ (t : Table). without_references (marked_rule t some).table) r.encoder_is)
+    (g.lines.table ∙ ap (λ (t : Table). without_references (chosen_rule t some cs).table) r.encoder_is)
     (ap (λ (y : EncodingEnd). y.stream) g.new_is) unsent
     (instructions_fit d.instructions wd.instructions fits) refl r.streams
 
@@ -81,7 +86,8 @@ begun_failure None d = refl
 begun_failure (Some n) d = refl
 
 pub refused_encodes : RefusedEncodesAreRefined
-refused_encodes maximum limit c new steps s fields x r alive sound are short call = by_call call.call.1
+refused_encodes maximum limit c new steps s fields x r alive sound are short call =
+    by_call (encode_chosen c.encoder call.encoder s fields [] call.section (Err x) call.call).1
   where
     start : AbstractSession
     start = abstract_start 0 maximum limit
@@ -111,7 +117,7 @@ refused_encodes maximum limit c new steps s fields x r alive sound are short cal
           k),
     )
 
-    by_memory : StopsEncoding s x → StopsForMemory c.encoder e fields
+    by_memory : StopsEncoding s x → RunsOutOfMemory c.encoder e fields
         → StopsEncoding s x × IsOpen new × (more : List EndStep)
         × RefinesSession maximum new (after_end_steps (steps ++ more) start)
     by_memory stops (inl same) =
@@ -123,15 +129,17 @@ refused_encodes maximum limit c new steps s fields x r alive sound are short cal
         (ap (λ (y : EncodingEnd). y.failure) full.1 ∙ begun_failure c.encoder.wanted c.encoder) stops
     by_memory stops (inr (inr g)) =
         let some = take g.lines.many fields in
-        let written = written_encoder_instructions (marked_rule (begun c.encoder).table some).instructions in
+        let cs = g.lines.choices in
+        let step = Abandon some cs in
+        let written = written_encoder_instructions (chosen_rule (begun c.encoder).table some cs).instructions in
         let c1 = with_encoder (begun c.encoder) c in
         let w1 = after_end_steps first.0 w in
         let k = (holds_behind 0 maximum limit first.0 w (holds_behind 0 maximum limit steps start
         (holds_started 0 maximum limit (omega arith)))).invariant in
         let e1 : EncodingEnd = record e { unsent = written } in
-        let g1 : GivesUpSection c1.encoder e1 fields = record {
+        let g1 : StopsAmongChosen c1.encoder e1 fields = record {
           room = g.room;
-          lines = record { many = g.lines.many; table = g.lines.table; written = refl };
+          lines = record { many = g.lines.many; choices = cs; table = g.lines.table; written = refl };
           new_is = ap (λ (y : EncodingEnd). let z : EncodingEnd = record y { unsent = written } in z) g.new_is;
         } in
         let bytes : c1.encoder_stream.written ++ written ≡ c.encoder_stream.written ++ e.unsent =
@@ -144,16 +152,16 @@ refused_encodes maximum limit c new steps s fields x r alive sound are short cal
         let few : length (c1.encoder_stream.written ++ written) < 2 ^ 63 =
         subst (λ (b : List ℕ). length b < 2 ^ 63) (sym bytes)
         (subst (λ (y : Connection). length y.encoder_stream.written < 2 ^ 63) now short) in
-        behind (first.0 ++ Abandon some ∷ [])
+        behind (first.0 ++ step ∷ [])
         (subst (λ (y : AbstractSession). RefinesSession maximum (with_encoder e c) y)
-        (sym (after_last first.0 (Abandon some) w))
-        (subst (λ (y : Connection). RefinesSession maximum y (after_end_step w1 (Abandon some))) same
+        (sym (after_last first.0 step w))
+        (subst (λ (y : Connection). RefinesSession maximum y (after_end_step w1 step)) same
         (given_up maximum limit c1 w1 e1 fields k first.1 are few g1)))
         (ap (λ (y : EncodingEnd). y.failure) g.new_is ∙ begun_failure c.encoder.wanted c.encoder) stops
 
     by_call : (Checks c.encoder s (Err x) × (e ≡ c.encoder))
         ⊎ (Checks c.encoder s (Ok tt) × (x ≡ encoding.Memory)
-        × StopsForMemory c.encoder e fields)
+        × RunsOutOfMemory c.encoder e fields)
         → StopsEncoding s x × IsOpen new × (more : List EndStep)
         × RefinesSession maximum new (after_end_steps (steps ++ more) start)
     by_call (inl (inl ended, same)) = absurd (let q = sym alive.encoder ∙ ended in cc)

@@ -3,14 +3,15 @@ use Rattle.std.proofs.Common.{◌≡◌, ◌⊎◌, ℕ, min, List, [], ◌∷�
 use Rattle.std.proofs.Common.{Some, Result, Ok, Err, refl, sym, ap, subst, ◌∙◌, arith, inl, inr}
 use Rattle.std.specs.Option.{IfSome}
 use Rattle.std.specs.Prelude.{⊤}
+use Rattle.qpack_spec.specs.Chosen.{chosen_rule}
 use Rattle.qpack_spec.specs.Field.{FieldLine}
 use Rattle.qpack_spec.specs.Instruction.{DecoderInstruction}
-use Rattle.qpack_spec.specs.Marked.{marked_rule, stateless_block_marked}
+use Rattle.qpack_spec.specs.Marked.{stateless_block_marked}
 use Rattle.qpack_spec.specs.Rule.{block_of, required_insert_count}
 use Rattle.qpack_spec.specs.Table.{Table, UnacknowledgedBlock, insert_count, window, with_numbers}
 use Rattle.qpack_spec.specs.Table.{with_unacknowledged}
 use Rattle.qpack_spec.proofs.AloneSections.{none_referenced}
-use Rattle.qpack_spec.proofs.MarkedDrafts.{marked_drafts}
+use Rattle.qpack_spec.proofs.ChosenDrafts.{chosen_drafts}
 use Rattle.qpack_safety.proofs.Encoding.{same_committed}
 use Rattle.qpack_connection.specs.LawfulDecoders.{CountsSection, Counts}
 use Rattle.qpack_spec.proofs.LawfulDecoders.{instructions_heard, go_on}
@@ -18,6 +19,7 @@ use Rattle.qpack_connection.specs.declared.encoder.EncoderSettings.{EncoderSetti
 use Rattle.qpack_connection.specs.declared.encoder.EncodingError.{EncodingError}
 use Rattle.qpack_connection.specs.declared.encoder.EncodingError.TheVariants.{DecoderStream, CapacityTooLarge}
 use Rattle.qpack_connection.specs.declared.encoder.EncodingError.TheVariants.{EntriesHeld, NoStream, Memory}
+use Rattle.qpack_connection.specs.ChosenSections.{WritesChosen, RunsOutOfMemory, EncodesByChoice}
 use Rattle.qpack_connection.specs.Encoders.{EncodingEnd, IsSound, IsToBeTold, Starts, begun, begun_with}
 use Rattle.qpack_connection.specs.Encoders.{told, with_section, StopsForMemory, SetsCapacity}
 use Rattle.qpack_connection.specs.Encoders.{WritesSection, WritesAlone, Encodes, ReceivesBytes}
@@ -28,6 +30,7 @@ use Rattle.qpack_connection.specs.LawfulDecoders.{GoesOn, Answers, AllAnswer, La
 use Rattle.qpack_connection.proofs.CarefulTables.{IsCarefulTable, careful_needed, careful_count, careful_first}
 use Rattle.qpack_connection.proofs.CarefulTables.{careful_section, careful_given_up, careful_capacity}
 use Rattle.qpack_connection.proofs.CarefulTables.{careful_hearing, quiet_unblocked}
+use Rattle.qpack_connection.proofs.ChosenSections.{encode_chosen}
 use Rattle.qpack_connection.proofs.Encoders.{takes_capacity, told_still, received_sound, refused_sound}
 use Rattle.qpack_connection.proofs.KeptConnections.{sound_begun, sound_set, begun_failure}
 use Rattle.qpack_connection.proofs.LawfulPieces.{decoder_streams_heard}
@@ -87,22 +90,24 @@ stays_begun settings old new k is =
 -- ---- a call, with any peer
 
 stays_for_memory : (settings : EncoderSettings) (old new : EncodingEnd) (fields : List FieldLine) → Stays settings old
-    → StopsForMemory old new fields → Stays settings new
+    → RunsOutOfMemory old new fields → Stays settings new
 stays_for_memory settings old new fields k (inl none) = stays_same settings old new k none.1
 stays_for_memory settings old new fields k (inr (inl full)) = stays_begun settings old new k full.1
 stays_for_memory settings old new fields k (inr (inr g)) =
     stays_with settings old new new.table new.unsent k
     (subst (IsCarefulTable (most settings)) (sym g.lines.table)
-    (careful_given_up (most settings) (begun old).table (take g.lines.many fields) (table_begun settings old k)))
+    (careful_given_up (most settings) (begun old).table (take g.lines.many fields) g.lines.choices
+    (table_begun settings old k)))
     g.new_is
 
 stays_encoded : (settings : EncoderSettings) (old new : EncodingEnd) (s : ℕ) (fields : List FieldLine)
     (section : List ℕ) (answer : Result ℕ EncodingError) → Stays settings old
-    → Encodes old new s fields [] section answer → Stays settings new
+    → EncodesByChoice old new s fields [] section answer → Stays settings new
 stays_encoded settings old new s fields section (Ok required) k (checks, inl writes) =
     stays_with settings old new new.table new.unsent k
     (subst (IsCarefulTable (most settings)) (sym writes.section.table)
-    (careful_section (most settings) (begun old).table s fields (table_begun settings old k))) writes.new_is
+    (careful_section (most settings) (begun old).table s fields writes.section.choices (table_begun settings old k)))
+    writes.new_is
 stays_encoded settings old new s fields section (Ok required) k (checks, inr writes) =
     stays_begun settings old new k writes.new_is
 stays_encoded settings old new s fields section (Err e) k (none, inl stopped) = stays_same settings old new k stopped.1
@@ -171,7 +176,7 @@ stays_sent settings old many k =
 step_stays : (settings : EncoderSettings) (call : Call) (old new : EncodingEnd) → Stays settings old
     → Step call old new → Stays settings new
 step_stays settings (Encode s fields section answer) old new k step =
-    stays_encoded settings old new s fields section answer k step
+    stays_encoded settings old new s fields section answer k (encode_chosen old new s fields [] section answer step)
 step_stays settings (SetCapacity n answer) old new k step = stays_set settings old new n answer k step
 step_stays settings (Receive bytes answer) old new k step = by old.failure refl step.1
   where
@@ -191,13 +196,14 @@ careful settings e k =
 
 counts_section : (settings : EncoderSettings) (old new : EncodingEnd) (s : ℕ) (fields : List FieldLine)
     (section : List ℕ) (required : ℕ) → Stays settings old
-    → WritesSection (begun old) new s fields [] section required
+    → WritesChosen (begun old) new s fields [] section required
     ⊎ WritesAlone (begun old) new fields [] section required → CountsSection (begun old) new s fields section
 counts_section settings old new s fields section required k (inl writes) =
     let t = (begun old).table in
     let careful = table_begun settings old k in
-    let p = marked_drafts t careful.history fields careful.sound careful.kept in
-    let d = marked_rule t fields in
+    let cs = writes.section.choices in
+    let p = chosen_drafts t careful.history fields cs careful.sound careful.kept in
+    let d = chosen_rule t fields cs in
     record {
       block = block_of t d;
       written = writes.section.block;
@@ -222,7 +228,8 @@ counts_section settings old new s fields section required k (inr writes) =
 call_counts : (settings : EncoderSettings) (call : Call) (old new : EncodingEnd) → Stays settings old
     → Step call old new → Counts call old new
 call_counts settings (Encode s fields section (Ok required)) old new k step =
-    counts_section settings old new s fields section required k step.1
+    counts_section settings old new s fields section required k
+    (encode_chosen old new s fields [] section (Ok required) step).1
 call_counts settings (Encode s fields section (Err e)) old new k step = tt
 call_counts settings (SetCapacity n answer) old new k step = tt
 call_counts settings (Receive bytes answer) old new k step = tt

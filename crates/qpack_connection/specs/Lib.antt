@@ -7,6 +7,7 @@ pub mod Blocked
 pub mod Decoders
 pub mod Hearing
 pub mod Encoders
+pub mod ChosenSections
 pub mod LawfulPieces
 pub mod Connections
 pub mod RefinedConnections

@@ -1,5 +1,6 @@
 //! Laws of the two instruction streams, for a peer that keeps to the standard, and of two ends in bytes.
 
+ghost use Rattle.qpack_connection.specs.ChosenSections.{EncodesAreByChoice};
 ghost use Rattle.qpack_connection.specs.LawfulDecoders.{EncodersAreCareful, LawfulDecodersAreUnderstood};
 ghost use Rattle.qpack_connection.specs.LawfulEncoders.{LawfulEncodersAreUnderstood};
 ghost use Rattle.qpack_connection.specs.ArrivedSections.{SectionsArrive};
@@ -18,6 +19,12 @@ ghost use Rattle.qpack_connection.specs.TwoEndsHeadline.{TwoEndsAnswerWhatWasHan
 pub fn lawful_streams_are_never_refused()
     ensures encoder_stream { EncoderStreamsAreNeverRefused }
     ensures decoder_stream { DecoderStreamsAreNeverRefused }
+{}
+
+/// Each encode of [`ConnectionEncoder`](crate::ConnectionEncoder) is one under some choices (RFC 9204, section 2.1). Of an
+/// encode the laws below use only that, except where insertions go on with a decoder that keeps to the standard.
+pub fn encodes_are_by_choice()
+    ensures { EncodesAreByChoice }
 {}
 
 /// A connection of two ends in bytes is a session of two strict ends in values (RFC 9204, section 2): a new one, and
