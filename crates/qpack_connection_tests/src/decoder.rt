@@ -1,102 +1,172 @@
-//! The decoding end of a connection (RFC 9204, sections 2.1.2, 2.2, 3.2, 4.4 and 4.5).
+//! The decoding end of a connection.
 
-use crate::parts::{Blocked, Maximum};
+use crate::fields::push_reading;
+use crate::subject::Subject;
+use crate::words::{Words, push_bytes, push_refusal};
+use anyhow::{Result, bail, ensure};
 use h3_qpack::coding::Cursor;
-use qpack_connection::decoder::{ConnectionDecoder, DecoderSettings, DecodingError, SettingsError};
+use h3_qpack::stream::{DecoderLine, HeaderAck, InsertCountIncrement, StreamCancel, next_line};
+use qpack_connection::decoder::{ConnectionDecoder, DecoderSettings, DecodingError};
 use qpack_connection::{FieldSection, Reading};
-use qpack_testing::same;
 use std::alloc::Global;
-use std::test::Fail;
+use std::fmt::Write;
 
-mod blocked;
-mod ended;
-mod sections;
-mod sent;
-mod steps;
+/// A decoding end, and the fields that it decoded last.
+#[derive(Drop)]
+pub(crate) struct Decoder {
+    end: ConnectionDecoder,
+    fields: FieldSection,
+    size: usize,
+}
 
-/// A limit that no section of these tests passes.
-const NO_LIMIT: u64 = 1_000_000;
+impl Subject for Decoder {
+    fn begin(alloc: Global, settings: &mut Words<'_>, size: usize) -> Result<Decoder> {
+        let settings = read_settings(settings)?;
+        Ok(Decoder {
+            end: ConnectionDecoder::new(alloc, settings)?,
+            fields: FieldSection::new(alloc),
+            size,
+        })
+    }
 
-/// Settings of a maximum capacity in bytes and a limit of blocked streams.
-fn settings(max_capacity: usize, max_blocked: usize) -> DecoderSettings {
-    DecoderSettings {
-        max_capacity,
-        max_blocked,
-        max_section_size: NO_LIMIT,
+    fn call(
+        &mut self,
+        alloc: Global,
+        word: &str,
+        words: &mut Words<'_>,
+        answer: &mut String,
+    ) -> Result<()> {
+        match word {
+            "receives" => self.receive(&words.bytes(alloc)?, answer),
+            "decodes" => self.decode(words.number()?, &words.bytes(alloc)?, answer),
+            "cancels" => match self.end.cancel(words.number()?) {
+                Ok(()) => Ok(answer.push_str("done")?),
+                Err(error) => push_error(answer, error),
+            },
+            "sends" => {
+                push_bytes(answer, self.end.decoder_stream())?;
+                self.end.sent(usize::MAX);
+                Ok(())
+            }
+            "drops" => {
+                self.end.sent(words.count()?);
+                push_bytes(answer, self.end.decoder_stream())
+            }
+            "holds" => push_bytes(answer, self.end.decoder_stream()),
+            "tells" => push_told(alloc, answer, self.end.decoder_stream()),
+            _ => self.push_state(word, answer),
+        }
+    }
+
+    fn calls_that_can_fail() -> &'static [&'static str] {
+        &[
+            "receives 20",
+            "receives nothing",
+            "decodes 0 0000d1",
+            "decodes 4611686018427387904 nothing",
+            "cancels 0",
+            "cancels 4611686018427387904",
+        ]
     }
 }
 
-/// A decoding end of such settings.
-pub(crate) fn begin(
-    alloc: Global,
-    max_capacity: usize,
-    max_blocked: usize,
-) -> Result<ConnectionDecoder, SettingsError> {
-    ConnectionDecoder::new(alloc, settings(max_capacity, max_blocked))
+/// The settings of words.
+pub(crate) fn read_settings(words: &mut Words<'_>) -> Result<DecoderSettings> {
+    Ok(DecoderSettings {
+        max_capacity: words.count()?,
+        max_blocked: words.count()?,
+        max_section_size: words.number()?,
+    })
 }
 
-/// Receives bytes; where memory was refused, what is left of them is offered again.
-pub(crate) fn receive(end: &mut ConnectionDecoder, piece: &[u8]) -> Result<usize, DecodingError> {
-    let mut buf = Cursor::new(piece);
-    match end.receive(&mut buf) {
-        Err(DecodingError::Memory) => end.receive(&mut buf),
-        answer => answer,
+/// Appends an error of a decoding end.
+fn push_error(answer: &mut String, error: DecodingError) -> Result<()> {
+    push_refusal(answer, error.code(), &error)
+}
+
+impl Decoder {
+    /// Receives bytes of the encoder stream in pieces; answers how many insertions were made, or the last refusal.
+    fn receive(&mut self, bytes: &[u8], answer: &mut String) -> Result<()> {
+        let mut received = self.end.receive(&mut Cursor::new(b""));
+        for piece in bytes.chunks(self.size.max(1)) {
+            received = self.end.receive(&mut Cursor::new(piece));
+        }
+        match received {
+            Ok(inserted) => Ok(write!(answer, "{inserted}")?),
+            Err(error) => push_error(answer, error),
+        }
+    }
+
+    /// Decodes a section; where it waits, answers how many streams are blocked too.
+    fn decode(&mut self, stream: u64, section: &[u8], answer: &mut String) -> Result<()> {
+        self.fields.clear();
+        match self.end.decode(stream, section, &mut self.fields) {
+            Ok(reading) => {
+                push_reading(answer, reading, &self.fields)?;
+                if let Reading::Blocked { .. } = reading {
+                    write!(answer, ", {} blocked", self.end.blocked())?;
+                }
+                Ok(())
+            }
+            Err(error) => {
+                ensure!(self.fields.is_empty(), "a refused section gives fields");
+                push_error(answer, error)
+            }
+        }
+    }
+
+    /// Appends a part of its state.
+    fn push_state(&self, word: &str, answer: &mut String) -> Result<()> {
+        let end = &self.end;
+        match word {
+            "has" => write!(
+                answer,
+                "{} blocked, ready {:?}",
+                end.blocked(),
+                end.next_ready()
+            )?,
+            "state" => write!(
+                answer,
+                "{} to send, {} blocked, {} waiting, {} inserted",
+                end.decoder_stream().len(),
+                end.blocked(),
+                end.waiting(),
+                end.table().total_inserted()
+            )?,
+            "settings" => write!(answer, "{:?}", end.settings())?,
+            "capacity" => write!(
+                answer,
+                "{} of {}",
+                end.table().max_mem_size(),
+                end.table().agreed_max()
+            )?,
+            "failure" => match end.failure() {
+                Some(error) => push_error(answer, error)?,
+                None => answer.push_str("none")?,
+            },
+            _ => bail!("a decoder has no call {word}"),
+        }
+        Ok(())
     }
 }
 
-/// Decodes a section, again where memory was refused.
-pub(crate) fn decode(
-    end: &mut ConnectionDecoder,
-    stream: u64,
-    section: &[u8],
-    fields: &mut FieldSection,
-) -> Result<Reading, DecodingError> {
-    match end.decode(stream, section, fields) {
-        Err(DecodingError::Memory) => end.decode(stream, section, fields),
-        answer => answer,
+/// Appends what a decoder stream tells: how many insertions were received, and the streams that are acknowledged and
+/// cancelled, in turn.
+fn push_told(alloc: Global, answer: &mut String, stream: &[u8]) -> Result<()> {
+    let mut received = 0usize;
+    let mut cursor = Cursor::new(stream);
+    for _ in stream {
+        match next_line(alloc, &mut cursor)? {
+            Some(DecoderLine::InsertCountIncrement(InsertCountIncrement(increment))) => {
+                received = received.saturating_add(increment);
+            }
+            Some(DecoderLine::HeaderAck(HeaderAck(stream))) => write!(answer, "{stream}, ")?,
+            Some(DecoderLine::StreamCancel(StreamCancel(stream))) => {
+                write!(answer, "cancelled {stream}, ")?;
+            }
+            None => {}
+        }
     }
-}
-
-/// Gives a stream up, again where memory was refused.
-pub(crate) fn cancel(end: &mut ConnectionDecoder, stream: u64) -> Result<(), DecodingError> {
-    match end.cancel(stream) {
-        Err(DecodingError::Memory) => end.cancel(stream),
-        answer => answer,
-    }
-}
-
-/// An end of a maximum capacity of 220 bytes and three blocked streams at most, of which nothing has happened.
-fn begins(end: &ConnectionDecoder) -> Result<(), Fail> {
-    same(end.settings(), settings(220, 3))?;
-    same(
-        (end.table().agreed_max(), end.table().max_mem_size()),
-        (220, 0),
-    )?;
-    same(steps::told(end), (0, 0, 0, 0))?;
-    same((end.next_ready(), end.failure()), (None, None))
-}
-
-/// The maximum capacity is refused.
-const CAPACITY_TOO_LARGE: Option<SettingsError> = Some(SettingsError::CapacityTooLarge);
-
-/// The limit of blocked streams is refused.
-const BLOCKED_TOO_LARGE: Option<SettingsError> = Some(SettingsError::BlockedTooLarge);
-
-/// Maximum capacities, limits of blocked streams, and why an end is refused that would have them.
-const RANGES: [(Maximum, Blocked, Option<SettingsError>); 4] = [
-    (Maximum(1 << 30), Blocked(0), CAPACITY_TOO_LARGE),
-    (Maximum((1 << 30) - 1), Blocked(65_534), None),
-    (Maximum(0), Blocked(65_535), BLOCKED_TOO_LARGE),
-    // The maximum capacity comes first.
-    (Maximum(1 << 30), Blocked(65_535), CAPACITY_TOO_LARGE),
-];
-
-#[test]
-fn settings_are_refused_out_of_range(rt: HostRuntime) -> Result<(), Fail> {
-    let alloc = rt.alloc();
-    for (Maximum(max_capacity), Blocked(max_blocked), refusal) in RANGES {
-        same(begin(alloc, max_capacity, max_blocked).err(), refusal)?;
-    }
-    let end = begin(alloc, 220, 3)?;
-    begins(&end)
+    ensure!(cursor.remaining() == 0, "an instruction is cut");
+    Ok(write!(answer, "{received} received")?)
 }

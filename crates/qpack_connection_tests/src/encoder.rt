@@ -1,119 +1,251 @@
-//! The encoding end of a connection (RFC 9204, sections 2.1, 3.2.3, 4.3.1, 4.4 and 7.1.3).
+//! The encoding end of a connection.
 
-use crate::parts::{Blocked, Inserted, Known, Unacknowledged};
+use crate::fields::{push_reading, read_fields};
+use crate::subject::Subject;
+use crate::words::{Words, push_bytes, push_refusal};
+use anyhow::{Result, bail, ensure};
+use h3_qpack::HeaderField;
 use h3_qpack::coding::Cursor;
 use h3_qpack::encoder::AsField;
-use qpack_connection::decoder::SettingsError;
+use qpack_connection::decoder::{ConnectionDecoder, DecoderSettings};
 use qpack_connection::encoder::{ConnectionEncoder, EncoderSettings, EncodingError};
-use qpack_connection::{FieldLine, FieldSection};
-use qpack_testing::{bytes, same};
+use qpack_connection::{FieldSection, OwnedFieldLine};
 use std::alloc::Global;
-use std::test::Fail;
+use std::fmt::Write;
 
-mod capacity;
-mod ended;
-mod hearing;
-mod in_step;
-mod limits;
-mod marks;
-mod sent;
-mod steps;
-
-/// An encoding end, and the last section that it encoded.
+/// An encoding end, the last section that it encoded, and the decoding end of its peer with what that decoded last.
 #[derive(Drop)]
-struct Sender {
+pub(crate) struct Encoder {
     end: ConnectionEncoder,
     section: Vec<u8>,
+    peer: ConnectionDecoder,
+    fields: FieldSection,
+    /// Whether what is handed are header fields, which have no marks.
+    is_of_header_fields: bool,
+    size: usize,
 }
 
-/// How many sections are unacknowledged, how many may be blocked, and how many insertions were made and are known to be
-/// received.
-#[derive(Clone, Copy)]
-struct Counts(Unacknowledged, Blocked, Inserted, Known);
+/// The greatest limit of blocked streams that a decoding end may have.
+const MOST_BLOCKED: usize = 65_534;
 
-impl Sender {
-    /// An end for a peer of these settings.
-    fn new(alloc: Global, settings: EncoderSettings) -> Result<Sender, SettingsError> {
-        Ok(Sender {
+impl Subject for Encoder {
+    fn begin(alloc: Global, settings: &mut Words<'_>, size: usize) -> Result<Encoder> {
+        let is_of_header_fields = settings.word() == "encoder-of-header-fields";
+        let settings = read_settings(settings)?;
+        Ok(Encoder {
             end: ConnectionEncoder::new(alloc, settings)?,
             section: Vec::new(alloc),
+            peer: peer_of(alloc, settings)?,
+            fields: FieldSection::new(alloc),
+            is_of_header_fields,
+            size,
         })
     }
 
-    /// Encodes a section.
+    fn call(
+        &mut self,
+        alloc: Global,
+        word: &str,
+        words: &mut Words<'_>,
+        answer: &mut String,
+    ) -> Result<()> {
+        match word {
+            "encodes" => self.encode_words(alloc, words, answer),
+            "fills" => self.fill(alloc, words, answer),
+            "passes" => {
+                let stream = words.number()?;
+                let fields = fields_of(alloc, words)?;
+                self.encode(stream, &fields)?;
+                self.pass(stream, answer)
+            }
+            "hands-on" => {
+                let stream = words.number()?;
+                self.encode_again(alloc, stream)?;
+                self.pass(stream, answer)
+            }
+            "decodes-alone" => decode_alone(alloc, &self.section, answer),
+            "receives" => {
+                let received = self.receive(&words.bytes(alloc)?);
+                push_done(answer, received)
+            }
+            "sets" => push_done(answer, self.end.set_capacity(words.count()?)),
+            "drops" => {
+                self.end.sent(words.count()?);
+                push_bytes(answer, self.end.encoder_stream())
+            }
+            "writes" => push_bytes(answer, &self.section),
+            "holds" => push_bytes(answer, self.end.encoder_stream()),
+            _ => self.push_state(word, answer),
+        }
+    }
+
+    fn calls_that_can_fail() -> &'static [&'static str] {
+        &[
+            "encodes 0 | a = \"\"",
+            "encodes 4611686018427387904 | n = \"\"",
+            "sets 4097",
+            "receives 01",
+            "receives nothing",
+        ]
+    }
+}
+
+/// The settings of words.
+pub(crate) fn read_settings(words: &mut Words<'_>) -> Result<EncoderSettings> {
+    Ok(EncoderSettings {
+        max_capacity: words.count()?,
+        max_blocked: words.count()?,
+        capacity: words.count()?,
+        most_unacknowledged: words.count()?,
+    })
+}
+
+/// A decoding end that sent these settings.
+fn peer_of(alloc: Global, settings: EncoderSettings) -> Result<ConnectionDecoder> {
+    let of_peer = DecoderSettings {
+        max_capacity: settings.max_capacity,
+        max_blocked: settings.max_blocked.min(MOST_BLOCKED),
+        max_section_size: 1_000_000,
+    };
+    Ok(ConnectionDecoder::new(alloc, of_peer)?)
+}
+
+/// The fields of the words that are left.
+pub(crate) fn fields_of(alloc: Global, words: &mut Words<'_>) -> Result<Vec<OwnedFieldLine>> {
+    let fields = read_fields(alloc, words.rest)?;
+    words.rest = "";
+    Ok(fields)
+}
+
+/// Header fields of these names and values.
+pub(crate) fn header_fields(alloc: Global, lines: &[OwnedFieldLine]) -> Result<Vec<HeaderField>> {
+    let mut fields = Vec::new(alloc);
+    for line in lines {
+        fields.push(HeaderField::from_pair(alloc, &line.name, &line.value)?)?;
+    }
+    Ok(fields)
+}
+
+/// Appends that a call was done, or its error.
+fn push_done(answer: &mut String, done: Result<(), EncodingError>) -> Result<()> {
+    match done {
+        Ok(()) => Ok(answer.push_str("done")?),
+        Err(error) => push_refusal(answer, error.code(), &error),
+    }
+}
+
+/// Appends what a section is decoded to with no table at all.
+fn decode_alone(alloc: Global, section: &[u8], answer: &mut String) -> Result<()> {
+    let mut end = peer_of(alloc, EncoderSettings::new(0, 0))?;
+    let mut fields = FieldSection::new(alloc);
+    let reading = end.decode(8, section, &mut fields)?;
+    push_reading(answer, reading, &fields)
+}
+
+impl Encoder {
+    /// Encodes a section in the place of the last one.
     fn encode<H: AsField>(&mut self, stream: u64, fields: &[H]) -> Result<usize, EncodingError> {
         self.section.clear();
-        encode(&mut self.end, stream, fields, &mut self.section)
+        self.end.encode(stream, fields, &mut self.section)
     }
 
-    /// The last section has these bytes, in hexadecimal.
-    fn has_written(&self, alloc: Global, section: &[u8]) -> Result<(), Fail> {
-        let section = bytes(alloc, section)?;
-        same(self.section.as_slice(), section.as_slice())
+    /// Encodes the fields of words on a stream; answers how many insertions the section requires.
+    fn encode_words(
+        &mut self,
+        alloc: Global,
+        words: &mut Words<'_>,
+        answer: &mut String,
+    ) -> Result<()> {
+        let stream = words.number()?;
+        let lines = fields_of(alloc, words)?;
+        let encoded = if self.is_of_header_fields {
+            let fields = header_fields(alloc, &lines)?;
+            self.encode(stream, &fields)
+        } else {
+            self.encode(stream, &lines)
+        };
+        match encoded {
+            Ok(required) => Ok(write!(answer, "{required}")?),
+            Err(error) => {
+                ensure!(self.section.is_empty(), "a refused call writes a section");
+                push_refusal(answer, error.code(), &error)
+            }
+        }
     }
 
-    /// The encoder stream has these bytes to be sent, in hexadecimal.
-    fn is_to_send(&self, alloc: Global, expected: &[u8]) -> Result<(), Fail> {
-        let expected = bytes(alloc, expected)?;
-        same(self.end.encoder_stream(), expected.as_slice())
+    /// Encodes the fields on each of so many streams; answers how many insertions the sections require in all.
+    fn fill(&mut self, alloc: Global, words: &mut Words<'_>, answer: &mut String) -> Result<()> {
+        let streams = words.number()?;
+        let fields = fields_of(alloc, words)?;
+        let mut required = 0usize;
+        for stream in 0..streams {
+            required = required.saturating_add(self.encode(stream, &fields)?);
+        }
+        Ok(write!(answer, "{required}")?)
     }
 
-    /// Receives bytes of the decoder stream.
+    /// Sends the encoder stream, the last section, and the decoder stream; answers what the peer decoded.
+    fn pass(&mut self, stream: u64, answer: &mut String) -> Result<()> {
+        self.peer
+            .receive(&mut Cursor::new(self.end.encoder_stream()))?;
+        self.end.sent(usize::MAX);
+        let reading = self.peer.decode(stream, &self.section, &mut self.fields)?;
+        push_reading(answer, reading, &self.fields)?;
+        self.end
+            .receive(&mut Cursor::new(self.peer.decoder_stream()))?;
+        self.peer.sent(usize::MAX);
+        Ok(())
+    }
+
+    /// Encodes the fields that the peer decoded last, as they are lent.
+    fn encode_again(&mut self, alloc: Global, stream: u64) -> Result<()> {
+        let mut lines = Vec::new(alloc);
+        for field in self.fields.iter() {
+            lines.push(field)?;
+        }
+        self.section.clear();
+        self.end.encode(stream, &lines, &mut self.section)?;
+        Ok(())
+    }
+
+    /// Receives bytes of the decoder stream in pieces; answers the last of them.
     fn receive(&mut self, bytes: &[u8]) -> Result<(), EncodingError> {
-        self.end.receive(&mut Cursor::new(bytes))
+        let mut received = self.end.receive(&mut Cursor::new(b""));
+        for piece in bytes.chunks(self.size.max(1)) {
+            received = self.end.receive(&mut Cursor::new(piece));
+        }
+        received
     }
 
-    /// What it counts, in the order of `Counts`.
-    fn counts(&self) -> (usize, usize, usize, usize) {
-        let table = self.end.table();
-        (
-            self.end.unacknowledged(),
-            self.end.blocked(),
-            table.total_inserted(),
-            table.known_received_count(),
-        )
+    /// Appends a part of its state.
+    fn push_state(&self, word: &str, answer: &mut String) -> Result<()> {
+        let (end, table) = (&self.end, self.end.table());
+        match word {
+            "counts" | "state" => write!(
+                answer,
+                "{} unacknowledged, {} blocked, {} inserted, {} known",
+                end.unacknowledged(),
+                end.blocked(),
+                table.total_inserted(),
+                table.known_received_count()
+            )?,
+            "waits" => write!(answer, "{}", end.waiting())?,
+            "capacity" => write!(answer, "{} of {}", table.max_mem_size(), table.agreed_max())?,
+            "settings" => write!(answer, "{:?}", end.settings())?,
+            "failure" => match end.failure() {
+                Some(error) => push_refusal(answer, error.code(), &error)?,
+                None => answer.push_str("none")?,
+            },
+            _ => bail!("an encoder has no call {word}"),
+        }
+        if word == "state" {
+            write!(
+                answer,
+                ", {} to send, {} waiting",
+                end.encoder_stream().len(),
+                end.waiting()
+            )?;
+        }
+        Ok(())
     }
-
-    /// It counts this.
-    fn has(&self, counts: Counts) -> Result<(), Fail> {
-        let Counts(unacknowledged, blocked, inserted, known) = counts;
-        same(
-            self.counts(),
-            (unacknowledged.0, blocked.0, inserted.0, known.0),
-        )
-    }
-}
-
-/// Encodes a section, again where memory was refused.
-pub(crate) fn encode<H: AsField>(
-    end: &mut ConnectionEncoder,
-    stream: u64,
-    fields: &[H],
-    section: &mut Vec<u8>,
-) -> Result<usize, EncodingError> {
-    match end.encode(stream, fields, section) {
-        Err(EncodingError::Memory) => end.encode(stream, fields, section),
-        answer => answer,
-    }
-}
-
-/// Sets a capacity, again where memory was refused.
-pub(crate) fn set_capacity(
-    end: &mut ConnectionEncoder,
-    capacity: usize,
-) -> Result<(), EncodingError> {
-    match end.set_capacity(capacity) {
-        Err(EncodingError::Memory) => end.set_capacity(capacity),
-        answer => answer,
-    }
-}
-
-/// A field section has just these fields, with their marks.
-pub(crate) fn has(fields: &FieldSection, lines: &[FieldLine<'_>]) -> Result<(), Fail> {
-    same(fields.len(), lines.len())?;
-    for (field, line) in fields.iter().zip(lines) {
-        same((field.name, field.value), (line.name, line.value))?;
-        same(field.never_indexed, line.never_indexed)?;
-    }
-    Ok(())
 }

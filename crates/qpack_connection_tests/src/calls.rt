@@ -1,0 +1,72 @@
+//! Calls that begin an end or need none, and texts of errors that no case is answered.
+
+use crate::subject::Subject;
+use crate::words::{Words, push_refusal};
+use crate::{decoder, encoder};
+use anyhow::{Result, bail};
+use qpack_connection::decoder::{ConnectionDecoder, DecodingError};
+use qpack_connection::encoder::{ConnectionEncoder, EncodingError};
+use qpack_connection::{
+    DECODER_STREAM_ERROR, DECOMPRESSION_FAILED, ENCODER_STREAM_ERROR, EncoderStreamError,
+    LineError, SectionError, longest_section,
+};
+use std::alloc::Global;
+use std::fmt::Write;
+
+/// Calls.
+#[derive(Drop)]
+pub(crate) struct Calls;
+
+impl Subject for Calls {
+    fn begin(_alloc: Global, _settings: &mut Words<'_>, _size: usize) -> Result<Calls> {
+        Ok(Calls)
+    }
+
+    fn call(
+        &mut self,
+        alloc: Global,
+        word: &str,
+        words: &mut Words<'_>,
+        answer: &mut String,
+    ) -> Result<()> {
+        match word {
+            "begins-decoder" => {
+                let settings = decoder::read_settings(words)?;
+                match ConnectionDecoder::new(alloc, settings) {
+                    Ok(_) => answer.push_str("begins")?,
+                    Err(error) => push_refusal(answer, None, &error)?,
+                }
+            }
+            "begins-encoder" => {
+                let settings = encoder::read_settings(words)?;
+                match ConnectionEncoder::new(alloc, settings) {
+                    Ok(_) => answer.push_str("begins")?,
+                    Err(error) => push_refusal(answer, None, &error)?,
+                }
+            }
+            "longest-section" => write!(answer, "{}", longest_section(words.number()?))?,
+            "codes" => write!(
+                answer,
+                "{DECOMPRESSION_FAILED:#x} {ENCODER_STREAM_ERROR:#x} {DECODER_STREAM_ERROR:#x}"
+            )?,
+            "lacks-memory" => push_lack_of_memory(words.word(), answer)?,
+            _ => bail!("there is no call {word}"),
+        }
+        Ok(())
+    }
+}
+
+/// Appends the error of a call that was refused memory.
+fn push_lack_of_memory(word: &str, answer: &mut String) -> Result<()> {
+    match word {
+        "section" => push_refusal(answer, SectionError::Memory.code(), &SectionError::Memory),
+        "line" => push_refusal(answer, LineError::Memory.code(), &LineError::Memory),
+        "encoder-stream" => {
+            let error = EncoderStreamError::Memory;
+            push_refusal(answer, error.code(), &error)
+        }
+        "decoder" => push_refusal(answer, DecodingError::Memory.code(), &DecodingError::Memory),
+        "encoder" => push_refusal(answer, EncodingError::Memory.code(), &EncodingError::Memory),
+        _ => bail!("there is no {word}"),
+    }
+}

@@ -1,0 +1,100 @@
+//! The decoder stream, received strictly.
+
+use crate::subject::Subject;
+use crate::words::{Words, push_refusal};
+use anyhow::{Result, bail};
+use h3_qpack::HeaderField;
+use h3_qpack::coding::Cursor;
+use h3_qpack::dynamic::{DynamicLookupResult, DynamicTable, DynamicTableEncoder, Error};
+use qpack_connection::{DecoderStream, DecoderStreamError};
+use std::alloc::Global;
+use std::fmt::Write;
+
+/// A decoder stream, and its table.
+#[derive(Drop)]
+pub(crate) struct Hearing {
+    stream: DecoderStream,
+    table: DynamicTable,
+    size: usize,
+}
+
+/// A table of a capacity and a limit of blocked streams.
+fn table_of(alloc: Global, words: &mut Words<'_>) -> Result<DynamicTable> {
+    let mut table = DynamicTable::new(alloc);
+    table.set_max_size(words.count()?)?;
+    table.set_max_blocked(words.count()?)?;
+    Ok(table)
+}
+
+/// References the entry of a field, which is inserted if there is none.
+fn reference(block: &mut DynamicTableEncoder<'_>, field: &HeaderField) -> Result<(), Error> {
+    if block.find(field)? == DynamicLookupResult::NotFound {
+        block.insert(field)?;
+    }
+    Ok(())
+}
+
+/// A section on a stream that references a field; answers how many insertions it requires.
+fn send(table: &mut DynamicTable, stream: u64, field: &HeaderField) -> Result<usize, Error> {
+    let mut block = table.encoder(stream);
+    match reference(&mut block, field) {
+        Ok(()) => {
+            let required = block.required_insert_count();
+            block.commit(required)?;
+            Ok(required)
+        }
+        Err(error) => {
+            block.release();
+            Err(error)
+        }
+    }
+}
+
+impl Subject for Hearing {
+    fn begin(alloc: Global, settings: &mut Words<'_>, size: usize) -> Result<Hearing> {
+        Ok(Hearing {
+            stream: DecoderStream::new(),
+            table: table_of(alloc, settings)?,
+            size,
+        })
+    }
+
+    fn call(
+        &mut self,
+        alloc: Global,
+        word: &str,
+        words: &mut Words<'_>,
+        answer: &mut String,
+    ) -> Result<()> {
+        let table = &mut self.table;
+        match word {
+            "sends" => {
+                let stream = words.number()?;
+                let field = HeaderField::from_pair(alloc, words.word().as_bytes(), b"bar")?;
+                write!(answer, "{}", send(table, stream, &field)?)?;
+            }
+            "receives" => match self.receive(&words.bytes(alloc)?) {
+                Ok(()) => answer.push_str("done")?,
+                Err(error) => push_refusal(answer, Some(error.code()), &error)?,
+            },
+            "waits" => write!(answer, "{}", self.stream.waiting())?,
+            "known" => write!(answer, "{}", table.known_received_count())?,
+            "unacknowledged" => write!(answer, "{}", table.unacknowledged_blocks())?,
+            "blocked" => write!(answer, "{}", table.blocked_blocks())?,
+            "oldest" => write!(answer, "{:?}", table.oldest_required(words.number()?))?,
+            _ => bail!("a decoder stream has no call {word}"),
+        }
+        Ok(())
+    }
+}
+
+impl Hearing {
+    /// Receives bytes in pieces, until one is refused.
+    fn receive(&mut self, bytes: &[u8]) -> Result<(), DecoderStreamError> {
+        for piece in bytes.chunks(self.size.max(1)) {
+            self.stream
+                .receive(&mut self.table, &mut Cursor::new(piece))?;
+        }
+        Ok(())
+    }
+}
