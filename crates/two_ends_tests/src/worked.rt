@@ -1,52 +1,17 @@
 //! Worked sessions: what each event answers, and the bytes that it adds.
 
-use crate::events::{BAZ_BAR, FOO_BAR, FOO_BAR_TWICE, Given, decode_block, event_of, wants_memory};
+use crate::events::{FOO_BAR, Given, decode_block, event_of, wants_memory};
+use crate::scripts::{
+    ALL_CANCELLED, CANCELLED, Case, FULL, HELD, RESIZED, Script, TOO_LARGE, TWICE, WAITING,
+};
 use h3_qpack::coding::NoMemory;
 use h3_qpack::decoder::{Decoded, DecoderError};
 use h3_qpack::dynamic;
 use h3_qpack::session::{Event, Outcome, Session, run};
-use qpack_testing::{Pairs, again, bytes, fields, prints, same};
+use qpack_testing::{again, bytes, fields, prints, same};
 use std::alloc::Global;
 use std::fmt::{self, Display, Formatter, Write};
 use std::test::Fail;
-
-/// An event and what it answers, as it is printed here; bytes are in hexadecimal.
-#[derive(Clone, Copy)]
-enum Case {
-    /// The event adds nothing.
-    Answers(Given, &'static str),
-    /// The event adds these bytes to a stream: a new capacity to the encoder stream, any other to the decoder stream.
-    Writes(Given, &'static str, &'static [u8]),
-    /// The fields are encoded for a stream, which adds this block, and these bytes to the encoder stream.
-    Encodes(u64, Pairs, &'static str, &'static [u8], &'static [u8]),
-}
-
-impl Case {
-    /// The event.
-    fn given(&self) -> Given {
-        match *self {
-            Case::Answers(given, _) | Case::Writes(given, _, _) => given,
-            Case::Encodes(stream, pairs, ..) => Given::Encode(stream, pairs),
-        }
-    }
-
-    /// What it answers.
-    fn answer(&self) -> &'static str {
-        match *self {
-            Case::Answers(_, answer) | Case::Writes(_, answer, _) => answer,
-            Case::Encodes(_, _, answer, _, _) => answer,
-        }
-    }
-
-    /// What it adds to a stream.
-    fn written(&self) -> &'static [u8] {
-        match *self {
-            Case::Answers(..) => b"",
-            Case::Writes(_, _, written) => written,
-            Case::Encodes(_, _, _, _, written) => written,
-        }
-    }
-}
 
 /// A session, and the stream of each block that it decoded.
 #[derive(Drop)]
@@ -201,7 +166,8 @@ fn plays_once(alloc: Global, session: Session, cases: &[Case]) -> Result<bool, F
 }
 
 /// The same; once more from the beginning, if memory was refused.
-fn plays_all(alloc: Global, capacity: usize, limit: usize, cases: &[Case]) -> Result<(), Fail> {
+fn plays_all(alloc: Global, script: &Script) -> Result<(), Fail> {
+    let (capacity, limit, cases) = (script.capacity, script.limit, script.cases);
     let played = plays_once(alloc, Session::new(alloc, capacity, limit)?, cases)?
         || plays_once(alloc, Session::new(alloc, capacity, limit)?, cases)?;
     same(played, true)
@@ -228,129 +194,38 @@ fn plays_all_from_none(
 
 #[test]
 fn a_block_waits_for_its_insertion(rt: HostRuntime) -> Result<(), Fail> {
-    const CASES: &[Case] = &[
-        Case::Encodes(4, FOO_BAR, "Encoded(Ok(1))", b"028010", b"6294e7838c767f"),
-        Case::Answers(Given::Decode(4), "Decoded(Err(MissingRefs(1)))"),
-        Case::Answers(Given::ToDecoder(6), "Delivered(Ok(0))"),
-        Case::Answers(Given::Decode(4), "Decoded(Err(MissingRefs(1)))"),
-        Case::Writes(Given::ToDecoder(1), "Delivered(Ok(1))", b"01"),
-        Case::Answers(Given::Ack(4), "Skipped(4)"),
-        Case::Answers(Given::Decode(4), "\"foo\": \"bar\", 38 true"),
-        Case::Writes(Given::Ack(4), "Acknowledged(Ok(()))", b"84"),
-        Case::Answers(Given::Decode(4), "Skipped(2)"),
-        Case::Answers(Given::Ack(4), "Skipped(4)"),
-        Case::Encodes(8, FOO_BAR, "Encoded(Ok(0))", b"00002a94e7838c767f", b""),
-        Case::Answers(Given::ToEncoder(2), "Heard(Ok(()))"),
-        Case::Encodes(8, FOO_BAR, "Encoded(Ok(1))", b"020080", b""),
-        Case::Writes(Given::Cancel(8), "Cancelled(Ok(()))", b"48"),
-        Case::Answers(Given::Decode(8), "Skipped(3)"),
-        Case::Answers(Given::Cancel(8), "Skipped(3)"),
-    ];
-    plays_all(rt.alloc(), 4096, 1, CASES)
+    plays_all(rt.alloc(), &WAITING)
 }
-
-const FOO_BAR_QUXX: Pairs = &[(b"foo", b"bar"), (b"foo", b"quxx")];
 
 #[test]
 fn what_is_referenced_stays(rt: HostRuntime) -> Result<(), Fail> {
-    const TWICE: &[Case] = &[Case::Encodes(
-        4,
-        FOO_BAR_TWICE,
-        "Encoded(Ok(2))",
-        b"03811011",
-        b"6294e7838c767f00",
-    )];
-    plays_all(rt.alloc(), 4096, 1, TWICE)?;
-    const FULL: &[Case] = &[Case::Encodes(
-        4,
-        FOO_BAR_QUXX,
-        "Encoded(Ok(1))",
-        b"0280100084ed6f9f3f",
-        b"6294e7838c767f",
-    )];
-    plays_all(rt.alloc(), 63, 1, FULL)
+    plays_all(rt.alloc(), &TWICE)?;
+    plays_all(rt.alloc(), &FULL)
 }
 
 #[test]
 fn an_entry_of_a_cancelled_block_goes_once_it_is_received(rt: HostRuntime) -> Result<(), Fail> {
-    const CASES: &[Case] = &[
-        Case::Encodes(4, FOO_BAR, "Encoded(Ok(1))", b"028010", b"6294e7838c767f"),
-        Case::Encodes(4, FOO_BAR, "Encoded(Ok(1))", b"020080", b""),
-        Case::Writes(Given::Cancel(4), "Cancelled(Ok(()))", b"44"),
-        Case::Answers(Given::ToEncoder(1), "Heard(Ok(()))"),
-        Case::Encodes(8, BAZ_BAR, "Encoded(Ok(0))", b"00002b8c7eff838c767f", b""),
-        Case::Writes(Given::ToDecoder(7), "Delivered(Ok(1))", b"01"),
-        Case::Answers(Given::ToEncoder(1), "Heard(Ok(()))"),
-        Case::Encodes(
-            12,
-            BAZ_BAR,
-            "Encoded(Ok(2))",
-            b"038010",
-            b"638c7eff838c767f",
-        ),
-        Case::Answers(Given::Decode(4), "Skipped(3)"),
-    ];
-    plays_all(rt.alloc(), 64, 4, CASES)
+    plays_all(rt.alloc(), &CANCELLED)
 }
 
 #[test]
 fn a_cancellation_releases_every_block_of_its_stream(rt: HostRuntime) -> Result<(), Fail> {
-    const CASES: &[Case] = &[
-        Case::Encodes(4, FOO_BAR, "Encoded(Ok(1))", b"028010", b"6294e7838c767f"),
-        Case::Encodes(4, FOO_BAR, "Encoded(Ok(1))", b"020080", b""),
-        Case::Encodes(4, FOO_BAR, "Encoded(Ok(1))", b"020080", b""),
-        Case::Writes(Given::Cancel(4), "Cancelled(Ok(()))", b"44"),
-        Case::Writes(Given::ToDecoder(7), "Delivered(Ok(1))", b"01"),
-        Case::Answers(Given::ToEncoder(2), "Heard(Ok(()))"),
-        Case::Encodes(8, BAZ_BAR, "Encoded(Ok(2))", b"038010", b"638c7eff838c767f"),
-    ];
-    plays_all(rt.alloc(), 64, 4, CASES)
+    plays_all(rt.alloc(), &ALL_CANCELLED)
 }
 
 #[test]
 fn a_capacity_is_set_within_a_session(rt: HostRuntime) -> Result<(), Fail> {
-    const CASES: &[Case] = &[
-        Case::Writes(Given::SetCapacity(38), "CapacitySet(Ok(()))", b"3f07"),
-        Case::Encodes(4, FOO_BAR, "Encoded(Ok(1))", b"028010", b"6294e7838c767f"),
-        Case::Writes(Given::ToDecoder(9), "Delivered(Ok(1))", b"01"),
-        Case::Answers(Given::Decode(4), "\"foo\": \"bar\", 38 true"),
-        Case::Writes(Given::Ack(4), "Acknowledged(Ok(()))", b"84"),
-        Case::Answers(Given::ToEncoder(2), "Heard(Ok(()))"),
-        Case::Encodes(8, BAZ_BAR, "Encoded(Ok(2))", b"038010", b"638c7eff838c767f"),
-        Case::Writes(Given::ToDecoder(8), "Delivered(Ok(2))", b"01"),
-        Case::Answers(Given::Decode(8), "\"baz\": \"bar\", 38 true"),
-    ];
-    plays_all(rt.alloc(), 64, 4, CASES)
+    plays_all(rt.alloc(), &RESIZED)
 }
 
 #[test]
 fn a_capacity_is_refused_while_an_entry_is_referenced(rt: HostRuntime) -> Result<(), Fail> {
-    const NO_ROOM: &str = "CapacitySet(Err(Insertion(MaxTableSizeReached)))";
-    const TOO_LARGE: &str = "CapacitySet(Err(Insertion(MaximumTableSizeTooLarge)))";
-    const CASES: &[Case] = &[
-        Case::Encodes(4, FOO_BAR, "Encoded(Ok(1))", b"028010", b"6294e7838c767f"),
-        Case::Answers(Given::SetCapacity(37), NO_ROOM),
-        Case::Answers(Given::SetCapacity(65), TOO_LARGE),
-        Case::Writes(Given::ToDecoder(7), "Delivered(Ok(1))", b"01"),
-        Case::Answers(Given::Decode(4), "\"foo\": \"bar\", 38 true"),
-        Case::Writes(Given::Ack(4), "Acknowledged(Ok(()))", b"84"),
-        Case::Answers(Given::ToEncoder(2), "Heard(Ok(()))"),
-        Case::Writes(Given::SetCapacity(0), "CapacitySet(Ok(()))", b"20"),
-        Case::Encodes(8, FOO_BAR, "Encoded(Ok(0))", b"00002a94e7838c767f", b""),
-        Case::Writes(Given::SetCapacity(64), "CapacitySet(Ok(()))", b"3f21"),
-        Case::Encodes(12, FOO_BAR, "Encoded(Ok(2))", b"038010", b"6294e7838c767f"),
-        Case::Answers(Given::ToDecoder(1), "Delivered(Ok(1))"),
-        Case::Answers(Given::Decode(12), "Decoded(Err(MissingRefs(2)))"),
-        Case::Writes(Given::ToDecoder(9), "Delivered(Ok(2))", b"01"),
-        Case::Answers(Given::Decode(12), "\"foo\": \"bar\", 38 true"),
-    ];
-    plays_all(rt.alloc(), 64, 4, CASES)
+    plays_all(rt.alloc(), &HELD)
 }
 
 /// A connection begins at capacity 0 (RFC 9204, section 3.2.3): the first instruction sets one.
 #[test]
 fn a_session_begins_below_its_maximum(rt: HostRuntime) -> Result<(), Fail> {
-    const TOO_LARGE: &str = "CapacitySet(Err(Insertion(MaximumTableSizeTooLarge)))";
     const CASES: &[Case] = &[
         Case::Encodes(4, FOO_BAR, "Encoded(Ok(0))", b"00002a94e7838c767f", b""),
         Case::Answers(Given::SetCapacity(4097), TOO_LARGE),
@@ -383,7 +258,12 @@ fn stream_numbers_are_below_their_limit(rt: HostRuntime) -> Result<(), Fail> {
             b"7fc0ffffffffffffff3f",
         ),
     ];
-    plays_all(rt.alloc(), 4096, 1, CASES)
+    let script = Script {
+        capacity: 4096,
+        limit: 1,
+        cases: CASES,
+    };
+    plays_all(rt.alloc(), &script)
 }
 
 /// Runs events: the capacity that the session ends with, and whether the last answer is this; or why it is refused.

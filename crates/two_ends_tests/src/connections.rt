@@ -1,6 +1,7 @@
 //! Random scripts of events through `run`: each section is decoded to the fields that were handed, with their marks,
 //! and no end refuses the other, however late and cut the instruction streams come (RFC 9204, sections 2 and 4).
 
+use crate::chance::{Choices, PAIRS, STREAMS, choices};
 use h3_qpack::coding::NoMemory;
 use qpack_connection::connection::{
     ConnectionSettings, Event, Outcome, OwnedFieldLine, RunError, Skip, run,
@@ -12,28 +13,14 @@ use qpack_testing::{Numbers, again, same};
 use std::alloc::Global;
 use std::test::Fail;
 
-/// The names and values that are handed.
-const PAIRS: [(&[u8], &[u8]); 6] = [
-    (b":method", b"GET"),
-    (b"a", b"1"),
-    (b"a", b"2"),
-    (b"b", b"1"),
-    (b"user-agent", b"x"),
-    (b"c", b"a longer value, for which there is not always room"),
-];
-
 /// How many events a script has.
 const EVENTS: usize = 30;
 
 /// How many scripts a test runs.
-const SCRIPTS: u32 = 2_500;
+const CASES: usize = 2_500;
 
-/// How many streams a script uses.
-const STREAMS: usize = 3;
-
-/// The fields of a section: twice the place in the list of pairs, and one more for a field that is marked; behind them
-/// numbers of none.
-type Choices = [usize; 3];
+/// How many choices there are: twice the place in the list of pairs, and one more for a field that is marked.
+const CHOICES: usize = 2 * PAIRS.len();
 
 /// An event of a script.
 #[derive(Clone, Copy)]
@@ -62,16 +49,6 @@ struct Seen {
     blocked: usize,
 }
 
-/// The fields of a section, by chance.
-fn choices(numbers: &mut Numbers) -> Choices {
-    let mut choices = [2 * PAIRS.len(); 3];
-    let count = numbers.below(4);
-    for choice in choices.iter_mut().take(count) {
-        *choice = numbers.below(2 * PAIRS.len());
-    }
-    choices
-}
-
 /// The field of a choice.
 fn line_at(choice: usize) -> Option<FieldLine<'static>> {
     let (name, value) = PAIRS.get(choice / 2)?;
@@ -96,7 +73,7 @@ fn lines_at(alloc: Global, choices: Choices) -> Result<Vec<OwnedFieldLine>, NoMe
 fn by_chance(numbers: &mut Numbers) -> Given {
     let stream = numbers.below(STREAMS);
     match numbers.below(16) {
-        0..=4 => Given::Encode(stream, choices(numbers)),
+        0..=4 => Given::Encode(stream, choices(numbers, CHOICES)),
         5..=8 => Given::Decode(stream),
         9..=11 => Given::ToDecoder(numbers.below(60)),
         12 | 13 => Given::ToEncoder(numbers.below(6)),
@@ -207,6 +184,21 @@ impl Handed {
         }
     }
 
+    /// Each section that is left is decoded, if the stream was not cancelled.
+    fn decodes_all(
+        &mut self,
+        connection: &mut Connection,
+        stream: u64,
+        seen: &mut Seen,
+    ) -> Result<(), Fail> {
+        for _ in 0..EVENTS {
+            if !self.cancelled && self.decoded < self.sections.len() {
+                self.decodes(seen, &connection.step(Event::Decode(stream)))?;
+            }
+        }
+        same(self.cancelled || self.decoded == self.sections.len(), true)
+    }
+
     /// The stream was cancelled, or it is already.
     fn cancels(&mut self, outcome: &Outcome) -> Result<(), Fail> {
         match outcome {
@@ -282,14 +274,49 @@ fn plays(
     for place in script.iter_mut() {
         *place = by_chance(numbers);
     }
+    // Of every fourth script two sections at most may be unacknowledged.
+    let mut settings = settings;
+    if numbers.below(4) == 0 {
+        settings.most_unacknowledged = 2;
+    }
     let mut streams = again(|| streams(alloc))?;
-    let (connection, outcomes) = again(|| outcomes_of(alloc, settings, &script))?;
+    let (mut connection, outcomes) = again(|| outcomes_of(alloc, settings, &script))?;
     for (given, outcome) in script.iter().zip(outcomes.iter()) {
         answers(&mut streams, seen, *given, outcome)?;
     }
-    let failed = connection.encoder().failure().is_some()
-        || connection.decoder().failure().is_some();
-    same((outcomes.len(), failed), (EVENTS, false))
+    same(outcomes.len(), EVENTS)?;
+    ends(&mut connection, &mut streams, seen)
+}
+
+/// All that is on its way comes: each section of a stream that was not cancelled is decoded, and none is blocked. Where
+/// no stream was cancelled every section is acknowledged.
+fn ends(connection: &mut Connection, streams: &mut [Handed], seen: &mut Seen) -> Result<(), Fail> {
+    goes(
+        Given::ToDecoder(usize::MAX),
+        &connection.step(Event::ToDecoder(usize::MAX)),
+    )?;
+    let mut stream = 0u64;
+    let mut cancelled = false;
+    for handed in streams.iter_mut() {
+        handed.decodes_all(connection, stream, seen)?;
+        cancelled |= handed.cancelled;
+        stream = stream.saturating_add(1);
+    }
+    goes(
+        Given::ToEncoder(usize::MAX),
+        &connection.step(Event::ToEncoder(usize::MAX)),
+    )?;
+    is_over(connection, cancelled)
+}
+
+/// Both ends go on, none waits for bytes, and no stream is blocked.
+fn is_over(connection: &Connection, cancelled: bool) -> Result<(), Fail> {
+    let (encoder, decoder) = (connection.encoder(), connection.decoder());
+    let failed = encoder.failure().is_some() || decoder.failure().is_some();
+    same((failed, decoder.blocked()), (false, 0))?;
+    same((encoder.waiting(), decoder.waiting()), (0, 0))?;
+    let open = encoder.unacknowledged() > 0 || encoder.blocked() > 0;
+    same(open && !cancelled, false)
 }
 
 /// Scripts of these settings; answers what was seen.
@@ -312,7 +339,7 @@ fn plays_many(
         dynamic: 0,
         blocked: 0,
     };
-    for _ in 0..SCRIPTS {
+    for _ in 0..CASES {
         plays(alloc, settings, &mut numbers, &mut seen)?;
     }
     Ok(seen)
@@ -323,9 +350,9 @@ fn scripts_of_a_large_table(rt: HostRuntime) -> Result<(), Fail> {
     let seen = plays_many(rt.alloc(), 4_096, 4_096, 100)?;
     same(
         (
-            seen.decoded > 2_500,
-            seen.dynamic > 1_000,
-            seen.blocked > 1_000,
+            seen.decoded > CASES,
+            seen.dynamic > CASES / 5 * 2,
+            seen.blocked > CASES / 5 * 2,
         ),
         (true, true, true),
     )
@@ -335,7 +362,11 @@ fn scripts_of_a_large_table(rt: HostRuntime) -> Result<(), Fail> {
 fn scripts_of_a_small_table(rt: HostRuntime) -> Result<(), Fail> {
     let seen = plays_many(rt.alloc(), 400, 100, 2)?;
     same(
-        (seen.decoded > 2_500, seen.dynamic > 250, seen.blocked > 250),
+        (
+            seen.decoded > CASES,
+            seen.dynamic > CASES / 10,
+            seen.blocked > CASES / 10,
+        ),
         (true, true, true),
     )
 }
@@ -343,14 +374,30 @@ fn scripts_of_a_small_table(rt: HostRuntime) -> Result<(), Fail> {
 #[test]
 fn scripts_without_blocked_streams(rt: HostRuntime) -> Result<(), Fail> {
     let seen = plays_many(rt.alloc(), 4_096, 200, 0)?;
-    same((seen.decoded > 2_500, seen.blocked), (true, 0))
+    same((seen.decoded > CASES, seen.blocked), (true, 0))
 }
 
 #[test]
 fn scripts_without_a_table(rt: HostRuntime) -> Result<(), Fail> {
     let seen = plays_many(rt.alloc(), 0, 4_096, 10)?;
     same(
-        (seen.decoded > 2_500, seen.dynamic, seen.blocked),
+        (seen.decoded > CASES, seen.dynamic, seen.blocked),
         (true, 0, 0),
     )
+}
+
+#[test]
+fn scripts_of_one_blocked_stream(rt: HostRuntime) -> Result<(), Fail> {
+    for capacity in [64, 300] {
+        let seen = plays_many(rt.alloc(), 4_096, capacity, 1)?;
+        same(
+            (
+                seen.decoded > CASES,
+                seen.dynamic > CASES / 10,
+                seen.blocked > CASES / 20,
+            ),
+            (true, true, true),
+        )?;
+    }
+    Ok(())
 }

@@ -1,5 +1,6 @@
 //! Random scripts of sessions: each decode answers exactly what was handed, or waits, and no stream is refused.
 
+use crate::chance::{Choices, PAIRS, STREAMS, choices};
 use crate::events::unlawful;
 use h3_qpack::HeaderField;
 use h3_qpack::coding::NoMemory;
@@ -10,47 +11,24 @@ use qpack_testing::{Numbers, again, field, same};
 use std::alloc::Global;
 use std::test::Fail;
 
-/// The names and values that are handed.
-const PAIRS: [(&[u8], &[u8]); 6] = [
-    (b":method", b"GET"),
-    (b"a", b"1"),
-    (b"a", b"2"),
-    (b"b", b"1"),
-    (b"user-agent", b"x"),
-    (b"c", b"a longer value, for which there is not always room"),
-];
-
-/// How many streams a script uses.
-const STREAMS: usize = 3;
-
 /// How many events a script has.
 const EVENTS: usize = 60;
 
-/// The list of a block: the places of its fields in the list of pairs, and behind them places where none stands.
-type Places = [usize; 3];
+/// How many scripts are run.
+const CASES: usize = 10_000;
 
-/// What a stream was handed, block by block, and how many of its blocks were decoded.
+/// What a stream was handed, block by block as places in the list of pairs, and how many of its blocks were decoded.
 #[derive(Drop)]
 struct Handed {
     stream: u64,
-    blocks: Vec<Places>,
+    blocks: Vec<Choices>,
     decoded: usize,
     /// How many of those referenced the table.
     dynamic: usize,
 }
 
-/// The places of a list.
-fn places(numbers: &mut Numbers) -> Places {
-    let mut places = [PAIRS.len(); 3];
-    let count = numbers.below(4);
-    for place in places.iter_mut().take(count) {
-        *place = numbers.below(PAIRS.len());
-    }
-    places
-}
-
 /// The fields at these places.
-fn fields_at(alloc: Global, places: Places) -> Result<Vec<HeaderField>, NoMemory> {
+fn fields_at(alloc: Global, places: Choices) -> Result<Vec<HeaderField>, NoMemory> {
     let mut fields = again(|| Vec::with_capacity(alloc, places.len()))?;
     for place in places {
         if let Some((name, value)) = PAIRS.get(place) {
@@ -67,7 +45,7 @@ fn encodes(
     session: &mut Session,
     handed: &mut Handed,
 ) -> Result<(), Fail> {
-    let places = places(numbers);
+    let places = choices(numbers, PAIRS.len());
     let event = Event::Encode(handed.stream, fields_at(alloc, places)?);
     match session.step(&event) {
         Outcome::Encoded(Ok(_)) => Ok(handed.blocks.push(places)?),
@@ -181,8 +159,8 @@ fn dynamic_in(streams: &[Handed]) -> usize {
 fn each_decode_of_random_scripts_is_exact(rt: HostRuntime) -> Result<(), Fail> {
     let mut numbers = Numbers::new(0x9e37_79b9_7f4a_7c15);
     let mut dynamic = 0usize;
-    for _ in 0..10_000u32 {
+    for _ in 0..CASES {
         dynamic = dynamic.saturating_add(script(rt.alloc(), &mut numbers)?);
     }
-    same(dynamic > 10_000, true)
+    same(dynamic > CASES, true)
 }

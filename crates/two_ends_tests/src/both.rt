@@ -1,6 +1,8 @@
 //! Worked scripts through a session and through a connection of the two ends: both decode the same
 //! fields on each stream (RFC 9204, section 2).
 
+use crate::events::{Given, event_of};
+use crate::scripts::{ALL_CANCELLED, CANCELLED, FULL, HELD, RESIZED, Script, TWICE, WAITING};
 use h3_qpack::coding::NoMemory;
 use h3_qpack::session::{Event as SessionEvent, Outcome as SessionOutcome, Session};
 use qpack_connection::connection::{
@@ -8,35 +10,15 @@ use qpack_connection::connection::{
 };
 use qpack_connection::decoder::DecoderSettings;
 use qpack_connection::{FieldLine, FieldSection, Reading};
-use qpack_testing::{Pairs, again, fields, same};
+use qpack_testing::{Pairs, again, same};
 use std::alloc::Global;
 use std::test::Fail;
-
-const FOO_BAR: Pairs = &[(b"foo", b"bar")];
-
-const BAZ_BAR: Pairs = &[(b"baz", b"bar")];
-
-const FOO_BAR_TWICE: Pairs = &[(b"foo", b"bar"), (b"foo", b"bar")];
-
-const FOO_BAR_QUXX: Pairs = &[(b"foo", b"bar"), (b"foo", b"quxx")];
 
 /// The streams of the scripts.
 const STREAMS: [u64; 3] = [4, 8, 12];
 
 /// How often an event is given again that was refused memory.
 const TIMES: usize = 3;
-
-/// An event of a script. A connection acknowledges by itself.
-#[derive(Clone, Copy)]
-enum Given {
-    Encode(u64, Pairs),
-    Decode(u64),
-    ToDecoder(usize),
-    ToEncoder(usize),
-    Ack(u64),
-    Cancel(u64),
-    SetCapacity(usize),
-}
 
 /// What is decoded on a stream: a line for each field, and an empty one behind each section.
 #[derive(Drop)]
@@ -76,20 +58,7 @@ fn lines(alloc: Global, pairs: Pairs) -> Result<Vec<OwnedFieldLine>, NoMemory> {
     Ok(lines)
 }
 
-/// The event, for a session.
-fn for_session(alloc: Global, given: Given) -> Result<SessionEvent, NoMemory> {
-    Ok(match given {
-        Given::Encode(stream, pairs) => SessionEvent::Encode(stream, fields(alloc, pairs)?),
-        Given::Decode(stream) => SessionEvent::Decode(stream),
-        Given::ToDecoder(many) => SessionEvent::ToDecoder(many),
-        Given::ToEncoder(many) => SessionEvent::ToEncoder(many),
-        Given::Ack(stream) => SessionEvent::Ack(stream),
-        Given::Cancel(stream) => SessionEvent::Cancel(stream),
-        Given::SetCapacity(capacity) => SessionEvent::SetCapacity(capacity),
-    })
-}
-
-/// The event, for a connection, if there is one.
+/// The event, for a connection, if there is one: a connection acknowledges by itself.
 fn for_connection(alloc: Global, given: Given) -> Result<Option<Event>, NoMemory> {
     Ok(Some(match given {
         Given::Encode(stream, pairs) => Event::Encode(stream, lines(alloc, pairs)?),
@@ -125,13 +94,13 @@ fn note_connection(fields: &FieldSection, text: &mut Text) -> Result<(), Fail> {
 fn by_session(
     alloc: Global,
     session: &mut Session,
-    script: &[Given],
+    script: &Script,
     text: &mut Text,
 ) -> Result<(), Fail> {
-    for given in script {
-        let event = again(|| for_session(alloc, *given))?;
+    for case in script.cases {
+        let event = again(|| event_of(alloc, case.given()))?;
         let outcome = session.step(&event);
-        if matches!(given, Given::Decode(stream) if *stream == text.stream) {
+        if matches!(case.given(), Given::Decode(stream) if stream == text.stream) {
             note_session(&outcome, text)?;
         }
     }
@@ -147,15 +116,15 @@ fn by_session(
 fn by_connection(
     alloc: Global,
     connection: &mut Connection,
-    script: &[Given],
+    script: &Script,
     text: &mut Text,
 ) -> Result<(), Fail> {
-    for given in script {
-        let Some(event) = again(|| for_connection(alloc, *given))? else {
+    for case in script.cases {
+        let Some(event) = again(|| for_connection(alloc, case.given()))? else {
             continue;
         };
         let outcome = connection.step(event);
-        if matches!(given, Given::Decode(stream) if *stream == text.stream)
+        if matches!(case.given(), Given::Decode(stream) if stream == text.stream)
             && let Outcome::Decoded(Ok(Reading::Fields { .. }), fields) = &outcome
         {
             note_connection(fields, text)?;
@@ -173,13 +142,8 @@ fn by_connection(
 
 /// What a stream decodes of a script in a session, and in a connection of the same capacity and limit, are the same;
 /// and whether that is anything.
-fn plays_stream(
-    alloc: Global,
-    capacity: usize,
-    limit: usize,
-    script: &[Given],
-    stream: u64,
-) -> Result<(bool, bool), Fail> {
+fn plays_stream(alloc: Global, script: &Script, stream: u64) -> Result<(bool, bool), Fail> {
+    let (capacity, limit) = (script.capacity, script.limit);
     let decoder = DecoderSettings {
         max_capacity: capacity,
         max_blocked: limit,
@@ -204,12 +168,12 @@ fn plays_stream(
 }
 
 /// So it is of each stream, and some stream decodes something; once more from the beginning, if memory was refused.
-fn plays_all(alloc: Global, capacity: usize, limit: usize, script: &[Given]) -> Result<(), Fail> {
+fn plays_all(alloc: Global, script: &Script) -> Result<(), Fail> {
     let mut decoded = false;
     for stream in STREAMS {
-        let (mut is_same, mut is_any) = plays_stream(alloc, capacity, limit, script, stream)?;
+        let (mut is_same, mut is_any) = plays_stream(alloc, script, stream)?;
         if !is_same {
-            (is_same, is_any) = plays_stream(alloc, capacity, limit, script, stream)?;
+            (is_same, is_any) = plays_stream(alloc, script, stream)?;
         }
         same(is_same, true)?;
         decoded |= is_any;
@@ -219,82 +183,27 @@ fn plays_all(alloc: Global, capacity: usize, limit: usize, script: &[Given]) -> 
 
 #[test]
 fn a_section_waits_for_its_insertion(rt: HostRuntime) -> Result<(), Fail> {
-    const SCRIPT: &[Given] = &[
-        Given::Encode(4, FOO_BAR),
-        Given::Decode(4),
-        Given::ToDecoder(6),
-        Given::Decode(4),
-        Given::ToDecoder(1),
-        Given::Ack(4),
-        Given::Decode(4),
-        Given::Ack(4),
-        Given::Decode(4),
-        Given::Encode(8, FOO_BAR),
-        Given::ToEncoder(2),
-        Given::Encode(8, FOO_BAR),
-        Given::Cancel(8),
-        Given::Decode(8),
-        Given::Cancel(8),
-    ];
-    plays_all(rt.alloc(), 4096, 1, SCRIPT)
+    plays_all(rt.alloc(), &WAITING)
 }
 
 #[test]
 fn what_is_referenced_stays(rt: HostRuntime) -> Result<(), Fail> {
-    plays_all(rt.alloc(), 4096, 1, &[Given::Encode(4, FOO_BAR_TWICE)])?;
-    plays_all(rt.alloc(), 63, 1, &[Given::Encode(4, FOO_BAR_QUXX)])
+    plays_all(rt.alloc(), &TWICE)?;
+    plays_all(rt.alloc(), &FULL)
 }
 
 #[test]
 fn entries_of_cancelled_sections_go(rt: HostRuntime) -> Result<(), Fail> {
-    const SCRIPT: &[Given] = &[
-        Given::Encode(4, FOO_BAR),
-        Given::Encode(4, FOO_BAR),
-        Given::Cancel(4),
-        Given::ToEncoder(1),
-        Given::Encode(8, BAZ_BAR),
-        Given::ToDecoder(7),
-        Given::ToEncoder(2),
-        Given::Encode(12, BAZ_BAR),
-        Given::Decode(4),
-    ];
-    plays_all(rt.alloc(), 64, 4, SCRIPT)
+    plays_all(rt.alloc(), &CANCELLED)?;
+    plays_all(rt.alloc(), &ALL_CANCELLED)
 }
 
 #[test]
 fn a_capacity_is_set_in_between(rt: HostRuntime) -> Result<(), Fail> {
-    const SCRIPT: &[Given] = &[
-        Given::SetCapacity(38),
-        Given::Encode(4, FOO_BAR),
-        Given::ToDecoder(9),
-        Given::Decode(4),
-        Given::Ack(4),
-        Given::ToEncoder(2),
-        Given::Encode(8, BAZ_BAR),
-        Given::ToDecoder(8),
-        Given::Decode(8),
-    ];
-    plays_all(rt.alloc(), 64, 4, SCRIPT)
+    plays_all(rt.alloc(), &RESIZED)
 }
 
 #[test]
 fn a_capacity_is_refused_while_an_entry_is_held(rt: HostRuntime) -> Result<(), Fail> {
-    const SCRIPT: &[Given] = &[
-        Given::Encode(4, FOO_BAR),
-        Given::SetCapacity(37),
-        Given::SetCapacity(65),
-        Given::ToDecoder(10),
-        Given::Decode(4),
-        Given::Ack(4),
-        Given::ToEncoder(2),
-        Given::SetCapacity(0),
-        Given::Encode(8, FOO_BAR),
-        Given::SetCapacity(64),
-        Given::Encode(12, FOO_BAR),
-        Given::ToDecoder(1),
-        Given::Decode(12),
-        Given::ToDecoder(9),
-        Given::Decode(12),
-    ];
-    plays_all(rt.alloc(), 64, 4, SCRIPT)
+    plays_all(rt.alloc(), &HELD)
 }
