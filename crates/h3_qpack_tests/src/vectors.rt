@@ -1,5 +1,0 @@
-//! The bench of vectors: worked cases of QPACK (RFC 9204).
-
-mod blocks;
-mod integers;
-mod static_fields;

@@ -1,0 +1,18 @@
+//! Worked rows of QPACK (RFC 9204) over public calls, in `vectors`; and what else no clause of `h3_qpack` says: printed
+//! texts, worked cases of its encoder and its decoder, and calls where memory is refused.
+#![tactic(auto)]
+
+#[cfg(test)]
+mod blocks;
+#[cfg(test)]
+mod decoding;
+#[cfg(test)]
+mod encoder;
+#[cfg(test)]
+mod encoding;
+#[cfg(test)]
+mod memory;
+#[cfg(test)]
+mod texts;
+#[cfg(test)]
+mod vectors;
