@@ -1,52 +1,74 @@
 //! Scripts and inspections whose printed lines were foretold by a program that was written from the definitions alone.
-//! Each is run as `qpk` runs it; the first that prints anything else ends this program with an error. Then recordings
-//! of connections are shown, and held against the lists that were sent.
+//! Each is run as `qpk` runs it; the first that prints anything else ends this program with an error. Then header lists
+//! and recordings of the offline interop format are held so, and what is refused of them. At last recordings of
+//! connections are shown, and the lists of a corpus encoded to recordings, and held against the lists that were sent.
 #![tactic(auto)]
 
 mod cases;
+mod corpus;
 mod recordings;
 
-use anyhow::{Result, bail};
-use cases::{Case, read_cases};
+use anyhow::{Context, Result, bail};
+use cases::read_cases;
+use corpus::hold_corpus;
 use recordings::hold_recordings;
 use std::fs;
 
-/// How many cases of each command printed what was foretold.
+/// How many cases of each command wrote what was foretold.
 #[derive(Clone, Copy)]
 struct Counts {
     scripts: usize,
     inspections: usize,
+    encodes: usize,
+    decodes: usize,
 }
 
-/// Runs all cases, which are numbered from 1.
-fn hold_all(rt: &HostRuntime, cases: &[Case]) -> Result<Counts> {
+impl Counts {
+    /// Counts a case of a command.
+    fn add(&mut self, command: Option<&str>) -> Result<()> {
+        let count = match command {
+            Some("run") => &mut self.scripts,
+            Some("inspect") => &mut self.inspections,
+            Some("encode") => &mut self.encodes,
+            Some("decode") => &mut self.decodes,
+            _ => bail!("a case has none of the commands that are counted"),
+        };
+        *count = count.saturating_add(1);
+        Ok(())
+    }
+}
+
+/// Runs all cases of a file, which are numbered from 1.
+fn hold_all(rt: &HostRuntime, file: &str) -> Result<Counts> {
+    let text = fs::read_to_string(rt, file)?;
     let mut counts = Counts {
         scripts: 0,
         inspections: 0,
+        encodes: 0,
+        decodes: 0,
     };
     let mut number = 0usize;
-    for case in cases {
+    for case in &read_cases(rt.alloc(), text.as_str())? {
         number = number.saturating_add(1);
-        case.hold(rt.alloc(), number)?;
-        match case.command() {
-            Some("run") => counts.scripts = counts.scripts.saturating_add(1),
-            Some("inspect") => counts.inspections = counts.inspections.saturating_add(1),
-            _ => bail!("case {number} is neither a script nor an inspection"),
-        }
+        case.hold(rt.alloc(), number).context(file)?;
+        counts.add(case.command())?;
     }
     Ok(counts)
 }
 
 fn main(rt: HostRuntime) -> Result<()> {
-    let text = fs::read_to_string(&rt, "foretold.txt")?;
-    let cases = read_cases(rt.alloc(), text.as_str())?;
-    let counts = hold_all(&rt, &cases)?;
-    println!(rt; "{} scripts printed what was foretold", counts.scripts)?;
+    let foretold = hold_all(&rt, "foretold.txt")?;
+    println!(rt; "{} scripts printed what was foretold", foretold.scripts)?;
     println!(rt;
         "{} inspections printed what was foretold",
-        counts.inspections
+        foretold.inspections
+    )?;
+    let qif = hold_all(&rt, "qif.txt")?;
+    println!(rt;
+        "{} lists and {} recordings were answered as foretold",
+        qif.encodes, qif.decodes
     )?;
     let recordings = hold_recordings(&rt)?;
     println!(rt; "{recordings} recordings were shown as the lists that were sent")?;
-    Ok(())
+    hold_corpus(&rt)
 }

@@ -1,9 +1,8 @@
 //! Connections that nghttp3 0.8.0 wrote, shown by `qpk show`: each section has the fields of the list that was sent.
 
+use crate::cases::output_of;
 use anyhow::{Context, Result, ensure};
-use qpk::serve::serve;
 use std::alloc::Global;
-use std::io::Cursor;
 use std::{fs, str};
 
 /// A recording, and the words that `qpk` is given for it.
@@ -30,7 +29,7 @@ pub(crate) fn hold_recordings(rt: &HostRuntime) -> Result<usize> {
     let wanted = wanted_lines(rt.alloc(), lists.as_str())?;
     for recording in &RECORDINGS {
         let input = fs::read_to_string(rt, recording.file)?;
-        let output = show(rt.alloc(), recording.words, input.as_str())?;
+        let output = output_of(rt.alloc(), recording.words, input.as_str().as_bytes())?;
         hold_lines(str::from_utf8(&output)?, &wanted).context(recording.file)?;
     }
     Ok(RECORDINGS.len())
@@ -57,26 +56,6 @@ fn wanted_lines(alloc: Global, lists: &str) -> Result<Vec<String>> {
         wanted.push(format!(in alloc; ", {name}: {value}")?)?;
     }
     Ok(wanted)
-}
-
-/// What `qpk` writes to its output for an input.
-fn show(alloc: Global, line: &str, input: &str) -> Result<Vec<u8>> {
-    let mut words = Vec::new(alloc);
-    for word in line.split_whitespace() {
-        words.push(String::from_str(alloc, word)?)?;
-    }
-    let mut output = Vec::new(alloc);
-    let mut faults = Vec::new(alloc);
-    let status = serve(
-        alloc,
-        &words,
-        &mut Cursor::new(input.as_bytes()),
-        &mut output,
-        &mut faults,
-    );
-    ensure!(status == 0, "it ends with status {status}");
-    ensure!(faults.is_empty(), "it tells a fault");
-    Ok(output)
 }
 
 /// Fails where the lines of sections and fields are not those that are wanted.

@@ -7,8 +7,9 @@ use h3_qpack::prefix_string::{
 };
 use h3_qpack::vas::Error as AddressError;
 use h3_qpack::{DecoderError, EncoderError};
-use qpack_testing::{again, same};
+use qpack_testing::{again, prints, same};
 use qpk::error_words::{DecoderWords, EncoderWords, MEMORY, RecordingWords};
+use qpk_qif::lists::ListFault;
 use qpk_qif::session::Fault;
 use std::alloc::Global;
 use std::fmt::Display;
@@ -127,6 +128,11 @@ fn the_words_of_a_recording_are_its_own(rt: HostRuntime) -> Result<(), Fail> {
         print_the_same(rt.alloc(), &RecordingWords(&e), &e)?;
     }
     Ok(())
+}
+
+#[test]
+fn lists_that_are_not_read_have_their_own_words(rt: HostRuntime) -> Result<(), Fail> {
+    prints(rt.alloc(), &ListFault::NoTab(3), "line 3: no tab")
 }
 
 #[test]
