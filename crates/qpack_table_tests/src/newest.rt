@@ -7,6 +7,9 @@ use qpack_testing::{Numbers, field, same};
 use std::alloc::Global;
 use std::test::Fail;
 
+/// How often fields of equal hashes are put, thirty each time, before one is sought.
+const CASES: usize = 250;
+
 /// Puts a field. One that is larger than the capacity is left out.
 fn put_or_leave(
     alloc: Global,
@@ -239,12 +242,12 @@ fn finds_among_alike(
     numbers: &mut Numbers,
 ) -> Result<(), Fail> {
     finds_behind_alike(alloc, table, numbers)?;
-    same(live_count(table) > 6000, true)?;
+    same(live_count(table) > CASES * 24, true)?;
     for capacity in [1_000, 0, 160_000] {
         table.set_max_size(capacity)?;
         finds_behind_alike(alloc, table, numbers)?;
     }
-    same(live_count(table) > 3000, true)
+    same(live_count(table) > CASES * 12, true)
 }
 
 /// Puts fields of equal hashes, some of them equal, and finds one behind some of them.
@@ -253,7 +256,7 @@ fn finds_behind_alike(
     table: &mut DynamicTable,
     numbers: &mut Numbers,
 ) -> Result<(), Fail> {
-    for _ in 0..250 {
+    for _ in 0..CASES {
         put_alike(alloc, table, numbers)?;
         finds(alloc, table, &alike(numbers.below(40_000)), &[])?;
     }

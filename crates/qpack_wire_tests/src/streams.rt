@@ -9,6 +9,9 @@ use qpack_wire::stream::EncoderLine;
 use std::alloc::Global;
 use std::test::Fail;
 
+/// How many cuts are tried, spread over the stream: as many as it has bytes, so that it is cut anywhere.
+const CASES: usize = 2_699;
+
 /// Reads the whole instructions of the bytes behind those that were read, and tells how many bytes they took.
 fn read_all(
     alloc: Global,
@@ -44,8 +47,8 @@ fn a_stream_cut_anywhere_has_the_same_instructions(rt: HostRuntime) -> Result<()
     let mut whole = Vec::new(rt.alloc());
     let taken = read_all(rt.alloc(), ENCODER_STREAM, &mut whole)?;
     same((taken, whole.len()), (ENCODER_STREAM.len(), 127))?;
-    for cut in 0..taken {
-        is_same_when_cut(rt.alloc(), cut, &whole)?;
+    for case in 0..CASES {
+        is_same_when_cut(rt.alloc(), case.saturating_mul(taken) / CASES, &whole)?;
     }
     Ok(())
 }
