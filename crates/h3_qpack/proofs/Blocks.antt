@@ -20,12 +20,14 @@ use Rattle.qpack_spec.specs.Table.{Table, without_references}
 use Rattle.qpack_base.proofs.FieldLists.{fields_from_slice}
 use Rattle.qpack_base.specs.HeaderFields.{DrainsFields}
 use Rattle.qpack_base.specs.declared.field.HeaderField.{HeaderField}
-use Rattle.h3_qpack.specs.Encoding.{EncodesBlock, GivesUpBlock, StopsEncoding}
-use Rattle.h3_qpack.proofs.Streams.{stream_found, stream_put}
-use Rattle.h3_qpack.specs.Sessions.{StoredBlock, StoredStream, CountsDecoded, stored_requires_entry, KeepsStreams}
-use Rattle.h3_qpack.specs.Sessions.{ChangesStream, WritesBlock, WritesStream}
-use Rattle.h3_qpack.specs.declared.error.EncoderError.{EncoderError}
-use Rattle.h3_qpack.specs.Stateless.{fields_in}
+use Rattle.qpack_codec.specs.Encoding.{EncodesBlock, GivesUpBlock, StopsEncoding}
+use Rattle.qpack_codec.proofs.Streams.{stream_found, stream_put}
+use Rattle.qpack_codec.specs.RequestStreams.{KeepsStreams}
+use Rattle.h3_qpack.specs.Sessions.{StoredBlock, StoredStream, CountsDecoded, stored_requires_entry}
+use Rattle.qpack_codec.specs.RequestStreams.{ChangesStream}
+use Rattle.h3_qpack.specs.Sessions.{WritesBlock, WritesStream}
+use Rattle.qpack_codec.specs.declared.error.EncoderError.{EncoderError}
+use Rattle.qpack_codec.specs.Stateless.{fields_in}
 
 -- a block more is no decoded one
 pub counted_more : (blocks before more : List StoredBlock) (decoded dynamic : ℕ) (b : StoredBlock)

@@ -10,9 +10,9 @@ use Rattle.h3_qpack.proofs.Sessions.{run_more}
 use Rattle.h3_qpack.specs.SessionAnswers.{IsUnrefused, IsExact, IsExactBehind, AreExact, WaitsFor}
 use Rattle.h3_qpack.specs.SessionRuns.{AreAnswered}
 use Rattle.h3_qpack.specs.Sessions.{SessionView, IsReached, Answers, Follows, TellsUndecoded}
-use Rattle.h3_qpack.specs.Stateless.{fields_in}
-use Rattle.h3_qpack.specs.declared.error.DecoderError.{DecoderError}
-use Rattle.h3_qpack.specs.declared.error.DecoderError.TheVariants as decoder
+use Rattle.qpack_codec.specs.Stateless.{fields_in}
+use Rattle.qpack_codec.specs.declared.error.DecoderError.{DecoderError}
+use Rattle.qpack_codec.specs.declared.error.DecoderError.TheVariants as decoder
 use Rattle.h3_qpack.specs.declared.session.Event.{Event}
 use Rattle.h3_qpack.specs.declared.session.Outcome.{Outcome}
 use Rattle.h3_qpack.specs.declared.session.Outcome.TheVariants as outcome

@@ -15,12 +15,13 @@ use Rattle.qpack_spec.specs.Session.{LawfulStep, skip_reason}
 use Rattle.qpack_spec.specs.Table.{Table, without_references}
 use Rattle.qpack_spec.specs.WrittenLaws.{IsByteField}
 use Rattle.h3_qpack.proofs.Sessions.{fits_reached, fits_changed, fits_kept, shows_changed, lawful}
-use Rattle.h3_qpack.specs.Encoding.{EncodesBlock, GivesUpBlock}
+use Rattle.qpack_codec.specs.Encoding.{EncodesBlock, GivesUpBlock}
 use Rattle.h3_qpack.specs.Sessions.{StoredBlock, StoredStream, stored_block, stored_stream, SessionView, Shows}
-use Rattle.h3_qpack.specs.Sessions.{IsReached, Follows, Goes, KeepsStreams, encode_skip}
+use Rattle.qpack_codec.specs.RequestStreams.{KeepsStreams}
+use Rattle.h3_qpack.specs.Sessions.{IsReached, Follows, Goes, encode_skip}
 use Rattle.h3_qpack.specs.Sessions.{WritesStream, GivesUp}
-use Rattle.h3_qpack.specs.declared.error.EncoderError.{EncoderError}
-use Rattle.h3_qpack.specs.declared.error.EncoderError.TheVariants.{Memory}
+use Rattle.qpack_codec.specs.declared.error.EncoderError.{EncoderError}
+use Rattle.qpack_codec.specs.declared.error.EncoderError.TheVariants.{Memory}
 use Rattle.h3_qpack.specs.declared.session.Outcome.TheVariants as outcome
 
 abbrev with_written : SessionView → Table → List ℕ → List (ℕ × StoredStream) → SessionView

@@ -14,16 +14,16 @@ use Rattle.qpack_spec.specs.Session.{with_decoder_moved, with_encoder_moved, unr
 use Rattle.qpack_spec.specs.Session.{apply_encoder_instructions, apply_decoder_instructions}
 use Rattle.qpack_spec.specs.Table.{Table, insert_count}
 use Rattle.h3_qpack.proofs.Sessions.{fits_reached, lawful}
-use Rattle.h3_qpack.specs.Hearing as hearing
-use Rattle.h3_qpack.specs.Receiving as receiving
-use Rattle.h3_qpack.specs.Receiving.{DecoderView, Receives, EndsReceiving, EndsTaking, Stops, to_report}
-use Rattle.h3_qpack.specs.Receiving.{written_report}
-use Rattle.h3_qpack.specs.Hearing.{Hears, EndsHearing, StopsHearing}
-use Rattle.h3_qpack.specs.Sections.{form_fault_of}
+use Rattle.qpack_codec.specs.Hearing as hearing
+use Rattle.qpack_codec.specs.Receiving as receiving
+use Rattle.qpack_codec.specs.Receiving.{DecoderView, Receives, EndsReceiving, EndsTaking, Stops, to_report}
+use Rattle.qpack_codec.specs.Receiving.{written_report}
+use Rattle.qpack_codec.specs.Hearing.{Hears, EndsHearing, StopsHearing}
+use Rattle.qpack_codec.specs.Sections.{form_fault_of}
 use Rattle.h3_qpack.specs.Sessions.{SessionView, Shows, IsReached, Follows, Goes, Answers, TellsStreamFault}
-use Rattle.h3_qpack.specs.declared.error.DecoderError.{DecoderError}
-use Rattle.h3_qpack.specs.declared.error.DecoderError.TheVariants as decoder
-use Rattle.h3_qpack.specs.declared.error.EncoderError.{EncoderError}
+use Rattle.qpack_codec.specs.declared.error.DecoderError.{DecoderError}
+use Rattle.qpack_codec.specs.declared.error.DecoderError.TheVariants as decoder
+use Rattle.qpack_codec.specs.declared.error.EncoderError.{EncoderError}
 use Rattle.h3_qpack.specs.declared.session.Outcome.TheVariants as outcome
 
 -- so many bytes were consumed of a front and a rest of which the rest is left

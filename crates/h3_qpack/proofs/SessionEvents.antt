@@ -18,17 +18,19 @@ use Rattle.qpack_base.specs.Refusals.{IsRefusedFor}
 use Rattle.qpack_base.specs.declared.coding.NoMemory.{NoMemory}
 use Rattle.h3_qpack.proofs.Sessions.{fits_reached, fits_changed, fits_kept, shows_changed, lawful, cancellation_skips}
 use Rattle.h3_qpack.proofs.Sessions.{acknowledgment_skips, decode_skips}
-use Rattle.h3_qpack.specs.Hearing.{SetsCapacity, refusal_of}
-use Rattle.h3_qpack.specs.Sections.{DecodesSection, TellsReading}
+use Rattle.qpack_codec.specs.Hearing.{SetsCapacity, refusal_of}
+use Rattle.qpack_codec.specs.Sections.{DecodesSection, TellsReading}
 use Rattle.h3_qpack.specs.Sessions.{StoredBlock, StoredStream, stored_block, stored_stream, SessionView, Shows}
-use Rattle.h3_qpack.specs.Sessions.{IsReached, Follows, Goes, Answers, ChangesStream, HasBytes, TellsUndecoded}
-use Rattle.h3_qpack.specs.Sessions.{KeepsStreams, cancellation_skip, acknowledgment_skip, decode_skip}
-use Rattle.h3_qpack.specs.Stateless.{fields_in}
-use Rattle.h3_qpack.specs.declared.decoder.Decoded.{Decoded}
-use Rattle.h3_qpack.specs.declared.error.DecoderError.{DecoderError}
-use Rattle.h3_qpack.specs.declared.error.DecoderError.TheVariants as decoder
-use Rattle.h3_qpack.specs.declared.error.EncoderError.{EncoderError}
-use Rattle.h3_qpack.specs.declared.error.EncoderError.TheVariants.{Memory}
+use Rattle.qpack_codec.specs.RequestStreams.{ChangesStream}
+use Rattle.h3_qpack.specs.Sessions.{IsReached, Follows, Goes, Answers, HasBytes, TellsUndecoded}
+use Rattle.qpack_codec.specs.RequestStreams.{KeepsStreams}
+use Rattle.h3_qpack.specs.Sessions.{cancellation_skip, acknowledgment_skip, decode_skip}
+use Rattle.qpack_codec.specs.Stateless.{fields_in}
+use Rattle.qpack_codec.specs.declared.decoder.Decoded.{Decoded}
+use Rattle.qpack_codec.specs.declared.error.DecoderError.{DecoderError}
+use Rattle.qpack_codec.specs.declared.error.DecoderError.TheVariants as decoder
+use Rattle.qpack_codec.specs.declared.error.EncoderError.{EncoderError}
+use Rattle.qpack_codec.specs.declared.error.EncoderError.TheVariants.{Memory}
 use Rattle.h3_qpack.specs.declared.session.Outcome.TheVariants as outcome
 
 -- ---- a cancellation

@@ -8,16 +8,16 @@ use Rattle.qpack_spec.specs.Session as spec
 use Rattle.qpack_spec.specs.Session.{stream_at, oldest_undecoded}
 use Rattle.qpack_wire.specs.Memory.{AsksSectionForMemory}
 use Rattle.h3_qpack.proofs.SessionDeliveries.{Offers, front_consumed, decoder_moved}
-use Rattle.h3_qpack.specs.Receiving as receiving
-use Rattle.h3_qpack.specs.Receiving.{DecoderView, Receives, EndsReceiving, EndsTaking, Stops, AsksToTake, to_report}
-use Rattle.h3_qpack.specs.Sections.{form_fault_of}
+use Rattle.qpack_codec.specs.Receiving as receiving
+use Rattle.qpack_codec.specs.Receiving.{DecoderView, Receives, EndsReceiving, EndsTaking, Stops, AsksToTake, to_report}
+use Rattle.qpack_codec.specs.Sections.{form_fault_of}
 use Rattle.h3_qpack.specs.SessionMemory.{AsksAtDecoder, IsAskedFor}
 use Rattle.h3_qpack.specs.Sessions.{StoredStream, SessionView, IsReached, HasBytes}
-use Rattle.h3_qpack.specs.declared.decoder.Decoded.{Decoded}
-use Rattle.h3_qpack.specs.declared.error.DecoderError.{DecoderError}
-use Rattle.h3_qpack.specs.declared.error.DecoderError.TheVariants as decoder
-use Rattle.h3_qpack.specs.declared.error.EncoderError.{EncoderError}
-use Rattle.h3_qpack.specs.declared.error.EncoderError.TheVariants as encoder
+use Rattle.qpack_codec.specs.declared.decoder.Decoded.{Decoded}
+use Rattle.qpack_codec.specs.declared.error.DecoderError.{DecoderError}
+use Rattle.qpack_codec.specs.declared.error.DecoderError.TheVariants as decoder
+use Rattle.qpack_codec.specs.declared.error.EncoderError.{EncoderError}
+use Rattle.qpack_codec.specs.declared.error.EncoderError.TheVariants as encoder
 use Rattle.h3_qpack.specs.declared.session.Outcome.TheVariants as outcome
 
 -- ---- a decode

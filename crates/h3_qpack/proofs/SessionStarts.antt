@@ -12,7 +12,7 @@ use Rattle.qpack_table.specs.Tables.{refusal_of}
 use Rattle.qpack_table.specs.declared.dynamic.Error.{Error}
 use Rattle.qpack_table.specs.declared.dynamic.Error.TheVariants.{MaxTableSizeReached, MaximumTableSizeTooLarge}
 use Rattle.qpack_table.specs.declared.dynamic.Error.TheVariants.{UnknownStreamId}
-use Rattle.h3_qpack.specs.Receiving.{DecoderView}
+use Rattle.qpack_codec.specs.Receiving.{DecoderView}
 use Rattle.h3_qpack.specs.Sessions.{SessionView, StoredStream, Shows, Reaches, IsReached}
 
 -- an empty table takes any capacity up to a maximum below 2^30

@@ -12,9 +12,11 @@ use Rattle.qpack_spec.specs.Session.{IsByteEvent, LawfulStep, Skips}
 use Rattle.qpack_safety.specs.SessionSafety.{IsSafe}
 use Rattle.qpack_safety.proofs.FourParts.{sessions_safe}
 use Rattle.h3_qpack.specs.Sessions.{StoredBlock, StoredStream, stored_block, stored_stream, stored_requires_entry}
-use Rattle.h3_qpack.specs.Sessions.{SessionView, Shows, IsReached, Follows, Goes, Answers, ChangesStream}
+use Rattle.qpack_codec.specs.RequestStreams.{ChangesStream}
+use Rattle.h3_qpack.specs.Sessions.{SessionView, Shows, IsReached, Follows, Goes, Answers}
 use Rattle.h3_qpack.specs.Sessions.{IsAnswerTo, Keeps}
-use Rattle.h3_qpack.specs.Sessions.{KeepsStreams, stored_skip, decode_skip, acknowledgment_skip}
+use Rattle.qpack_codec.specs.RequestStreams.{KeepsStreams}
+use Rattle.h3_qpack.specs.Sessions.{stored_skip, decode_skip, acknowledgment_skip}
 use Rattle.h3_qpack.specs.Sessions.{cancellation_skip}
 use Rattle.h3_qpack.specs.declared.session.Outcome.{Outcome}
 use Rattle.h3_qpack.specs.declared.session.Outcome.TheVariants as outcome

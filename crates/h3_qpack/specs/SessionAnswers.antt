@@ -6,9 +6,9 @@ use Rattle.qpack_spec.specs.Table.{insert_count}
 use Rattle.qpack_safety.specs.Headline.{AnsweredEncode, next_encode}
 use Rattle.qpack_safety.specs.SessionSafety.{AnswersFields}
 use Rattle.h3_qpack.specs.Sessions.{SessionView, Reaches}
-use Rattle.h3_qpack.specs.Stateless.{fields_in}
-use Rattle.h3_qpack.specs.declared.error.DecoderError.{DecoderError}
-use Rattle.h3_qpack.specs.declared.error.DecoderError.TheVariants as decoder
+use Rattle.qpack_codec.specs.Stateless.{fields_in}
+use Rattle.qpack_codec.specs.declared.error.DecoderError.{DecoderError}
+use Rattle.qpack_codec.specs.declared.error.DecoderError.TheVariants as decoder
 use Rattle.h3_qpack.specs.declared.session.Outcome.{Outcome}
 use Rattle.h3_qpack.specs.declared.session.Outcome.TheVariants as outcome
 

@@ -4,10 +4,10 @@ use Rattle.qpack_spec.specs.Session as spec
 use Rattle.qpack_spec.specs.Session.{stream_at, oldest_undecoded}
 use Rattle.qpack_spec.specs.Table.{with_capacity}
 use Rattle.qpack_wire.specs.Memory.{AsksSectionForMemory}
-use Rattle.h3_qpack.specs.Receiving.{AsksToTake}
+use Rattle.qpack_codec.specs.Receiving.{AsksToTake}
 use Rattle.h3_qpack.specs.Sessions.{SessionView, HasBytes}
-use Rattle.h3_qpack.specs.declared.error.DecoderError.TheVariants as decoder
-use Rattle.h3_qpack.specs.declared.error.EncoderError.TheVariants as encoder
+use Rattle.qpack_codec.specs.declared.error.DecoderError.TheVariants as decoder
+use Rattle.qpack_codec.specs.declared.error.EncoderError.TheVariants as encoder
 use Rattle.h3_qpack.specs.declared.session.Outcome.{Outcome}
 use Rattle.h3_qpack.specs.declared.session.Outcome.TheVariants as outcome
 

@@ -10,17 +10,18 @@ use Rattle.qpack_spec.specs.Form.{FormFault}
 use Rattle.qpack_spec.specs.Session as spec
 use Rattle.qpack_spec.specs.Session.{KeptBlock, KeptStream, RequestStream, stream_at, Session, Run, Passes}
 use Rattle.qpack_spec.specs.Session.{initial_session, awaits_acknowledgment}
+use Rattle.qpack_codec.specs.RequestStreams.{ChangesStream}
 use Rattle.qpack_spec.specs.Table.{Table}
 use Rattle.qpack_spec.specs.Window.{TableRefusal}
-use Rattle.h3_qpack.specs.Encoding.{EncodesBlock, GivesUpBlock}
-use Rattle.h3_qpack.specs.Hearing as hearing
-use Rattle.h3_qpack.specs.Receiving as receiving
-use Rattle.h3_qpack.specs.Receiving.{DecoderView}
-use Rattle.h3_qpack.specs.Sections.{Tells, form_fault_of}
-use Rattle.h3_qpack.specs.Stateless.{fields_in}
-use Rattle.h3_qpack.specs.declared.error.DecoderError.{DecoderError}
-use Rattle.h3_qpack.specs.declared.error.DecoderError.TheVariants as decoder
-use Rattle.h3_qpack.specs.declared.error.EncoderError.TheVariants as encoder
+use Rattle.qpack_codec.specs.Encoding.{EncodesBlock, GivesUpBlock}
+use Rattle.qpack_codec.specs.Hearing as hearing
+use Rattle.qpack_codec.specs.Receiving as receiving
+use Rattle.qpack_codec.specs.Receiving.{DecoderView}
+use Rattle.qpack_codec.specs.Sections.{Tells, form_fault_of}
+use Rattle.qpack_codec.specs.Stateless.{fields_in}
+use Rattle.qpack_codec.specs.declared.error.DecoderError.{DecoderError}
+use Rattle.qpack_codec.specs.declared.error.DecoderError.TheVariants as decoder
+use Rattle.qpack_codec.specs.declared.error.EncoderError.TheVariants as encoder
 use Rattle.h3_qpack.specs.declared.session.Event.{Event}
 use Rattle.h3_qpack.specs.declared.session.Event.TheVariants as event
 use Rattle.h3_qpack.specs.declared.session.Outcome.{Outcome}
@@ -64,19 +65,6 @@ stored_stream k =
       acknowledged = k.acknowledged;
       cancelled = k.cancelled;
     }
-
--- each stream stays
-abbrev pub KeepsStreams : {B : Type 0} → List (ℕ × RequestStream B) → List (ℕ × RequestStream B) → Type 0
-KeepsStreams old new = (s : ℕ) → stream_at new s ≡ stream_at old s
-
--- one stream becomes this, and each other one stays
-abbrev pub ChangesStream : {B : Type 0} → ℕ → RequestStream B → List (ℕ × RequestStream B) → List (ℕ × RequestStream B)
-    → Type 0
-ChangesStream number k old new = (s : ℕ) → stream_at new s ≡ (if nat_eq number s then k else stream_at old s)
-
--- there is room for a stream
-abbrev pub IsOpen : {B : Type 0} → ℕ → List (ℕ × RequestStream B) → Type 0
-IsOpen number streams = IsSome (lookup (is_at (nat_cmp number)) streams)
 
 -- ---- what is skipped, as the session's definition has it
 

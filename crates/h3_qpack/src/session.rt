@@ -14,11 +14,11 @@ ghost use Rattle.h3_qpack.specs.SessionRuns.{AnswerWhatWasHanded, Runs, RefusesR
 ghost use Rattle.h3_qpack.specs.SessionMemory.{IsAskedFor};
 ghost use Rattle.h3_qpack.specs.SessionAnswers.{IsUnrefused, IsExactBehind, AreExact};
 
-use crate::decoder::{Decoded, Decoder, DecoderError};
-use crate::encoder::{Encoder, EncoderError};
 use crate::session::streams::Streams;
 use qpack_base::coding::NoMemory;
 use qpack_base::field::HeaderField;
+use qpack_codec::decoder::{Decoded, Decoder, DecoderError};
+use qpack_codec::encoder::{Encoder, EncoderError};
 use qpack_table::dynamic::{self, DynamicTable};
 use std::alloc::Global;
 use std::marker::Model;

@@ -5,14 +5,14 @@ use Rattle.std.specs.Option.{IfSome}
 use Rattle.qpack_spec.specs.Field.{FieldLine}
 use Rattle.qpack_spec.specs.StrictReading.{strict_reading}
 use Rattle.qpack_spec.specs.Table.{Table, window}
-use Rattle.qpack_connection.specs.declared.decoder.DecodingError.{DecodingError}
-use Rattle.qpack_connection.specs.declared.decoder.DecodingError.TheVariants.{EncoderStream, Section, Memory}
-use Rattle.qpack_connection.specs.declared.section.SectionError.TheVariants.{Line}
-use Rattle.qpack_connection.specs.declared.section.Reading.{Reading}
-use Rattle.qpack_connection.specs.declared.section.Reading.TheVariants.{Fields, Blocked}
-use Rattle.qpack_connection.specs.declared.decoder.DecoderSettings.{DecoderSettings}
-use Rattle.qpack_connection.specs.Decoders.{Begins, Decodes, Cancels, ReceivesBytes, AsksToDecode}
-use Rattle.qpack_connection.specs.Receiving.{Receives}
+use Rattle.qpack_ends.specs.declared.decoder.DecodingError.{DecodingError}
+use Rattle.qpack_ends.specs.declared.decoder.DecodingError.TheVariants.{EncoderStream, Section, Memory}
+use Rattle.qpack_ends.specs.declared.section.SectionError.TheVariants.{Line}
+use Rattle.qpack_ends.specs.declared.section.Reading.{Reading}
+use Rattle.qpack_ends.specs.declared.section.Reading.TheVariants.{Fields, Blocked}
+use Rattle.qpack_ends.specs.declared.decoder.DecoderSettings.{DecoderSettings}
+use Rattle.qpack_ends.specs.Decoders.{Begins, Decodes, Cancels, ReceivesBytes, AsksToDecode}
+use Rattle.qpack_ends.specs.Receiving.{Receives}
 use Rattle.h3_qpack_c.specs.declared.answers.Decoding.{Decoding}
 use Rattle.h3_qpack_c.specs.declared.answers.Received.{Received}
 use Rattle.h3_qpack_c.specs.declared.decoder.State.{State}

@@ -4,11 +4,11 @@ use Rattle.std.specs.Prelude.{Result, Ok, Err}
 use Rattle.std.specs.Option.{IfSome}
 use Rattle.qpack_spec.specs.Field.{FieldLine}
 use Rattle.qpack_spec.specs.Instruction.{DecoderInstruction}
-use Rattle.qpack_connection.specs.declared.encoder.EncodingError.{EncodingError}
-use Rattle.qpack_connection.specs.declared.encoder.EncodingError.TheVariants.{DecoderStream}
-use Rattle.qpack_connection.specs.declared.encoder.EncoderSettings.{EncoderSettings}
-use Rattle.qpack_connection.specs.Encoders.{Starts, Encodes, ReceivesBytes, SetsCapacity}
-use Rattle.qpack_connection.specs.Hearing.{Receives}
+use Rattle.qpack_ends.specs.declared.encoder.EncodingError.{EncodingError}
+use Rattle.qpack_ends.specs.declared.encoder.EncodingError.TheVariants.{DecoderStream}
+use Rattle.qpack_ends.specs.declared.encoder.EncoderSettings.{EncoderSettings}
+use Rattle.qpack_ends.specs.Encoders.{Starts, Encodes, ReceivesBytes, SetsCapacity}
+use Rattle.qpack_ends.specs.Hearing.{Receives}
 use Rattle.h3_qpack_c.specs.declared.answers.Encoded.{Encoded}
 use Rattle.h3_qpack_c.specs.declared.answers.Received.{Received}
 use Rattle.h3_qpack_c.specs.declared.encoder.State.{State}

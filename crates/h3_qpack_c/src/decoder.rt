@@ -3,9 +3,9 @@
 ghost use Rattle.h3_qpack_c.specs.declared.decoder.State.{State};
 ghost use Rattle.std.specs.Prelude.{◌≡◌, ◌<◌, ◌≤◌, ◌^◌, length, slice_get, IfOk, IfErr, [], ℕ};
 ghost use Rattle.qpack_spec.specs.Table.{insert_count};
-ghost use Rattle.qpack_connection.specs.Blocked.{ready};
-ghost use Rattle.qpack_connection.specs.Decoders.{FailsSettings, blocked_streams};
-ghost use Rattle.qpack_connection.specs.declared.decoder.DecoderSettings.{DecoderSettings};
+ghost use Rattle.qpack_ends.specs.Blocked.{ready};
+ghost use Rattle.qpack_ends.specs.Decoders.{FailsSettings, blocked_streams};
+ghost use Rattle.qpack_ends.specs.declared.decoder.DecoderSettings.{DecoderSettings};
 ghost use Rattle.h3_qpack_c.specs.Crossing.{Makes, Gives, GivesAll};
 ghost use Rattle.h3_qpack_c.specs.Decoding.{DecodesTo, ReceivesTo, CancelsTo, TakesStream, TellsReady, InRange};
 ghost use Rattle.h3_qpack_c.specs.Decoding.{told_of_refusal, told_of_receiving, IsNew, KeepsNew};
@@ -16,7 +16,7 @@ use crate::statuses::{
     BLOCKED, DONE, ENCODER_STREAM_ERROR, INVALID, NO_MEMORY, status_of_decoding,
 };
 use qpack_base::coding::Cursor;
-use qpack_connection::{
+use qpack_ends::{
     ConnectionDecoder, DecoderSettings, DecodingError, FieldSection, Reading, SectionError,
     SettingsError,
 };

@@ -2,17 +2,17 @@
 
 ghost use Rattle.h3_qpack_c.specs.declared.encoder.State.{State};
 ghost use Rattle.std.specs.Prelude.{◌≡◌, ◌<◌, ◌≤◌, ◌^◌, pos, length, map, IfOk, IfErr, ℤ};
-ghost use Rattle.qpack_connection.specs.declared.decoder.SettingsError.TheVariants.{CapacityTooLarge};
+ghost use Rattle.qpack_ends.specs.declared.decoder.SettingsError.TheVariants.{CapacityTooLarge};
 ghost use Rattle.h3_qpack_c.specs.Crossing.{line_of_lent, copied, told_of_copy, Makes};
 ghost use Rattle.h3_qpack_c.specs.Encoding.{EncodesTo, HearsTo, SetsCapacityTo, TakesStream, told_of_hearing};
 ghost use Rattle.h3_qpack_c.specs.Encoding.{IsNew, KeepsNew};
-ghost use Rattle.qpack_connection.specs.declared.encoder.EncoderSettings.{EncoderSettings};
+ghost use Rattle.qpack_ends.specs.declared.encoder.EncoderSettings.{EncoderSettings};
 
 use crate::answers::{Encoded, Received, Written};
 use crate::fields::{Field, copy_front, write};
 use crate::statuses::{DECODER_STREAM_ERROR, DONE, INVALID, NO_MEMORY, status_of_encoding};
 use qpack_base::coding::Cursor;
-use qpack_connection::{ConnectionEncoder, EncoderSettings, EncodingError, SettingsError};
+use qpack_ends::{ConnectionEncoder, EncoderSettings, EncodingError, SettingsError};
 use std::alloc::Global;
 use std::marker::Model;
 

@@ -7,8 +7,8 @@ ghost use Rattle.h3_qpack_c.specs.Crossing.{text_of, text_of_field, told_of_fiel
 
 use crate::answers::{Given, Written};
 use crate::statuses::{DONE, INVALID, NO_ROOM};
-use h3_qpack::encoder::AsField;
-use qpack_connection::{FieldLine, FieldSection};
+use qpack_codec::encoder::AsField;
+use qpack_ends::{FieldLine, FieldSection};
 
 /// A field that is lent: its name, its value, and its flags, of which the lowest says that it is never to be indexed
 /// (RFC 9204, section 7.1.3).

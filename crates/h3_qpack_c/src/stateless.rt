@@ -2,15 +2,15 @@
 
 ghost use Rattle.std.specs.Prelude.{◌≡◌, ◌⊎◌, map};
 ghost use Rattle.h3_qpack_c.specs.Alone.{DecodesAlone, GivesAlone, told_of_refusal};
-ghost use Rattle.qpack_connection.specs.Encoders.{written_alone};
+ghost use Rattle.qpack_ends.specs.Encoders.{written_alone};
 ghost use Rattle.h3_qpack_c.specs.Crossing.{line_of_lent, copied, told_of_copy};
 ghost use Rattle.h3_qpack_c.specs.Statuses.{no_memory};
 
 use crate::answers::{DecodedAlone, Given, Written};
 use crate::fields::{Field, give_all, write};
 use crate::statuses::{BLOCKED, NO_MEMORY, status_of_line, status_of_section};
-use h3_qpack::encoder::encode_section_stateless;
-use qpack_connection::{FieldSection, Reading, SectionError, read_section};
+use qpack_codec::encoder::encode_section_stateless;
+use qpack_ends::{FieldSection, Reading, SectionError, read_section};
 use qpack_table::dynamic::DynamicTable;
 use std::alloc::Global;
 

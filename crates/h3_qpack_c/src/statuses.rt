@@ -3,7 +3,7 @@
 ghost use Rattle.std.specs.Prelude.{◌≡◌};
 ghost use Rattle.h3_qpack_c.specs.Statuses.{of_encoding, of_decoding, of_section, of_line};
 
-use qpack_connection::{DecodingError, EncodingError, LineError, SectionError};
+use qpack_ends::{DecodingError, EncodingError, LineError, SectionError};
 
 /// Done.
 pub(crate) const DONE: i32 = 0;

@@ -6,11 +6,11 @@ use Rattle.qpack_spec.specs.Marked.{written_marked_block}
 use Rattle.qpack_spec.specs.Rule.{Draft, required_insert_count, block_of, committed_table}
 use Rattle.qpack_spec.specs.Table.{Table, without_references}
 use Rattle.qpack_spec.proofs.MarkedChosen.{marked_is_chosen}
-use Rattle.h3_qpack.specs.Encoding.{EncodesLines, GivesUpLines}
+use Rattle.qpack_codec.specs.Encoding.{EncodesLines, GivesUpLines}
 use Rattle.qpack_connection.specs.ChosenSections.{EncodesChosen, GivesUpChosen, WritesChosen, StopsAmongChosen}
 use Rattle.qpack_connection.specs.ChosenSections.{RunsOutOfMemory, EncodesAreByChoice}
-use Rattle.qpack_connection.specs.Encoders.{EncodingEnd, begun, WritesSection, WritesAlone, GivesUpSection}
-use Rattle.qpack_connection.specs.Encoders.{StopsForMemory}
+use Rattle.qpack_ends.specs.Encoders.{EncodingEnd, begun, WritesSection, WritesAlone, GivesUpSection}
+use Rattle.qpack_ends.specs.Encoders.{StopsForMemory}
 
 -- ---- a table
 

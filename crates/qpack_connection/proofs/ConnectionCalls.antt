@@ -11,8 +11,8 @@ use Rattle.qpack_spec.specs.Instruction.{DecoderInstruction}
 use Rattle.qpack_spec.specs.Session.{RequestStream, stream_at, with_stream, oldest_undecoded}
 use Rattle.qpack_spec.specs.StrictReading.{strict_reading}
 use Rattle.qpack_spec.specs.Table.{Table, insert_count, window}
-use Rattle.h3_qpack.specs.Receiving.{written_report}
-use Rattle.h3_qpack.specs.Sessions.{KeepsStreams, ChangesStream}
+use Rattle.qpack_codec.specs.Receiving.{written_report}
+use Rattle.qpack_codec.specs.RequestStreams.{KeepsStreams, ChangesStream}
 use Rattle.qpack_connection.specs.declared.connection.Event.{Event}
 use Rattle.qpack_connection.specs.declared.connection.Event.TheVariants as event
 use Rattle.qpack_connection.specs.declared.connection.Outcome.{Outcome}
@@ -20,24 +20,24 @@ use Rattle.qpack_connection.specs.declared.connection.Outcome.TheVariants as out
 use Rattle.qpack_connection.specs.declared.connection.Skip.{Skip}
 use Rattle.qpack_connection.specs.declared.connection.Skip.TheVariants.{StreamCancelled}
 use Rattle.qpack_connection.specs.declared.connection.fields.OwnedFieldLine.{OwnedFieldLine}
-use Rattle.qpack_connection.specs.declared.decoder.DecodingError.{DecodingError}
-use Rattle.qpack_connection.specs.declared.decoder.DecodingError.TheVariants as decoding
-use Rattle.qpack_connection.specs.declared.encoder.EncodingError.{EncodingError}
-use Rattle.qpack_connection.specs.declared.encoder.EncodingError.TheVariants as encoding
-use Rattle.qpack_connection.specs.declared.receiving.EncoderStreamError.{EncoderStreamError}
-use Rattle.qpack_connection.specs.declared.section.Reading.{Reading}
-use Rattle.qpack_connection.specs.declared.section.Reading.TheVariants as reading
+use Rattle.qpack_ends.specs.declared.decoder.DecodingError.{DecodingError}
+use Rattle.qpack_ends.specs.declared.decoder.DecodingError.TheVariants as decoding
+use Rattle.qpack_ends.specs.declared.encoder.EncodingError.{EncodingError}
+use Rattle.qpack_ends.specs.declared.encoder.EncodingError.TheVariants as encoding
+use Rattle.qpack_ends.specs.declared.receiving.EncoderStreamError.{EncoderStreamError}
+use Rattle.qpack_ends.specs.declared.section.Reading.{Reading}
+use Rattle.qpack_ends.specs.declared.section.Reading.TheVariants as reading
 use Rattle.qpack_connection.specs.ConnectionEvents.{connection_of, Shows, IsReached, HasBytes, decoded_with}
 use Rattle.qpack_connection.specs.ConnectionEvents.{SendsAmong, decode_skip, cancel_skip, Makes, Goes}
 use Rattle.qpack_connection.specs.Connections.{Wire, SentSection, Connection, Encode, SetCapacity}
 use Rattle.qpack_connection.specs.Connections.{with_encoder, with_decoder, with_section, with_reading}
 use Rattle.qpack_connection.specs.Connections.{with_cancelled, behind_received}
-use Rattle.qpack_connection.specs.Decoders.{DecodingEnd, Decodes, Cancels, AsksToDecode, EndsReceiving}
-use Rattle.qpack_connection.specs.Decoders as decoders
-use Rattle.qpack_connection.specs.Encoders.{EncodingEnd, SetsCapacity}
-use Rattle.qpack_connection.specs.Encoders as encoders
-use Rattle.qpack_connection.specs.Hearing as hearing
-use Rattle.qpack_connection.specs.Receiving as receiving
+use Rattle.qpack_ends.specs.Decoders.{DecodingEnd, Decodes, Cancels, AsksToDecode, EndsReceiving}
+use Rattle.qpack_ends.specs.Decoders as decoders
+use Rattle.qpack_ends.specs.Encoders.{EncodingEnd, SetsCapacity}
+use Rattle.qpack_ends.specs.Encoders as encoders
+use Rattle.qpack_ends.specs.Hearing as hearing
+use Rattle.qpack_ends.specs.Receiving as receiving
 use Rattle.qpack_connection.specs.OwnedLines.{lines_of}
 use Rattle.qpack_connection.proofs.FramedEncoderCalls as encoder
 use Rattle.qpack_connection.proofs.FramedDecoderCalls as decoder

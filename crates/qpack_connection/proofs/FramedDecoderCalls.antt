@@ -6,13 +6,13 @@ use Rattle.std.specs.Prelude.{⊤, nat_eq}
 use Rattle.qpack_spec.specs.Field.{FieldLine}
 use Rattle.qpack_spec.specs.Instruction.{Acknowledgment, Cancellation, written_decoder_instruction}
 use Rattle.qpack_spec.specs.StrictReading.{StrictReading, Read, Blocked, Refused}
-use Rattle.h3_qpack.specs.Receiving.{written_report}
-use Rattle.qpack_connection.specs.declared.decoder.DecodingError.{DecodingError}
-use Rattle.qpack_connection.specs.declared.decoder.DecodingError.TheVariants as decoding
-use Rattle.qpack_connection.specs.declared.section.Reading.{Reading}
-use Rattle.qpack_connection.specs.declared.section.Reading.TheVariants as reading
-use Rattle.qpack_connection.specs.Decoders.{DecodingEnd, unreported, with_report, acknowledged, GivesReading}
-use Rattle.qpack_connection.specs.Decoders.{StopsForMemory, StopsDecoding, IsNotAnswered, Checks, Decodes, Cancels}
+use Rattle.qpack_codec.specs.Receiving.{written_report}
+use Rattle.qpack_ends.specs.declared.decoder.DecodingError.{DecodingError}
+use Rattle.qpack_ends.specs.declared.decoder.DecodingError.TheVariants as decoding
+use Rattle.qpack_ends.specs.declared.section.Reading.{Reading}
+use Rattle.qpack_ends.specs.declared.section.Reading.TheVariants as reading
+use Rattle.qpack_ends.specs.Decoders.{DecodingEnd, unreported, with_report, acknowledged, GivesReading}
+use Rattle.qpack_ends.specs.Decoders.{StopsForMemory, StopsDecoding, IsNotAnswered, Checks, Decodes, Cancels}
 
 -- the end with other bytes that are to be sent
 abbrev pub with_unsent : List ℕ → DecodingEnd → DecodingEnd

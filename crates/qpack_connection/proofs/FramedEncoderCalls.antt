@@ -6,11 +6,11 @@ use Rattle.std.specs.Prelude.{⊤}
 use Rattle.qpack_spec.specs.Field.{FieldLine}
 use Rattle.qpack_spec.specs.Instruction.{SetCapacity, written_encoder_instruction, written_encoder_instructions}
 use Rattle.qpack_spec.specs.Marked.{marked_rule}
-use Rattle.qpack_connection.specs.declared.encoder.EncodingError.{EncodingError}
-use Rattle.qpack_connection.specs.declared.encoder.EncodingError.TheVariants.{Memory}
-use Rattle.qpack_connection.specs.Encoders.{EncodingEnd, begun, begun_with, WritesSection, WritesAlone, GivesUpSection}
-use Rattle.qpack_connection.specs.Encoders.{StopsForMemory, Encodes, SetsIt, SetsCapacity, TellsCapacity}
-use Rattle.qpack_connection.specs.Encoders.{Checks, is_full}
+use Rattle.qpack_ends.specs.declared.encoder.EncodingError.{EncodingError}
+use Rattle.qpack_ends.specs.declared.encoder.EncodingError.TheVariants.{Memory}
+use Rattle.qpack_ends.specs.Encoders.{EncodingEnd, begun, begun_with, WritesSection, WritesAlone, GivesUpSection}
+use Rattle.qpack_ends.specs.Encoders.{StopsForMemory, Encodes, SetsIt, SetsCapacity, TellsCapacity}
+use Rattle.qpack_ends.specs.Encoders.{Checks, is_full}
 
 -- the end with other bytes that are to be sent
 abbrev pub with_unsent : List ℕ → EncodingEnd → EncodingEnd

@@ -7,7 +7,7 @@ use Rattle.std.proofs.lemmas.List.{append-nil}
 use Rattle.std.specs.Prelude.{nat_eq, nat_lt, slice_get}
 use Rattle.qpack_spec.specs.Field.{FieldLine}
 use Rattle.qpack_spec.specs.Session.{RequestStream, stream_at, with_stream}
-use Rattle.qpack_connection.specs.declared.section.Reading.TheVariants as reading
+use Rattle.qpack_ends.specs.declared.section.Reading.TheVariants as reading
 use Rattle.qpack_connection.specs.Connections.{SentSection, Connection, IsNew, Call, Encode, SetCapacity, Hear, Receive}
 use Rattle.qpack_connection.specs.Connections.{Decode, Cancel, Step, Run}
 use Rattle.qpack_connection.specs.HandedFields.{handed_by, decoded_by, handed_on, decoded_on, DecodeInOrder}

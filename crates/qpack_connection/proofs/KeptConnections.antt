@@ -8,14 +8,14 @@ use Rattle.std.specs.Prelude.{nat_eq, not, slice_get}
 use Rattle.std.proofs.lemmas.Bool.{eqb-true}
 use Rattle.qpack_spec.specs.Session.{RequestStream, stream_at, with_stream, oldest_undecoded}
 use Rattle.qpack_spec.proofs.Lists.{every_weaker}
-use Rattle.qpack_connection.specs.declared.blocked.BlockedStream.{BlockedStream}
-use Rattle.qpack_connection.specs.Blocked.{without, with_blocked}
+use Rattle.qpack_ends.specs.declared.blocked.BlockedStream.{BlockedStream}
+use Rattle.qpack_ends.specs.Blocked.{without, with_blocked}
 use Rattle.qpack_connection.specs.Connections.{SentSection, Connection}
-use Rattle.qpack_connection.specs.Encoders.{EncodingEnd, IsSound, IsToBeTold, HasReceived, begun, begun_with, code_of}
+use Rattle.qpack_ends.specs.Encoders.{EncodingEnd, IsSound, IsToBeTold, HasReceived, begun, begun_with, code_of}
 use Rattle.qpack_connection.specs.Waiting.{AreOfOneEach, IsNextOf, BlockedAreNext}
-use Rattle.qpack_connection.specs.declared.encoder.EncodingError.{EncodingError}
-use Rattle.qpack_connection.proofs.BlockedStreams.{once_without, once_with, all_with}
-use Rattle.qpack_connection.proofs.Encoders.{told_still}
+use Rattle.qpack_ends.specs.declared.encoder.EncodingError.{EncodingError}
+use Rattle.qpack_ends.proofs.BlockedStreams.{once_without, once_with, all_with}
+use Rattle.qpack_ends.proofs.Encoders.{told_still}
 use Rattle.qpack_connection.proofs.WaitingStreams.{apart_swap}
 
 -- ---- the encoder stays sound

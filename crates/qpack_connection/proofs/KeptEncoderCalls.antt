@@ -9,21 +9,21 @@ use Rattle.qpack_spec.specs.Session.{RequestStream, stream_at, oldest_undecoded}
 use Rattle.qpack_spec.specs.Table.{Table}
 use Rattle.qpack_safety.specs.AbstractSession.{abstract_start}
 use Rattle.qpack_safety.specs.TwoEnds.{EndStep, after_end_steps}
-use Rattle.qpack_connection.specs.declared.encoder.EncodingError.{EncodingError}
-use Rattle.qpack_connection.specs.declared.encoder.EncodingError.TheVariants as encoding
+use Rattle.qpack_ends.specs.declared.encoder.EncodingError.{EncodingError}
+use Rattle.qpack_ends.specs.declared.encoder.EncodingError.TheVariants as encoding
 use Rattle.qpack_connection.specs.Connections.{SentSection, Connection, Call, Encode, SetCapacity, Hear}
 use Rattle.qpack_connection.specs.Connections.{Step, EncodesOn, SetsCapacityOn, HearsOn}
 use Rattle.qpack_connection.specs.Connections.{next_of}
-use Rattle.qpack_connection.specs.Decoders.{DecodingEnd}
-use Rattle.qpack_connection.specs.Encoders.{EncodingEnd, IsSound, IsToBeTold, begun, WritesSection, WritesAlone}
-use Rattle.qpack_connection.specs.Encoders.{ReceivesBytes, Encodes, SetsIt, first_capacity}
-use Rattle.qpack_connection.specs.Encoders as encoders
-use Rattle.qpack_connection.specs.Hearing as hearing
+use Rattle.qpack_ends.specs.Decoders.{DecodingEnd}
+use Rattle.qpack_ends.specs.Encoders.{EncodingEnd, IsSound, IsToBeTold, begun, WritesSection, WritesAlone}
+use Rattle.qpack_ends.specs.Encoders.{ReceivesBytes, Encodes, SetsIt, first_capacity}
+use Rattle.qpack_ends.specs.Encoders as encoders
+use Rattle.qpack_ends.specs.Hearing as hearing
 use Rattle.qpack_connection.specs.RefinedConnections.{received_of, RefinesSession}
 use Rattle.qpack_connection.specs.RefinedStreams.{IsOpen}
 use Rattle.qpack_connection.specs.TwoEndsHeadline.{Answers, Fits}
 use Rattle.qpack_connection.specs.Waiting.{BlockedAreNext}
-use Rattle.qpack_connection.proofs.Encoders.{received_sound}
+use Rattle.qpack_ends.proofs.Encoders.{received_sound}
 use Rattle.qpack_connection.proofs.KeptConnections.{sound_sent, sound_begun, sound_set, begun_failure, waiting_same}
 use Rattle.qpack_connection.proofs.KeptConnections.{next_more}
 use Rattle.qpack_connection.proofs.RefinedCapacities.{capacities_refined}

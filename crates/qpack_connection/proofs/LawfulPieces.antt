@@ -16,12 +16,12 @@ use Rattle.qpack_spec.specs.Window.{TableRefusal}
 use Rattle.qpack_spec.proofs.Cuttings.{wire, refusal_apart, nil_append, reads_front}
 use Rattle.qpack_spec.proofs.LawfulStreams.{never_refused}
 use Rattle.qpack_spec.proofs.Results.{bind_ok, ok_is}
-use Rattle.h3_qpack.specs.declared.error.DecoderError.{DecoderError}
-use Rattle.qpack_connection.specs.declared.hearing.HearingError.{HearingError}
-use Rattle.qpack_connection.specs.Hearing as hearing
-use Rattle.qpack_connection.specs.Hearing.{TellsRefusal}
+use Rattle.qpack_codec.specs.declared.error.DecoderError.{DecoderError}
+use Rattle.qpack_ends.specs.declared.hearing.HearingError.{HearingError}
+use Rattle.qpack_ends.specs.Hearing as hearing
+use Rattle.qpack_ends.specs.Hearing.{TellsRefusal}
 use Rattle.qpack_connection.specs.LawfulPieces.{EncoderStreamsAreNeverRefused, DecoderStreamsAreNeverRefused}
-use Rattle.qpack_connection.specs.Receiving.{Refuses, bad_bytes, bad_instruction, no_capacity, too_large}
+use Rattle.qpack_ends.specs.Receiving.{Refuses, bad_bytes, bad_instruction, no_capacity, too_large}
 
 -- ---- the encoder stream
 

@@ -16,9 +16,9 @@ use Rattle.qpack_spec.proofs.Results.{chosen}
 use Rattle.qpack_safety.specs.AbstractSession.{AbstractSession, abstract_start, after_resize}
 use Rattle.qpack_safety.specs.TwoEnds.{EndStep, Resize, after_end_steps}
 use Rattle.qpack_connection.specs.Connections.{Wire, Connection, with_encoder}
-use Rattle.qpack_connection.specs.Encoders.{EncodingEnd, TellsCapacity}
-use Rattle.qpack_connection.specs.Hearing as hearing
-use Rattle.qpack_connection.specs.Receiving as receiving
+use Rattle.qpack_ends.specs.Encoders.{EncodingEnd, TellsCapacity}
+use Rattle.qpack_ends.specs.Hearing as hearing
+use Rattle.qpack_ends.specs.Receiving as receiving
 use Rattle.qpack_connection.specs.RefinedConnections.{received_of, RefinesSession, NewConnectionsAreRefined}
 use Rattle.qpack_connection.specs.RefinedConnections.{CapacitiesAreRefined}
 use Rattle.qpack_connection.proofs.RefinedConnections.{written_more, after_more}

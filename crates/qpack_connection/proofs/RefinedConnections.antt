@@ -30,13 +30,13 @@ use Rattle.qpack_safety.proofs.TwoEnds.{holds_started, holds_behind}
 use Rattle.qpack_safety.proofs.WritingEvents.{few_insertions}
 use Rattle.qpack_connection.specs.Connections.{SentSection, Connection, with_encoder, with_section}
 use Rattle.qpack_connection.specs.ChosenSections.{WritesChosen}
-use Rattle.qpack_connection.specs.Encoders.{EncodingEnd, IsToBeTold, begun, begun_with, WritesAlone}
-use Rattle.qpack_connection.specs.Hearing as hearing
-use Rattle.qpack_connection.specs.Receiving as receiving
+use Rattle.qpack_ends.specs.Encoders.{EncodingEnd, IsToBeTold, begun, begun_with, WritesAlone}
+use Rattle.qpack_ends.specs.Hearing as hearing
+use Rattle.qpack_ends.specs.Receiving as receiving
 use Rattle.qpack_connection.specs.RefinedConnections.{received_of, RefinesSection, RefinesStream, RefinesSession}
 use Rattle.qpack_connection.specs.RefinedConnections.{EncodesAreRefined}
 use Rattle.qpack_connection.proofs.ChosenSections.{encode_chosen}
-use Rattle.qpack_connection.proofs.Encoders.{takes_capacity}
+use Rattle.qpack_ends.proofs.Encoders.{takes_capacity}
 
 -- ---- the encoder writes
 

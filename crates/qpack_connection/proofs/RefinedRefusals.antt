@@ -15,13 +15,13 @@ use Rattle.qpack_safety.specs.TwoEnds.{EndStep, Abandon, after_end_step, after_e
 use Rattle.qpack_safety.proofs.Invariant.{Invariant}
 use Rattle.qpack_safety.proofs.TwoEnds.{holds_started, holds_behind}
 use Rattle.qpack_safety.proofs.WritingEvents.{few_insertions}
-use Rattle.qpack_connection.specs.declared.decoder.DecodingError.TheVariants as decoding
-use Rattle.qpack_connection.specs.declared.encoder.EncodingError.TheVariants as encoding
-use Rattle.qpack_connection.specs.Decoders as decoders
+use Rattle.qpack_ends.specs.declared.decoder.DecodingError.TheVariants as decoding
+use Rattle.qpack_ends.specs.declared.encoder.EncodingError.TheVariants as encoding
+use Rattle.qpack_ends.specs.Decoders as decoders
 use Rattle.qpack_connection.specs.Connections.{Connection, with_encoder, with_decoder}
-use Rattle.qpack_connection.specs.Decoders.{DecodingEnd}
+use Rattle.qpack_ends.specs.Decoders.{DecodingEnd}
 use Rattle.qpack_connection.specs.ChosenSections.{StopsAmongChosen, RunsOutOfMemory}
-use Rattle.qpack_connection.specs.Encoders.{EncodingEnd, begun, begun_with, Checks}
+use Rattle.qpack_ends.specs.Encoders.{EncodingEnd, begun, begun_with, Checks}
 use Rattle.qpack_connection.specs.RefinedConnections.{RefinesSession}
 use Rattle.qpack_connection.specs.RefinedRefusals.{StopsEncoding, RefusedEncodesAreRefined}
 use Rattle.qpack_connection.specs.RefinedRefusals.{RefusedCapacitiesAreRefined, RefusedCancellationsAreRefined}

@@ -9,12 +9,12 @@ use Rattle.std.specs.Prelude.{if◌then◌else◌}
 use Rattle.qpack_base.specs.declared.coding.NoMemory.{NoMemory}
 use Rattle.qpack_spec.specs.Field.{FieldLine}
 use Rattle.qpack_spec.specs.Session.{RequestStream, stream_at}
-use Rattle.h3_qpack.proofs.Streams.{stream_found, stream_put}
-use Rattle.h3_qpack.specs.Sessions.{KeepsStreams, ChangesStream}
-use Rattle.qpack_connection.specs.declared.encoder.EncodingError.{EncodingError}
+use Rattle.qpack_codec.proofs.Streams.{stream_found, stream_put}
+use Rattle.qpack_codec.specs.RequestStreams.{KeepsStreams, ChangesStream}
+use Rattle.qpack_ends.specs.declared.encoder.EncodingError.{EncodingError}
 use Rattle.qpack_connection.specs.ConnectionEvents.{Sends, SendsAmong}
 use Rattle.qpack_connection.specs.Connections.{SentSection}
-use Rattle.qpack_connection.specs.Encoders.{EncodingEnd}
+use Rattle.qpack_ends.specs.Encoders.{EncodingEnd}
 
 module _ (before opened : List (ℕ × RequestStream SentSection)) (m n : BTreeMap ℕ (RequestStream SentSection))
     (number : ℕ) (seen k : RequestStream SentSection) where

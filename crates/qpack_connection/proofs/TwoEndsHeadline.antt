@@ -14,14 +14,14 @@ use Rattle.qpack_safety.specs.AbstractSession.{abstract_start}
 use Rattle.qpack_safety.specs.TwoEnds.{EndStep, after_end_steps}
 use Rattle.qpack_safety.proofs.CountedBlocks.{waiting_within}
 use Rattle.qpack_safety.proofs.TwoEnds.{strict_ends_safe}
-use Rattle.qpack_connection.specs.declared.blocked.BlockedStream.{BlockedStream}
-use Rattle.qpack_connection.specs.declared.encoder.EncoderSettings.{EncoderSettings}
-use Rattle.qpack_connection.specs.declared.encoder.EncodingError.{EncodingError}
+use Rattle.qpack_ends.specs.declared.blocked.BlockedStream.{BlockedStream}
+use Rattle.qpack_ends.specs.declared.encoder.EncoderSettings.{EncoderSettings}
+use Rattle.qpack_ends.specs.declared.encoder.EncodingError.{EncodingError}
 use Rattle.qpack_connection.specs.Connections.{Connection, IsNew, Call, Encode, SetCapacity, Hear, Receive}
 use Rattle.qpack_connection.specs.Connections.{Decode, Cancel, Step, Run}
-use Rattle.qpack_connection.specs.Encoders.{EncodingEnd, Starts, IsSound, IsToBeTold, begun, WritesSection, WritesAlone}
-use Rattle.qpack_connection.specs.Encoders.{ReceivesBytes, Encodes, SetsIt, first_capacity}
-use Rattle.qpack_connection.specs.Encoders as encoders
+use Rattle.qpack_ends.specs.Encoders.{EncodingEnd, Starts, IsSound, IsToBeTold, begun, WritesSection, WritesAlone}
+use Rattle.qpack_ends.specs.Encoders.{ReceivesBytes, Encodes, SetsIt, first_capacity}
+use Rattle.qpack_ends.specs.Encoders as encoders
 use Rattle.qpack_connection.specs.TwoEndsHeadline.{Fits, IsWithin, AllFit, AllAnswer}
 use Rattle.qpack_connection.specs.TwoEndsHeadline.{TwoEndsAnswerWhatWasHanded}
 use Rattle.qpack_connection.specs.Waiting.{AreOfOneEach, IsNextOf}

@@ -15,15 +15,15 @@ use Rattle.qpack_spec.proofs.ChosenDrafts.{chosen_drafts}
 use Rattle.qpack_safety.proofs.Encoding.{same_committed}
 use Rattle.qpack_connection.specs.LawfulDecoders.{CountsSection, Counts}
 use Rattle.qpack_spec.proofs.LawfulDecoders.{instructions_heard, go_on}
-use Rattle.qpack_connection.specs.declared.encoder.EncoderSettings.{EncoderSettings}
-use Rattle.qpack_connection.specs.declared.encoder.EncodingError.{EncodingError}
-use Rattle.qpack_connection.specs.declared.encoder.EncodingError.TheVariants.{DecoderStream, CapacityTooLarge}
-use Rattle.qpack_connection.specs.declared.encoder.EncodingError.TheVariants.{EntriesHeld, NoStream, Memory}
+use Rattle.qpack_ends.specs.declared.encoder.EncoderSettings.{EncoderSettings}
+use Rattle.qpack_ends.specs.declared.encoder.EncodingError.{EncodingError}
+use Rattle.qpack_ends.specs.declared.encoder.EncodingError.TheVariants.{DecoderStream, CapacityTooLarge}
+use Rattle.qpack_ends.specs.declared.encoder.EncodingError.TheVariants.{EntriesHeld, NoStream, Memory}
 use Rattle.qpack_connection.specs.ChosenSections.{WritesChosen, RunsOutOfMemory, EncodesByChoice}
-use Rattle.qpack_connection.specs.Encoders.{EncodingEnd, IsSound, IsToBeTold, Starts, begun, begun_with}
-use Rattle.qpack_connection.specs.Encoders.{told, with_section, StopsForMemory, SetsCapacity}
-use Rattle.qpack_connection.specs.Encoders.{WritesSection, WritesAlone, Encodes, ReceivesBytes}
-use Rattle.qpack_connection.specs.Hearing.{Receives}
+use Rattle.qpack_ends.specs.Encoders.{EncodingEnd, IsSound, IsToBeTold, Starts, begun, begun_with}
+use Rattle.qpack_ends.specs.Encoders.{told, with_section, StopsForMemory, SetsCapacity}
+use Rattle.qpack_ends.specs.Encoders.{WritesSection, WritesAlone, Encodes, ReceivesBytes}
+use Rattle.qpack_ends.specs.Hearing.{Receives}
 use Rattle.qpack_connection.specs.LawfulDecoders.{Call, Encode, SetCapacity, Receive, Sent, Step, Run, IsCareful}
 use Rattle.qpack_connection.specs.LawfulDecoders.{AllCareful, EncodersAreCareful, IsLawful, IsLawfulCall, AreLawful}
 use Rattle.qpack_connection.specs.LawfulDecoders.{GoesOn, Answers, AllAnswer, LawfulDecodersAreUnderstood}
@@ -31,7 +31,7 @@ use Rattle.qpack_connection.proofs.CarefulTables.{IsCarefulTable, careful_needed
 use Rattle.qpack_connection.proofs.CarefulTables.{careful_section, careful_given_up, careful_capacity}
 use Rattle.qpack_connection.proofs.CarefulTables.{careful_hearing, quiet_unblocked}
 use Rattle.qpack_connection.proofs.ChosenSections.{encode_chosen}
-use Rattle.qpack_connection.proofs.Encoders.{takes_capacity, told_still, received_sound, refused_sound}
+use Rattle.qpack_ends.proofs.Encoders.{takes_capacity, told_still, received_sound, refused_sound}
 use Rattle.qpack_connection.proofs.KeptConnections.{sound_begun, sound_set, begun_failure}
 use Rattle.qpack_connection.proofs.LawfulPieces.{decoder_streams_heard}
 use Rattle.qpack_connection.proofs.TwoEndsHeadline.{sound_first}

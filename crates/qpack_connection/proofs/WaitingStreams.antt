@@ -13,8 +13,8 @@ use Rattle.qpack_safety.specs.AbstractSession.{AbstractSession, abstract_start}
 use Rattle.qpack_safety.specs.TwoEnds.{EndStep, after_end_steps}
 use Rattle.qpack_safety.proofs.CountedBlocks.{AreWaiting, waiting_within}
 use Rattle.qpack_safety.proofs.TwoEnds.{strict_ends_safe}
-use Rattle.qpack_connection.specs.declared.blocked.BlockedStream.{BlockedStream}
-use Rattle.qpack_connection.specs.Blocked.{is_listed, required_of, exceeds}
+use Rattle.qpack_ends.specs.declared.blocked.BlockedStream.{BlockedStream}
+use Rattle.qpack_ends.specs.Blocked.{is_listed, required_of, exceeds}
 use Rattle.qpack_connection.specs.Connections.{SentSection, Connection}
 use Rattle.qpack_connection.specs.RefinedConnections.{RefinesSession}
 use Rattle.qpack_connection.specs.RefinedDecodes.{MayWait}

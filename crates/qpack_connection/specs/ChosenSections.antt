@@ -8,9 +8,9 @@ use Rattle.qpack_spec.specs.Instruction.{written_encoder_instructions}
 use Rattle.qpack_spec.specs.Marked.{written_marked_block}
 use Rattle.qpack_spec.specs.Rule.{required_insert_count, block_of, committed_table}
 use Rattle.qpack_spec.specs.Table.{Table, without_references}
-use Rattle.qpack_connection.specs.declared.encoder.EncodingError.{EncodingError}
-use Rattle.qpack_connection.specs.declared.encoder.EncodingError.TheVariants.{Memory}
-use Rattle.qpack_connection.specs.Encoders.{EncodingEnd, begun, is_full, with_section, Checks, WritesAlone, Encodes}
+use Rattle.qpack_ends.specs.declared.encoder.EncodingError.{EncodingError}
+use Rattle.qpack_ends.specs.declared.encoder.EncodingError.TheVariants.{Memory}
+use Rattle.qpack_ends.specs.Encoders.{EncodingEnd, begun, is_full, with_section, Checks, WritesAlone, Encodes}
 
 -- the block of the field lines was written under some choices: its bytes, its instructions and the table after it are
 -- those of the choices, and what is answered is its required insert count (section 2.1.2)

@@ -7,7 +7,7 @@ use Rattle.std.specs.Option.{is_some}
 use Rattle.qpack_spec.specs.Field.{FieldLine, fields_of_lines}
 use Rattle.qpack_spec.specs.Session.{RequestStream, stream_at, oldest_undecoded}
 use Rattle.qpack_spec.specs.WrittenLaws.{IsByteField}
-use Rattle.h3_qpack.specs.Sessions.{KeepsStreams, ChangesStream}
+use Rattle.qpack_codec.specs.RequestStreams.{KeepsStreams, ChangesStream}
 use Rattle.qpack_connection.specs.declared.connection.ConnectionSettings.{ConnectionSettings}
 use Rattle.qpack_connection.specs.declared.connection.Event.{Event}
 use Rattle.qpack_connection.specs.declared.connection.Event.TheVariants as event
@@ -15,12 +15,12 @@ use Rattle.qpack_connection.specs.declared.connection.Outcome.{Outcome}
 use Rattle.qpack_connection.specs.declared.connection.Outcome.TheVariants as outcome
 use Rattle.qpack_connection.specs.declared.connection.Skip.{Skip}
 use Rattle.qpack_connection.specs.declared.connection.Skip.TheVariants.{NothingToDecode, StreamCancelled}
-use Rattle.qpack_connection.specs.declared.encoder.EncoderSettings.{EncoderSettings}
-use Rattle.qpack_connection.specs.declared.encoder.EncodingError.{EncodingError}
+use Rattle.qpack_ends.specs.declared.encoder.EncoderSettings.{EncoderSettings}
+use Rattle.qpack_ends.specs.declared.encoder.EncodingError.{EncodingError}
 use Rattle.qpack_connection.specs.Connections.{SentSection, Connection, IsNew, Call, Encode, SetCapacity, Hear}
 use Rattle.qpack_connection.specs.Connections.{Receive, Decode, Cancel, Step, Run}
-use Rattle.qpack_connection.specs.Decoders.{DecodingEnd}
-use Rattle.qpack_connection.specs.Encoders.{EncodingEnd, Encodes}
+use Rattle.qpack_ends.specs.Decoders.{DecodingEnd}
+use Rattle.qpack_ends.specs.Encoders.{EncodingEnd, Encodes}
 use Rattle.qpack_connection.specs.OwnedLines.{lines_of}
 use Rattle.qpack_connection.specs.TwoEndsHeadline.{Fits, AllFit}
 

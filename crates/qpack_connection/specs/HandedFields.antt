@@ -2,7 +2,7 @@
 -- rule stands here.
 use Rattle.std.specs.Prelude.{◌≡◌, ℕ, nat_eq, if◌then◌else◌, List, [], ◌∷◌, ◌++◌, Ok}
 use Rattle.qpack_spec.specs.Field.{FieldLine}
-use Rattle.qpack_connection.specs.declared.section.Reading.TheVariants as reading
+use Rattle.qpack_ends.specs.declared.section.Reading.TheVariants as reading
 use Rattle.qpack_connection.specs.Connections.{Call, Encode, Decode}
 
 -- the fields that a call handed to an encode for a stream, if that was answered

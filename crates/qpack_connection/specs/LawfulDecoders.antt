@@ -11,11 +11,11 @@ use Rattle.qpack_spec.specs.Marked.{written_marked_block}
 use Rattle.qpack_spec.specs.Reading.{Block, references_of}
 use Rattle.qpack_spec.specs.Stream.{SpellsAll}
 use Rattle.qpack_spec.specs.Table.{insert_count, with_numbers, with_unacknowledged}
-use Rattle.qpack_connection.specs.declared.encoder.EncoderSettings.{EncoderSettings}
-use Rattle.qpack_connection.specs.declared.encoder.EncodingError.{EncodingError}
-use Rattle.qpack_connection.specs.Encoders.{EncodingEnd, Starts, begun, is_full, Encodes, SetsCapacity, StopsTelling}
-use Rattle.qpack_connection.specs.Encoders.{ReceivesBytes}
-use Rattle.qpack_connection.specs.Hearing.{Receives}
+use Rattle.qpack_ends.specs.declared.encoder.EncoderSettings.{EncoderSettings}
+use Rattle.qpack_ends.specs.declared.encoder.EncodingError.{EncodingError}
+use Rattle.qpack_ends.specs.Encoders.{EncodingEnd, Starts, begun, is_full, Encodes, SetsCapacity, StopsTelling}
+use Rattle.qpack_ends.specs.Encoders.{ReceivesBytes}
+use Rattle.qpack_ends.specs.Hearing.{Receives}
 use Rattle.qpack_connection.specs.RefinedRefusals.{StopsEncoding}
 
 -- ---- the calls

@@ -11,13 +11,13 @@ use Rattle.qpack_spec.specs.LawfulEncoders.{IsLawfulEncoder, IsLawfulSection}
 use Rattle.qpack_spec.specs.Stream.{SpellsAll}
 use Rattle.qpack_spec.specs.StrictReading.{strict_reading}
 use Rattle.qpack_spec.specs.Table.{Table, insert_count, window, has_number}
-use Rattle.qpack_connection.specs.declared.decoder.DecoderSettings.{DecoderSettings}
-use Rattle.qpack_connection.specs.declared.decoder.DecodingError.{DecodingError}
-use Rattle.qpack_connection.specs.declared.decoder.DecodingError.TheVariants.{Memory}
-use Rattle.qpack_connection.specs.declared.section.Reading.{Reading}
+use Rattle.qpack_ends.specs.declared.decoder.DecoderSettings.{DecoderSettings}
+use Rattle.qpack_ends.specs.declared.decoder.DecodingError.{DecodingError}
+use Rattle.qpack_ends.specs.declared.decoder.DecodingError.TheVariants.{Memory}
+use Rattle.qpack_ends.specs.declared.section.Reading.{Reading}
 use Rattle.qpack_connection.specs.Connections.{SentSection}
-use Rattle.qpack_connection.specs.Decoders.{DecodingEnd, Begins, Decodes, Cancels, ReceivesBytes}
-use Rattle.qpack_connection.specs.Receiving.{Receives}
+use Rattle.qpack_ends.specs.Decoders.{DecodingEnd, Begins, Decodes, Cancels, ReceivesBytes}
+use Rattle.qpack_ends.specs.Receiving.{Receives}
 use Rattle.qpack_connection.specs.RefinedDecodes.{AnswersSection}
 use Rattle.qpack_connection.specs.RefinedRefusals.{StopsCancelling}
 

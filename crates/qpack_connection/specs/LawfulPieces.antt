@@ -5,13 +5,13 @@ use Rattle.qpack_spec.specs.Instruction.{EncoderInstruction, DecoderInstruction,
 use Rattle.qpack_spec.specs.LawfulStreams.{IsLawfulStream}
 use Rattle.qpack_spec.specs.Stream.{SpellsAll}
 use Rattle.qpack_spec.specs.Table.{Table}
-use Rattle.h3_qpack.specs.declared.error.DecoderError.{DecoderError}
-use Rattle.qpack_connection.specs.declared.hearing.DecoderStreamError.{DecoderStreamError}
-use Rattle.qpack_connection.specs.declared.place.Place.{Place}
-use Rattle.qpack_connection.specs.declared.receiving.EncoderStreamError.TheVariants.{Refused}
-use Rattle.qpack_connection.specs.Hearing as hearing
-use Rattle.qpack_connection.specs.Hearing.{hear_in_turn}
-use Rattle.qpack_connection.specs.Receiving as receiving
+use Rattle.qpack_codec.specs.declared.error.DecoderError.{DecoderError}
+use Rattle.qpack_ends.specs.declared.hearing.DecoderStreamError.{DecoderStreamError}
+use Rattle.qpack_ends.specs.declared.place.Place.{Place}
+use Rattle.qpack_ends.specs.declared.receiving.EncoderStreamError.TheVariants.{Refused}
+use Rattle.qpack_ends.specs.Hearing as hearing
+use Rattle.qpack_ends.specs.Hearing.{hear_in_turn}
+use Rattle.qpack_ends.specs.Receiving as receiving
 
 -- the bytes that were handed in and those that are to come are a lawful encoder stream: the call does not answer that
 -- it is refused

@@ -14,9 +14,9 @@ use Rattle.qpack_safety.specs.Refines.{Agrees}
 use Rattle.qpack_safety.specs.TwoEnds.{EndStep, after_end_steps}
 use Rattle.qpack_connection.specs.Connections.{Wire, SentSection, Connection, IsNew, EncodesOn, SetsCapacityOn}
 use Rattle.qpack_connection.specs.Connections.{CancelsOn}
-use Rattle.qpack_connection.specs.Encoders.{IsSound}
-use Rattle.qpack_connection.specs.Hearing as hearing
-use Rattle.qpack_connection.specs.Receiving as receiving
+use Rattle.qpack_ends.specs.Encoders.{IsSound}
+use Rattle.qpack_ends.specs.Hearing as hearing
+use Rattle.qpack_ends.specs.Receiving as receiving
 
 -- what came of a stream
 abbrev pub received_of : Wire → List ℕ

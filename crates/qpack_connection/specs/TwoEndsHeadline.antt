@@ -6,13 +6,13 @@ use Rattle.std.specs.List.{AllByRecursion}
 use Rattle.qpack_spec.specs.Field.{fields_of_lines}
 use Rattle.qpack_spec.specs.Table.{insert_count}
 use Rattle.qpack_spec.specs.WrittenLaws.{IsByteField}
-use Rattle.qpack_connection.specs.declared.decoder.DecodingError.{DecodingError}
-use Rattle.qpack_connection.specs.declared.section.Reading.{Reading}
-use Rattle.qpack_connection.specs.declared.section.Reading.TheVariants as reading
+use Rattle.qpack_ends.specs.declared.decoder.DecodingError.{DecodingError}
+use Rattle.qpack_ends.specs.declared.section.Reading.{Reading}
+use Rattle.qpack_ends.specs.declared.section.Reading.TheVariants as reading
 use Rattle.qpack_connection.specs.Connections.{Connection, IsNew, Call, Encode, SetCapacity, Hear, Receive, Decode}
 use Rattle.qpack_connection.specs.Connections.{Cancel, Step, Run}
-use Rattle.qpack_connection.specs.Decoders.{blocked_streams}
-use Rattle.qpack_connection.specs.Encoders.{StopsTelling}
+use Rattle.qpack_ends.specs.Decoders.{blocked_streams}
+use Rattle.qpack_ends.specs.Encoders.{StopsTelling}
 use Rattle.qpack_connection.specs.RefinedDecodes.{AnswersSection}
 use Rattle.qpack_connection.specs.RefinedRefusals.{StopsEncoding, StopsCancelling}
 use Rattle.qpack_connection.specs.RefinedStreams.{IsOpen, AnswersTotal}

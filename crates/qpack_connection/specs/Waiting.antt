@@ -3,8 +3,8 @@
 use Rattle.std.specs.Prelude.{◌≡◌, Some}
 use Rattle.std.specs.List.{AllByRecursion}
 use Rattle.qpack_spec.specs.Session.{stream_at, oldest_undecoded}
-use Rattle.qpack_connection.specs.declared.blocked.BlockedStream.{BlockedStream}
-pub use Rattle.qpack_connection.specs.Blocked.{AreOfOneEach}
+use Rattle.qpack_ends.specs.declared.blocked.BlockedStream.{BlockedStream}
+pub use Rattle.qpack_ends.specs.Blocked.{AreOfOneEach}
 use Rattle.qpack_connection.specs.Connections.{SentSection, Connection}
 
 -- the next section of the stream requires so many insertions

@@ -7,16 +7,16 @@ ghost use Rattle.qpack_connection.specs.ConnectionRuns.{AnswersEvent, StepsAll, 
 ghost use Rattle.qpack_connection.specs.ConnectionRuns.{AnswerWhatWasHanded, calls_of};
 ghost use Rattle.qpack_connection.specs.HandedFields.{DecodeInOrder};
 ghost use Rattle.qpack_connection.specs.declared.connection.RunError.TheVariants.{Settings, Memory};
-ghost use Rattle.qpack_connection.specs.Decoders.{FailsSettings};
+ghost use Rattle.qpack_ends.specs.Decoders.{FailsSettings};
 ghost use Rattle.qpack_connection.specs.TwoEndsHeadline.{IsWithin};
 
 use crate::connection::ends::Ends;
-use crate::decoder::{ConnectionDecoder, DecoderSettings, DecodingError, SettingsError};
-use crate::encoder::{
+use qpack_ends::decoder::{ConnectionDecoder, DecoderSettings, DecodingError, SettingsError};
+use qpack_ends::encoder::{
     ConnectionEncoder, DEFAULT_CAPACITY, DEFAULT_UNACKNOWLEDGED, EncoderSettings, EncodingError,
 };
-use crate::field_section::FieldSection;
-use crate::section::Reading;
+use qpack_ends::field_section::FieldSection;
+use qpack_ends::section::Reading;
 use std::alloc::{AllocError, Global};
 use std::marker::Model;
 use thiserror::Error;

@@ -2,9 +2,8 @@
 #![tactic(auto)]
 
 use anyhow::Result;
-use h3_qpack::coding::Cursor;
-use qpack_connection::{
-    ConnectionDecoder, ConnectionEncoder, DecoderSettings, EncoderSettings, FieldLine,
+use qpack_ends::{
+    ConnectionDecoder, ConnectionEncoder, Cursor, DecoderSettings, EncoderSettings, FieldLine,
     FieldSection, Reading,
 };
 use std::alloc::Global;

@@ -5,7 +5,7 @@ use Rattle.std.proofs.Common.{inl, inr}
 use Rattle.std.specs.Prelude.{get_or}
 use Rattle.std.proofs.lemmas.List.{drop-append-le, drop-drop, drop_more, drop_all, length-drop, take_rest}
 use Rattle.qpack_spec.specs.Table.{Table}
-use Rattle.h3_qpack.specs.declared.error.DecoderError.{DecoderError}
+use Rattle.qpack_codec.specs.declared.error.DecoderError.{DecoderError}
 use Rattle.qpk.specs.Inspecting.{Event, Piece, Section, Inspects}
 use Rattle.qpk.specs.Inspections.{event_of, events_in, InspectsInstructions, FailsInstructions, InspectsBlock}
 use Rattle.qpk.specs.Inspections.{FailsInspecting}

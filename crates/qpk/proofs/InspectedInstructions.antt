@@ -12,10 +12,10 @@ use Rattle.qpack_spec.proofs.Taking.{joined_last, applied_last}
 use Rattle.qpack_wire.specs.StreamAnswers.{DecodesInstruction, StaysUnlessRead}
 use Rattle.qpack_wire.specs.StreamLines.{RefusesEncoderLine, encoder_instruction_of}
 use Rattle.qpack_wire.specs.declared.stream.encoder_stream.EncoderLine.{EncoderLine}
-use Rattle.h3_qpack.specs.Receiving.{Stops}
-use Rattle.h3_qpack.proofs.Instructions.{no_line}
-use Rattle.h3_qpack.specs.declared.error.DecoderError.{DecoderError}
-use Rattle.h3_qpack.specs.declared.error.DecoderError.TheVariants as decoder
+use Rattle.qpack_codec.specs.Receiving.{Stops}
+use Rattle.qpack_codec.proofs.Instructions.{no_line}
+use Rattle.qpack_codec.specs.declared.error.DecoderError.{DecoderError}
+use Rattle.qpack_codec.specs.declared.error.DecoderError.TheVariants as decoder
 use Rattle.qpk.specs.Answers.{fault_of_decoder}
 use Rattle.qpk.specs.Inspecting.{instruction_text, instructions_text, received_text}
 use Rattle.qpk.specs.Inspections.{ReadsNext, RefusesWhole, FailsWhole, InspectsOne, FailsNext, InspectsNext}

@@ -8,10 +8,10 @@ use Rattle.qpack_spec.specs.Stream.{SpellsAll, Holds}
 use Rattle.qpack_spec.specs.Table.{Table, apply_encoder_instruction}
 use Rattle.qpack_spec.proofs.Cuttings.{wire, nil_append, streams_read}
 use Rattle.qpack_spec.proofs.Results.{bind_ok, ok_is}
-use Rattle.h3_qpack.specs.Receiving.{DecoderView, Stops, no_memory, bad_bytes, bad_instruction, TakesInstructions}
-use Rattle.h3_qpack.specs.Receiving.{EndsReceiving, Receives}
-use Rattle.h3_qpack.specs.declared.error.DecoderError.{DecoderError}
-use Rattle.h3_qpack.specs.declared.error.DecoderError.TheVariants.{Memory}
+use Rattle.qpack_codec.specs.Receiving.{DecoderView, Stops, no_memory, bad_bytes, bad_instruction, TakesInstructions}
+use Rattle.qpack_codec.specs.Receiving.{EndsReceiving, Receives}
+use Rattle.qpack_codec.specs.declared.error.DecoderError.{DecoderError}
+use Rattle.qpack_codec.specs.declared.error.DecoderError.TheVariants.{Memory}
 use Rattle.qpk.specs.Inspections.{RefusesWhole}
 
 -- ---- it is applied

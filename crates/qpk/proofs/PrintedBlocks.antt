@@ -14,7 +14,7 @@ use Rattle.qpack_base.specs.HeaderFields.{field_of}
 use Rattle.qpack_base.specs.declared.field.HeaderField.{HeaderField}
 use Rattle.qpack_base.specs.declared.parse_error.ParseError.{ParseError}
 use Rattle.qpack_wire.specs.Prefixes.{or_prefix_error}
-use Rattle.h3_qpack.specs.Stateless.{fields_in}
+use Rattle.qpack_codec.specs.Stateless.{fields_in}
 use Rattle.qpk.specs.Inspecting.{numbers_text, line_text, prefix_text, fields_text}
 use Rattle.qpk.specs.Inspections.{PrintsRead, PrintsSection}
 use Rattle.qpk.specs.declared.text.Fault.{Fault}

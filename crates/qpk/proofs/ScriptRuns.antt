@@ -15,17 +15,17 @@ use Rattle.qpack_spec.specs.Window.{DoesNotFit, AboveMaximum, UnknownStream}
 use Rattle.qpack_wire.specs.Memory.{AsksSectionForMemory}
 use Rattle.h3_qpack.below.qpack_table.specs.declared.dynamic.Error.TheVariants as table
 use Rattle.h3_qpack.proofs.Sessions.{run_more as run_last}
-use Rattle.h3_qpack.specs.Receiving.{AsksToTake}
-use Rattle.h3_qpack.specs.Sections.{Tells}
+use Rattle.qpack_codec.specs.Receiving.{AsksToTake}
+use Rattle.qpack_codec.specs.Sections.{Tells}
 use Rattle.h3_qpack.specs.SessionAnswers.{IsUnrefused, IsExact, IsExactBehind}
 use Rattle.h3_qpack.specs.SessionMemory.{IsAskedFor, AsksToDecode, AsksAtDecoder}
 use Rattle.h3_qpack.specs.Sessions.{SessionView, Shows, Answers, Follows, event_of, stored_block, StoredBlock}
 use Rattle.h3_qpack.specs.Sessions.{StoredStream, HasBytes, IsAnswerTo, TellsUndecoded}
 use Rattle.h3_qpack.specs.declared.session.Event.{Event as ReadEvent}
-use Rattle.h3_qpack.specs.declared.error.DecoderError.{DecoderError}
-use Rattle.h3_qpack.specs.declared.error.DecoderError.TheVariants as decoder
-use Rattle.h3_qpack.specs.declared.error.EncoderError.{EncoderError}
-use Rattle.h3_qpack.specs.declared.error.EncoderError.TheVariants as encoder
+use Rattle.qpack_codec.specs.declared.error.DecoderError.{DecoderError}
+use Rattle.qpack_codec.specs.declared.error.DecoderError.TheVariants as decoder
+use Rattle.qpack_codec.specs.declared.error.EncoderError.{EncoderError}
+use Rattle.qpack_codec.specs.declared.error.EncoderError.TheVariants as encoder
 use Rattle.h3_qpack.specs.declared.session.Outcome.{Outcome}
 use Rattle.h3_qpack.specs.declared.session.Outcome.TheVariants as outcome
 use Rattle.qpk.specs.ErrorWords.{decoder_words, encoder_words, refused_text}

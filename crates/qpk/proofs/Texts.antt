@@ -10,7 +10,7 @@ use Rattle.qpack_spec.specs.Stateless.{stateless_block, saturated_size}
 use Rattle.qpack_base.specs.declared.field.HeaderField.{HeaderField}
 use Rattle.qpack_base.specs.HeaderFields.{DrainsFields}
 use Rattle.qpack_base.proofs.FieldLists.{fields_from_slice}
-use Rattle.h3_qpack.specs.Stateless.{fields_in}
+use Rattle.qpack_codec.specs.Stateless.{fields_in}
 use Rattle.qpk.specs.Answers.{encode_answer}
 use Rattle.qpk_qif.specs.Lines.{lines_of}
 use Rattle.qpk.specs.FieldText.{fields_from}

@@ -10,10 +10,10 @@ use Rattle.qpack_spec.specs.Field.{Field}
 use Rattle.qpack_spec.specs.BlockReading.{written_block}
 use Rattle.qpack_spec.specs.Stateless.{stateless_block, stateless_reading}
 use Rattle.qpack_base.specs.declared.field.HeaderField.{HeaderField}
-use Rattle.h3_qpack.specs.Stateless.{DecodesStateless, FailsStateless, fields_in}
-use Rattle.h3_qpack.specs.declared.decoder.Decoded.{Decoded}
-use Rattle.h3_qpack.specs.declared.error.DecoderError.{DecoderError}
-use Rattle.h3_qpack.specs.declared.error.DecoderError.TheVariants as decoder
+use Rattle.qpack_codec.specs.Stateless.{DecodesStateless, FailsStateless, fields_in}
+use Rattle.qpack_codec.specs.declared.decoder.Decoded.{Decoded}
+use Rattle.qpack_codec.specs.declared.error.DecoderError.{DecoderError}
+use Rattle.qpack_codec.specs.declared.error.DecoderError.TheVariants as decoder
 use Rattle.qpk_qif.specs.Lines.{lines_of}
 use Rattle.qpk.specs.FieldText.{fields_from}
 use Rattle.qpk.specs.declared.text.Fault.{Fault}

@@ -12,10 +12,10 @@ use Rattle.h3_qpack.below.qpack_table.specs.declared.dynamic.Error.{Error as Tab
 use Rattle.h3_qpack.below.qpack_table.specs.declared.dynamic.Error.TheVariants as table
 use Rattle.h3_qpack.below.qpack_table.specs.declared.vas.Error.{Error as AddressError}
 use Rattle.h3_qpack.below.qpack_table.specs.declared.vas.Error.TheVariants as address
-use Rattle.h3_qpack.specs.declared.error.DecoderError.{DecoderError}
-use Rattle.h3_qpack.specs.declared.error.DecoderError.TheVariants as decoder
-use Rattle.h3_qpack.specs.declared.error.EncoderError.{EncoderError}
-use Rattle.h3_qpack.specs.declared.error.EncoderError.TheVariants as encoder
+use Rattle.qpack_codec.specs.declared.error.DecoderError.{DecoderError}
+use Rattle.qpack_codec.specs.declared.error.DecoderError.TheVariants as decoder
+use Rattle.qpack_codec.specs.declared.error.EncoderError.{EncoderError}
+use Rattle.qpack_codec.specs.declared.error.EncoderError.TheVariants as encoder
 use Rattle.qpk_qif.specs.declared.session.Fault.{Fault as RecordingFault}
 use Rattle.qpk_qif.specs.declared.session.Fault.TheVariants as recording
 

@@ -18,10 +18,10 @@ use Rattle.qpack_spec.specs.Stateless.{saturated_size}
 use Rattle.qpack_spec.specs.Table.{Table, empty_table, window, insert_count}
 use Rattle.qpack_spec.specs.Window.{maximum_capacity}
 use Rattle.qpack_wire.specs.Blocks.{SpellsBlock}
-use Rattle.h3_qpack.specs.Receiving.{TakesInstructions}
-use Rattle.h3_qpack.specs.declared.error.DecoderError.{DecoderError}
-use Rattle.h3_qpack.specs.declared.error.DecoderError.TheVariants.{Memory}
-use Rattle.h3_qpack.specs.Sections.{Tells}
+use Rattle.qpack_codec.specs.Receiving.{TakesInstructions}
+use Rattle.qpack_codec.specs.declared.error.DecoderError.{DecoderError}
+use Rattle.qpack_codec.specs.declared.error.DecoderError.TheVariants.{Memory}
+use Rattle.qpack_codec.specs.Sections.{Tells}
 use Rattle.qpk.specs.ErrorWords.{decoder_words, refused_text}
 use Rattle.qpk_qif.specs.Lines.{lines_of, field_of_line}
 use Rattle.qpk.specs.LineItems.{items_from}

@@ -16,9 +16,9 @@ use Rattle.qpack_wire.specs.declared.block.line.BlockLine.{BlockLine}
 use Rattle.qpack_wire.specs.declared.block.prefix.HeaderPrefix.{HeaderPrefix}
 use Rattle.qpack_wire.specs.StreamLines.{encoder_instruction_of}
 use Rattle.qpack_wire.specs.declared.stream.encoder_stream.EncoderLine.{EncoderLine}
-use Rattle.h3_qpack.specs.Receiving.{Stops, TakesOne}
-use Rattle.h3_qpack.specs.declared.error.DecoderError.{DecoderError}
-use Rattle.h3_qpack.specs.declared.error.DecoderError.TheVariants as decoder
+use Rattle.qpack_codec.specs.Receiving.{Stops, TakesOne}
+use Rattle.qpack_codec.specs.declared.error.DecoderError.{DecoderError}
+use Rattle.qpack_codec.specs.declared.error.DecoderError.TheVariants as decoder
 use Rattle.qpk.specs.Answers.{FailsEvents}
 use Rattle.qpk.specs.Inspecting.{Event, Piece, Section, events_of, instruction_text, InspectsAll, InspectsUntil}
 use Rattle.qpk.specs.Inspecting.{PrintsBlock}

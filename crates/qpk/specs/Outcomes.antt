@@ -2,9 +2,9 @@
 use Rattle.std.specs.Prelude.{ℕ, List, ◌++◌, length, codes, Ok, Err}
 use Rattle.std.specs.Fmt.{decimal}
 use Rattle.qpack_spec.specs.Field.{Field}
-use Rattle.h3_qpack.specs.Stateless.{fields_in}
-use Rattle.h3_qpack.specs.declared.error.DecoderError.{DecoderError}
-use Rattle.h3_qpack.specs.declared.error.DecoderError.TheVariants.{MissingRefs}
+use Rattle.qpack_codec.specs.Stateless.{fields_in}
+use Rattle.qpack_codec.specs.declared.error.DecoderError.{DecoderError}
+use Rattle.qpack_codec.specs.declared.error.DecoderError.TheVariants.{MissingRefs}
 use Rattle.h3_qpack.specs.declared.session.Outcome.{Outcome}
 use Rattle.h3_qpack.specs.declared.session.Outcome.TheVariants.{Encoded, Decoded, Delivered, Heard, Acknowledged}
 use Rattle.h3_qpack.specs.declared.session.Outcome.TheVariants.{Cancelled, CapacitySet, Skipped}

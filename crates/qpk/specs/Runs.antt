@@ -9,9 +9,9 @@ use Rattle.qpack_spec.specs.Window.{TableRefusal, DoesNotFit, AboveMaximum, Unkn
 use Rattle.qpack_wire.specs.Memory.{AsksSectionForMemory}
 use Rattle.h3_qpack.below.qpack_table.specs.declared.dynamic.Error.{Error as TableError}
 use Rattle.h3_qpack.below.qpack_table.specs.declared.dynamic.Error.TheVariants as table
-use Rattle.h3_qpack.specs.Receiving.{AsksToTake}
+use Rattle.qpack_codec.specs.Receiving.{AsksToTake}
 use Rattle.h3_qpack.specs.Sessions.{SessionView, StoredBlock, Reaches}
-use Rattle.h3_qpack.specs.declared.error.EncoderError.TheVariants.{Insertion}
+use Rattle.qpack_codec.specs.declared.error.EncoderError.TheVariants.{Insertion}
 use Rattle.qpk.specs.ErrorWords.{encoder_words, memory_words, refused_text}
 use Rattle.qpk.specs.Inspecting.{index_text}
 use Rattle.qpk.specs.Outcomes.{added_text, encoded_text, decoded_text, received_text}

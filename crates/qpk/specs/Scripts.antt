@@ -9,7 +9,7 @@ use Rattle.qpack_spec.specs.Field.{Field}
 use Rattle.qpack_spec.specs.Session.{Event, Encode, Decode, ToDecoder, ToEncoder, Acknowledge, Cancel, ChangeCapacity}
 use Rattle.qpack_base.specs.declared.field.HeaderField.{HeaderField}
 use Rattle.h3_qpack.specs.Sessions.{event_of}
-use Rattle.h3_qpack.specs.Stateless.{fields_in}
+use Rattle.qpack_codec.specs.Stateless.{fields_in}
 use Rattle.h3_qpack.specs.declared.session.Event.{Event as ReadEvent}
 use Rattle.qpk.specs.Answers.{FailsEvents}
 use Rattle.qpk_qif.specs.Lines.{with_byte, lines_of}

@@ -21,7 +21,7 @@ use Rattle.qpk.specs.declared.refusal.Refusal.TheVariants as refusal
 use Rattle.qpk.specs.declared.text.Fault.{Fault}
 use Rattle.qpk.specs.declared.text.Fault.TheVariants.{Refused, Memory}
 use Rattle.std.specs.Io.KnownBytes.{Appends}
-use Rattle.h3_qpack.specs.declared.error.DecoderError.{DecoderError}
+use Rattle.qpack_codec.specs.declared.error.DecoderError.{DecoderError}
 use Rattle.qpk.specs.Inspecting.{PrintsInspection, hexadecimal_fields}
 use Rattle.qpk.specs.Runs.{PrintsRun, HasRunFault}
 use Rattle.qpk.specs.Inspections.{FailsInspection}

@@ -5,7 +5,7 @@ ghost use Rattle.serde_json.specs.View.{view};
 ghost use Rattle.qpack_base.specs.HeaderFields.{field_of};
 ghost use Rattle.qpack_spec.specs.Field.{total_size};
 ghost use Rattle.qpack_spec.specs.Stateless.{saturated_size};
-ghost use Rattle.h3_qpack.specs.Stateless.{fields_in};
+ghost use Rattle.qpack_codec.specs.Stateless.{fields_in};
 ghost use Rattle.qpk.specs.Json.{bytes_data, field_data, fields_data, section_data, section_json};
 
 use h3_qpack::{Decoded, HeaderField};

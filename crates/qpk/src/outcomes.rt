@@ -1,7 +1,7 @@
 //! The lines that an event of a script prints.
 
 ghost use Rattle.std.specs.Prelude.{◌≡◌, ◌++◌, OnOk, string_bytes};
-ghost use Rattle.h3_qpack.specs.Stateless.{fields_in};
+ghost use Rattle.qpack_codec.specs.Stateless.{fields_in};
 ghost use Rattle.qpk.specs.Outcomes.{added_text, encoded_text, decoded_text, received_text, printed_outcome};
 
 use crate::error_words::{DecoderWords, EncoderWords, MEMORY};

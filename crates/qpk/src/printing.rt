@@ -6,7 +6,7 @@ ghost use Rattle.qpack_wire.specs.BlockLines.{line_of};
 ghost use Rattle.qpack_wire.specs.Instructions.{encoder_instruction_of_insert_with_name_ref};
 ghost use Rattle.qpack_wire.specs.Lines.{line_of_indexed, line_of_literal_with_name_ref};
 ghost use Rattle.qpack_wire.specs.StreamLines.{encoder_instruction_of};
-ghost use Rattle.h3_qpack.specs.Stateless.{fields_in};
+ghost use Rattle.qpack_codec.specs.Stateless.{fields_in};
 ghost use Rattle.qpk.specs.ErrorWords.{refused_text};
 ghost use Rattle.qpk.specs.FieldText.{text_of_fields};
 ghost use Rattle.qpk.specs.Inspecting.{hexadecimal, hexadecimal_field, hexadecimal_fields, index_text};

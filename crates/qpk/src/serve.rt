@@ -6,7 +6,7 @@ ghost use Rattle.std.specs.Io.KnownBytes.{Appends};
 ghost use Rattle.std.specs.Option.{option_map};
 ghost use Rattle.qpack_spec.specs.Field.{total_size};
 ghost use Rattle.qpack_spec.specs.Stateless.{saturated_size};
-ghost use Rattle.h3_qpack.specs.Stateless.{fields_in};
+ghost use Rattle.qpack_codec.specs.Stateless.{fields_in};
 ghost use Rattle.qpk.specs.Refusals.{AppendsAtStatus, AppendsPart, TellsBy, refusal_line};
 ghost use Rattle.qpk.specs.Serving.{AsksFor, AsksForNothing, AnswersInput, EndsFor, EndsForCommand, FailsToRead};
 ghost use Rattle.qpk.specs.Serving.{IsAnswered, IsAnsweredBy, SaysNote, SaysPart};

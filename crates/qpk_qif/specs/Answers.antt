@@ -4,7 +4,7 @@ use Rattle.std.specs.Global.{Vec}
 use Rattle.qpack_spec.specs.Field.{Field}
 use Rattle.qpack_base.specs.declared.field.HeaderField.{HeaderField}
 use Rattle.qpack_base.specs.HeaderFields.{field_of}
-use Rattle.h3_qpack.specs.Stateless.{fields_in}
+use Rattle.qpack_codec.specs.Stateless.{fields_in}
 use Rattle.qpk_qif.specs.Lists.{LineMeaning, Ends, Comment, Holds, NoTab as Tabless}
 use Rattle.qpk_qif.specs.declared.lists.Line.{Line}
 use Rattle.qpk_qif.specs.declared.lists.Line.TheVariants.{End, Remark, Field as OfField}

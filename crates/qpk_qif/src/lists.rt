@@ -3,14 +3,14 @@
 
 ghost use Rattle.std.specs.Prelude.{◌≡◌, ◌++◌, [], OnOk, IfOk};
 ghost use Rattle.qpack_base.specs.HeaderFields.{field_of};
-ghost use Rattle.h3_qpack.specs.Stateless.{fields_in};
+ghost use Rattle.qpack_codec.specs.Stateless.{fields_in};
 ghost use Rattle.qpk_qif.specs.Lists.{lists_of, meaning_of_line, text_of_field, text_of_list, WrittenListsAreRead};
 ghost use Rattle.qpk_qif.specs.Answers.{ReadsLists, ReadsLine, lists_in, meaning_of, gathered, all_gathered};
 ghost use Rattle.qpk_qif.specs.declared.lists.ListFault.TheVariants.{Memory};
 
 use crate::lines::{split_field, split_line};
-use h3_qpack::HeaderField;
-use h3_qpack::coding::NoMemory;
+use qpack_base::coding::NoMemory;
+use qpack_base::field::HeaderField;
 use std::alloc::{AllocError, AllocFailed, Global};
 use std::marker::Model;
 use std::mem;
@@ -72,7 +72,7 @@ struct Lists {
 }
 
 impl Model for Lists {
-    ghost use Rattle.h3_qpack.specs.Stateless.{fields_in};
+    ghost use Rattle.qpack_codec.specs.Stateless.{fields_in};
     ghost use Rattle.qpk_qif.specs.Answers.{Gathered, lists_in};
 
     ghost Value = { Gathered };

@@ -13,8 +13,9 @@ use crate::lists::{ListFault, push_list, read_lists};
 use crate::recording::split_record;
 use crate::session::receiver::Receiver;
 use crate::session::sender::Sender;
-use h3_qpack::coding::NoMemory;
-use h3_qpack::{DecoderError, EncoderError, dynamic};
+use qpack_base::coding::NoMemory;
+use qpack_codec::{DecoderError, EncoderError};
+use qpack_table::dynamic;
 use std::alloc::{AllocError, AllocFailed, Global};
 use thiserror::Error as ThisError;
 

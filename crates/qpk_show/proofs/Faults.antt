@@ -13,9 +13,9 @@ use Rattle.qpack_base.specs.declared.parse_error.ParseError.TheVariants.{Memory}
 use Rattle.qpack_wire.specs.Alone.{KindFault}
 use Rattle.qpack_wire.specs.Answers.{fault_of, FailsForm, ReadAs}
 use Rattle.qpack_wire.specs.Prefixes.{or_prefix_error, error_of_prefix}
-use Rattle.h3_qpack.specs.Sections.{FailsWith}
-use Rattle.h3_qpack.specs.declared.error.DecoderError.{DecoderError}
-use Rattle.h3_qpack.specs.declared.error.DecoderError.TheVariants as decoder
+use Rattle.qpack_codec.specs.Sections.{FailsWith}
+use Rattle.qpack_codec.specs.declared.error.DecoderError.{DecoderError}
+use Rattle.qpack_codec.specs.declared.error.DecoderError.TheVariants as decoder
 use Rattle.qpk_show.specs.Sections.{Under, Unreadable, Meaningless, PastRequired, or_unreadable_line, or_meaningless}
 use Rattle.qpk_show.specs.Sections.{LineFault, reference_of, shown_field, shown_section_behind, Refused, BadPrefix}
 use Rattle.qpk_show.specs.Answers.{FailsLine, TellsFault, unreadable_line, meaningless_line}

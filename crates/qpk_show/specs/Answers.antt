@@ -16,10 +16,10 @@ use Rattle.qpack_wire.specs.Answers.{fault_of}
 use Rattle.qpack_wire.specs.BlockLines.{line_of}
 use Rattle.qpack_wire.specs.declared.block.line.BlockLine.{BlockLine}
 use Rattle.qpack_wire.specs.Prefixes.{error_of_prefix}
-use Rattle.h3_qpack.specs.Sections.{Tells}
-use Rattle.h3_qpack.specs.declared.error.DecoderError.{DecoderError}
-use Rattle.h3_qpack.specs.declared.error.DecoderError.TheVariants as decoder
-use Rattle.h3_qpack.specs.Receiving.{refusal_of, field_to_insert}
+use Rattle.qpack_codec.specs.Sections.{Tells}
+use Rattle.qpack_codec.specs.declared.error.DecoderError.{DecoderError}
+use Rattle.qpack_codec.specs.declared.error.DecoderError.TheVariants as decoder
+use Rattle.qpack_codec.specs.Receiving.{refusal_of, field_to_insert}
 use Rattle.qpack_base.specs.Refusals.{IsRefusedFor}
 use Rattle.qpack_base.specs.declared.coding.NoMemory.{NoMemory}
 use Rattle.qpack_wire.specs.declared.stream.encoder_stream.EncoderLine.{EncoderLine}

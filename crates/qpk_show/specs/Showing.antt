@@ -11,7 +11,7 @@ use Rattle.qpack_spec.specs.Table.{Table, empty_table, insert_count}
 use Rattle.qpack_spec.specs.Window.{TableRefusal}
 use Rattle.qpack_wire.specs.Alone.{KindFault}
 use Rattle.qpack_wire.specs.StreamLines.{encoder_instruction_at, decoder_instruction_at}
-use Rattle.h3_qpack.specs.Receiving.{field_to_insert}
+use Rattle.qpack_codec.specs.Receiving.{field_to_insert}
 use Rattle.qpk_show.specs.Streams.{Stream, refused, next_of}
 use Rattle.qpk_show.specs.Sections.{Reading, Blocked, shown_section}
 

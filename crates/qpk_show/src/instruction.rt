@@ -7,15 +7,16 @@ ghost use Rattle.qpack_spec.specs.StrictInstructions.{inserts, strict_apply};
 ghost use Rattle.qpack_spec.specs.Table.{apply_encoder_instruction, put, with_capacity};
 ghost use Rattle.qpack_wire.specs.Instructions.{encoder_instruction_of_insert_with_name_ref};
 ghost use Rattle.qpack_wire.specs.StreamLines.{encoder_instruction_of};
-ghost use Rattle.h3_qpack.specs.Receiving.{Applies};
+ghost use Rattle.qpack_codec.specs.Receiving.{Applies};
 ghost use Rattle.qpk_show.specs.Answers.{AppliesLine, FindsToInsert, InsertsField};
 
-use h3_qpack::dynamic::{self, ReceivedTable};
-use h3_qpack::static_::StaticTable;
-use h3_qpack::stream::{
+use qpack_base::field::HeaderField;
+use qpack_base::static_::StaticTable;
+use qpack_codec::DecoderError;
+use qpack_table::dynamic::{self, ReceivedTable};
+use qpack_wire::stream::{
     Duplicate, DynamicTableSizeUpdate, EncoderLine, InsertWithNameRef, InsertWithoutNameRef,
 };
-use h3_qpack::{DecoderError, HeaderField};
 
 /// Applies an instruction to the table, and gives the field that it inserts, if it inserts one. At capacity 0 no
 /// insertion is lawful (RFC 9204, section 3.2.2). On error the table is as before; for memory, it is unspecified.

@@ -21,11 +21,11 @@ use crate::instruction::apply_instruction;
 use crate::section::{Reading, read_section};
 use crate::shown::Shown;
 use crate::stream::{Cut, Stream};
-use h3_qpack::DecoderError;
-use h3_qpack::coding::NoMemory;
-use h3_qpack::dynamic::{DynamicTable, ReceivedTable};
-use h3_qpack::parse_error::ParseError;
-use h3_qpack::stream::{DecoderLine, EncoderLine};
+use qpack_base::coding::NoMemory;
+use qpack_base::parse_error::ParseError;
+use qpack_codec::DecoderError;
+use qpack_table::dynamic::{DynamicTable, ReceivedTable};
+use qpack_wire::stream::{DecoderLine, EncoderLine};
 use std::alloc::{AllocError, Global};
 use std::marker::Model;
 

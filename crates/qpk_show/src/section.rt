@@ -8,21 +8,21 @@ ghost use Rattle.qpack_spec.specs.Table.{window};
 ghost use Rattle.qpack_wire.specs.BlockLines.{line_of, line_at};
 ghost use Rattle.qpack_wire.specs.Lines.{line_of_indexed, line_of_literal_with_name_ref};
 ghost use Rattle.qpack_wire.specs.Prefixes.{prefix_of};
-ghost use Rattle.h3_qpack.specs.Sections.{GivesLineField};
+ghost use Rattle.qpack_codec.specs.Sections.{GivesLineField};
 ghost use Rattle.qpk_show.specs.Sections.{reference_of, shown_field, shown_line_at, shown_lines, shown_section};
 ghost use Rattle.qpk_show.specs.Sections.{shown_section_behind};
 ghost use Rattle.qpk_show.specs.Answers.{unreadable_line, meaningless_line, under, DecodesLine, GivesField};
 ghost use Rattle.qpk_show.specs.Answers.{ReadsLine, AreLines, IsReading};
 
-use h3_qpack::block::{
+use qpack_base::coding::{Cursor, NoMemory};
+use qpack_base::field::HeaderField;
+use qpack_base::parse_error::ParseError;
+use qpack_base::static_::StaticTable;
+use qpack_codec::DecoderError;
+use qpack_table::dynamic::{DynamicTableDecoder, NoIndex, ReceivedTable};
+use qpack_wire::block::{
     BlockLine, HeaderPrefix, Indexed, Literal, LiteralWithNameRef, LiteralWithPostBaseNameRef,
 };
-use h3_qpack::coding::{Cursor, NoMemory};
-use h3_qpack::dynamic::{DynamicTableDecoder, ReceivedTable};
-use h3_qpack::parse_error::ParseError;
-use h3_qpack::static_::StaticTable;
-use h3_qpack::{DecoderError, HeaderField};
-use qpack_table::dynamic::NoIndex;
 use std::alloc::Global;
 
 /// A line that means a field.

@@ -1,9 +1,10 @@
 //! What an onlooker is shown of a connection.
 
 use crate::section::Reading;
-use h3_qpack::parse_error::ParseError;
-use h3_qpack::stream::{DecoderLine, EncoderLine};
-use h3_qpack::{DecoderError, HeaderField};
+use qpack_base::field::HeaderField;
+use qpack_base::parse_error::ParseError;
+use qpack_codec::DecoderError;
+use qpack_wire::stream::{DecoderLine, EncoderLine};
 
 /// One thing that is shown. An offset is that of its stream's byte where it begins, from 0.
 #[derive(Debug, Drop)]

@@ -4,9 +4,9 @@ ghost use Rattle.std.specs.Prelude.{◌≡◌, ◌++◌, [], true, false, None, 
 ghost use Rattle.qpk_show.specs.Streams.{cut_of, next_of};
 ghost use Rattle.qpk_show.specs.Answers.{AnswersLine};
 
-use h3_qpack::coding::Cursor;
-use h3_qpack::parse_error::ParseError;
-use h3_qpack::stream::{Wire, next_line};
+use qpack_base::coding::Cursor;
+use qpack_base::parse_error::ParseError;
+use qpack_wire::stream::{Wire, next_line};
 use std::alloc::{AllocError, Global};
 use std::marker::Model;
 

@@ -4,7 +4,7 @@ ghost use Rattle.std.specs.List.{AllByRecursion};
 ghost use Rattle.qpack_spec.specs.Huffman.{AreBytes};
 ghost use Rattle.qpack_spec.specs.WrittenLaws.{IsByteField};
 ghost use Rattle.qpack_base.specs.HeaderFields.{field_of};
-ghost use Rattle.h3_qpack.specs.Stateless.{fields_in};
+ghost use Rattle.qpack_codec.specs.Stateless.{fields_in};
 
 use qpack_base::field::HeaderField;
 

@@ -5,14 +5,14 @@ ghost use Rattle.qpack_spec.specs.Session.{Encode, Decode, ToDecoder, ToEncoder,
 ghost use Rattle.h3_qpack.specs.Sessions.{Follows, event_of};
 ghost use Rattle.h3_qpack.specs.SessionMemory.{IsAskedFor};
 ghost use Rattle.h3_qpack.specs.SessionRuns.{PerformsAll};
-ghost use Rattle.h3_qpack.specs.Stateless.{fields_in};
+ghost use Rattle.qpack_codec.specs.Stateless.{fields_in};
 
-use crate::decoder::ack_header;
 use crate::session::bytes::recall_fields;
 use crate::session::offered::{delivered_after, offered};
 use crate::session::{Event, Outcome, Session};
 use qpack_base::coding::Cursor;
 use qpack_base::field::HeaderField;
+use qpack_codec::decoder::ack_header;
 
 impl Session {
     /// Does what the events say, one by one, and appends what each answers. There is room for that.

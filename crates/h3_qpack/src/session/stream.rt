@@ -5,11 +5,11 @@ ghost use Rattle.std.specs.Prelude.{OnErr, None, Some};
 ghost use Rattle.std.specs.Prelude.{slice_get};
 ghost use Rattle.qpack_spec.specs.Session.{awaits_acknowledgment, oldest_undecoded};
 ghost use Rattle.h3_qpack.specs.Sessions.{stored_requires_entry, HasBytes, WritesBlock, GivesUp};
-ghost use Rattle.h3_qpack.specs.Stateless.{fields_in};
-ghost use Rattle.h3_qpack.specs.declared.error.EncoderError.TheVariants.{Memory};
+ghost use Rattle.qpack_codec.specs.Stateless.{fields_in};
+ghost use Rattle.qpack_codec.specs.declared.error.EncoderError.TheVariants.{Memory};
 
-use crate::encoder::{Encoder, EncoderError};
 use qpack_base::field::HeaderField;
+use qpack_codec::encoder::{Encoder, EncoderError};
 use std::alloc::Global;
 use std::marker::Model;
 

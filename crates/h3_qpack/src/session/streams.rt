@@ -3,19 +3,20 @@
 ghost use Rattle.std.specs.Prelude.{◌≡◌, ◌+◌, ◌<◌, ◌++◌, ℕ, [], None, Some, true, length, nat_eq, false, IfSome};
 ghost use Rattle.std.specs.Prelude.{IfNone, IfOk, IfErr, OnOk, OnErr, if◌then◌else◌, IsSome};
 ghost use Rattle.qpack_spec.specs.Session.{stream_at, awaits_acknowledgment, oldest_undecoded};
-ghost use Rattle.h3_qpack.specs.Sessions.{stored_requires_entry, ChangesStream, KeepsStreams, IsOpen};
+ghost use Rattle.qpack_codec.specs.RequestStreams.{ChangesStream, KeepsStreams, IsOpen};
+ghost use Rattle.h3_qpack.specs.Sessions.{stored_requires_entry};
 ghost use Rattle.h3_qpack.specs.Sessions.{WritesStream, GivesUp, HasBytes, encode_skip, decode_skip};
 ghost use Rattle.h3_qpack.specs.Sessions.{acknowledgment_skip};
 ghost use Rattle.h3_qpack.specs.Sessions.{cancellation_skip};
 ghost use Rattle.qpack_spec.specs.Instruction.{Cancellation, written_decoder_instruction};
-ghost use Rattle.h3_qpack.specs.Stateless.{fields_in};
-ghost use Rattle.h3_qpack.specs.declared.error.EncoderError.TheVariants.{Memory};
+ghost use Rattle.qpack_codec.specs.Stateless.{fields_in};
+ghost use Rattle.qpack_codec.specs.declared.error.EncoderError.TheVariants.{Memory};
 
-use crate::decoder::stream_canceled;
-use crate::encoder::{Encoder, EncoderError};
 use crate::session::stream::Stream;
 use qpack_base::coding::NoMemory;
 use qpack_base::field::HeaderField;
+use qpack_codec::decoder::stream_canceled;
+use qpack_codec::encoder::{Encoder, EncoderError};
 use std::alloc::Global;
 use std::collections::BTreeMap;
 use std::marker::Model;

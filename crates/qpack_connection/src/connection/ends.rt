@@ -3,7 +3,7 @@
 ghost use Rattle.std.specs.Prelude.{◌≡◌, IfOk, IfErr};
 ghost use Rattle.qpack_connection.specs.OwnedLines.{lines_of};
 ghost use Rattle.qpack_connection.specs.ConnectionEvents.{BeginsWith, Goes, IsReached};
-ghost use Rattle.qpack_connection.specs.Decoders.{FailsSettings};
+ghost use Rattle.qpack_ends.specs.Decoders.{FailsSettings};
 ghost use Rattle.qpack_connection.specs.declared.connection.Event.TheVariants.{Encode, SetCapacity, ToDecoder};
 ghost use Rattle.qpack_connection.specs.declared.connection.Event.TheVariants.{ToEncoder, Decode, Cancel};
 
@@ -11,11 +11,11 @@ use crate::connection::fields::OwnedFieldLine;
 use crate::connection::offered::next_of;
 use crate::connection::streams::Streams;
 use crate::connection::{ConnectionSettings, Event, Outcome};
-use crate::decoder::{ConnectionDecoder, SettingsError};
-use crate::encoder::ConnectionEncoder;
-use crate::field_section::FieldSection;
-use crate::section::Reading;
 use qpack_base::coding::Cursor;
+use qpack_ends::decoder::{ConnectionDecoder, SettingsError};
+use qpack_ends::encoder::ConnectionEncoder;
+use qpack_ends::field_section::FieldSection;
+use qpack_ends::section::Reading;
 use std::alloc::Global;
 use std::marker::Model;
 

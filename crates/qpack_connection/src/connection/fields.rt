@@ -8,9 +8,9 @@ ghost use Rattle.qpack_spec.specs.WrittenLaws.{IsByteField};
 ghost use Rattle.qpack_base.specs.HeaderFields.{line_of};
 ghost use Rattle.qpack_connection.specs.OwnedLines.{line_of as line_of_owned, lines_of};
 
-use h3_qpack::encoder::AsField;
 use qpack_base::coding::NoMemory;
 use qpack_base::field::FieldLine;
+use qpack_codec::encoder::AsField;
 use std::alloc::Global;
 
 /// A field line that owns its name and its value (RFC 9110, section 5).

@@ -6,8 +6,8 @@ ghost use Rattle.qpack_connection.specs.OwnedLines.{lines_of};
 ghost use Rattle.qpack_connection.specs.ConnectionEvents.{Sends, HasBytes, decoded_with};
 
 use crate::connection::fields::{OwnedFieldLine, recall_fields, recall_length};
-use crate::encoder::{ConnectionEncoder, EncodingError};
 use qpack_base::coding::NoMemory;
+use qpack_ends::encoder::{ConnectionEncoder, EncodingError};
 use std::alloc::Global;
 use std::marker::Model;
 

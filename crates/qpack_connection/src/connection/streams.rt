@@ -3,15 +3,15 @@
 ghost use Rattle.std.specs.Prelude.{◌≡◌, ◌<◌, [], None, Some, true, false, length, IfSome, IfNone, IfOk};
 ghost use Rattle.std.specs.Prelude.{IfErr, OnOk, OnErr};
 ghost use Rattle.qpack_spec.specs.Session.{stream_at, oldest_undecoded};
-ghost use Rattle.h3_qpack.specs.Sessions.{ChangesStream, KeepsStreams, IsOpen};
+ghost use Rattle.qpack_codec.specs.RequestStreams.{ChangesStream, KeepsStreams, IsOpen};
 ghost use Rattle.qpack_connection.specs.OwnedLines.{lines_of};
 ghost use Rattle.qpack_connection.specs.ConnectionEvents.{SendsAmong, HasBytes, decoded_with, decode_skip, cancel_skip};
 
 use crate::connection::Skip;
 use crate::connection::fields::OwnedFieldLine;
 use crate::connection::stream::Stream;
-use crate::encoder::{ConnectionEncoder, EncodingError};
 use qpack_base::coding::NoMemory;
+use qpack_ends::encoder::{ConnectionEncoder, EncodingError};
 use std::alloc::Global;
 use std::collections::BTreeMap;
 use std::marker::Model;

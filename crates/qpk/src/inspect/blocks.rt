@@ -6,7 +6,7 @@ ghost use Rattle.qpack_wire.specs.BlockLines.{line_of};
 ghost use Rattle.qpk.specs.Inspecting.{line_text};
 ghost use Rattle.qpack_spec.specs.Field.{total_size};
 ghost use Rattle.qpack_spec.specs.Stateless.{saturated_size};
-ghost use Rattle.h3_qpack.specs.Stateless.{fields_in};
+ghost use Rattle.qpack_codec.specs.Stateless.{fields_in};
 ghost use Rattle.qpk.specs.Inspections.{InspectsBlock, PrintsRead, PrintsSection, block_of_lines};
 
 use crate::error_words::DecoderWords;

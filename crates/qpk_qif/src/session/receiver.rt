@@ -2,10 +2,11 @@
 
 use crate::recording::Record;
 use crate::session::{DecoderSettings, Fault};
-use h3_qpack::coding::Cursor;
-use h3_qpack::decoder::Decoder;
-use h3_qpack::dynamic::DynamicTable;
-use h3_qpack::{DecoderError, HeaderField};
+use qpack_base::coding::Cursor;
+use qpack_base::field::HeaderField;
+use qpack_codec::DecoderError;
+use qpack_codec::decoder::Decoder;
+use qpack_table::dynamic::DynamicTable;
 use std::alloc::{AllocError, Global};
 use std::collections::BTreeSet;
 use std::mem;

@@ -2,11 +2,12 @@
 
 use crate::recording::push_record;
 use crate::session::{EncoderSettings, Fault};
-use h3_qpack::coding::Cursor;
-use h3_qpack::decoder::{ack_header, write_increments};
-use h3_qpack::dynamic::DynamicTable;
-use h3_qpack::encoder::Encoder;
-use h3_qpack::{EncoderError, HeaderField};
+use qpack_base::coding::Cursor;
+use qpack_base::field::HeaderField;
+use qpack_codec::EncoderError;
+use qpack_codec::decoder::{ack_header, write_increments};
+use qpack_codec::encoder::Encoder;
+use qpack_table::dynamic::DynamicTable;
 use std::alloc::Global;
 
 /// The encoding end.

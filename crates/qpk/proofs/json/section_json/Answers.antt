@@ -1,7 +1,7 @@
 use Rattle.std.proofs.Common.{string_bytes}
 use Rattle.std.specs.Char.{encode_utf8}
 use Rattle.serde_json.specs.View.{view}
-use Rattle.h3_qpack.specs.Stateless.{fields_in}
+use Rattle.qpack_codec.specs.Stateless.{fields_in}
 use Rattle.qpk.proofs.JsonData.{section_text}
 use Rattle.qpk.proofs.json.section_json.Goals as goal
 

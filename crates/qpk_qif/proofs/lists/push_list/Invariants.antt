@@ -1,6 +1,6 @@
 use Rattle.std.proofs.Common.{◌≡◌, ◌++◌, take}
 use Rattle.std.specs.List.{flat_map}
-use Rattle.h3_qpack.specs.Stateless.{fields_in}
+use Rattle.qpack_codec.specs.Stateless.{fields_in}
 use Rattle.qpk_qif.specs.Lists.{text_of_field}
 use Rattle.qpk_qif.proofs.lists.push_list.Given as goal
 

@@ -1,7 +1,7 @@
 use Rattle.std.proofs.lemmas.Result.{err_from_is_err_and}
 use Rattle.qpack_spec.specs.Table.{put}
 use Rattle.qpack_base.specs.HeaderFields.{field_of}
-use Rattle.h3_qpack.proofs.Instructions.{growth_fails}
+use Rattle.qpack_codec.proofs.Instructions.{growth_fails}
 use Rattle.qpk_show.proofs.instruction.put.Goals as goal
 
 pub returns-in_err-put : goal.returns-in_err-put

@@ -1,6 +1,6 @@
 use Rattle.std.proofs.lemmas.Result.{err_from_is_err_and}
 use Rattle.qpack_spec.specs.Table.{with_capacity}
-use Rattle.h3_qpack.proofs.Instructions.{change_fails}
+use Rattle.qpack_codec.proofs.Instructions.{change_fails}
 use Rattle.qpk_show.proofs.instruction.set_capacity.Goals as goal
 
 pub returns-in_err-set_max_size : goal.returns-in_err-set_max_size

@@ -2,7 +2,7 @@ use Rattle.std.proofs.Common.{sym, ◌∙◌}
 use Rattle.qpack_spec.specs.Session.{Encode}
 use Rattle.h3_qpack.proofs.Sessions.{follows_from, stays_from, reached_behind, skipped}
 use Rattle.h3_qpack.proofs.SessionBlocks.{encodes, encode_skips}
-use Rattle.h3_qpack.specs.Stateless.{fields_in}
+use Rattle.qpack_codec.specs.Stateless.{fields_in}
 use Rattle.h3_qpack.proofs.session.Session.encode.Goals as goal
 
 pub returns-in-Some-clause-goes : goal.returns-in-Some-clause-goes

@@ -1,6 +1,6 @@
 use Rattle.std.proofs.Common.{List, subst}
 use Rattle.std.specs.Prelude.{string_bytes}
-use Rattle.h3_qpack.specs.Stateless.{fields_in}
+use Rattle.qpack_codec.specs.Stateless.{fields_in}
 use Rattle.qpack_wire.specs.declared.block.line.BlockLine.{BlockLine}
 use Rattle.qpk.specs.Inspections.{PrintsRead, block_of_lines}
 use Rattle.qpk.proofs.PrintedBlocks.{section_printed}

@@ -1,7 +1,7 @@
 use Rattle.std.proofs.Common.{refl, ap}
 use Rattle.std.proofs.lemmas.Result.{err_from_is_err_and}
 use Rattle.qpack_base.specs.Cursor.{CursorView}
-use Rattle.h3_qpack.proofs.Instructions.{line_refused}
+use Rattle.qpack_codec.proofs.Instructions.{line_refused}
 use Rattle.qpk.proofs.InspectedInstructions.{read_next}
 use Rattle.qpk.proofs.inspect.instructions.next_instruction.Goals as goal
 

@@ -1,5 +1,5 @@
 use Rattle.std.proofs.Common.{◌≡◌, length}
-use Rattle.h3_qpack.specs.Stateless.{fields_in}
+use Rattle.qpack_codec.specs.Stateless.{fields_in}
 use Rattle.qpk.specs.Scripts.{parts_behind, fields_of_parts}
 use Rattle.qpk.proofs.Parts.{with_fields}
 use Rattle.qpk.proofs.script.parts.read_field_parts.Given as goal

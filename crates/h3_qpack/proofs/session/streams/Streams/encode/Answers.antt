@@ -1,5 +1,5 @@
 use Rattle.h3_qpack.proofs.Blocks.{written_among, kept_among}
-use Rattle.h3_qpack.specs.Stateless.{fields_in}
+use Rattle.qpack_codec.specs.Stateless.{fields_in}
 use Rattle.h3_qpack.proofs.session.streams.Streams.encode.Goals as goal
 
 pub returns-clause-ok : goal.returns-clause-ok

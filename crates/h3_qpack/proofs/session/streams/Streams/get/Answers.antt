@@ -1,4 +1,4 @@
-use Rattle.h3_qpack.proofs.Streams.{looked_up, looked_up_none}
+use Rattle.qpack_codec.proofs.Streams.{looked_up, looked_up_none}
 use Rattle.h3_qpack.proofs.session.streams.Streams.get.Goals as goal
 
 pub returns-clause-found : goal.returns-clause-found

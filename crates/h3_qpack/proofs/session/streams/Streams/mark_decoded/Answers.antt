@@ -1,6 +1,6 @@
 use Rattle.std.proofs.Common.{◌≡◌, ◌<◌, ◌+◌, length, subst, ap, sym, arith}
 use Rattle.h3_qpack.specs.Sessions.{StoredStream}
-use Rattle.h3_qpack.proofs.Streams.{unused, stream_found, stream_missing, stream_written}
+use Rattle.qpack_codec.proofs.Streams.{unused, stream_found, stream_missing, stream_written}
 use Rattle.h3_qpack.proofs.session.streams.Streams.mark_decoded.Goals.{in-Some, in_default}
 use Rattle.h3_qpack.proofs.session.streams.Streams.mark_decoded.Goals as goal
 

@@ -1,5 +1,5 @@
 use Rattle.std.proofs.Common.{Ok, Err, refl}
-use Rattle.qpack_connection.specs.declared.section.Reading.TheVariants as reading
+use Rattle.qpack_ends.specs.declared.section.Reading.TheVariants as reading
 use Rattle.qpack_connection.proofs.ConnectionCalls.{decode_goes, read_stops}
 use Rattle.qpack_connection.proofs.connection.ends.Ends.decode.Goals as goal
 

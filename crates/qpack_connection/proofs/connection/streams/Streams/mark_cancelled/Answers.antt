@@ -1,5 +1,5 @@
 use Rattle.std.proofs.Common.{true, IsSome, subst, ap, sym}
-use Rattle.h3_qpack.proofs.Streams.{is_not, stream_written}
+use Rattle.qpack_codec.proofs.Streams.{is_not, stream_written}
 use Rattle.qpack_connection.proofs.connection.streams.Streams.mark_cancelled.Goals.{in-Some, in_default}
 use Rattle.qpack_connection.proofs.connection.streams.Streams.mark_cancelled.Goals as goal
 

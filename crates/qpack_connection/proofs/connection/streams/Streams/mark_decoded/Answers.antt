@@ -1,6 +1,6 @@
 use Rattle.std.proofs.Common.{◌≡◌, ◌<◌, length, subst, ap, sym, arith}
 use Rattle.qpack_spec.specs.Session.{RequestStream}
-use Rattle.h3_qpack.proofs.Streams.{unused, stream_found, stream_missing, stream_written}
+use Rattle.qpack_codec.proofs.Streams.{unused, stream_found, stream_missing, stream_written}
 use Rattle.qpack_connection.specs.Connections.{SentSection}
 use Rattle.qpack_connection.specs.ConnectionEvents.{decoded_with}
 use Rattle.qpack_connection.proofs.connection.streams.Streams.mark_decoded.Goals.{in-Some, in_default}

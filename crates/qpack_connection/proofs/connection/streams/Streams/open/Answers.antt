@@ -1,5 +1,5 @@
 use Rattle.std.proofs.Common.{refl, sym, ◌∙◌}
-use Rattle.h3_qpack.proofs.Streams.{stream_opened, none_is, opened_is}
+use Rattle.qpack_codec.proofs.Streams.{stream_opened, none_is, opened_is}
 use Rattle.qpack_connection.proofs.connection.streams.Streams.open.Goals as goal
 
 pub returns-clause-same : goal.returns-clause-same

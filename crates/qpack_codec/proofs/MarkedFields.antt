@@ -1,0 +1,275 @@
+-- Field lines that are marked as never to be indexed, and those that are not.
+use Rattle.std.proofs.Common.{◌≡◌, ℕ, zero, suc, List, [], ◌∷◌, ◌++◌, map, take, Bool, true, false, cond, Option}
+use Rattle.std.proofs.Common.{Some, None, refl}
+use Rattle.std.proofs.Common.{sym, ap, subst, ◌∙◌, inl, inr, append-nil, append_assoc, Result, Ok, Err, ◌+◌, ◌<◌}
+use Rattle.std.proofs.Common.{get_or, length}
+use Rattle.std.specs.Borrow.{Bor}
+use Rattle.std.specs.Prelude.{OnOk, OnErr, IfOk}
+use Rattle.std.proofs.lemmas.Bool.{cond_both}
+use Rattle.qpack_spec.specs.BlockReading.{written_block}
+use Rattle.qpack_spec.specs.Field.{Field, FieldLine, has_name, unmarked}
+use Rattle.qpack_spec.specs.Handle.{Lookup, Found, found_entry, found_name, found_instead, literal_at, with_insertion}
+use Rattle.qpack_spec.specs.Instruction.{written_encoder_instructions}
+use Rattle.qpack_spec.specs.Line.{Line, written_line, written_lines, written_marked_line}
+use Rattle.qpack_spec.specs.Marked.{marked_rule, written_marked_lines, written_marked_block, stateless_line_marked}
+use Rattle.qpack_spec.specs.Marked.{stateless_block_marked}
+use Rattle.qpack_spec.specs.Prefix.{written_prefix, prefix_for}
+use Rattle.qpack_spec.specs.Rule.{Draft, rule, block_of, required_insert_count, committed_table}
+use Rattle.qpack_spec.specs.Stateless.{stateless_line, stateless_literal}
+use Rattle.qpack_spec.specs.StaticTable.{static_name_index}
+use Rattle.qpack_spec.specs.Table.{Table, empty_table, without_references, with_reference, may_reference}
+use Rattle.qpack_spec.specs.Table.{newest_index}
+use Rattle.qpack_spec.proofs.Marked.{is_rule_unmarked}
+use Rattle.qpack_base.specs.HeaderFields.{field_of, fields_behind, DrainsFields}
+use Rattle.qpack_base.specs.declared.field.HeaderField.{HeaderField}
+use Rattle.qpack_codec.specs.Encoding.{draft_at, draft_of_field, draft_of_line, Adds, AddsLines, StopsAdding}
+use Rattle.qpack_codec.specs.Encoding.{DrainsLinesOf}
+use Rattle.qpack_codec.specs.Encoding.{EncodesLines, EncodesBlock, GivesUpLines, GivesUpBlock, StopsEncodingLinesOf}
+use Rattle.qpack_codec.specs.Encoding.{StopsEncoding}
+use Rattle.qpack_codec.specs.declared.error.EncoderError.{EncoderError}
+use Rattle.qpack_codec.proofs.AddedFields.{front_of}
+
+-- ---- a field that is never to be indexed
+
+never_drafts : (t : Table) (base : ℕ) (l : FieldLine) → l.never_indexed ≡ true
+    → draft_of_line t base l
+    ≡ with_insertion (draft_at t) l.field (found_instead
+    (found_name t base l.field (static_name_index l.field.name)))
+never_drafts t base l is =
+    ap (λ (b : Bool). cond b (with_insertion (draft_at t) l.field (found_instead
+    (found_name t base l.field (static_name_index l.field.name)))) (draft_of_field t base l.field)) is
+
+adds_found_name : (t : Table) (l : FieldLine) (found : Found) (lookup : Lookup) (new : Table)
+    (lines_old lines_new written : List ℕ) → found ≡ record { lookup = lookup; table = new }
+    → lines_new ≡ lines_old ++ written_marked_line l.never_indexed (literal_at l.field lookup)
+    → AddsLines (l ∷ []) (with_insertion (draft_at t) l.field (found_instead found)) new lines_old lines_new written
+    written
+unfolding written_marked_lines written_lines written_encoder_instructions
+adds_found_name t l found lookup new lines_old lines_new written is lines =
+    record {
+      table = sym (ap (λ (x : Found). x.table) is);
+      lines = lines
+          ∙ ap (λ (x : Found). lines_old ++ written_marked_line l.never_indexed (literal_at l.field x.lookup)) (sym is)
+          ∙ ap (λ (x : List ℕ). lines_old ++ x)
+          (sym (append-nil (written_marked_line l.never_indexed (literal_at l.field found.lookup))));
+      written = sym (append-nil written);
+    }
+
+pub adds_literal : (t : Table) (base : ℕ) (l : FieldLine) (lookup : Lookup) (new : Table)
+    (lines_old lines_new written : List ℕ) → l.never_indexed ≡ true
+    → found_name t base l.field (static_name_index l.field.name) ≡ record { lookup = lookup; table = new }
+    → lines_new ≡ lines_old ++ written_marked_line l.never_indexed (literal_at l.field lookup)
+    → AddsLines (l ∷ []) (draft_of_line t base l) new lines_old lines_new written written
+adds_literal t base l lookup new lines_old lines_new written never is lines =
+    subst (λ (d : Draft). AddsLines (l ∷ []) d new lines_old lines_new written written)
+    (sym (never_drafts t base l never))
+    (adds_found_name t l (found_name t base l.field (static_name_index l.field.name)) lookup new lines_old lines_new
+    written is lines)
+
+-- looking for a name changes what is referenced alone
+name_keeps : (t : Table) (base : ℕ) (f : Field) (o : Option ℕ)
+    → without_references (found_name t base f o).table ≡ without_references t
+unfolding without_references with_reference
+name_keeps t base f (Some i) = refl
+name_keeps t base f None = by_index (newest_index t (has_name f.name))
+  where
+    by_index : (o : Option ℕ) → without_references (found_entry t base o).table ≡ without_references t
+    by_index None = refl
+    by_index (Some a) =
+        cond_both (may_reference t a) _ _ (λ (x : Found). without_references x.table ≡ without_references t) (λ b. refl)
+        (λ b. refl)
+
+-- its line is refused
+pub stops_name : (t : Table) (base : ℕ) (f : Field) (lookup : Lookup) (new : Table) (d : Draft) (written : List ℕ)
+    → found_name t base f (static_name_index f.name) ≡ record { lookup = lookup; table = new }
+    → StopsAdding d t new written written
+stops_name t base f lookup new d written is =
+    inl (
+      ap (λ (x : Found). without_references x.table) (sym is) ∙ name_keeps t base f (static_name_index f.name),
+      refl,
+    )
+
+-- ---- a field that may be indexed
+
+pub written_unmarked : (f : Field) (l : Line) → written_marked_line false l ≡ written_line l
+unfolding written_marked_lines written_lines
+written_unmarked f l =
+    sym (append-nil (written_marked_line false l)) ∙ (is_rule_unmarked (empty_table 0 None 0) (f ∷ [])).lines (l ∷ [])
+    ∙ append-nil (written_line l)
+
+lines_unmarked : (t : Table) (l : FieldLine) (ls : List Line) → l.never_indexed ≡ false
+    → written_marked_lines (l ∷ []) ls ≡ written_lines ls
+lines_unmarked t l ls is =
+    ap (λ (b : Bool). written_marked_lines ((let k : FieldLine = record { field = l.field; never_indexed = b } in k)
+    ∷ []) ls) is
+    ∙ (is_rule_unmarked t (l.field ∷ [])).lines ls
+
+unmarked_drafts : (t : Table) (base : ℕ) (l : FieldLine) → l.never_indexed ≡ false
+    → draft_of_line t base l ≡ draft_of_field t base l.field
+unmarked_drafts t base l is =
+    ap (λ (b : Bool). cond b (with_insertion (draft_at t) l.field (found_instead
+    (found_name t base l.field (static_name_index l.field.name)))) (draft_of_field t base l.field)) is
+
+adds_unmarked : (t : Table) (base : ℕ) (l : FieldLine) (new : Table)
+    (lines_old lines_new written_old written_new : List ℕ) → l.never_indexed ≡ false
+    → Adds (draft_of_field t base l.field) new lines_old lines_new written_old written_new
+    → AddsLines (l ∷ []) (draft_of_line t base l) new lines_old lines_new written_old written_new
+adds_unmarked t base l new lines_old lines_new written_old written_new is adds =
+    subst (λ (d : Draft). AddsLines (l ∷ []) d new lines_old lines_new written_old written_new)
+    (sym (unmarked_drafts t base l is))
+    (record {
+      table = adds.table;
+      lines = adds.lines
+          ∙ ap (λ (x : List ℕ). lines_old ++ x)
+          (sym (lines_unmarked t l (draft_of_field t base l.field).lines is));
+      written = adds.written;
+    })
+
+pub on_ok_unmarked : {A E : Type 0} (r : Result A E) (t : Table) (base : ℕ) (l : FieldLine) (new : Table)
+    (lines_old lines_new written_old written_new : List ℕ) → l.never_indexed ≡ false
+    → OnOk r (Adds (draft_of_field t base l.field) new lines_old lines_new written_old written_new)
+    → OnOk r (AddsLines (l ∷ []) (draft_of_line t base l) new lines_old lines_new written_old written_new)
+on_ok_unmarked (Ok x) t base l new lines_old lines_new written_old written_new is adds =
+    adds_unmarked t base l new lines_old lines_new written_old written_new is adds
+on_ok_unmarked (Err e) t base l new lines_old lines_new written_old written_new is adds = tt
+
+-- ---- a block of fields none of which is marked
+
+encodes_unmarked : (stream : ℕ) (fs : List Field) (old new : Table) (before block written_old written_new : List ℕ)
+    (required : ℕ) → EncodesLines stream (map unmarked fs) old new before block written_old written_new required
+    → EncodesBlock stream fs old new before block written_old written_new required
+unfolding written_marked_block written_block
+encodes_unmarked stream fs old new before block written_old written_new required k =
+    let same = (is_rule_unmarked old fs).draft in
+    record {
+      required_is = k.required_is ∙ ap (λ (d : Draft). required_insert_count d) same;
+      table = k.table ∙ ap (λ (d : Draft). committed_table d stream) same;
+      block = k.block
+          ∙ ap (λ (d : Draft). before ++ written_marked_block (map unmarked fs) (block_of old d)) same
+          ∙ ap (λ (x : List ℕ). before ++ (written_prefix (block_of old (rule old fs)).prefix ++ x))
+          ((is_rule_unmarked old fs).lines (rule old fs).lines);
+      written = k.written ∙ ap (λ (d : Draft). written_old ++ written_encoder_instructions d.instructions) same;
+    }
+
+take_unmarked : (fs : List Field) (many : ℕ) → take many (map unmarked fs) ≡ map unmarked (take many fs)
+take_unmarked fs zero = refl
+take_unmarked [] (suc many) = refl
+take_unmarked (f ∷ fs) (suc many) = ap (λ (ls : List FieldLine). unmarked f ∷ ls) (take_unmarked fs many)
+
+gives_up_unmarked : (fs : List Field) (old new : Table) (written_old written_new : List ℕ)
+    → GivesUpLines (map unmarked fs) old new written_old written_new
+    → GivesUpBlock fs old new written_old written_new
+gives_up_unmarked fs old new written_old written_new k =
+    let same : marked_rule old (take k.many (map unmarked fs)) ≡ rule old (take k.many fs) =
+    ap (λ (ls : List FieldLine). marked_rule old ls) (take_unmarked fs k.many)
+    ∙ (is_rule_unmarked old (take k.many fs)).draft in
+    record {
+      many = k.many;
+      table = k.table ∙ ap (λ (d : Draft). without_references d.table) same;
+      written = k.written ∙ ap (λ (d : Draft). written_old ++ written_encoder_instructions d.instructions) same;
+    }
+
+-- references to fields lend lines that are not marked
+lent_unmarked : (items : List (Bor HeaderField))
+    → map (λ item. unmarked (field_of item.now)) items ≡ map unmarked (fields_behind items)
+lent_unmarked [] = refl
+lent_unmarked (item ∷ items) =
+    ap (λ (ls : List FieldLine). unmarked (field_of item.now) ∷ ls) (lent_unmarked items)
+
+pub if_ok_encodes : {S : Type 0} (r : Result ℕ EncoderError) (steps : S → Option (Bor HeaderField) → S → Type 0)
+    (it : S) (stream : ℕ) (old new : Table) (before block written_old written_new : List ℕ)
+    → IfOk r (λ required. DrainsLinesOf (λ item. unmarked (field_of item.now)) steps it
+    (λ ls. EncodesLines stream ls old new before block written_old written_new required))
+    → IfOk r (λ required. DrainsFields steps it
+    (λ fs. EncodesBlock stream fs old new before block written_old written_new required))
+if_ok_encodes (Err e) steps it stream old new before block written_old written_new d = tt
+if_ok_encodes (Ok required) steps it stream old new before block written_old written_new d = (
+  d.0,
+  d.1,
+  encodes_unmarked stream (fields_behind d.0) old new before block written_old written_new required
+      (subst (λ (ls : List FieldLine). EncodesLines stream ls old new before block written_old written_new required)
+      (lent_unmarked d.0) d.2),
+)
+
+stops_unmarked : {S : Type 0} (steps : S → Option (Bor HeaderField) → S → Type 0) (it : S) (old new : Table)
+    (written_old written_new : List ℕ)
+    → StopsEncodingLinesOf (λ item. unmarked (field_of item.now)) steps it old new written_old written_new
+    → StopsEncoding steps it old new written_old written_new
+stops_unmarked steps it old new written_old written_new (inl g) =
+    inl (gives_up_unmarked [] old new written_old written_new g)
+stops_unmarked steps it old new written_old written_new (inr d) =
+    inr (
+      d.0,
+      d.1,
+      gives_up_unmarked (fields_behind d.0) old new written_old written_new
+          (subst (λ (ls : List FieldLine). GivesUpLines ls old new written_old written_new) (lent_unmarked d.0) d.2),
+    )
+
+pub on_err_stops_unmarked : {S : Type 0} (r : Result ℕ EncoderError)
+    (steps : S → Option (Bor HeaderField) → S → Type 0) (it : S) (old new : Table) (written_old written_new : List ℕ)
+    → OnErr r (StopsEncodingLinesOf (λ item. unmarked (field_of item.now)) steps it old new written_old written_new)
+    → OnErr r (StopsEncoding steps it old new written_old written_new)
+on_err_stops_unmarked (Ok required) steps it old new written_old written_new stops = tt
+on_err_stops_unmarked (Err e) steps it old new written_old written_new stops =
+    stops_unmarked steps it old new written_old written_new stops
+
+-- ---- a block where no entry is at hand
+
+lines_of_more : (ls : List FieldLine) (l : FieldLine)
+    → written_marked_lines (ls ++ l ∷ []) (map (λ k. stateless_line_marked k) (ls ++ l ∷ []))
+    ≡ written_marked_lines ls (map (λ k. stateless_line_marked k) ls)
+    ++ written_marked_line l.never_indexed (stateless_line_marked l)
+unfolding written_marked_lines written_lines
+lines_of_more [] l = append-nil (written_marked_line l.never_indexed (stateless_line_marked l))
+lines_of_more (k ∷ ls) l =
+    ap (λ (x : List ℕ). written_marked_line k.never_indexed (stateless_line_marked k) ++ x) (lines_of_more ls l)
+    ∙ sym (append_assoc (written_marked_line k.never_indexed (stateless_line_marked k))
+    (written_marked_lines ls (map (λ k. stateless_line_marked k) ls))
+    (written_marked_line l.never_indexed (stateless_line_marked l)))
+
+-- the bytes of the block where no entry is at hand
+abbrev pub written_stateless : List FieldLine → List ℕ
+written_stateless ls = written_marked_block ls (stateless_block_marked ls)
+
+stateless_more : (ls : List FieldLine) (l : FieldLine)
+    → written_stateless (ls ++ l ∷ [])
+    ≡ written_stateless ls ++ written_marked_line l.never_indexed (stateless_line_marked l)
+unfolding written_marked_block
+stateless_more ls l =
+    let p = written_prefix (record { count = 0; sign = false; delta = 0 }) in
+    ap (λ (x : List ℕ). p ++ x) (lines_of_more ls l)
+    ∙ sym (append_assoc p (written_marked_lines ls (map (λ k. stateless_line_marked k) ls))
+    (written_marked_line l.never_indexed (stateless_line_marked l)))
+
+-- the first bytes are the prefix
+pub stateless_begun : (before now : List ℕ) → now ≡ before ++ written_prefix (prefix_for 0 0 0)
+    → now ≡ before ++ written_stateless []
+unfolding written_marked_block written_marked_lines written_lines prefix_for
+stateless_begun before now e =
+    e ∙ ap (λ (x : List ℕ). before ++ x) (sym (append-nil (written_prefix (record {
+      count = 0;
+      sign = false;
+      delta = 0;
+    }))))
+
+-- a line more
+pub stateless_grown : {H : Type 0} (line : H → FieldLine) (xs : List H) (i : ℕ) (x : H) (l : FieldLine)
+    (before mid now : List ℕ) → i < length xs → x ≡ get_or xs i x → l ≡ line x
+    → mid ≡ before ++ written_stateless (map line (take i xs))
+    → now ≡ mid ++ written_marked_line l.never_indexed (stateless_line_marked l)
+    → now ≡ before ++ written_stateless (map line (take (i + 1) xs))
+stateless_grown line xs i x l before mid now within is lent so_far more =
+    rw (front_of line xs i x within, ← is, ← lent)
+    (more
+    ∙ ap (λ (b : List ℕ). b ++ written_marked_line l.never_indexed (stateless_line_marked l)) so_far
+    ∙ append_assoc before (written_stateless (map line (take i xs)))
+    (written_marked_line l.never_indexed (stateless_line_marked l))
+    ∙ ap (λ (b : List ℕ). before ++ b) (sym (stateless_more (map line (take i xs)) l)))
+
+-- the line of a field that may be indexed
+pub alone_unmarked : (l : FieldLine) → l.never_indexed ≡ false
+    → written_line (stateless_line l.field) ≡ written_marked_line l.never_indexed (stateless_line_marked l)
+alone_unmarked l is =
+    sym (ap (λ (b : Bool). written_marked_line b (cond b (stateless_literal l.field (static_name_index l.field.name))
+    (stateless_line l.field))) is
+    ∙ written_unmarked l.field (stateless_line l.field))

@@ -1,0 +1,183 @@
+//! Encoder instructions, as a decoder takes them (RFC 9204, section 4.3).
+
+ghost use Rattle.std.specs.Prelude.{◌≡◌, ◌<◌, Err, IsSome, IsTrue, OnOk, OnErr};
+ghost use Rattle.qpack_spec.specs.Instruction.{Duplicate as DuplicateOf, written_decoder_instructions};
+ghost use Rattle.qpack_spec.specs.Table.{apply_encoder_instruction, put, with_capacity};
+ghost use Rattle.qpack_base.specs.HeaderFields.{field_of};
+ghost use Rattle.qpack_base.specs.Writes.{Writes};
+ghost use Rattle.qpack_wire.specs.Instructions.{encoder_instruction_of_insert_with_name_ref};
+ghost use Rattle.qpack_wire.specs.StreamLines.{encoder_instruction_of};
+ghost use Rattle.qpack_codec.specs.Receiving.{Applies, field_to_insert, FindsField, TakesNext, TakesInstructions};
+ghost use Rattle.qpack_codec.specs.Receiving.{is_passed, written_report};
+ghost use Rattle.qpack_codec.specs.declared.error.DecoderError.TheVariants.{Memory};
+ghost use Rattle.qpack_codec.specs.declared.error.DecoderError.TheVariants.{DynamicTable as DynamicTableError};
+
+use crate::error::DecoderError;
+use qpack_base::coding::{Cursor, NoMemory};
+use qpack_base::field::HeaderField;
+use qpack_base::static_::StaticTable;
+use qpack_table::dynamic::{self, DynamicTable, EntryIndex};
+use qpack_wire::stream::{
+    Duplicate, DynamicTableSizeUpdate, EncoderLine, InsertCountIncrement, InsertWithNameRef,
+    InsertWithoutNameRef, next_line,
+};
+use std::alloc::Allocator;
+
+/// The greatest increment that is written; a longer one stands in pieces.
+const GREATEST_PIECE: usize = 64;
+
+/// Takes all instructions that stand whole at the cursor, and moves past them. At the first one that is refused it
+/// ends; the cursor moves past that one exactly if the table refuses it for what it asks.
+pub(super) fn take_instructions<I: EntryIndex>(
+    table: &mut DynamicTable<I>,
+    buf: &mut Cursor,
+) -> Result<(), DecoderError>
+    ensures takes { TakesInstructions table.old table.new buf.old.rest buf.new.rest result }
+    ensures total { buf.new.total ≡ buf.old.total }
+{
+    while take_instruction(table, buf)? {}
+    Ok(())
+}
+
+/// Takes the encoder instruction at the cursor and moves past it (RFC 9204, section 4.3); answers whether one stood
+/// whole. On error the table is as before; the cursor moves past the instruction exactly if the table refuses it for
+/// what it asks. The table may be one without an index.
+pub fn take_instruction<I: EntryIndex>(
+    table: &mut DynamicTable<I>,
+    buf: &mut Cursor,
+) -> Result<bool, DecoderError>
+    ensures takes { TakesNext table.old table.new buf.old.rest buf.new.rest result }
+    ensures total { buf.new.total ≡ buf.old.total }
+{
+    let mut ahead = buf.fork();
+    let Some(line) = next_line::<EncoderLine>(table.allocator(), &mut ahead)? else {
+        return Ok(false);
+    };
+    let answer = apply_encoder_line(table, line);
+    if is_passed(&answer) {
+        *buf = ahead;
+    }
+    answer?;
+    Ok(true)
+}
+
+/// Whether an instruction is passed that was answered so: it was applied, or the table refuses what it asks for.
+fn is_passed(answer: &Result<(), DecoderError>) -> bool
+    ensures { result ≡ is_passed answer.now }
+{
+    match answer {
+        Ok(()) => true,
+        Err(DecoderError::DynamicTable(e)) => is_refused_by_table(e),
+        Err(_) => false,
+    }
+}
+
+/// Whether an error of the table refuses what an instruction asks for, and no index.
+fn is_refused_by_table(e: &dynamic::Error) -> bool
+    ensures { result ≡ is_passed (Err (DynamicTableError e.now)) }
+{
+    matches!(
+        e,
+        dynamic::Error::MaxTableSizeReached
+            | dynamic::Error::MaximumTableSizeTooLarge
+            | dynamic::Error::UnknownStreamId(_)
+    )
+}
+
+/// Applies an instruction to the table. On error nothing changes.
+#[tactic(auto, unfolding(qpack_spec::specs::Table::apply_encoder_instruction))]
+fn apply_encoder_line<I: EntryIndex>(
+    table: &mut DynamicTable<I>,
+    line: EncoderLine,
+) -> Result<(), DecoderError>
+    ensures applies { Applies result (apply_encoder_instruction table.old (encoder_instruction_of line))
+        table.old table.new }
+    ensures memory { result ≡ Err Memory → IsSome (field_to_insert table.old (encoder_instruction_of line)) }
+{
+    match line {
+        EncoderLine::InsertWithNameRef(line) => {
+            let field = with_name(table, line)?;
+            insert(table, field)
+        }
+        EncoderLine::InsertWithoutNameRef(InsertWithoutNameRef { name, value }) => {
+            insert(table, HeaderField::new(name, value))
+        }
+        EncoderLine::Duplicate(Duplicate(index)) => {
+            let field = duplicated(table, index)?;
+            insert(table, field)
+        }
+        EncoderLine::DynamicTableSizeUpdate(DynamicTableSizeUpdate(size)) => {
+            set_capacity(table, size)
+        }
+    }
+}
+
+/// The field that an insertion with a name reference asks for (RFC 9204, section 4.3.2).
+#[tactic(auto, unfolding(qpack_spec::specs::Table::apply_encoder_instruction))]
+fn with_name<I: EntryIndex>(
+    table: &DynamicTable<I>,
+    line: InsertWithNameRef,
+) -> Result<HeaderField, DecoderError>
+    ensures { FindsField table.now (encoder_instruction_of_insert_with_name_ref line) result }
+{
+    match line {
+        InsertWithNameRef::Static { index, value } => {
+            Ok(StaticTable::get(index)?.with_value(value)?)
+        }
+        InsertWithNameRef::Dynamic { index, value } => {
+            Ok(table.get_relative(index)?.with_value(value)?)
+        }
+    }
+}
+
+/// The field that a duplicate asks for (RFC 9204, section 4.3.4).
+#[tactic(auto, unfolding(qpack_spec::specs::Table::apply_encoder_instruction))]
+fn duplicated<I: EntryIndex>(
+    table: &DynamicTable<I>,
+    index: usize,
+) -> Result<HeaderField, DecoderError>
+    ensures { FindsField table.now (DuplicateOf index) result }
+{
+    Ok(table.get_relative(index)?.clone()?)
+}
+
+/// Puts a field. On error nothing changes.
+fn insert<I: EntryIndex>(
+    table: &mut DynamicTable<I>,
+    field: HeaderField,
+) -> Result<(), DecoderError>
+    ensures { Applies result (put table.old (field_of field)) table.old table.new }
+{
+    Ok(table.put(field)?)
+}
+
+/// Sets the capacity. On error nothing changes; it takes no memory.
+fn set_capacity<I: EntryIndex>(table: &mut DynamicTable<I>, size: usize) -> Result<(), DecoderError>
+    ensures applies { Applies result (with_capacity table.old size) table.old table.new }
+    ensures no_memory { result ≡ Err Memory → ⊥ }
+{
+    Ok(table.set_max_size(size)?)
+}
+
+/// Appends increments for so many insertions, for the decoder stream: as many of 64 as there can be, and then one of
+/// the rest (RFC 9204, section 4.4.3). On error the vector is as before; with free room for them all it succeeds and
+/// takes no memory.
+pub fn write_increments<A: Allocator>(
+    insertions: usize,
+    buf: &mut Vec<u8, A>,
+) -> Result<(), NoMemory>
+    ensures writes { Writes (written_report insertions) buf.old buf.new result }
+    ensures memory { OnErr result (0 < insertions) }
+{
+    let len = buf.len();
+    let mut rest = insertions;
+    while rest > 0 {
+        let piece = rest.min(GREATEST_PIECE);
+        if InsertCountIncrement(piece).encode(buf).is_err() {
+            buf.truncate(len);
+            return Err(NoMemory);
+        }
+        rest -= piece;
+    }
+    Ok(())
+}

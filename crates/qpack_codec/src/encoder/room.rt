@@ -1,0 +1,38 @@
+//! Room in a vector, which is made before anything is done that can't be undone; and what is refused for want of it.
+
+ghost use Rattle.std.specs.Prelude.{◌≡◌, ◌+◌, ◌≤◌, OnOk, IsOk, vec_len, vec_capacity};
+ghost use Rattle.qpack_codec.specs.Encoding.{AreAlike};
+
+use qpack_base::coding::NoMemory;
+use qpack_base::prefix_string;
+use std::alloc::Allocator;
+
+/// Makes room for so many more bytes. Where it is free already, nothing changes and no memory is taken.
+pub(super) fn make_room<A: Allocator>(
+    buf: &mut Vec<u8, A>,
+    additional: usize,
+) -> Result<(), NoMemory>
+    ensures items { buf.new.items ≡ buf.old.items }
+    ensures len { vec_len buf.new ≡ vec_len buf.old }
+    ensures ok { OnOk result (vec_len buf.new + additional ≤ vec_capacity buf.new) }
+    ensures succeeds { vec_len buf.old + additional ≤ vec_capacity buf.old → IsOk result }
+    ensures still { vec_len buf.old + additional ≤ vec_capacity buf.old → vec_capacity buf.new ≡ vec_capacity buf.old }
+    ensures capacity { vec_capacity buf.old ≤ vec_capacity buf.new }
+{
+    if additional <= buf.capacity().saturating_sub(buf.len()) {
+        return Ok(());
+    }
+    buf.reserve(additional)?;
+    Ok(())
+}
+
+/// The same answer of a writer, which is refused for memory alone, with an error that comes back in a register.
+#[inline(always)]
+pub(crate) fn for_memory(written: Result<(), prefix_string::Error>) -> Result<(), NoMemory>
+    ensures { AreAlike written result }
+{
+    match written {
+        Ok(()) => Ok(()),
+        Err(_) => Err(NoMemory),
+    }
+}

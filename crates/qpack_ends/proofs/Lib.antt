@@ -1,0 +1,16 @@
+pub mod Asking
+pub mod LineParts
+pub mod LineReads
+pub mod SectionLines
+pub mod SectionParts
+pub mod PlacedTaking
+pub mod StrictTaking
+pub mod WaitingLengths
+pub mod BlockedStreams
+pub mod StrictCounts
+pub mod Decoders
+pub mod Encoders
+pub mod ReceivedStreams
+pub mod StrictHearing
+pub mod HeardBytes
+pub mod HeardStreams

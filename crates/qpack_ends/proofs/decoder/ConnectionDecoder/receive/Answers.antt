@@ -1,0 +1,56 @@
+use Rattle.std.proofs.Common.{arith, ◌∙◌, sym, subst, ap, Ok, Err}
+use Rattle.qpack_spec.specs.Table.{insert_count}
+use Rattle.std.proofs.lemmas.Result.{err_from_is_err_and}
+use Rattle.qpack_ends.specs.Decoders.{DecodingEnd, ReceivesBytes}
+use Rattle.qpack_ends.specs.Receiving.{Receives}
+use Rattle.qpack_ends.proofs.Decoders.{stream_refused, stream_reported, stream_unreported}
+use Rattle.qpack_ends.proofs.BlockedStreams.{fewer_blocked}
+use Rattle.qpack_ends.proofs.decoder.ConnectionDecoder.receive.Goals as goal
+
+pub returns-in-Err-clause-receives : goal.returns-in-Err-clause-receives
+returns-in-Err-clause-receives c live start before k =
+    subst (λ (d : DecodingEnd). ReceivesBytes start before d c.refuse.new.self c.args.buf.now.rest
+    c.receive.new.buf.rest (Err c.refuse.result)) c.self.view_is
+    (stream_refused start before c.args.buf.now.rest c.receive.new.buf.rest _ c.refuse.new.self
+    c.receive.new.table c.receive.new.self c.in-Err.error c.refuse.result
+    (c.in-Err.ensures.receives start before
+    (subst (λ (d : DecodingEnd). Receives start d.table before d.stream) (sym c.self.view_is) k))
+    (c.refuse.ensures.is ∙ c.of_stream.ensures)
+    (rw c.refuse.ensures.is c.refuse.ensures.ends))
+
+pub returns-in_err-report-in-Ok-clause-receives : goal.returns-in_err-report-in-Ok-clause-receives
+returns-in_err-report-in-Ok-clause-receives c live start before k =
+    let p = err_from_is_err_and c.from_residual.result c.from_residual.ensures.1 in
+    rw (p.1, p.2)
+    (subst (λ (d : DecodingEnd). ReceivesBytes start before d c.report.new.self c.args.buf.now.rest
+    c.receive.new.buf.rest (Err c.in_err-report-in-Ok.field-0.0)) c.self.view_is
+    (stream_unreported start before c.args.buf.now.rest c.receive.new.buf.rest _ c.report.new.self
+    c.receive.new.table c.receive.new.self c.in_err-report-in-Ok.field-0.0
+    (c.in-Ok.ensures.receives start before
+    (subst (λ (d : DecodingEnd). Receives start d.table before d.stream) (sym c.self.view_is) k))
+    c.in_err-report-in-Ok.ensures))
+
+pub returns-clause-receives : goal.returns-clause-receives
+returns-clause-receives c live start before k =
+    subst (λ (d : DecodingEnd). ReceivesBytes start before d c.report.new.self c.args.buf.now.rest
+    c.receive.new.buf.rest (Ok c.total_inserted.result)) c.self.view_is
+    (stream_reported start before c.args.buf.now.rest c.receive.new.buf.rest _ c.report.new.self
+    c.receive.new.table c.receive.new.self c.total_inserted.result
+    (c.in-Ok.ensures.receives start before
+    (subst (λ (d : DecodingEnd). Receives start d.table before d.stream) (sym c.self.view_is) k))
+    c.in_ok-report-in-Ok.ensures
+    (c.total_inserted.ensures ∙ ap (λ (d : DecodingEnd). insert_count d.table) c.self-2.view_is))
+
+pub invariant_of-self : goal.invariant_of-self
+invariant_of-self c =
+    let fewer = fewer_blocked (insert_count c.self.inside.table) (insert_count c.receive.new.table)
+    c.self.inside.blocked c.in-Ok.ensures.grows in
+    let within = c.self.invariant.blocked in
+    record { blocked = omega (arith, fewer, within); failure = c.self.invariant.failure }
+
+pub invariant_of-self-in-Err : goal.invariant_of-self-in-Err
+invariant_of-self-in-Err c =
+    let fewer = fewer_blocked (insert_count c.self.inside.table) (insert_count c.receive.new.table)
+    c.self.inside.blocked c.in-Err.ensures.grows in
+    let within = c.self.invariant.blocked in
+    record { blocked = omega (arith, fewer, within); failure = c.self.invariant.failure }

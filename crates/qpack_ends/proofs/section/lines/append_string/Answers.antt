@@ -1,0 +1,11 @@
+use Rattle.std.proofs.Common.{◌≡◌, ◌∙◌, ap, sym}
+use Rattle.qpack_ends.specs.declared.section.LineError.TheVariants.{Memory}
+use Rattle.qpack_ends.specs.Lines.{line_error_of_parse}
+use Rattle.qpack_ends.proofs.Asking.{asks_string}
+use Rattle.qpack_ends.proofs.section.lines.append_string.Goals as goal
+
+pub returns-in-Err-clause-memory : goal.returns-in-Err-clause-memory
+returns-in-Err-clause-memory c e =
+    let same : c.from-in-Err.result ≡ Memory = cc in
+    asks_string c.args.size c.args.buf.now c.in-Err.e c.in-Err.ensures.exact.0
+    (ap line_error_of_parse (sym c.from.ensures) ∙ sym c.from-in-Err.ensures ∙ same)

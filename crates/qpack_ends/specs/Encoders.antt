@@ -1,0 +1,215 @@
+-- The encoding end of a connection (RFC 9204, sections 2.1, 3.2.3, 4.3.1 and 4.4).
+use Rattle.std.specs.Prelude.{◌≡◌, ◌<◌, ◌≤◌, ◌^◌, ℕ, min, ⊤, ◌⊎◌, Bool, true, false, if◌then◌else◌, nat_eq, nat_le}
+use Rattle.std.specs.Prelude.{List, [], ◌++◌, length, Option, None, Some, Result, Ok, Err, IsOk}
+use Rattle.std.specs.Option.{IfSome, IsSome}
+use Rattle.qpack_spec.specs.Field.{FieldLine}
+use Rattle.qpack_spec.specs.Instruction.{DecoderInstruction, SetCapacity, written_encoder_instruction}
+use Rattle.qpack_spec.specs.Marked.{stateless_block_marked, written_marked_block}
+use Rattle.qpack_spec.specs.Table.{Table, empty_table, with_capacity}
+use Rattle.qpack_spec.specs.Window.{DoesNotFit, AboveMaximum}
+use Rattle.qpack_table.specs.declared.dynamic.Error.TheVariants.{MaxTableSizeReached}
+use Rattle.qpack_codec.specs.Encoding.{EncodesLines, GivesUpLines}
+use Rattle.qpack_codec.specs.declared.error.EncoderError.{EncoderError}
+use Rattle.qpack_codec.specs.declared.error.EncoderError.TheVariants as encoder
+use Rattle.qpack_ends.specs.declared.encoder.EncoderSettings.{EncoderSettings}
+use Rattle.qpack_ends.specs.declared.encoder.EncodingError.{EncodingError}
+use Rattle.qpack_ends.specs.declared.encoder.EncodingError.TheVariants.{DecoderStream, CapacityTooLarge}
+use Rattle.qpack_ends.specs.declared.encoder.EncodingError.TheVariants.{EntriesHeld, NoStream, Memory}
+use Rattle.qpack_ends.specs.Hearing.{StreamView, Receives, ReceivesMore, decoder_stream_error}
+
+-- an encoding end: its settings; the table; the capacity that is to be told before the first section, if one is; what
+-- waits of the decoder stream; the bytes of the encoder stream that are not sent; and the error that ended the
+-- connection
+pub record EncodingEnd : Type 0 where
+  pub settings : EncoderSettings
+  pub table : Table
+  pub wanted : Option ℕ
+  pub stream : StreamView
+  pub unsent : List ℕ
+  pub failure : Option EncodingError
+
+-- ---- its beginning
+
+-- the capacity that is told before the first section: what is wanted, at most the maximum; none of 0, which a table has
+-- from the start (section 3.2.3)
+abbrev pub first_capacity : EncoderSettings → Option ℕ
+first_capacity s = if nat_eq (min s.capacity s.max_capacity) 0 then None else Some (min s.capacity s.max_capacity)
+
+-- the maximum capacity is in range, and nothing has happened: the table is empty and of capacity 0 (section 3.2.3), and
+-- at most so many sections may be blocked as the peer has it, and as a table takes
+pub record Starts (settings : EncoderSettings) (d : EncodingEnd) : Type 0 where
+  pub capacity_in_range : settings.max_capacity < 2 ^ 30
+  pub settings_are : d.settings ≡ settings
+  pub table : d.table ≡ empty_table 0 (Some settings.max_capacity) (min settings.max_blocked 65534)
+  pub wanted : d.wanted ≡ first_capacity settings
+  pub stream : Receives [] [] d.stream
+  pub unsent : d.unsent ≡ []
+  pub failure : d.failure ≡ None
+
+-- ---- errors
+
+-- the code of an error that ends the connection; none of one that does not (section 6)
+abbrev pub code_of : EncodingError → Option ℕ
+code_of (DecoderStream e) = Some decoder_stream_error
+code_of e = None
+
+-- the error of a capacity that was not set, as an end's
+abbrev pub capacity_failure : EncoderError → EncodingError
+capacity_failure (encoder.Insertion MaxTableSizeReached) = EntriesHeld
+capacity_failure encoder.Memory = Memory
+capacity_failure e = CapacityTooLarge
+
+-- ---- what always holds
+
+-- a capacity that is to be told is one that the table takes: it is within the maximum, and nothing is in the table
+pub record IsToBeTold (d : EncodingEnd) (capacity : ℕ) : Type 0 where
+  pub within : capacity ≤ d.settings.max_capacity
+  pub small : d.settings.max_capacity < 2 ^ 30
+  pub agreed : d.table.agreed_max ≡ Some d.settings.max_capacity
+  pub nothing_live : d.table.live ≡ []
+
+-- the stream is what some instructions and bytes make of it
+abbrev pub HasReceived : StreamView → Type 0
+HasReceived s = (heard : List DecoderInstruction) × (before : List ℕ) × Receives heard before s
+
+-- the capacity that is to be told is one that the table takes, the stream was received unless it was refused, and the
+-- connection is ended only by an error that has a code
+pub record IsSound (d : EncodingEnd) : Type 0 where
+  pub wanted : IfSome d.wanted (λ capacity. IsToBeTold d capacity)
+  pub stream : d.failure ≡ None → HasReceived d.stream
+  pub failure : IfSome d.failure (λ e. IsSome (code_of e))
+
+-- ---- a capacity
+
+-- the end behind a capacity that the table was given, and that is told (section 4.3.1)
+abbrev pub told : ℕ → Table → EncodingEnd → EncodingEnd
+told capacity t d =
+    record d {
+      table = t;
+      wanted = None;
+      unsent = d.unsent ++ written_encoder_instruction (SetCapacity capacity);
+    }
+
+-- why a capacity was not told: it is above the maximum (section 3.2.3), or an entry that is not evictable would have to
+-- go (section 2.1.1); or memory was refused for one that the table takes
+abbrev pub StopsTelling : Table → ℕ → EncodingError → Type 0
+StopsTelling t capacity CapacityTooLarge = with_capacity t capacity ≡ Err AboveMaximum
+StopsTelling t capacity EntriesHeld = with_capacity t capacity ≡ Err DoesNotFit
+StopsTelling t capacity Memory = IsOk (with_capacity t capacity)
+StopsTelling t capacity e = ⊥
+
+-- the table was given a capacity, and it is told; or why not, and nothing changes
+abbrev pub TellsCapacity : EncodingEnd → EncodingEnd → ℕ → Result ⊤ EncodingError → Type 0
+TellsCapacity old new capacity (Ok done) =
+    (with_capacity old.table capacity ≡ Ok new.table) × (new ≡ told capacity new.table old)
+TellsCapacity old new capacity (Err e) = StopsTelling old.table capacity e × (new ≡ old)
+
+-- the maximum is 0, and so is the capacity, which the table has: nothing may be written then (section 3.2.3)
+abbrev pub IsNoCapacity : EncodingEnd → ℕ → Type 0
+IsNoCapacity d capacity = (d.settings.max_capacity ≡ 0) × (capacity ≡ 0)
+
+-- nothing is to be done for the capacity, or it is told
+abbrev pub SetsIt : EncodingEnd → EncodingEnd → ℕ → Type 0
+SetsIt old new capacity =
+    (IsNoCapacity old capacity × (new ≡ old))
+    ⊎ ((IsNoCapacity old capacity → ⊥) × TellsCapacity old new capacity (Ok tt))
+
+-- a capacity was set; or the connection was ended, and nothing changes; or why it was not set, and nothing changes
+abbrev pub SetsCapacity : EncodingEnd → EncodingEnd → ℕ → Result ⊤ EncodingError → Type 0
+SetsCapacity old new capacity (Ok done) = (old.failure ≡ None) × SetsIt old new capacity
+SetsCapacity old new capacity (Err e) =
+    ((old.failure ≡ Some e) × (new ≡ old))
+    ⊎ ((old.failure ≡ None) × TellsCapacity old new capacity (Err e))
+
+-- the end behind a capacity that was to be told, if one was: the table, which is empty, has it
+abbrev pub begun_with : Option ℕ → EncodingEnd → EncodingEnd
+begun_with None d = d
+begun_with (Some capacity) d = told capacity (record d.table { capacity = capacity }) d
+
+-- the end once the capacity is told that is to be told before the first section
+abbrev pub begun : EncodingEnd → EncodingEnd
+begun d = begun_with d.wanted d
+
+-- the capacity that was to be told is told; or memory was refused for it, and nothing changes
+abbrev pub Begins : EncodingEnd → EncodingEnd → Result ⊤ EncodingError → Type 0
+Begins old new (Ok done) = new ≡ begun old
+Begins old new (Err e) = (e ≡ Memory) × IsSome old.wanted × (new ≡ old)
+
+-- ---- the decoder stream
+
+-- the end with what was received
+abbrev pub received : Table → StreamView → EncodingEnd → EncodingEnd
+received t s d = record d { table = t; stream = s }
+
+-- the next bytes of the decoder stream were received; or it is refused, which ends the connection
+abbrev pub ReceivesBytes : List DecoderInstruction → List ℕ → EncodingEnd → EncodingEnd → List ℕ
+    → Result ⊤ EncodingError → Type 0
+ReceivesBytes heard before old new bytes (Ok done) =
+    ReceivesMore old.table new.table heard before bytes new.stream (Ok tt)
+    × (new ≡ received new.table new.stream old)
+ReceivesBytes heard before old new bytes (Err (DecoderStream e)) =
+    ReceivesMore old.table new.table heard before bytes new.stream (Err e)
+    × (new ≡ record (received new.table new.stream old) { failure = Some (DecoderStream e) })
+ReceivesBytes heard before old new bytes (Err e) = ⊥
+
+-- ---- a section
+
+-- a call for a stream can be answered; else the connection was ended, or no stream has this number (RFC 9000, section
+-- 2.1)
+abbrev pub Checks : EncodingEnd → ℕ → Result ⊤ EncodingError → Type 0
+Checks d stream (Ok done) = (d.failure ≡ None) × (stream < 2 ^ 62)
+Checks d stream (Err e) = (d.failure ≡ Some e) ⊎ ((d.failure ≡ None) × (2 ^ 62 ≤ stream) × (e ≡ NoStream stream))
+
+-- as many sections wait for acknowledgments as may
+abbrev pub is_full : EncodingEnd → Bool
+is_full d = nat_le d.settings.most_unacknowledged (length d.table.unacknowledged)
+
+-- the section of fields that references no entry, which means them under every table
+abbrev pub written_alone : List FieldLine → List ℕ
+written_alone fields = written_marked_block fields (stateless_block_marked fields)
+
+-- the end with another table and other bytes that are to be sent
+abbrev pub with_section : Table → List ℕ → EncodingEnd → EncodingEnd
+with_section t unsent d = record d { table = t; unsent = unsent }
+
+-- where sections may wait, the section is the rule's, and so are its instructions and the table behind it
+pub record WritesSection (d new : EncodingEnd) (stream : ℕ) (fields : List FieldLine) (before after : List ℕ)
+    (required : ℕ) : Type 0 where
+  pub room : is_full d ≡ false
+  pub section : EncodesLines stream fields d.table new.table before after d.unsent new.unsent required
+  pub new_is : new ≡ with_section new.table new.unsent d
+
+-- where as many wait as may, the section references no entry, and nothing else changes
+pub record WritesAlone (d new : EncodingEnd) (fields : List FieldLine) (before after : List ℕ) (required : ℕ) :
+    Type 0 where
+  pub full : is_full d ≡ true
+  pub required_is : required ≡ 0
+  pub section : after ≡ before ++ written_alone fields
+  pub new_is : new ≡ d
+
+-- memory was refused behind some of the fields: their insertions stand and were written, and nothing is referenced
+pub record GivesUpSection (d new : EncodingEnd) (fields : List FieldLine) : Type 0 where
+  pub room : is_full d ≡ false
+  pub lines : GivesUpLines fields d.table new.table d.unsent new.unsent
+  pub new_is : new ≡ with_section new.table new.unsent d
+
+-- memory was refused: for the capacity that was to be told, and nothing changes; behind it, for a section without
+-- references; or among its fields
+abbrev pub StopsForMemory : EncodingEnd → EncodingEnd → List FieldLine → Type 0
+StopsForMemory old new fields =
+    (IsSome old.wanted × (new ≡ old))
+    ⊎ ((is_full (begun old) ≡ true) × (new ≡ begun old))
+    ⊎ GivesUpSection (begun old) new fields
+
+-- a section was encoded, behind the capacity that was to be told; or the call was not answered, and nothing changes; or
+-- memory was refused. Refused, nothing is appended
+abbrev pub Encodes : EncodingEnd → EncodingEnd → ℕ → List FieldLine → List ℕ → List ℕ → Result ℕ EncodingError
+    → Type 0
+Encodes old new stream fields before after (Ok required) =
+    Checks old stream (Ok tt)
+    × (WritesSection (begun old) new stream fields before after required
+    ⊎ WritesAlone (begun old) new fields before after required)
+Encodes old new stream fields before after (Err e) =
+    (after ≡ before)
+    × ((Checks old stream (Err e) × (new ≡ old))
+    ⊎ (Checks old stream (Ok tt) × (e ≡ Memory) × StopsForMemory old new fields))

@@ -1,0 +1,429 @@
+//! The decoding end of a connection, made from what it sends as its settings (RFC 9204, sections 2.2, 4.4 and 5).
+
+ghost use Rattle.std.specs.Prelude.{◌≡◌, ◌<◌, ◌≤◌, ◌^◌, None, Some, Err, IfOk, IfErr, IfSome, List, ℕ, drop, length};
+ghost use Rattle.qpack_spec.specs.StrictReading.{strict_reading};
+ghost use Rattle.qpack_spec.specs.Table.{Table, empty_table, insert_count, window};
+ghost use Rattle.qpack_ends.specs.Blocked.{ready};
+ghost use Rattle.qpack_ends.specs.Receiving.{Receives};
+ghost use Rattle.qpack_ends.specs.Decoders.{Begins, FailsSettings, Checks, Reports, Acknowledges, BlocksStream};
+ghost use Rattle.qpack_ends.specs.Decoders.{TakesReading, DecodesInto, Decodes, Cancels, AsksToDecode, refused};
+ghost use Rattle.qpack_ends.specs.Decoders.{code_of, section_failure, stream_failure, ReceivesBytes};
+ghost use Rattle.qpack_ends.specs.Decoders.{blocked_streams};
+ghost use Rattle.qpack_ends.specs.declared.decoder.DecodingError.TheVariants.{Memory};
+ghost use Rattle.qpack_ends.specs.declared.decoder.SettingsError.TheVariants.{CapacityTooLarge};
+
+use crate::blocked::{BlockedStream, BlockedStreams, NotBlocked};
+use crate::field_section::FieldSection;
+use crate::place::Place;
+use crate::receiving::{ENCODER_STREAM_ERROR, EncoderStream, EncoderStreamError};
+use crate::section::{DECOMPRESSION_FAILED, Reading, SectionError, read_section};
+use qpack_base::coding::{Cursor, NoMemory};
+use qpack_codec::DecoderError;
+use qpack_codec::decoder::{ack_header, stream_canceled, write_increments};
+use qpack_table::dynamic::{DynamicTable, ReceivedTable};
+use std::alloc::Global;
+use std::marker::Model;
+use thiserror::Error;
+
+/// What a decoding end sends as its settings (RFC 9204, section 5, and RFC 9114, section 7.2.4.1).
+#[derive(Clone, Copy, Debug, PartialEq, Eq, Drop)]
+pub struct DecoderSettings {
+    /// SETTINGS_QPACK_MAX_TABLE_CAPACITY, in bytes, below 2^30: the greatest capacity that the peer may set.
+    pub max_capacity: usize,
+    /// SETTINGS_QPACK_BLOCKED_STREAMS, below 65,535: how many streams may be blocked at once.
+    pub max_blocked: usize,
+    /// SETTINGS_MAX_FIELD_SECTION_SIZE, in bytes: the greatest sum of the sizes of a section's fields.
+    pub max_section_size: u64,
+}
+
+/// Why settings are refused.
+#[derive(Clone, Copy, Debug, PartialEq, Eq, Drop, Error)]
+pub enum SettingsError {
+    /// The maximum capacity is 2^30 bytes or more.
+    #[error("maximum capacity too large")]
+    CapacityTooLarge,
+    /// The limit of blocked streams is 65,535 or more.
+    #[error("limit of blocked streams too large")]
+    BlockedTooLarge,
+}
+
+/// Why a call of a decoding end did not do what it was asked for.
+#[derive(Clone, Copy, Debug, PartialEq, Drop, Error)]
+pub enum DecodingError {
+    /// The encoder stream is refused at an instruction.
+    #[error("encoder stream: in instruction {} at offset {}: {error}", .place.number, .place.offset)]
+    EncoderStream {
+        /// Where the instruction stands on the stream.
+        place: Place,
+        /// Why.
+        error: DecoderError,
+    },
+    /// A section is refused.
+    #[error("field section of stream {stream}: {error}")]
+    Section {
+        /// The stream that it came on.
+        stream: u64,
+        /// Why.
+        error: SectionError,
+    },
+    /// With this stream more would be blocked than may be (RFC 9204, section 2.1.2).
+    #[error("stream {0} would be one blocked stream too many")]
+    TooManyBlocked(u64),
+    /// No stream has this number, which is 2^62 or more; nothing was done.
+    #[error("no stream has the number {0}")]
+    NoStream(u64),
+    /// No memory was left; the call can be made again.
+    #[error("out of memory")]
+    Memory,
+}
+
+/// The least number that no stream has (RFC 9000, section 2.1).
+pub(crate) const STREAMS: u64 = 1 << 62;
+
+/// The least limit of blocked streams that is refused.
+const BLOCKED_LIMITS: usize = 65_535;
+
+impl DecodingError {
+    /// The code of the error that ends the connection (RFC 9204, section 6); none of what does not end it: the reader's
+    /// own limit, a number that no stream has, and want of memory.
+    pub fn code(&self) -> Option<u64>
+        ensures { result ≡ code_of self.now }
+    {
+        match self {
+            DecodingError::EncoderStream { .. } => Some(ENCODER_STREAM_ERROR),
+            DecodingError::Section { error, .. } => error.code(),
+            DecodingError::TooManyBlocked(_) => Some(DECOMPRESSION_FAILED),
+            DecodingError::NoStream(_) | DecodingError::Memory => None,
+        }
+    }
+
+    /// The error of an encoder stream.
+    fn of_stream(error: EncoderStreamError) -> DecodingError
+        ensures { result ≡ stream_failure error }
+    {
+        match error {
+            EncoderStreamError::Refused { place, error } => {
+                DecodingError::EncoderStream { place, error }
+            }
+            EncoderStreamError::Memory => DecodingError::Memory,
+        }
+    }
+
+    /// The error of a section that came on a stream.
+    fn of_section(stream: u64, error: SectionError) -> DecodingError
+        ensures { result ≡ section_failure stream error }
+    {
+        match error {
+            SectionError::Memory => DecodingError::Memory,
+            error => DecodingError::Section { stream, error },
+        }
+    }
+}
+
+impl From<NoMemory> for DecodingError {
+    ghost from_gives = { λ _ r. r ≡ Memory };
+
+    fn from(_e: NoMemory) -> DecodingError {
+        DecodingError::Memory
+    }
+}
+
+/// The decoding end of a connection.
+///
+/// It takes the bytes of the encoder stream and the field sections of streams, and writes the decoder stream. An error
+/// that has a code ends the connection: from then on every call that could fail answers it again.
+#[derive(Debug, Drop)]
+pub struct ConnectionDecoder {
+    settings: DecoderSettings,
+    table: ReceivedTable,
+    stream: EncoderStream,
+    /// How many insertions increments have reported.
+    reported: usize,
+    blocked: BlockedStreams,
+    /// The bytes of the decoder stream that are not sent.
+    unsent: Vec<u8>,
+    /// The error that ended the connection.
+    failure: Option<DecodingError>,
+}
+
+impl Model for ConnectionDecoder {
+    ghost use Rattle.qpack_ends.specs.Decoders.{DecodingEnd, IsSound};
+
+    ghost Value = { DecodingEnd };
+
+    ghost view = { λ d. record {
+      settings = d.settings;
+      table = d.table;
+      stream = d.stream;
+      reported = d.reported;
+      blocked = d.blocked;
+      unsent = d.unsent.items;
+      failure = d.failure;
+    } };
+
+    ghost invariant = { λ d. IsSound (record {
+      settings = d.settings;
+      table = d.table;
+      stream = d.stream;
+      reported = d.reported;
+      blocked = d.blocked;
+      unsent = d.unsent.items;
+      failure = d.failure;
+    }) };
+}
+
+impl ConnectionDecoder {
+    /// A decoding end that sends these settings. Its table has the capacity 0 until the peer sets one (RFC 9204,
+    /// section 3.2.3). Refused are a maximum capacity of 2^30 bytes or more, and then a limit of 65,535 blocked streams
+    /// or more. Takes no memory.
+    pub fn new(alloc: Global, settings: DecoderSettings) -> Result<ConnectionDecoder, SettingsError>
+        ensures ok { IfOk result (λ d. Begins settings d) }
+        ensures err { IfErr result (FailsSettings settings) }
+    {
+        let table = new_table(alloc, settings.max_capacity)?;
+        if settings.max_blocked >= BLOCKED_LIMITS {
+            return Err(SettingsError::BlockedTooLarge);
+        }
+        Ok(ConnectionDecoder {
+            settings,
+            table,
+            stream: EncoderStream::new(alloc),
+            reported: 0,
+            blocked: BlockedStreams::new(alloc),
+            unsent: Vec::new(alloc),
+            failure: None,
+        })
+    }
+
+    /// The settings.
+    pub fn settings(&self) -> DecoderSettings
+        ensures { result ≡ self.now.settings }
+    {
+        self.settings
+    }
+
+    /// The table.
+    pub fn table(&self) -> &ReceivedTable
+        ensures { result.now ≡ self.now.table }
+    {
+        &self.table
+    }
+
+    /// The error that ended the connection, if one did.
+    pub fn failure(&self) -> Option<DecodingError>
+        ensures { result ≡ self.now.failure }
+    {
+        self.failure
+    }
+
+    /// How many streams are blocked: those that wait for insertions yet.
+    pub fn blocked(&self) -> usize
+        ensures exact { result ≡ blocked_streams self.now }
+        ensures few { result ≤ self.now.settings.max_blocked }
+    {
+        self.blocked.count(self.table.total_inserted())
+    }
+
+    /// How many bytes of the encoder stream wait for those behind them.
+    pub fn waiting(&self) -> usize
+        ensures { result ≡ length self.now.stream.pending }
+    {
+        self.stream.waiting()
+    }
+
+    /// The bytes of the decoder stream that are to be sent, in order (RFC 9204, section 4.4).
+    pub fn decoder_stream(&self) -> &[u8]
+        ensures { result.now ≡ self.now.unsent }
+    {
+        &self.unsent
+    }
+
+    /// So many bytes of the decoder stream were sent, or all: they are dropped.
+    pub fn sent(&mut self, many: usize)
+        ensures { self.new ≡ record self.old { unsent = drop many self.old.unsent } }
+    {
+        let many = many.min(self.unsent.len());
+        self.unsent.drain(..many);
+    }
+
+    /// A blocked stream of which the section can be decoded now: of those, the one that waited for the fewest insertions,
+    /// and of those with as many the one with the lowest number.
+    pub fn next_ready(&self) -> Option<u64>
+        ensures { result ≡ ready (insert_count self.now.table) self.now.blocked }
+    {
+        self.blocked.ready(self.table.total_inserted())
+    }
+
+    /// Decodes a field section that came on a stream (RFC 9204, section 2.2), as `read_section` reads it, with the
+    /// limit of the settings. Where no fields are answered there are none in `fields`.
+    ///
+    /// Fields of a section that requires insertions are acknowledged, behind increments for what is not reported; the
+    /// stream is blocked no more. A section that is blocked is not kept: its stream is counted as blocked while
+    /// insertions are missing, and once `next_ready` tells the stream the section is handed in again. Refused are, in
+    /// this order: every call behind an error that ended the connection, by that error; a number that no stream has
+    /// (`NoStream`); what `read_section` refuses (`Section`); and a stream more than may be blocked (`TooManyBlocked`).
+    /// An error that has no code changes nothing, but that increments may have been written where memory was refused.
+    pub fn decode(
+        &mut self,
+        stream: u64,
+        section: &[u8],
+        fields: &mut FieldSection,
+    ) -> Result<Reading, DecodingError>
+        ensures decodes { Decodes self.old self.new stream
+            (strict_reading (window self.old.table) self.old.settings.max_section_size section.now) fields.new result }
+        // Memory is refused only where the section asks for it, where a stream comes to be blocked that was not counted
+        // with this count, or where an acknowledgment is written.
+        ensures memory { result ≡ Err Memory → AsksToDecode self.old stream section.now }
+    {
+        fields.clear();
+        self.check(stream)?;
+        let reading = self.decode_into(stream, section, fields);
+        if reading.is_err() {
+            fields.clear();
+        }
+        reading
+    }
+
+    /// Reading of a stream is given up, or it was reset: what is blocked of it is forgotten, and a cancellation is
+    /// written, unless the maximum capacity is 0 (RFC 9204, section 2.2.2.2). It may be called for any stream. Refused,
+    /// nothing changes.
+    pub fn cancel(&mut self, stream: u64) -> Result<(), DecodingError>
+        ensures { Cancels self.old self.new stream result }
+    {
+        self.check(stream)?;
+        if self.settings.max_capacity > 0 {
+            stream_canceled(stream, &mut self.unsent)?;
+        }
+        self.blocked.forget(stream);
+        Ok(())
+    }
+
+    /// Receives the bytes of the encoder stream that the cursor has left, which follow on those of the calls before,
+    /// cut anywhere (RFC 9204, sections 4.2 and 4.3), as `EncoderStream::receive` does, and answers how many insertions
+    /// were ever made. They are reported by increments of 64 and one of the rest (section 4.4.3).
+    ///
+    /// An instruction that is refused ends the connection (`EncoderStream`); those before it stay applied. After want
+    /// of memory what the cursor has left is offered again, be it nothing; insertions that were made are reported then.
+    pub fn receive(&mut self, buf: &mut Cursor) -> Result<usize, DecodingError>
+        ensures receives { self.old.failure ≡ None → (start : Table) (before : List ℕ)
+            → Receives start self.old.table before self.old.stream
+            → ReceivesBytes start before self.old self.new buf.old.rest buf.new.rest result }
+        ensures ended { IfSome self.old.failure
+            (λ e. (result ≡ Err e) × (self.new ≡ self.old) × (buf.new.rest ≡ buf.old.rest)) }
+        ensures total { buf.new.total ≡ buf.old.total }
+    {
+        if let Some(failure) = self.failure {
+            return Err(failure);
+        }
+        match self.stream.receive(&mut self.table, buf) {
+            Ok(()) => self.report()?,
+            Err(error) => return Err(self.refuse(DecodingError::of_stream(error))),
+        }
+        Ok(self.table.total_inserted())
+    }
+
+    /// Whether a call for a stream can be answered.
+    fn check(&self, stream: u64) -> Result<(), DecodingError>
+        ensures checks { Checks self.now stream result }
+        ensures no_memory { result ≡ Err Memory → ⊥ }
+    {
+        if let Some(failure) = self.failure {
+            return Err(failure);
+        }
+        if stream >= STREAMS {
+            return Err(DecodingError::NoStream(stream));
+        }
+        Ok(())
+    }
+
+    /// Reads a section, and does what its reading asks for; refused, fields may stand in `fields`.
+    fn decode_into(
+        &mut self,
+        stream: u64,
+        section: &[u8],
+        fields: &mut FieldSection,
+    ) -> Result<Reading, DecodingError>
+        ensures decodes { DecodesInto self.old self.new stream
+            (strict_reading (window self.old.table) self.old.settings.max_section_size section.now) fields.new result }
+        ensures memory { result ≡ Err Memory → AsksToDecode self.old stream section.now }
+    {
+        match read_section(&self.table, section, self.settings.max_section_size, fields) {
+            Ok(reading) => {
+                self.take_reading(stream, reading)?;
+                Ok(reading)
+            }
+            Err(error) => Err(self.refuse(DecodingError::of_section(stream, error))),
+        }
+    }
+
+    /// Does what the reading of a section asks for.
+    fn take_reading(&mut self, stream: u64, reading: Reading) -> Result<(), DecodingError>
+        ensures { TakesReading self.old self.new stream reading result }
+    {
+        match reading {
+            Reading::Fields { required } => self.acknowledge(stream, required),
+            Reading::Blocked { required } => self.block(stream, required),
+        }
+    }
+
+    /// Writes the acknowledgment of a section, if it requires insertions, and counts its stream as blocked no more.
+    fn acknowledge(&mut self, stream: u64, required: usize) -> Result<(), DecodingError>
+        ensures { Acknowledges self.old self.new stream required result }
+    {
+        if required > 0 {
+            self.report()?;
+            ack_header(stream, &mut self.unsent)?;
+        }
+        self.blocked.forget(stream);
+        Ok(())
+    }
+
+    /// A stream comes to be blocked; where it is one too many, that ends the connection.
+    fn block(&mut self, stream: u64, required: usize) -> Result<(), DecodingError>
+        ensures { BlocksStream self.old self.new stream required result }
+    {
+        let blocked = BlockedStream { stream, required };
+        let inserted = self.table.total_inserted();
+        match self
+            .blocked
+            .block(blocked, inserted, self.settings.max_blocked)
+        {
+            Ok(()) => Ok(()),
+            Err(NotBlocked::TooMany) => Err(self.refuse(DecodingError::TooManyBlocked(stream))),
+            Err(NotBlocked::Memory) => Err(DecodingError::Memory),
+        }
+    }
+
+    /// Writes increments for the insertions that are not reported.
+    fn report(&mut self) -> Result<(), DecodingError>
+        ensures { Reports self.old self.new result }
+    {
+        let inserted = self.table.total_inserted();
+        write_increments(inserted.saturating_sub(self.reported), &mut self.unsent)?;
+        self.reported = inserted;
+        Ok(())
+    }
+
+    /// Hands on an error, which is kept if it ends the connection.
+    fn refuse(&mut self, error: DecodingError) -> DecodingError
+        ensures is { result ≡ error }
+        ensures ends { self.new ≡ refused error self.old }
+    {
+        if error.code().is_some() {
+            self.failure = Some(error);
+        }
+        error
+    }
+}
+
+/// An empty table of capacity 0, with this maximum capacity.
+fn new_table(alloc: Global, max_capacity: usize) -> Result<ReceivedTable, SettingsError>
+    ensures ok { IfOk result (λ t. (max_capacity < 2 ^ 30) × (t ≡ empty_table 0 (Some max_capacity) 0)) }
+    ensures err { IfErr result (λ e. (e ≡ CapacityTooLarge) × (2 ^ 30 ≤ max_capacity)) }
+{
+    let mut table = DynamicTable::without_index(alloc);
+    match table.set_agreed_max(max_capacity) {
+        Ok(()) => Ok(table),
+        Err(_) => Err(SettingsError::CapacityTooLarge),
+    }
+}

@@ -1,0 +1,420 @@
+//! The encoding end of a connection, made from what the peer sent as its settings (RFC 9204, sections 2.1, 3.2.3 and
+//! 5).
+
+ghost use Rattle.std.specs.Prelude.{◌≡◌, ◌<◌, ◌≤◌, ◌^◌, None, Some, IfOk, IfErr, IfSome, List, [], ℕ, drop, length};
+ghost use Rattle.std.specs.Prelude.{Err, min, map, ◌++◌, vec_capacity};
+ghost use Rattle.qpack_spec.specs.Instruction.{DecoderInstruction};
+ghost use Rattle.qpack_spec.specs.Table.{empty_table};
+ghost use Rattle.qpack_ends.specs.Hearing.{Receives};
+ghost use Rattle.qpack_ends.specs.Encoders.{Starts, first_capacity, code_of, capacity_failure, SetsCapacity};
+ghost use Rattle.qpack_ends.specs.Encoders.{TellsCapacity, Begins, ReceivesBytes, Checks, is_full, written_alone};
+ghost use Rattle.qpack_ends.specs.Encoders.{Encodes};
+ghost use Rattle.qpack_ends.specs.declared.decoder.SettingsError.TheVariants.{CapacityTooLarge};
+ghost use Rattle.qpack_ends.specs.declared.encoder.EncodingError.TheVariants.{Memory};
+
+use crate::decoder::{STREAMS, SettingsError};
+use crate::hearing::{DECODER_STREAM_ERROR, DecoderStream, DecoderStreamError};
+use qpack_base::coding::Cursor;
+use qpack_codec::EncoderError;
+use qpack_codec::encoder::{
+    AsField, EncoderTable, WritesSections, encode_section_stateless, set_dynamic_table_size,
+};
+use qpack_table::dynamic;
+use qpack_table::dynamic::DynamicTable;
+use std::alloc::{Allocator, Global};
+use std::marker::Model;
+use thiserror::Error;
+
+/// The capacity that `EncoderSettings::new` wants, in bytes.
+pub const DEFAULT_CAPACITY: usize = 4_096;
+
+/// How many sections may wait for acknowledgments by `EncoderSettings::new`.
+pub const DEFAULT_UNACKNOWLEDGED: usize = 1_000;
+
+/// The greatest limit of blocked streams that a table takes.
+const MOST_BLOCKED: usize = 65_534;
+
+/// What the peer sent as its settings (RFC 9204, section 5), and what this end wants of its table.
+#[derive(Clone, Copy, Debug, PartialEq, Eq, Drop)]
+pub struct EncoderSettings {
+    /// The peer's SETTINGS_QPACK_MAX_TABLE_CAPACITY, in bytes, below 2^30: the greatest capacity that may be set.
+    pub max_capacity: usize,
+    /// The peer's SETTINGS_QPACK_BLOCKED_STREAMS: how many streams may be blocked at once. Above 65,534 it is taken as
+    /// that, since fewer may always be blocked (RFC 9204, section 2.1.2).
+    pub max_blocked: usize,
+    /// The capacity that this end wants, in bytes; at most the maximum is taken (RFC 9204, section 3.2.3).
+    pub capacity: usize,
+    /// How many sections may wait for acknowledgments (RFC 9204, section 4.4.1) before sections are written without
+    /// references.
+    pub most_unacknowledged: usize,
+}
+
+impl EncoderSettings {
+    /// What the peer sent, its maximum capacity in bytes and its limit of blocked streams; a capacity of 4,096 bytes is
+    /// wanted, and 1,000 sections may wait for acknowledgments.
+    pub fn new(max_capacity: usize, max_blocked: usize) -> EncoderSettings
+        ensures { result ≡ record {
+          max_capacity = max_capacity;
+          max_blocked = max_blocked;
+          capacity = 4096;
+          most_unacknowledged = 1000;
+        } }
+    {
+        EncoderSettings {
+            max_capacity,
+            max_blocked,
+            capacity: DEFAULT_CAPACITY,
+            most_unacknowledged: DEFAULT_UNACKNOWLEDGED,
+        }
+    }
+
+    /// The capacity that is to be told before the first section; none of 0, which a table has from the start.
+    fn first_capacity(&self) -> Option<usize>
+        ensures { result ≡ first_capacity self.now }
+    {
+        let capacity = self.capacity.min(self.max_capacity);
+        if capacity == 0 {
+            return None;
+        }
+        Some(capacity)
+    }
+}
+
+/// Why a call of an encoding end did not do what it was asked for.
+#[derive(Clone, Copy, Debug, PartialEq, Drop, Error)]
+pub enum EncodingError {
+    /// The decoder stream is refused at an instruction, which ends the connection (RFC 9204, section 4.4).
+    #[error("decoder stream: {0}")]
+    DecoderStream(DecoderStreamError),
+    /// The capacity is above the maximum capacity of the peer (RFC 9204, section 3.2.3); nothing was done.
+    #[error("capacity above the maximum of the peer")]
+    CapacityTooLarge,
+    /// For the capacity an entry would have to be evicted that is not evictable yet (RFC 9204, section 2.1.1); nothing
+    /// was done.
+    #[error("entries that are not evictable do not fit the capacity")]
+    EntriesHeld,
+    /// No stream has this number, which is 2^62 or more; nothing was done.
+    #[error("no stream has the number {0}")]
+    NoStream(u64),
+    /// No memory was left; the call can be made again.
+    #[error("out of memory")]
+    Memory,
+}
+
+impl EncodingError {
+    /// The code of the error that ends the connection (RFC 9204, section 6); none of what does not end it: a capacity
+    /// that can't be set, a number that no stream has, and want of memory.
+    pub fn code(&self) -> Option<u64>
+        ensures { result ≡ code_of self.now }
+    {
+        match self {
+            EncodingError::DecoderStream(_) => Some(DECODER_STREAM_ERROR),
+            EncodingError::CapacityTooLarge
+            | EncodingError::EntriesHeld
+            | EncodingError::NoStream(_)
+            | EncodingError::Memory => None,
+        }
+    }
+
+    /// The error of a capacity that was not set.
+    fn of_capacity(error: EncoderError) -> EncodingError
+        ensures { result ≡ capacity_failure error }
+    {
+        match error {
+            EncoderError::Insertion(dynamic::Error::MaxTableSizeReached) => {
+                EncodingError::EntriesHeld
+            }
+            EncoderError::Memory => EncodingError::Memory,
+            _ => EncodingError::CapacityTooLarge,
+        }
+    }
+}
+
+/// The encoding end of a connection.
+///
+/// It takes the bytes of the decoder stream, and writes the encoder stream. An error that has a code ends the
+/// connection: from then on every call that could fail answers it again.
+#[derive(Debug, Drop)]
+pub struct ConnectionEncoder {
+    settings: EncoderSettings,
+    table: EncoderTable,
+    /// The capacity that is to be told before the first section, in bytes.
+    wanted: Option<usize>,
+    stream: DecoderStream,
+    /// The bytes of the encoder stream that are not sent.
+    unsent: Vec<u8>,
+    /// The error that ended the connection.
+    failure: Option<EncodingError>,
+}
+
+impl Model for ConnectionEncoder {
+    ghost use Rattle.qpack_ends.specs.Encoders.{EncodingEnd, IsSound};
+
+    ghost Value = { EncodingEnd };
+
+    ghost view = { λ d. record {
+      settings = d.settings;
+      table = d.table.table;
+      wanted = d.wanted;
+      stream = d.stream;
+      unsent = d.unsent.items;
+      failure = d.failure;
+    } };
+
+    ghost invariant = { λ d. IsSound (record {
+      settings = d.settings;
+      table = d.table.table;
+      wanted = d.wanted;
+      stream = d.stream;
+      unsent = d.unsent.items;
+      failure = d.failure;
+    }) };
+}
+
+impl ConnectionEncoder {
+    /// An encoding end for a peer that sent these settings. Its table has the capacity 0 until one is told, which is
+    /// done before the first section (RFC 9204, section 3.2.3). Takes no memory.
+    ///
+    /// Refused is a maximum capacity of 2^30 bytes or more (`CapacityTooLarge`): a lesser one in its place would change
+    /// how required insert counts are encoded, since those are of the maximum that the peer sent (section 4.5.1.1). An
+    /// end for such a peer is made with a maximum capacity of 0, and writes no reference.
+    pub fn new(alloc: Global, settings: EncoderSettings) -> Result<ConnectionEncoder, SettingsError>
+        ensures ok { IfOk result (λ d. Starts settings d) }
+        ensures err { IfErr result (λ e. (e ≡ CapacityTooLarge) × (2 ^ 30 ≤ settings.max_capacity)) }
+    {
+        let table = new_table(alloc, settings)?;
+        Ok(ConnectionEncoder {
+            settings,
+            table: EncoderTable { table },
+            wanted: settings.first_capacity(),
+            stream: DecoderStream::new(),
+            unsent: Vec::new(alloc),
+            failure: None,
+        })
+    }
+
+    /// The settings, as they were given.
+    pub fn settings(&self) -> EncoderSettings
+        ensures { result ≡ self.now.settings }
+    {
+        self.settings
+    }
+
+    /// The table.
+    pub fn table(&self) -> &DynamicTable
+        ensures { result.now ≡ self.now.table }
+    {
+        &self.table.table
+    }
+
+    /// The error that ended the connection, if one did.
+    pub fn failure(&self) -> Option<EncodingError>
+        ensures { result ≡ self.now.failure }
+    {
+        self.failure
+    }
+
+    /// How many sections wait for acknowledgments, of all streams (RFC 9204, section 4.4.1).
+    pub fn unacknowledged(&self) -> usize
+        ensures { result ≡ length self.now.table.unacknowledged }
+    {
+        self.table.table.unacknowledged_blocks()
+    }
+
+    /// How many sections may be blocked: those that require insertions which the peer is not known to have received
+    /// (RFC 9204, section 2.1.2). A section that was cancelled counts until what it required is known to be received.
+    pub fn blocked(&self) -> usize
+        ensures { result ≡ length self.now.table.blocked }
+    {
+        self.table.table.blocked_blocks()
+    }
+
+    /// How many bytes of the decoder stream wait for those behind them, which are nine at most.
+    pub fn waiting(&self) -> usize
+        ensures exact { result ≡ length self.now.stream.pending }
+        ensures few { result < 10 }
+    {
+        self.stream.waiting()
+    }
+
+    /// The bytes of the encoder stream that are to be sent, in order (RFC 9204, section 4.3).
+    pub fn encoder_stream(&self) -> &[u8]
+        ensures { result.now ≡ self.now.unsent }
+    {
+        &self.unsent
+    }
+
+    /// So many bytes of the encoder stream were sent, or all: they are dropped.
+    pub fn sent(&mut self, many: usize)
+        ensures { self.new ≡ record self.old { unsent = drop many self.old.unsent } }
+    {
+        let many = many.min(self.unsent.len());
+        self.unsent.drain(..many);
+    }
+
+    /// Sets the capacity of the table in bytes, and writes the instruction that tells it (RFC 9204, sections 3.2.3 and
+    /// 4.3.1). If the capacity of the settings was not told yet, this one is told in its place. What doesn't fit is
+    /// evicted, the oldest first (section 3.2.2). Where the maximum is 0 the table has the only capacity that there is,
+    /// and nothing is written (section 3.2.3).
+    ///
+    /// Refused are, in this order: every call behind an error that ended the connection, by that error; a capacity
+    /// above the maximum (`CapacityTooLarge`); one for which an entry that is not evictable would have to go
+    /// (`EntriesHeld`); and any other where memory is refused. On error nothing changes.
+    pub fn set_capacity(&mut self, capacity: usize) -> Result<(), EncodingError>
+        ensures { SetsCapacity self.old self.new capacity result }
+    {
+        if let Some(failure) = self.failure {
+            return Err(failure);
+        }
+        if capacity == 0 && self.settings.max_capacity == 0 {
+            return Ok(());
+        }
+        self.tell(capacity)
+    }
+
+    /// Encodes a field section for a stream (RFC 9204, section 2.1): appends it to the vector, and what it inserts to
+    /// the encoder stream, and answers its required insert count, 0 if it references no entry. For each field the first
+    /// is taken that applies: an equal static field, the newest equal entry that stood at the section's start, an
+    /// insertion, and a literal. A field that is never to be indexed is a literal that says so, by the name of a static
+    /// field or of an entry, and is neither inserted nor held against entries (section 7.1.3). Nothing is copied but
+    /// what is inserted.
+    ///
+    /// The first call tells the capacity of the settings, if none was told. While as many sections wait for
+    /// acknowledgments as may, a section is written without references, as `encode_section_stateless` does, and does
+    /// not wait.
+    ///
+    /// Refused are, in this order: every call behind an error that ended the connection, by that error; a number that
+    /// no stream has (`NoStream`); and any other where memory is refused. The vector is then as before; where memory
+    /// was refused, the capacity may have been told, and insertions that were made stand and are written: the call can
+    /// be made again.
+    pub fn encode<A: Allocator, H: AsField>(
+        &mut self,
+        stream: u64,
+        fields: &[H],
+        section: &mut Vec<u8, A>,
+    ) -> Result<usize, EncodingError>
+        ensures encodes { Encodes self.old self.new stream (map H.line fields.now) section.old.items section.new.items
+            result }
+        ensures capacity { vec_capacity section.old ≤ vec_capacity section.new }
+    {
+        self.check(stream)?;
+        self.begin()?;
+        if self.is_full() {
+            return encode_alone(fields, section);
+        }
+        match self
+            .table
+            .write_section(stream, section, &mut self.unsent, fields)
+        {
+            Ok(required) => Ok(required),
+            Err(_) => Err(EncodingError::Memory),
+        }
+    }
+
+    /// Receives the bytes of the decoder stream that the cursor has left, which follow on those of the calls before,
+    /// cut anywhere (RFC 9204, sections 4.2 and 4.4), as `DecoderStream::receive` does: acknowledgments and
+    /// cancellations release sections, acknowledgments and increments raise the known received count (section 2.1.4).
+    /// It takes no memory.
+    ///
+    /// An instruction that is refused ends the connection (`DecoderStream`); those before it stay applied. The cursor
+    /// is moved to its end; only behind an error that ended the connection it stays.
+    pub fn receive(&mut self, buf: &mut Cursor) -> Result<(), EncodingError>
+        ensures receives { self.old.failure ≡ None → (heard : List DecoderInstruction) (before : List ℕ)
+            → Receives heard before self.old.stream
+            → ReceivesBytes heard before self.old self.new buf.old.rest result }
+        ensures left { self.old.failure ≡ None → buf.new.rest ≡ [] }
+        ensures ended { IfSome self.old.failure
+            (λ e. (result ≡ Err e) × (self.new ≡ self.old) × (buf.new.rest ≡ buf.old.rest)) }
+        ensures total { buf.new.total ≡ buf.old.total }
+    {
+        if let Some(failure) = self.failure {
+            return Err(failure);
+        }
+        match self.stream.receive(&mut self.table.table, buf) {
+            Ok(()) => Ok(()),
+            Err(error) => {
+                let failure = EncodingError::DecoderStream(error);
+                self.failure = Some(failure);
+                Err(failure)
+            }
+        }
+    }
+
+    /// Whether a call for a stream can be answered.
+    fn check(&self, stream: u64) -> Result<(), EncodingError>
+        ensures checks { Checks self.now stream result }
+    {
+        if let Some(failure) = self.failure {
+            return Err(failure);
+        }
+        if stream >= STREAMS {
+            return Err(EncodingError::NoStream(stream));
+        }
+        Ok(())
+    }
+
+    /// Whether as many sections wait for acknowledgments as may.
+    fn is_full(&self) -> bool
+        ensures { result ≡ is_full self.now }
+    {
+        self.table.table.unacknowledged_blocks() >= self.settings.most_unacknowledged
+    }
+
+    /// Tells the capacity that is wanted, if one is to be told before the first section. On error, which is for memory
+    /// alone, nothing changes.
+    fn begin(&mut self) -> Result<(), EncodingError>
+        ensures { Begins self.old self.new result }
+    {
+        match self.wanted {
+            Some(capacity) => self.tell(capacity),
+            None => Ok(()),
+        }
+    }
+
+    /// Sets the capacity of the table, and writes the instruction that tells it. On error nothing changes.
+    fn tell(&mut self, capacity: usize) -> Result<(), EncodingError>
+        ensures { TellsCapacity self.old self.new capacity result }
+    {
+        match set_dynamic_table_size(&mut self.table.table, &mut self.unsent, capacity) {
+            Ok(()) => {
+                self.wanted = None;
+                Ok(())
+            }
+            Err(error) => Err(EncodingError::of_capacity(error)),
+        }
+    }
+}
+
+/// Appends the section of the fields that references no entry, and answers its required insert count, which is 0.
+/// On error, which is want of memory alone, the vector is as before.
+fn encode_alone<A: Allocator, H: AsField>(
+    fields: &[H],
+    section: &mut Vec<u8, A>,
+) -> Result<usize, EncodingError>
+    ensures ok { IfOk result (λ required. (required ≡ 0)
+        × (section.new.items ≡ section.old.items ++ written_alone (map H.line fields.now))) }
+    ensures err { IfErr result (λ e. (e ≡ Memory) × (section.new.items ≡ section.old.items)) }
+    ensures capacity { vec_capacity section.old ≤ vec_capacity section.new }
+{
+    match encode_section_stateless(section, fields) {
+        Ok(()) => Ok(0),
+        Err(_) => Err(EncodingError::Memory),
+    }
+}
+
+/// An empty table of capacity 0, with the maximum capacity and the limit of blocked streams of these settings.
+fn new_table(alloc: Global, settings: EncoderSettings) -> Result<DynamicTable, SettingsError>
+    ensures ok { IfOk result (λ t. (settings.max_capacity < 2 ^ 30)
+        × (t ≡ empty_table 0 (Some settings.max_capacity) (min settings.max_blocked 65534))) }
+    ensures err { IfErr result (λ e. (e ≡ CapacityTooLarge) × (2 ^ 30 ≤ settings.max_capacity)) }
+{
+    let mut table = DynamicTable::new(alloc);
+    if table.set_agreed_max(settings.max_capacity).is_err() {
+        return Err(SettingsError::CapacityTooLarge);
+    }
+    match table.set_max_blocked(settings.max_blocked.min(MOST_BLOCKED)) {
+        Ok(()) => Ok(table),
+        // The limit is in range, so this is never answered.
+        Err(_) => Err(SettingsError::BlockedTooLarge),
+    }
+}

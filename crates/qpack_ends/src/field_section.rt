@@ -1,0 +1,179 @@
+//! The fields of a section, in memory that is kept from section to section.
+
+ghost use Rattle.std.specs.Prelude.{◌≡◌, ℕ, List, [], length, nat_eq, slice_get, Err};
+ghost use Rattle.std.specs.Option.{option_map};
+ghost use Rattle.std.specs.List.{AllByRecursion};
+ghost use Rattle.qpack_spec.specs.Bytes.{Begins};
+ghost use Rattle.qpack_spec.specs.StrictReading.{strict_lines_at};
+ghost use Rattle.qpack_wire.specs.Memory.{AsksLine};
+ghost use Rattle.qpack_base.specs.HeaderFields.{line_of};
+ghost use Rattle.qpack_ends.specs.FieldSections.{IsWithin, field_at as field_of_span};
+ghost use Rattle.qpack_ends.specs.Lines.{under};
+ghost use Rattle.qpack_ends.specs.Sections.{ReadsLines};
+ghost use Rattle.qpack_ends.specs.declared.section.SectionError.TheVariants.{Memory};
+
+use crate::section::{Lines, SectionError, read_lines};
+use qpack_base::coding::Cursor;
+use qpack_base::field::FieldLine;
+use qpack_table::dynamic::EntryIndex;
+use std::alloc::Global;
+use std::marker::Model;
+
+/// Where a field stands in a text, in bytes from its start, and how its line was spelled.
+#[derive(Clone, Copy, Debug, Drop)]
+pub(crate) struct Span {
+    /// Where the name begins.
+    pub(crate) start: usize,
+    /// Where the name ends and the value begins.
+    pub(crate) middle: usize,
+    /// Where the value ends.
+    pub(crate) end: usize,
+    /// Whether the line asks that the field stay a literal.
+    pub(crate) never_indexed: bool,
+}
+
+/// The field of a span.
+fn field_at<'a>(text: &'a [u8], span: &Span) -> FieldLine<'a>
+    requires { IsWithin (length text.now) span.now }
+    ensures { line_of result ≡ field_of_span text.now span.now }
+{
+    FieldLine {
+        name: &text[span.start..span.middle],
+        value: &text[span.middle..span.end],
+        never_indexed: span.never_indexed,
+    }
+}
+
+/// The fields of a section, names and values one behind the other in one text, which is kept from section to section.
+#[derive(Debug, Drop)]
+pub struct FieldSection {
+    text: Vec<u8>,
+    spans: Vec<Span>,
+}
+
+impl Model for FieldSection {
+    ghost use Rattle.std.specs.Prelude.{List, length};
+    ghost use Rattle.std.specs.List.{AllByRecursion};
+    ghost use Rattle.qpack_spec.specs.Field.{FieldLine};
+    ghost use Rattle.qpack_base.specs.HeaderFields.{line_of};
+    ghost use Rattle.qpack_ends.specs.FieldSections.{IsWithin, fields_in};
+
+    ghost Value = { List FieldLine };
+
+    ghost view = { λ s. fields_in s.text.items s.spans.items };
+
+    ghost invariant = { λ s. AllByRecursion (IsWithin (length s.text.items)) s.spans.items };
+}
+
+impl FieldSection {
+    /// A section without fields. Takes no memory.
+    pub fn new(alloc: Global) -> FieldSection
+        ensures { result ≡ [] }
+    {
+        FieldSection {
+            text: Vec::new(alloc),
+            spans: Vec::new(alloc),
+        }
+    }
+
+    /// How many fields there are.
+    pub fn len(&self) -> usize
+        ensures { result ≡ length self.now }
+    {
+        self.spans.len()
+    }
+
+    /// Whether there is no field.
+    pub fn is_empty(&self) -> bool
+        ensures { result ≡ nat_eq (length self.now) 0 }
+    {
+        self.spans.is_empty()
+    }
+
+    /// The field at an index, from 0.
+    pub fn get(&self, index: usize) -> Option<FieldLine<'_>>
+        ensures { option_map line_of result ≡ slice_get self.now index }
+    {
+        let span = self.spans.get(index)?;
+        Some(field_at(&self.text, span))
+    }
+
+    /// The fields, in the order of their lines.
+    pub fn iter(&self) -> Fields<'_>
+        ensures { result ≡ self.now }
+    {
+        Fields {
+            text: &self.text,
+            spans: &self.spans,
+        }
+    }
+
+    /// Makes room for so many fields more, and for so many bytes more of their names and values, as far as there is
+    /// memory. It changes how often memory is asked for later, and nothing else.
+    pub fn expect(&mut self, fields: usize, bytes: usize)
+        ensures { self.new ≡ self.old }
+    {
+        let _is_made = self.spans.reserve(fields).is_ok() && self.text.reserve(bytes).is_ok();
+    }
+
+    /// Drops every field; the memory is kept.
+    pub fn clear(&mut self)
+        ensures { self.new ≡ [] }
+    {
+        self.text.clear();
+        self.spans.clear();
+    }
+
+    /// Reads the lines of a section to the end of the cursor, where there is no field.
+    pub(crate) fn read_lines<I: EntryIndex>(
+        &mut self,
+        lines: &Lines<I>,
+        buf: &mut Cursor,
+    ) -> Result<(), SectionError>
+        requires { self.old ≡ [] }
+        ensures exact { ReadsLines result self.new
+            (strict_lines_at (length buf.old.rest) (under lines.now buf.old.total) 0 0 buf.old.rest) }
+        ensures memory { result ≡ Err Memory → Begins AsksLine buf.old.rest }
+    {
+        read_lines(lines, buf, &mut self.text, &mut self.spans)
+    }
+}
+
+/// The fields of a section that are still to come.
+#[derive(Debug, Drop)]
+pub struct Fields<'a> {
+    text: &'a [u8],
+    spans: &'a [Span],
+}
+
+impl<'a> Model for Fields<'a> {
+    ghost use Rattle.std.specs.Prelude.{List, length};
+    ghost use Rattle.std.specs.List.{AllByRecursion};
+    ghost use Rattle.qpack_spec.specs.Field.{FieldLine};
+    ghost use Rattle.qpack_base.specs.HeaderFields.{line_of};
+    ghost use Rattle.qpack_ends.specs.FieldSections.{IsWithin, fields_in};
+
+    ghost Value = { List FieldLine };
+
+    ghost view = { λ s. fields_in s.text.now s.spans.now };
+
+    ghost invariant = { λ s. AllByRecursion (IsWithin (length s.text.now)) s.spans.now };
+}
+
+impl<'a> Iterator for Fields<'a> {
+    type Item = FieldLine<'a>;
+
+    ghost use Rattle.std.specs.Iterator.{at_most};
+    ghost use Rattle.std.specs.Prelude.{length};
+    ghost use Rattle.qpack_ends.specs.FieldSections.{GivesNext};
+
+    ghost next_gives = { λ left item after. GivesNext left item after };
+
+    ghost remaining = { λ left. at_most (length left) };
+
+    fn next(&mut self) -> Option<FieldLine<'a>> {
+        let (first, rest) = self.spans.split_first()?;
+        self.spans = rest;
+        Some(field_at(self.text, first))
+    }
+}

@@ -1,0 +1,25 @@
+//! The two ends of a QPACK connection (RFC 9204): field sections read strictly, up to a limit, into memory that the caller
+//! keeps, and the two instruction streams received strictly, however they are cut.
+#![tactic(auto)]
+
+pub mod blocked;
+pub mod decoder;
+pub mod encoder;
+pub mod field_section;
+pub mod hearing;
+pub mod place;
+pub mod receiving;
+pub mod section;
+
+pub use blocked::BlockedStream;
+pub use decoder::{ConnectionDecoder, DecoderSettings, DecodingError, SettingsError};
+pub use encoder::{ConnectionEncoder, EncoderSettings, EncodingError};
+pub use field_section::{FieldSection, Fields};
+pub use hearing::{DECODER_STREAM_ERROR, DecoderStream, DecoderStreamError, HearingError};
+pub use place::Place;
+pub use qpack_base::coding::Cursor;
+pub use qpack_base::field::FieldLine;
+pub use receiving::{ENCODER_STREAM_ERROR, EncoderStream, EncoderStreamError};
+pub use section::{
+    DECOMPRESSION_FAILED, LineError, Reading, SectionError, longest_section, read_section,
+};

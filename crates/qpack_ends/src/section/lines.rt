@@ -1,0 +1,411 @@
+//! The lines of a section, appended to a text as they are read (RFC 9204, sections 4.5.2 to 4.5.6).
+
+ghost use Rattle.std.specs.Prelude.{◌≡◌, ℕ, ◌+◌, ◌-◌, ◌≤◌, ◌∷◌, [], drop, length, Err};
+ghost use Rattle.std.specs.List.{AllByRecursion};
+ghost use Rattle.qpack_base.specs.HeaderFields.{field_of};
+ghost use Rattle.qpack_spec.specs.Bytes.{Begins};
+ghost use Rattle.qpack_spec.specs.Form.{Index, IndexAndValue, NameAndValue, made_at, form_at, or_bad_integer};
+ghost use Rattle.qpack_spec.specs.Form.{or_bad_string};
+ghost use Rattle.qpack_spec.specs.Integer.{integer_at};
+ghost use Rattle.qpack_spec.specs.Line.{Literal, line_form};
+ghost use Rattle.qpack_spec.specs.Stateless.{saturated_size};
+ghost use Rattle.qpack_spec.specs.StrictReading.{LinesUnder, is_never_indexed, strict_line_at, strict_lines_at};
+ghost use Rattle.qpack_spec.specs.Text.{HoldsPayload, string_at};
+ghost use Rattle.qpack_wire.specs.Memory.{AsksLine};
+ghost use Rattle.qpack_ends.specs.Lines.{under, ReadsIndex, AppendsText, AppendsName, AppendsEntry, AppendsLine};
+ghost use Rattle.qpack_ends.specs.Lines.{field_of_form, entry_of, line_error_of_parse, line_error_of_table};
+ghost use Rattle.qpack_ends.specs.Lines.{line_error_of_static, ChecksRequired, indexed_line, named_line};
+ghost use Rattle.qpack_ends.specs.Lines.{ReadsLine};
+ghost use Rattle.qpack_ends.specs.Lines.{AsksInForm};
+ghost use Rattle.qpack_ends.specs.FieldSections.{IsWithin, fields_in};
+ghost use Rattle.qpack_ends.specs.Sections.{ReadsLines, error_at};
+ghost use Rattle.qpack_ends.specs.declared.section.LineError.TheVariants.{Memory as NoRoom};
+ghost use Rattle.qpack_ends.specs.declared.section.SectionError.TheVariants.{Memory as OutOfMemory};
+
+use crate::field_section::Span;
+use crate::section::{LineError, SectionError};
+use qpack_base::coding::Cursor;
+use qpack_base::field::{ESTIMATED_OVERHEAD_BYTES, HeaderField};
+use qpack_base::parse_error::ParseError;
+use qpack_base::static_::{self, StaticTable};
+use qpack_base::{prefix_int, prefix_string};
+use qpack_codec::DecoderError;
+use qpack_table::dynamic::{self, DynamicTable, EntryIndex};
+use std::alloc::AllocError;
+
+// The prefixes of indexes, and of strings with the bit H above them, in bits (RFC 9204, sections 4.5.2 to 4.5.6).
+const INDEXED_SIZE: u8 = 6;
+
+const POST_BASE_SIZE: u8 = 4;
+
+const NAMED_SIZE: u8 = 4;
+
+const POST_BASE_NAMED_SIZE: u8 = 3;
+
+const NAME_SIZE: u8 = 4;
+
+const VALUE_SIZE: u8 = 8;
+
+impl From<ParseError> for LineError {
+    ghost from_gives = { λ e r. r ≡ line_error_of_parse e };
+
+    fn from(e: ParseError) -> LineError {
+        LineError::from(DecoderError::from(e))
+    }
+}
+
+impl From<dynamic::Error> for LineError {
+    ghost from_gives = { λ e r. r ≡ line_error_of_table e };
+
+    fn from(e: dynamic::Error) -> LineError {
+        LineError::from(DecoderError::from(e))
+    }
+}
+
+impl From<static_::Error> for LineError {
+    ghost from_gives = { λ e r. r ≡ line_error_of_static e };
+
+    fn from(e: static_::Error) -> LineError {
+        LineError::from(DecoderError::from(e))
+    }
+}
+
+impl From<AllocError> for LineError {
+    ghost from_gives = { λ _ r. r ≡ NoRoom };
+
+    fn from(_e: AllocError) -> LineError {
+        LineError::Memory
+    }
+}
+
+/// What the lines of a section are read under.
+#[derive(Drop)]
+pub(crate) struct Lines<'a, I: EntryIndex> {
+    /// The table.
+    pub(crate) table: &'a DynamicTable<I>,
+    /// The base of the section.
+    pub(crate) base: usize,
+    /// Its required insert count.
+    pub(crate) required: usize,
+    /// The limit on the sum of its fields' sizes, in bytes.
+    pub(crate) limit: u64,
+}
+
+/// Reads an index with a prefix of `size` bits.
+#[inline(always)]
+fn read_index(size: u8, buf: &mut Cursor) -> Result<usize, LineError>
+    requires least { 1 ≤ size }
+    requires most { size ≤ 8 }
+    ensures exact { ReadsIndex buf.old buf.new result (or_bad_integer (integer_at size buf.old.rest)) }
+    ensures no_memory { result ≡ Err NoRoom → ⊥ }
+{
+    match prefix_int::decode(size, buf) {
+        Ok((_, index)) => Ok(index as usize),
+        Err(e) => Err(LineError::from(ParseError::from(e))),
+    }
+}
+
+/// Appends the string at the cursor, with a prefix of `size` bits.
+#[inline(always)]
+fn append_string(size: u8, buf: &mut Cursor, text: &mut Vec<u8>) -> Result<(), LineError>
+    requires least { 2 ≤ size }
+    requires most { size ≤ 8 }
+    ensures exact { AppendsText buf.old buf.new text.old.items text.new.items result
+        (or_bad_string (string_at size buf.old.rest)) }
+    ensures memory { result ≡ Err NoRoom → Begins (HoldsPayload size) buf.old.rest }
+{
+    match prefix_string::decode_onto(size, buf, text) {
+        Ok(()) => Ok(()),
+        Err(e) => Err(LineError::from(ParseError::from(e))),
+    }
+}
+
+/// Appends a field's name. On error the text is as before.
+#[inline(always)]
+fn append_name(field: &HeaderField, text: &mut Vec<u8>) -> Result<(), LineError>
+    ensures { AppendsName text.old.items text.new.items result (Ok (field_of field.now)) }
+{
+    text.extend_from_slice(field.name.as_slice())?;
+    Ok(())
+}
+
+/// Appends a field's name and value, and answers where the name ends.
+#[inline(always)]
+fn append_field(field: &HeaderField, text: &mut Vec<u8>) -> Result<usize, LineError>
+    ensures { AppendsEntry text.old.items text.new.items result (Ok (field_of field.now)) }
+{
+    text.extend_from_slice(field.name.as_slice())?;
+    let middle = text.len();
+    text.extend_from_slice(field.value.as_slice())?;
+    Ok(middle)
+}
+
+/// What an index of a line counts.
+#[derive(Clone, Copy, Debug)]
+enum Reference {
+    /// The fields of the static table.
+    Static,
+    /// The entries of the dynamic table, down from the base.
+    Relative,
+    /// Those behind the base, up from it.
+    PostBase,
+}
+
+impl<I: EntryIndex> Lines<'_, I> {
+    /// Refuses a relative index past the required insert count (RFC 9204, section 2.2.3).
+    fn check_relative(&self, index: usize) -> Result<(), LineError>
+        ensures { ChecksRequired result self.now.required (self.now.base - index) }
+    {
+        let absolute = self.base.saturating_sub(index);
+        if absolute > self.required {
+            return Err(LineError::PastRequired(absolute));
+        }
+        Ok(())
+    }
+
+    /// Refuses a post-base index past the required insert count (RFC 9204, section 2.2.3).
+    fn check_post_base(&self, index: usize) -> Result<(), LineError>
+        ensures { ChecksRequired result self.now.required (self.now.base + index + 1) }
+    {
+        if index >= self.required.saturating_sub(self.base) {
+            let absolute = self.base.saturating_add(index).saturating_add(1);
+            return Err(LineError::PastRequired(absolute));
+        }
+        Ok(())
+    }
+
+    /// Appends the name that an index references.
+    #[tactic(auto, unfolding(qpack_spec::specs::Reading::static_field))]
+    fn append_name_of(
+        &self,
+        reference: Reference,
+        index: usize,
+        text: &mut Vec<u8>,
+    ) -> Result<(), LineError>
+        ensures { AppendsName text.old.items text.new.items result (entry_of (under self.now 0) reference index) }
+    {
+        match reference {
+            Reference::Static => append_name(&StaticTable::get(index)?, text),
+            Reference::Relative => {
+                self.check_relative(index)?;
+                append_name(self.table.decoder(self.base).get_relative(index)?, text)
+            }
+            Reference::PostBase => {
+                self.check_post_base(index)?;
+                append_name(self.table.decoder(self.base).get_postbase(index)?, text)
+            }
+        }
+    }
+
+    /// Appends the field that an index references, and answers where its name ends.
+    #[tactic(auto, unfolding(qpack_spec::specs::Reading::static_field))]
+    fn append_entry(
+        &self,
+        reference: Reference,
+        index: usize,
+        text: &mut Vec<u8>,
+    ) -> Result<usize, LineError>
+        ensures { AppendsEntry text.old.items text.new.items result (entry_of (under self.now 0) reference index) }
+    {
+        match reference {
+            Reference::Static => append_field(&StaticTable::get(index)?, text),
+            Reference::Relative => {
+                self.check_relative(index)?;
+                append_field(self.table.decoder(self.base).get_relative(index)?, text)
+            }
+            Reference::PostBase => {
+                self.check_post_base(index)?;
+                append_field(self.table.decoder(self.base).get_postbase(index)?, text)
+            }
+        }
+    }
+
+    /// Appends the field of an indexed field line (RFC 9204, sections 4.5.2 and 4.5.3), and answers where its name
+    /// ends.
+    fn append_indexed(
+        &self,
+        reference: Reference,
+        size: u8,
+        buf: &mut Cursor,
+        text: &mut Vec<u8>,
+    ) -> Result<usize, LineError>
+        requires least { 1 ≤ size }
+        requires most { size ≤ 8 }
+        ensures exact { AppendsLine buf.old buf.new text.old.items text.new.items result
+            (field_of_form (under self.now 0) (made_at (Index size (indexed_line reference)) buf.old.rest)) }
+        ensures memory { result ≡ Err NoRoom → AsksInForm (Index size (indexed_line reference)) buf.old.rest }
+    {
+        let index = read_index(size, buf)?;
+        self.append_entry(reference, index, text)
+    }
+
+    /// Appends the field of a literal field line with a name reference (RFC 9204, sections 4.5.4 and 4.5.5), and
+    /// answers where its name ends. What the index references is told behind the faults of the line's bytes.
+    fn append_named(
+        &self,
+        reference: Reference,
+        size: u8,
+        buf: &mut Cursor,
+        text: &mut Vec<u8>,
+    ) -> Result<usize, LineError>
+        requires least { 1 ≤ size }
+        requires most { size ≤ 8 }
+        ensures exact { AppendsLine buf.old buf.new text.old.items text.new.items result
+            (field_of_form (under self.now 0) (made_at (IndexAndValue size (named_line reference)) buf.old.rest)) }
+        ensures memory { result ≡ Err NoRoom → AsksInForm (IndexAndValue size (named_line reference)) buf.old.rest }
+    {
+        let index = read_index(size, buf)?;
+        let named = self.append_name_of(reference, index, text);
+        let middle = text.len();
+        append_string(VALUE_SIZE, buf, text)?;
+        named?;
+        Ok(middle)
+    }
+
+    /// Appends the field of the line at the cursor, which begins with this byte, and answers where its name ends.
+    fn append_line(
+        &self,
+        first: u8,
+        buf: &mut Cursor,
+        text: &mut Vec<u8>,
+    ) -> Result<usize, LineError>
+        requires { buf.old.rest ≡ first ∷ drop 1 buf.old.rest }
+        ensures exact { AppendsLine buf.old buf.new text.old.items text.new.items result
+            (field_of_form (under self.now 0) (form_at line_form buf.old.rest)) }
+        ensures memory { result ≡ Err NoRoom → Begins AsksLine buf.old.rest }
+    {
+        if first < 16 {
+            self.append_named(Reference::PostBase, POST_BASE_NAMED_SIZE, buf, text)
+        } else if first < 32 {
+            self.append_indexed(Reference::PostBase, POST_BASE_SIZE, buf, text)
+        } else if first < 64 {
+            append_literal(buf, text)
+        } else if first < 128 {
+            if first / 16 % 2 == 1 {
+                self.append_named(Reference::Static, NAMED_SIZE, buf, text)
+            } else {
+                self.append_named(Reference::Relative, NAMED_SIZE, buf, text)
+            }
+        } else if first < 192 {
+            self.append_indexed(Reference::Relative, INDEXED_SIZE, buf, text)
+        } else {
+            self.append_indexed(Reference::Static, INDEXED_SIZE, buf, text)
+        }
+    }
+}
+
+/// Appends the field of a literal field line with a literal name (RFC 9204, section 4.5.6), and answers where its name
+/// ends.
+fn append_literal(buf: &mut Cursor, text: &mut Vec<u8>) -> Result<usize, LineError>
+    ensures exact { (u : LinesUnder) → AppendsLine buf.old buf.new text.old.items text.new.items result
+        (field_of_form u (made_at (NameAndValue 4 Literal) buf.old.rest)) }
+    ensures memory { result ≡ Err NoRoom → AsksInForm (NameAndValue 4 Literal) buf.old.rest }
+{
+    append_string(NAME_SIZE, buf, text)?;
+    let middle = text.len();
+    append_string(VALUE_SIZE, buf, text)?;
+    Ok(middle)
+}
+
+/// Whether the first byte of a line asks that its field stay a literal (RFC 9204, sections 4.5.4 to 4.5.6).
+#[tactic(auto, unfolding(qpack_spec::specs::StrictReading::is_never_indexed))]
+fn is_never_indexed(first: u8) -> bool
+    ensures { result ≡ is_never_indexed first }
+{
+    if first < 16 {
+        first / 8 % 2 == 1
+    } else if first < 32 {
+        false
+    } else if first < 64 {
+        first / 16 % 2 == 1
+    } else {
+        first < 128 && first / 32 % 2 == 1
+    }
+}
+
+/// Appends the field of the line at the cursor, which begins with this byte, unless the sizes pass the limit with it;
+/// those so far have this sum. Answers the sum with it. On error text and spans are as before.
+fn read_line<I: EntryIndex>(
+    lines: &Lines<I>,
+    first: u8,
+    sum: u64,
+    buf: &mut Cursor,
+    text: &mut Vec<u8>,
+    spans: &mut Vec<Span>,
+) -> Result<u64, LineError>
+    requires at { buf.old.rest ≡ first ∷ drop 1 buf.old.rest }
+    ensures exact { (all : ℕ) → sum ≡ saturated_size all → ReadsLine buf.old buf.new text.old.items text.new.items
+        spans.old.items spans.new.items all result
+        (strict_line_at (under lines.now 0) all first (drop 1 buf.old.rest)) }
+    ensures memory { result ≡ Err NoRoom → Begins AsksLine buf.old.rest }
+{
+    let start = text.len();
+    let middle = match lines.append_line(first, buf, text) {
+        Ok(middle) => middle,
+        Err(e) => {
+            text.truncate(start);
+            return Err(e);
+        }
+    };
+    let end = text.len();
+    let sum = sum
+        .saturating_add((end - start) as u64)
+        .saturating_add(ESTIMATED_OVERHEAD_BYTES as u64);
+    if sum > lines.limit {
+        text.truncate(start);
+        return Err(LineError::TooLarge(sum));
+    }
+    let span = Span {
+        start,
+        middle,
+        end,
+        never_indexed: is_never_indexed(first),
+    };
+    match spans.push(span) {
+        Ok(()) => Ok(sum),
+        Err(_) => {
+            text.truncate(start);
+            Err(LineError::Memory)
+        }
+    }
+}
+
+/// The error of a section in whose line of this number, at this offset, there is this one; want of memory stays what it
+/// is.
+fn at_line(number: usize, offset: usize, error: LineError) -> SectionError
+    ensures { result ≡ error_at number offset error }
+{
+    match error {
+        LineError::Memory => SectionError::Memory,
+        error => SectionError::Line {
+            number,
+            offset,
+            error,
+        },
+    }
+}
+
+/// Reads the lines to the end of the cursor, each strictly, until one is refused.
+pub(crate) fn read_lines<I: EntryIndex>(
+    lines: &Lines<I>,
+    buf: &mut Cursor,
+    text: &mut Vec<u8>,
+    spans: &mut Vec<Span>,
+) -> Result<(), SectionError>
+    requires none { spans.old.items ≡ [] }
+    ensures exact { ReadsLines result (fields_in text.new.items spans.new.items)
+        (strict_lines_at (length buf.old.rest) (under lines.now buf.old.total) 0 0 buf.old.rest) }
+    ensures within { AllByRecursion (IsWithin (length text.new.items)) spans.new.items }
+    ensures memory { result ≡ Err OutOfMemory → Begins AsksLine buf.old.rest }
+{
+    let mut sum = 0u64;
+    while let Some(byte) = buf.chunk().first() {
+        let number = spans.len() + 1;
+        let offset = buf.position();
+        match read_line(lines, *byte, sum, buf, text, spans) {
+            Ok(with) => sum = with,
+            Err(error) => return Err(at_line(number, offset, error)),
+        }
+    }
+    Ok(())
+}
