@@ -1,6 +1,6 @@
 -- A section of an encoding end under any choices (RFC 9204, section 2.1): what each encode writes, whatever the end
 -- chooses.
-use Rattle.std.specs.Prelude.{◌≡◌, ℕ, ⊤, ◌⊎◌, true, false, List, ◌++◌, take, Result, Ok, Err}
+use Rattle.std.specs.Prelude.{◌≡◌, ℕ, ◌⊎◌, true, false, List, ◌++◌, take, Result, Ok, Err}
 use Rattle.std.specs.Option.{IsSome}
 use Rattle.qpack_spec.specs.Chosen.{Chosen, chosen_rule}
 use Rattle.qpack_spec.specs.Field.{FieldLine}
