@@ -21,8 +21,8 @@ pub fn lawful_streams_are_never_refused()
     ensures decoder_stream { DecoderStreamsAreNeverRefused }
 {}
 
-/// Each encode of [`ConnectionEncoder`](crate::ConnectionEncoder) is one under some choices (RFC 9204, section 2.1). Of an
-/// encode the laws below use only that, except where insertions go on with a decoder that keeps to the standard.
+/// Each encode of [`ConnectionEncoder`](crate::ConnectionEncoder) is one under some choices (RFC 9204, section 2.1).
+/// The laws below use only that of an encode, except where insertions go on with a decoder that keeps to the standard.
 pub fn encodes_are_by_choice()
     ensures { EncodesAreByChoice }
 {}
