@@ -19,11 +19,17 @@ pub(crate) struct Hearing {
 }
 
 /// A table of a capacity and a limit of blocked streams.
-fn table_of(alloc: Global, words: &mut Words<'_>) -> Result<DynamicTable> {
+fn table_of(alloc: Global, capacity: usize, max_blocked: usize) -> Result<DynamicTable> {
     let mut table = DynamicTable::new(alloc);
-    table.set_max_size(words.count()?)?;
-    table.set_max_blocked(words.count()?)?;
+    set_bounds(&mut table, capacity, max_blocked)?;
     Ok(table)
+}
+
+/// Sets the capacity of a table and its limit of blocked streams.
+fn set_bounds(table: &mut DynamicTable, capacity: usize, max_blocked: usize) -> Result<()> {
+    table.set_max_size(capacity)?;
+    table.set_max_blocked(max_blocked)?;
+    Ok(())
 }
 
 /// References the entry of a field, which is inserted if there is none.
@@ -52,9 +58,10 @@ fn send(table: &mut DynamicTable, stream: u64, field: &HeaderField) -> Result<us
 
 impl Subject for Hearing {
     fn begin(alloc: Global, settings: &mut Words<'_>, size: usize) -> Result<Hearing> {
+        let (capacity, max_blocked) = (settings.count()?, settings.count()?);
         Ok(Hearing {
             stream: DecoderStream::new(),
-            table: table_of(alloc, settings)?,
+            table: table_of(alloc, capacity, max_blocked)?,
             size,
         })
     }

@@ -18,17 +18,18 @@ pub(crate) struct Receiving {
 }
 
 /// A table of capacity 0, with a maximum.
-fn table_of(alloc: Global, words: &mut Words<'_>) -> Result<DynamicTable> {
+fn table_of(alloc: Global, max_capacity: usize) -> Result<DynamicTable> {
     let mut table = DynamicTable::new(alloc);
-    table.set_agreed_max(words.count()?)?;
+    table.set_agreed_max(max_capacity)?;
     Ok(table)
 }
 
 impl Subject for Receiving {
     fn begin(alloc: Global, settings: &mut Words<'_>, size: usize) -> Result<Receiving> {
+        let max_capacity = settings.count()?;
         Ok(Receiving {
+            table: table_of(alloc, max_capacity)?,
             stream: EncoderStream::new(alloc),
-            table: table_of(alloc, settings)?,
             size,
         })
     }

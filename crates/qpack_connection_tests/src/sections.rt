@@ -16,14 +16,20 @@ pub(crate) struct Sections {
     fields: FieldSection,
 }
 
-/// A table of a capacity, which has an entry `NAME: bar` for each name.
-fn table_of(alloc: Global, words: &mut Words<'_>) -> Result<DynamicTable> {
+/// A table, which has an entry `NAME: bar` for each name.
+fn table_of(alloc: Global, capacity: usize, names: &str) -> Result<DynamicTable> {
     let mut table = DynamicTable::new(alloc);
-    table.set_max_size(words.count()?)?;
-    for name in words.rest.split_whitespace() {
-        put(alloc, &mut table, name)?;
-    }
+    fill(alloc, &mut table, capacity, names)?;
     Ok(table)
+}
+
+/// Sets the capacity of a table, and puts an entry for each name.
+fn fill(alloc: Global, table: &mut DynamicTable, capacity: usize, names: &str) -> Result<()> {
+    table.set_max_size(capacity)?;
+    for name in names.split_whitespace() {
+        put(alloc, table, name)?;
+    }
+    Ok(())
 }
 
 /// Puts a field `NAME: bar`.
@@ -34,8 +40,11 @@ fn put(alloc: Global, table: &mut DynamicTable, name: &str) -> Result<()> {
 
 impl Subject for Sections {
     fn begin(alloc: Global, settings: &mut Words<'_>, _size: usize) -> Result<Sections> {
+        let capacity = settings.count()?;
+        let names = settings.rest;
+        settings.rest = "";
         Ok(Sections {
-            table: table_of(alloc, settings)?,
+            table: table_of(alloc, capacity, names)?,
             fields: FieldSection::new(alloc),
         })
     }

@@ -77,14 +77,22 @@ fn hold<S: Subject>(
     calls: &[Line<'_>],
 ) -> Result<()> {
     let mut subject = S::begin(alloc, settings, size)?;
-    hold_calls(alloc, &mut subject, calls)
+    hold_calls(alloc, &mut subject, settings.rest, calls)
 }
 
-/// Makes all calls of one that is lent.
-fn hold_calls<S: Subject>(alloc: Global, subject: &mut S, calls: &[Line<'_>]) -> Result<()> {
+/// Makes all calls of one that is lent, of whose settings no word is left.
+fn hold_calls<S: Subject>(
+    alloc: Global,
+    subject: &mut S,
+    left: &str,
+    calls: &[Line<'_>],
+) -> Result<()> {
+    ensure!(left.is_empty(), "there are no settings {left}");
     let mut answer = String::new(alloc);
     for line in calls {
-        hold_line(alloc, subject, line.text, &mut answer).with_context(|| line.number)?;
+        if let Err(error) = hold_line(alloc, subject, line.text, &mut answer) {
+            bail!("line {}: {error:#}", line.number);
+        }
     }
     Ok(())
 }
