@@ -4,7 +4,7 @@ use crate::subject::Subject;
 use crate::words::{Words, push_refusal};
 use crate::{decoder, encoder};
 use anyhow::{Result, bail};
-use qpack_connection::decoder::{ConnectionDecoder, DecodingError};
+use qpack_connection::decoder::{ConnectionDecoder, DecodingError, SettingsError};
 use qpack_connection::encoder::{ConnectionEncoder, EncodingError};
 use qpack_connection::{
     DECODER_STREAM_ERROR, DECOMPRESSION_FAILED, ENCODER_STREAM_ERROR, EncoderStreamError,
@@ -32,17 +32,11 @@ impl Subject for Calls {
         match word {
             "begins-decoder" => {
                 let settings = decoder::read_settings(words)?;
-                match ConnectionDecoder::new(alloc, settings) {
-                    Ok(_) => answer.push_str("begins")?,
-                    Err(error) => push_refusal(answer, None, &error)?,
-                }
+                push_begun(answer, ConnectionDecoder::new(alloc, settings).err())?;
             }
             "begins-encoder" => {
                 let settings = encoder::read_settings(words)?;
-                match ConnectionEncoder::new(alloc, settings) {
-                    Ok(_) => answer.push_str("begins")?,
-                    Err(error) => push_refusal(answer, None, &error)?,
-                }
+                push_begun(answer, ConnectionEncoder::new(alloc, settings).err())?;
             }
             "longest-section" => write!(answer, "{}", longest_section(words.number()?))?,
             "codes" => write!(
@@ -53,6 +47,14 @@ impl Subject for Calls {
             _ => bail!("there is no call {word}"),
         }
         Ok(())
+    }
+}
+
+/// Appends that an end begins, or why its settings are refused.
+fn push_begun(answer: &mut String, refusal: Option<SettingsError>) -> Result<()> {
+    match refusal {
+        None => Ok(answer.push_str("begins")?),
+        Some(error) => push_refusal(answer, None, &error),
     }
 }
 

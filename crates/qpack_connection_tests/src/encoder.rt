@@ -137,9 +137,18 @@ fn push_done(answer: &mut String, done: Result<(), EncodingError>) -> Result<()>
 /// Appends what a section is decoded to with no table at all.
 fn decode_alone(alloc: Global, section: &[u8], answer: &mut String) -> Result<()> {
     let mut end = peer_of(alloc, EncoderSettings::new(0, 0))?;
-    let mut fields = FieldSection::new(alloc);
-    let reading = end.decode(8, section, &mut fields)?;
-    push_reading(answer, reading, &fields)
+    decode_by(&mut end, section, &mut FieldSection::new(alloc), answer)
+}
+
+/// Appends what an end decodes a section to.
+fn decode_by(
+    end: &mut ConnectionDecoder,
+    section: &[u8],
+    fields: &mut FieldSection,
+    answer: &mut String,
+) -> Result<()> {
+    let reading = end.decode(8, section, fields)?;
+    push_reading(answer, reading, fields)
 }
 
 impl Encoder {
