@@ -12,8 +12,8 @@
 //! - `ended -> ANSWER` holds where every call that can fail answers this from now on, and changes nothing.
 //! - `again` begins anew, behind the calls that stand before the first `again` of the case.
 //!
-//! Bytes are in hexadecimal, and `nothing` is no byte. A field is `NAME = VALUE`, behind ` | `, and `never NAME = VALUE`
-//! if it is never to be indexed. A name or a value is a text, or `0x` and its bytes, and `""` is an empty one.
+//! Bytes are in hexadecimal, and `nothing` is no byte. A field is `NAME = VALUE` behind ` | `, with `never` before its
+//! name if it is never to be indexed. A name or a value is a text, or `0x` and its bytes, and `""` is an empty one.
 #![tactic(auto)]
 
 mod calls;

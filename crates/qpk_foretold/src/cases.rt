@@ -142,8 +142,8 @@ fn push_hexadecimal(alloc: Global, part: &mut Vec<u8>, text: &str) -> Result<()>
     Ok(())
 }
 
-/// The cases of a text, parted by empty lines: `= ` and the words, the lines of the input, a line `--`, and those of the
-/// output. Then there may be a line `status `, the status, and the lines of the faults; else they are 0 and none.
+/// The cases of a text, parted by empty lines: `= ` and the words, the lines of the input, a line `--`, and those of
+/// the output. Then there may be a line `status `, the status, and the lines of the faults; else they are 0 and none.
 ///
 /// A line `.` is an empty one, a line that ends with `\` goes on in the next, and `0x` is followed by bytes.
 pub(crate) fn read_cases(alloc: Global, text: &str) -> Result<Vec<Case>> {

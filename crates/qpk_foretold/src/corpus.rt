@@ -30,7 +30,7 @@ const FOREIGN: [Foreign; 2] = [
     },
 ];
 
-/// Encodes the corpus at each of the settings and back, tells how long the recordings are, and decodes those of nghttp3.
+/// Encodes the corpus at each of the settings and back, and decodes the recordings of nghttp3.
 pub(crate) fn hold_corpus(rt: &HostRuntime) -> Result<()> {
     let lists = fs::read_to_string(rt, "corpus.qif")?;
     let lists = lists.as_str().as_bytes();
