@@ -11,6 +11,8 @@ mod encoder;
 #[cfg(test)]
 mod encoding;
 #[cfg(test)]
+mod extremes;
+#[cfg(test)]
 mod memory;
 #[cfg(test)]
 mod texts;
