@@ -90,7 +90,7 @@ check_symbols() {
 
 room=$(mktemp -d)
 trap 'rm -rf "$room"' EXIT
-corpus=../crates/qpack_bench/data/corpus.qif
+corpus=../crates/qpack_recorded/data/corpus.qif
 for list in list_tools list_nghttp3 list_ngtcp2; do install_packages $("$list") || true; done
 choose_tests
 build_archive

@@ -8,7 +8,7 @@ use std::path::Path;
 
 /// A file of the repository's corpus.
 pub fn data(name: &str) -> String {
-    let folder = Path::new(env!("CARGO_MANIFEST_DIR")).join("../../crates/qpack_bench/data");
+    let folder = Path::new(env!("CARGO_MANIFEST_DIR")).join("../../crates/qpack_recorded/data");
     fs::read_to_string(folder.join(name)).expect("the repository holds the file")
 }
 

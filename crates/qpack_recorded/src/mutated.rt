@@ -1,0 +1,134 @@
+//! Recordings with bits flipped, cut and spliced, from a fixed seed. Each answer is a refusal with a name or fields. A
+//! strict reading refuses a section or has the same fields, and the table is what the bytes make that were taken.
+
+use crate::corpus::Line;
+use crate::receiver::{Receiver, Strict, read_strictly};
+use anyhow::{Result, bail, ensure};
+use h3_qpack::DecoderError;
+use h3_qpack::dynamic::DynamicTable;
+use qpack_testing::Numbers;
+use std::alloc::Global;
+
+/// How often a recording is given, mutated otherwise each time.
+const ROUNDS: usize = 200;
+
+/// How many lines were answered, and how many of the answers were refusals.
+#[derive(Clone, Copy)]
+pub(crate) struct Answers {
+    pub(crate) given: usize,
+    pub(crate) refused: usize,
+}
+
+impl Answers {
+    /// Counts an answer. Fails where it is that there is no memory.
+    fn count(&mut self, refused: Option<DecoderError>) -> Result<()> {
+        self.given = self.given.saturating_add(1);
+        match refused {
+            None => {}
+            Some(DecoderError::Memory) => bail!("out of memory"),
+            Some(_) => self.refused = self.refused.saturating_add(1),
+        }
+        Ok(())
+    }
+}
+
+/// Gives a recording to a decoder in each round, one line in eight mutated, up to a refusal of its encoder stream.
+pub(crate) fn hold(alloc: Global, lines: &[Line], max_capacity: usize) -> Result<Answers> {
+    let mut numbers = Numbers::new(9204);
+    let mut answers = Answers {
+        given: 0,
+        refused: 0,
+    };
+    for _ in 0..ROUNDS {
+        let mut receiver = Receiver::new(alloc, max_capacity)?;
+        for line in lines {
+            if give(alloc, &mut numbers, line, &mut receiver, &mut answers)? {
+                break;
+            }
+        }
+        let again = receiver.again(alloc, max_capacity)?;
+        ensure!(
+            are_alike(receiver.table(), again.table()),
+            "the table is not what the bytes make that were taken"
+        );
+    }
+    Ok(answers)
+}
+
+/// Gives a line, mutated or not; whether the connection ends.
+fn give(
+    alloc: Global,
+    numbers: &mut Numbers,
+    line: &Line,
+    receiver: &mut Receiver,
+    answers: &mut Answers,
+) -> Result<bool> {
+    let bytes = if numbers.below(8) > 0 {
+        Vec::from_slice(alloc, &line.bytes)?
+    } else {
+        mutate(alloc, numbers, &line.bytes)?
+    };
+    if line.list.is_some() {
+        answers.count(decode(alloc, receiver, &bytes)?)?;
+        return Ok(false);
+    }
+    let refused = receiver.deliver(&bytes, 7)?;
+    let ends = refused.is_some();
+    answers.count(refused)?;
+    Ok(ends)
+}
+
+/// Decodes a section; how it is refused. Fails where a strict reading has other fields.
+fn decode(alloc: Global, receiver: &Receiver, section: &[u8]) -> Result<Option<DecoderError>> {
+    match receiver.decode(section) {
+        Ok(decoded) => {
+            let strict = read_strictly(alloc, receiver.table(), section, &decoded.fields);
+            ensure!(strict != Strict::Other, "other fields are read strictly");
+            Ok(None)
+        }
+        Err(refused) => Ok(Some(refused)),
+    }
+}
+
+/// Flips a bit, cuts the end off, takes a part out, or puts a part in twice.
+fn mutate(alloc: Global, numbers: &mut Numbers, bytes: &[u8]) -> Result<Vec<u8>> {
+    let from = numbers.below(bytes.len().max(1));
+    let to = from.saturating_add(numbers.below(8));
+    let (front, behind) = bytes.split_at_checked(from).unwrap_or((bytes, b""));
+    let mut mutated = Vec::from_slice(alloc, front)?;
+    match numbers.below(4) {
+        0 => {
+            mutated.extend_from_slice(behind)?;
+            if let Some(byte) = mutated.get_mut(from) {
+                *byte ^= 1u8 << (numbers.below(8) % 8);
+            }
+        }
+        1 => {}
+        2 => mutated.extend_from_slice(bytes.get(to..).unwrap_or(b""))?,
+        _ => {
+            mutated.extend_from_slice(bytes.get(from..to).unwrap_or(b""))?;
+            mutated.extend_from_slice(behind)?;
+        }
+    }
+    Ok(mutated)
+}
+
+/// Whether two tables are alike in what a decoder sees of them.
+fn are_alike(one: &DynamicTable, other: &DynamicTable) -> bool {
+    if one.total_inserted() != other.total_inserted() {
+        return false;
+    }
+    if one.max_mem_size() != other.max_mem_size() {
+        return false;
+    }
+    for index in 0..one.total_inserted() {
+        let (field, same) = (one.get_relative(index).ok(), other.get_relative(index).ok());
+        if field != same {
+            return false;
+        }
+        if field.is_none() {
+            return true;
+        }
+    }
+    true
+}
