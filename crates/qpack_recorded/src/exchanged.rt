@@ -83,7 +83,7 @@ impl Ends {
         let decoded = self.decoder.decode_header(&mut Cursor::new(&block))?;
         ensure!(decoded.fields == *list, "other fields are decoded");
         let strict = read_strictly(alloc, self.decoder.table(), &block, list);
-        ensure!(strict == Strict::Same, "other fields are read strictly");
+        ensure!(strict == Strict::Same, "a strict reading differs");
         if decoded.dyn_ref {
             ack_header(stream, &mut answer)?;
         }

@@ -83,7 +83,7 @@ fn decode(alloc: Global, receiver: &Receiver, section: &[u8]) -> Result<Option<D
     match receiver.decode(section) {
         Ok(decoded) => {
             let strict = read_strictly(alloc, receiver.table(), section, &decoded.fields);
-            ensure!(strict != Strict::Other, "other fields are read strictly");
+            ensure!(strict != Strict::Other, "a strict reading differs");
             Ok(None)
         }
         Err(refused) => Ok(Some(refused)),

@@ -44,6 +44,6 @@ fn hold_line(
     ensure!(decoded.fields == *list, "other fields are decoded");
     ensure!(decoded.mem_size == size_of(list), "another size is told");
     let strict = read_strictly(alloc, receiver.table(), &line.bytes, list);
-    ensure!(strict == Strict::Same, "other fields are read strictly");
+    ensure!(strict == Strict::Same, "a strict reading differs");
     Ok(())
 }

@@ -1,81 +1,134 @@
 //! Every list of at most two bytes, given to each call that reads bytes of a peer, at five capacities: each answer is
-//! held against a plain reading of RFC 9204.
+//! that of a plain reading of RFC 9204.
 
-mod answer;
-mod calls;
 mod plain;
 
-use answer::Outcome;
 use anyhow::{Result, ensure};
+use h3_qpack::coding::Cursor;
+use h3_qpack::decoder::Decoder;
+use h3_qpack::dynamic::DynamicTable;
+use h3_qpack::encoder::Encoder;
+use h3_qpack::prefix_string::{self, HuffmanDecodingError};
+use h3_qpack::{Decoded, DecoderError, decode_stateless};
 use std::alloc::Global;
 
 /// The capacities of the tables in bytes.
 const CAPACITIES: [usize; 5] = [0, 1, 31, 32, 4096];
 
-/// A call's outcome. Fails where it is not the plain one.
-fn same(call: &str, bytes: &[u8], outcome: Outcome, expected: Outcome) -> Result<Outcome> {
-    ensure!(
-        outcome == expected,
-        "{call} of {bytes:?}: {outcome:?} is not {expected:?}"
-    );
-    Ok(outcome)
+/// Means that a string's code ends within a code, or with more than seven bits of padding. No call answers this error.
+pub(crate) const BITS_ARE_MISSING: DecoderError = DecoderError::UnexpectedEnd;
+
+/// What a call answers, how many bytes it leaves, the capacity and the insertions of the table then, and how many bytes
+/// it wrote.
+#[derive(Debug, Clone, Copy, PartialEq)]
+pub(crate) struct Outcome {
+    pub(crate) answer: Result<usize, DecoderError>,
+    pub(crate) left: usize,
+    pub(crate) capacity: usize,
+    pub(crate) inserted: usize,
+    pub(crate) written: usize,
 }
 
-/// Gives a list to `on_encoder_recv`.
-fn receive(alloc: Global, capacity: usize, bytes: &[u8]) -> Result<Outcome> {
-    let outcome = calls::on_encoder_recv(alloc, capacity, bytes)?;
-    let expected = plain::on_encoder_recv(capacity, bytes);
-    same("on_encoder_recv", bytes, outcome, expected)
+/// Makes an empty table.
+fn table(alloc: Global, capacity: usize) -> Result<DynamicTable> {
+    let mut table = DynamicTable::new(alloc);
+    table.set_max_size(capacity)?;
+    Ok(table)
 }
 
-/// Gives a list to `on_decoder_recv`.
-fn hear(alloc: Global, capacity: usize, bytes: &[u8]) -> Result<Outcome> {
-    let outcome = calls::on_decoder_recv(alloc, capacity, bytes)?;
-    let expected = plain::on_decoder_recv(capacity, bytes);
-    same("on_decoder_recv", bytes, outcome, expected)
-}
-
-/// Gives a list to `decode_header`.
-fn decode(alloc: Global, capacity: usize, bytes: &[u8]) -> Result<Outcome> {
-    let outcome = calls::decode_header(alloc, capacity, bytes)?;
-    let expected = plain::decode_header(capacity, bytes);
-    same("decode_header", bytes, outcome, expected)
-}
-
-/// Gives a list to `decode_stateless`.
-fn decode_alone(alloc: Global, bytes: &[u8]) -> Result<Outcome> {
-    let outcome = calls::decode_stateless(alloc, bytes);
-    let expected = plain::decode_stateless(bytes);
-    same("decode_stateless", bytes, outcome, expected)
-}
-
-/// Gives a list to each call; how many of them took it.
-fn try_list(alloc: Global, capacity: usize, bytes: &[u8]) -> Result<usize> {
-    let outcomes = [
-        receive(alloc, capacity, bytes)?,
-        hear(alloc, capacity, bytes)?,
-        decode(alloc, capacity, bytes)?,
-        decode_alone(alloc, bytes)?,
-    ];
-    Ok(outcomes.iter().filter(|outcome| outcome.is_taken()).count())
-}
-
-/// Gives every list of at most two bytes to each call; how many there are, and how many calls took one.
-fn try_all(alloc: Global, capacity: usize) -> Result<(usize, usize)> {
-    let mut taken = try_list(alloc, capacity, b"")?;
-    let mut lists = 1usize;
-    for first in 0..=255u8 {
-        taken = taken.saturating_add(try_first(alloc, capacity, first)?);
-        lists = lists.saturating_add(257);
+/// The error, without the place of missing bits.
+fn without_place(error: DecoderError) -> DecoderError {
+    match error {
+        DecoderError::InvalidString(
+            prefix_string::Error::HuffmanDecoding(HuffmanDecodingError::MissingBits(_)),
+        ) => BITS_ARE_MISSING,
+        error => error,
     }
-    Ok((lists, taken))
+}
+
+/// Whether `on_encoder_recv` takes a list. Fails where it does otherwise than the plain reading.
+fn receives(alloc: Global, capacity: usize, bytes: &[u8]) -> Result<bool> {
+    let mut decoder = Decoder::from(table(alloc, capacity)?);
+    let mut cursor = Cursor::new(bytes);
+    let mut written = Vec::new(alloc);
+    let answer = decoder.on_encoder_recv(&mut cursor, &mut written);
+    let outcome = Outcome {
+        answer: answer.map_err(without_place),
+        left: cursor.remaining(),
+        capacity: decoder.table().max_mem_size(),
+        inserted: decoder.table().total_inserted(),
+        written: written.len(),
+    };
+    let plain = plain::receive(capacity, bytes);
+    ensure!(
+        outcome == plain,
+        "on_encoder_recv of {bytes:?}: {outcome:?} is not {plain:?}"
+    );
+    Ok(outcome.answer.is_ok())
+}
+
+/// Whether `on_decoder_recv` takes a list, which leaves the table. Fails where it does otherwise than the plain
+/// reading.
+fn hears(alloc: Global, capacity: usize, bytes: &[u8]) -> Result<bool> {
+    let mut encoder = Encoder::from(table(alloc, capacity)?);
+    let mut cursor = Cursor::new(bytes);
+    let answer = encoder.on_decoder_recv(&mut cursor);
+    let outcome = (answer, cursor.remaining());
+    let plain = plain::hear(bytes);
+    ensure!(
+        outcome == plain,
+        "on_decoder_recv of {bytes:?}: {outcome:?} is not {plain:?}"
+    );
+    let table = (
+        encoder.table().max_mem_size(),
+        encoder.table().total_inserted(),
+    );
+    ensure!(
+        table == (capacity, 0),
+        "on_decoder_recv of {bytes:?}: {table:?}"
+    );
+    Ok(answer.is_ok())
+}
+
+/// Whether a section is decoded, and has no field then and needs no entry. Fails where it is answered otherwise than by
+/// the plain reading.
+fn is_decoded(
+    call: &str,
+    bytes: &[u8],
+    answer: Result<Decoded, DecoderError>,
+    plain: Result<bool, DecoderError>,
+) -> Result<bool> {
+    let outcome = answer.map(|decoded| decoded.fields.is_empty() && !decoded.dyn_ref);
+    ensure!(
+        outcome == plain,
+        "{call} of {bytes:?}: {outcome:?} is not {plain:?}"
+    );
+    Ok(plain.is_ok())
+}
+
+/// Gives a list to each call, and to this decoder, which is of the same capacity; how many calls took it.
+fn try_list(alloc: Global, decoder: &Decoder, capacity: usize, bytes: &[u8]) -> Result<usize> {
+    let with_table = decoder.decode_header(&mut Cursor::new(bytes));
+    let alone = decode_stateless(alloc, &mut Cursor::new(bytes), u64::MAX);
+    let taken = [
+        receives(alloc, capacity, bytes)?,
+        hears(alloc, capacity, bytes)?,
+        is_decoded(
+            "decode_header",
+            bytes,
+            with_table,
+            plain::decode(capacity, bytes),
+        )?,
+        is_decoded("decode_stateless", bytes, alone, plain::decode(0, bytes))?,
+    ];
+    Ok(taken.iter().filter(|is_taken| **is_taken).count())
 }
 
 /// Gives the 257 lists of at most two bytes that begin with this one to each call; how many calls took one.
-fn try_first(alloc: Global, capacity: usize, first: u8) -> Result<usize> {
-    let mut taken = try_list(alloc, capacity, &[first])?;
+fn try_first(alloc: Global, decoder: &Decoder, capacity: usize, first: u8) -> Result<usize> {
+    let mut taken = try_list(alloc, decoder, capacity, &[first])?;
     for second in 0..=255u8 {
-        taken = taken.saturating_add(try_list(alloc, capacity, &[first, second])?);
+        taken = taken.saturating_add(try_list(alloc, decoder, capacity, &[first, second])?);
     }
     Ok(taken)
 }
@@ -83,7 +136,13 @@ fn try_first(alloc: Global, capacity: usize, first: u8) -> Result<usize> {
 /// Gives all lists to the calls at each capacity, and tells how many calls took one.
 pub(crate) fn hold(rt: &HostRuntime) -> Result<()> {
     for capacity in CAPACITIES {
-        let (lists, taken) = try_all(rt.alloc(), capacity)?;
+        let decoder = Decoder::from(table(rt.alloc(), capacity)?);
+        let mut taken = try_list(rt.alloc(), &decoder, capacity, b"")?;
+        let mut lists = 1usize;
+        for first in 0..=255u8 {
+            taken = taken.saturating_add(try_first(rt.alloc(), &decoder, capacity, first)?);
+            lists = lists.saturating_add(257);
+        }
         println!(rt;
             "capacity {capacity}: {lists} lists, four calls each as the plain reading has them; {taken} not refused"
         )?;

@@ -1,8 +1,10 @@
 //! A plain reading of at most two bytes. The table is empty, so that no dynamic reference means anything, and a string
 //! has at most one byte.
 
-use super::answer::{Answer, Outcome};
+use super::{BITS_ARE_MISSING, Outcome};
+use h3_qpack::dynamic::Error;
 use h3_qpack::static_::StaticTable;
+use h3_qpack::{DecoderError, EncoderError, prefix_int};
 
 /// An integer with a prefix of so many ones at most, behind its first byte: its value and how many bytes it has, or
 /// nothing where it is cut. With two bytes at most it is never too large (RFC 9204, section 4.1.1).
@@ -66,21 +68,16 @@ fn first_instruction(bytes: &[u8]) -> Option<Instruction> {
     }
 }
 
-/// What a call answers that takes nothing, and leaves everything.
-fn untouched(capacity: usize, bytes: &[u8]) -> Outcome {
-    Outcome {
-        answer: Answer::Taken(0),
+/// Bytes of the encoder stream, instruction by instruction (RFC 9204, sections 3.2 and 4.3). A refusal by the table
+/// alone consumes its instruction.
+pub(crate) fn receive(capacity: usize, bytes: &[u8]) -> Outcome {
+    let mut outcome = Outcome {
+        answer: Ok(0),
         left: bytes.len(),
         capacity,
         inserted: 0,
         written: 0,
-    }
-}
-
-/// Bytes of the encoder stream, instruction by instruction (RFC 9204, sections 3.2 and 4.3). A refusal by the table
-/// alone consumes its instruction.
-pub(crate) fn on_encoder_recv(capacity: usize, bytes: &[u8]) -> Outcome {
-    let mut outcome = untouched(capacity, bytes);
+    };
     let mut rest = bytes;
     for _ in 0..2 {
         let Some(instruction) = first_instruction(rest) else {
@@ -88,7 +85,7 @@ pub(crate) fn on_encoder_recv(capacity: usize, bytes: &[u8]) -> Outcome {
         };
         rest = rest.get(apply(&mut outcome, instruction)..).unwrap_or(b"");
         outcome.left = rest.len();
-        if !outcome.is_taken() {
+        if outcome.answer.is_err() {
             return outcome;
         }
     }
@@ -104,28 +101,27 @@ fn apply(outcome: &mut Outcome, instruction: Instruction) -> usize {
         }
         Instruction::Insert(size, len) => {
             if size <= outcome.capacity {
-                outcome.answer = Answer::Taken(1);
+                outcome.answer = Ok(1);
                 outcome.inserted = 1;
                 outcome.written = 1;
             } else if outcome.capacity > 0 {
-                outcome.answer = Answer::DoesNotFit;
+                outcome.answer = Err(DecoderError::DynamicTable(Error::MaxTableSizeReached));
             }
             len
         }
         Instruction::NoEntry(index) => {
-            outcome.answer = Answer::NoEntry(index);
+            outcome.answer = Err(DecoderError::DynamicTable(Error::BadRelativeIndex(index)));
             0
         }
         Instruction::BadName => {
-            outcome.answer = Answer::MissingBits;
+            outcome.answer = Err(BITS_ARE_MISSING);
             0
         }
     }
 }
 
-/// Bytes of the decoder stream, instruction by instruction (RFC 9204, section 4.4).
-pub(crate) fn on_decoder_recv(capacity: usize, bytes: &[u8]) -> Outcome {
-    let mut outcome = untouched(capacity, bytes);
+/// Bytes of the decoder stream, instruction by instruction (RFC 9204, section 4.4); how many are left.
+pub(crate) fn hear(bytes: &[u8]) -> (Result<(), EncoderError>, usize) {
     let mut rest = bytes;
     for _ in 0..2 {
         let ones = if rest.first().is_some_and(|first| *first > 127) {
@@ -134,19 +130,18 @@ pub(crate) fn on_decoder_recv(capacity: usize, bytes: &[u8]) -> Outcome {
             0x3f
         };
         let Some((number, len)) = integer(rest, ones) else {
-            return outcome;
+            return (Ok(()), rest.len());
         };
         rest = rest.get(len..).unwrap_or(b"");
-        outcome.left = rest.len();
         if ones == 0x7f {
-            outcome.answer = Answer::UnknownStream(number as u64);
-            return outcome;
+            let unknown = EncoderError::Insertion(Error::UnknownStreamId(number as u64));
+            return (Err(unknown), rest.len());
         }
     }
-    outcome
+    (Ok(()), rest.len())
 }
 
-/// The encoded required insert count, whether the sign bit stands, and the delta base, which end a list of two bytes;
+/// The encoded required insert count, whether the sign bit is set, and the delta base, which end a list of two bytes;
 /// or nothing where they are cut (RFC 9204, section 4.5.1).
 fn prefix(bytes: &[u8]) -> Option<(usize, bool, usize)> {
     let (count, len) = integer(bytes, 0xff)?;
@@ -155,41 +150,30 @@ fn prefix(bytes: &[u8]) -> Option<(usize, bool, usize)> {
     Some((count, *rest.first()? > 127, delta))
 }
 
-/// A field section under an empty table, which holds nothing but a prefix.
-pub(crate) fn decode_header(capacity: usize, bytes: &[u8]) -> Outcome {
-    Outcome::only(section(capacity, bytes))
-}
-
-/// What the section answers (RFC 9204, sections 4.5.1.1 and 4.5.1.2).
-fn section(capacity: usize, bytes: &[u8]) -> Answer {
+/// A field section under an empty table of this capacity, which holds nothing but a prefix (RFC 9204, sections 4.5.1.1
+/// and 4.5.1.2). Without a table is as with one of capacity 0.
+pub(crate) fn decode(capacity: usize, bytes: &[u8]) -> Result<bool, DecoderError> {
     let Some((count, is_below, delta)) = prefix(bytes) else {
-        return Answer::Ends;
+        return Err(DecoderError::InvalidInteger(prefix_int::Error::UnexpectedEnd));
     };
     if capacity == 0 || count == 0 {
-        return behind_base(0, is_below, delta, Answer::Taken(0));
+        check_base(0, is_below, delta)?;
+        return Ok(true);
     }
     let required = count.saturating_sub(1);
     if required == 0 || required > capacity / 32 {
-        return Answer::Overflow;
+        return Err(DecoderError::InvalidInteger(prefix_int::Error::Overflow));
     }
-    behind_base(required, is_below, delta, Answer::Missing(required))
+    check_base(required, is_below, delta)?;
+    Err(DecoderError::MissingRefs(required))
 }
 
-/// An answer, unless the base is below 0 (RFC 9204, section 4.5.1.2).
-fn behind_base(required: usize, is_below: bool, delta: usize, answer: Answer) -> Answer {
+/// Refuses a base below 0 (RFC 9204, section 4.5.1.2).
+fn check_base(required: usize, is_below: bool, delta: usize) -> Result<(), DecoderError> {
     if is_below && delta >= required {
         let below = delta.saturating_sub(required).saturating_add(1);
-        return Answer::BadBase(0isize.saturating_sub_unsigned(below));
+        let base = 0isize.saturating_sub_unsigned(below);
+        return Err(DecoderError::BadBaseIndex(base));
     }
-    answer
-}
-
-/// A field section without a table, which holds nothing but a prefix.
-pub(crate) fn decode_stateless(bytes: &[u8]) -> Outcome {
-    match prefix(bytes) {
-        Some((_, is_below, delta)) => {
-            Outcome::only(behind_base(0, is_below, delta, Answer::Taken(0)))
-        }
-        None => Outcome::only(Answer::Ends),
-    }
+    Ok(())
 }
