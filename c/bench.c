@@ -1,7 +1,8 @@
-/* bench CORPUS ROUNDS: ns a field across the boundary, this library and nghttp3 in turn in one run over the corpus, the
- * least of so many rounds, less what the clock takes; the same, of a fiftieth of the rounds, with a table of 30,000
- * entries; and ns of calls that do nothing. Each list is on a stream of its own, and acknowledged. Of both, what is
- * decoded is copied to memory of the caller. */
+/* bench CORPUS ROUNDS [CAPACITY [UNTIMED]]: ns a field across the boundary, this library and nghttp3 in turn in one
+ * run over the corpus, the least of so many rounds, less what the clock takes; the same, of a fiftieth of the rounds,
+ * with a table of 30,000 entries; and ns of calls that do nothing. Each list is on a stream of its own, and
+ * acknowledged. Of both, what is decoded is copied to memory of the caller. With a capacity the lists are timed at that
+ * one alone, but for the first of them, as many as UNTIMED says. */
 #include <time.h>
 #include "tests/common.h"
 
@@ -161,6 +162,7 @@ static times run_theirs(size_t capacity) {
 static times run_alone(void) {
   times t = {{0}, 0};
   for (size_t i = 0; i < nlists; i++) {
+    if (i == filling) t = (times){{0}, 0};
     double since = now();
     h3_qpack_written a = h3_qpack_encode_stateless(lists[i].nv, lists[i].len, section, sizeof section);
     end_phase(&t, ENCODE, &since);
@@ -270,13 +272,26 @@ static void compare(size_t capacity, int rounds) {
   print_times(alone, theirs);
 }
 
+/* The lists of a file at one capacity, the first |untimed| of which only come before the others. */
+static void compare_file(size_t capacity, size_t untimed, int rounds) {
+  CHECK(untimed < nlists);
+  filling = untimed;
+  for (size_t i = 0; i < untimed; i++) ncounted -= lists[i].len;
+  compare(capacity, rounds);
+  free_lists();
+}
+
 int main(int argc, char **argv) {
-  CHECK(argc == 3);
+  CHECK(argc >= 3 && argc <= 5);
   read_corpus(argv[1], 0);
   int rounds = atoi(argv[2]);
   ncounted = nfields;
   measure_clock();
   printf("a look at the clock takes %.0f ns, which are taken off\n", clock_cost);
+  if (argc > 3) {
+    compare_file(strtoull(argv[3], NULL, 10), argc > 4 ? strtoull(argv[4], NULL, 10) : 0, rounds);
+    return 0;
+  }
   compare(0, rounds);
   compare(4096, rounds);
   compare(65536, rounds);

@@ -63,6 +63,7 @@ compile() {
 choose_more() {
     case $1 in
         memory) more="-Wl,--wrap=malloc,--wrap=realloc" ;;
+        hostile) more="-Wl,--wrap=malloc,--wrap=realloc,--wrap=free" ;;
         quic) more="-lngtcp2_crypto_gnutls -lngtcp2 -lgnutls" ;;
         *) more= ;;
     esac
@@ -121,7 +122,14 @@ if command -v valgrind >/dev/null; then
     done
     with="$with and valgrind"
 fi
-more=
+choose_more hostile
+compile hostile hostile.c -O2
+run "$room/hostile" 100 1000
+tail -n 1 "$room/told"
+compile hostile.sanitized hostile.c -g -fsanitize=address,undefined -fno-sanitize-recover
+run "$room/hostile.sanitized" 100
+choose_more bench
 compile bench bench.c -O2
 run "$room/bench" "$corpus" 3
+run "$room/bench" "$corpus" 3 4096 10
 echo "c/check.sh: $passed runs passed, $with$left_out"

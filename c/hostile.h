@@ -1,0 +1,312 @@
+/* What the cases of hostile.c are made of: a meter, an allocator that counts, bytes of the wire, fields that a peer or
+ * an application would choose, and calls of the ends. */
+#ifndef HOSTILE_H
+#define HOSTILE_H
+
+#include <malloc.h>
+#include <time.h>
+#include "tests/common.h"
+
+/* ---- Memory: how much the library has, and the most that it had since a case began. To be linked with --wrap=malloc,
+ * --wrap=realloc and --wrap=free. A block takes what malloc says; the program's own come from __real_malloc. */
+
+static size_t live, most_live;
+
+void *__real_malloc(size_t size);
+void *__real_realloc(void *p, size_t size);
+void __real_free(void *p);
+void *__wrap_malloc(size_t size);
+void *__wrap_realloc(void *p, size_t size);
+void __wrap_free(void *p);
+
+static void *count_block(void *p) {
+  live += malloc_usable_size(p);
+  if (live > most_live) most_live = live;
+  return p;
+}
+
+void *__wrap_malloc(size_t size) { return count_block(__real_malloc(size)); }
+
+void *__wrap_realloc(void *p, size_t size) {
+  size_t before = malloc_usable_size(p);
+  void *q = __real_realloc(p, size);
+  if (q || !size) live -= before;
+  return q ? count_block(q) : q;
+}
+
+void __wrap_free(void *p) {
+  live -= malloc_usable_size(p);
+  __real_free(p);
+}
+
+/* ---- The meter: a line for each case, with what a call took, and a byte where bytes are handed in. */
+
+static size_t size, rows, live_before;
+static double begun;
+
+static inline double now(void) {
+  struct timespec t;
+  clock_gettime(CLOCK_MONOTONIC, &t);
+  return (double)t.tv_sec * 1e9 + (double)t.tv_nsec;
+}
+
+static __attribute__((noinline)) void begin_case(void) {
+  live_before = most_live = live;
+  begun = now();
+}
+
+/* How much more memory was live than when the case began, at most. */
+static inline size_t most_taken(void) { return most_live - live_before; }
+
+static __attribute__((noinline)) void end_case(const char *call, const char *input, size_t calls, size_t bytes) {
+  double ns = now() - begun;
+  printf("%6zu  %s, %s: %.0f ns", size, call, input, ns / (double)calls);
+  if (bytes) printf(", %.1f a byte", ns / (double)bytes);
+  printf(" of %zu; %zu bytes of memory\n", calls, most_taken());
+  rows++;
+}
+
+/* ---- Bytes of the wire */
+
+typedef struct {
+  uint8_t *at;
+  size_t len, room;
+} bytes;
+
+static inline void put(bytes *b, const void *p, size_t len) {
+  if (b->len + len > b->room) {
+    b->room = 2 * (b->len + len) + 64;
+    b->at = __real_realloc(b->at, b->room);
+    CHECK(b->at);
+  }
+  if (len) memcpy(b->at + b->len, p, len);
+  b->len += len;
+}
+
+static inline void put_often(bytes *b, uint8_t byte, size_t count) {
+  while (count--) put(b, &byte, 1);
+}
+
+static inline void drop(bytes *b) {
+  __real_free(b->at);
+  *b = (bytes){NULL, 0, 0};
+}
+
+/* An integer behind flags, with a prefix of so many bits (RFC 7541, section 5.1). */
+static inline void put_int(bytes *b, uint8_t flags, int bits, uint64_t value) {
+  uint64_t most = ((uint64_t)1 << bits) - 1;
+  if (value < most) {
+    put_often(b, (uint8_t)(flags | value), 1);
+    return;
+  }
+  put_often(b, (uint8_t)(flags | most), 1);
+  for (value -= most; value > 127; value >>= 7) put_often(b, (uint8_t)(value | 128), 1);
+  put_often(b, (uint8_t)value, 1);
+}
+
+/* A character, and its code (RFC 7541, appendix B). */
+typedef struct {
+  const char *label;
+  char letter;
+  uint32_t code;
+  int bits; /* 0: it is not coded */
+} coding;
+
+static const coding plain = {"a plain string", 'a', 0, 0};
+static const coding shortest = {"codes of 5 bits", 'a', 0x3, 5};
+static const coding longest = {"codes of 30 bits", '\n', 0x3ffffffc, 30};
+
+/* A string of one character so often, with its length behind flags, in a prefix of so many bits. */
+static inline void put_string(bytes *b, uint8_t flags, int bits, const coding *c, size_t count) {
+  if (!c->bits) {
+    put_int(b, flags, bits, count);
+    put_often(b, (uint8_t)c->letter, count);
+    return;
+  }
+  put_int(b, (uint8_t)(flags | 1 << bits), bits, (count * (size_t)c->bits + 7) / 8);
+  uint64_t pending = 0;
+  int have = 0;
+  while (count--) {
+    pending = pending << c->bits | c->code;
+    for (have += c->bits; have >= 8; have -= 8) put_often(b, (uint8_t)(pending >> (have - 8)), 1);
+  }
+  if (have) put_often(b, (uint8_t)(pending << (8 - have) | 0xff >> have), 1);
+}
+
+/* An insertion whose name and value are one character so often (RFC 9204, section 4.3.3). */
+static inline void put_insertion(bytes *b, const coding *name, size_t names, const coding *value, size_t values) {
+  put_string(b, 0x40, 5, name, names);
+  put_string(b, 0, 7, value, values);
+}
+
+/* The prefix of a section that requires so many insertions, which is its base too (section 4.5.1). */
+static inline void put_prefix(bytes *b, size_t required, size_t max_capacity) {
+  put_int(b, 0, 8, required ? required % (2 * (max_capacity / 32)) + 1 : 0);
+  put_int(b, 0, 7, 0);
+}
+
+/* ---- Fields of sixteen bytes of name and of value: so an entry has 64 */
+
+#define FIELD 64
+
+typedef enum { RANDOM, ONE_NAME, EQUAL_FIELDS, EQUAL_NAMES, ONE_ROW, KINDS } kind;
+
+static const char *const kinds[] = {"random fields", "one name", "equal hashes of fields", "equal hashes of names",
+                                    "names of letters in one row"};
+
+typedef struct {
+  uint8_t name[16], value[16];
+} field;
+
+static inline void write_digits(uint8_t *at, uint64_t number) {
+  for (int i = 0; i < 16; i++, number /= 16) at[i] = (uint8_t)"0123456789abcdef"[number % 16];
+}
+
+/* The constants of the table's hash, which is no secret. */
+#define SEED 0xa0761d6478bd642fu
+#define SECRET 0xe7037ed1a0b428dbu
+
+/* Sixteen bytes that end in the constant, behind which the hash is 0 whatever was before. */
+static inline void write_forgotten(uint8_t *at, uint64_t number) {
+  uint64_t secret = SECRET;
+  memcpy(at, &number, 8);
+  memcpy(at + 8, &secret, 8);
+}
+
+static inline uint64_t fold_product(uint64_t a, uint64_t b) {
+  unsigned __int128 product = (unsigned __int128)a * b;
+  return (uint64_t)product ^ (uint64_t)(product >> 64);
+}
+
+/* The first number from |number| on whose digits, as a name, stand in the first row of a table of so many entries. */
+static inline uint64_t next_in_row(uint64_t number, size_t entries) {
+  uint64_t end = ((uint64_t)1 << 32) / (2 * (entries < 8 ? 8 : entries));
+  for (;; number++) {
+    uint8_t name[16];
+    uint64_t low, high;
+    write_digits(name, number);
+    memcpy(&low, name, 8);
+    memcpy(&high, name + 8, 8);
+    uint64_t piece = fold_product((uint64_t)SEED ^ 16 ^ low, (uint64_t)SECRET ^ high);
+    if (fold_product(piece, SECRET) >> 32 < end) return number;
+  }
+}
+
+/* So many different fields of a kind. */
+static inline field *make_fields(kind k, size_t count) {
+  field *made = __real_malloc(count * sizeof *made);
+  CHECK(made);
+  uint64_t number = 0;
+  for (size_t i = 0; i < count; i++) {
+    field *f = &made[i];
+    memcpy(f->name, "x-one-x-one-x-on", 16);
+    memcpy(f->value, "x-one-x-one-x-on", 16);
+    uint64_t scattered = (uint64_t)i * 0x9e3779b97f4a7c15u;
+    if (k == RANDOM) write_digits(f->name, scattered);
+    if (k == RANDOM) write_digits(f->value, i);
+    if (k == ONE_NAME) write_digits(f->value, scattered);
+    if (k == EQUAL_FIELDS) write_forgotten(f->value, i);
+    if (k == EQUAL_NAMES) write_forgotten(f->name, i);
+    if (k == ONE_ROW) write_digits(f->name, number = next_in_row(number, count));
+    number++;
+  }
+  return made;
+}
+
+/* The field of a place. All such have equal hashes, and sorted they stand in the order of their places. */
+static inline field field_of_place(uint64_t place) {
+  field f;
+  memcpy(f.name, "x-one-x-one-x-on", 16);
+  write_forgotten(f.value, __builtin_bswap64(place));
+  return f;
+}
+
+/* ---- The ends, whose calls succeed */
+
+static uint8_t section[1 << 12], stream[1 << 20];
+
+static inline void open_encoder(h3_qpack_encoder *e, size_t capacity, size_t blocked, size_t unacknowledged) {
+  CHECK(!h3_qpack_encoder_new_with(e, capacity, blocked, capacity, unacknowledged));
+}
+
+/* A decoder whose peer set the greatest capacity. */
+static inline void open_decoder(h3_qpack_decoder *d, size_t capacity, size_t blocked, uint64_t limit) {
+  bytes b = {NULL, 0, 0};
+  put_int(&b, 0x20, 5, capacity);
+  CHECK(!h3_qpack_decoder_new(d, capacity, blocked, limit));
+  CHECK(h3_qpack_decoder_read_encoder(d, b.at, b.len).status == H3_QPACK_OK);
+  drop(&b);
+}
+
+static inline void receive(h3_qpack_decoder *d, const bytes *b) {
+  h3_qpack_received r = h3_qpack_decoder_read_encoder(d, b->at, b->len);
+  CHECK(r.status == H3_QPACK_OK && r.taken == b->len);
+}
+
+static inline void hear(h3_qpack_encoder *e, const void *p, size_t len) {
+  h3_qpack_received r = h3_qpack_encoder_read_decoder(e, p, len);
+  CHECK(r.status == H3_QPACK_OK && r.taken == len);
+}
+
+/* Encodes a section of one field, adds its instructions to |sent|, if that is wanted, and answers what it requires. */
+static inline size_t encode(h3_qpack_encoder *e, uint64_t stream_id, const field *f, bytes *sent) {
+  h3_qpack_nv nv = {f->name, sizeof f->name, f->value, sizeof f->value, 0};
+  h3_qpack_encoded a = h3_qpack_encoder_encode(e, stream_id, &nv, 1, section, sizeof section);
+  CHECK(a.status == H3_QPACK_OK);
+  size_t len = h3_qpack_encoder_write_encoder(e, stream, sizeof stream);
+  if (sent) put(sent, stream, len);
+  return a.required;
+}
+
+/* The same, and it is acknowledged. */
+static inline size_t encode_heard(h3_qpack_encoder *e, const field *f, bytes *sent) {
+  size_t required = encode(e, 0, f, sent);
+  if (required) hear(e, "\x80", 1);
+  return required;
+}
+
+static inline h3_qpack_decoded decode(h3_qpack_decoder *d, uint64_t stream_id, const bytes *b) {
+  return h3_qpack_decoder_decode(d, stream_id, b->at, b->len);
+}
+
+static inline void close_decoder(h3_qpack_decoder *d, bytes *b) {
+  h3_qpack_decoder_del(d);
+  drop(b);
+}
+
+/* ---- Fields of equal hashes, which the encoder's index keeps in one row, in order and in pieces of at most 128 */
+
+#define PIECE 128
+#define HALF (PIECE / 2)
+#define STEP 4
+
+/* Fields that come into each |every|th piece, |count| into each, at this place of its steps. */
+typedef struct {
+  size_t every, count, place;
+} layer;
+
+static size_t inserted;
+
+static inline void insert_layer(h3_qpack_encoder *e, layer l, size_t pieces, bytes *sent) {
+  for (size_t turn = 0; turn < pieces / l.every; turn++)
+    for (size_t i = 0; i < l.count; i++) {
+      field f = field_of_place(turn * l.every * STEP * HALF + i * STEP + l.place);
+      CHECK(encode_heard(e, &f, sent) == ++inserted);
+    }
+}
+
+/* An encoder's peer has so many entries, and no more. */
+static inline void check_entries(const bytes *sent, size_t capacity, size_t count) {
+  for (size_t past = 0; past < 2; past++) {
+    h3_qpack_decoder d;
+    bytes b = {NULL, 0, 0};
+    open_decoder(&d, capacity, 0, 1000);
+    receive(&d, sent);
+    put_prefix(&b, inserted, capacity);
+    put_int(&b, 0x80, 6, count - 1 + past);
+    CHECK(decode(&d, 0, &b).status == (past ? H3_QPACK_DECOMPRESSION_FAILED : H3_QPACK_OK));
+    close_decoder(&d, &b);
+  }
+}
+
+#endif
