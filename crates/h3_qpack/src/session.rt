@@ -30,7 +30,7 @@ mod stream;
 mod streams;
 
 /// What may happen in a session. Streams go by their numbers, which are below 2^62.
-#[derive(Debug, Drop)]
+#[derive(Debug, PartialEq, Drop)]
 pub enum Event {
     /// A field section is encoded for a stream (RFC 9204, section 2.1).
     Encode(u64, Vec<HeaderField>),
@@ -49,7 +49,7 @@ pub enum Event {
 }
 
 /// What an event answers.
-#[derive(Debug, Drop)]
+#[derive(Debug, PartialEq, Drop)]
 pub enum Outcome {
     /// The required insert count of the block, 0 if it references no entry.
     Encoded(Result<usize, EncoderError>),

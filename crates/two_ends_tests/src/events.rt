@@ -4,7 +4,7 @@ use h3_qpack::coding::{Cursor, NoMemory};
 use h3_qpack::decoder::{Decoded, DecoderError};
 use h3_qpack::encoder::EncoderError;
 use h3_qpack::session::{Event, Outcome, Session};
-use qpack_testing::{Pairs, fields};
+use qpack_testing::{Pairs, fields, same};
 use std::alloc::Global;
 use std::test::Fail;
 
@@ -67,4 +67,52 @@ pub(crate) fn decode_block(session: &Session, block: &[u8]) -> Result<Decoded, D
         Err(DecoderError::Memory) => decoder.decode_header(&mut Cursor::new(block)),
         answer => answer,
     }
+}
+
+/// Events of each kind, and of one kind with other parts.
+const EVENTS: [Given; 10] = [
+    Given::Encode(4, FOO_BAR),
+    Given::Encode(4, BAZ_BAR),
+    Given::Encode(8, FOO_BAR),
+    Given::Decode(4),
+    Given::ToDecoder(4),
+    Given::ToEncoder(4),
+    Given::Ack(4),
+    Given::Ack(8),
+    Given::Cancel(4),
+    Given::SetCapacity(4),
+];
+
+/// Answers of several kinds, and of one kind with other parts.
+fn outcomes() -> [Outcome; 7] {
+    [
+        Outcome::Encoded(Ok(1)),
+        Outcome::Encoded(Ok(2)),
+        Outcome::Encoded(Err(EncoderError::Memory)),
+        Outcome::Delivered(Ok(1)),
+        Outcome::Heard(Ok(())),
+        Outcome::Skipped(1),
+        Outcome::Skipped(2),
+    ]
+}
+
+#[test]
+fn events_are_equal_by_kind_and_parts(rt: HostRuntime) -> Result<(), Fail> {
+    for (at, one) in EVENTS.iter().enumerate() {
+        for (other_at, other) in EVENTS.iter().enumerate() {
+            let equal = event_of(rt.alloc(), *one)? == event_of(rt.alloc(), *other)?;
+            same(equal, at == other_at)?;
+        }
+    }
+    Ok(())
+}
+
+#[test]
+fn outcomes_are_equal_by_kind_and_parts() -> Result<(), Fail> {
+    for (at, one) in outcomes().iter().enumerate() {
+        for (other_at, other) in outcomes().iter().enumerate() {
+            same(one == other, at == other_at)?;
+        }
+    }
+    Ok(())
 }
