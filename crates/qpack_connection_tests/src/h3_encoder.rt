@@ -19,32 +19,26 @@ pub(crate) struct H3Encoder {
 }
 
 /// A table of a maximum capacity and a limit of blocked streams.
-fn table_of(alloc: Global, max_capacity: usize, max_blocked: usize) -> Result<DynamicTable> {
+fn table_of(alloc: Global, words: &mut Words<'_>) -> Result<DynamicTable> {
     let mut table = DynamicTable::new(alloc);
-    set_bounds(&mut table, max_capacity, max_blocked)?;
+    table.set_agreed_max(words.count()?)?;
+    table.set_max_blocked(words.count()?)?;
     Ok(table)
-}
-
-/// Sets the maximum capacity of a table and its limit of blocked streams.
-fn set_bounds(table: &mut DynamicTable, max_capacity: usize, max_blocked: usize) -> Result<()> {
-    table.set_agreed_max(max_capacity)?;
-    table.set_max_blocked(max_blocked)?;
-    Ok(())
 }
 
 impl Subject for H3Encoder {
     fn begin(alloc: Global, settings: &mut Words<'_>, _size: usize) -> Result<H3Encoder> {
-        let (max_capacity, max_blocked) = (settings.count()?, settings.count()?);
-        let capacity = settings.count()?;
-        let mut begun = H3Encoder {
-            encoder: Encoder::from(table_of(alloc, max_capacity, max_blocked)?),
-            section: Vec::new(alloc),
-            stream: Vec::new(alloc),
-        };
-        if capacity > 0 {
-            begun.encoder.set_capacity(capacity, &mut begun.stream)?;
+        let mut encoder = Encoder::from(table_of(alloc, settings)?);
+        let mut stream = Vec::new(alloc);
+        match settings.count()? {
+            0 => {}
+            capacity => encoder.set_capacity(capacity, &mut stream)?,
         }
-        Ok(begun)
+        Ok(H3Encoder {
+            encoder,
+            section: Vec::new(alloc),
+            stream,
+        })
     }
 
     fn call(
