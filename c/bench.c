@@ -3,7 +3,6 @@
  * with a table of 30,000 entries; and ns of calls that do nothing. Each list is on a stream of its own, and
  * acknowledged. Of both, what is decoded is copied to memory of the caller. With a capacity the lists are timed at that
  * one alone, but for the first of them, as many as UNTIMED says. */
-#include <time.h>
 #include "tests/common.h"
 
 static uint8_t section[1 << 16], stream[1 << 16], bytes[1 << 16];
@@ -21,12 +20,6 @@ typedef struct {
 
 /* How many lists fill the table before anything counts, and how many fields the others have. */
 static size_t filling, ncounted;
-
-static double now(void) {
-  struct timespec t;
-  clock_gettime(CLOCK_MONOTONIC, &t);
-  return (double)t.tv_sec * 1e9 + (double)t.tv_nsec;
-}
 
 /* ns that a look at the clock takes itself, the least of some rounds of a thousand. */
 static double clock_cost;

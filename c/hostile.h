@@ -4,7 +4,6 @@
 #define HOSTILE_H
 
 #include <malloc.h>
-#include <time.h>
 #include "tests/common.h"
 
 /* ---- Memory: how much the library has, and the most that it had since a case began. To be linked with --wrap=malloc,
@@ -43,12 +42,6 @@ void __wrap_free(void *p) {
 
 static size_t size, rows, live_before;
 static double begun;
-
-static inline double now(void) {
-  struct timespec t;
-  clock_gettime(CLOCK_MONOTONIC, &t);
-  return (double)t.tv_sec * 1e9 + (double)t.tv_nsec;
-}
 
 static __attribute__((noinline)) void begin_case(void) {
   live_before = most_live = live;

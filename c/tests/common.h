@@ -1,4 +1,4 @@
-/* What the tests share: the corpus, lists of fields at random, and a test that ends the program. */
+/* What the tests share: the corpus, lists of fields at random, a clock, and a test that ends the program. */
 #ifndef COMMON_H
 #define COMMON_H
 
@@ -6,6 +6,7 @@
 #include <stdio.h>
 #include <stdlib.h>
 #include <string.h>
+#include <time.h>
 #include <nghttp3/nghttp3.h>
 #include "h3_qpack.h"
 
@@ -16,6 +17,13 @@
       exit(1); \
     } \
   } while (0)
+
+/* Nanoseconds of a clock that only moves forward. */
+static inline uint64_t now(void) {
+  struct timespec t;
+  CHECK(!clock_gettime(CLOCK_MONOTONIC, &t));
+  return (uint64_t)t.tv_sec * 1000000000 + (uint64_t)t.tv_nsec;
+}
 
 /* A list of fields, as both libraries take it. */
 typedef struct {

@@ -13,7 +13,6 @@
 #include <ngtcp2/ngtcp2_crypto_gnutls.h>
 #include <poll.h>
 #include <sys/socket.h>
-#include <time.h>
 #include <unistd.h>
 
 #define CONNECTION_ID 16
@@ -32,12 +31,6 @@ typedef struct {
 } quic_end;
 
 static gnutls_certificate_credentials_t credentials[2];
-
-static uint64_t now(void) {
-  struct timespec t;
-  CHECK(!clock_gettime(CLOCK_MONOTONIC, &t));
-  return (uint64_t)t.tv_sec * NGTCP2_SECONDS + (uint64_t)t.tv_nsec;
-}
 
 /* ---- certificate and TLS */
 
