@@ -14,7 +14,7 @@ use Rattle.qpack_spec.specs.Table.{eviction_count_for, without_references}
 use Rattle.qpack_spec.specs.WrittenLaws.{IsByteField, IsByteLine, IsByteEncoderInstruction}
 use Rattle.qpack_spec.proofs.Drafts.{Room, room}
 use Rattle.qpack_spec.proofs.Lists.{every_append}
-use Rattle.qpack_spec.proofs.MarkedInsertions.{InsertsAt, OnlyInserts, instruction_inserts}
+use Rattle.qpack_spec.proofs.Insertions.{InsertsAt, OnlyInserts, instruction_inserts}
 use Rattle.qpack_spec.proofs.Positions.{static_found, static_name_found}
 use Rattle.qpack_spec.proofs.StrictSections.{AtZero, no_room}
 use Rattle.qpack_spec.proofs.WrittenDrafts.{WrittenDraft, writes_written, naming_written, inserts_written, static_small}

@@ -12,6 +12,7 @@ use Rattle.qpack_spec.specs.Instruction.{encoder_instruction_form, decoder_instr
 use Rattle.qpack_spec.specs.Instruction.{written_encoder_instruction, written_encoder_instructions}
 use Rattle.qpack_spec.specs.Instruction.{written_decoder_instruction, written_decoder_instructions}
 use Rattle.qpack_spec.specs.Prefix.{prefix_for, required_at, read_required, read_base, read_prefix, written_prefix}
+use Rattle.qpack_spec.specs.Prefix.{read_strict_prefix}
 use Rattle.qpack_spec.specs.Prefix.{prefix_at}
 use Rattle.qpack_spec.specs.Window.{eviction_count, absolute_entry, relative_entry, insertion, effect, window_after}
 use Rattle.qpack_spec.specs.History.{window_of, whole_window, history_after}
@@ -31,7 +32,7 @@ unfolding eviction_count written_groups groups_at integer_at written_integer bit
     text_at text_of_bits string_at written_string static_table static_index static_name_index line_form written_line
     written_lines encoder_instruction_form decoder_instruction_form written_encoder_instruction
     written_encoder_instructions written_decoder_instruction written_decoder_instructions made_at form_at prefix_for
-    required_at read_required read_base read_prefix written_prefix prefix_at absolute_entry relative_entry insertion
+    required_at read_required read_base read_prefix read_strict_prefix written_prefix prefix_at absolute_entry relative_entry insertion
     effect window_after window_of whole_window history_after static_field relative_field post_base_field line_field
     fields_of references_of_line references_of greatest_of reading fields_at reading_of_bytes written_block window
     with_number with_reference is_evictable all_evictable has_room may_reference with_entry last_position newest_index

@@ -345,7 +345,7 @@ drafting_literal_by_entry t0 h0 done d f k (Some a) e =
     (λ _. drafting_writes t0 h0 done d (Literal f.name f.value) f k (literal_names (insert_count t0) f.name f.value)
     (literal_line (whole_window k.history) (insert_count t0) f))
 
-pub drafting_literal : (t0 : Table) (h0 : History) (done : List Field) (d : Draft) (f : Field) → Drafting t0 h0 done d
+drafting_literal : (t0 : Table) (h0 : History) (done : List Field) (d : Draft) (f : Field) → Drafting t0 h0 done d
     → (o : Option ℕ) → static_name_index f.name ≡ o → Drafting t0 h0 (done ++ f ∷ []) (literal (insert_count t0) d f o)
 drafting_literal t0 h0 done d f k None e =
     drafting_literal_by_entry t0 h0 done d f k (newest_index d.table (has_name f.name)) refl
@@ -394,7 +394,7 @@ drafting_by_static t0 h0 done d f s k (Some i) e =
     (static_line (whole_window k.history) (insert_count t0) i f (static_found f i e))
 
 -- one field
-pub drafting_field : (t0 : Table) (h0 : History) (done : List Field) (d : Draft) (f : Field) → Sound h0
+drafting_field : (t0 : Table) (h0 : History) (done : List Field) (d : Draft) (f : Field) → Sound h0
     → Drafting t0 h0 done d → Drafting t0 h0 (done ++ f ∷ []) (rule_field (insert_count t0) d f)
 unfolding rule_field
 drafting_field t0 h0 done d f s k = drafting_by_static t0 h0 done d f s k (static_index f) refl

@@ -11,7 +11,8 @@ use Rattle.qpack_spec.specs.Instruction.{EncoderInstruction, InsertStaticName, I
 use Rattle.qpack_spec.specs.Instruction.{Duplicate, SetCapacity, DecoderInstruction, Acknowledgment, Cancellation}
 use Rattle.qpack_spec.specs.Instruction.{Increment, encoder_instruction_form, decoder_instruction_form}
 use Rattle.qpack_spec.specs.Instruction.{written_encoder_instruction, written_decoder_instruction}
-use Rattle.qpack_spec.specs.Prefix.{Prefix, OutOfRange, BelowZero, prefix_for, read_prefix, written_prefix, prefix_at}
+use Rattle.qpack_spec.specs.Prefix.{Prefix, OutOfRange, BelowZero, prefix_for, read_prefix, read_strict_prefix}
+use Rattle.qpack_spec.specs.Prefix.{written_prefix, prefix_at}
 use Rattle.qpack_spec.specs.Table.{insert_count}
 use Rattle.qpack_spec.proofs.Computing.{computed}
 
@@ -266,25 +267,46 @@ count_6 : (read_prefix 0 32 (prefix_of 2 0)) ≡ Ok (1, 1)
 unfolding rows
 count_6 = refl
 
--- a base below 0, though nothing is required (section 4.5.1.2)
-prefix_sign_of_none : (read_prefix 0 4096 (record { count = 0; sign = true; delta = 0 })) ≡ Err (BelowZero (negsuc 0))
-unfolding rows
-prefix_sign_of_none = refl
-
--- at capacity 0 too
-prefix_sign_at_0 : (read_prefix 7 0 (record { count = 3; sign = true; delta = 2 })) ≡ Err (BelowZero (negsuc 2))
-unfolding rows
-prefix_sign_at_0 = refl
-
--- without the sign a delta means nothing there
+-- where nothing is required, whatever base was read
 prefix_delta_of_none : (read_prefix 0 4096 (record { count = 0; sign = false; delta = 5 })) ≡ Ok (0, 0)
 unfolding rows
 prefix_delta_of_none = refl
 
--- capacity 0: whatever count was read
+-- with the sign bit too
+prefix_sign_of_none : (read_prefix 0 4096 (record { count = 0; sign = true; delta = 0 })) ≡ Ok (0, 0)
+unfolding rows
+prefix_sign_of_none = refl
+
+-- capacity 0: whatever was read
 prefix_capacity_0 : (read_prefix 7 0 (prefix_of 3 0)) ≡ Ok (0, 0)
 unfolding rows
 prefix_capacity_0 = refl
+
+-- with the sign bit too
+prefix_sign_at_0 : (read_prefix 7 0 (record { count = 3; sign = true; delta = 2 })) ≡ Ok (0, 0)
+unfolding rows
+prefix_sign_at_0 = refl
+
+-- a strict decoder refuses the sign bit where nothing is required (section 4.5.1.2)
+strict_sign_of_none : (read_strict_prefix 0 4096 (record { count = 0; sign = true; delta = 0 }))
+    ≡ Err (BelowZero (negsuc 0))
+unfolding rows
+strict_sign_of_none = refl
+
+-- at capacity 0 too
+strict_sign_at_0 : (read_strict_prefix 7 0 (record { count = 3; sign = true; delta = 2 })) ≡ Err (BelowZero (negsuc 2))
+unfolding rows
+strict_sign_at_0 = refl
+
+-- and a delta without it means nothing there
+strict_delta_of_none : (read_strict_prefix 0 4096 (record { count = 0; sign = false; delta = 5 })) ≡ Ok (0, 0)
+unfolding rows
+strict_delta_of_none = refl
+
+-- where something is required it reads the base as any reader does
+strict_get : (read_strict_prefix 13 3332 (record { count = 11; sign = true; delta = 4 })) ≡ Ok (10, 5)
+unfolding rows
+strict_get = refl
 
 -- required 0 writes 00 00 whatever the base
 prefix_no_base : (written_prefix (prefix_for 4096 0 9)) ≡ 0 ∷ 0 ∷ []

@@ -15,7 +15,7 @@ use Rattle.qpack_spec.specs.LawfulEncoders.{IsLawfulSection, EntriesStayLive, Re
 use Rattle.qpack_spec.specs.LengthLaws.{longest_section}
 use Rattle.qpack_spec.specs.Line.{Line, IndexedStatic, IndexedDynamic, IndexedPostBase, NamedStatic, NamedDynamic}
 use Rattle.qpack_spec.specs.Line.{NamedPostBase, Literal, line_form, SpellsLine}
-use Rattle.qpack_spec.specs.Prefix.{Prefix, PrefixFault, read_prefix, read_base, read_required}
+use Rattle.qpack_spec.specs.Prefix.{Prefix, PrefixFault, read_strict_prefix, read_base, read_required}
 use Rattle.qpack_spec.specs.Reading.{fields_of, line_field, references_of_line, greatest_of}
 use Rattle.qpack_spec.specs.Stateless.{saturated_size}
 use Rattle.qpack_spec.specs.Stream.{SpellsAll}
@@ -33,7 +33,8 @@ use Rattle.qpack_spec.proofs.Windows.{window_grown, sound_grown, allowed}
 use Rattle.qpack_spec.proofs.BlockReadings.{prefix_again, spelled_length}
 use Rattle.qpack_spec.proofs.FormLaws.{form_again}
 use Rattle.qpack_spec.proofs.Lists.{every_weaker}
-use Rattle.qpack_spec.proofs.Prefixes.{InReach, reads_required, reads_none, prefix_dynamic, prefix_plain}
+use Rattle.qpack_spec.proofs.Prefixes.{InReach, ReadsAs, reads_required, reads_none, prefix_dynamic, prefix_plain}
+use Rattle.qpack_spec.proofs.Prefixes.{strict_same}
 use Rattle.qpack_spec.proofs.Readings.{static_means, entry_relative, entry_post_base, valued_from, line_plain}
 use Rattle.qpack_spec.proofs.Readings.{greatest_bound}
 use Rattle.qpack_spec.proofs.SectionLengths.{prefix_short, lines_short}
@@ -195,27 +196,32 @@ base_told maximum required base p t small = by p.sign refl
 
 prefix_told : (received maximum required base : ℕ) (p : Prefix) → TellsPrefix maximum required base p → base < 2 ^ 64
     → (0 < required → InReach received maximum required)
-    → read_prefix received maximum p ≡ Ok (required, base_read required base)
+    → read_strict_prefix received maximum p ≡ Ok (required, base_read required base)
 prefix_told received maximum zero base p t small reach =
-    prefix_plain received maximum base p
-    (record {
-      reads_count = subst (λ (n : ℕ). read_required received maximum n ≡ Ok 0) (sym (t.none refl))
-          (reads_none received maximum);
-      reads_base = λ _. base_told maximum 0 base p t small;
-      not_below = λ _. plain p.sign refl;
-    })
+    strict_same received maximum 0 0 p (prefix_plain received maximum base p reads) reads.not_below
   where
     plain : (sign : Bool) → p.sign ≡ sign → p.sign ≡ false
     plain false e = e
     plain true e = absurd (omega (arith, t.below e))
+
+    reads : ReadsAs received maximum 0 base p
+    reads = record {
+      reads_count = subst (λ (n : ℕ). read_required received maximum n ≡ Ok 0) (sym (t.none refl))
+          (reads_none received maximum);
+      reads_base = λ _. base_told maximum 0 base p t small;
+      not_below = λ _. plain p.sign refl;
+    }
 prefix_told received maximum (suc n) base p t small reach =
-    prefix_dynamic received maximum (suc n) base p
-    (record {
+    strict_same received maximum (suc n) base p (prefix_dynamic received maximum (suc n) base p reads (omega arith))
+    reads.not_below
+  where
+    reads : ReadsAs received maximum (suc n) base p
+    reads = record {
       reads_count = subst (λ (m : ℕ). read_required received maximum m ≡ Ok (suc n)) (sym (t.some (omega arith)))
           (reads_required received maximum (suc n) (omega arith) (reach (omega arith)));
       reads_base = λ _. base_told maximum (suc n) base p t small;
       not_below = λ e. absurd (omega (arith, e));
-    }) (omega arith)
+    }
 
 -- ---- the moment
 

@@ -55,9 +55,8 @@ pub mod StringRows
 pub mod StrictReadings
 pub mod MarkedForms
 pub mod StrictWritten
-pub mod MarkedDrafts
 pub mod AloneSections
-pub mod MarkedInsertions
+pub mod Insertions
 pub mod ChosenSteps
 pub mod ChosenDrafts
 pub mod ChosenWritten

@@ -1,6 +1,6 @@
 -- The rule for marked fields is one list of choices.
 use Rattle.std.proofs.Common.{ℕ, ◌-◌, ◌≡◌, Bool, true, false, cond, List, [], ◌∷◌, Option, None, Some, refl, ap, ◌∙◌}
-use Rattle.std.proofs.Common.{arith}
+use Rattle.std.proofs.Common.{arith, sym, subst}
 use Rattle.std.specs.Prelude.{nat_le, ◌&&◌}
 use Rattle.std.proofs.lemmas.Bool.{cond_both, and_parts, lt-ltb}
 use Rattle.qpack_spec.specs.Chosen.{Choice, Alone, References, Names, Inserts, Chosen, passes_at, literal_chosen}
@@ -9,11 +9,13 @@ use Rattle.qpack_spec.specs.Chosen.{MarkedRuleIsChosen}
 use Rattle.qpack_spec.specs.Field.{Field, FieldLine, has_name, is_field}
 use Rattle.qpack_spec.specs.Line.{IndexedDynamic, Literal}
 use Rattle.qpack_spec.specs.Marked.{marked_field, marked_fields, marked_rule}
+use Rattle.qpack_spec.specs.MarkedLaws.{AreLiteralsWhereMarked, MarkedFieldsAreLiterals}
 use Rattle.qpack_spec.specs.Rule.{Draft, with_line, with_referencing_line, with_new_entry, name_reference_line}
 use Rattle.qpack_spec.specs.Rule.{literal_by_entry, literal, insertion_or_literal, by_entry, by_static, rule_field}
 use Rattle.qpack_spec.specs.Rule.{empty_draft}
 use Rattle.qpack_spec.specs.StaticTable.{static_index, static_name_index}
 use Rattle.qpack_spec.specs.Table.{Table, insert_count, newest_index, has_room, below_limit, may_reference}
+use Rattle.qpack_spec.proofs.ChosenLines.{chosen_have_lines}
 use Rattle.qpack_spec.proofs.Positions.{FoundEntry, newest_found}
 
 -- a draft that one choice of a literal leads to, and one that a choice of a line leads to
@@ -116,3 +118,9 @@ fields_are_chosen base d (l ∷ ls) =
 pub marked_is_chosen : MarkedRuleIsChosen
 unfolding marked_rule chosen_rule
 marked_is_chosen t ls = fields_are_chosen (insert_count t) (empty_draft t) ls
+
+-- so a marked field has a literal
+pub marked_are_literals : MarkedFieldsAreLiterals
+marked_are_literals t fs =
+    let chosen = marked_is_chosen t fs in
+    subst (λ (d : Draft). AreLiteralsWhereMarked fs d.lines) (sym chosen.1) (chosen_have_lines t fs chosen.0).0

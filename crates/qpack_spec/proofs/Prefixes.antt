@@ -1,15 +1,17 @@
 -- What a prefix is read as: a required insert count has one reading, and a written prefix is read back.
-use Rattle.std.proofs.Common.{ℕ, zero, suc, ◌+◌, ◌-◌, ◌*◌, ◌/◌, ◌%◌, ◌^◌, ◌<◌, ◌≤◌, ◌≡◌, Bool, true, false, min, List}
+use Rattle.std.proofs.Common.{ℕ, zero, suc, ◌+◌, ◌-◌, ◌*◌, ◌/◌, ◌%◌, ◌^◌, ◌<◌, ◌≤◌, ◌≡◌, Bool, true, false, List}
 use Rattle.std.proofs.Common.{Result, Ok}
 use Rattle.std.proofs.Common.{Err, refl, sym, ap, ◌∙◌, subst, inl, inr, ◌⊎◌, arith}
-use Rattle.std.specs.Prelude.{nat_lt, nat_le, nat_eq, ◌||◌, ℤ, negsuc}
+use Rattle.std.specs.Prelude.{nat_lt, nat_le, nat_eq, ◌||◌}
 use Rattle.std.proofs.Math.Nat.{mod-lt, div-add-mod, add-mul-mod_self_left, mod-eq_of_lt}
-use Rattle.std.proofs.lemmas.Bool.{lt-ltb, le-ltb, le-leb, lt-leb, eq-eqb, ne_eqb, or_right, or_from, cases_lt}
+use Rattle.std.proofs.lemmas.Bool.{lt-ltb, le-ltb, le-leb, lt-leb, ne_eqb, or_right, or_from, cases_lt}
 use Rattle.qpack_spec.specs.Field.{Field}
 use Rattle.qpack_spec.specs.Prefix.{Prefix, PrefixFault, prefix_for, IsRequired, required_at, read_required, read_base}
-use Rattle.qpack_spec.specs.Prefix.{BelowZero, base_behind, read_prefix}
+use Rattle.qpack_spec.specs.Prefix.{base_behind, strict_base, with_base, read_prefix, read_strict_prefix}
 use Rattle.qpack_spec.specs.Window.{Window, maximum_capacity, window_insert_count}
 use Rattle.qpack_spec.specs.Reading.{fields_of, Block, Fields, Missing, reading}
+use Rattle.qpack_spec.specs.StrictReading.{IsBelowZero, StrictPrefixesAgree}
+use Rattle.qpack_spec.proofs.Results.{ok_is}
 
 -- ---- the required insert count
 
@@ -111,7 +113,7 @@ reads_above required base lt =
     rw (lt-ltb (required - base - 1) required (omega arith)) (ap (λ (n : ℕ). let x : Result ℕ PrefixFault = Ok n in
     x) (omega arith))
 
--- a prefix is read as its count, and as its base where the count isn't 0
+-- a prefix is read as its count, and as its base where the count isn't 0; else it has no sign bit
 pub record ReadsAs (received maximum required base : ℕ) (p : Prefix) : Type 0 where
   pub reads_count : read_required received maximum p.count ≡ Ok required
   pub reads_base : 0 < required → read_base p.sign required p.delta ≡ Ok base
@@ -162,31 +164,6 @@ base_written maximum required base r m small = pick (cases_lt base required)
     pick (inl lt) = rw (written_above maximum required base r m lt) (reads_above required base lt)
     pick (inr le) = rw (written_below maximum required base r m le) (reads_below required base le small)
 
--- ---- the base where nothing is required
-
--- it is 0
-pub base_plain : (p : Prefix) (required : ℕ) → required ≡ 0 → p.sign ≡ false → base_behind p required ≡ Ok 0
-base_plain p required zero_count sign = rw (eq-eqb required 0 zero_count, sign) refl
-
--- unless the sign bit puts it below 0
-pub base_signed : (p : Prefix) → p.sign ≡ true → (base : ℤ) × (base_behind p 0 ≡ Err (BelowZero base))
-unfolding read_base
-base_signed p sign = (
-  negsuc (min (p.delta - 0) (2 ^ 63 - 1)),
-  rw (sign, le-ltb p.delta 0 (omega arith)) refl,
-)
-
--- so one that is read is not below 0
-pub base_is_plain : (p : Prefix) (base : ℕ) → base_behind p 0 ≡ Ok base → p.sign ≡ false
-base_is_plain p base e = pick p.sign refl
-  where
-    two : (r : Result ℕ PrefixFault) (base : ℕ) (fault : PrefixFault) → r ≡ Ok base → r ≡ Err fault → ⊥
-    two r base fault a b = absurd (let q = sym a ∙ b in cc)
-
-    pick : (sign : Bool) → p.sign ≡ sign → p.sign ≡ false
-    pick false q = q
-    pick true q = let s = base_signed p q in absurd (two (base_behind p 0) base (BelowZero s.0) e s.1)
-
 -- of a block that requires nothing no sign is written
 pub written_not_below : (maximum base : ℕ) → (prefix_for maximum 0 base).sign ≡ false
 written_not_below maximum base = ap (λ (p : Prefix). p.sign) (written_none maximum base)
@@ -201,7 +178,50 @@ prefix_dynamic received maximum required base p a positive =
 pub prefix_plain : (received maximum base : ℕ) (p : Prefix) → ReadsAs received maximum 0 base p
     → read_prefix received maximum p ≡ Ok (0, 0)
 unfolding read_prefix
-prefix_plain received maximum base p a = rw (a.reads_count, a.not_below refl) refl
+prefix_plain received maximum base p a = rw a.reads_count refl
+
+-- ---- to a strict decoder
+
+strict_else : (p : Prefix) (r : Result ℕ PrefixFault) → ((r ≡ Ok 0) × (p.sign ≡ true) → ⊥)
+    → with_base (λ required. strict_base p required) r ≡ with_base (λ required. base_behind p required) r
+strict_else p (Err e) h = refl
+strict_else p (Ok zero) h = pick p.sign refl
+  where
+    pick : (sign : Bool) → p.sign ≡ sign
+        → with_base (λ required. strict_base p required) (Ok 0) ≡ with_base (λ required. base_behind p required) (Ok 0)
+    pick false q = rw q refl
+    pick true q = absurd (h (refl, q))
+strict_else p (Ok (suc n)) h = rw (ne_eqb (suc n) 0 (λ e. absurd (omega (arith, e)))) refl
+
+-- it reads a prefix as any reader does, unless the prefix requires nothing and has the sign bit
+pub strict_agrees : StrictPrefixesAgree
+unfolding read_prefix read_strict_prefix read_base
+strict_agrees total maximum p =
+    let same : p.delta - 0 ≡ p.delta = omega arith in (
+      strict_else p (read_required total maximum p.count),
+      λ b. (rw (b.0, b.1, le-ltb p.delta 0 (omega arith), same) refl, rw b.0 refl),
+    )
+
+-- whether it is such a prefix
+pub below_or_not : (total maximum : ℕ) (p : Prefix) → IsBelowZero total maximum p ⊎ (IsBelowZero total maximum p → ⊥)
+below_or_not total maximum p = pick (read_required total maximum p.count) refl p.sign refl
+  where
+    pick : (r : Result ℕ PrefixFault) → read_required total maximum p.count ≡ r → (sign : Bool) → p.sign ≡ sign
+        → IsBelowZero total maximum p ⊎ (IsBelowZero total maximum p → ⊥)
+    pick (Err e) q sign s = inr (λ b. absurd (let x = sym q ∙ b.0 in cc))
+    pick (Ok zero) q true s = inl (q, s)
+    pick (Ok zero) q false s = inr (λ b. absurd (let x = sym s ∙ b.1 in cc))
+    pick (Ok (suc n)) q sign s = inr (λ b. absurd (let x = ok_is (suc n) 0 (sym q ∙ b.0) in omega (arith, x)))
+
+-- so what is read of a prefix is read strictly, where one that requires nothing has no sign bit
+pub strict_same : (total maximum required base : ℕ) (p : Prefix) → read_prefix total maximum p ≡ Ok (required, base)
+    → (required ≡ 0 → p.sign ≡ false) → read_strict_prefix total maximum p ≡ Ok (required, base)
+strict_same total maximum required base p read plain = (strict_agrees total maximum p).0 other ∙ read
+  where
+    other : IsBelowZero total maximum p → ⊥
+    other b =
+        let none = ok_is (0, 0) (required, base) (sym ((strict_agrees total maximum p).1 b).1 ∙ read) in
+        absurd (let x = sym b.1 ∙ plain (sym (ap (λ (r : ℕ × ℕ). r.0) none)) in cc)
 
 -- ---- blocks
 

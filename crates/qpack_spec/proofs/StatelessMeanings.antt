@@ -1,5 +1,5 @@
 -- Sections read alone: reading from left to right finds exactly what they mean.
-use Rattle.std.proofs.Common.{Bool, true, false, ◌≡◌, ℕ, zero, suc, ◌+◌, ◌<◌, ◌≤◌, List, [], ◌∷◌, ◌++◌, length, Option}
+use Rattle.std.proofs.Common.{◌≡◌, ℕ, zero, suc, ◌+◌, ◌<◌, ◌≤◌, List, [], ◌∷◌, ◌++◌, length, Option}
 use Rattle.std.proofs.Common.{Some, Result, Ok}
 use Rattle.std.proofs.Common.{Err, refl, sym, ap, subst, ◌∙◌, append_assoc, zero-add, arith, inl, inr, length-append}
 use Rattle.std.proofs.Common.{◌⊎◌}
@@ -8,18 +8,16 @@ use Rattle.qpack_spec.specs.Bytes.{◌>>=◌}
 use Rattle.qpack_spec.specs.Field.{Field, field_size, total_size}
 use Rattle.qpack_spec.specs.Form.{FormFault, Form, Index, IndexAndValue, SpellsForm, form_at}
 use Rattle.qpack_spec.specs.Line.{Line, line_form, SpellsLine, NamedPostBase, IndexedPostBase}
-use Rattle.qpack_spec.specs.Prefix.{Prefix, PrefixFault, BelowZero, SpellsPrefix, base_behind, prefix_at}
+use Rattle.qpack_spec.specs.Prefix.{Prefix, SpellsPrefix, prefix_at}
 use Rattle.qpack_spec.specs.Stream.{SpellsAll}
-use Rattle.qpack_spec.specs.Reading.{BadForm, BadPrefix}
-use Rattle.qpack_spec.specs.BlockReading.{or_bad_prefix}
+use Rattle.qpack_spec.specs.Reading.{BadForm}
 use Rattle.qpack_spec.specs.Stateless.{StatelessFault, BadSection, NamesEntry, TooLong, saturated_size, stateless_field}
-use Rattle.qpack_spec.specs.Stateless.{or_bad_section, or_bad_bytes, within_limit, stateless_at, stateless_reading}
+use Rattle.qpack_spec.specs.Stateless.{or_bad_bytes, within_limit, stateless_at, stateless_reading}
 use Rattle.qpack_spec.specs.StatelessMeaning.{SpellsStatelessField, StopsLine, post_base, in_bytes, in_line, past_limit}
-use Rattle.qpack_spec.specs.StatelessMeaning.{StopsBehind, in_prefix, in_base, in_lines, GivesStateless}
+use Rattle.qpack_spec.specs.StatelessMeaning.{StopsBehind, in_prefix, in_lines, GivesStateless}
 use Rattle.qpack_spec.specs.StatelessMeaning.{StatelessReadingIsMeaning}
 use Rattle.qpack_spec.proofs.Sizes.{total_first}
 use Rattle.qpack_spec.proofs.FormLaws.{form_takes, form_again}
-use Rattle.qpack_spec.proofs.Prefixes.{base_plain, base_signed}
 use Rattle.qpack_spec.proofs.BlockReadings.{spelled_length, prefix_takes, prefix_again}
 
 -- ---- what is read of the next line, and behind it
@@ -309,9 +307,7 @@ front_read (suc steps) limit sum front (f ∷ fs) first more e h j low s =
 -- ---- whole sections
 
 unfoldable pub behind_prefix : ℕ → Result (Prefix × List ℕ) FormFault → Result (List Field) StatelessFault
-behind_prefix limit r =
-    or_bad_bytes r >>= λ p. or_bad_section (or_bad_prefix (base_behind p.0 0))
-    >>= λ base. stateless_at (length p.1) limit 0 p.1
+behind_prefix limit r = or_bad_bytes r >>= λ p. stateless_at (length p.1) limit 0 p.1
 
 pub section_is : (limit : ℕ) (bytes : List ℕ) → stateless_reading limit bytes ≡ behind_prefix limit (prefix_at bytes)
 unfolding stateless_reading behind_prefix
@@ -321,15 +317,10 @@ pub prefix_bad : (limit : ℕ) (e : FormFault) → behind_prefix limit (Err e) �
 unfolding behind_prefix
 prefix_bad limit e = refl
 
-pub prefix_ok : (limit : ℕ) (p : Prefix) (rest : List ℕ) → p.sign ≡ false
+pub prefix_ok : (limit : ℕ) (p : Prefix) (rest : List ℕ)
     → behind_prefix limit (Ok (p, rest)) ≡ stateless_at (length rest) limit 0 rest
 unfolding behind_prefix
-prefix_ok limit p rest sign = rw (base_plain p 0 refl sign) refl
-
-pub prefix_below : (limit : ℕ) (p : Prefix) (rest : List ℕ) (fault : PrefixFault) → base_behind p 0 ≡ Err fault
-    → behind_prefix limit (Ok (p, rest)) ≡ bad (BadSection (BadPrefix fault))
-unfolding behind_prefix
-prefix_below limit p rest fault e = rw e refl
+prefix_ok limit p rest = refl
 
 held_none : (limit : ℕ) → saturated_size 0 ≤ limit
 held_none limit = omega arith
@@ -338,61 +329,45 @@ section_found : (limit : ℕ) (bytes : List ℕ) → GivesStateless limit bytes 
 section_found limit bytes = subst (GivesStateless limit bytes) (sym (section_is limit bytes))
     (go (prefix_at bytes) refl)
   where
-    behind : (head lines : List ℕ) (p : Prefix) → bytes ≡ head ++ lines → SpellsPrefix head p → p.sign ≡ false
+    behind : (head lines : List ℕ) (p : Prefix) → bytes ≡ head ++ lines → SpellsPrefix head p
         → (r : Result (List Field) StatelessFault) → LinesGive limit 0 lines r → GivesStateless limit bytes r
-    behind head lines p cut s sign (Ok fs) k =
+    behind head lines p cut s (Ok fs) k =
         record {
           head = head;
           lines = lines;
           cut = cut;
           prefix = p;
           spells = s;
-          not_below = sign;
           joined = k.0;
           within = subst (λ (n : ℕ). saturated_size n ≤ limit) (zero-add (total_size fs)) k.1;
         }
-    behind head lines p cut s sign (Err e) k = in_lines head lines p cut s sign k
-
-    by_sign : (p : Prefix × List ℕ) → prefix_at bytes ≡ Ok p → (sign : Bool) → p.0.sign ≡ sign
-        → GivesStateless limit bytes (behind_prefix limit (Ok p))
-    by_sign p q true sign =
-        let t = prefix_takes bytes p.0 p.1 q in
-        let below = base_signed p.0 sign in
-        subst (GivesStateless limit bytes) (sym (prefix_below limit p.0 p.1 (BelowZero below.0) below.1))
-        (in_base t.encoding p.1 p.0 (BelowZero below.0) t.parts t.spells below.1 refl)
-    by_sign p q false sign =
-        let t = prefix_takes bytes p.0 p.1 q in
-        subst (GivesStateless limit bytes) (sym (prefix_ok limit p.0 p.1 sign))
-        (behind t.encoding p.1 p.0 t.parts t.spells sign (stateless_at (length p.1) limit 0 p.1)
-        (lines_found (length p.1) limit 0 p.1 (omega arith) (held_none limit)))
+    behind head lines p cut s (Err e) k = in_lines head lines p cut s k
 
     go : (r : Result (Prefix × List ℕ) FormFault) → prefix_at bytes ≡ r
         → GivesStateless limit bytes (behind_prefix limit r)
     go (Err e) q = subst (GivesStateless limit bytes) (sym (prefix_bad limit e)) (in_prefix e q refl)
-    go (Ok p) q = by_sign p q p.0.sign refl
-
-section_prefix : (limit : ℕ) (bytes head lines : List ℕ) (p : Prefix) → bytes ≡ head ++ lines → SpellsPrefix head p
-    → stateless_reading limit bytes ≡ behind_prefix limit (Ok (p, lines))
-section_prefix limit bytes head lines p cut s =
-    section_is limit bytes ∙ ap (behind_prefix limit) (ap prefix_at cut ∙ prefix_again head lines p s)
+    go (Ok p) q =
+        let t = prefix_takes bytes p.0 p.1 q in
+        subst (GivesStateless limit bytes) (sym (prefix_ok limit p.0 p.1))
+        (behind t.encoding p.1 p.0 t.parts t.spells (stateless_at (length p.1) limit 0 p.1)
+        (lines_found (length p.1) limit 0 p.1 (omega arith) (held_none limit)))
 
 section_spelled : (limit : ℕ) (bytes head lines : List ℕ) (p : Prefix) → bytes ≡ head ++ lines → SpellsPrefix head p
-    → p.sign ≡ false → stateless_reading limit bytes ≡ stateless_at (length lines) limit 0 lines
-section_spelled limit bytes head lines p cut s sign =
-    section_prefix limit bytes head lines p cut s ∙ prefix_ok limit p lines sign
+    → stateless_reading limit bytes ≡ stateless_at (length lines) limit 0 lines
+section_spelled limit bytes head lines p cut s =
+    section_is limit bytes ∙ ap (behind_prefix limit) (ap prefix_at cut ∙ prefix_again head lines p s)
+    ∙ prefix_ok limit p lines
 
 section_only : (limit : ℕ) (bytes : List ℕ) (r : Result (List Field) StatelessFault) → GivesStateless limit bytes r
     → stateless_reading limit bytes ≡ r
 section_only limit bytes (Ok fs) k =
-    section_spelled limit bytes k.head k.lines k.prefix k.cut k.spells k.not_below
+    section_spelled limit bytes k.head k.lines k.prefix k.cut k.spells
     ∙ lines_read (length k.lines) limit 0 k.lines fs (omega arith) k.joined
     (subst (λ (n : ℕ). saturated_size n ≤ limit) (sym (zero-add (total_size fs))) k.within)
 section_only limit bytes (Err e) (in_prefix fault q same) =
     section_is limit bytes ∙ ap (behind_prefix limit) q ∙ prefix_bad limit fault ∙ ap bad (sym same)
-section_only limit bytes (Err e) (in_base head lines p fault cut s below same) =
-    section_prefix limit bytes head lines p cut s ∙ prefix_below limit p lines fault below ∙ ap bad (sym same)
-section_only limit bytes (Err e) (in_lines head lines p cut s sign k) =
-    section_spelled limit bytes head lines p cut s sign ∙ ap (stateless_at (length lines) limit 0) k.cut
+section_only limit bytes (Err e) (in_lines head lines p cut s k) =
+    section_spelled limit bytes head lines p cut s ∙ ap (stateless_at (length lines) limit 0) k.cut
     ∙ front_read (length lines) limit 0 k.front k.so_far k.first k.more e (omega (arith, ap length k.cut)) k.joined
     k.within k.stops
 

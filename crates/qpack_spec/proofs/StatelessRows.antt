@@ -7,9 +7,7 @@ use Rattle.qpack_spec.specs.Field.{Field}
 use Rattle.qpack_spec.specs.StaticTable.{field}
 use Rattle.qpack_spec.specs.Form.{BadInteger, BadString}
 use Rattle.qpack_spec.specs.Window.{NoEntry, NoStaticField, DoesNotFit, AboveMaximum, UnknownStream}
-use Rattle.std.specs.Prelude.{negsuc}
-use Rattle.qpack_spec.specs.Prefix.{BelowZero}
-use Rattle.qpack_spec.specs.Reading.{BadForm, BadPrefix, NotStatic}
+use Rattle.qpack_spec.specs.Reading.{BadForm, NotStatic}
 use Rattle.qpack_spec.specs.BlockReading.{written_block}
 use Rattle.qpack_spec.specs.Session.{Encode, Decode, Acknowledge, Cancel, Session, initial_session, with_block}
 use Rattle.qpack_spec.specs.Session.{with_decoded, with_kept_stream, stream_at, skip_reason, is_consumed}
@@ -69,10 +67,15 @@ read_nothing : (stateless_reading 0 (5 ∷ 0 ∷ [])) ≡ Ok []
 unfolding rows
 read_nothing = refl
 
--- a base below 0, though nothing is required
-read_below_0 : (stateless_reading 42 (0 ∷ 128 ∷ 209 ∷ [])) ≡ Err (BadSection (BadPrefix (BelowZero (negsuc 0))))
+-- whatever the prefix says: a count, a delta
+read_any_prefix : (stateless_reading 42 (3 ∷ 5 ∷ 209 ∷ [])) ≡ Ok ((field (codes ":method") (codes "GET")) ∷ [])
 unfolding rows
-read_below_0 = refl
+read_any_prefix = refl
+
+-- or the sign bit
+read_sign : (stateless_reading 42 (0 ∷ 128 ∷ 209 ∷ [])) ≡ Ok ((field (codes ":method") (codes "GET")) ∷ [])
+unfolding rows
+read_sign = refl
 
 -- no bytes
 read_no_bytes : (stateless_reading 9 ([])) ≡ Err (BadSection (BadForm (BadInteger UnexpectedEnd)))

@@ -1,5 +1,5 @@
 -- Sections read alone, and under an empty table of capacity 0.
-use Rattle.std.proofs.Common.{◌≡◌, ℕ, zero, suc, ◌+◌, ◌-◌, ◌<◌, ◌≤◌, Bool, true, false, List, [], ◌∷◌, ◌++◌, length}
+use Rattle.std.proofs.Common.{◌≡◌, ℕ, zero, suc, ◌+◌, ◌-◌, ◌<◌, ◌≤◌, Bool, false, List, [], ◌∷◌, ◌++◌, length}
 use Rattle.std.proofs.Common.{Option, Result, Ok, Err, refl, sym, ap, subst, ◌∙◌, arith, inl, inr, ◌⊎◌}
 use Rattle.std.proofs.Common.{length-append}
 use Rattle.std.proofs.lemmas.Bool.{lt-ltb, le-ltb, cases_lt}
@@ -8,9 +8,9 @@ use Rattle.qpack_spec.specs.Field.{Field, field_size}
 use Rattle.qpack_spec.specs.Form.{FormFault, form_at}
 use Rattle.qpack_spec.specs.Line.{Line, IndexedStatic, IndexedDynamic, IndexedPostBase, NamedStatic, NamedDynamic}
 use Rattle.qpack_spec.specs.Line.{NamedPostBase, Literal, line_form}
-use Rattle.qpack_spec.specs.Prefix.{Prefix, PrefixFault, BelowZero, base_behind, read_required, read_prefix, prefix_at}
+use Rattle.qpack_spec.specs.Prefix.{Prefix, read_required, read_prefix, prefix_at}
 use Rattle.qpack_spec.specs.Window.{Window, maximum_capacity}
-use Rattle.qpack_spec.specs.Reading.{Fault, BadForm, BadPrefix, BelowWindow, BehindBase}
+use Rattle.qpack_spec.specs.Reading.{Fault, BadForm, BelowWindow, BehindBase}
 use Rattle.qpack_spec.specs.Reading.{static_field, relative_field, post_base_field, field_with_value, line_field}
 use Rattle.qpack_spec.specs.Reading.{Fields}
 use Rattle.qpack_spec.specs.Reading.{Faulty, reading_of_fields}
@@ -22,13 +22,12 @@ use Rattle.qpack_spec.specs.StatelessMeaning.{no_table, IsNoEntry, NamesNoEntry,
 use Rattle.qpack_spec.specs.StatelessMeaning.{AgreesWithoutTable, StatelessIsWithoutTable}
 use Rattle.std.proofs.lemmas.List.{append_assoc}
 use Rattle.qpack_spec.proofs.FormLaws.{form_takes}
-use Rattle.qpack_spec.proofs.Prefixes.{base_signed}
 use Rattle.qpack_spec.proofs.BlockReadings.{prefix_takes, no_bytes}
 use Rattle.qpack_spec.proofs.StatelessMeanings.{no_entry as no_entry_alone, before, limited, meant, next, next_ok}
 use Rattle.qpack_spec.proofs.StatelessMeanings.{meant_ok, low_is}
 use Rattle.qpack_spec.proofs.StatelessMeanings.{high_is}
 use Rattle.qpack_spec.proofs.StatelessMeanings.{limited_long, limited_ok, none_alone, low_means, behind_prefix}
-use Rattle.qpack_spec.proofs.StatelessMeanings.{section_is, prefix_bad, prefix_ok, prefix_below}
+use Rattle.qpack_spec.proofs.StatelessMeanings.{section_is, prefix_bad, prefix_ok}
 use Rattle.qpack_spec.proofs.Results.{ok_is}
 
 -- ---- one line
@@ -296,36 +295,21 @@ lines_up_to (suc steps) limit sum agreed_max (b ∷ bytes) fs h e =
 
 -- ---- whole sections
 
--- under the table nothing is required, whatever count the prefix says
-nothing_required : (agreed_max : Option ℕ) (p : Prefix) → maximum_capacity agreed_max 0 ≡ 0 → p.sign ≡ false
+-- under the table nothing is required, whatever the prefix says
+nothing_required : (agreed_max : Option ℕ) (p : Prefix) → maximum_capacity agreed_max 0 ≡ 0
     → read_prefix 0 (maximum_capacity agreed_max 0) p ≡ Ok (0, 0)
 unfolding read_prefix read_required
-nothing_required agreed_max p none sign = rw (none, sign) refl
-
--- and a base below 0 is refused
-required_below : (agreed_max : Option ℕ) (p : Prefix) (fault : PrefixFault) → maximum_capacity agreed_max 0 ≡ 0
-    → base_behind p 0 ≡ Err fault
-    → read_prefix 0 (maximum_capacity agreed_max 0) p ≡ Err fault
-unfolding read_prefix read_required
-required_below agreed_max p fault none below = rw (none, below) refl
+nothing_required agreed_max p none = rw none refl
 
 -- what the bytes behind a prefix give
 read_behind : (agreed_max : Option ℕ) (bytes rest : List ℕ) (p : Prefix) → maximum_capacity agreed_max 0 ≡ 0
-    → p.sign ≡ false → prefix_at bytes ≡ Ok (p, rest)
+    → prefix_at bytes ≡ Ok (p, rest)
     → reading_of_bytes (no_table agreed_max) bytes
     ≡ reading_of_fields (fields_in_bytes (no_table agreed_max) 0 rest) false
 unfolding reading_of_bytes
-read_behind agreed_max bytes rest p none sign q =
+read_behind agreed_max bytes rest p none q =
     ap (section_behind (no_table agreed_max)) q
-    ∙ ap (bytes_behind (no_table agreed_max) rest) (nothing_required agreed_max p none sign)
-
-read_below : (agreed_max : Option ℕ) (bytes rest : List ℕ) (p : Prefix) (fault : PrefixFault)
-    → maximum_capacity agreed_max 0 ≡ 0 → base_behind p 0 ≡ Err fault → prefix_at bytes ≡ Ok (p, rest)
-    → reading_of_bytes (no_table agreed_max) bytes ≡ Faulty (BadPrefix fault)
-unfolding reading_of_bytes
-read_below agreed_max bytes rest p fault none below q =
-    ap (section_behind (no_table agreed_max)) q
-    ∙ ap (bytes_behind (no_table agreed_max) rest) (required_below agreed_max p fault none below)
+    ∙ ap (bytes_behind (no_table agreed_max) rest) (nothing_required agreed_max p none)
 
 read_refused : (agreed_max : Option ℕ) (bytes : List ℕ) (e : FormFault) → prefix_at bytes ≡ Err e
     → reading_of_bytes (no_table agreed_max) bytes ≡ Faulty (BadForm e)
@@ -349,23 +333,23 @@ fields_answered (Err x) fs is_dynamic e = absurd cc
 pub without_table : StatelessIsWithoutTable
 without_table agreed_max none limit bytes = pick (prefix_at bytes) refl
   where
-    by_sign : (x : Prefix × List ℕ) → prefix_at bytes ≡ Ok x → (sign : Bool) → x.0.sign ≡ sign
+    pick : (r : Result (Prefix × List ℕ) FormFault) → prefix_at bytes ≡ r
         → AgreesWithoutTable bytes (stateless_reading limit bytes) (reading_of_bytes (no_table agreed_max) bytes)
         × ((fs : List Field) (is_dynamic : Bool) → reading_of_bytes (no_table agreed_max) bytes ≡ Fields fs is_dynamic
         → (is_dynamic ≡ false) × (stateless_reading limit bytes ≡ up_to_limit limit 0 fs))
-    by_sign x q true sign =
-        let below = base_signed x.0 sign in
-        let alone : stateless_reading limit bytes ≡ Err (BadSection (BadPrefix (BelowZero below.0))) =
-        section_is limit bytes ∙ ap (behind_prefix limit) q ∙ prefix_below limit x.0 x.1 (BelowZero below.0) below.1 in
-        let under = read_below agreed_max bytes x.1 x.0 (BelowZero below.0) none below.1 q in (
+    pick (Err e) q =
+        let alone : stateless_reading limit bytes ≡ Err (BadSection (BadForm e)) =
+        section_is limit bytes ∙ ap (behind_prefix limit) q ∙ prefix_bad limit e in (
           subst (λ (r : Result (List Field) StatelessFault). AgreesWithoutTable bytes r
-              (reading_of_bytes (no_table agreed_max) bytes)) (sym alone) under,
-          λ fs is_dynamic h. absurd (no_fields_refused (BadPrefix (BelowZero below.0)) fs is_dynamic (sym under ∙ h)),
+              (reading_of_bytes (no_table agreed_max) bytes)) (sym alone) (read_refused agreed_max bytes e q),
+          λ fs is_dynamic h. absurd
+              (no_fields_refused (BadForm e) fs is_dynamic (sym (read_refused agreed_max bytes e q)
+              ∙ h)),
         )
-    by_sign x q false sign =
+    pick (Ok x) q =
         let alone : stateless_reading limit bytes ≡ stateless_at (length x.1) limit 0 x.1 =
-        section_is limit bytes ∙ ap (behind_prefix limit) q ∙ prefix_ok limit x.0 x.1 sign in
-        let under = read_behind agreed_max bytes x.1 x.0 none sign q in
+        section_is limit bytes ∙ ap (behind_prefix limit) q ∙ prefix_ok limit x.0 x.1 in
+        let under = read_behind agreed_max bytes x.1 x.0 none q in
         let t = prefix_takes bytes x.0 x.1 q in
         let read = reading_of_fields (fields_in_bytes (no_table agreed_max) 0 x.1) false in
         let whole : AgreesWithoutTable bytes (stateless_at (length x.1) limit 0 x.1) read =
@@ -380,18 +364,3 @@ without_table agreed_max none limit bytes = pick (prefix_at bytes) refl
               let got = fields_answered (fields_in_bytes (no_table agreed_max) 0 x.1) fs is_dynamic (sym under ∙ h) in
               (got.0, alone ∙ lines_up_to (length x.1) limit 0 agreed_max x.1 fs (omega arith) got.1),
         )
-
-    pick : (r : Result (Prefix × List ℕ) FormFault) → prefix_at bytes ≡ r
-        → AgreesWithoutTable bytes (stateless_reading limit bytes) (reading_of_bytes (no_table agreed_max) bytes)
-        × ((fs : List Field) (is_dynamic : Bool) → reading_of_bytes (no_table agreed_max) bytes ≡ Fields fs is_dynamic
-        → (is_dynamic ≡ false) × (stateless_reading limit bytes ≡ up_to_limit limit 0 fs))
-    pick (Err e) q =
-        let alone : stateless_reading limit bytes ≡ Err (BadSection (BadForm e)) =
-        section_is limit bytes ∙ ap (behind_prefix limit) q ∙ prefix_bad limit e in (
-          subst (λ (r : Result (List Field) StatelessFault). AgreesWithoutTable bytes r
-              (reading_of_bytes (no_table agreed_max) bytes)) (sym alone) (read_refused agreed_max bytes e q),
-          λ fs is_dynamic h. absurd
-              (no_fields_refused (BadForm e) fs is_dynamic (sym (read_refused agreed_max bytes e q)
-              ∙ h)),
-        )
-    pick (Ok x) q = by_sign x q x.0.sign refl

@@ -1,13 +1,13 @@
 -- A strict decoder answers what a section means, or refuses it, and what it answers is within its limit.
 use Rattle.std.proofs.Common.{ℕ, zero, suc, ◌+◌, ◌-◌, ◌<◌, ◌≤◌, ◌≡◌, Bool, true, false, cond, List, [], ◌∷◌, length}
-use Rattle.std.proofs.Common.{Result, Ok, Err, refl, sym, ap, subst, inl, inr, ◌⊎◌, arith}
+use Rattle.std.proofs.Common.{Result, Ok, Err, refl, sym, subst, inl, inr, ◌⊎◌, arith}
 use Rattle.std.specs.Prelude.{◌&&◌, nat_eq, nat_le, nat_lt}
 use Rattle.std.proofs.lemmas.Bool.{lt-ltb, le-ltb, cases_lt}
 use Rattle.qpack_spec.specs.Bytes.{◌>>=◌}
 use Rattle.qpack_spec.specs.Field.{Field, field_size, total_size, FieldLine, fields_of_lines}
 use Rattle.qpack_spec.specs.Form.{FormFault, form_at}
 use Rattle.qpack_spec.specs.Line.{Line, line_form}
-use Rattle.qpack_spec.specs.Prefix.{Prefix, PrefixFault, read_prefix, prefix_at}
+use Rattle.qpack_spec.specs.Prefix.{Prefix, PrefixFault, read_prefix, read_strict_prefix, prefix_at}
 use Rattle.qpack_spec.specs.Window.{Window, maximum_capacity, window_insert_count}
 use Rattle.qpack_spec.specs.Reading.{Fault, Reading, Missing, line_field, references_of_line, greatest_of}
 use Rattle.qpack_spec.specs.Reading.{reading_of_fields}
@@ -20,10 +20,9 @@ use Rattle.qpack_spec.specs.StrictReading.{PastRequired, TooLarge, SectionFault,
 use Rattle.qpack_spec.specs.StrictReading.{StrictReading, Read, Blocked, Refused, LinesUnder, or_meaningless}
 use Rattle.qpack_spec.specs.StrictReading.{or_in_line, within_size, strict_field, strict_line_at, strict_lines_at}
 use Rattle.qpack_spec.specs.StrictReading.{lines_behind, strict_behind, strict_section_behind, strict_reading}
-use Rattle.qpack_spec.specs.StrictReading.{SaysReading, StrictReadingsAreReadings, StrictReadingsAreWithin}
-use Rattle.qpack_spec.proofs.Results.{ok_pair}
-use Rattle.qpack_spec.proofs.FormLaws.{form_takes}
-use Rattle.qpack_spec.proofs.BlockReadings.{spelled_length}
+use Rattle.qpack_spec.specs.StrictReading.{SaysReading, IsBelowZero, RefusesBelowZero, StrictReadingsAreReadings}
+use Rattle.qpack_spec.specs.StrictReading.{StrictReadingsAreWithin}
+use Rattle.qpack_spec.proofs.Prefixes.{strict_agrees, below_or_not}
 use Rattle.qpack_spec.proofs.Sizes.{total_first}
 
 -- ---- one line
@@ -199,28 +198,46 @@ behind_says w limit section rest (Ok p) = pick (nat_lt (window_insert_count w) p
         (strict_lines_at (length rest) (lines_under w limit section p) 0 0 rest)
         (lines_say (length rest) (lines_under w limit section p) 0 0 rest (omega arith))
 
-section_says : (w : Window) (limit section : ℕ) (r : Result (Prefix × List ℕ) FormFault)
-    → SaysSection limit (section_behind w r) (strict_section_behind w limit section r)
-section_says w limit section (Err e) = (refl, tt)
-section_says w limit section (Ok p) =
+-- or it is refused for its base alone
+abbrev SaysWhole : Window → ℕ → List ℕ → Reading → StrictReading → Type 0
+SaysWhole w limit bytes r s = (SaysReading r s ⊎ RefusesBelowZero w bytes s) × IsWithin limit s
+
+section_says : (w : Window) (limit section : ℕ) (bytes : List ℕ) (r : Result (Prefix × List ℕ) FormFault)
+    → prefix_at bytes ≡ r
+    → SaysWhole w limit bytes (section_behind w r) (strict_section_behind w limit section r)
+section_says w limit section bytes (Err e) q = (inl refl, tt)
+section_says w limit section bytes (Ok p) q =
     pick (nat_eq (maximum_capacity w.agreed_max w.capacity) 0 && nat_lt 0 p.0.count)
   where
-    pick : (b : Bool) → SaysSection limit (section_behind w (Ok p)) (cond b (Refused CountAtZero)
+    by_sign : IsBelowZero (window_insert_count w) (maximum_capacity w.agreed_max w.capacity) p.0
+        ⊎ (IsBelowZero (window_insert_count w) (maximum_capacity w.agreed_max w.capacity) p.0 → ⊥)
+        → SaysWhole w limit bytes (section_behind w (Ok p)) (strict_behind w limit section p.1
+        (read_strict_prefix (window_insert_count w) (maximum_capacity w.agreed_max w.capacity) p.0))
+    by_sign (inl below) =
+        rw ((strict_agrees (window_insert_count w) (maximum_capacity w.agreed_max w.capacity) p.0).1 below).0
+        (inr (record { prefix = p.0; rest = p.1; begins = q; below = below; refused = refl }), tt)
+    by_sign (inr other) =
+        let says = behind_says w limit section p.1
+        (read_prefix (window_insert_count w) (maximum_capacity w.agreed_max w.capacity) p.0) in
+        rw ((strict_agrees (window_insert_count w) (maximum_capacity w.agreed_max w.capacity) p.0).0 other)
+        (inl says.0, says.1)
+
+    pick : (b : Bool) → SaysWhole w limit bytes (section_behind w (Ok p)) (cond b (Refused CountAtZero)
         (strict_behind w limit section p.1
-        (read_prefix (window_insert_count w) (maximum_capacity w.agreed_max w.capacity) p.0)))
-    pick true = (tt, tt)
-    pick false = behind_says w limit section p.1
-        (read_prefix (window_insert_count w) (maximum_capacity w.agreed_max w.capacity) p.0)
+        (read_strict_prefix (window_insert_count w) (maximum_capacity w.agreed_max w.capacity) p.0)))
+    pick true = (inl tt, tt)
+    pick false =
+        by_sign (below_or_not (window_insert_count w) (maximum_capacity w.agreed_max w.capacity) p.0)
 
 strict_says : (w : Window) (limit : ℕ) (bytes : List ℕ)
-    → SaysSection limit (reading_of_bytes w bytes) (strict_reading w limit bytes)
+    → SaysWhole w limit bytes (reading_of_bytes w bytes) (strict_reading w limit bytes)
 unfolding reading_of_bytes strict_reading
 strict_says w limit bytes = pick (nat_lt (longest_section limit) (length bytes))
   where
-    pick : (b : Bool) → SaysSection limit (section_behind w (prefix_at bytes)) (cond b (Refused TooLong)
+    pick : (b : Bool) → SaysWhole w limit bytes (section_behind w (prefix_at bytes)) (cond b (Refused TooLong)
         (strict_section_behind w limit (length bytes) (prefix_at bytes)))
-    pick true = (tt, tt)
-    pick false = section_says w limit (length bytes) (prefix_at bytes)
+    pick true = (inl tt, tt)
+    pick false = section_says w limit (length bytes) bytes (prefix_at bytes) refl
 
 pub strict_are_readings : StrictReadingsAreReadings
 strict_are_readings w limit bytes = (strict_says w limit bytes).0
@@ -236,28 +253,3 @@ pub strict_none : (steps : ℕ) (u : LinesUnder) (number sum : ℕ) → strict_l
 unfolding strict_lines_at
 strict_none zero u number sum = refl
 strict_none (suc steps) u number sum = refl
-
--- a line that was read takes a byte at least
-pub strict_shorter : (u : LinesUnder) (sum b : ℕ) (bytes : List ℕ) (x : FieldLine × List ℕ)
-    → strict_line_at u sum b bytes ≡ Ok x → length x.1 < length (b ∷ bytes)
-strict_shorter u sum b bytes x e =
-    go (form_at line_form (b ∷ bytes)) refl
-    (subst (SaysLine u.limit sum (line_meaning u.window u.base (form_at line_form (b ∷ bytes)))) e
-    (line_says u sum b bytes)).0
-  where
-    line : (rest : List ℕ) (r : Result Field Fault)
-        → (let p : Result (Field × List ℕ) Fault = (r >>= λ f. Ok (f, rest)) in p) ≡ Ok (x.0.field, x.1) → rest ≡ x.1
-    line rest (Ok f) h = (ok_pair f x.0.field rest x.1 h).1
-    line rest (Err fault) h = absurd cc
-
-    go : (r : Result (Line × List ℕ) FormFault) → form_at line_form (b ∷ bytes) ≡ r
-        → line_meaning u.window u.base r ≡ Ok (x.0.field, x.1) → length x.1 < length (b ∷ bytes)
-    go (Ok l) q h =
-        let t = form_takes line_form (b ∷ bytes) l.0 l.1 q in
-        omega (
-          arith,
-          ap length (line l.1 (line_field u.window u.base l.0) h),
-          ap length t.parts,
-          spelled_length t.encoding l.1 l.0 t.spells,
-        )
-    go (Err fault) q h = absurd cc

@@ -63,7 +63,7 @@ literal_by_entry_at_0 base d f (Some a) h =
     (with_line d (Literal f.name f.value)) AtZero (λ _. h) (λ _. h)
 literal_by_entry_at_0 base d f None h = h
 
-pub literal_at_0 : (base : ℕ) (d : Draft) (f : Field) (o : Option ℕ) → AtZero d → AtZero (literal base d f o)
+literal_at_0 : (base : ℕ) (d : Draft) (f : Field) (o : Option ℕ) → AtZero d → AtZero (literal base d f o)
 literal_at_0 base d f (Some i) h = h
 literal_at_0 base d f None h =
     literal_by_entry_at_0 base d f (newest_index d.table (has_name f.name)) h
@@ -81,7 +81,7 @@ by_entry_at_0 base d f (Some a) h =
     (insertion_or_literal base d f) AtZero (λ _. h) (λ _. insertion_at_0 base d f h)
 by_entry_at_0 base d f None h = insertion_at_0 base d f h
 
-pub by_static_at_0 : (base : ℕ) (d : Draft) (f : Field) (o : Option ℕ) → AtZero d → AtZero (by_static base d f o)
+by_static_at_0 : (base : ℕ) (d : Draft) (f : Field) (o : Option ℕ) → AtZero d → AtZero (by_static base d f o)
 by_static_at_0 base d f (Some i) h = h
 by_static_at_0 base d f None h = by_entry_at_0 base d f (newest_index d.table (is_field f)) h
 

@@ -30,6 +30,7 @@ use Rattle.qpack_spec.proofs.MarkedForms.{marked_lines_spelled, line_tells, line
 use Rattle.qpack_spec.proofs.BlockReadings.{prefix_spelled, prefix_again, written_read, spelled_length}
 use Rattle.qpack_spec.proofs.BlockReadings.{joined_written}
 use Rattle.qpack_spec.proofs.SectionLengths.{read_sections_short, lines_short, prefix_short}
+use Rattle.qpack_spec.proofs.Prefixes.{strict_same}
 use Rattle.qpack_spec.proofs.StrictReadings.{strict_none}
 use Rattle.qpack_spec.proofs.Sizes.{total_first}
 
@@ -184,7 +185,8 @@ marked_sections_read w limit required base b fs k prefix received strict means l
       prefix_again (written_prefix b.prefix) (written_marked_lines fs b.lines) b.prefix
           (prefix_spelled b.prefix k.prefix),
       count_free (maximum_capacity w.agreed_max w.capacity) b.prefix.count strict.no_count,
-      prefix,
+      strict_same (window_insert_count w) (maximum_capacity w.agreed_max w.capacity) required base b.prefix prefix
+          strict.not_below,
       le-ltb (window_insert_count w) required received,
       lines_read (length (written_marked_lines fs b.lines)) u 0 0 b.lines fs k.lines literal strict.references means
           (omega (arith, low)) (omega arith),
@@ -212,7 +214,8 @@ marked_sections_blocked w later limit required base b fs k prefix missing no_cou
       prefix_again (written_prefix b.prefix) (written_marked_lines fs b.lines) b.prefix
           (prefix_spelled b.prefix k.prefix),
       count_free (maximum_capacity w.agreed_max w.capacity) b.prefix.count no_count,
-      prefix,
+      strict_same (window_insert_count w) (maximum_capacity w.agreed_max w.capacity) required base b.prefix prefix
+          (λ none. absurd (omega (arith, none, missing))),
       lt-ltb (window_insert_count w) required missing,
     ) refl
 

@@ -161,7 +161,7 @@ static_written : (base : ℕ) (d : Draft) (f : Field) → base ≤ 2 ^ 62 → Wr
 static_written base d f b k w None e = equal_written base d f b k w (newest_index d.table (is_field f))
 static_written base d f b k w (Some i) e = writes_written d (IndexedStatic i) k (static_small i f (static_found f i e))
 
-pub field_written : (base : ℕ) (d : Draft) (f : Field) → base ≤ 2 ^ 62 → WrittenDraft d → IsByteField f
+field_written : (base : ℕ) (d : Draft) (f : Field) → base ≤ 2 ^ 62 → WrittenDraft d → IsByteField f
     → WrittenDraft (rule_field base d f)
 unfolding rule_field
 field_written base d f b k w = static_written base d f b k w (static_index f) refl

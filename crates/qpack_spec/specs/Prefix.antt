@@ -61,15 +61,19 @@ read_base true required delta =
     if nat_lt delta required then Ok (required - delta - 1) else Err
     (BelowZero (negsuc (min (delta - required) (2 ^ 63 - 1))))
 
--- the base behind a required insert count that is known: where nothing is required nothing counts from it, and it is 0,
--- unless the sign bit puts it below 0 (section 4.5.1.2)
+-- the base of a prefix whose required insert count is known; where nothing is required nothing counts from it, and it is
+-- 0, whatever was read
 abbrev pub base_behind : Prefix → ℕ → Result ℕ PrefixFault
-base_behind p required = if nat_eq required 0 && not p.sign then Ok 0 else read_base p.sign required p.delta
+base_behind p required = if nat_eq required 0 then Ok 0 else read_base p.sign required p.delta
+
+-- the same to a strict decoder, which refuses a base below 0 also where nothing is required (section 4.5.1.2)
+abbrev pub strict_base : Prefix → ℕ → Result ℕ PrefixFault
+strict_base p required = if nat_eq required 0 && not p.sign then Ok 0 else read_base p.sign required p.delta
 
 -- the required insert count with its base
-abbrev pub with_base : Prefix → Result ℕ PrefixFault → Result (ℕ × ℕ) PrefixFault
-with_base p (Err e) = Err e
-with_base p (Ok required) = and_base required (base_behind p required)
+abbrev pub with_base : (ℕ → Result ℕ PrefixFault) → Result ℕ PrefixFault → Result (ℕ × ℕ) PrefixFault
+with_base base_of (Err e) = Err e
+with_base base_of (Ok required) = and_base required (base_of required)
   where
     and_base : ℕ → Result ℕ PrefixFault → Result (ℕ × ℕ) PrefixFault
     and_base required (Err e) = Err e
@@ -77,7 +81,12 @@ with_base p (Ok required) = and_base required (base_behind p required)
 
 -- the required insert count and the base of a prefix where this many insertions were received
 unfoldable pub read_prefix : ℕ → ℕ → Prefix → Result (ℕ × ℕ) PrefixFault
-read_prefix total maximum p = with_base p (read_required total maximum p.count)
+read_prefix total maximum p = with_base (λ required. base_behind p required) (read_required total maximum p.count)
+
+-- the same to a strict decoder (section 4.5.1.2)
+unfoldable pub read_strict_prefix : ℕ → ℕ → Prefix → Result (ℕ × ℕ) PrefixFault
+read_strict_prefix total maximum p =
+    with_base (λ required. strict_base p required) (read_required total maximum p.count)
 
 -- ---- bytes
 

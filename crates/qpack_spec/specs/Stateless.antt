@@ -9,9 +9,9 @@ use Rattle.qpack_spec.specs.StaticTable.{static_index, static_name_index}
 use Rattle.qpack_spec.specs.Form.{FormFault, form_at}
 use Rattle.qpack_spec.specs.Line.{Line, IndexedStatic, NamedStatic}
 use Rattle.qpack_spec.specs.Line.{Literal, line_form}
-use Rattle.qpack_spec.specs.Prefix.{base_behind, prefix_at}
+use Rattle.qpack_spec.specs.Prefix.{prefix_at}
 use Rattle.qpack_spec.specs.Reading.{Fault, BadForm, static_field, field_with_value, Block}
-use Rattle.qpack_spec.specs.BlockReading.{or_bad_prefix, written_block}
+use Rattle.qpack_spec.specs.BlockReading.{written_block}
 use Rattle.qpack_spec.specs.Table.{empty_table}
 use Rattle.qpack_spec.specs.Rule.{rule, block_of}
 use Rattle.qpack_spec.specs.WrittenLaws.{IsWritableField}
@@ -79,12 +79,9 @@ stateless_at (suc steps) limit sum (b ∷ bytes) =
     else (or_bad_bytes (form_at line_form (b ∷ bytes)) >>= λ r. stateless_field r.0 >>= λ f. within_limit limit sum f
     >>= λ g. stateless_at steps limit (sum + field_size g) r.1 >>= λ fs. Ok (g ∷ fs))
 
--- what the bytes of a section mean alone, with a limit on the sum of sizes; whatever count the prefix says, nothing is
--- required, and a base below 0 is refused
+-- what the bytes of a section mean alone, with a limit on the sum of sizes; the prefix is read, whatever it says
 unfoldable pub stateless_reading : ℕ → List ℕ → Result (List Field) StatelessFault
-stateless_reading limit bytes =
-    or_bad_bytes (prefix_at bytes) >>= λ p. or_bad_section (or_bad_prefix (base_behind p.0 0))
-    >>= λ base. stateless_at (length p.1) limit 0 p.1
+stateless_reading limit bytes = or_bad_bytes (prefix_at bytes) >>= λ p. stateless_at (length p.1) limit 0 p.1
 
 -- ---- what is promised
 

@@ -4,10 +4,10 @@ use Rattle.std.specs.Prelude.{◌≡◌, ℕ, ◌+◌, ◌<◌, ◌≤◌, ◌�
 use Rattle.qpack_spec.specs.Field.{Field, field_size, total_size}
 use Rattle.qpack_spec.specs.Form.{FormFault, form_at}
 use Rattle.qpack_spec.specs.Line.{Line, line_form, SpellsLine}
-use Rattle.qpack_spec.specs.Prefix.{Prefix, PrefixFault, SpellsPrefix, base_behind, prefix_at}
+use Rattle.qpack_spec.specs.Prefix.{Prefix, SpellsPrefix, prefix_at}
 use Rattle.qpack_spec.specs.Stream.{SpellsAll}
 use Rattle.qpack_spec.specs.Window.{Window, maximum_capacity}
-use Rattle.qpack_spec.specs.Reading.{Fault, BadForm, BadPrefix, BelowWindow, BehindBase}
+use Rattle.qpack_spec.specs.Reading.{Fault, BadForm, BelowWindow, BehindBase}
 use Rattle.qpack_spec.specs.Reading.{Reading, Fields, Missing, Faulty}
 use Rattle.qpack_spec.specs.BlockReading.{reading_of_bytes}
 use Rattle.qpack_spec.specs.Stateless.{StatelessFault, BadSection, NamesEntry, TooLong, saturated_size, stateless_field}
@@ -17,15 +17,13 @@ use Rattle.qpack_spec.specs.Stateless.{stateless_reading, up_to_limit}
 abbrev pub SpellsStatelessField : List ℕ → Field → Type 0
 SpellsStatelessField encoding f = (l : Line) × SpellsLine encoding l × (stateless_field l ≡ Ok f)
 
--- the bytes are a prefix, whatever count it says, whose base is not below 0, and lines that mean the fields, whose
--- sizes sum to at most the limit
+-- the bytes are a prefix, whatever it says, and lines that mean the fields, whose sizes sum to at most the limit
 pub record MeansStateless (limit : ℕ) (bytes : List ℕ) (fields : List Field) : Type 0 where
   pub head : List ℕ
   pub lines : List ℕ
   pub cut : bytes ≡ head ++ lines
   pub prefix : Prefix
   pub spells : SpellsPrefix head prefix
-  pub not_below : prefix.sign ≡ false
   pub joined : SpellsAll SpellsStatelessField lines fields
   pub within : saturated_size (total_size fields) ≤ limit
 
@@ -52,15 +50,12 @@ pub record StopsBehind (limit sum : ℕ) (lines : List ℕ) (e : StatelessFault)
   pub within : saturated_size (sum + total_size so_far) ≤ limit
   pub stops : StopsLine limit (sum + total_size so_far) first more e
 
--- why a section means nothing: its prefix can't be read, or has a base below 0, or a line stops it
+-- why a section means nothing: its prefix can't be read, or a line stops it
 pub data StopsStateless (limit : ℕ) (bytes : List ℕ) (e : StatelessFault) : Type 0 where
   in_prefix : (fault : FormFault) → prefix_at bytes ≡ Err fault → e ≡ BadSection (BadForm fault)
       → StopsStateless limit bytes e
-  in_base : (head lines : List ℕ) (prefix : Prefix) (fault : PrefixFault) → bytes ≡ head ++ lines
-      → SpellsPrefix head prefix → base_behind prefix 0 ≡ Err fault → e ≡ BadSection (BadPrefix fault)
-      → StopsStateless limit bytes e
   in_lines : (head lines : List ℕ) (prefix : Prefix) → bytes ≡ head ++ lines → SpellsPrefix head prefix
-      → prefix.sign ≡ false → StopsBehind limit 0 lines e → StopsStateless limit bytes e
+      → StopsBehind limit 0 lines e → StopsStateless limit bytes e
 
 -- what a section gives: its fields, or the first fault
 abbrev pub GivesStateless : ℕ → List ℕ → Result (List Field) StatelessFault → Type 0
@@ -102,7 +97,7 @@ AgreesWithoutTable bytes (Err NamesEntry) r = (e : Fault) × (r ≡ Faulty e) ×
 AgreesWithoutTable bytes (Err (TooLong sum)) r = (required : ℕ) → r ≡ Missing required → ⊥
 
 -- reading alone is reading under an empty table of capacity 0, up to the limit; and where that reads fields, they are
--- read alone, up to the limit. Neither refuses a prefix for the count that it says
+-- read alone, up to the limit. Neither refuses a prefix for what it says
 abbrev pub StatelessIsWithoutTable : Type 0
 StatelessIsWithoutTable =
     (agreed_max : Option ℕ) → maximum_capacity agreed_max 0 ≡ 0 → (limit : ℕ) (bytes : List ℕ)

@@ -1,14 +1,17 @@
 -- What a field section means to a strict decoder with a limit on its fields' sizes, each field with whether it is to
 -- stay a literal (RFC 9204, sections 2.2.1, 2.2.3, 4.5 and 7.1.3). It is the reading of the section, refused in some
--- cases more: a section longer than any within the limit, unread; a count where no entry can ever stand; a line that
--- references an entry past the required insert count; and a field at which the sizes pass the limit.
-use Rattle.std.specs.Prelude.{◌≡◌, ℕ, zero, suc, ◌+◌, ◌-◌, ◌/◌, ◌%◌, ◌≤◌, Bool, false, if◌then◌else◌, ◌&&◌, nat_lt}
-use Rattle.std.specs.Prelude.{nat_le, nat_eq, List, [], ◌∷◌, length, map, Result, Ok, Err}
+-- cases more: a section longer than any within the limit, unread; a count where no entry can ever stand; a base below 0
+-- where nothing is required; a line that references an entry past the required insert count; and a field at which the
+-- sizes pass the limit.
+use Rattle.std.specs.Prelude.{◌≡◌, ℕ, zero, suc, ◌+◌, ◌-◌, ◌/◌, ◌%◌, ◌^◌, ◌≤◌, ◌⊎◌, Bool, true, false}
+use Rattle.std.specs.Prelude.{if◌then◌else◌, ◌&&◌, nat_lt, nat_le, nat_eq, min, negsuc, List, [], ◌∷◌, length, map}
+use Rattle.std.specs.Prelude.{Result, Ok, Err}
 use Rattle.qpack_spec.specs.Bytes.{◌>>=◌}
 use Rattle.qpack_spec.specs.Field.{Field, FieldLine, fields_of_lines, field_size, total_size}
 use Rattle.qpack_spec.specs.Form.{FormFault, form_at}
 use Rattle.qpack_spec.specs.Line.{Line, line_form}
-use Rattle.qpack_spec.specs.Prefix.{Prefix, PrefixFault, read_prefix, prefix_at}
+use Rattle.qpack_spec.specs.Prefix.{Prefix, PrefixFault, BelowZero, read_required, read_prefix, read_strict_prefix}
+use Rattle.qpack_spec.specs.Prefix.{prefix_at}
 use Rattle.qpack_spec.specs.Window.{Window, maximum_capacity, window_insert_count}
 use Rattle.qpack_spec.specs.Reading.{Fault, BadForm, BadPrefix, line_field, references_of_line, greatest_of}
 use Rattle.qpack_spec.specs.Reading.{Reading, Fields, Missing, Faulty, Block, fields_of}
@@ -117,7 +120,7 @@ strict_section_behind w limit section (Err e) = Refused (InPrefix (BadForm e))
 strict_section_behind w limit section (Ok p) =
     let maximum = maximum_capacity w.agreed_max w.capacity in
     if nat_eq maximum 0 && nat_lt 0 p.0.count then Refused CountAtZero
-    else strict_behind w limit section p.1 (read_prefix (window_insert_count w) maximum p.0)
+    else strict_behind w limit section p.1 (read_strict_prefix (window_insert_count w) maximum p.0)
 
 -- what the bytes of a field section mean to a strict decoder under a window, with this limit
 unfoldable pub strict_reading : Window → ℕ → List ℕ → StrictReading
@@ -136,10 +139,35 @@ SaysReading r (Refused (InPrefix fault)) = r ≡ Faulty fault
 SaysReading r (Refused (InLine number offset (Meaningless fault))) = r ≡ Faulty fault
 SaysReading r (Refused fault) = Unit {0}
 
--- a strict decoder answers what the section means, or refuses it
+-- a prefix that requires nothing and has the sign bit: its base is below 0 (section 4.5.1.2)
+abbrev pub IsBelowZero : ℕ → ℕ → Prefix → Type 0
+IsBelowZero total maximum p = (read_required total maximum p.count ≡ Ok 0) × (p.sign ≡ true)
+
+-- the two readings of a prefix agree, except where it requires nothing and has the sign bit: there a strict decoder
+-- refuses the base, held at the least number of 64 bits, and the other reading is 0 and 0
+abbrev pub StrictPrefixesAgree : Type 0
+StrictPrefixesAgree =
+    (total maximum : ℕ) (p : Prefix)
+    → ((IsBelowZero total maximum p → ⊥) → read_strict_prefix total maximum p ≡ read_prefix total maximum p)
+    × (IsBelowZero total maximum p
+    → (read_strict_prefix total maximum p ≡ Err (BelowZero (negsuc (min p.delta (2 ^ 63 - 1)))))
+    × (read_prefix total maximum p ≡ Ok (0, 0)))
+
+-- a section with such a prefix: a strict decoder refuses its base
+pub record RefusesBelowZero (w : Window) (bytes : List ℕ) (r : StrictReading) : Type 0 where
+  pub prefix : Prefix
+  pub rest : List ℕ
+  pub begins : prefix_at bytes ≡ Ok (prefix, rest)
+  pub below : IsBelowZero (window_insert_count w) (maximum_capacity w.agreed_max w.capacity) prefix
+  pub refused : r ≡ Refused (InPrefix (BadPrefix (BelowZero (negsuc (min prefix.delta (2 ^ 63 - 1))))))
+
+-- a strict decoder answers what the section means, or refuses it; it refuses a base below 0 also where nothing is
+-- required
 abbrev pub StrictReadingsAreReadings : Type 0
 StrictReadingsAreReadings =
-    (w : Window) (limit : ℕ) (bytes : List ℕ) → SaysReading (reading_of_bytes w bytes) (strict_reading w limit bytes)
+    (w : Window) (limit : ℕ) (bytes : List ℕ)
+    → SaysReading (reading_of_bytes w bytes) (strict_reading w limit bytes)
+    ⊎ RefusesBelowZero w bytes (strict_reading w limit bytes)
 
 -- and what it answers is within the limit
 abbrev pub StrictReadingsAreWithin : Type 0

@@ -5,7 +5,7 @@ ghost use Rattle.qpack_spec.specs.LengthLaws.{ReadSectionsAreShort, StatelessSec
 ghost use Rattle.qpack_spec.specs.BlockLaws.{ReadingLinesFindsFields};
 ghost use Rattle.qpack_spec.specs.MarkedLaws.{MarkedLinesAreSpellings, MarkedSectionsAreRead, MarkedSectionsAreBlocked};
 ghost use Rattle.qpack_spec.specs.StrictReading.{StrictReadingsAreReadings, StrictReadingsAreWithin};
-ghost use Rattle.qpack_spec.specs.StrictReading.{StrictSectionsAreRead};
+ghost use Rattle.qpack_spec.specs.StrictReading.{StrictPrefixesAgree, StrictSectionsAreRead};
 ghost use Rattle.qpack_spec.specs.WrittenLaws.{WrittenPrefixesAreSpellings, WrittenBlocksAreRead};
 
 /// An encoded count stands for one required insert count at most, and that is the one that is computed.
@@ -37,10 +37,12 @@ pub fn sections_are_short()
     ensures alone { StatelessSectionsAreShort }
 {}
 
-/// A strict decoder answers what a section means, or refuses it; and what it answers is within its limit.
+/// A strict decoder answers what a section means, or refuses it; and what it answers is within its limit. It reads a
+/// prefix as any reader does, except one that requires nothing and has the sign bit, whose base it refuses.
 pub fn strict_readings_are_readings()
     ensures read { StrictReadingsAreReadings }
     ensures within { StrictReadingsAreWithin }
+    ensures prefixes { StrictPrefixesAgree }
 {}
 
 /// And it reads every section that is written so, keeps to its required insert count, and is within the limit, with the

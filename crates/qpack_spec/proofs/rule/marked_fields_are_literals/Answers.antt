@@ -1,5 +1,5 @@
 use Rattle.qpack_spec.proofs.Marked.{handle_is_marked_rule, is_rule_unmarked, marked_lines_are_of_fields}
-use Rattle.qpack_spec.proofs.MarkedDrafts.{marked_are_literals}
+use Rattle.qpack_spec.proofs.MarkedChosen.{marked_are_literals}
 use Rattle.qpack_spec.proofs.rule.marked_fields_are_literals.Goals as goal
 
 pub returns-clause-literals : goal.returns-clause-literals
