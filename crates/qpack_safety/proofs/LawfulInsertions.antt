@@ -11,7 +11,7 @@ use Rattle.qpack_spec.specs.StrictInstructions.{inserts}
 use Rattle.qpack_spec.specs.Window.{Window, TableRefusal, DoesNotFit, AboveMaximum, NoEntry, NoStaticField, Effect, Inserts}
 use Rattle.qpack_spec.specs.Window.{Ignored, Resizes, or_refusal, with_value, insertion, effect, window_after, apply}
 use Rattle.qpack_spec.specs.Window.{relative_entry, greatest_capacity, window_insert_count}
-use Rattle.qpack_spec.proofs.MarkedInsertions.{InsertsAt}
+use Rattle.qpack_spec.proofs.Insertions.{InsertsAt}
 use Rattle.qpack_spec.proofs.Results.{bind_ok, chosen, ok_is}
 
 -- the capacity behind an instruction

@@ -8,7 +8,7 @@ use Rattle.qpack_spec.specs.Field.{Field, FieldLine, field_size}
 use Rattle.qpack_spec.specs.Form.{FormFault, form_at}
 use Rattle.qpack_spec.specs.LengthLaws.{longest_section}
 use Rattle.qpack_spec.specs.Line.{line_form}
-use Rattle.qpack_spec.specs.Prefix.{Prefix, PrefixFault, read_prefix, prefix_at}
+use Rattle.qpack_spec.specs.Prefix.{Prefix, PrefixFault, read_strict_prefix, prefix_at}
 use Rattle.qpack_spec.specs.Stateless.{saturated_size}
 use Rattle.qpack_spec.specs.StrictReading.{LineFault, TooLarge, SectionFault, TooLong, InLine, CountAtZero, StrictReading}
 use Rattle.qpack_spec.specs.StrictReading.{Read, Blocked, Refused, LinesUnder, or_meaningless, or_in_line, within_size}
@@ -144,7 +144,7 @@ section_limited w l big section (Ok p) a is h =
     both (nat_eq (maximum_capacity w.agreed_max w.capacity) 0 && nat_lt 0 p.0.count) h
   where
     prefix : Result (ℕ × ℕ) PrefixFault
-    prefix = read_prefix (window_insert_count w) (maximum_capacity w.agreed_max w.capacity) p.0
+    prefix = read_strict_prefix (window_insert_count w) (maximum_capacity w.agreed_max w.capacity) p.0
 
     both : (b : Bool) → cond b (Refused CountAtZero) (strict_behind w big section p.1 prefix) ≡ a
         → Limited (cond b (Refused CountAtZero) (strict_behind w l section p.1 prefix)) a

@@ -4,7 +4,7 @@ use Rattle.std.proofs.Common.{None, Some, Result, Ok, refl, sym, ap, ◌∙◌, 
 use Rattle.std.proofs.Common.{length-append}
 use Rattle.std.specs.List.{slice_get}
 use Rattle.std.specs.Prelude.{nat_lt, nat_eq}
-use Rattle.std.proofs.lemmas.Bool.{cases_lt, ne_eqb}
+use Rattle.std.proofs.lemmas.Bool.{cases_lt, ne_eqb, eq-eqb}
 use Rattle.std.proofs.lemmas.List.{append_assoc, append_cancel_left}
 use Rattle.qpack_spec.specs.Field.{Field}
 use Rattle.qpack_spec.specs.Form.{Truncates}
@@ -27,12 +27,12 @@ use Rattle.qpack_spec.specs.WrittenLaws.{IsByteField}
 use Rattle.qpack_spec.proofs.Positions.{every_take}
 use Rattle.qpack_spec.proofs.BlockReadings.{written_read, written_means}
 use Rattle.qpack_spec.proofs.PutTables.{window_put, count_put}
-use Rattle.qpack_spec.specs.Prefix.{Prefix, prefix_for, base_behind, read_base}
+use Rattle.qpack_spec.specs.Prefix.{Prefix, base_behind, read_base}
 use Rattle.qpack_spec.proofs.Lists.{every_get}
 use Rattle.qpack_spec.proofs.Windows.{Agreed, agreed_start, leads_agreed, leads_append, leads_unique}
 use Rattle.qpack_spec.proofs.Readings.{fields_plain}
 use Rattle.qpack_spec.proofs.Positions.{numbers_none}
-use Rattle.qpack_spec.proofs.Prefixes.{base_written, base_plain, written_not_below}
+use Rattle.qpack_spec.proofs.Prefixes.{base_written}
 use Rattle.qpack_safety.specs.AbstractSafety.{DecodesExactly}
 use Rattle.qpack_safety.specs.SessionSafety.{Extends}
 use Rattle.qpack_safety.specs.Refines.{EndsAt, RefinesBlock, Refines}
@@ -259,12 +259,11 @@ base_known capacity maximum within made encoder_stream b ok = pick (cases_lt 0 (
         (ok.base, rw apart read, ok.means)
     pick (inr none) =
         let zero_count : required_count b ≡ 0 = omega arith in
+        let is : nat_eq (required_count b) 0 ≡ true = eq-eqb (required_count b) 0 zero_count in
         let plain : references_of ok.base b.block.lines ≡ [] =
         numbers_none (references_of ok.base b.block.lines) (ok.references ∙ ok.plain zero_count) in (
           0,
-          base_plain b.block.prefix (required_count b) zero_count
-              (ap (λ (p : Prefix). p.sign) (ok.written ∙ ap (λ (n : ℕ). prefix_for maximum n ok.base) zero_count)
-              ∙ written_not_below maximum ok.base),
+          rw is refl,
           sym (fields_plain (whole_window made) (whole_window made) ok.base 0 b.block.lines plain)
               ∙ ok.means,
         )

@@ -15,7 +15,7 @@ use Rattle.qpack_spec.specs.Session.{stream_at, with_stream, increments}
 use Rattle.qpack_spec.specs.Table.{Table, UnacknowledgedBlock, commit, with_unacknowledged, without_references}
 use Rattle.qpack_spec.proofs.Drafts.{Drafting}
 use Rattle.qpack_spec.proofs.Lists.{every_append}
-use Rattle.qpack_spec.proofs.MarkedInsertions.{OnlyInserts}
+use Rattle.qpack_spec.proofs.Insertions.{OnlyInserts}
 use Rattle.qpack_safety.specs.AbstractSession.{AbstractBlock, is_dynamic, AbstractStream, AbstractSession, after_encode}
 use Rattle.qpack_safety.specs.AbstractSession.{after_abandon, after_alone}
 use Rattle.qpack_safety.proofs.Encoding.{same_committed, same_unnamed}
