@@ -13,6 +13,12 @@ fn got(bytes: &[u8], total: usize, capacity: usize) -> Result<(usize, usize), Pa
     prefix.get(total, capacity)
 }
 
+/// The same, read strictly.
+fn got_strictly(bytes: &[u8], total: usize, capacity: usize) -> Result<(usize, usize), ParseError> {
+    let prefix = HeaderPrefix::decode(&mut Cursor::new(bytes))?;
+    prefix.get_strict(total, capacity)
+}
+
 #[test]
 fn prefixes_are_written(rt: HostRuntime) -> Result<(), Fail> {
     let mut out = Vec::new(rt.alloc());
@@ -51,6 +57,7 @@ static ROWS: [(&[u8], (usize, usize), (usize, usize)); 7] = [
 fn prefixes_are_read(_rt: HostRuntime) -> Result<(), Fail> {
     for (bytes, (total, capacity), pair) in &ROWS {
         same(got(bytes, *total, *capacity), Ok(*pair))?;
+        same(got_strictly(bytes, *total, *capacity), Ok(*pair))?;
     }
     Ok(())
 }
@@ -78,14 +85,16 @@ fn prefixes_of_no_count_are_refused(_rt: HostRuntime) -> Result<(), Fail> {
     for (bytes, total, capacity) in &TOO_LARGE {
         let overflow = ParseError::Integer(prefix_int::Error::Overflow);
         same(got(bytes, *total, *capacity).err(), Some(overflow))?;
+        same(got_strictly(bytes, *total, *capacity).err(), Some(overflow))?;
     }
     Ok(())
 }
 
 #[test]
 fn prefixes_below_every_base_are_refused(_rt: HostRuntime) -> Result<(), Fail> {
-    let behind = Err(ParseError::InvalidBase(-1));
-    same(got(b"\x03\x82", 2, 4096), behind)?;
+    let below = Err(ParseError::InvalidBase(-1));
+    same(got(b"\x03\x82", 2, 4096), below)?;
+    same(got_strictly(b"\x03\x82", 2, 4096), below)?;
     let far = b"\x02\xff\xff\xff\xff\xff\xff\xff\xff\xff\x7f";
     let least = Err(ParseError::InvalidBase(isize::MIN));
     same(got(far, 1, 4096), least)?;
@@ -93,17 +102,34 @@ fn prefixes_below_every_base_are_refused(_rt: HostRuntime) -> Result<(), Fail> {
     same(got(b"\x02", 1, 4096), cut)
 }
 
+/// Prefixes that require nothing: where they have the sign bit a strict reader refuses this base.
+static NOTHING_REQUIRED: [(&[u8], usize, Result<(usize, usize), ParseError>); 8] = [
+    (b"\x00\x00", 4096, Ok((0, 0))),
+    (b"\x00\x05", 4096, Ok((0, 0))),
+    (b"\x00\x80", 4096, Err(ParseError::InvalidBase(-1))),
+    (b"\x00\x85", 4096, Err(ParseError::InvalidBase(-6))),
+    (b"\x00\x80", 0, Err(ParseError::InvalidBase(-1))),
+    (b"\x07\x7f\x05", 0, Ok((0, 0))),
+    (b"\x07\xff\x05", 0, Err(ParseError::InvalidBase(-133))),
+    (
+        b"\x00\xff\xff\xff\xff\xff\xff\xff\xff\xff\x7f",
+        4096,
+        Err(ParseError::InvalidBase(isize::MIN)),
+    ),
+];
+
 #[test]
-fn prefixes_of_no_count_are_below_every_base_with_the_sign(_rt: HostRuntime) -> Result<(), Fail> {
-    for (bytes, capacity, base) in &[
-        (b"\x00\x80".as_slice(), 4096, -1),
-        (b"\x00\x80".as_slice(), 0, -1),
-        (b"\x07\xff\x05".as_slice(), 0, -133),
-    ] {
-        same(
-            got(bytes, 9, *capacity),
-            Err(ParseError::InvalidBase(*base)),
-        )?;
+fn where_nothing_is_required_both_are_0_whatever_was_read(_rt: HostRuntime) -> Result<(), Fail> {
+    for (bytes, capacity, _) in &NOTHING_REQUIRED {
+        same(got(bytes, 9, *capacity), Ok((0, 0)))?;
+    }
+    Ok(())
+}
+
+#[test]
+fn a_strict_reader_refuses_the_sign_bit_there(_rt: HostRuntime) -> Result<(), Fail> {
+    for (bytes, capacity, answer) in &NOTHING_REQUIRED {
+        same(got_strictly(bytes, 9, *capacity), *answer)?;
     }
     Ok(())
 }

@@ -2,7 +2,7 @@
 
 ghost use Rattle.std.specs.Prelude.{◌≡◌, ◌+◌, ◌*◌, ◌^◌, ◌<◌, ◌≤◌, Err};
 ghost use Rattle.qpack_spec.specs.Prefix.{SpellsPrefix, prefix_for, required_at, read_required, read_base, read_prefix};
-ghost use Rattle.qpack_spec.specs.Prefix.{written_prefix};
+ghost use Rattle.qpack_spec.specs.Prefix.{read_strict_prefix, written_prefix};
 ghost use Rattle.qpack_base.specs.Writes.{Writes};
 ghost use Rattle.qpack_base.specs.declared.parse_error.ParseError.TheVariants.{Memory};
 ghost use Rattle.qpack_wire.specs.Answers.{Decodes, ReadsForm};
@@ -117,8 +117,8 @@ impl HeaderPrefix {
         self.encoded_insert_count
     }
 
-    /// The required insert count and the base that the prefix stands for, where the table has this
-    /// capacity and so many entries were inserted. A base below 0 is refused, also where nothing is required.
+    /// Returns the required insert count and the base that the prefix stands for, under a table of this capacity
+    /// with this many insertions. Where nothing is required both are 0, whatever else the prefix says.
     #[tactic(auto, unfolding(qpack_spec::specs::Prefix::read_prefix))]
     pub fn get(
         self,
@@ -126,6 +126,24 @@ impl HeaderPrefix {
         max_table_size: usize,
     ) -> Result<(usize, usize), ParseError>
         ensures { result ≡ or_prefix_error (read_prefix total_inserted max_table_size (prefix_of self)) }
+    {
+        let required = required_count(self.encoded_insert_count, total_inserted, max_table_size)?;
+        if required == 0 {
+            return Ok((0, 0));
+        }
+        let base = base_behind(self.sign_negative, required, self.delta_base)?;
+        Ok((required, base))
+    }
+
+    /// Returns the same, read strictly: a base below 0 is an error (`InvalidBase`) also where nothing is required
+    /// (RFC 9204, section 4.5.1.2).
+    #[tactic(auto, unfolding(qpack_spec::specs::Prefix::read_strict_prefix))]
+    pub fn get_strict(
+        self,
+        total_inserted: usize,
+        max_table_size: usize,
+    ) -> Result<(usize, usize), ParseError>
+        ensures { result ≡ or_prefix_error (read_strict_prefix total_inserted max_table_size (prefix_of self)) }
     {
         let required = required_count(self.encoded_insert_count, total_inserted, max_table_size)?;
         if required == 0 && !self.sign_negative {
