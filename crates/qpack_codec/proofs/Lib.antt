@@ -4,7 +4,6 @@ pub mod Meanings
 pub mod Asking
 pub mod ReadSections
 pub mod SectionAnswers
-pub mod LonePrefixes
 pub mod Taking
 pub mod Turns
 pub mod Instructions

@@ -23,7 +23,7 @@ inserted_is : (t : Table) → window_insert_count (window t) ≡ insert_count t
 unfolding window
 inserted_is t = ap (λ (n : ℕ). t.dropped + n) (length-map t.live (λ (e : Entry). e.field))
 
-pub prefix_ok : (read : Result (Prefix × List ℕ) FormFault) (r : Prefix × List ℕ) → or_unreadable read ≡ Ok r
+prefix_ok : (read : Result (Prefix × List ℕ) FormFault) (r : Prefix × List ℕ) → or_unreadable read ≡ Ok r
     → read ≡ Ok r
 prefix_ok (Ok x) r e = let s = ok_is x r e in ap (λ (y : Prefix × List ℕ). Ok y) s
 prefix_ok (Err x) r e = absurd cc

@@ -6,8 +6,7 @@ use Rattle.qpack_spec.specs.Field.{Field, total_size}
 use Rattle.qpack_spec.specs.Text.{EndsEarly, LengthOverflows, BadHuffman}
 use Rattle.qpack_spec.specs.Form.{BadInteger, BadString, form_at}
 use Rattle.qpack_spec.specs.Line.{line_form}
-use Rattle.qpack_spec.specs.Prefix.{BelowZero}
-use Rattle.qpack_spec.specs.Reading.{BadForm, BadPrefix, NotStatic}
+use Rattle.qpack_spec.specs.Reading.{BadForm, NotStatic}
 use Rattle.qpack_spec.specs.Stateless.{StatelessFault, BadSection, NamesEntry, TooLong, saturated_size, stateless_field}
 use Rattle.qpack_spec.specs.Stateless.{or_bad_bytes}
 use Rattle.qpack_spec.specs.StatelessMeaning.{MeansStateless, StopsStateless}
@@ -22,7 +21,7 @@ use Rattle.qpack_wire.specs.Answers.{ReadAs}
 use Rattle.qpack_codec.specs.declared.decoder.Decoded.{Decoded}
 use Rattle.qpack_codec.specs.declared.error.DecoderError.{DecoderError}
 use Rattle.qpack_codec.specs.declared.error.DecoderError.TheVariants.{MissingRefs, HeaderTooLong, InvalidInteger}
-use Rattle.qpack_codec.specs.declared.error.DecoderError.TheVariants.{BadBaseIndex, InvalidString, InvalidStaticIndex}
+use Rattle.qpack_codec.specs.declared.error.DecoderError.TheVariants.{InvalidString, InvalidStaticIndex}
 use Rattle.qpack_codec.specs.declared.error.DecoderError.TheVariants.{Memory}
 
 -- the fields that were decoded
@@ -38,7 +37,6 @@ fault_of (InvalidString string.UnexpectedEnd) = Some (BadSection (BadForm (BadSt
 fault_of (InvalidString (string.Integer integer.Overflow)) = Some (BadSection (BadForm (BadString LengthOverflows)))
 fault_of (InvalidString (string.HuffmanDecoding e)) =
     Some (BadSection (BadForm (BadString (BadHuffman (huffman_fault_of e)))))
-fault_of (BadBaseIndex base) = Some (BadSection (BadPrefix (BelowZero base)))
 fault_of (InvalidStaticIndex index) = Some (BadSection (NotStatic index))
 fault_of e = None
 

@@ -84,10 +84,10 @@ impl<I: EntryIndex> Decoder<I> {
     /// Decodes the field section that the cursor has left, to its end. It changes nothing but the cursor.
     ///
     /// Refused are, in this order: bytes that are no prefix, and a prefix that is out of range
-    /// (`InvalidInteger`); a base below 0 (`BadBaseIndex`); a required insert count above the insertions that were
-    /// received (`MissingRefs`, the section can be decoded later); then line by line its bytes (`InvalidInteger`,
-    /// `InvalidString`) and its index (`DynamicTable`, `InvalidStaticIndex`). On error the cursor's position is
-    /// unspecified.
+    /// (`InvalidInteger`); a base below 0 where the section requires insertions (`BadBaseIndex`); a required insert
+    /// count above the insertions that were received (`MissingRefs`, the section can be decoded later); then line by
+    /// line its bytes (`InvalidInteger`, `InvalidString`) and its index (`DynamicTable`, `InvalidStaticIndex`). On
+    /// error the cursor's position is unspecified.
     pub fn decode_header(&self, buf: &mut Cursor) -> Result<Decoded, DecoderError>
         // What is answered is what the section means under the table, or why it means nothing: the first fault in
         // reading order.

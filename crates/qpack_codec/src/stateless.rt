@@ -82,7 +82,7 @@ fn append_stateless<'a, A: Allocator, T: Iterator<Item = &'a HeaderField> + Drop
 }
 
 /// Decodes the block that the cursor has left without a dynamic table, up to a sum of sizes. The
-/// required insert count of its prefix is read, and means nothing here; a base below 0 is refused (`BadBaseIndex`).
+/// block's prefix is read, and means nothing here.
 pub fn decode_stateless(
     alloc: Global,
     buf: &mut Cursor,
@@ -112,8 +112,7 @@ fn read_stateless(alloc: Global, buf: &mut Cursor, max_size: u64) -> Result<Deco
     ensures finished { OnOk result (IsFinished buf.old buf.new) }
     ensures memory { result ≡ Err Memory → AsksSectionForMemory buf.old.rest }
 {
-    let prefix = HeaderPrefix::decode(buf)?;
-    prefix.get(0, 0)?;
+    let _prefix = HeaderPrefix::decode(buf)?;
     read_stateless_fields(alloc, buf, max_size)
 }
 
