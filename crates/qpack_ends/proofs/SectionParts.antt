@@ -5,7 +5,7 @@ use Rattle.std.proofs.lemmas.List.{length-map}
 use Rattle.std.specs.Prelude.{nat_lt, nat_eq, ◌&&◌}
 use Rattle.std.proofs.lemmas.Bool.{lt-ltb, le-ltb}
 use Rattle.qpack_spec.specs.Field.{FieldLine}
-use Rattle.qpack_spec.specs.Prefix.{Prefix, PrefixFault, OutOfRange, BelowZero, read_prefix}
+use Rattle.qpack_spec.specs.Prefix.{Prefix, PrefixFault, OutOfRange, BelowZero, read_strict_prefix}
 use Rattle.qpack_spec.specs.Reading.{BadPrefix}
 use Rattle.qpack_spec.specs.StrictReading.{SectionFault, InPrefix, CountAtZero}
 use Rattle.qpack_spec.specs.StrictReading.{Blocked, Refused, LinesUnder, strict_lines_at, lines_behind}
@@ -30,12 +30,12 @@ pub behind_count : (w : Window) (limit section : ℕ) (p : Prefix) (rest : List 
 behind_count w limit section p rest e = rw e refl
 
 pub behind_faulty : (w : Window) (limit section : ℕ) (p : Prefix) (rest : List ℕ) (x : PrefixFault)
-    → counts w p ≡ false → read_prefix (window_insert_count w) (maximum_of w) p ≡ Err x
+    → counts w p ≡ false → read_strict_prefix (window_insert_count w) (maximum_of w) p ≡ Err x
     → strict_section_behind w limit section (Ok (p, rest)) ≡ Refused (InPrefix (BadPrefix x))
 behind_faulty w limit section p rest x e q = rw (e, q) refl
 
 pub behind_blocked : (w : Window) (limit section : ℕ) (p : Prefix) (rest : List ℕ) (required base : ℕ)
-    → counts w p ≡ false → read_prefix (window_insert_count w) (maximum_of w) p ≡ Ok (required, base)
+    → counts w p ≡ false → read_strict_prefix (window_insert_count w) (maximum_of w) p ≡ Ok (required, base)
     → window_insert_count w < required
     → strict_section_behind w limit section (Ok (p, rest)) ≡ Blocked required
 behind_blocked w limit section p rest required base e q h =
@@ -47,7 +47,7 @@ behind_prefix w limit section required base =
     record { window = w; required = required; base = base; limit = limit; section = section }
 
 pub behind_lines : (w : Window) (limit section : ℕ) (p : Prefix) (rest : List ℕ) (required base : ℕ)
-    → counts w p ≡ false → read_prefix (window_insert_count w) (maximum_of w) p ≡ Ok (required, base)
+    → counts w p ≡ false → read_strict_prefix (window_insert_count w) (maximum_of w) p ≡ Ok (required, base)
     → required ≤ window_insert_count w
     → strict_section_behind w limit section (Ok (p, rest))
     ≡ lines_behind required
@@ -92,10 +92,10 @@ lines_fail e required (Ok x) h = absurd h
 
 -- a prefix that was read at these numbers, which are the window's
 pub prefix_known : (w : Window) (total maximum : ℕ) (p : Prefix) (r : Result (ℕ × ℕ) PrefixFault)
-    → total ≡ window_insert_count w → maximum ≡ maximum_of w → read_prefix total maximum p ≡ r
-    → read_prefix (window_insert_count w) (maximum_of w) p ≡ r
+    → total ≡ window_insert_count w → maximum ≡ maximum_of w → read_strict_prefix total maximum p ≡ r
+    → read_strict_prefix (window_insert_count w) (maximum_of w) p ≡ r
 prefix_known w total maximum p r t m q =
-    ap (λ n. read_prefix n (maximum_of w) p) (sym t) ∙ ap (λ n. read_prefix total n p) (sym m) ∙ q
+    ap (λ n. read_strict_prefix n (maximum_of w) p) (sym t) ∙ ap (λ n. read_strict_prefix total n p) (sym m) ∙ q
 
 -- the window's numbers are the table's
 pub count_is : (t : Table) → insert_count t ≡ window_insert_count (window t)

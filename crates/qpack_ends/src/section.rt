@@ -207,7 +207,7 @@ fn read_behind<I: EntryIndex>(
         return Err(SectionError::CountAtZero);
     }
     let inserted = table.total_inserted();
-    let (required, base) = prefix.get(inserted, maximum)?;
+    let (required, base) = prefix.get_strict(inserted, maximum)?;
     if required > inserted {
         return Ok(Reading::Blocked { required });
     }

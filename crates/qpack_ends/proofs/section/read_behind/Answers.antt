@@ -1,7 +1,7 @@
 use Rattle.std.proofs.Common.{◌≡◌, ℕ, ◌∙◌, sym, ap, true, false, Ok, Err, arith, refl}
 use Rattle.std.specs.Prelude.{nat_eq, nat_lt, ◌&&◌}
 use Rattle.std.proofs.lemmas.Result.{err_from_is_err_and}
-use Rattle.qpack_spec.specs.Prefix.{read_prefix}
+use Rattle.qpack_spec.specs.Prefix.{read_strict_prefix}
 use Rattle.qpack_spec.specs.StrictReading.{lines_behind}
 use Rattle.qpack_spec.specs.Table.{window}
 use Rattle.qpack_wire.specs.Prefixes.{prefix_of}
@@ -26,7 +26,7 @@ returns-in_err-required-clause-exact g c =
     let counted : counts w p ≡ false =
     ap (λ (m : ℕ). nat_eq m 0 && nat_lt 0 p.count) (sym (c.agreed_max-maximum.ensures.exact ∙ most_is c.args.table.now))
     ∙ sym c.counts_at_zero.ensures ∙ c.if-counts_at_zero.false in
-    let read = prefix_refused (read_prefix c.total_inserted-inserted.result c.agreed_max-maximum.result p)
+    let read = prefix_refused (read_strict_prefix c.total_inserted-inserted.result c.agreed_max-maximum.result p)
     c.in_err-required.field-0.0 (sym c.in_err-required.ensures) in
     let known = prefix_known w c.total_inserted-inserted.result c.agreed_max-maximum.result p (Err read.0)
     (c.total_inserted-inserted.ensures ∙ count_is c.args.table.now)
@@ -40,7 +40,7 @@ returns-then-required-inserted-clause-exact g c =
     let counted : counts w p ≡ false =
     ap (λ (m : ℕ). nat_eq m 0 && nat_lt 0 p.count) (sym (c.agreed_max-maximum.ensures.exact ∙ most_is c.args.table.now))
     ∙ sym c.counts_at_zero.ensures ∙ c.if-counts_at_zero.false in
-    let read = prefix_read (read_prefix c.total_inserted-inserted.result c.agreed_max-maximum.result p)
+    let read = prefix_read (read_strict_prefix c.total_inserted-inserted.result c.agreed_max-maximum.result p)
     c.in_ok-required.required c.in_ok-required.base (sym c.in_ok-required.ensures) in
     let known = prefix_known w c.total_inserted-inserted.result c.agreed_max-maximum.result p
     (Ok (c.in_ok-required.required, c.in_ok-required.base))
@@ -61,7 +61,7 @@ returns-in_err-read_lines-clause-exact g c =
     let counted : counts w p ≡ false =
     ap (λ (m : ℕ). nat_eq m 0 && nat_lt 0 p.count) (sym (c.agreed_max-maximum.ensures.exact ∙ most_is c.args.table.now))
     ∙ sym c.counts_at_zero.ensures ∙ c.if-counts_at_zero.false in
-    let read = prefix_read (read_prefix c.total_inserted-inserted.result c.agreed_max-maximum.result p)
+    let read = prefix_read (read_strict_prefix c.total_inserted-inserted.result c.agreed_max-maximum.result p)
     c.in_ok-required.required c.in_ok-required.base (sym c.in_ok-required.ensures) in
     let known = prefix_known w c.total_inserted-inserted.result c.agreed_max-maximum.result p
     (Ok (c.in_ok-required.required, c.in_ok-required.base))
@@ -82,7 +82,7 @@ returns-clause-exact g c =
     let counted : counts w p ≡ false =
     ap (λ (m : ℕ). nat_eq m 0 && nat_lt 0 p.count) (sym (c.agreed_max-maximum.ensures.exact ∙ most_is c.args.table.now))
     ∙ sym c.counts_at_zero.ensures ∙ c.if-counts_at_zero.false in
-    let read = prefix_read (read_prefix c.total_inserted-inserted.result c.agreed_max-maximum.result p)
+    let read = prefix_read (read_strict_prefix c.total_inserted-inserted.result c.agreed_max-maximum.result p)
     c.in_ok-required.required c.in_ok-required.base (sym c.in_ok-required.ensures) in
     let known = prefix_known w c.total_inserted-inserted.result c.agreed_max-maximum.result p
     (Ok (c.in_ok-required.required, c.in_ok-required.base))
