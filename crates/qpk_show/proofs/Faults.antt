@@ -4,7 +4,7 @@ use Rattle.std.proofs.Common.{inl, inr}
 use Rattle.std.specs.Prelude.{nat_eq, nat_lt, ◌&&◌}
 use Rattle.std.proofs.lemmas.Bool.{cases_lt, le-leb, lt-leb}
 use Rattle.qpack_spec.specs.Line.{Line}
-use Rattle.qpack_spec.specs.Prefix.{Prefix, PrefixFault, read_prefix}
+use Rattle.qpack_spec.specs.Prefix.{Prefix, PrefixFault, read_strict_prefix}
 use Rattle.qpack_spec.specs.Reading.{Fault, line_field}
 use Rattle.qpack_spec.specs.Table.{Table, insert_count}
 use Rattle.qpack_spec.specs.Window.{maximum_capacity}
@@ -64,7 +64,7 @@ fails_for (error.Fault e) fault read h is =
 -- a prefix that is out of range
 pub behind_bad : (t : Table) (section : ℕ) (p : Prefix) (rest : List ℕ) (f : PrefixFault)
     → (nat_eq (maximum_capacity t.agreed_max t.capacity) 0 && nat_lt 0 p.count) ≡ false
-    → read_prefix (insert_count t) (maximum_capacity t.agreed_max t.capacity) p ≡ Err f
+    → read_strict_prefix (insert_count t) (maximum_capacity t.agreed_max t.capacity) p ≡ Err f
     → shown_section_behind t section (Ok (p, rest)) ≡ Refused (BadPrefix f)
 behind_bad t section p rest f counted read = rw (counted, read) refl
 

@@ -5,7 +5,7 @@ use Rattle.std.specs.Prelude.{length, Option, None, Some, Result, Ok, Err}
 use Rattle.qpack_spec.specs.Bytes.{◌>>=◌}
 use Rattle.qpack_spec.specs.Field.{Field}
 use Rattle.qpack_spec.specs.Line.{Line}
-use Rattle.qpack_spec.specs.Prefix.{Prefix, PrefixFault, read_prefix}
+use Rattle.qpack_spec.specs.Prefix.{Prefix, PrefixFault, read_strict_prefix}
 use Rattle.qpack_spec.specs.Reading.{Fault, line_field, references_of_line, greatest_of}
 use Rattle.qpack_spec.specs.StrictReading.{is_never_indexed}
 use Rattle.qpack_spec.specs.Table.{Table, window, insert_count}
@@ -124,7 +124,7 @@ shown_section_behind t section (Err fault) = Refused (NoPrefix fault)
 shown_section_behind t section (Ok p) =
     let maximum = maximum_capacity t.agreed_max t.capacity in
     if nat_eq maximum 0 && nat_lt 0 p.0.count then Refused CountAtZero
-    else shown_behind t section p.1 (read_prefix (insert_count t) maximum p.0)
+    else shown_behind t section p.1 (read_strict_prefix (insert_count t) maximum p.0)
 
 -- what is shown of the bytes of a section under a table
 unfoldable pub shown_section : Table → List ℕ → Reading

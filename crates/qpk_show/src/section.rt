@@ -329,7 +329,7 @@ fn read_behind(
         return Ok(Reading::Refused(PrefixRefusal::CountAtZero));
     }
     let inserted = table.total_inserted();
-    let (required, base) = match prefix.get(inserted, most) {
+    let (required, base) = match prefix.get_strict(inserted, most) {
         Ok(known) => known,
         Err(e) => return Ok(Reading::Refused(PrefixRefusal::BadPrefix(e))),
     };

@@ -1,6 +1,6 @@
 use Rattle.std.proofs.Common.{◌≡◌, false, refl, rules}
 use Rattle.std.specs.Prelude.{nat_eq, nat_lt, ◌&&◌}
-use Rattle.qpack_spec.specs.Prefix.{read_prefix}
+use Rattle.qpack_spec.specs.Prefix.{read_strict_prefix}
 use Rattle.qpack_spec.specs.Table.{insert_count}
 use Rattle.qpack_spec.specs.Window.{maximum_capacity}
 use Rattle.qpack_wire.specs.Prefixes.{prefix_of}
@@ -22,7 +22,7 @@ returns-in-Err c =
     let most = c.agreed_max-most.ensures.exact in
     let counted-at = rw most at counted in
     let fails = rw (c.total_inserted-inserted.ensures, most) at c.in-Err.ensures in
-    let told = prefix_told (read_prefix (insert_count t) (maximum_capacity t.agreed_max t.capacity) p) c.in-Err.e fails
+    let told = prefix_told (read_strict_prefix (insert_count t) (maximum_capacity t.agreed_max t.capacity) p) c.in-Err.e fails
     in (
       BadPrefix told.0,
       (told.0, told.1, refl),
