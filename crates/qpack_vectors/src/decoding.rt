@@ -168,8 +168,13 @@ fn sections_are_refused_at_their_count(rt: HostRuntime) -> Result<(), Fail> {
         Step::Decodes(b"0200", "MissingRefs(1)"),
         Step::Decodes(b"0300", "InvalidInteger(Overflow)"),
     ];
+    const AT_0: &[Step] = &[
+        Step::Decodes(b"0300", "0 false"),
+        Step::Decodes(b"0382", "0 false"),
+        Step::Decodes(b"0080", "0 false"),
+    ];
     take_all(rt.alloc(), (32, 0), STEPS)?;
-    take_all(rt.alloc(), (0, 0), &[Step::Decodes(b"0300", "0 false")])
+    take_all(rt.alloc(), (0, 0), AT_0)
 }
 
 #[test]
@@ -188,7 +193,7 @@ fn sections_are_refused_at_their_base_or_an_index(rt: HostRuntime) -> Result<(),
     const STEPS: &[Step] = &[
         Step::Decodes(b"0280", "0 true"),
         Step::Decodes(b"0281", "BadBaseIndex(-1)"),
-        Step::Decodes(b"0080d1", "BadBaseIndex(-1)"),
+        Step::Decodes(b"0080d1", "\":method\": \"GET\", 42 false"),
         Step::Decodes(
             b"02ffffffffffffffffff7f",
             "BadBaseIndex(-9223372036854775808)",

@@ -53,7 +53,7 @@ fn lines_without_a_tab_are_refused(rt: HostRuntime) -> Result<(), Fail> {
     )
 }
 
-const DECODED: [Case; 5] = [
+const DECODED: [Case; 7] = [
     Case {
         words: "decode 42",
         input: "0000d1\n",
@@ -70,6 +70,18 @@ const DECODED: [Case; 5] = [
         words: "decode 0",
         input: "0500",
         output: "size 0\n",
+        fault: "",
+    },
+    Case {
+        words: "decode 42",
+        input: "0080d1",
+        output: ":method\tGET\nsize 42\n",
+        fault: "",
+    },
+    Case {
+        words: "decode 42",
+        input: "0382d1",
+        output: ":method\tGET\nsize 42\n",
         fault: "",
     },
     Case {
@@ -179,7 +191,7 @@ fn blocks_are_decoded_to_json(rt: HostRuntime) -> Result<(), Fail> {
     )
 }
 
-const BAD: [Case; 6] = [
+const BAD: [Case; 5] = [
     Case {
         words: "decode 9",
         input: "0000ff24",
@@ -191,12 +203,6 @@ const BAD: [Case; 6] = [
         input: "0000ffffffffffffffffffffff",
         output: "",
         fault: "qpk: refused: invalid integer: value overflow\n",
-    },
-    Case {
-        words: "decode 42",
-        input: "0080d1",
-        output: "",
-        fault: "qpk: refused: out of bounds base index: -1\n",
     },
     Case {
         words: "decode 9",

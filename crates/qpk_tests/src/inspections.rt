@@ -118,6 +118,32 @@ fn refusals_are_told_in_their_order(rt: HostRuntime) -> Result<(), Fail> {
     hold(&rt, rt.alloc(), &ORDERS)
 }
 
+// Where nothing is required, and at capacity 0, the prefix stands for 0 and 0, whatever it says: a count, a delta, the
+// sign bit.
+const NOTHING_REQUIRED: [Case; 2] = [
+    Case {
+        words: "inspect 4096",
+        input: "b\t0080d1\nb\t0005d1\nb\t00ff05\n",
+        output: "\
+            prefix 0 0\nindexed static 17\nfields 1 42\n\
+            prefix 0 0\nindexed static 17\nfields 1 42\nprefix 0 0\nfields 0 0\n",
+        fault: "",
+    },
+    Case {
+        words: "inspect 0",
+        input: "b\t0080\nb\t0382d1\nb\t0305\n",
+        output: "\
+            prefix 0 0\nfields 0 0\nprefix 0 0\nindexed static 17\nfields 1 42\n\
+            prefix 0 0\nfields 0 0\n",
+        fault: "",
+    },
+];
+
+#[test]
+fn where_nothing_is_required_a_prefix_may_say_anything(rt: HostRuntime) -> Result<(), Fail> {
+    hold(&rt, rt.alloc(), &NOTHING_REQUIRED)
+}
+
 // A bad line is told before a capacity that is refused; then nothing is printed.
 const FAULTS: [Case; 7] = [
     Case {

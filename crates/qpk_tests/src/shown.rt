@@ -5,7 +5,7 @@ use std::test::Fail;
 
 // An instruction that is cut into two lines is shown once it stands whole. A section is tried again by itself once its
 // insertion has come. Each refusal tells the input's line; a stream ends there, and a section is refused alone.
-const SHOWN: [Case; 9] = [
+const SHOWN: [Case; 11] = [
     Case {
         words: "show 4096 16",
         input: "e\t3fe11f6294e7\ne\t838c767f00\nb\t4\t03811011\nd\t84024c\n",
@@ -72,6 +72,24 @@ section 4: required insert count 0, base 0
   3 refused in line 3: dynamic table error: BadRelativeIndex(0)
 section 8: refused in line 4: invalid integer: unexpected end
 ",
+        fault: "",
+    },
+    // A base below 0 is refused, also where nothing is required.
+    Case {
+        words: "show 4096 1",
+        input: "b\t4\t0080d1\nb\t4\t0005d1\nb\t4\t0281\n",
+        output: "\
+section 4: refused in line 1: out of bounds base index: -1
+section 4: required insert count 0, base 0
+  2 static 17, :method: GET
+section 4: refused in line 3: out of bounds base index: -1
+",
+        fault: "",
+    },
+    Case {
+        words: "show 0 0",
+        input: "b\t4\t0082\n",
+        output: "section 4: refused in line 1: out of bounds base index: -3\n",
         fault: "",
     },
     // An entry past the required insert count is told, though it is there.

@@ -157,7 +157,6 @@ pub(crate) fn decode(capacity: usize, bytes: &[u8]) -> Result<bool, DecoderError
         return Err(DecoderError::InvalidInteger(prefix_int::Error::UnexpectedEnd));
     };
     if capacity == 0 || count == 0 {
-        check_base(0, is_below, delta)?;
         return Ok(true);
     }
     let required = count.saturating_sub(1);
