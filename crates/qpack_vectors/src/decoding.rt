@@ -423,6 +423,15 @@ fn what_the_table_refuses_is_consumed(rt: HostRuntime) -> Result<(), Fail> {
 }
 
 #[test]
+fn an_insertion_at_capacity_0_is_passed_over(rt: HostRuntime) -> Result<(), Fail> {
+    const STEPS: &[Step] = &[
+        Step::Receives(b"6294e7838c767f", Ok(0), 7, b""),
+        Step::HasCapacity(0),
+    ];
+    take_all(rt.alloc(), (0, 0), STEPS)
+}
+
+#[test]
 fn a_capacity_may_fall_to_0(rt: HostRuntime) -> Result<(), Fail> {
     const STEPS: &[Step] = &[
         Step::Receives(b"20", Ok(1), 1, b""),

@@ -2,13 +2,14 @@
 //! sections 3.2.3, 4.3.1 and 4.4).
 
 use crate::memory::{heap, room};
-use h3_qpack::coding::Cursor;
+use h3_qpack::coding::{Cursor, NoMemory};
 use h3_qpack::dynamic::{self, DynamicLookupResult, DynamicTable, DynamicTableEncoder};
 use h3_qpack::encoder::{Encoder, EncoderError, set_dynamic_table_size};
 use h3_qpack::{HeaderField, prefix_int};
 use linked_list_allocator::LocalHeap;
-use qpack_testing::{field, same};
+use qpack_testing::{again, field, same};
 use std::alloc::Global;
+use std::slice;
 use std::test::Fail;
 
 /// References an entry of a field, which is inserted if there is none.
@@ -133,6 +134,91 @@ fn an_acknowledgment_behind_a_cancellation_is_refused(rt: HostRuntime) -> Result
         Step::Hears(b"\x84", UNKNOWN, 1),
     ];
     take_all(rt.alloc(), ACKNOWLEDGED)
+}
+
+/// Encodes a field alone on stream 4, behind the blocks before: its required insert count.
+fn encode_alone(
+    encoder: &mut Encoder,
+    field: &HeaderField,
+    blocks: &mut Vec<u8>,
+    instructions: &mut Vec<u8>,
+) -> Result<usize, EncoderError> {
+    encoder.encode(4, blocks, instructions, slice::from_ref(field).iter())
+}
+
+/// An encoder of capacity 4096, whose three blocks on stream 4 wait for an acknowledgment, and these blocks.
+fn encoder_of_three_blocks(alloc: Global) -> Result<(Encoder, Vec<u8>), EncoderError> {
+    let mut table = DynamicTable::new(alloc);
+    table.set_max_size(4096)?;
+    table.set_max_blocked(3)?;
+    let mut encoder = Encoder::from(table);
+    let foo = field(alloc, b"foo", b"bar")?;
+    let mut blocks = Vec::new(alloc);
+    let mut instructions = Vec::new(alloc);
+    for _ in 0..3 {
+        encode_alone(&mut encoder, &foo, &mut blocks, &mut instructions)?;
+    }
+    Ok((encoder, blocks))
+}
+
+/// Such an encoder takes these steps so.
+fn three_blocks_take(alloc: Global, steps: &[Step]) -> Result<(), Fail> {
+    // Another encoder where memory was refused to the first.
+    let (mut encoder, blocks) = again(|| encoder_of_three_blocks(alloc))?;
+    same(blocks.as_slice(), b"\x02\x80\x10\x02\x00\x80\x02\x00\x80")?;
+    takes_each(&mut encoder, &mut Vec::new(alloc), steps)
+}
+
+#[test]
+fn a_cancellation_releases_every_block_of_its_stream(rt: HostRuntime) -> Result<(), Fail> {
+    const AT_ONCE: &[Step] = &[Step::Hears(b"\x44\x84\x84", UNKNOWN, 2)];
+    const IN_TURN: &[Step] = &[
+        Step::Hears(b"\x44", Ok(()), 1),
+        Step::Hears(b"\x84", UNKNOWN, 1),
+    ];
+    three_blocks_take(rt.alloc(), AT_ONCE)?;
+    three_blocks_take(rt.alloc(), IN_TURN)
+}
+
+/// The field `n: N`.
+fn numbered(alloc: Global, n: usize) -> Result<HeaderField, NoMemory> {
+    let digits = format!(in alloc; "{n}")?;
+    HeaderField::from_pair(alloc, b"n", digits.as_bytes())
+}
+
+/// An encoder of capacity 4096, none of whose blocks may be blocked, in whose table `n: 1` to `n: 66` were put.
+fn encoder_of_sixty_six(alloc: Global) -> Result<Encoder, dynamic::Error> {
+    let mut table = DynamicTable::new(alloc);
+    table.set_max_size(4096)?;
+    for n in 1..=66 {
+        table.put(numbered(alloc, n)?)?;
+    }
+    Ok(Encoder::from(table))
+}
+
+/// What such an encoder writes of `n: 65`, then behind an increment of 65 of it again and of `n: 66`: the required insert
+/// counts, and the blocks.
+fn write_around_an_increment(alloc: Global) -> Result<([usize; 3], Vec<u8>), EncoderError> {
+    let mut encoder = encoder_of_sixty_six(alloc)?;
+    let last = numbered(alloc, 65)?;
+    let unknown = numbered(alloc, 66)?;
+    let mut blocks = Vec::new(alloc);
+    let mut instructions = Vec::new(alloc);
+    let before = encode_alone(&mut encoder, &last, &mut blocks, &mut instructions)?;
+    encoder.on_decoder_recv(&mut Cursor::new(b"\x3f\x02"))?;
+    let behind = encode_alone(&mut encoder, &last, &mut blocks, &mut instructions)?;
+    let past = encode_alone(&mut encoder, &unknown, &mut blocks, &mut instructions)?;
+    Ok(([before, behind, past], blocks))
+}
+
+#[test]
+fn an_increment_of_65_makes_65_entries_known(rt: HostRuntime) -> Result<(), Fail> {
+    let (required, blocks) = again(|| write_around_an_increment(rt.alloc()))?;
+    same(required, [0, 65, 0])?;
+    same(
+        blocks.as_slice(),
+        b"\x00\x00\x29\xab\x82\x71\xbf\x42\x01\x81\x00\x00\x29\xab\x82\x71\xcf",
+    )
 }
 
 /// Overflow of an integer.

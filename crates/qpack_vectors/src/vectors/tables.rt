@@ -1,0 +1,83 @@
+//! Tables by their own calls (RFC 9204, sections 2.1.1 and 3.2).
+
+use h3_qpack::HeaderField;
+use h3_qpack::coding::NoMemory;
+use h3_qpack::dynamic::{DynamicInsertionResult, DynamicTable, Error, Steps};
+use qpack_testing::{again, field, same};
+use std::alloc::Global;
+use std::test::Fail;
+
+/// An insertion of `foo: bar` by a block on stream 4 that references it; or memory was refused.
+fn insert_foo(
+    table: &mut DynamicTable,
+    foo: &HeaderField,
+) -> Result<DynamicInsertionResult, Error> {
+    let mut block = table.encoder(4);
+    match block.insert(foo) {
+        Ok(answer) => {
+            block.commit(1)?;
+            Ok(answer)
+        }
+        Err(e) => {
+            block.release();
+            Err(e)
+        }
+    }
+}
+
+/// A table of capacity 4096, where one block may be blocked, with such a block; and what the insertion was answered.
+fn table_of_a_block(alloc: Global) -> Result<(DynamicTable, DynamicInsertionResult), Error> {
+    let mut table = DynamicTable::new(alloc);
+    table.set_max_size(4096)?;
+    table.set_max_blocked(1)?;
+    let foo = field(alloc, b"foo", b"bar")?;
+    let answer = insert_foo(&mut table, &foo)?;
+    Ok((table, answer))
+}
+
+#[test]
+fn an_entry_goes_once_it_is_released_and_received(rt: HostRuntime) -> Result<(), Fail> {
+    // Another table where memory was refused to the first.
+    let (mut table, answer) = again(|| table_of_a_block(rt.alloc()))?;
+    let inserted = DynamicInsertionResult::Inserted {
+        postbase: 0,
+        absolute: 1,
+    };
+    same(answer, inserted)?;
+    let held = Err(Error::MaxTableSizeReached);
+    same(table.set_max_size(37), held)?;
+    same(table.max_mem_size(), 4096)?;
+    same(table.untrack_block(4), Ok(()))?;
+    same(table.set_max_size(37), held)?;
+    table.update_largest_received(1);
+    same(table.set_max_size(37), Ok(()))?;
+    same(
+        table.get_relative(0).err(),
+        Some(Error::BadRelativeIndex(0)),
+    )
+}
+
+/// The field `n: N`.
+fn numbered(alloc: Global, n: usize) -> Result<HeaderField, NoMemory> {
+    let digits = format!(in alloc; "{n}")?;
+    HeaderField::from_pair(alloc, b"n", digits.as_bytes())
+}
+
+/// A table of capacity 4096 in which the fields `n: 1` to `n: 100` were put.
+fn table_of_a_hundred(alloc: Global) -> Result<DynamicTable, Error> {
+    let mut table = DynamicTable::new(alloc);
+    table.set_max_size(4096)?;
+    for n in 1..=100 {
+        table.put(numbered(alloc, n)?)?;
+    }
+    Ok(table)
+}
+
+#[test]
+fn a_field_of_a_hundred_is_found_in_eight_steps(rt: HostRuntime) -> Result<(), Fail> {
+    let table = again(|| table_of_a_hundred(rt.alloc()))?;
+    let sought = again(|| numbered(rt.alloc(), 57))?;
+    let mut steps = Steps::new();
+    same(table.newest_equal(&sought, &mut steps), Some(57))?;
+    same(steps.count() <= 8, true)
+}
