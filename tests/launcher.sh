@@ -8,6 +8,7 @@ failed=0
 tab=$(printf '\t')
 line='
 '
+usage="usage: qpk encode | qpk decode LIMIT | qpk run CAPACITY LIMIT | qpk inspect CAPACITY$line"
 
 # A copy of the sources, in which nothing is proved.
 mkdir "$room/unproved"
@@ -76,17 +77,17 @@ try_all() {
     try closed_input "1$line" "" "qpk: refused: input$line"
     try closed_output "1$line" "" "qpk: refused: output$line"
     try full_output "1$line" "" "qpk: refused: output$line"
-    try returned "0$line" - "qpk: line 1: the carriage return at its end belongs to the value$line"
-    try bad_number "1$line" "" -
-    try closed_faults "2$line" "" -
-    try full_faults "2$line" "" -
+    try returned "0$line" - ""
+    try bad_number "1$line" "" "$usage"
+    try closed_faults "1$line" "" -
+    try full_faults "1$line" "" -
     try needless_faults "0$line" ":method${tab}GET${line}size 42$line" -
     try run_script "0$line" "encoded 1 028010 6294e7838c767f${line}received 1 01${line}decoded 38 1${line}foo${tab}bar$line" ""
     try inspect "1$line" "insert literal 666f6f 626172$line" "qpk: refused: dynamic table error: BadRelativeIndex(1)$line"
     try show "0$line" "section 4: required insert count 0, base 0${line}  2 static 17, :method: GET$line" ""
     try show_recording "0$line" "section 4: required insert count 0, base 0${line}  2 static 17, :method: GET$line" ""
-    try words_with_blanks "1$line" "" -
-    try no_words "1$line" "" -
+    try words_with_blanks "1$line" "" "$usage"
+    try no_words "1$line" "" "$usage"
     try help "0$line" - ""
 }
 

@@ -1,7 +1,8 @@
 -- A refusal and the line that tells it.
-use Rattle.std.proofs.Common.{◌≡◌, ℕ, List, Option, Some, None, refl, sym, subst, inl, inr}
-use Rattle.std.specs.Prelude.{String, codes, IfSome, string_bytes}
-use Rattle.qpk.specs.Refusals.{MayWantMemory, TellsBy, refusal_line}
+use Rattle.std.proofs.Common.{◌≡◌, ℕ, List, Option, Some, None, Result, Ok, Err, refl, sym, subst, inl, inr}
+use Rattle.std.specs.Io.KnownBytes.{Appends}
+use Rattle.std.specs.Prelude.{String, codes, IfSome, OnOk, OnErr, string_bytes}
+use Rattle.qpk.specs.Refusals.{AppendsPart, AppendsFront, MayWantMemory, TellsBy, refusal_line}
 use Rattle.qpack_codec.specs.declared.error.DecoderError.{DecoderError}
 use Rattle.qpk.specs.Serving.{HasFault, EndsFor, EndsForCommand, Stops, IsInspection, input_of}
 use Rattle.qpk.specs.declared.command.Command.{Command}
@@ -12,6 +13,12 @@ use Rattle.qpk.specs.declared.text.Fault.{Fault}
 use Rattle.qpk.specs.declared.text.Fault.TheVariants.{Memory}
 use Rattle.qpk.specs.declared.refusal.Refusal.{Refusal}
 use Rattle.qpk.specs.declared.refusal.Refusal.TheVariants as refusal
+
+-- what was written of a line is all of it, or a part
+pub front_of : {A E : Type 0} (r : Result A E) (old new : Option (List ℕ)) (line : List ℕ)
+    → OnOk r (Appends old new line) → OnErr r (AppendsPart old new line) → AppendsFront old new line
+front_of (Ok x) old new line all part = inl all
+front_of (Err e) old new line all part = inr part
 
 pub told_as : (r : Refusal) (P : List ℕ → Type 0) (written : List ℕ) → written ≡ refusal_line r → P written
     → TellsBy r P
@@ -42,6 +49,7 @@ memory_may_be command (Some bytes) = memory_has command bytes
 words_memory : (r : Refusal) (fault : WordsFault) → MayWantMemory r → TellsWords r fault
     → TellsWords (refusal.Fault Memory) fault
 words_memory refusal.Usage fault may tells = absurd may
+words_memory refusal.OtherCount fault may tells = absurd may
 words_memory (refusal.BadWord wanted word) fault may tells = (refl, wanted, string_bytes word, tells)
 words_memory refusal.Input fault may tells = absurd may
 words_memory refusal.Output fault may tells = absurd may
@@ -51,6 +59,7 @@ words_memory (refusal.Fault f) fault may tells = (refl, tells.1, tells.2, tells.
 command_memory : (command : Command) (input old new : Option (List ℕ)) (r : Refusal) → MayWantMemory r
     → EndsForCommand command input old new r → EndsForCommand command input old new (refusal.Fault Memory)
 command_memory command input old new refusal.Usage may ends = absurd may
+command_memory command input old new refusal.OtherCount may ends = absurd may
 command_memory command input old new (refusal.BadWord wanted word) may ends = absurd ends
 command_memory command input old new refusal.Input may ends = absurd may
 command_memory command input old new refusal.Output may ends = absurd may

@@ -1,6 +1,13 @@
 -- Words of another count than is asked for.
 use Rattle.std.proofs.Common.{◌≡◌, ◌≢◌, ℕ, List, [], ◌∷◌, length, map, Ok, Err, refl}
-use Rattle.qpk.specs.Commands.{OtherCount, no_option, two_numbers, lists_of}
+use Rattle.qpk.specs.Commands.{OtherWords, OtherCount, no_option, only_numbers, two_numbers, lists_of}
+
+pub not_only_two : {A : Type 0} (f : A → List ℕ) (words : List A) → length words ≢ 2
+    → only_numbers (map f words) ≡ Err OtherWords
+not_only_two f [] other = refl
+not_only_two f (first ∷ []) other = refl
+not_only_two f (first ∷ second ∷ []) other = absurd (other refl)
+not_only_two f (first ∷ second ∷ third ∷ words) other = refl
 
 pub not_two : {A : Type 0} (f : A → List ℕ) (words : List A) → no_option (map f words) ≡ Ok tt → length words ≢ 2
     → two_numbers (map f words) ≡ Err OtherCount

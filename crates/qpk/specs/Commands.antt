@@ -13,10 +13,35 @@ use Rattle.qpk.specs.declared.refusal.Wanted.{Wanted}
 use Rattle.qpk.specs.declared.refusal.Wanted.TheVariants as wanted
 use Rattle.qpk.specs.declared.text.Fault.TheVariants.{Memory}
 
--- why words ask for nothing: there are too few or too many, or a word is not what should stand at its place
+-- why words ask for nothing: they are none of the usage's; or they begin with an addition to it, and then they are too
+-- few or too many, or one is not what should stand at its place
 pub data WordsFault : Type 0 where
+  OtherWords : WordsFault
   OtherCount : WordsFault
   BadWord : (wanted : Wanted) (word : List ℕ) → WordsFault
+
+-- ---- words of the usage
+
+-- a number that was read of a word, if it says one
+abbrev pub or_other_words : Option ℕ → Result ℕ WordsFault
+or_other_words None = Err OtherWords
+or_other_words (Some n) = Ok n
+
+-- one number
+abbrev pub only_number : List (List ℕ) → Result ℕ WordsFault
+only_number [] = Err OtherWords
+only_number (word ∷ []) = or_other_words (number_of word)
+only_number (word ∷ more ∷ words) = Err OtherWords
+
+-- two numbers
+abbrev pub only_numbers : List (List ℕ) → Result (ℕ × ℕ) WordsFault
+only_numbers [] = Err OtherWords
+only_numbers (first ∷ []) = Err OtherWords
+only_numbers (first ∷ second ∷ []) =
+    or_other_words (number_of first) >>= λ m. or_other_words (number_of second) >>= λ n. Ok (m, n)
+only_numbers (first ∷ second ∷ more ∷ words) = Err OtherWords
+
+-- ---- words of additions to it
 
 -- a word begins as an option does
 abbrev pub is_option : List ℕ → Bool
@@ -57,14 +82,10 @@ one_number words = no_option words >>= λ _. number_alone words
 abbrev pub two_numbers : List (List ℕ) → Result (ℕ × ℕ) WordsFault
 two_numbers words = no_option words >>= λ _. numbers_alone words
 
--- no word
-abbrev pub no_word : Command → List (List ℕ) → Result Command WordsFault
-no_word c [] = Ok c
-no_word c (word ∷ words) = Err OtherCount
-
--- a command behind which no word stands
-abbrev pub alone : Command → List (List ℕ) → Result Command WordsFault
-alone c words = no_option words >>= λ _. no_word c words
+-- help alone
+abbrev pub help_alone : List (List ℕ) → Result Command WordsFault
+help_alone [] = Ok command.Help
+help_alone (word ∷ words) = Err OtherCount
 
 -- whether blocks are acknowledged, which a word says
 abbrev pub read_acknowledged : List ℕ → Result Bool WordsFault
@@ -91,7 +112,7 @@ lists_of words = no_option words >>= λ _. lists_alone words
 abbrev pub encode_of : List (List ℕ) → Result Command WordsFault
 encode_of [] = Ok command.Encode
 encode_of (word ∷ words) =
-    if bytes_eq word (codes "--qif") then lists_of words else alone command.Encode (word ∷ words)
+    if bytes_eq word (codes "--qif") then lists_of words else Err OtherWords
 
 -- what the words behind `decode --qif` ask for: two numbers
 abbrev pub records_of : List (List ℕ) → Result Command WordsFault
@@ -100,12 +121,12 @@ records_of words = two_numbers words >>= λ n.
 
 -- what the words behind `decode` ask for
 abbrev pub decode_of : List (List ℕ) → Result Command WordsFault
-decode_of [] = Err OtherCount
+decode_of [] = Err OtherWords
 decode_of (word ∷ words) =
     if bytes_eq word (codes "--hex") then (one_number words >>= λ limit. Ok (command.DecodeHex limit))
     else if bytes_eq word (codes "--json") then (one_number words >>= λ limit. Ok (command.DecodeJson limit))
     else if bytes_eq word (codes "--qif") then records_of words
-    else (one_number (word ∷ words) >>= λ limit. Ok (command.Decode limit))
+    else (only_number (word ∷ words) >>= λ limit. Ok (command.Decode limit))
 
 -- options with one more
 abbrev pub with_option : ShowOptions → List ℕ → Result ShowOptions WordsFault
@@ -125,22 +146,23 @@ show_of o (word ∷ words) =
 -- what the words behind a command's name ask for
 abbrev pub command_named : List ℕ → List (List ℕ) → Result Command WordsFault
 command_named name words =
-    if bytes_eq name (codes "--help") then alone command.Help words
+    if bytes_eq name (codes "--help") then help_alone words
     else if bytes_eq name (codes "encode") then encode_of words
     else if bytes_eq name (codes "decode") then decode_of words
-    else if bytes_eq name (codes "inspect") then (one_number words >>= λ n. Ok (command.Inspect n))
-    else if bytes_eq name (codes "run") then (two_numbers words >>= λ p. Ok (command.Run p.0 p.1))
+    else if bytes_eq name (codes "inspect") then (only_number words >>= λ n. Ok (command.Inspect n))
+    else if bytes_eq name (codes "run") then (only_numbers words >>= λ p. Ok (command.Run p.0 p.1))
     else if bytes_eq name (codes "show") then show_of (record { table = false; json = false; qif = false }) words
-    else Err (BadWord wanted.Command name)
+    else Err OtherWords
 
 -- what words ask for
 abbrev pub command_of : List (List ℕ) → Result Command WordsFault
-command_of [] = Err OtherCount
+command_of [] = Err OtherWords
 command_of (name ∷ words) = command_named name words
 
 -- a refusal tells why words ask for nothing, or that there is no memory to keep the word at fault
 abbrev pub TellsWords : Refusal → WordsFault → Type 0
-TellsWords refusal.Usage fault = fault ≡ OtherCount
+TellsWords refusal.Usage fault = fault ≡ OtherWords
+TellsWords refusal.OtherCount fault = fault ≡ OtherCount
 TellsWords (refusal.BadWord wanted word) fault = fault ≡ BadWord wanted (string_bytes word)
 TellsWords refusal.Input fault = ⊥
 TellsWords refusal.Output fault = ⊥

@@ -4,7 +4,7 @@ use Rattle.std.specs.Prelude.{if◌then◌else◌, ◌&&◌}
 use Rattle.std.specs.Option.{option_map}
 use Rattle.std.specs.Fmt.{decimal}
 use Rattle.qpk.specs.declared.command.Command.{Command}
-use Rattle.qpk.specs.declared.command.Command.TheVariants.{Encode, EncodeLists}
+use Rattle.qpk.specs.declared.command.Command.TheVariants.{EncodeLists}
 
 -- a line feed stands in front
 abbrev pub begins_with_feed : List ℕ → Bool
@@ -24,8 +24,7 @@ return_note input = option_map (λ n.
     codes "qpk: line " ++ decimal n ++ codes ": the carriage return at its end belongs to the value\n")
     (return_line 1 input)
 
--- what is said of the input that a command answers: of one that is encoded, and of no other
+-- what is said of the input that a command answers: of header lists in QIF, and of no other
 abbrev pub IsNoteOf : Command → List ℕ → Option (List ℕ) → Type 0
-IsNoteOf Encode input note = note ≡ return_note input
 IsNoteOf (EncodeLists settings) input note = note ≡ return_note input
 IsNoteOf command input note = note ≡ None

@@ -3,7 +3,7 @@ use Rattle.std.specs.Prelude.{◌≡◌, ℕ, ◌<◌, List, ◌++◌, codes, le
 use Rattle.std.specs.Fmt.{decimal}
 use Rattle.std.specs.Io.KnownBytes.{Appends}
 use Rattle.qpk.specs.ErrorWords.{decoder_words, recording_words}
-use Rattle.qpk.specs.Usage.{usage_text}
+use Rattle.qpk.specs.Usage.{help_text, usage_line}
 use Rattle.qpk.specs.declared.text.Fault.{Fault}
 use Rattle.qpk.specs.declared.text.Fault.TheVariants.{NoTab, BadEvent, NotHexadecimal, Refused, Capacity, Limit}
 use Rattle.qpk.specs.declared.text.Fault.TheVariants.{Memory, Recording}
@@ -29,19 +29,19 @@ fault_line fault = codes "qpk: " ++ fault_text fault ++ codes "\n"
 
 -- what a word is not
 abbrev pub wanted_words : Wanted → List ℕ
-wanted_words wanted.Command = codes "not a command"
 wanted_words wanted.Option = codes "not an option here"
 wanted_words wanted.Number = codes "not a whole number below 2^64"
 wanted_words wanted.Acknowledged = codes "neither 0 nor 1"
 
--- the line that tells a word at fault, and the usage
+-- the line that tells a word at fault, and all commands
 abbrev pub bad_word_line : Wanted → List ℕ → List ℕ
 bad_word_line wanted word =
-    codes "qpk: \"" ++ word ++ codes "\" is " ++ wanted_words wanted ++ codes "\n" ++ usage_text
+    codes "qpk: \"" ++ word ++ codes "\" is " ++ wanted_words wanted ++ codes "\n" ++ help_text
 
--- the line that tells a refusal; words that ask for nothing are told the usage
+-- the line that tells a refusal; of the words of an addition to the usage it tells all commands
 abbrev pub refusal_line : Refusal → List ℕ
-refusal_line refusal.Usage = usage_text
+refusal_line refusal.Usage = usage_line
+refusal_line refusal.OtherCount = help_text
 refusal_line (refusal.BadWord wanted word) = bad_word_line wanted (string_bytes word)
 refusal_line refusal.Input = codes "qpk: refused: input\n"
 refusal_line refusal.Output = codes "qpk: refused: output\n"
@@ -50,6 +50,7 @@ refusal_line (refusal.Fault fault) = fault_line fault
 -- its line may want memory: it tells a word, or a fault
 abbrev pub MayWantMemory : Refusal → Type 0
 MayWantMemory refusal.Usage = ⊥
+MayWantMemory refusal.OtherCount = ⊥
 MayWantMemory (refusal.BadWord wanted word) = Unit {0}
 MayWantMemory refusal.Input = ⊥
 MayWantMemory refusal.Output = ⊥
@@ -59,9 +60,9 @@ MayWantMemory (refusal.Fault fault) = Unit {0}
 abbrev pub AppendsPart : Option (List ℕ) → Option (List ℕ) → List ℕ → Type 0
 AppendsPart old new bytes = (n : ℕ) × (n < length bytes) × Appends old new (take n bytes)
 
--- a writer gained a line: at status 1 all of it, and at status 2 a part, where a write failed
-abbrev pub AppendsAtStatus : ℕ → Option (List ℕ) → Option (List ℕ) → List ℕ → Type 0
-AppendsAtStatus status old new line = ((status ≡ 1) × Appends old new line) ⊎ ((status ≡ 2) × AppendsPart old new line)
+-- a writer gained a line, or a part of it, where a write failed
+abbrev pub AppendsFront : Option (List ℕ) → Option (List ℕ) → List ℕ → Type 0
+AppendsFront old new line = Appends old new line ⊎ AppendsPart old new line
 
 -- a refusal is told as itself, or, where its line may want memory, as want of it
 abbrev pub TellsAs : Refusal → Refusal → Type 0

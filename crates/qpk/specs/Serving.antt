@@ -14,8 +14,8 @@ use Rattle.qpk.specs.declared.command.Command.TheVariants.{Help, Encode, Decode,
 use Rattle.qpk.specs.declared.command.Command.TheVariants.{DecodeJson, EncodeLists, DecodeRecords}
 use Rattle.qpk.specs.Json.{section_json}
 use Rattle.qpk.specs.Notes.{IsNoteOf}
-use Rattle.qpk.specs.Refusals.{AppendsPart}
-use Rattle.qpk.specs.Usage.{usage_text}
+use Rattle.qpk.specs.Refusals.{AppendsPart, AppendsFront}
+use Rattle.qpk.specs.Usage.{help_text}
 use Rattle.qpk.specs.declared.refusal.Refusal.{Refusal}
 use Rattle.qpk.specs.declared.refusal.Refusal.TheVariants as refusal
 use Rattle.qpk.specs.declared.text.Fault.{Fault}
@@ -56,7 +56,7 @@ FailsToRead command r = (r ≡ refusal.Input) ⊎ (r ≡ refusal.Fault Memory)
 
 -- the output that answers a command's input; what is shown has the clauses of `qpk_show`, and its text none
 abbrev pub Answers : Command → List ℕ → List ℕ → Type 0
-Answers Help input out = out ≡ usage_text
+Answers Help input out = out ≡ help_text
 Answers Encode input out = (text : List ℕ) × (encode_answer input ≡ Ok text) × (out ≡ text ++ 10 ∷ [])
 Answers (Decode limit) input out =
     (block : List ℕ) × (fs : List Field) × (decode_of (without_feed input) ≡ Ok block)
@@ -110,9 +110,8 @@ AnswersInput command input (Err fault) = HasFault command input fault
 abbrev pub TellsRefusal : Fault → DecoderError → Type 0
 TellsRefusal fault e = (fault ≡ Refused e) ⊎ (fault ≡ Memory)
 
--- what is said of the input of a command, where that input is known: nothing of one that is not encoded
+-- what is said of the input of a command, where that input is known: nothing but of header lists in QIF
 abbrev pub IsNote : Command → Option (List ℕ) → Option (List ℕ) → Type 0
-IsNote Encode input note = IfSome input (λ bytes. IsNoteOf Encode bytes note)
 IsNote (EncodeLists settings) input note = IfSome input (λ bytes. IsNoteOf (EncodeLists settings) bytes note)
 IsNote command input note = note ≡ None
 
@@ -128,26 +127,22 @@ abbrev pub IsAnswered : {Z : Type 0} → List (String Z) → Option (List ℕ) �
 IsAnswered words input old new note =
     (command : Command) × AsksFor words command × IsAnsweredBy command input old new note
 
--- what was said
+-- what was said: all of it, or a part, where a write failed
 abbrev pub SaysNote : Option (List ℕ) → Option (List ℕ) → Option (List ℕ) → Type 0
 SaysNote old new None = new ≡ old
-SaysNote old new (Some line) = Appends old new line
+SaysNote old new (Some line) = AppendsFront old new line
 
 -- it ended for its words, which the refusal tells, and nothing was written
 abbrev pub EndsForWords : {Z : Type 0} → List (String Z) → Option (List ℕ) → Option (List ℕ) → Refusal → Type 0
 EndsForWords words old new r =
     (fault : WordsFault) × (command_of (map string_bytes words) ≡ Err fault) × TellsWords r fault × (new ≡ old)
 
--- a part was said of what was to be said
-abbrev pub SaysPart : Option (List ℕ) → Option (List ℕ) → Option (List ℕ) → Type 0
-SaysPart old new None = ⊥
-SaysPart old new (Some line) = AppendsPart old new line
-
 -- why a command ended: the input could not be read, or it has a fault, and then nothing was written; or it was refused
 -- further on, and then what stands before that was written; or what it asks for could not be written, but for a part of
 -- it. The input is what the reader gives, where that is known, and the output what the writer held before and after
 abbrev pub EndsForCommand : Command → Option (List ℕ) → Option (List ℕ) → Option (List ℕ) → Refusal → Type 0
 EndsForCommand command input old new refusal.Usage = ⊥
+EndsForCommand command input old new refusal.OtherCount = ⊥
 EndsForCommand command input old new (refusal.BadWord wanted word) = ⊥
 EndsForCommand command input old new refusal.Input = FailsToRead command refusal.Input × (new ≡ old)
 EndsForCommand command input old new refusal.Output =

@@ -1,9 +1,14 @@
 -- How the program is called.
 use Rattle.std.specs.Prelude.{ℕ, List, ◌++◌, codes}
 
--- the commands, each with an example and what it prints
-unfoldable pub usage_text : List ℕ
-usage_text =
+-- the line for words that are none of its four commands, and nothing that is added to them
+abbrev pub usage_line : List ℕ
+usage_line =
+    codes "usage: qpk encode | qpk decode LIMIT | qpk run CAPACITY LIMIT | qpk inspect CAPACITY\n"
+
+-- all commands, each with an example and what it prints
+unfoldable pub help_text : List ℕ
+help_text =
     codes "usage: qpk encode | decode [--hex | --json] LIMIT | inspect CAPACITY\n"
     ++ codes "       qpk run CAPACITY LIMIT\n"
     ++ codes "       qpk show [--table] [--json] [--qif] MAXIMUM BLOCKED\n"
@@ -13,6 +18,7 @@ usage_text =
     ++ codes "encode   fields, NAME TAB VALUE each, to a block in hexadecimal\n"
     ++ codes "  printf ':method\\tGET\\n' | ./qpk encode\n"
     ++ codes "  0000d1\n"
+    ++ codes "  a carriage return before a line feed is part of the value\n"
     ++ codes "decode   a block to its fields, whose sizes may sum to LIMIT bytes\n"
     ++ codes "  printf '0000d1\\n' | ./qpk decode 42\n"
     ++ codes "  :method\tGET\n"

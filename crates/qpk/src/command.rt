@@ -1,9 +1,11 @@
 //! What the words of a call ask for.
 
 ghost use Rattle.std.specs.Prelude.{◌≡◌, false, map, string_bytes};
-ghost use Rattle.qpk.specs.Commands.{BadWord as FaultOfWord, ReadsWords, TellsWords, alone, command_of, decode_of};
-ghost use Rattle.qpk.specs.Commands.{encode_of, lists_of, read_acknowledged, records_of};
-ghost use Rattle.qpk.specs.Commands.{is_option, no_option, one_number, read_number, show_of, two_numbers, with_option};
+ghost use Rattle.qpk.specs.Commands.{BadWord as FaultOfWord, ReadsWords, TellsWords, command_of, decode_of, encode_of};
+ghost use Rattle.qpk.specs.Commands.{help_alone, is_option, lists_of, no_option, one_number, only_number, only_numbers};
+ghost use Rattle.qpk.specs.Commands.{or_other_words, read_acknowledged, read_number, records_of, show_of, two_numbers};
+ghost use Rattle.qpk.specs.Commands.{with_option};
+ghost use Rattle.qpk.specs.Scripts.{number_of};
 
 use crate::refusal::{Refusal, Wanted};
 use crate::script::parts;
@@ -14,7 +16,7 @@ use std::alloc::Global;
 /// What the words ask for.
 #[derive(Clone, Copy)]
 pub enum Command {
-    /// Tell the usage; no input is read.
+    /// Print all commands with examples; no input is read.
     Help,
     /// Encode the fields of the input's lines.
     Encode,
@@ -47,8 +49,8 @@ pub struct ShowOptions {
     pub qif: bool,
 }
 
-/// What the words ask for, without the program's name; or that they ask for nothing, and the word at fault, if one is.
-/// Memory is asked for to keep that word.
+/// Returns what the words ask for, without the program's name; or that they ask for nothing, and of an addition to the
+/// usage's four commands the word at fault, if one is. Memory is asked for to keep that word.
 pub fn read_command(alloc: Global, words: &[String]) -> Result<Command, Refusal>
     ensures { ReadsWords result (command_of (map string_bytes words.now)) }
 {
@@ -57,7 +59,7 @@ pub fn read_command(alloc: Global, words: &[String]) -> Result<Command, Refusal>
     };
     let name = name.as_str();
     if name == "--help" {
-        return alone(alloc, Command::Help, rest);
+        return read_help(rest);
     }
     if name == "encode" {
         return read_encode(alloc, rest);
@@ -66,40 +68,72 @@ pub fn read_command(alloc: Global, words: &[String]) -> Result<Command, Refusal>
         return read_decode(alloc, rest);
     }
     if name == "inspect" {
-        let capacity = one_number(alloc, rest)?;
+        let capacity = only_number(rest)?;
         return Ok(Command::Inspect(capacity as usize));
     }
     if name == "run" {
-        let (capacity, limit) = two_numbers(alloc, rest)?;
+        let (capacity, limit) = only_numbers(rest)?;
         return Ok(Command::Run(capacity as usize, limit as usize));
     }
     if name == "show" {
         return read_show(alloc, rest);
     }
-    Err(bad_word(alloc, Wanted::Command, name))
+    Err(Refusal::Usage)
 }
 
-/// A command behind which no word stands.
-fn alone(alloc: Global, command: Command, rest: &[String]) -> Result<Command, Refusal>
-    ensures { ReadsWords result (alone command (map string_bytes rest.now)) }
+/// Returns the number that these words are, and nothing else.
+fn only_number(words: &[String]) -> Result<u64, Refusal>
+    ensures { ReadsWords result (only_number (map string_bytes words.now)) }
 {
-    no_option(alloc, rest)?;
-    if rest.is_empty() {
-        return Ok(command);
+    let [word] = words else {
+        return Err(Refusal::Usage);
+    };
+    or_usage(word.as_str())
+}
+
+/// Returns the two numbers that these words are, and nothing else.
+fn only_numbers(words: &[String]) -> Result<(u64, u64), Refusal>
+    ensures { ReadsWords result (only_numbers (map string_bytes words.now)) }
+{
+    let [first, second] = words else {
+        return Err(Refusal::Usage);
+    };
+    let first = or_usage(first.as_str())?;
+    let second = or_usage(second.as_str())?;
+    Ok((first, second))
+}
+
+/// Returns the number that a word says, or the usage.
+fn or_usage(word: &str) -> Result<u64, Refusal>
+    ensures { ReadsWords result (or_other_words (number_of word.now)) }
+{
+    match parts::read_number(word.as_bytes()) {
+        Some(number) => Ok(number),
+        None => Err(Refusal::Usage),
     }
-    Err(Refusal::Usage)
+}
+
+/// Returns what the words behind `--help` ask for: none may stand there.
+fn read_help(rest: &[String]) -> Result<Command, Refusal>
+    ensures { ReadsWords result (help_alone (map string_bytes rest.now)) }
+{
+    if rest.is_empty() {
+        return Ok(Command::Help);
+    }
+    Err(Refusal::OtherCount)
 }
 
 /// What the words behind `encode` ask for.
 fn read_encode(alloc: Global, rest: &[String]) -> Result<Command, Refusal>
     ensures { ReadsWords result (encode_of (map string_bytes rest.now)) }
 {
-    if let Some((first, behind)) = rest.split_first() {
-        if first.as_str() == "--qif" {
-            return read_lists(alloc, behind);
-        }
+    let Some((first, behind)) = rest.split_first() else {
+        return Ok(Command::Encode);
+    };
+    if first.as_str() == "--qif" {
+        return read_lists(alloc, behind);
     }
-    alone(alloc, Command::Encode, rest)
+    Err(Refusal::Usage)
 }
 
 /// What the words behind `encode --qif` ask for: two numbers, and 0 or 1.
@@ -108,7 +142,7 @@ fn read_lists(alloc: Global, words: &[String]) -> Result<Command, Refusal>
 {
     no_option(alloc, words)?;
     let [capacity, blocked, acknowledged] = words else {
-        return Err(Refusal::Usage);
+        return Err(Refusal::OtherCount);
     };
     let capacity = read_number(alloc, capacity.as_str())?;
     let blocked = read_number(alloc, blocked.as_str())?;
@@ -159,7 +193,7 @@ fn read_decode(alloc: Global, rest: &[String]) -> Result<Command, Refusal>
             return read_records(alloc, behind);
         }
     }
-    Ok(Command::Decode(one_number(alloc, rest)?))
+    Ok(Command::Decode(only_number(rest)?))
 }
 
 /// What the words behind `show` ask for: options in any order, and two numbers.
@@ -234,7 +268,7 @@ fn one_number(alloc: Global, words: &[String]) -> Result<u64, Refusal>
 {
     no_option(alloc, words)?;
     let [word] = words else {
-        return Err(Refusal::Usage);
+        return Err(Refusal::OtherCount);
     };
     read_number(alloc, word.as_str())
 }
@@ -245,7 +279,7 @@ fn two_numbers(alloc: Global, words: &[String]) -> Result<(u64, u64), Refusal>
 {
     no_option(alloc, words)?;
     let [first, second] = words else {
-        return Err(Refusal::Usage);
+        return Err(Refusal::OtherCount);
     };
     let first = read_number(alloc, first.as_str())?;
     let second = read_number(alloc, second.as_str())?;

@@ -15,7 +15,7 @@ pub fn note_of(alloc: Global, command: Command, input: &[u8]) -> Result<Option<S
     ensures memory { IfErr result (λ fault. fault ≡ Memory) }
 {
     match command {
-        Command::Encode | Command::EncodeLists(_) => Ok(return_note(alloc, input)?),
+        Command::EncodeLists(_) => Ok(return_note(alloc, input)?),
         _ => Ok(None),
     }
 }

@@ -6,16 +6,18 @@ ghost use Rattle.qpk.specs.Refusals.{MayWantMemory, bad_word_line, fault_line, r
 ghost use Rattle.qpk.specs.declared.refusal.Refusal.TheVariants.{Fault as Refused};
 
 use crate::text::Fault;
-use crate::usage::usage;
+use crate::usage::{help, usage};
 use std::alloc::{AllocError, Global};
 use std::borrow::CowStr;
 
 /// Why nothing was answered.
 #[derive(Debug, Drop)]
 pub enum Refusal {
-    /// The words ask for nothing: there are too few, or too many.
+    /// The words are none of the usage's, and no addition to them.
     Usage,
-    /// They ask for nothing, since this word is not what should stand at its place.
+    /// Behind the name of an addition there are too few words, or too many.
+    OtherCount,
+    /// This word of an addition is not what should stand at its place.
     BadWord(Wanted, String),
     /// The input could not be read.
     Input,
@@ -28,8 +30,6 @@ pub enum Refusal {
 /// What should stand at the place of a word.
 #[derive(Clone, Copy, Debug)]
 pub enum Wanted {
-    /// The name of a command.
-    Command,
     /// An option of the command.
     Option,
     /// A number.
@@ -47,14 +47,15 @@ impl From<Fault> for Refusal {
 }
 
 impl Refusal {
-    /// The line that tells it, or the usage, or a line and the usage. Memory is asked for only to tell a word, the number
-    /// of a line, or a refusal of the decoder.
+    /// Returns the line that tells it; of the words of an addition all commands, behind the line of a word at fault. Memory
+    /// is asked for only to tell a word, the number of a line, or a refusal of the decoder.
     pub fn line(&self, alloc: Global) -> Result<CowStr<'static, Global>, AllocError>
         ensures line { IfOk result (λ line. cow_str_bytes line ≡ refusal_line self.now) }
         ensures memory { OnErr result (MayWantMemory self.now) }
     {
         match self {
             Refusal::Usage => Ok(CowStr::Borrowed(usage())),
+            Refusal::OtherCount => Ok(CowStr::Borrowed(help())),
             Refusal::BadWord(wanted, word) => bad_word_line(alloc, *wanted, word.as_str()),
             Refusal::Input => Ok(CowStr::Borrowed("qpk: refused: input\n")),
             Refusal::Output => Ok(CowStr::Borrowed("qpk: refused: output\n")),
@@ -63,7 +64,7 @@ impl Refusal {
     }
 }
 
-/// The line that tells a word at fault, and the usage.
+/// The line that tells a word at fault, and all commands.
 fn bad_word_line(
     alloc: Global,
     wanted: Wanted,
@@ -73,7 +74,7 @@ fn bad_word_line(
 {
     let words = wanted_words(wanted);
     let mut line = format!(in alloc; "qpk: \"{word}\" is {words}\n")?;
-    line.push_str(usage())?;
+    line.push_str(help())?;
     Ok(CowStr::Owned(line))
 }
 
@@ -82,7 +83,6 @@ fn wanted_words(wanted: Wanted) -> &'static str
     ensures { result.now ≡ wanted_words wanted }
 {
     match wanted {
-        Wanted::Command => "not a command",
         Wanted::Option => "not an option here",
         Wanted::Number => "not a whole number below 2^64",
         Wanted::Acknowledged => "neither 0 nor 1",

@@ -1,15 +1,15 @@
 //! The program over any reader and writers.
 
 ghost use Rattle.std.specs.Prelude.{◌≡◌, ◌≢◌, ◌⊎◌, ◌++◌, ◌∷◌, [], List, ℕ, Option, None, Some, IfOk, IfErr, IfSome};
-ghost use Rattle.std.specs.Prelude.{OnOk, OnErr, string_bytes};
+ghost use Rattle.std.specs.Prelude.{string_bytes};
 ghost use Rattle.std.specs.Io.KnownBytes.{Appends};
 ghost use Rattle.std.specs.Option.{option_map};
 ghost use Rattle.qpack_spec.specs.Field.{total_size};
 ghost use Rattle.qpack_spec.specs.Stateless.{saturated_size};
 ghost use Rattle.qpack_codec.specs.Stateless.{fields_in};
-ghost use Rattle.qpk.specs.Refusals.{AppendsAtStatus, AppendsPart, TellsBy, refusal_line};
+ghost use Rattle.qpk.specs.Refusals.{AppendsFront, TellsBy, refusal_line};
 ghost use Rattle.qpk.specs.Serving.{AsksFor, AsksForNothing, AnswersInput, EndsFor, EndsForCommand, FailsToRead};
-ghost use Rattle.qpk.specs.Serving.{IsAnswered, IsAnsweredBy, SaysNote, SaysPart};
+ghost use Rattle.qpk.specs.Serving.{IsAnswered, IsAnsweredBy, SaysNote};
 ghost use Rattle.qpk.specs.Serving.{hexadecimal_answer, input_of, printed_fields};
 ghost use Rattle.qpk.specs.declared.command.Command.TheVariants.{DecodeHex, DecodeJson, Help};
 
@@ -22,14 +22,14 @@ use crate::refusal::Refusal;
 use crate::run::run_script;
 use crate::show::{self, Agreed};
 use crate::text::{Fault, decode_text, encode_text};
-use crate::usage::usage;
+use crate::usage::help;
 use crate::writing::write_bytes;
 use h3_qpack::coding::NoMemory;
 use h3_qpack::{Decoded, DecoderError};
 use qpk_qif::session::{decode_records, encode_lists};
 use std::alloc::Global;
 use std::borrow::CowStr;
-use std::io::{self, ErrorKind, Read, Write};
+use std::io::{ErrorKind, Read, Write};
 
 /// What is written for an input, and the refusal that ends it.
 #[derive(Drop)]
@@ -38,9 +38,9 @@ struct Output {
     refused: Option<DecoderError>,
 }
 
-/// Runs the program on its words, without its name, and its three streams, and gives the exit status:
-/// 0 where the answer was written to the output, and to the faults what is said of the input, if anything is; 1 where
-/// the line of a refusal was written to the faults; or 2 where only a part of what should be was, since a write failed.
+/// Runs the program on its words, without its name, and its three streams, and returns the exit status:
+/// 0 if the answer was written to the output, and else 1, with the line of the refusal written to the faults. A write to
+/// the faults that fails is passed over.
 pub fn serve<R: Read, W: Write, E: Write>(
     alloc: Global,
     words: &[String],
@@ -48,74 +48,56 @@ pub fn serve<R: Read, W: Write, E: Write>(
     output: &mut W,
     faults: &mut E,
 ) -> u8
-    // At status 0 the answer to the input was written, and nothing else but what is said of the input.
+    // At status 0 the answer to the input was written, and nothing else but what is said of header lists in QIF.
     ensures answered { result ≡ 0 → (note : Option (List ℕ))
         × IsAnswered words.now (R.remaining input.old) (W.contents output.old) (W.contents output.new) note
         × SaysNote (E.contents faults.old) (E.contents faults.new) note }
     // Else why: other words, an input that can't be read or has a fault, a refusal further on, before which all is
     // written, or an output that can't be written, which then has a part of what is asked for. The line of it is
-    // written to the faults: at status 1 all of it, at status 2 a part. Or all is answered, and of what is said of the
-    // input a part is written, at status 2. There is no other status.
-    ensures refused { result ≢ 0 → ((refusal : Refusal)
+    // written to the faults, as far as they take it. There is no other status.
+    ensures refused { result ≢ 0 → (result ≡ 1) × (refusal : Refusal)
         × EndsFor words.now (R.remaining input.old) (W.contents output.old) (W.contents output.new) refusal
-        × AppendsAtStatus result (E.contents faults.old) (E.contents faults.new) (refusal_line refusal))
-        ⊎ ((result ≡ 2) × (note : Option (List ℕ))
-        × IsAnswered words.now (R.remaining input.old) (W.contents output.old) (W.contents output.new) note
-        × SaysPart (E.contents faults.old) (E.contents faults.new) note) }
+        × AppendsFront (E.contents faults.old) (E.contents faults.new) (refusal_line refusal) }
     // Help reads no input, nor do words that ask for nothing.
     ensures unread { AsksFor words.now Help ⊎ AsksForNothing words.now → input.new ≡ input.old }
 {
     match run(alloc, words, input, output) {
-        Ok(note) => say(note, faults),
+        Ok(note) => {
+            say_note(note, faults);
+            0
+        }
         Err(refusal) => refuse(alloc, &refusal, faults),
     }
 }
 
-/// Writes what is said of an input, if anything is, to the faults, and gives the exit status: 0, or 2 where only a part
-/// was written, since a write failed.
-fn say<E: Write>(note: Option<String>, faults: &mut E) -> u8
-    ensures all { result ≡ 0 → SaysNote (E.contents faults.old) (E.contents faults.new) (option_map string_bytes note) }
-    ensures part { result ≢ 0 → (result ≡ 2)
-        × SaysPart (E.contents faults.old) (E.contents faults.new) (option_map string_bytes note) }
+/// Writes what is said of an input to the faults, if anything is.
+fn say_note<E: Write>(note: Option<String>, faults: &mut E)
+    ensures { SaysNote (E.contents faults.old) (E.contents faults.new) (option_map string_bytes note) }
 {
-    match note {
-        None => 0,
-        Some(line) => say_line(line.as_str(), faults),
+    if let Some(line) = note {
+        say(line.as_str(), faults);
     }
 }
 
-/// Writes a line to the faults, and gives the same status.
-fn say_line<E: Write>(line: &str, faults: &mut E) -> u8
-    ensures all { result ≡ 0 → Appends (E.contents faults.old) (E.contents faults.new) line.now }
-    ensures part { result ≢ 0 → (result ≡ 2) × AppendsPart (E.contents faults.old) (E.contents faults.new) line.now }
+/// Writes a line to the faults. A write that fails is passed over.
+fn say<E: Write>(line: &str, faults: &mut E)
+    ensures { AppendsFront (E.contents faults.old) (E.contents faults.new) line.now }
 {
-    match write_bytes(faults, line.as_bytes()) {
-        Ok(()) => 0,
-        Err(_) => 2,
-    }
+    let _ = write_bytes(faults, line.as_bytes());
 }
 
-/// Writes the line of a refusal to the faults, and gives the exit status: 1, or 2 where only a part of the line was
-/// written, since a write failed.
+/// Writes the line of a refusal to the faults, or that of want of memory where none is left to make it, and returns the
+/// exit status 1.
 pub fn refuse<E: Write>(alloc: Global, refusal: &Refusal, faults: &mut E) -> u8
-    ensures { TellsBy refusal.now (AppendsAtStatus result (E.contents faults.old) (E.contents faults.new)) }
-{
-    match tell(alloc, refusal, faults) {
-        Ok(()) => 1,
-        Err(_) => 2,
-    }
-}
-
-/// Writes the line of a refusal, or that of want of memory where none is left to make it.
-fn tell<E: Write>(alloc: Global, refusal: &Refusal, faults: &mut E) -> io::Result<()>
-    ensures all { OnOk result (TellsBy refusal.now (Appends (E.contents faults.old) (E.contents faults.new))) }
-    ensures part { OnErr result (TellsBy refusal.now (AppendsPart (E.contents faults.old) (E.contents faults.new))) }
+    ensures status { result ≡ 1 }
+    ensures told { TellsBy refusal.now (AppendsFront (E.contents faults.old) (E.contents faults.new)) }
 {
     let line = match refusal.line(alloc) {
         Ok(line) => line,
         Err(_) => CowStr::Borrowed("qpk: refused: memory\n"),
     };
-    write_bytes(faults, line.as_str().as_bytes())
+    say(line.as_str(), faults);
+    1
 }
 
 /// Answers the words and the input at the output, and gives what is to be said of the input.
@@ -187,7 +169,7 @@ fn answer(alloc: Global, command: Command, input: &[u8]) -> Result<Output, Fault
     ensures { AnswersInput command input.now result }
 {
     match command {
-        Command::Help => Ok(whole(String::from_str(alloc, usage())?)),
+        Command::Help => Ok(whole(String::from_str(alloc, help())?)),
         Command::Encode => {
             let mut text = encode_text(alloc, input)?;
             text.push('\n')?;

@@ -1,12 +1,19 @@
 //! How the program is called.
 
 ghost use Rattle.std.specs.Prelude.{◌≡◌};
-ghost use Rattle.qpk.specs.Usage.{usage_text};
+ghost use Rattle.qpk.specs.Usage.{help_text, usage_line};
 
-/// The commands, each with an example and what it prints.
-#[tactic(auto, unfolding(crate::specs::Usage::usage_text))]
+/// Returns the line for words that are none of its four commands, and nothing that is added to them.
 pub fn usage() -> &'static str
-    ensures { result.now ≡ usage_text }
+    ensures { result.now ≡ usage_line }
+{
+    "usage: qpk encode | qpk decode LIMIT | qpk run CAPACITY LIMIT | qpk inspect CAPACITY\n"
+}
+
+/// Returns all commands, each with an example and what it prints.
+#[tactic(auto, unfolding(crate::specs::Usage::help_text))]
+pub fn help() -> &'static str
+    ensures { result.now ≡ help_text }
 {
     "\
 usage: qpk encode | decode [--hex | --json] LIMIT | inspect CAPACITY
@@ -18,6 +25,7 @@ QPACK (RFC 9204) by lines: a command reads its input, and prints the answer.
 encode   fields, NAME TAB VALUE each, to a block in hexadecimal
   printf ':method\\tGET\\n' | ./qpk encode
   0000d1
+  a carriage return before a line feed is part of the value
 decode   a block to its fields, whose sizes may sum to LIMIT bytes
   printf '0000d1\\n' | ./qpk decode 42
   :method\tGET

@@ -20,3 +20,4 @@ mod scripts;
 mod shown;
 #[cfg(test)]
 mod streams;
+mod words;

@@ -1,6 +1,6 @@
 //! Header lists encoded to recordings, and recordings decoded.
 
-use crate::running::{USAGE, refuse, run};
+use crate::running::{HELP, refuse, run};
 use std::alloc::Global;
 use std::process::Abort;
 use std::test::Fail;
@@ -82,7 +82,7 @@ fn lists_and_settings_that_are_refused_are_told(rt: HostRuntime) -> Result<(), F
     refuse(
         &rt,
         alloc,
-        USAGE,
+        HELP,
         &[
             ("encode --qif", ""),
             ("encode --qif 1 1", ""),

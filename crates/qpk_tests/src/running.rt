@@ -12,7 +12,12 @@ pub const REFUSED_MEMORY: &str = "qpk: refused: memory\n";
 
 pub const REFUSED_OUTPUT: &str = "qpk: refused: output\n";
 
-pub const USAGE: &str = "\
+/// What words that are none of the four commands get, and nothing that is added to them.
+pub const USAGE: &str =
+    "usage: qpk encode | qpk decode LIMIT | qpk run CAPACITY LIMIT | qpk inspect CAPACITY\n";
+
+/// What `--help` prints, and what other words of an addition get.
+pub const HELP: &str = "\
 usage: qpk encode | decode [--hex | --json] LIMIT | inspect CAPACITY
        qpk run CAPACITY LIMIT
        qpk show [--table] [--json] [--qif] MAXIMUM BLOCKED
@@ -22,6 +27,7 @@ QPACK (RFC 9204) by lines: a command reads its input, and prints the answer.
 encode   fields, NAME TAB VALUE each, to a block in hexadecimal
   printf ':method\\tGET\\n' | ./qpk encode
   0000d1
+  a carriage return before a line feed is part of the value
 decode   a block to its fields, whose sizes may sum to LIMIT bytes
   printf '0000d1\\n' | ./qpk decode 42
   :method\tGET
@@ -180,7 +186,7 @@ pub fn refuse(
     Ok(())
 }
 
-/// Runs words of which one is at fault: this line tells it, and the usage stands behind.
+/// Runs words of an addition of which one is at fault: this line tells it, with all commands after it.
 pub fn refuse_word(
     rt: &impl Abort,
     alloc: Global,
@@ -191,7 +197,7 @@ pub fn refuse_word(
         let answer = run(rt, alloc, words, b"", "")?;
         assert!(rt; answer.output.is_empty());
         let told = answer.faults.strip_prefix(line.as_bytes());
-        assert!(rt; told == Some(USAGE.as_bytes()));
+        assert!(rt; told == Some(HELP.as_bytes()));
         assert_eq!(rt; answer.status, 1);
     }
     Ok(())

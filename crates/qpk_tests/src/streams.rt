@@ -1,7 +1,8 @@
 //! Readers and writers that fail.
 
-use crate::running::{REFUSED_MEMORY, REFUSED_OUTPUT, USAGE, wants_memory, words};
+use crate::running::{HELP, REFUSED_MEMORY, REFUSED_OUTPUT, USAGE, wants_memory, words};
 use qpk::serve::serve;
+use std::alloc::Global;
 use std::io::{self, Cursor, ErrorKind, Read, Write};
 use std::test::Fail;
 
@@ -23,7 +24,7 @@ impl Read for BrokenReader<'_> {
 /// A writer that takes a byte at a time, is interrupted before each, and fails once its room is full.
 #[derive(Drop)]
 struct NarrowWriter {
-    taken: [u8; 64],
+    taken: [u8; 100],
     len: usize,
     room: usize,
     interrupted: bool,
@@ -32,7 +33,7 @@ struct NarrowWriter {
 impl NarrowWriter {
     fn new(room: usize) -> NarrowWriter {
         NarrowWriter {
-            taken: [0; 64],
+            taken: [0; 100],
             len: 0,
             room,
             interrupted: false,
@@ -86,58 +87,101 @@ fn a_reader_that_fails_is_told(rt: HostRuntime) -> Result<(), Fail> {
     Ok(())
 }
 
-#[test]
-fn a_writer_that_fails_is_told(rt: HostRuntime) -> Result<(), Fail> {
-    let alloc = rt.alloc();
-    let words = words(alloc, "decode 42")?;
-    let mut out = NarrowWriter::new(3);
-    let mut faults = NarrowWriter::new(64);
-    let mut input = Cursor::new(b"0000d1".as_slice());
+/// A command, its input, what it prints, and the line of its refusal, or none.
+type Run = (&'static str, &'static str, &'static str, &'static str);
+
+/// The four commands, each answered.
+const ANSWERED: [Run; 4] = [
+    ("encode", ":method\tGET\n", "0000d1\n", ""),
+    ("decode 42", "0000d1", ":method\tGET\nsize 42\n", ""),
+    ("run 4096 1", "decode\t4\n", "skipped 2\n", ""),
+    ("inspect 0", "e\t\n", "received 0\n", ""),
+];
+
+/// The four commands, each refused, and words that are none of them.
+const REFUSED: [Run; 5] = [
+    ("encode", "foo", "", "qpk: line 1: no tab\n"),
+    ("decode 42", "zz", "", "qpk: not hexadecimal\n"),
+    ("run 4096 1", "\n", "", "qpk: line 1: bad event\n"),
+    ("inspect 1073741824", "", "", "qpk: refused: capacity\n"),
+    ("encode decode", "", "", USAGE),
+];
+
+/// Runs a command on writers with room for this many bytes.
+fn run_on(
+    alloc: Global,
+    (line, input, ..): Run,
+    room: usize,
+    told: usize,
+) -> Result<(u8, NarrowWriter, NarrowWriter), Fail> {
+    let words = words(alloc, line)?;
+    let mut out = NarrowWriter::new(room);
+    let mut faults = NarrowWriter::new(told);
+    let mut input = Cursor::new(input.as_bytes());
     let status = serve(alloc, &words, &mut input, &mut out, &mut faults);
-    assert_eq!(rt; status, 1);
-    if faults.taken() != REFUSED_MEMORY.as_bytes() {
-        assert_eq!(rt; out.taken(), b":me".as_slice());
-        assert_eq!(rt; faults.taken(), REFUSED_OUTPUT.as_bytes());
+    Ok((status, out, faults))
+}
+
+// An output that is closed, or full before the answer is written, gets a front of it.
+#[test]
+fn an_output_that_fails_is_told(rt: HostRuntime) -> Result<(), Fail> {
+    for case in ANSWERED {
+        for room in 0..case.2.len() {
+            let (status, out, faults) = run_on(rt.alloc(), case, room, 64)?;
+            assert_eq!(rt; status, 1);
+            if faults.taken() != REFUSED_MEMORY.as_bytes() {
+                assert_eq!(rt; out.taken(), case.2.as_bytes().get(..room).unwrap_or(b""));
+                assert_eq!(rt; faults.taken(), REFUSED_OUTPUT.as_bytes());
+            }
+        }
     }
     Ok(())
 }
 
-const NOT_HEXADECIMAL: &str = "qpk: not hexadecimal\n";
-
+// Faults that are closed, or full before the line is written, get a front of it, and the status is 1.
 #[test]
-fn a_writer_of_faults_that_fails_is_told_by_the_status(rt: HostRuntime) -> Result<(), Fail> {
-    let alloc = rt.alloc();
-    let words = words(alloc, "decode 42")?;
-    let mut out = Vec::new(alloc);
-    for room in 0..64 {
-        let mut faults = NarrowWriter::new(room);
-        let mut input = Cursor::new(b"zz".as_slice());
-        let status = serve(alloc, &words, &mut input, &mut out, &mut faults);
-        // The line of want of memory is as long.
-        let status_of_room = if room < NOT_HEXADECIMAL.len() { 2 } else { 1 };
-        assert_eq!(rt; status, status_of_room);
-        assert_eq!(rt; faults.taken().len(), room.min(NOT_HEXADECIMAL.len()));
-        let told = faults.taken();
-        assert!(rt;
-            NOT_HEXADECIMAL.as_bytes().starts_with(told)
-                || REFUSED_MEMORY.as_bytes().starts_with(told)
-        );
+fn faults_that_can_not_be_written_are_passed_over(rt: HostRuntime) -> Result<(), Fail> {
+    for case in REFUSED {
+        for room in 0..100 {
+            let (status, out, faults) = run_on(rt.alloc(), case, 64, room)?;
+            assert_eq!(rt; status, 1);
+            assert_eq!(rt; out.taken(), b"".as_slice());
+            let line = case.3.as_bytes();
+            if !REFUSED_MEMORY.as_bytes().starts_with(faults.taken()) {
+                assert_eq!(rt; faults.taken(), line.get(..room).unwrap_or(line));
+            }
+        }
     }
     Ok(())
 }
 
+// Where all is answered nothing is written to the faults, so that closed ones do not matter.
 #[test]
-fn a_note_that_can_not_be_written_is_told_by_the_status(rt: HostRuntime) -> Result<(), Fail> {
-    let alloc = rt.alloc();
-    let words = words(alloc, "encode")?;
-    for room in [0, 3, 63] {
-        let mut out = Vec::new(alloc);
-        let mut faults = NarrowWriter::new(room);
-        let mut input = Cursor::new(b":method\tGET\r\n".as_slice());
-        let status = serve(alloc, &words, &mut input, &mut out, &mut faults);
-        if status == 2 && !out.is_empty() {
-            assert_eq!(rt; faults.taken().len(), room);
-            assert!(rt; NOTE.as_bytes().starts_with(faults.taken()));
+fn closed_faults_do_not_matter_to_an_answer(rt: HostRuntime) -> Result<(), Fail> {
+    for case in ANSWERED {
+        let (status, out, faults) = run_on(rt.alloc(), case, 64, 0)?;
+        assert_eq!(rt; faults.taken(), b"".as_slice());
+        if status == 0 {
+            assert_eq!(rt; out.taken(), case.2.as_bytes());
+        } else {
+            assert_eq!(rt; out.taken(), b"".as_slice());
+        }
+    }
+    Ok(())
+}
+
+// What is said of header lists is passed over too where it can't be written.
+#[test]
+fn a_note_that_can_not_be_written_is_passed_over(rt: HostRuntime) -> Result<(), Fail> {
+    const LISTS: Run = ("encode --qif 0 0 0", "a\tb\r\n", "", NOTE);
+    for room in [0, 3, 63, 64] {
+        let (status, out, faults) = run_on(rt.alloc(), LISTS, 64, room)?;
+        if status == 0 {
+            assert!(rt; !out.taken().is_empty());
+            assert_eq!(rt;
+                faults.taken(),
+                NOTE.as_bytes().get(..room).unwrap_or(NOTE.as_bytes())
+            );
         } else {
             assert!(rt; REFUSED_MEMORY.as_bytes().starts_with(faults.taken()));
         }
@@ -156,7 +200,7 @@ fn help_reads_no_input(rt: HostRuntime) -> Result<(), Fail> {
     let mut input = BrokenReader(b"");
     let status = serve(alloc, &words, &mut input, &mut out, &mut faults);
     if status == 0 {
-        assert_eq!(rt; out.as_slice(), USAGE.as_bytes());
+        assert_eq!(rt; out.as_slice(), HELP.as_bytes());
     } else {
         assert!(rt; wants_memory(faults.taken()));
     }
