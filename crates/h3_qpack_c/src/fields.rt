@@ -7,7 +7,7 @@ ghost use Rattle.h3_qpack_c.specs.Crossing.{text_of, text_of_field, told_of_fiel
 
 use crate::answers::{Given, Written};
 use crate::statuses::{DONE, INVALID, NO_ROOM};
-use qpack_codec::encoder::AsField;
+use qpack_codec::encoder::{AsField, Wish};
 use qpack_ends::{FieldLine, FieldSection};
 
 /// A field that is lent: its name, its value, and its flags, of which the lowest says that it is never to be indexed
@@ -21,9 +21,12 @@ pub struct Field<'a> {
 }
 
 impl AsField for Field<'_> {
+    ghost use Rattle.qpack_codec.specs.Choices.{wish_of_mark};
     ghost use Rattle.h3_qpack_c.specs.Crossing.{line_of_lent};
 
     ghost line = { λ f. line_of_lent f };
+
+    ghost wish = { λ f. wish_of_mark (line_of_lent f).never_indexed };
 
     fn as_field(&self) -> FieldLine<'_> {
         FieldLine {
@@ -31,6 +34,10 @@ impl AsField for Field<'_> {
             value: self.value,
             never_indexed: self.flags % 2 == 1,
         }
+    }
+
+    fn wish(&self) -> Wish {
+        Wish::of_mark(self.flags % 2 == 1)
     }
 }
 

@@ -17,7 +17,7 @@ use Rattle.qpack_codec.specs.Encoding.{StopsAmong}
 
 -- ---- what is written, one list behind another
 
-lines_behind : (ls ks : List FieldLine) (xs ys : List Line) → length xs ≡ length ls
+pub lines_behind : (ls ks : List FieldLine) (xs ys : List Line) → length xs ≡ length ls
     → written_marked_lines (ls ++ ks) (xs ++ ys) ≡ written_marked_lines ls xs ++ written_marked_lines ks ys
 unfolding written_marked_lines written_lines
 lines_behind [] ks [] ys each = refl
@@ -28,7 +28,7 @@ lines_behind (l ∷ ls) ks (x ∷ xs) ys each =
     ∙ sym (append_assoc (written_marked_line l.never_indexed x) (written_marked_lines ls xs)
     (written_marked_lines ks ys))
 
-instructions_behind : (is js : List EncoderInstruction)
+pub instructions_behind : (is js : List EncoderInstruction)
     → written_encoder_instructions (is ++ js) ≡ written_encoder_instructions is ++ written_encoder_instructions js
 unfolding written_encoder_instructions
 instructions_behind [] js = refl
@@ -40,7 +40,7 @@ instructions_behind (i ∷ is) js =
 -- ---- a field behind others
 
 -- a draft goes on as one that begins at its table
-record GoesOn (d more whole : Draft) : Type 0 where
+pub record GoesOn (d more whole : Draft) : Type 0 where
   pub table : whole.table ≡ more.table
   pub lines : whole.lines ≡ d.lines ++ more.lines
   pub instructions : whole.instructions ≡ d.instructions ++ more.instructions
@@ -132,7 +132,7 @@ goes_on_lines t base ls l =
     (draft_of_line (draft_of_lines t base ls).table base l) d)
     (sym (last_line base (draft_at t) ls l)) (goes_on_line base (draft_of_lines t base ls) l)
 
-appended : (before first second mid now : List ℕ) → mid ≡ before ++ first → now ≡ mid ++ second
+pub appended : (before first second mid now : List ℕ) → mid ≡ before ++ first → now ≡ mid ++ second
     → now ≡ before ++ (first ++ second)
 appended before first second mid now is then =
     then ∙ ap (λ (x : List ℕ). x ++ second) is ∙ append_assoc before first second
@@ -215,7 +215,7 @@ pub front_of : {H : Type 0} (line : H → FieldLine) (xs : List H) (i : ℕ) (d 
     → map line (take (i + 1) xs) ≡ map line (take i xs) ++ line (get_or xs i d) ∷ []
 front_of line xs i d within = rw (add-one, take-suc xs i d within) (with_last line (take i xs) (get_or xs i d))
 
-take_lines : {H : Type 0} (line : H → FieldLine) (xs : List H) (i : ℕ)
+pub take_lines : {H : Type 0} (line : H → FieldLine) (xs : List H) (i : ℕ)
     → take i (map line xs) ≡ map line (take i xs)
 take_lines line xs zero = refl
 take_lines line [] (suc i) = refl

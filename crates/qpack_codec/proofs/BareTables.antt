@@ -65,7 +65,7 @@ field_is : (base : ℕ) (d : Draft) (f : Field) → IsBare d.table → rule_fiel
 unfolding rule_field
 field_is base d f bare = static_is base d f bare (static_index f)
 
-by_mark : (b : Bool) (x y d : Draft) (k l : Line) → x ≡ with_line d k → y ≡ with_line d l
+pub by_mark : (b : Bool) (x y d : Draft) (k l : Line) → x ≡ with_line d k → y ≡ with_line d l
     → cond b x y ≡ with_line d (cond b k l)
 by_mark true x y d k l p q = p
 by_mark false x y d k l p q = q
@@ -79,7 +79,7 @@ line_is base d l bare =
 
 -- ---- a section
 
-abbrev drafted : Table → List Line → Draft
+abbrev pub drafted : Table → List Line → Draft
 drafted t ls = record { table = t; lines = ls; instructions = [] }
 
 lines_are : (t : Table) (base : ℕ) (ls : List Line) (fs : List FieldLine) → IsBare t
@@ -99,16 +99,16 @@ rule_is : (t : Table) (fs : List FieldLine) → IsBare t
 unfolding marked_rule
 rule_is t fs bare = lines_are (without_references t) (insert_count t) [] fs (bare_again t bare)
 
-nothing_required : (t : Table) (ls : List Line) → required_insert_count (drafted (without_references t) ls) ≡ 0
+pub nothing_required : (t : Table) (ls : List Line) → required_insert_count (drafted (without_references t) ls) ≡ 0
 unfolding without_references greatest_of
 nothing_required t ls = refl
 
-block_is : (t : Table) (ls : List Line) → block_of t (drafted (without_references t) ls)
+pub block_is : (t : Table) (ls : List Line) → block_of t (drafted (without_references t) ls)
     ≡ record { prefix = record { count = 0; sign = false; delta = 0 }; lines = ls }
 unfolding without_references greatest_of prefix_for
 block_is t ls = refl
 
-table_is : (t : Table) (ls : List Line) (stream : ℕ)
+pub table_is : (t : Table) (ls : List Line) (stream : ℕ)
     → without_references t ≡ committed_table (drafted (without_references t) ls) stream
 unfolding without_references commit greatest_of
 table_is t ls stream = rw (lt-leb (suc t.known_received_count) 0 (omega arith)) refl

@@ -20,7 +20,7 @@ use Rattle.qpack_codec.specs.declared.error.EncoderError.{EncoderError}
 
 -- ---- the rule, where a block begins
 
-begins_so : (t : Table) → t.referenced ≡ [] → without_references t ≡ t
+pub begins_so : (t : Table) → t.referenced ≡ [] → without_references t ≡ t
 unfolding without_references
 begins_so t begins = ap (λ (r : List ℕ). let x : Table = record t { referenced = r } in x) (sym begins)
 
@@ -33,7 +33,7 @@ rule_is t base fs begins same =
 
 -- ---- the block's bytes
 
-put_together : (before lines prefix text : List ℕ) (len : ℕ) → len ≡ length before → lines ≡ before ++ text
+pub put_together : (before lines prefix text : List ℕ) (len : ℕ) → len ≡ length before → lines ≡ before ++ text
     → take len lines ++ prefix ++ drop len lines ≡ before ++ (prefix ++ text)
 put_together before lines prefix text len is e =
     rw (e, take_at before text len (sym is), drop_at before text len (sym is))

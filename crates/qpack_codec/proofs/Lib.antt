@@ -17,6 +17,10 @@ pub mod Alike
 pub mod Rooms
 pub mod Stills
 pub mod AddedFields
+pub mod ChosenFields
+pub mod ChosenLines
+pub mod ChosenBlocks
+pub mod ChosenRoom
 pub mod MarkedFields
 pub mod InstructionsRoom
 pub mod ReferencedRoom

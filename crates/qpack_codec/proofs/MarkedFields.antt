@@ -97,7 +97,7 @@ written_unmarked f l =
     sym (append-nil (written_marked_line false l)) ∙ (is_rule_unmarked (empty_table 0 None 0) (f ∷ [])).lines (l ∷ [])
     ∙ append-nil (written_line l)
 
-lines_unmarked : (t : Table) (l : FieldLine) (ls : List Line) → l.never_indexed ≡ false
+pub lines_unmarked : (t : Table) (l : FieldLine) (ls : List Line) → l.never_indexed ≡ false
     → written_marked_lines (l ∷ []) ls ≡ written_lines ls
 lines_unmarked t l ls is =
     ap (λ (b : Bool). written_marked_lines ((let k : FieldLine = record { field = l.field; never_indexed = b } in k)

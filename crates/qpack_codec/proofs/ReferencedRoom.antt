@@ -22,13 +22,13 @@ use Rattle.qpack_table.proofs.Greatest.{greatest_none}
 use Rattle.qpack_codec.specs.Encoding.{draft_at, draft_of_lines}
 
 -- the live entries fit so many bytes, and an entry does if one is referenced
-record Fits (most : ℕ) (t : Table) : Type 0 where
+pub record Fits (most : ℕ) (t : Table) : Type 0 where
   pub capacity : t.capacity ≤ most
   pub live : total_size (fields_in t.live) ≤ most
   pub roomy : 0 < greatest_of t.referenced → 32 ≤ most
 
 -- one more is referenced
-fits_reference : (most : ℕ) (t : Table) (a : ℕ) → 32 ≤ most → Fits most t → Fits most (with_reference t a)
+pub fits_reference : (most : ℕ) (t : Table) (a : ℕ) → 32 ≤ most → Fits most t → Fits most (with_reference t a)
 unfolding with_reference
 fits_reference most t a h k = record { capacity = k.capacity; live = k.live; roomy = λ _. h }
 
@@ -48,19 +48,25 @@ same_capacity : (t : Table) (f : Field) → (with_entry t (sent_entry f)).capaci
 unfolding with_entry
 same_capacity t f = refl
 
-fits_entry : (most : ℕ) (t : Table) (f : Field) → field_size f ≤ t.capacity → Fits most t
-    → Fits most (with_reference (with_entry t (sent_entry f)) (insert_count t + 1))
-fits_entry most t f h k =
-    let least : 32 ≤ most = omega (arith, h, k.capacity, size_least f) in
-    fits_reference most (with_entry t (sent_entry f)) (insert_count t + 1) least
-    (record {
+-- one more is inserted
+pub fits_unreferenced : (most : ℕ) (t : Table) (f : Field) → field_size f ≤ t.capacity → Fits most t
+    → Fits most (with_entry t (sent_entry f))
+fits_unreferenced most t f h k =
+    record {
       capacity = omega (arith, k.capacity, same_capacity t f);
       live = omega (arith, left_fits t f, k.capacity);
-      roomy = λ _. least;
-    })
+      roomy = λ _. omega (arith, h, k.capacity, size_least f);
+    }
+
+-- and referenced
+pub fits_entry : (most : ℕ) (t : Table) (f : Field) → field_size f ≤ t.capacity → Fits most t
+    → Fits most (with_reference (with_entry t (sent_entry f)) (insert_count t + 1))
+fits_entry most t f h k =
+    fits_reference most (with_entry t (sent_entry f)) (insert_count t + 1)
+    (omega (arith, h, k.capacity, size_least f)) (fits_unreferenced most t f h k)
 
 -- a live entry takes 32 bytes
-live_takes : (es : List Entry) → 0 < length es → 32 ≤ total_size (fields_in es)
+pub live_takes : (es : List Entry) → 0 < length es → 32 ≤ total_size (fields_in es)
 live_takes [] h = absurd (omega (arith, h))
 live_takes (e ∷ es) h = omega (arith, total_first e.field (fields_in es), size_least e.field)
 

@@ -11,4 +11,7 @@ pub mod Taking
 pub mod Receiving
 pub mod Hearing
 pub mod Encoding
+pub mod Choices
+pub mod ChoosesAlong
+pub mod ChosenSections
 pub mod RequestStreams

@@ -20,6 +20,9 @@ use std::marker::Model;
 mod as_field;
 mod block;
 mod capacity;
+mod choices;
+mod chosen_block;
+mod chosen_fields;
 mod fields;
 mod instructions;
 pub(crate) mod room;
@@ -27,6 +30,7 @@ mod sections;
 
 pub use crate::encoder::as_field::AsField;
 pub use crate::encoder::capacity::set_dynamic_table_size;
+pub use crate::encoder::choices::{Choice, Chooses, Wish};
 pub use crate::encoder::sections::{EncoderTable, WritesSections};
 pub use crate::error::EncoderError;
 pub use crate::stateless::{encode_section_stateless, encode_stateless};

@@ -1,20 +1,21 @@
 -- Lookups by index are those of the window.
-use Rattle.std.proofs.Common.{◌≡◌, ℕ, ◌+◌, ◌<◌, ◌≤◌, List, length, get_or, Option, Some, None}
+use Rattle.std.proofs.Common.{◌≡◌, ℕ, zero, suc, ◌+◌, ◌-◌, ◌<◌, ◌≤◌, List, [], ◌∷◌, length, get_or, Option, Some, None}
 use Rattle.std.proofs.Common.{refl, sym, ap, subst, ◌∙◌, arith, inl, inr}
-use Rattle.std.specs.Prelude.{slice_get, IsSome, IfErr, IsErr, IsErrAnd, IfOk, Result, Ok, Err}
-use Rattle.std.proofs.lemmas.Bool.{cases_lt}
+use Rattle.std.specs.Prelude.{slice_get, min, IsSome, IfErr, IsErr, IsErrAnd, IfOk, Result, Ok, Err}
+use Rattle.std.proofs.lemmas.Bool.{cases_lt, le-ltb, lt-ltb}
 use Rattle.std.proofs.lemmas.List.{length-map}
-use Rattle.std.proofs.lemmas.Option.{slice_get-map, slice_get_read, get_or_from_slice_get, slice_get_past}
+use Rattle.std.proofs.lemmas.Option.{same_Some, slice_get-map, slice_get_read, get_or_from_slice_get, slice_get_past}
 use Rattle.std.specs.Borrow.{Bor}
 use Rattle.std.specs.Option.{option_map}
 use Rattle.qpack_base.specs.HeaderFields.{field_of}
 use Rattle.qpack_base.specs.declared.field.HeaderField.{HeaderField}
-use Rattle.qpack_spec.specs.Field.{Field}
+use Rattle.qpack_spec.specs.Field.{Field, field_size, total_size}
 use Rattle.qpack_spec.specs.Reading.{Fault, BelowWindow, AboveWindow, BehindBase, or_fault, relative_field}
 use Rattle.qpack_spec.specs.Reading.{post_base_field}
 use Rattle.qpack_spec.specs.Table as table
 use Rattle.qpack_spec.specs.Table.{insert_count, window, fields_in}
 use Rattle.qpack_spec.specs.Window.{absolute_entry, relative_entry}
+use Rattle.qpack_spec.proofs.Sizes.{total_first}
 use Rattle.qpack_table.specs.Positions.{Positions, positions_of, IsLive, IsPositionOf, IsNotEvicted}
 use Rattle.qpack_table.specs.Positions.{newest_relative_index, relative_index}
 use Rattle.qpack_table.specs.Positions.{post_base_index}
@@ -193,3 +194,36 @@ pub given_as : (r : Result (Bor HeaderField) Error) (d e : Error) → IsErr r ×
     → IsErr r × IsErrAnd r (λ x. x ≡ e)
 given_as (Ok f) d e h same = absurd h.1
 given_as (Err x) d e h same = (h.0, h.1 ∙ same)
+
+-- ---- the size of an entry by its absolute index
+
+-- a field among others is no larger than all
+part_within : (fs : List Field) (position : ℕ) (f : Field) → slice_get fs position ≡ Some f
+    → field_size f ≤ total_size fs
+part_within [] position f is = absurd cc
+part_within (g ∷ fs) zero f is =
+    let same : g ≡ f = same_Some g f is in
+    omega (arith, ap (λ (x : Field). field_size x) same, total_first g fs)
+part_within (g ∷ fs) (suc position) f is = omega (arith, part_within fs position f is, total_first g fs)
+
+pub entry_measured : (t : table.Table) (absolute position size dropped most : ℕ) (f : Field) → dropped ≡ t.dropped
+    → dropped < absolute → position ≡ absolute - dropped - 1 → slice_get (fields_in t.live) position ≡ Some f
+    → size ≡ min (field_size f) most → total_size (fields_in t.live) ≤ most
+    → Some size ≡ option_map field_size (absolute_entry (window t) absolute)
+unfolding absolute_entry window
+entry_measured t absolute position size dropped most f same above at there measured small =
+    let within = part_within (fields_in t.live) position f there in
+    let is : size ≡ field_size f = omega (arith, measured, within, small) in
+    rw (lt-ltb t.dropped absolute (omega (arith, same, above)), ← same, ← at, there, is) refl
+
+pub entry_unmeasured : (t : table.Table) (absolute position dropped : ℕ) → dropped ≡ t.dropped
+    → dropped < absolute → position ≡ absolute - dropped - 1 → slice_get (fields_in t.live) position ≡ None
+    → option_map field_size (absolute_entry (window t) absolute) ≡ None
+unfolding absolute_entry window
+entry_unmeasured t absolute position dropped same above at there =
+    rw (lt-ltb t.dropped absolute (omega (arith, same, above)), ← same, ← at, there) refl
+
+pub entry_gone : (t : table.Table) (absolute dropped : ℕ) → dropped ≡ t.dropped → absolute ≤ dropped
+    → option_map field_size (absolute_entry (window t) absolute) ≡ None
+unfolding absolute_entry window
+entry_gone t absolute dropped same below = rw (le-ltb t.dropped absolute (omega (arith, same, below))) refl

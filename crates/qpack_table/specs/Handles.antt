@@ -1,11 +1,12 @@
 -- What the encoder's handle answers.
-use Rattle.std.specs.Prelude.{◌≡◌, ℕ, ◌<◌, ⊤, [], Result, Ok, Err, Option, Some, None, IfSome}
-use Rattle.std.specs.Prelude.{if◌then◌else◌, nat_lt}
+use Rattle.std.specs.Prelude.{◌≡◌, ℕ, ◌+◌, ◌-◌, ◌<◌, ⊤, [], Bool, true, false, Result, Ok, Err, Option, Some, None}
+use Rattle.std.specs.Prelude.{IfSome, if◌then◌else◌, nat_lt}
 use Rattle.qpack_spec.specs.Field.{Field, is_field}
 use Rattle.qpack_spec.specs.StaticTable.{static_name_index}
 use Rattle.qpack_spec.specs.Table as table
-use Rattle.qpack_spec.specs.Table.{newest_index}
-use Rattle.qpack_spec.specs.Handle.{Lookup, AtStatic, AtRelative, AtPostBase, Found, Insertion, Insertable}
+use Rattle.qpack_spec.specs.Table.{newest_index, insert_count, with_reference, with_entry, sent_entry}
+use Rattle.qpack_spec.specs.Rule.{instruction_for, entries_left}
+use Rattle.qpack_spec.specs.Handle.{Lookup, AtStatic, AtRelative, AtPostBase, Found, Insertion, Insertable, answer_of}
 use Rattle.qpack_spec.specs.Handle as handle
 use Rattle.qpack_table.specs.declared.dynamic.Error.{Error}
 use Rattle.qpack_table.specs.declared.dynamic.Error.TheVariants.{Memory}
@@ -43,6 +44,10 @@ pub record IsSoughtIn (t : table.Table) (f : Field) (sought : SoughtField) : Typ
   pub hashes : IfSome sought.hashes (λ hashes. AreHashesOf hashes f)
   pub newest : sought.newest ≡ newest_index t (is_field f)
   pub static_name : sought.static_name ≡ static_name_index f.name
+
+-- the hashes that are known of a field that was sought are its own
+abbrev pub AreHashesIn : Field → SoughtField → Type 0
+AreHashesIn f sought = IfSome sought.hashes (λ hashes. AreHashesOf hashes f)
 
 -- the same of one that was found
 abbrev pub IsFoundIn : table.Table → Field → FoundField → Type 0
@@ -83,6 +88,34 @@ abbrev pub Inserts : Result DynamicInsertionResult Error → Insertable → tabl
 Inserts (Ok insertion) inserted old new =
     let answer : Insertable = record { insertion = insertion_of insertion; table = new } in inserted ≡ answer
 Inserts (Err e) inserted old new = (e ≡ Memory) × InsertsOrHandsOut inserted.insertion × (new ≡ old)
+
+-- what an insertion answers, whether or not its entry is referenced
+abbrev pub insertion_at : table.Table → ℕ → Field → Insertion
+insertion_at t base f =
+    answer_of (instruction_for f (entries_left t f)) (insert_count t - base) (insert_count t + 1)
+
+-- an insertion whose entry the block in progress references
+abbrev pub referenced_insertion : table.Table → ℕ → Field → Insertable
+referenced_insertion t base f =
+    record {
+      insertion = insertion_at t base f;
+      table = with_reference (with_entry t (sent_entry f)) (insert_count t + 1);
+    }
+
+-- an insertion whose entry is not referenced (RFC 9204, section 2.1.2)
+abbrev pub unreferenced_insertion : table.Table → ℕ → Field → Insertable
+unreferenced_insertion t base f =
+    record { insertion = insertion_at t base f; table = with_entry t (sent_entry f) }
+
+-- a field is inserted as the definition inserts it where it can be, and nothing happens where it cannot; memory is
+-- refused only where it can be, and then nothing changes
+abbrev pub InsertsIf : Bool → Result (Option DynamicInsertionResult) Error → Insertable → table.Table → table.Table
+    → Type 0
+InsertsIf can (Ok (Some insertion)) inserted old new =
+    let answer : Insertable = record { insertion = insertion_of insertion; table = new } in
+    (can ≡ true) × (inserted ≡ answer)
+InsertsIf can (Ok None) inserted old new = (can ≡ false) × (new ≡ old)
+InsertsIf can (Err e) inserted old new = (can ≡ true) × (e ≡ Memory) × (new ≡ old)
 
 -- a block that references an entry is opened, and counted as blocked if it is
 abbrev pub OpensOrBlocks : table.Table → ℕ → Type 0

@@ -31,7 +31,7 @@ pub use crate::dynamic::encoder::{
 };
 pub use crate::dynamic::entry_index::{EntryIndex, NoIndex};
 pub use crate::dynamic::index::Index;
-pub use crate::dynamic::sought::FoundField;
+pub use crate::dynamic::sought::{FoundField, SoughtField};
 pub use crate::dynamic::steps::Steps;
 pub use crate::dynamic::table::{DynamicTable, DynamicTableDecoder, ReceivedTable};
 

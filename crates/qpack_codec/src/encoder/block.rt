@@ -84,7 +84,7 @@ fn append_fields<A: Allocator, B: Allocator, H: AsField>(
 
 /// Puts a prefix in front of what stands behind so many bytes. On error the vector is as before.
 #[inline(always)]
-fn put_in_front<A: Allocator>(
+pub(super) fn put_in_front<A: Allocator>(
     prefix: &HeaderPrefix,
     block: &mut Vec<u8, A>,
     len: usize,

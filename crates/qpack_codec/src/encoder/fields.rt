@@ -4,7 +4,7 @@
 ghost use Rattle.std.specs.Prelude.{◌≡◌, ◌*◌, ◌≤◌, [], ◌∷◌, false, None, length, take, IfErr, OnOk, OnErr, vec_len};
 ghost use Rattle.std.specs.Prelude.{vec_capacity};
 ghost use Rattle.qpack_spec.specs.Field.{field_size};
-ghost use Rattle.qpack_spec.specs.Handle.{insert_field, with_insertion, with_found, find_field};
+ghost use Rattle.qpack_spec.specs.Handle.{Insertion, insert_field, with_insertion, with_found, find_field};
 ghost use Rattle.qpack_spec.specs.Handle.{line_of as line_of_insertion, literal_at};
 ghost use Rattle.qpack_spec.specs.Line.{written_line, written_marked_line};
 ghost use Rattle.qpack_base.specs.HeaderFields.{line_of};
@@ -160,11 +160,13 @@ fn append_insertion<A: Allocator, B: Allocator>(
     Ok(append_inserted(field, insertion, lines)?)
 }
 
-/// As many bytes as the instruction of this field takes, if it is inserted: four for each byte of the entry's size hold
+/// As many bytes as the instruction of this field takes, if it is inserted, with a reference or without: four for each byte of the entry's size hold
 /// its numbers and its coded strings.
-fn instruction_room(block: &DynamicTableEncoder<'_>, field: &FieldLine<'_>) -> usize
+pub(super) fn instruction_room(block: &DynamicTableEncoder<'_>, field: &FieldLine<'_>) -> usize
     ensures enough { length (written_insertion (line_of field.now).field
         (insert_field block.now.table.now block.now.base (line_of field.now).field).insertion) ≤ result }
+    ensures any { field_size (line_of field.now).field ≤ block.now.table.now.capacity
+        → (i : Insertion) → length (written_insertion (line_of field.now).field i) ≤ result }
     ensures most { result ≤ 4 * field_size (line_of field.now).field }
 {
     let size = field.mem_size();
@@ -176,7 +178,7 @@ fn instruction_room(block: &DynamicTableEncoder<'_>, field: &FieldLine<'_>) -> u
 
 /// Appends the instruction of an insertion. On error the vector is as before.
 #[tactic(auto, using(crate::proofs::Alike::writes_alike))]
-fn write_instruction<A: Allocator>(
+pub(super) fn write_instruction<A: Allocator>(
     field: &FieldLine<'_>,
     insertion: &DynamicInsertionResult,
     buf: &mut Vec<u8, A>,
@@ -203,7 +205,7 @@ fn write_instruction<A: Allocator>(
 /// Appends the line of a field that was inserted, or was not. On error the vector is as
 /// before.
 #[inline(always)]
-fn append_inserted<A: Allocator>(
+pub(super) fn append_inserted<A: Allocator>(
     field: &FieldLine<'_>,
     insertion: DynamicInsertionResult,
     buf: &mut Vec<u8, A>,
@@ -226,7 +228,7 @@ fn append_inserted<A: Allocator>(
 
 /// Appends a literal, by where its name was found. On error the vector is as before.
 #[tactic(auto, using(crate::proofs::Alike::writes_alike))]
-fn append_literal<A: Allocator>(
+pub(super) fn append_literal<A: Allocator>(
     field: &FieldLine<'_>,
     lookup: DynamicLookupResult,
     buf: &mut Vec<u8, A>,

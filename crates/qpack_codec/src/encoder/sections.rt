@@ -7,10 +7,13 @@ ghost use Rattle.qpack_spec.specs.Marked.{stateless_block_marked, written_marked
 ghost use Rattle.qpack_spec.specs.Table.{Table, commit, without_references};
 ghost use Rattle.qpack_codec.specs.Encoding.{DrainsLinesOf, EncodesLines, GivesUpLines, StopsEncodingLinesOf};
 ghost use Rattle.qpack_codec.specs.Encoding.{GrowsForLinesOf, GrowsWithin, instructions_room};
+ghost use Rattle.qpack_codec.specs.ChosenSections.{EncodesAlong, GivesUpChosen};
 ghost use Rattle.qpack_codec.specs.declared.error.EncoderError.TheVariants.{Memory};
 
 use crate::encoder::as_field::AsField;
 use crate::encoder::block::append_block;
+use crate::encoder::choices::Chooses;
+use crate::encoder::chosen_block::append_chosen_block;
 use crate::error::EncoderError;
 use crate::stateless::field_lines::append_section;
 use qpack_base::coding::NoMemory;
@@ -60,6 +63,44 @@ pub trait WritesSections {
 pub struct EncoderTable {
     /// The table.
     pub table: DynamicTable,
+}
+
+impl EncoderTable {
+    /// Encodes a field section for a stream as `write_section` does, but by what is chosen for each field. Whatever is
+    /// chosen, the section means its fields. At capacity 0 nothing is chosen, and the chooser is not asked.
+    pub fn write_chosen_section<A: Allocator, B: Allocator, H: AsField, C: Chooses>(
+        &mut self,
+        stream_id: u64,
+        block: &mut Vec<u8, A>,
+        encoder_buf: &mut Vec<u8, B>,
+        fields: &[H],
+        chooser: &mut C,
+    ) -> Result<usize, EncoderError>
+        ensures ok { IfOk result (λ required. EncodesAlong C.chooses stream_id (map H.line fields.now)
+            (map H.wish fields.now) self.old.table self.new.table block.old.items block.new.items encoder_buf.old.items encoder_buf.new.items required) }
+        ensures err { OnErr result (GivesUpChosen (map H.line fields.now) self.old.table self.new.table
+            encoder_buf.old.items encoder_buf.new.items) }
+        ensures as_before { OnErr result (block.new.items ≡ block.old.items) }
+        ensures memory { IfErr result (λ e. e ≡ Memory) }
+        ensures capacity { vec_capacity block.old ≤ vec_capacity block.new }
+        ensures still { OnOk result
+            (vec_len block.new ≤ vec_capacity block.old → vec_capacity block.new ≡ vec_capacity block.old) }
+        ensures instructions { GrowsWithin (instructions_room (fields_of_lines (map H.line fields.now))) encoder_buf.old
+            encoder_buf.new }
+    {
+        if self.table.max_mem_size() == 0 {
+            self.give_up();
+            return append_alone(fields, block);
+        }
+        let len = block.len();
+        let mut handle = self.table.encoder(stream_id);
+        let appended = append_chosen_block(&mut handle, block, encoder_buf, fields, chooser);
+        let answer = end_block(handle, appended);
+        if answer.is_err() {
+            block.truncate(len);
+        }
+        answer
+    }
 }
 
 impl WritesSections for EncoderTable {

@@ -1,17 +1,21 @@
 //! An encoder's handle on the table: a block in progress, which references entries (RFC 9204, section 2.1).
 
-ghost use Rattle.std.specs.Prelude.{◌≡◌, ◌<◌, ◌≤◌, ◌^◌, IfOk};
+ghost use Rattle.std.specs.Prelude.{◌≡◌, ◌<◌, ◌≤◌, ◌^◌, ◌&&◌, IfOk, IfSome};
+ghost use Rattle.std.specs.Option.{option_map};
 ghost use Rattle.qpack_base.specs.HeaderFields.{field_of, line_of};
-ghost use Rattle.qpack_spec.specs.Field.{total_size};
+ghost use Rattle.qpack_spec.specs.Field.{field_size, has_name, total_size};
 ghost use Rattle.qpack_spec.specs.Handle.{find_field, found_name, insert_field};
 ghost use Rattle.qpack_spec.specs.Reading.{greatest_of};
 ghost use Rattle.qpack_spec.specs.StaticTable.{static_name_index};
-ghost use Rattle.qpack_spec.specs.Table.{fields_in, insert_count, without_references};
-ghost use Rattle.qpack_spec.specs.Window.{maximum_capacity};
-ghost use Rattle.qpack_table.specs.Handles.{Finds, Inserts, Commits, IsFoundIn, lookup_in};
+ghost use Rattle.qpack_spec.specs.Table.{below_limit, fields_in, has_room, insert_count, may_reference};
+ghost use Rattle.qpack_spec.specs.Table.{newest_index, window, without_references};
+ghost use Rattle.qpack_spec.specs.Handle.{found_entry};
+ghost use Rattle.qpack_spec.specs.Window.{absolute_entry, maximum_capacity};
+ghost use Rattle.qpack_table.specs.Handles.{Finds, Inserts, Commits, IsFoundIn, IsSoughtIn, lookup_in};
+ghost use Rattle.qpack_table.specs.Handles.{AreHashesIn, InsertsIf, referenced_insertion, unreferenced_insertion};
 
 use crate::dynamic::Error;
-use crate::dynamic::sought::FoundField;
+use crate::dynamic::sought::{FoundField, SoughtField};
 use crate::dynamic::table::DynamicTable;
 use qpack_base::field::{FieldLine, HeaderField};
 
@@ -222,6 +226,128 @@ impl DynamicTableEncoder<'_> {
             self.old.table.now self.new.table.now }
     {
         self.table.insert_sought(self.base, field, found.sought())
+    }
+
+    /// The known received count: how many insertions the decoder is known to have received (RFC 9204, section 2.1.4).
+    pub fn known_received_count(&self) -> usize
+        ensures { result ≡ self.now.table.now.known_received_count }
+    {
+        self.table.known_received_count()
+    }
+
+    /// How many entries were evicted since the table was empty. The oldest live entry has the next absolute index.
+    pub fn total_dropped(&self) -> usize
+        ensures { result ≡ self.now.table.now.dropped }
+    {
+        self.table.total_dropped()
+    }
+
+    /// The sum of the live fields' sizes in bytes (RFC 9204, section 3.2.1).
+    pub fn used(&self) -> usize
+        ensures { result ≡ total_size (fields_in self.now.table.now.live) }
+    {
+        self.table.used()
+    }
+
+    /// The size of a live entry in bytes, by its absolute index (RFC 9204, section 3.2.1).
+    pub fn entry_size(&self, absolute: usize) -> Option<usize>
+        ensures { result ≡ option_map field_size (absolute_entry (window self.now.table.now) absolute) }
+    {
+        self.table.entry_size(absolute)
+    }
+
+    /// Whether one more block may be blocked (RFC 9204, section 2.1.2).
+    pub fn is_below_limit(&self) -> bool
+        ensures { result ≡ below_limit self.now.table.now }
+    {
+        self.table.is_below_limit()
+    }
+
+    /// Whether an entry may be referenced: one more block may be blocked, or the decoder is known to have received it
+    /// (RFC 9204, section 2.1.2).
+    pub fn may_reference(&self, absolute: usize) -> bool
+        ensures { result ≡ may_reference self.now.table.now absolute }
+    {
+        self.table.may_reference(absolute)
+    }
+
+    /// Whether there is room for a field: it fits, insertions are left, and each entry that has to be evicted for it is
+    /// evictable (RFC 9204, section 2.1.1).
+    pub fn has_room(&self, field: &FieldLine<'_>) -> bool
+        ensures { result ≡ has_room self.now.table.now (line_of field.now).field }
+    {
+        self.table.has_room(field)
+    }
+
+    /// Looks for the newest entry that equals a field. `static_name` is the least index of a static field with its name.
+    /// Nothing is referenced.
+    #[inline(always)]
+    pub fn seek(&self, field: &FieldLine<'_>, static_name: Option<usize>) -> SoughtField
+        requires { static_name ≡ static_name_index (line_of field.now).field.name }
+        ensures { IsSoughtIn self.now.table.now (line_of field.now).field result }
+    {
+        self.table.seek(field, static_name)
+    }
+
+    /// The absolute index of the newest entry with the name of a field. Nothing is referenced.
+    #[inline(always)]
+    pub fn newest_name(&self, field: &FieldLine<'_>, sought: &SoughtField) -> Option<usize>
+        requires { AreHashesIn (line_of field.now).field sought.now }
+        ensures { result ≡ newest_index self.now.table.now (has_name (line_of field.now).field.name) }
+    {
+        self.table.newest_sought_name(field.name, sought)
+    }
+
+    /// References a live entry, if it may be referenced. On error, which is for memory alone, nothing changes.
+    #[inline(always)]
+    pub fn reference(&mut self, newest: Option<usize>) -> Result<DynamicLookupResult, Error>
+        requires live { IfSome newest (λ absolute. self.old.table.now.dropped < absolute) }
+        requires inserted { IfSome newest (λ absolute. absolute ≤ insert_count self.old.table.now) }
+        ensures same_table { self.new.table.ghost_name ≡ self.old.table.ghost_name }
+        ensures stream { self.new.stream_id ≡ self.old.stream_id }
+        ensures base { self.new.base ≡ self.old.base }
+        ensures found { Finds result (found_entry self.old.table.now self.old.base newest) self.old.table.now
+            self.new.table.now }
+    {
+        self.table.find_entry(self.base, newest)
+    }
+
+    /// Inserts a field that was sought, if one more block may be blocked and there is room, and references the new
+    /// entry. Otherwise does nothing. On error, which is for memory alone, nothing changes.
+    #[inline(always)]
+    pub fn insert_sought(
+        &mut self,
+        field: &FieldLine<'_>,
+        sought: &SoughtField,
+    ) -> Result<Option<DynamicInsertionResult>, Error>
+        requires { IsSoughtIn self.old.table.now (line_of field.now).field sought.now }
+        ensures same_table { self.new.table.ghost_name ≡ self.old.table.ghost_name }
+        ensures stream { self.new.stream_id ≡ self.old.stream_id }
+        ensures base { self.new.base ≡ self.old.base }
+        ensures inserted { InsertsIf (below_limit self.old.table.now && has_room self.old.table.now (line_of field.now).field)
+            result (referenced_insertion self.old.table.now self.old.base (line_of field.now).field) self.old.table.now
+            self.new.table.now }
+    {
+        self.table.insert_referenced(self.base, field, sought)
+    }
+
+    /// Inserts a field that was sought, if there is room, and references nothing (RFC 9204, section 2.1.2). Otherwise does
+    /// nothing. On error, which is for memory alone, nothing changes.
+    #[inline(always)]
+    pub fn insert_unreferenced(
+        &mut self,
+        field: &FieldLine<'_>,
+        sought: &SoughtField,
+    ) -> Result<Option<DynamicInsertionResult>, Error>
+        requires { IsSoughtIn self.old.table.now (line_of field.now).field sought.now }
+        ensures same_table { self.new.table.ghost_name ≡ self.old.table.ghost_name }
+        ensures stream { self.new.stream_id ≡ self.old.stream_id }
+        ensures base { self.new.base ≡ self.old.base }
+        ensures inserted { InsertsIf (has_room self.old.table.now (line_of field.now).field) result
+            (unreferenced_insertion self.old.table.now self.old.base (line_of field.now).field) self.old.table.now
+            self.new.table.now }
+    {
+        self.table.insert_unreferenced(self.base, field, sought)
     }
 
     /// Ends the block, whose required insert count is this. It waits for an acknowledgment if it references an entry,

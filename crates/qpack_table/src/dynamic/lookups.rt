@@ -11,7 +11,8 @@ ghost use Rattle.qpack_spec.specs.Table.{insert_count, has_room, eviction_count_
 ghost use Rattle.qpack_spec.specs.Table.{with_reference, with_entry, sent_entry, fields_in};
 ghost use Rattle.qpack_table.specs.declared.dynamic.Error.TheVariants.{Memory as NoRoom};
 ghost use Rattle.qpack_spec.specs.Handle as handle;
-ghost use Rattle.qpack_table.specs.Handles.{Finds, Inserts, IsSoughtIn, lookup_of, insertion_of, kept_index};
+ghost use Rattle.qpack_table.specs.Handles.{Finds, Inserts, InsertsIf, IsSoughtIn, lookup_of, insertion_of, kept_index};
+ghost use Rattle.qpack_table.specs.Handles.{referenced_insertion, unreferenced_insertion};
 ghost use Rattle.qpack_table.specs.Indexes.{AreHashesOf};
 
 use crate::dynamic::Error;
@@ -95,7 +96,7 @@ impl DynamicTable {
     }
 
     /// Whether one more block may be blocked (RFC 9204, section 2.1.2).
-    fn is_below_limit(&self) -> bool
+    pub(super) fn is_below_limit(&self) -> bool
         ensures { result ≡ below_limit self.now }
     {
         self.blocked.len() < self.max_blocked
@@ -103,7 +104,7 @@ impl DynamicTable {
 
     /// Whether an entry may be referenced: one more block may be blocked, or it is known to be received (RFC 9204,
     /// section 2.1.2).
-    fn may_reference(&self, absolute: usize) -> bool
+    pub(super) fn may_reference(&self, absolute: usize) -> bool
         ensures { result ≡ may_reference self.now absolute }
     {
         self.is_below_limit() || absolute <= self.known_received_count
@@ -124,6 +125,13 @@ impl DynamicTable {
             return None;
         }
         self.evictable_for(size)
+    }
+
+    /// Whether there is room for a field.
+    pub(super) fn has_room(&self, field: &FieldLine<'_>) -> bool
+        ensures { result ≡ has_room self.now (line_of field.now).field }
+    {
+        self.room_for(field).is_some()
     }
 
     /// How many of the oldest entries go before a field is inserted, if one more block may be blocked and there is
@@ -197,6 +205,71 @@ impl DynamicTable {
         let insertion = self.insertion_of(base, field, hashes, sought, evicted);
         let copy = stored(self.allocator(), field, sought.static_name)?;
         self.insert_sent(copy, hashes, evicted)?;
+        Ok(insertion)
+    }
+
+    /// Inserts a field that was sought, and references it, if one more block may be blocked and there is room. Otherwise
+    /// does nothing.
+    #[inline(always)]
+    pub(super) fn insert_referenced(
+        &mut self,
+        base: usize,
+        field: &FieldLine<'_>,
+        sought: &SoughtField,
+    ) -> Result<Option<DynamicInsertionResult>, Error>
+        requires sought { IsSoughtIn self.old (line_of field.now).field sought.now }
+        ensures { InsertsIf (below_limit self.old && has_room self.old (line_of field.now).field) result
+            (referenced_insertion self.old base (line_of field.now).field) self.old self.new }
+    {
+        let Some(evicted) = self.insertable(field) else {
+            return Ok(None);
+        };
+        let insertion = self.insert_in_room(base, field, sought, evicted)?;
+        Ok(Some(insertion))
+    }
+
+    /// Inserts a field that was sought, if there is room, and references nothing. Otherwise does nothing.
+    #[inline(always)]
+    pub(super) fn insert_unreferenced(
+        &mut self,
+        base: usize,
+        field: &FieldLine<'_>,
+        sought: &SoughtField,
+    ) -> Result<Option<DynamicInsertionResult>, Error>
+        requires sought { IsSoughtIn self.old (line_of field.now).field sought.now }
+        ensures { InsertsIf (has_room self.old (line_of field.now).field) result
+            (unreferenced_insertion self.old base (line_of field.now).field) self.old self.new }
+    {
+        let Some(evicted) = self.room_for(field) else {
+            return Ok(None);
+        };
+        let insertion = self.insert_alone_in_room(base, field, sought, evicted)?;
+        Ok(Some(insertion))
+    }
+
+    /// Inserts a field for which there is room, and references nothing. On error, which is for memory alone, nothing
+    /// changes.
+    #[inline(always)]
+    fn insert_alone_in_room(
+        &mut self,
+        base: usize,
+        field: &FieldLine<'_>,
+        sought: &SoughtField,
+        evicted: usize,
+    ) -> Result<DynamicInsertionResult, Error>
+        requires room { has_room self.old (line_of field.now).field ≡ true }
+        requires evicted { evicted ≡ eviction_count_for self.old (line_of field.now).field }
+        requires sought { IsSoughtIn self.old (line_of field.now).field sought.now }
+        ensures ok { IfOk result (λ r. insertion_of r ≡ answer_of
+            (instruction_for (line_of field.now).field (entries_left self.old (line_of field.now).field))
+            (insert_count self.old - base) (insert_count self.old + 1)) }
+        ensures new { OnOk result (self.new ≡ with_entry self.old (sent_entry (line_of field.now).field)) }
+        ensures err { IfErr result (λ e. (e ≡ NoRoom) × (self.new ≡ self.old)) }
+    {
+        let hashes = sought.hashes_of(field);
+        let insertion = self.insertion_of(base, field, hashes, sought, evicted);
+        let copy = stored(self.allocator(), field, sought.static_name)?;
+        self.insert_hashed(copy, true, evicted, hashes)?;
         Ok(insertion)
     }
 

@@ -1,6 +1,6 @@
 //! A field that is sought once: what is asked of the table for it after that hashes and searches nothing again.
 
-ghost use Rattle.std.specs.Prelude.{◌≡◌, IfOk, IfSome};
+ghost use Rattle.std.specs.Prelude.{◌≡◌, None, IfOk, IfSome};
 ghost use Rattle.qpack_base.specs.HeaderFields.{line_of};
 ghost use Rattle.qpack_spec.specs.Field.{has_name};
 ghost use Rattle.qpack_spec.specs.Handle.{find_field};
@@ -19,7 +19,7 @@ use qpack_base::field::FieldLine;
 
 /// What is known of a field that was sought.
 #[derive(Debug, Clone, Copy)]
-pub(super) struct SoughtField {
+pub struct SoughtField {
     /// Its hashes, which are not taken where there is no entry.
     pub(super) hashes: Option<Hashes>,
     /// The absolute index of the newest live entry that is the field.
@@ -29,6 +29,41 @@ pub(super) struct SoughtField {
 }
 
 impl SoughtField {
+    /// A field whose value is not looked for: no entry counts as equal, and only its static name is known.
+    pub fn name_alone(static_name: Option<usize>) -> SoughtField
+        ensures { result ≡ record { hashes = None; newest = None; static_name = static_name } }
+    {
+        SoughtField {
+            hashes: None,
+            newest: None,
+            static_name,
+        }
+    }
+
+    /// The absolute index of the newest live entry that equals the field.
+    pub fn newest(&self) -> Option<AbsoluteIndex>
+        ensures { result ≡ self.now.newest }
+    {
+        self.newest
+    }
+
+    /// The least index of a static field with its name.
+    pub fn static_name(&self) -> Option<usize>
+        ensures { result ≡ self.now.static_name }
+    {
+        self.static_name
+    }
+
+    /// A hash of the field, its name and its value, which is the same whatever table it is sought in. It is taken now
+    /// if it was not.
+    #[inline(always)]
+    pub fn hash(&self, field: &FieldLine<'_>) -> u32 {
+        match self.hashes {
+            Some(hashes) => hashes.of_field(),
+            None => Hashes::of(field).of_field(),
+        }
+    }
+
     /// Its hashes, which are taken now if they were not.
     #[inline(always)]
     pub(super) fn hashes_of(&self, field: &FieldLine<'_>) -> Hashes

@@ -10,7 +10,9 @@ ghost use Rattle.qpack_spec.specs.Table.{empty_table, insert_count, window, fiel
 ghost use Rattle.qpack_spec.specs.Table.{with_entry, with_reference, sent_entry};
 ghost use Rattle.qpack_spec.specs.Table.{put, with_capacity};
 ghost use Rattle.qpack_spec.specs.Reading.{relative_field, post_base_field};
-ghost use Rattle.qpack_spec.specs.Window.{eviction_count, relative_entry, greatest_capacity, maximum_capacity};
+ghost use Rattle.qpack_spec.specs.Window.{absolute_entry, eviction_count, relative_entry, greatest_capacity};
+ghost use Rattle.qpack_spec.specs.Window.{maximum_capacity};
+ghost use Rattle.std.specs.Option.{option_map};
 ghost use Rattle.qpack_table.specs.Indexes.{AreHashesOf};
 ghost use Rattle.qpack_table.specs.Positions.{positions_of};
 ghost use Rattle.qpack_table.specs.Tables.{IsEvictableAt, LooksUp, IsInserted, entries_of, Changes, ChangesWithMemory};
@@ -180,6 +182,34 @@ impl<I: EntryIndex> DynamicTable<I> {
         self.vas.total_inserted()
     }
 
+    /// How many entries were evicted.
+    pub(super) fn total_dropped(&self) -> usize
+        ensures { result ≡ self.now.dropped }
+    {
+        self.vas.total_dropped()
+    }
+
+    /// The sum of the live fields' sizes in bytes.
+    pub(super) fn used(&self) -> usize
+        ensures { result ≡ total_size (fields_in self.now.live) }
+    {
+        self.mem_size
+    }
+
+    /// The size in bytes of the live entry with an absolute index.
+    pub(super) fn entry_size(&self, absolute: usize) -> Option<usize>
+        ensures { result ≡ option_map field_size (absolute_entry (window self.now) absolute) }
+    {
+        let dropped = self.vas.total_dropped();
+        if absolute <= dropped {
+            return None;
+        }
+        match self.entries.get(absolute - dropped - 1) {
+            Some(entry) => Some(entry.field.mem_size()),
+            None => None,
+        }
+    }
+
     /// The capacity in bytes, which is below 2^30. The live fields fit it.
     pub fn max_mem_size(&self) -> usize
         ensures exact { result ≡ self.now.capacity }
@@ -304,6 +334,25 @@ impl<I: EntryIndex> DynamicTable<I> {
         ensures err { OnErr result (self.new ≡ self.old) }
     {
         let key = I::key_of(&field.as_line());
+        self.insert_hashed(field, sent, evicted, key)
+    }
+
+    /// The same of a field with such a key.
+    #[inline(always)]
+    pub(super) fn insert_hashed(
+        &mut self,
+        field: HeaderField,
+        sent: bool,
+        evicted: usize,
+        key: I::Key,
+    ) -> Result<(), AllocError>
+        requires key { I.is_key_of key (field_of field) }
+        requires few { insert_count self.old < 2 ^ 62 }
+        requires fits { field_size (field_of field) ≤ self.old.capacity }
+        requires evicted { evicted ≡ eviction_count_for self.old (field_of field) }
+        ensures ok { OnOk result (self.new ≡ with_entry self.old (record { field = field_of field; sent = sent })) }
+        ensures err { OnErr result (self.new ≡ self.old) }
+    {
         let entry = Entry {
             field,
             sent,

@@ -38,6 +38,13 @@ impl Hashes {
             field: (field >> 32) as u32,
         }
     }
+
+    /// The hash of the whole field.
+    pub(in crate::dynamic) fn of_field(&self) -> u32
+        ensures { result ≡ self.now.field }
+    {
+        self.field
+    }
 }
 
 /// The position of a hash among so many: which part of all hashes it stands in.

@@ -20,3 +20,13 @@ returns-clause-enough c =
 
 pub returns-clause-most : goal.returns-clause-most
 returns-clause-most c = omega (arith, c.mem_size-size.ensures)
+
+pub returns-then-size-max_size-clause-any : goal.returns-then-size-max_size-clause-any
+returns-then-size-max_size-clause-any c fits i =
+    absurd (omega (arith, c.mem_size-size.ensures, c.max_size.ensures.exact, c.if-size-max_size.true, fits))
+
+pub returns-clause-any : goal.returns-clause-any
+returns-clause-any c fits i =
+    let size : c.mem_size-size.result ≡ field_size (line_of c.args.field.now).field =
+    omega (arith, c.mem_size-size.ensures, c.max_size.ensures.most, c.if-size-max_size.false) in
+    omega (arith, insertion_most (line_of c.args.field.now).field i, size)

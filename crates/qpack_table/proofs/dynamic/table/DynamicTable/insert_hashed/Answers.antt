@@ -7,7 +7,7 @@ use Rattle.qpack_table.specs.declared.dynamic.entry.Entry.{Entry}
 use Rattle.qpack_table.proofs.Changes.{entered}
 use Rattle.qpack_table.proofs.Evictions.{joined_entries, evicted_within, room_as}
 use Rattle.qpack_table.proofs.Kept.{kept_put}
-use Rattle.qpack_table.proofs.dynamic.table.DynamicTable.insert.Goals as goal
+use Rattle.qpack_table.proofs.dynamic.table.DynamicTable.insert_hashed.Goals as goal
 
 pub replace_oldest-requires-clause-there : goal.replace_oldest-requires-clause-there
 replace_oldest-requires-clause-there g c =

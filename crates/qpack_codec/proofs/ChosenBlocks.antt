@@ -1,0 +1,338 @@
+-- A block whose fields are written under some choices: it is put together of its prefix and its lines, or given up.
+use Rattle.std.proofs.Common.{◌≡◌, ℕ, List, [], ◌∷◌, ◌++◌, map, take, drop, length, refl, sym, ap, subst, ◌∙◌}
+use Rattle.std.proofs.Common.{append-nil, append_assoc, Result, Ok, Err, Bool, cond, Option, None, Some, arith}
+use Rattle.std.specs.Prelude.{IfOk, OnErr}
+use Rattle.std.proofs.Math.Seq.{take-length}
+use Rattle.qpack_spec.specs.Chosen.{Chosen, alone_chosen, literal_alone, line_alone, literal_chosen, line_chosen}
+use Rattle.qpack_spec.specs.Chosen.{unreferenced_chosen, chosen_field, chosen_fields, chosen_rule}
+use Rattle.qpack_spec.specs.Field.{Field, FieldLine, total_size}
+use Rattle.qpack_spec.specs.Instruction.{written_encoder_instructions}
+use Rattle.qpack_spec.specs.Line.{Line}
+use Rattle.qpack_spec.specs.Marked.{written_marked_lines, written_marked_block, stateless_line_marked}
+use Rattle.qpack_spec.specs.Marked.{stateless_block_marked}
+use Rattle.qpack_spec.specs.Prefix.{Prefix, prefix_for, written_prefix}
+use Rattle.qpack_spec.specs.Reading.{Block, greatest_of}
+use Rattle.qpack_spec.specs.Rule.{Draft, empty_draft, with_line, block_of, required_insert_count, committed_table}
+use Rattle.qpack_spec.specs.Stateless.{stateless_literal, stateless_line_of, stateless_line}
+use Rattle.qpack_spec.specs.StaticTable.{static_index, static_name_index}
+use Rattle.qpack_spec.specs.Table.{Table, fields_in, insert_count, without_references, commit}
+use Rattle.qpack_spec.specs.Window.{maximum_capacity}
+use Rattle.qpack_base.specs.declared.coding.NoMemory.{NoMemory}
+use Rattle.qpack_codec.specs.Encoding.{draft_at, AddsLines}
+use Rattle.qpack_codec.specs.ChoosesAlong.{Chooses, ChoosesAlong}
+use Rattle.qpack_codec.specs.ChosenSections.{AddsChosen, StopsAmongChosen, DraftsChosen, EncodesChosen, GivesUpChosen}
+use Rattle.qpack_codec.specs.ChosenSections.{AddsAlong, ChoosesSection, DraftsAlong, EncodesAlong}
+use Rattle.qpack_codec.specs.declared.error.EncoderError.{EncoderError}
+use Rattle.qpack_codec.proofs.BareTables.{by_mark, drafted, nothing_required, block_is, table_is}
+use Rattle.qpack_codec.proofs.DraftedBlocks.{begins_so, put_together}
+
+-- ---- the rule under choices, where a block begins
+
+chosen_is : (t : Table) (base : ℕ) (fs : List FieldLine) (cs : List Chosen) → t.referenced ≡ []
+    → base ≡ insert_count t → chosen_fields base (draft_at t) fs cs ≡ chosen_rule t fs cs
+unfolding chosen_rule
+chosen_is t base fs cs begins same =
+    ap (λ (b : ℕ). chosen_fields b (draft_at t) fs cs) same
+    ∙ ap (λ (x : Table). chosen_fields (insert_count t) (draft_at x) fs cs) (sym (begins_so t begins))
+
+-- ---- the block's bytes
+
+pub drafts_chosen : (t : Table) (base : ℕ) (fs : List FieldLine) (new : Table)
+    (before lines block written_old written_new : List ℕ) (len required most other : ℕ) (prefix : Prefix)
+    → t.referenced ≡ [] → base ≡ insert_count t
+    → AddsChosen fs t base new before lines written_old written_new
+    → len ≡ length before → required ≡ greatest_of new.referenced → most ≡ maximum_capacity t.agreed_max t.capacity
+    → other ≡ base → prefix ≡ prefix_for most required other
+    → block ≡ take len lines ++ written_prefix prefix ++ drop len lines
+    → DraftsChosen fs t new before block written_old written_new required
+unfolding written_marked_block
+drafts_chosen t base fs new before lines block written_old written_new len required most other prefix begins same k is
+    count maximum at made put =
+    let cs = k.choices in
+    let adds = k.adds in
+    let d = chosen_is t base fs cs begins same in
+    let table : new ≡ (chosen_rule t fs cs).table = adds.table ∙ ap (λ (x : Draft). x.table) d in
+    let required_is : required ≡ required_insert_count (chosen_rule t fs cs) =
+    count ∙ ap (λ (x : Table). greatest_of x.referenced) table in
+    let whole : prefix ≡ (block_of t (chosen_rule t fs cs)).prefix =
+    made
+    ∙ ap (λ (n : ℕ). prefix_for n required other) maximum
+    ∙ ap (λ (n : ℕ). prefix_for (maximum_capacity t.agreed_max t.capacity) n other) required_is
+    ∙ ap (λ (n : ℕ). prefix_for (maximum_capacity t.agreed_max t.capacity)
+    (required_insert_count (chosen_rule t fs cs)) n) (at ∙ same) in
+    record {
+      choices = cs;
+      required_is = required_is;
+      table = table;
+      block = put
+          ∙ put_together before lines (written_prefix prefix)
+          (written_marked_lines fs (chosen_fields base (draft_at t) fs cs).lines) len is adds.lines
+          ∙ ap (λ (p : Prefix). before
+          ++ (written_prefix p ++ written_marked_lines fs (chosen_fields base (draft_at t) fs cs).lines)) whole
+          ∙ ap (λ (x : Draft). before
+          ++ (written_prefix (block_of t (chosen_rule t fs cs)).prefix ++ written_marked_lines fs x.lines)) d;
+      written = adds.written ∙ ap (λ (x : Draft). written_old ++ written_encoder_instructions x.instructions) d;
+    }
+
+-- ---- a block that is given up
+
+pub gives_up_chosen : (t : Table) (base : ℕ) (fs : List FieldLine) (new : Table) (written_old written_new : List ℕ)
+    → t.referenced ≡ [] → base ≡ insert_count t → StopsAmongChosen fs t base new written_old written_new
+    → GivesUpChosen fs t (without_references new) written_old written_new
+gives_up_chosen t base fs new written_old written_new begins same stops =
+    let d = chosen_is t base (take stops.many fs) stops.choices begins same in
+    record {
+      many = stops.many;
+      choices = stops.choices;
+      table = stops.table ∙ ap (λ (x : Draft). without_references x.table) d;
+      written = stops.written ∙ ap (λ (x : Draft). written_old ++ written_encoder_instructions x.instructions) d;
+    }
+
+pub gives_up_all_chosen : (t : Table) (base : ℕ) (fs : List FieldLine) (new : Table)
+    (before lines written_old written_new : List ℕ)
+    → t.referenced ≡ [] → base ≡ insert_count t
+    → AddsChosen fs t base new before lines written_old written_new
+    → GivesUpChosen fs t (without_references new) written_old written_new
+gives_up_all_chosen t base fs new before lines written_old written_new begins same k =
+    gives_up_chosen t base fs new written_old written_new begins same
+    (record {
+      many = length fs;
+      choices = k.choices;
+      table = rw (take-length fs) (ap (λ (x : Table). without_references x) k.adds.table);
+      written = rw (take-length fs) k.adds.written;
+    })
+
+-- ---- the end of a block
+
+rule_again : (t : Table) (fs : List FieldLine) (cs : List Chosen)
+    → chosen_rule (without_references t) fs cs ≡ chosen_rule t fs cs
+unfolding chosen_rule without_references
+rule_again t fs cs = refl
+
+gives_up_begun : (fs : List FieldLine) (old begun new : Table) (written_old written_new : List ℕ)
+    → begun ≡ without_references old → GivesUpChosen fs begun new written_old written_new
+    → GivesUpChosen fs old new written_old written_new
+gives_up_begun fs old begun new written_old written_new begins k =
+    let d : chosen_rule begun (take k.many fs) k.choices ≡ chosen_rule old (take k.many fs) k.choices =
+    ap (λ (t : Table). chosen_rule t (take k.many fs) k.choices) begins ∙ rule_again old (take k.many fs) k.choices in
+    record {
+      many = k.many;
+      choices = k.choices;
+      table = k.table ∙ ap (λ (x : Draft). without_references x.table) d;
+      written = k.written ∙ ap (λ (x : Draft). written_old ++ written_encoder_instructions x.instructions) d;
+    }
+
+-- refused, after lines that were written or before
+pub gives_up_chosen_section : (fs : List FieldLine) (r : Result ℕ NoMemory) (answer : Result ℕ EncoderError)
+    (old begun mid new : Table) (before block written_old written_new : List ℕ)
+    → begun ≡ without_references old
+    → IfOk r (λ required. DraftsChosen fs begun mid before block written_old written_new required)
+    → OnErr r (GivesUpChosen fs begun (without_references mid) written_old written_new)
+    → OnErr answer (new ≡ without_references mid)
+    → OnErr answer (GivesUpChosen fs old new written_old written_new)
+gives_up_chosen_section fs r (Ok required) old begun mid new before block written_old written_new begins ok err ends =
+    tt
+gives_up_chosen_section fs (Ok required) (Err e) old begun mid new before block written_old written_new begins ok err
+    ends =
+    rw ends
+    (gives_up_begun fs old begun (without_references mid) written_old written_new begins
+    (record {
+      many = length fs;
+      choices = ok.choices;
+      table = rw (take-length fs) (ap (λ (x : Table). without_references x) ok.table);
+      written = rw (take-length fs) ok.written;
+    }))
+gives_up_chosen_section fs (Err f) (Err e) old begun mid new before block written_old written_new begins ok err ends =
+    rw ends (gives_up_begun fs old begun (without_references mid) written_old written_new begins err)
+
+encodes_chosen_block : (fs : List FieldLine) (old begun mid new : Table) (stream given : ℕ)
+    (before block written_old written_new : List ℕ) (required : ℕ)
+    → begun ≡ without_references old → given ≡ stream
+    → DraftsChosen fs begun mid before block written_old written_new required → new ≡ commit mid given required
+    → EncodesChosen stream fs old new before block written_old written_new required
+unfolding without_references
+encodes_chosen_block fs old begun mid new stream given before block written_old written_new required begins same k
+    ends =
+    let cs = k.choices in
+    let d : chosen_rule begun fs cs ≡ chosen_rule old fs cs =
+    ap (λ (t : Table). chosen_rule t fs cs) begins ∙ rule_again old fs cs in
+    let required_is : required ≡ required_insert_count (chosen_rule old fs cs) =
+    k.required_is ∙ ap (λ (x : Draft). required_insert_count x) d in
+    record {
+      choices = cs;
+      required_is = required_is;
+      table = ends
+          ∙ ap (λ (n : ℕ). commit mid n required) same
+          ∙ ap (λ (t : Table). commit t stream required) (k.table ∙ ap (λ (x : Draft). x.table) d)
+          ∙ ap (λ (n : ℕ). commit (chosen_rule old fs cs).table stream n) required_is;
+      block = k.block
+          ∙ ap (λ (x : Draft). before ++ written_marked_block fs (block_of begun x)) d
+          ∙ ap (λ (t : Table). before ++ written_marked_block fs (block_of t (chosen_rule old fs cs))) begins;
+      written = k.written ∙ ap (λ (x : Draft). written_old ++ written_encoder_instructions x.instructions) d;
+    }
+
+-- the answer is the required insert count
+pub encodes_chosen : (fs : List FieldLine) (r : Result ℕ NoMemory) (answer : Result ℕ EncoderError)
+    (old begun mid new : Table) (stream given : ℕ) (before block written_old written_new : List ℕ)
+    → begun ≡ without_references old → given ≡ stream
+    → IfOk r (λ required. DraftsChosen fs begun mid before block written_old written_new required)
+    → IfOk answer (λ required. (r ≡ Ok required) × (new ≡ commit mid given required))
+    → IfOk answer (λ required. EncodesChosen stream fs old new before block written_old written_new required)
+encodes_chosen fs r (Err e) old begun mid new stream given before block written_old written_new begins same ok ends = tt
+encodes_chosen fs r (Ok required) old begun mid new stream given before block written_old written_new begins same ok
+    ends =
+    let drafted : DraftsChosen fs begun mid before block written_old written_new required =
+    subst (λ (x : Result ℕ NoMemory). IfOk x (λ n. DraftsChosen fs begun mid before block written_old written_new n))
+    ends.0 ok in
+    encodes_chosen_block fs old begun mid new stream given before block written_old written_new required begins same
+    drafted ends.1
+
+-- ---- a section without the dynamic table, which is one of no choices
+
+literal_is : (d : Draft) (f : Field) (o : Option ℕ) → literal_alone d f o ≡ with_line d (stateless_literal f o)
+literal_is d f (Some i) = refl
+literal_is d f None = refl
+
+line_alone_is : (d : Draft) (f : Field) (o : Option ℕ) → line_alone d f o ≡ with_line d (stateless_line_of f o)
+line_alone_is d f (Some i) = refl
+line_alone_is d f None = literal_is d f (static_name_index f.name)
+
+line_is : (base : ℕ) (d : Draft) (l : FieldLine)
+    → chosen_field base d l alone_chosen ≡ with_line d (stateless_line_marked l)
+line_is base d l =
+    by_mark l.never_indexed (literal_alone d l.field (static_name_index l.field.name))
+    (line_alone d l.field (static_index l.field)) d (stateless_literal l.field (static_name_index l.field.name))
+    (stateless_line l.field) (literal_is d l.field (static_name_index l.field.name))
+    (line_alone_is d l.field (static_index l.field))
+
+lines_are : (t : Table) (base : ℕ) (ls : List Line) (fs : List FieldLine)
+    → chosen_fields base (drafted t ls) fs [] ≡ drafted t (ls ++ map (λ l. stateless_line_marked l) fs)
+lines_are t base ls [] = ap (drafted t) (sym (append-nil ls))
+lines_are t base ls (f ∷ fs) =
+    ap (λ (d : Draft). chosen_fields base d fs []) (line_is base (drafted t ls) f)
+    ∙ lines_are t base (ls ++ stateless_line_marked f ∷ []) fs
+    ∙ ap (drafted t) (append_assoc ls (stateless_line_marked f ∷ []) (map (λ l. stateless_line_marked l) fs))
+
+alone_rule_is : (t : Table) (fs : List FieldLine)
+    → chosen_rule t fs [] ≡ drafted (without_references t) (map (λ l. stateless_line_marked l) fs)
+unfolding chosen_rule
+alone_rule_is t fs = lines_are (without_references t) (insert_count t) [] fs
+
+encodes_without : (stream : ℕ) (fs : List FieldLine) (old : Table) (before after written : List ℕ)
+    → after ≡ before ++ written_marked_block fs (stateless_block_marked fs)
+    → EncodesChosen stream fs old (without_references old) before after written written 0
+unfolding written_encoder_instructions
+encodes_without stream fs old before after written is =
+    let lines = map (λ l. stateless_line_marked l) fs in
+    let rule = alone_rule_is old fs in
+    record {
+      choices = [];
+      required_is = sym (ap (λ (d : Draft). required_insert_count d) rule ∙ nothing_required old lines);
+      table = table_is old lines stream ∙ sym (ap (λ (d : Draft). committed_table d stream) rule);
+      block = is
+          ∙ ap (λ (b : Block). before ++ written_marked_block fs b)
+          (sym (ap (λ (d : Draft). block_of old d) rule ∙ block_is old lines));
+      written = sym (append-nil written)
+          ∙ ap (λ (d : Draft). written ++ written_encoder_instructions d.instructions) (sym rule);
+    }
+
+-- the answer is that nothing is required
+pub encodes_chosen_alone : (stream : ℕ) (fs : List FieldLine) (answer : Result ℕ EncoderError) (old new : Table)
+    (before after written : List ℕ) → new ≡ without_references old
+    → IfOk answer (λ required. (required ≡ 0)
+    × (after ≡ before ++ written_marked_block fs (stateless_block_marked fs)))
+    → IfOk answer (λ required. EncodesChosen stream fs old new before after written written required)
+encodes_chosen_alone stream fs (Err e) old new before after written is ok = tt
+encodes_chosen_alone stream fs (Ok required) old new before after written is ok =
+    rw (is, ok.0) (encodes_without stream fs old before after written ok.1)
+
+none_chosen : (fs : List FieldLine) (old : Table) (written : List ℕ)
+    → GivesUpChosen fs old (without_references old) written written
+unfolding chosen_rule without_references written_encoder_instructions
+none_chosen fs old written =
+    record { many = 0; choices = []; table = refl; written = sym (append-nil written) }
+
+pub gives_up_chosen_alone : (fs : List FieldLine) (answer : Result ℕ EncoderError) (old new : Table) (written : List ℕ)
+    → new ≡ without_references old → OnErr answer (GivesUpChosen fs old new written written)
+gives_up_chosen_alone fs (Ok required) old new written is = tt
+gives_up_chosen_alone fs (Err e) old new written is = rw is (none_chosen fs old written)
+
+-- ---- by a chooser
+
+along_begins : {K W : Type 0} (chooses : Chooses K W) (t : Table) (base : ℕ) (fs : List FieldLine) (ws : List W)
+    (cs : List Chosen) (before after : K) → t.referenced ≡ [] → base ≡ insert_count t
+    → ChoosesAlong chooses base (draft_at t) before fs ws cs after → ChoosesSection chooses fs ws t cs
+along_begins chooses t base fs ws cs before after begins same k =
+    record {
+      begun = before;
+      after = after;
+      along = subst (λ (b : ℕ). ChoosesAlong chooses b (empty_draft t) before fs ws cs after) same
+          (subst (λ (x : Table). ChoosesAlong chooses base (draft_at x) before fs ws cs after)
+          (sym (begins_so t begins)) k);
+    }
+
+pub drafts_along : {K W : Type 0} (chooses : Chooses K W) (ws : List W) (first last : K) (t : Table) (base : ℕ)
+    (fs : List FieldLine) (new : Table) (before lines block written_old written_new : List ℕ)
+    (len required most other : ℕ) (prefix : Prefix)
+    → t.referenced ≡ [] → base ≡ insert_count t
+    → AddsAlong chooses fs ws t base new first last before lines written_old written_new
+    → len ≡ length before → required ≡ greatest_of new.referenced → most ≡ maximum_capacity t.agreed_max t.capacity
+    → other ≡ base → prefix ≡ prefix_for most required other
+    → block ≡ take len lines ++ written_prefix prefix ++ drop len lines
+    → DraftsAlong chooses fs ws t new before block written_old written_new required
+unfolding drafts_chosen
+drafts_along chooses ws first last t base fs new before lines block written_old written_new len required most other
+    prefix begins same k is count maximum at made put =
+    record {
+      drafts = drafts_chosen t base fs new before lines block written_old written_new len required most other prefix
+          begins same k.adds is count maximum at made put;
+      along = along_begins chooses t base fs ws k.adds.choices first last begins same k.along;
+    }
+
+-- where the block began, nothing was referenced
+section_begun : {K W : Type 0} (chooses : Chooses K W) (fs : List FieldLine) (ws : List W) (cs : List Chosen)
+    (old begun : Table) → begun ≡ without_references old → ChoosesSection chooses fs ws begun cs
+    → ChoosesSection chooses fs ws old cs
+unfolding without_references
+section_begun chooses fs ws cs old begun begins k =
+    let same = subst (λ (t : Table). ChoosesSection chooses fs ws t cs) begins k in
+    record { begun = same.begun; after = same.after; along = same.along }
+
+-- what a chooser chose is some choices
+pub some_choices : {K W : Type 0} (chooses : Chooses K W) (ws : List W) (r : Result ℕ NoMemory) (fs : List FieldLine)
+    (old new : Table) (before block written_old written_new : List ℕ)
+    → IfOk r (λ required. DraftsAlong chooses fs ws old new before block written_old written_new required)
+    → IfOk r (λ required. DraftsChosen fs old new before block written_old written_new required)
+some_choices chooses ws (Ok required) fs old new before block written_old written_new k = k.drafts
+some_choices chooses ws (Err e) fs old new before block written_old written_new k = tt
+
+pub encodes_along : {K W : Type 0} (chooses : Chooses K W) (ws : List W) (fs : List FieldLine) (r : Result ℕ NoMemory)
+    (answer : Result ℕ EncoderError) (old begun mid new : Table) (stream given : ℕ)
+    (before block written_old written_new : List ℕ)
+    → begun ≡ without_references old → given ≡ stream
+    → IfOk r (λ required. DraftsAlong chooses fs ws begun mid before block written_old written_new required)
+    → IfOk answer (λ required. (r ≡ Ok required) × (new ≡ commit mid given required))
+    → IfOk answer (λ required. EncodesAlong chooses stream fs ws old new before block written_old written_new required)
+unfolding encodes_chosen_block
+encodes_along chooses ws fs r (Err e) old begun mid new stream given before block written_old written_new begins same
+    ok ends =
+    tt
+encodes_along chooses ws fs r (Ok required) old begun mid new stream given before block written_old written_new begins
+    same ok ends =
+    let drafted : DraftsAlong chooses fs ws begun mid before block written_old written_new required =
+    subst (λ (x : Result ℕ NoMemory).
+    IfOk x (λ n. DraftsAlong chooses fs ws begun mid before block written_old written_new n)) ends.0 ok in
+    record {
+      section = encodes_chosen_block fs old begun mid new stream given before block written_old written_new required
+          begins same drafted.drafts ends.1;
+      along = λ some. section_begun chooses fs ws drafted.drafts.choices old begun begins drafted.along;
+    }
+
+-- at capacity 0 nothing is chosen
+pub encodes_along_alone : {K W : Type 0} (chooses : Chooses K W) (ws : List W) (stream : ℕ) (fs : List FieldLine)
+    (answer : Result ℕ EncoderError) (old new : Table) (before after written : List ℕ) → old.capacity ≡ 0
+    → IfOk answer (λ required. EncodesChosen stream fs old new before after written written required)
+    → IfOk answer (λ required. EncodesAlong chooses stream fs ws old new before after written written required)
+encodes_along_alone chooses ws stream fs (Err e) old new before after written none k = tt
+encodes_along_alone chooses ws stream fs (Ok required) old new before after written none k =
+    record { section = k; along = λ some. absurd (some none) }

@@ -1,0 +1,372 @@
+-- Field lines that are added to a block in progress by choices, one after the other.
+use Rattle.std.proofs.Common.{◌≡◌, ℕ, zero, suc, ◌+◌, ◌<◌, List, [], ◌∷◌, ◌++◌, map, take, length, get_or, Option}
+use Rattle.std.proofs.Common.{Some, None, refl, sym, ap, subst, ◌∙◌, append-nil, append_assoc, Bool}
+use Rattle.std.proofs.Common.{true, false, cond, arith, length-append, inl, inr, add-one}
+use Rattle.std.specs.Prelude.{◌&&◌}
+use Rattle.std.proofs.lemmas.Bool.{cond_both}
+use Rattle.std.proofs.lemmas.List.{map-append}
+use Rattle.std.proofs.Math.Seq.{take-suc}
+use Rattle.qpack_spec.specs.Chosen.{Choice, Alone, References, Names, Inserts, Chosen, passes_at, literal_alone, line_alone}
+use Rattle.qpack_spec.specs.Chosen.{named_or, literal_chosen, line_chosen, unreferenced_chosen, chosen_field, chosen_fields}
+use Rattle.qpack_spec.specs.Chosen.{with_unreferenced_entry, alone_chosen}
+use Rattle.qpack_spec.proofs.ChosenSteps.{field_by}
+use Rattle.qpack_spec.specs.Field.{Field, FieldLine, has_name, is_field}
+use Rattle.qpack_spec.specs.StaticTable.{static_index, static_name_index}
+use Rattle.qpack_spec.specs.Marked.{written_marked_lines}
+use Rattle.qpack_spec.specs.Instruction.{EncoderInstruction, written_encoder_instructions}
+use Rattle.qpack_spec.specs.Line.{Line, written_lines}
+use Rattle.qpack_spec.specs.Rule.{Draft, instruction_for, entries_left}
+use Rattle.qpack_spec.specs.Table.{Table, may_reference, below_limit, has_room, without_references, with_entry, sent_entry}
+use Rattle.qpack_codec.specs.ChoosesAlong.{Chooses, ChoosesUnless, ChoosesField, ChoosesAlong}
+use Rattle.qpack_codec.specs.Encoding.{draft_at, AddsLines, StopsAdding}
+use Rattle.qpack_codec.specs.ChosenSections.{AddsChosen, AddsByChooser, AddsAlong, StopsAmongChosen}
+use Rattle.qpack_codec.proofs.AddedFields.{GoesOn, lines_behind, instructions_behind, appended, front_of, take_lines}
+
+-- ---- a field behind others: a draft goes on as one that begins at its table
+
+literal_goes : (d : Draft) (f : Field) (o : Option ℕ) → GoesOn d (literal_alone (draft_at d.table) f o) (literal_alone d f o)
+literal_goes d f (Some i) = record { table = refl; lines = refl; instructions = sym (append-nil d.instructions) }
+literal_goes d f None = record { table = refl; lines = refl; instructions = sym (append-nil d.instructions) }
+
+line_goes : (d : Draft) (f : Field) (o : Option ℕ) → GoesOn d (line_alone (draft_at d.table) f o) (line_alone d f o)
+line_goes d f (Some i) = record { table = refl; lines = refl; instructions = sym (append-nil d.instructions) }
+line_goes d f None = literal_goes d f (static_name_index f.name)
+
+goes_if : (b : Bool) (d x y u v : Draft) → GoesOn d x u → GoesOn d y v → GoesOn d (cond b x y) (cond b u v)
+goes_if true d x y u v p q = p
+goes_if false d x y u v p q = q
+
+named_goes : (base : ℕ) (d x u : Draft) (f : Field) (a : ℕ) → GoesOn d x u
+    → GoesOn d (named_or base (draft_at d.table) f a x) (named_or base d f a u)
+named_goes base d x u f a k =
+    goes_if (passes_at d.table (has_name f.name) a && may_reference d.table a) d _ x _ u
+    (record { table = refl; lines = refl; instructions = sym (append-nil d.instructions) }) k
+
+literal_chosen_goes : (base : ℕ) (d : Draft) (f : Field) (c : Choice)
+    → GoesOn d (literal_chosen base (draft_at d.table) f c) (literal_chosen base d f c)
+literal_chosen_goes base d f Alone = literal_goes d f (static_name_index f.name)
+literal_chosen_goes base d f (References a) = literal_goes d f (static_name_index f.name)
+literal_chosen_goes base d f (Names a) =
+    named_goes base d _ _ f a (literal_goes d f (static_name_index f.name))
+literal_chosen_goes base d f Inserts = literal_goes d f (static_name_index f.name)
+
+line_chosen_goes : (base : ℕ) (d : Draft) (f : Field) (c : Choice)
+    → GoesOn d (line_chosen base (draft_at d.table) f c) (line_chosen base d f c)
+line_chosen_goes base d f Alone = line_goes d f (static_index f)
+line_chosen_goes base d f (References a) =
+    goes_if (passes_at d.table (is_field f) a && may_reference d.table a) d _ _ _ _
+    (record { table = refl; lines = refl; instructions = sym (append-nil d.instructions) }) (line_goes d f (static_index f))
+line_chosen_goes base d f (Names a) = named_goes base d _ _ f a (line_goes d f (static_index f))
+line_chosen_goes base d f Inserts =
+    goes_if (below_limit d.table && has_room d.table f) d _ _ _ _
+    (record { table = refl; lines = refl; instructions = refl }) (line_goes d f (static_index f))
+
+unreferenced_goes : (unreferenced : Bool) (d x u : Draft) (f : Field) → GoesOn d x u
+    → GoesOn d (unreferenced_chosen unreferenced x f) (unreferenced_chosen unreferenced u f)
+unreferenced_goes unreferenced d x u f k =
+    subst (λ (t : Table). GoesOn d (unreferenced_chosen unreferenced x f)
+    (cond (unreferenced && has_room t f) (record u {
+      table = with_entry t (sent_entry f);
+      instructions = u.instructions ++ instruction_for f (entries_left t f) ∷ [];
+    }) u)) (sym k.table)
+    (goes_if (unreferenced && has_room x.table f) d (with_unreferenced_entry x f) x
+    (record u {
+      table = with_entry x.table (sent_entry f);
+      instructions = u.instructions ++ instruction_for f (entries_left x.table f) ∷ [];
+    }) u
+    (record {
+      table = refl;
+      lines = k.lines;
+      instructions = ap (λ (is : List EncoderInstruction). is ++ instruction_for f (entries_left x.table f) ∷ [])
+          k.instructions
+          ∙ append_assoc d.instructions x.instructions (instruction_for f (entries_left x.table f) ∷ []);
+    }) k)
+
+pub goes_chosen : (base : ℕ) (d : Draft) (l : FieldLine) (c : Chosen)
+    → GoesOn d (chosen_field base (draft_at d.table) l c) (chosen_field base d l c)
+goes_chosen base d l c =
+    goes_if l.never_indexed d _ _ _ _ (literal_chosen_goes base d l.field c.line)
+    (unreferenced_goes c.unreferenced d (line_chosen base (draft_at d.table) l.field c.line) (line_chosen base d l.field c.line) l.field
+    (line_chosen_goes base d l.field c.line))
+
+-- ---- one line for each field
+
+-- one line more than before
+abbrev OneMore : Draft → Draft → Type 0
+OneMore d new = length new.lines ≡ length d.lines + 1
+
+one_literal : (d : Draft) (f : Field) (o : Option ℕ) → OneMore d (literal_alone d f o)
+one_literal d f (Some i) = length-append d.lines _
+one_literal d f None = length-append d.lines _
+
+one_alone : (d : Draft) (f : Field) (o : Option ℕ) → OneMore d (line_alone d f o)
+one_alone d f (Some i) = length-append d.lines _
+one_alone d f None = one_literal d f (static_name_index f.name)
+
+one_named : (base : ℕ) (d other : Draft) (f : Field) (a : ℕ) → OneMore d other → OneMore d (named_or base d f a other)
+one_named base d other f a k =
+    cond_both (passes_at d.table (has_name f.name) a && may_reference d.table a) _ other (OneMore d)
+    (λ _. length-append d.lines _) (λ _. k)
+
+one_literal_chosen : (base : ℕ) (d : Draft) (f : Field) (c : Choice) → OneMore d (literal_chosen base d f c)
+one_literal_chosen base d f Alone = one_literal d f (static_name_index f.name)
+one_literal_chosen base d f (References a) = one_literal d f (static_name_index f.name)
+one_literal_chosen base d f (Names a) = one_named base d _ f a (one_literal d f (static_name_index f.name))
+one_literal_chosen base d f Inserts = one_literal d f (static_name_index f.name)
+
+one_line_chosen : (base : ℕ) (d : Draft) (f : Field) (c : Choice) → OneMore d (line_chosen base d f c)
+one_line_chosen base d f Alone = one_alone d f (static_index f)
+one_line_chosen base d f (References a) =
+    cond_both (passes_at d.table (is_field f) a && may_reference d.table a) _ (line_alone d f (static_index f)) (OneMore d)
+    (λ _. length-append d.lines _) (λ _. one_alone d f (static_index f))
+one_line_chosen base d f (Names a) = one_named base d _ f a (one_alone d f (static_index f))
+one_line_chosen base d f Inserts =
+    cond_both (below_limit d.table && has_room d.table f) _ (line_alone d f (static_index f)) (OneMore d)
+    (λ _. length-append d.lines _) (λ _. one_alone d f (static_index f))
+
+one_unreferenced : (unreferenced : Bool) (d mid : Draft) (f : Field) → OneMore d mid
+    → OneMore d (unreferenced_chosen unreferenced mid f)
+one_unreferenced unreferenced d mid f k =
+    cond_both (unreferenced && has_room mid.table f) (with_unreferenced_entry mid f) mid (OneMore d) (λ _. k) (λ _. k)
+
+one_chosen : (base : ℕ) (d : Draft) (l : FieldLine) (c : Chosen) → OneMore d (chosen_field base d l c)
+one_chosen base d l c =
+    field_by (OneMore d) base d l c (one_literal_chosen base d l.field c.line)
+    (one_unreferenced c.unreferenced d (line_chosen base d l.field c.line) l.field
+    (one_line_chosen base d l.field c.line))
+
+chosen_each : (base : ℕ) (d : Draft) (ls : List FieldLine) (cs : List Chosen)
+    → length (chosen_fields base d ls cs).lines ≡ length d.lines + length ls
+chosen_each base d [] cs = omega arith
+chosen_each base d (l ∷ ls) [] =
+    omega (arith, chosen_each base (chosen_field base d l alone_chosen) ls [], one_chosen base d l alone_chosen)
+chosen_each base d (l ∷ ls) (c ∷ cs) =
+    omega (arith, chosen_each base (chosen_field base d l c) ls cs, one_chosen base d l c)
+
+-- ---- field lines that were added by some choices
+
+-- the last field line is added to what the others made
+last_chosen : (base : ℕ) (d : Draft) (ls : List FieldLine) (l : FieldLine) (cs : List Chosen) (c : Chosen)
+    → length cs ≡ length ls
+    → chosen_fields base d (ls ++ l ∷ []) (cs ++ c ∷ []) ≡ chosen_field base (chosen_fields base d ls cs) l c
+last_chosen base d [] l [] c e = refl
+last_chosen base d [] l (x ∷ cs) c e = absurd (omega (arith, e))
+last_chosen base d (k ∷ ls) l [] c e = absurd (omega (arith, e))
+last_chosen base d (k ∷ ls) l (x ∷ cs) c e = last_chosen base (chosen_field base d k x) ls l cs c (omega (arith, e))
+
+goes_on_chosen : (t : Table) (base : ℕ) (ls : List FieldLine) (l : FieldLine) (cs : List Chosen) (c : Chosen)
+    → length cs ≡ length ls
+    → GoesOn (chosen_fields base (draft_at t) ls cs)
+    (chosen_field base (draft_at (chosen_fields base (draft_at t) ls cs).table) l c)
+    (chosen_fields base (draft_at t) (ls ++ l ∷ []) (cs ++ c ∷ []))
+goes_on_chosen t base ls l cs c each =
+    let d = chosen_fields base (draft_at t) ls cs in
+    subst (λ (x : Draft). GoesOn d (chosen_field base (draft_at d.table) l c) x)
+    (sym (last_chosen base (draft_at t) ls l cs c each)) (goes_chosen base d l c)
+
+pub chosen_none : (t : Table) (base : ℕ) (lines written : List ℕ) → AddsChosen [] t base t lines lines written written
+unfolding written_marked_lines written_lines written_encoder_instructions
+chosen_none t base lines written =
+    record {
+      choices = [];
+      each = refl;
+      adds = record { table = refl; lines = sym (append-nil lines); written = sym (append-nil written) };
+    }
+
+-- what one field line adds under some choice
+abbrev AddsOne : FieldLine → ℕ → Table → Table → List ℕ → List ℕ → List ℕ → List ℕ → Type 0
+AddsOne l base mid new lines_mid lines_new written_mid written_new =
+    (c : Chosen) × AddsLines (l ∷ []) (chosen_field base (draft_at mid) l c) new lines_mid lines_new written_mid
+    written_new
+
+-- where one stops, under some choice
+abbrev StopsOne : FieldLine → ℕ → Table → Table → List ℕ → List ℕ → Type 0
+StopsOne l base mid new written_mid written_new =
+    (c : Chosen) × StopsAdding (chosen_field base (draft_at mid) l c) mid new written_mid written_new
+
+chosen_last : (t : Table) (base : ℕ) (ls : List FieldLine) (l : FieldLine) (mid new : Table)
+    (lines_old lines_mid lines_new written_old written_mid written_new : List ℕ)
+    → AddsChosen ls t base mid lines_old lines_mid written_old written_mid
+    → AddsOne l base mid new lines_mid lines_new written_mid written_new
+    → AddsChosen (ls ++ l ∷ []) t base new lines_old lines_new written_old written_new
+chosen_last t base ls l mid new lines_old lines_mid lines_new written_old written_mid written_new so_far (c, more) =
+    let d = chosen_fields base (draft_at t) ls so_far.choices in
+    let goes = goes_on_chosen t base ls l so_far.choices c so_far.each in
+    let m = chosen_field base (draft_at d.table) l c in
+    let next : AddsLines (l ∷ []) m new lines_mid lines_new written_mid written_new =
+    subst (λ (x : Table). AddsLines (l ∷ []) (chosen_field base (draft_at x) l c) new lines_mid lines_new written_mid
+    written_new) so_far.adds.table more in
+    record {
+      choices = so_far.choices ++ c ∷ [];
+      each = omega (arith, so_far.each, length-append so_far.choices (c ∷ []), length-append ls (l ∷ []));
+      adds = record {
+        table = next.table ∙ sym goes.table;
+        lines = appended lines_old (written_marked_lines ls d.lines) (written_marked_lines (l ∷ []) m.lines)
+            lines_mid lines_new so_far.adds.lines next.lines
+            ∙ ap (λ (x : List ℕ). lines_old ++ x)
+            (sym (ap (λ (x : List Line). written_marked_lines (ls ++ l ∷ []) x) goes.lines
+            ∙ lines_behind ls (l ∷ []) d.lines m.lines
+            (omega (arith, chosen_each base (draft_at t) ls so_far.choices))));
+        written = appended written_old (written_encoder_instructions d.instructions)
+            (written_encoder_instructions m.instructions) written_mid written_new so_far.adds.written next.written
+            ∙ ap (λ (x : List ℕ). written_old ++ x)
+            (sym (ap written_encoder_instructions goes.instructions
+            ∙ instructions_behind d.instructions m.instructions));
+      };
+    }
+
+-- ---- by position in a list of items that lend field lines
+
+pub chosen_next : {H : Type 0} (line : H → FieldLine) (xs : List H) (i : ℕ) (x : H) (f : FieldLine) (t : Table)
+    (base other : ℕ) (mid new : Table) (lines_old lines_mid lines_new written_old written_mid written_new : List ℕ)
+    → i < length xs → x ≡ get_or xs i x → other ≡ base → f ≡ line x
+    → AddsChosen (map line (take i xs)) t base mid lines_old lines_mid written_old written_mid
+    → AddsOne f other mid new lines_mid lines_new written_mid written_new
+    → AddsChosen (map line (take (i + 1) xs)) t base new lines_old lines_new written_old written_new
+chosen_next line xs i x f t base other mid new lines_old lines_mid lines_new written_old written_mid written_new within
+    is same lent so_far more =
+    rw (front_of line xs i x within, ← is)
+    (chosen_last t base (map line (take i xs)) (line x) mid new lines_old lines_mid lines_new written_old written_mid
+    written_new so_far
+    (subst (λ (b : ℕ). AddsOne (line x) b mid new lines_mid lines_new written_mid written_new) same
+    (subst (λ (l : FieldLine). AddsOne l other mid new lines_mid lines_new written_mid written_new) lent more)))
+
+stops_chosen : {H : Type 0} (line : H → FieldLine) (xs : List H) (i : ℕ) (x : H) (t : Table) (base : ℕ)
+    (mid new : Table) (lines_old lines_mid written_old written_mid written_new : List ℕ)
+    → i < length xs → x ≡ get_or xs i x
+    → AddsChosen (map line (take i xs)) t base mid lines_old lines_mid written_old written_mid
+    → StopsOne (line x) base mid new written_mid written_new
+    → StopsAmongChosen (map line xs) t base new written_old written_new
+stops_chosen line xs i x t base mid new lines_old lines_mid written_old written_mid written_new within is so_far
+    (c, stops) =
+    let ls = map line (take i xs) in
+    let l = line x in
+    let d = chosen_fields base (draft_at t) ls so_far.choices in
+    let goes = goes_on_chosen t base ls l so_far.choices c so_far.each in
+    let m = chosen_field base (draft_at d.table) l c in
+    let now : mid ≡ d.table = so_far.adds.table in
+    elim stops [
+      | inl h ↦
+          record {
+            many = i;
+            choices = so_far.choices;
+            table = rw (take_lines line xs i) (h.0 ∙ ap (λ (x : Table). without_references x) now);
+            written = rw (take_lines line xs i) (h.1 ∙ so_far.adds.written);
+          }
+      | inr h ↦
+          let front : take (i + 1) (map line xs) ≡ ls ++ l ∷ [] =
+          take_lines line xs (i + 1) ∙ rw (front_of line xs i x within, ← is) refl in
+          record {
+            many = i + 1;
+            choices = so_far.choices ++ c ∷ [];
+            table = rw front (ap (λ (x : Table). without_references x)
+                (h.0 ∙ ap (λ (x : Table). (chosen_field base (draft_at x) l c).table) now ∙ sym goes.table));
+            written = rw front (appended written_old (written_encoder_instructions d.instructions)
+                (written_encoder_instructions m.instructions) written_mid written_new so_far.adds.written
+                (h.1
+                ∙ ap (λ (x : Table). written_mid
+                ++ written_encoder_instructions (chosen_field base (draft_at x) l c).instructions) now)
+                ∙ ap (λ (x : List ℕ). written_old ++ x)
+                (sym (ap written_encoder_instructions goes.instructions
+                ∙ instructions_behind d.instructions m.instructions)));
+          }
+    ]
+
+pub stops_chosen_next : {H : Type 0} (line : H → FieldLine) (xs : List H) (i : ℕ) (x : H) (f : FieldLine) (t : Table)
+    (base other : ℕ) (mid new : Table) (lines_old lines_mid written_old written_mid written_new : List ℕ)
+    → i < length xs → x ≡ get_or xs i x → other ≡ base → f ≡ line x
+    → AddsChosen (map line (take i xs)) t base mid lines_old lines_mid written_old written_mid
+    → StopsOne f other mid new written_mid written_new
+    → StopsAmongChosen (map line xs) t base new written_old written_new
+stops_chosen_next line xs i x f t base other mid new lines_old lines_mid written_old written_mid written_new within is
+    same lent so_far stops =
+    stops_chosen line xs i x t base mid new lines_old lines_mid written_old written_mid written_new within is so_far
+    (subst (λ (b : ℕ). StopsOne (line x) b mid new written_mid written_new) same
+    (subst (λ (l : FieldLine). StopsOne l other mid new written_mid written_new) lent stops))
+
+-- ---- by a chooser
+
+-- the chooser is asked for a field that is never to be indexed, and for one that no static field equals
+pub asked_marked : {K W : Type 0} (chooses : Chooses K W) (before after : K) (t : Table) (l : FieldLine) (w : W)
+    (c : Chosen) → l.never_indexed ≡ true → chooses before t l w c after → ChoosesField chooses before t l w c after
+asked_marked chooses before after t l w c marked k = by (static_index l.field) l.never_indexed marked
+  where
+    by : (o : Option ℕ) (b : Bool) → b ≡ true → ChoosesUnless o b chooses before t l w c after
+    by None b is = k
+    by (Some i) true is = k
+    by (Some i) false is = absurd cc
+
+pub asked_new : {K W : Type 0} (chooses : Chooses K W) (before after : K) (t : Table) (l : FieldLine) (w : W)
+    (c : Chosen) → static_index l.field ≡ None → chooses before t l w c after → ChoosesField chooses before t l w c after
+asked_new chooses before after t l w c none k =
+    subst (λ (o : Option ℕ). ChoosesUnless o l.never_indexed chooses before t l w c after) (sym none) k
+
+-- and not for one that a static field equals
+pub not_asked : {K W : Type 0} (chooses : Chooses K W) (k : K) (t : Table) (l : FieldLine) (w : W) (i : ℕ)
+    → l.never_indexed ≡ false → static_index l.field ≡ Some i → ChoosesField chooses k t l w alone_chosen k
+not_asked chooses k t l w i plain some =
+    subst (λ (o : Option ℕ). ChoosesUnless o l.never_indexed chooses k t l w alone_chosen k) (sym some)
+    (subst (λ (b : Bool). ChoosesUnless (Some i) b chooses k t l w alone_chosen k) (sym plain) (refl, refl))
+
+chooses_last : {K W : Type 0} (chooses : Chooses K W) (base : ℕ) (d : Draft) (old mid new : K) (ls : List FieldLine)
+    (ws : List W) (cs : List Chosen) (l : FieldLine) (w : W) (c : Chosen)
+    → ChoosesAlong chooses base d old ls ws cs mid
+    → ChoosesField chooses mid (chosen_fields base d ls cs).table l w c new
+    → ChoosesAlong chooses base d old (ls ++ l ∷ []) (ws ++ w ∷ []) (cs ++ c ∷ []) new
+chooses_last {K = K} chooses base d old mid new [] [] [] l w c k one =
+    subst (λ (x : K). (y : K) × ChoosesField chooses x d.table l w c y × (new ≡ y)) k (new, one, refl)
+chooses_last chooses base d old mid new (x ∷ ls) (v ∷ ws) (b ∷ cs) l w c (next, first, k) one =
+    (next, first, chooses_last chooses base (chosen_field base d x b) next mid new ls ws cs l w c k one)
+chooses_last chooses base d old mid new [] [] (b ∷ cs) l w c k one = absurd k
+chooses_last chooses base d old mid new [] (v ∷ ws) cs l w c k one = absurd k
+chooses_last chooses base d old mid new (x ∷ ls) [] cs l w c k one = absurd k
+chooses_last chooses base d old mid new (x ∷ ls) (v ∷ ws) [] l w c k one = absurd k
+
+pub along_none : {K W : Type 0} (chooses : Chooses K W) (t : Table) (base : ℕ) (k : K) (lines written : List ℕ)
+    → AddsAlong chooses [] [] t base t k k lines lines written written
+unfolding chosen_none
+along_none chooses t base k lines written = record { adds = chosen_none t base lines written; along = refl }
+
+along_last : {K W : Type 0} (chooses : Chooses K W) (t : Table) (base : ℕ) (ls : List FieldLine) (ws : List W)
+    (l : FieldLine) (w : W) (mid new : Table) (first before after : K) (lines_old lines_mid lines_new written_old
+    written_mid written_new : List ℕ)
+    → AddsAlong chooses ls ws t base mid first before lines_old lines_mid written_old written_mid
+    → AddsByChooser chooses l w base mid new before after lines_mid lines_new written_mid written_new
+    → AddsAlong chooses (ls ++ l ∷ []) (ws ++ w ∷ []) t base new first after lines_old lines_new written_old
+    written_new
+unfolding chosen_last
+along_last chooses t base ls ws l w mid new first before after lines_old lines_mid lines_new written_old written_mid
+    written_new so_far one =
+    record {
+      adds = chosen_last t base ls l mid new lines_old lines_mid lines_new written_old written_mid written_new
+          so_far.adds (one.choice, one.adds);
+      along = chooses_last chooses base (draft_at t) first before after ls ws so_far.adds.choices l w one.choice
+          so_far.along
+          (subst (λ (x : Table). ChoosesField chooses before x l w one.choice after) so_far.adds.adds.table one.chose);
+    }
+
+-- the first items, and one more
+front_with : {H B : Type 0} (g : H → B) (xs : List H) (i : ℕ) (d : H) → i < length xs
+    → map g (take (i + 1) xs) ≡ map g (take i xs) ++ g (get_or xs i d) ∷ []
+front_with g xs i d within = rw (add-one, take-suc xs i d within) (map-append g (take i xs) (get_or xs i d ∷ []))
+
+pub along_next : {K W H : Type 0} (chooses : Chooses K W) (line : H → FieldLine) (wish : H → W) (xs : List H) (i : ℕ)
+    (x : H) (f : FieldLine) (w : W) (t : Table) (base other : ℕ) (mid new : Table) (first before after : K)
+    (lines_old lines_mid lines_new written_old written_mid written_new : List ℕ)
+    → i < length xs → x ≡ get_or xs i x → other ≡ base → f ≡ line x → w ≡ wish x
+    → AddsAlong chooses (map line (take i xs)) (map wish (take i xs)) t base mid first before lines_old lines_mid
+    written_old written_mid
+    → AddsByChooser chooses f w other mid new before after lines_mid lines_new written_mid written_new
+    → AddsAlong chooses (map line (take (i + 1) xs)) (map wish (take (i + 1) xs)) t base new first after lines_old
+    lines_new written_old written_new
+along_next {W = W} chooses line wish xs i x f w t base other mid new first before after lines_old lines_mid lines_new
+    written_old written_mid written_new within is same lent asked so_far more =
+    rw (front_with line xs i x within, front_with wish xs i x within, ← is)
+    (along_last chooses t base (map line (take i xs)) (map wish (take i xs)) (line x) (wish x) mid new first before
+    after lines_old lines_mid lines_new written_old written_mid written_new so_far
+    (subst (λ (b : ℕ). AddsByChooser chooses (line x) (wish x) b mid new before after lines_mid lines_new written_mid
+    written_new) same
+    (subst (λ (v : W). AddsByChooser chooses (line x) v other mid new before after lines_mid lines_new written_mid
+    written_new) asked
+    (subst (λ (l : FieldLine). AddsByChooser chooses l w other mid new before after lines_mid lines_new written_mid
+    written_new) lent more))))

@@ -1,0 +1,684 @@
+-- The line of a field by what is chosen for it, and an insertion after it that no line references.
+use Rattle.std.proofs.Common.{◌≡◌, ℕ, ◌+◌, ◌-◌, ◌≤◌, List, [], ◌∷◌, ◌++◌, length, Bool, true, false, cond, Option, None, Some, refl}
+use Rattle.std.proofs.Common.{sym, ap, subst, ◌∙◌, arith, append-nil, inl, inr, Result, Ok, Err, OnOk, OnErr}
+use Rattle.std.specs.Prelude.{◌&&◌, nat_le}
+use Rattle.std.proofs.lemmas.Bool.{cond_both, lt-ltb}
+use Rattle.qpack_spec.specs.Chosen as chosen
+use Rattle.qpack_spec.specs.Chosen.{Chosen, Alone, References, Names, Inserts, passes_at, literal_alone, line_alone}
+use Rattle.qpack_spec.specs.Chosen.{literal_chosen, line_chosen, unreferenced_chosen, chosen_field}
+use Rattle.qpack_spec.specs.Chosen.{with_unreferenced_entry, alone_chosen}
+use Rattle.qpack_spec.specs.Field.{Field, FieldLine, has_name, is_field}
+use Rattle.qpack_spec.specs.Handle.{Lookup, AtStatic, AtRelative, AtPostBase, NotFound, Found, found_entry, lookup_of}
+use Rattle.qpack_spec.specs.Handle.{literal_at, line_of, answer_of, Insertion, Insertable}
+use Rattle.qpack_spec.specs.Instruction.{EncoderInstruction, InsertStaticName, InsertDynamicName, InsertLiteralName}
+use Rattle.qpack_spec.specs.Instruction.{Duplicate, SetCapacity, written_encoder_instruction}
+use Rattle.qpack_spec.specs.Instruction.{written_encoder_instructions}
+use Rattle.qpack_spec.specs.Line.{Line, IndexedStatic, IndexedDynamic, IndexedPostBase, NamedStatic, NamedDynamic}
+use Rattle.qpack_spec.specs.Line.{NamedPostBase, Literal, written_line, written_lines, written_marked_line}
+use Rattle.qpack_spec.specs.Marked.{written_marked_lines}
+use Rattle.qpack_spec.specs.Rule.{Draft, with_new_entry, by_name, by_static_name, by_equal, instruction_for}
+use Rattle.qpack_spec.specs.Rule.{entries_left}
+use Rattle.qpack_spec.specs.Stateless.{stateless_literal}
+use Rattle.qpack_spec.specs.StaticTable.{static_index, static_name_index}
+use Rattle.qpack_spec.specs.Table.{Table, insert_count, newest_index, may_reference, with_reference}
+use Rattle.qpack_spec.specs.Table.{without_references, has_room, below_limit}
+use Rattle.qpack_spec.proofs.Positions.{FoundEntry, newest_found}
+use Rattle.qpack_table.specs.Handles.{IsSoughtIn, InsertsIf, insertion_at, insertion_of, referenced_insertion}
+use Rattle.qpack_table.specs.Handles.{unreferenced_insertion}
+use Rattle.qpack_table.specs.Handles.{lookup_of as result_of}
+use Rattle.qpack_table.specs.declared.dynamic.encoder.DynamicInsertionResult.{DynamicInsertionResult}
+use Rattle.qpack_table.specs.declared.dynamic.encoder.DynamicLookupResult.{DynamicLookupResult}
+use Rattle.qpack_table.specs.declared.dynamic.encoder.DynamicLookupResult.TheVariants as answer
+use Rattle.qpack_table.specs.declared.dynamic.sought.SoughtField.{SoughtField}
+use Rattle.qpack_codec.specs.Choices.{by_entry, line_choice, inserts_after, chosen_of}
+use Rattle.qpack_codec.specs.ChosenSections.{AddsLine}
+use Rattle.qpack_codec.specs.Encoding.{draft_at, written_insertion, Adds, AddsLines, StopsAdding}
+use Rattle.qpack_codec.specs.declared.encoder.choices.Choice as choice
+use Rattle.qpack_codec.proofs.MarkedFields.{written_unmarked, lines_unmarked}
+
+-- ---- an entry that was found
+
+found_passes : (t : Table) (p : Field → Bool) (a : ℕ) → FoundEntry t p a → passes_at t p a ≡ true
+found_passes t p a at =
+    let n : a - t.dropped - 1 ≡ at.position = omega (arith, at.index) in
+    rw (lt-ltb t.dropped a at.above, n, at.there) at.passes
+
+-- to find an entry changes what is referenced alone
+entry_keeps : (t : Table) (base : ℕ) (o : Option ℕ)
+    → without_references (found_entry t base o).table ≡ without_references t
+unfolding without_references with_reference
+entry_keeps t base None = refl
+entry_keeps t base (Some a) =
+    cond_both (may_reference t a) _ _ (λ (x : Found). without_references x.table ≡ without_references t) (λ b. refl)
+    (λ b. refl)
+
+pub found_keeps : (t new : Table) (base : ℕ) (o : Option ℕ) (lookup : Lookup)
+    → found_entry t base o ≡ record { lookup = lookup; table = new } → without_references new ≡ without_references t
+found_keeps t new base o lookup is =
+    ap (λ (x : Found). without_references x.table) (sym is) ∙ entry_keeps t base o
+
+same_newest : (t : Table) (base : ℕ) (o : Option ℕ) (p : Field → Bool)
+    → newest_index (found_entry t base o).table p ≡ newest_index t p
+unfolding newest_index with_reference
+same_newest t base None p = refl
+same_newest t base (Some a) p =
+    cond_both (may_reference t a) _ _ (λ (x : Found). newest_index x.table p ≡ newest_index t p) (λ b. refl) (λ b. refl)
+
+-- what was sought stays where it is
+pub sought_still : (t new : Table) (base : ℕ) (o : Option ℕ) (lookup : Lookup) (f : Field) (sought : SoughtField)
+    → found_entry t base o ≡ record { lookup = lookup; table = new } → IsSoughtIn t f sought → IsSoughtIn new f sought
+sought_still t new base o lookup f sought found k =
+    record {
+      hashes = k.hashes;
+      newest = k.newest ∙ sym (same_newest t base o (is_field f))
+          ∙ ap (λ (x : Found). newest_index x.table (is_field f)) found;
+      static_name = k.static_name;
+    }
+
+-- ---- a line without the dynamic table
+
+literal_alone_is : (t : Table) (f : Field) (o : Option ℕ)
+    → literal_alone (draft_at t) f o ≡ record { table = t; lines = stateless_literal f o ∷ []; instructions = [] }
+literal_alone_is t f None = refl
+literal_alone_is t f (Some i) = refl
+
+line_alone_is : (t : Table) (f : Field) → static_index f ≡ None
+    → line_alone (draft_at t) f (static_index f)
+    ≡ record { table = t; lines = stateless_literal f (static_name_index f.name) ∷ []; instructions = [] }
+line_alone_is t f none = rw none (literal_alone_is t f (static_name_index f.name))
+
+one_marked_line : (l : FieldLine) (x : Line)
+    → written_marked_lines (l ∷ []) (x ∷ []) ≡ written_marked_line l.never_indexed x
+unfolding written_marked_lines written_lines
+one_marked_line l x = append-nil (written_marked_line l.never_indexed x)
+
+-- a draft of one line, which was written
+adds_line : (l : FieldLine) (d : Draft) (new : Table) (x : Line) (lines_old lines_new : List ℕ)
+    → d ≡ record { table = new; lines = x ∷ []; instructions = [] }
+    → lines_new ≡ lines_old ++ written_marked_line l.never_indexed x → AddsLine l d new lines_old lines_new
+adds_line l d new x lines_old lines_new is lines =
+    record {
+      table = sym (ap (λ (y : Draft). y.table) is);
+      none = ap (λ (y : Draft). y.instructions) is;
+      lines = lines
+          ∙ ap (λ (b : List ℕ). lines_old ++ b)
+          (sym (ap (λ (y : Draft). written_marked_lines (l ∷ []) y.lines) is ∙ one_marked_line l x));
+    }
+
+-- ---- the line of an equal entry
+
+abbrev pub equal_line : Field → Lookup → Line
+equal_line f (AtRelative index absolute) = IndexedDynamic index
+equal_line f (AtPostBase index absolute) = IndexedPostBase index
+equal_line f (AtStatic index) = stateless_literal f (static_name_index f.name)
+equal_line f NotFound = stateless_literal f (static_name_index f.name)
+
+reference_line_is : (base a : ℕ) (f : Field)
+    → cond (nat_le a base) (IndexedDynamic (base - a)) (IndexedPostBase (a - base - 1))
+    ≡ equal_line f (lookup_of base a)
+reference_line_is base a f = both (nat_le a base)
+  where
+    both : (b : Bool) → cond b (IndexedDynamic (base - a)) (IndexedPostBase (a - base - 1))
+        ≡ equal_line f (cond b (AtRelative (base - a) a) (AtPostBase (a - base - 1) a))
+    both true = refl
+    both false = refl
+
+equal_is : (t : Table) (base : ℕ) (f : Field) (o : Option ℕ) → newest_index t (is_field f) ≡ o → static_index f ≡ None
+    → line_chosen base (draft_at t) f (by_entry References o)
+    ≡ record {
+      table = (found_entry t base o).table;
+      lines = equal_line f (found_entry t base o).lookup ∷ [];
+      instructions = [];
+    }
+equal_is t base f None at none = line_alone_is t f none
+equal_is t base f (Some a) at none =
+    rw (found_passes t (is_field f) a (newest_found t (is_field f) a at)) (both (may_reference t a))
+  where
+    both : (b : Bool)
+        → cond b (record {
+          table = with_reference t a;
+          lines = cond (nat_le a base) (IndexedDynamic (base - a)) (IndexedPostBase (a - base - 1)) ∷ [];
+          instructions = [];
+        }) (line_alone (draft_at t) f (static_index f))
+        ≡ (let x : Found =
+        cond b (record { lookup = lookup_of base a; table = with_reference t a })
+        (record { lookup = NotFound; table = t }) in
+        let d : Draft = record { table = x.table; lines = equal_line f x.lookup ∷ []; instructions = [] } in d)
+    both true =
+        ap (λ (x : Line). let d : Draft = record {
+          table = with_reference t a;
+          lines = x ∷ [];
+          instructions = [];
+        } in d) (reference_line_is base a f)
+    both false = line_alone_is t f none
+
+adds_found_equal : (t new : Table) (base : ℕ) (l : FieldLine) (o : Option ℕ) (lookup : Lookup) (x : Line)
+    (lines_old lines_new : List ℕ) → o ≡ newest_index t (is_field l.field) → static_index l.field ≡ None
+    → found_entry t base o ≡ record { lookup = lookup; table = new } → equal_line l.field lookup ≡ x
+    → lines_new ≡ lines_old ++ written_marked_line l.never_indexed x
+    → AddsLine l (line_chosen base (draft_at t) l.field (by_entry References (newest_index t (is_field l.field)))) new
+    lines_old lines_new
+adds_found_equal t new base l o lookup x lines_old lines_new at none found is lines =
+    adds_line l _ new x lines_old lines_new
+    (ap (λ (n : Option ℕ). line_chosen base (draft_at t) l.field (by_entry References n)) (sym at)
+    ∙ equal_is t base l.field o (sym at) none
+    ∙ ap (λ (y : Found). let d : Draft = record {
+      table = y.table;
+      lines = equal_line l.field y.lookup ∷ [];
+      instructions = [];
+    } in d) found
+    ∙ ap (λ (y : Line). let d : Draft = record { table = new; lines = y ∷ []; instructions = [] } in d) is)
+    lines
+
+pub adds_equal : (t new : Table) (base : ℕ) (l : FieldLine) (o : Option ℕ) (lookup : Lookup) (x : Line)
+    (lines_old lines_new : List ℕ) → l.never_indexed ≡ false → o ≡ newest_index t (is_field l.field)
+    → static_index l.field ≡ None → found_entry t base o ≡ record { lookup = lookup; table = new }
+    → equal_line l.field lookup ≡ x → lines_new ≡ lines_old ++ written_line x
+    → AddsLine l (line_chosen base (draft_at t) l.field (by_entry References (newest_index t (is_field l.field)))) new
+    lines_old lines_new
+adds_equal t new base l o lookup x lines_old lines_new unmarked at none found is lines =
+    adds_found_equal t new base l o lookup x lines_old lines_new at none found is
+    (lines
+    ∙ ap (λ (b : List ℕ). lines_old ++ b)
+    (sym (ap (λ (b : Bool). written_marked_line b x) unmarked ∙ written_unmarked l.field x)))
+
+-- no entry was found that may be referenced
+no_line : (f : Field) (lookup : DynamicLookupResult)
+    → ((index absolute : ℕ) → lookup ≡ answer.Relative index absolute → ⊥)
+    → ((index absolute : ℕ) → lookup ≡ answer.PostBase index absolute → ⊥)
+    → equal_line f (result_of lookup) ≡ stateless_literal f (static_name_index f.name)
+no_line f (answer.Static index) before since = refl
+no_line f (answer.Relative index absolute) before since = absurd (before index absolute refl)
+no_line f (answer.PostBase index absolute) before since = absurd (since index absolute refl)
+no_line f answer.NotFound before since = refl
+
+pub adds_equal_alone : (t new : Table) (base : ℕ) (l : FieldLine) (o : Option ℕ) (lookup : DynamicLookupResult)
+    (lines_old lines_new : List ℕ) → o ≡ newest_index t (is_field l.field) → static_index l.field ≡ None
+    → found_entry t base o ≡ record { lookup = result_of lookup; table = new }
+    → ((index absolute : ℕ) → lookup ≡ answer.Relative index absolute → ⊥)
+    → ((index absolute : ℕ) → lookup ≡ answer.PostBase index absolute → ⊥)
+    → lines_new ≡ lines_old
+    ++ written_marked_line l.never_indexed (stateless_literal l.field (static_name_index l.field.name))
+    → AddsLine l (line_chosen base (draft_at t) l.field (by_entry References (newest_index t (is_field l.field)))) new
+    lines_old lines_new
+adds_equal_alone t new base l o lookup lines_old lines_new at none found before since lines =
+    adds_found_equal t new base l o (result_of lookup) (stateless_literal l.field (static_name_index l.field.name))
+    lines_old lines_new at none found (no_line l.field lookup before since) lines
+
+-- ---- a literal with the name of an entry
+
+abbrev pub named_line : Field → Lookup → Line
+named_line f NotFound = stateless_literal f (static_name_index f.name)
+named_line f lookup = literal_at f lookup
+
+name_line_is : (base a : ℕ) (f : Field)
+    → cond (nat_le a base) (NamedDynamic (base - a) f.value) (NamedPostBase (a - base - 1) f.value)
+    ≡ named_line f (lookup_of base a)
+name_line_is base a f = both (nat_le a base)
+  where
+    both : (b : Bool) → cond b (NamedDynamic (base - a) f.value) (NamedPostBase (a - base - 1) f.value)
+        ≡ named_line f (cond b (AtRelative (base - a) a) (AtPostBase (a - base - 1) a))
+    both true = refl
+    both false = refl
+
+named_is : (t : Table) (base : ℕ) (f : Field) (o : Option ℕ) → newest_index t (has_name f.name) ≡ o
+    → literal_chosen base (draft_at t) f (by_entry Names o)
+    ≡ record {
+      table = (found_entry t base o).table;
+      lines = named_line f (found_entry t base o).lookup ∷ [];
+      instructions = [];
+    }
+named_is t base f None at = literal_alone_is t f (static_name_index f.name)
+named_is t base f (Some a) at =
+    rw (found_passes t (has_name f.name) a (newest_found t (has_name f.name) a at)) (both (may_reference t a))
+  where
+    both : (b : Bool)
+        → cond b (record {
+          table = with_reference t a;
+          lines = cond (nat_le a base) (NamedDynamic (base - a) f.value) (NamedPostBase (a - base - 1) f.value) ∷ [];
+          instructions = [];
+        }) (literal_alone (draft_at t) f (static_name_index f.name))
+        ≡ (let x : Found =
+        cond b (record { lookup = lookup_of base a; table = with_reference t a })
+        (record { lookup = NotFound; table = t }) in
+        let d : Draft = record { table = x.table; lines = named_line f x.lookup ∷ []; instructions = [] } in d)
+    both true =
+        ap (λ (x : Line). let d : Draft = record {
+          table = with_reference t a;
+          lines = x ∷ [];
+          instructions = [];
+        } in d) (name_line_is base a f)
+    both false = literal_alone_is t f (static_name_index f.name)
+
+pub adds_named : (t new : Table) (base : ℕ) (l : FieldLine) (o : Option ℕ) (lookup : Lookup)
+    (lines_old lines_new : List ℕ) → o ≡ newest_index t (has_name l.field.name)
+    → found_entry t base o ≡ record { lookup = lookup; table = new }
+    → lines_new ≡ lines_old ++ written_marked_line l.never_indexed (named_line l.field lookup)
+    → AddsLine l
+    (literal_chosen base (draft_at t) l.field (by_entry Names (newest_index t (has_name l.field.name)))) new lines_old
+    lines_new
+adds_named t new base l o lookup lines_old lines_new at found lines =
+    adds_line l _ new (named_line l.field lookup) lines_old lines_new
+    (ap (λ (n : Option ℕ). literal_chosen base (draft_at t) l.field (by_entry Names n)) (sym at)
+    ∙ named_is t base l.field o (sym at)
+    ∙ ap (λ (y : Found). let d : Draft = record {
+      table = y.table;
+      lines = named_line l.field y.lookup ∷ [];
+      instructions = [];
+    } in d) found)
+    lines
+
+-- an entry of the name was found
+pub named_of : (f : Field) (lookup : DynamicLookupResult) → (lookup ≡ answer.NotFound → ⊥)
+    → named_line f (result_of lookup) ≡ literal_at f (result_of lookup)
+named_of f (answer.Static index) some = refl
+named_of f (answer.Relative index absolute) some = refl
+named_of f (answer.PostBase index absolute) some = refl
+named_of f answer.NotFound some = absurd (some refl)
+
+adds_alone : (t : Table) (base : ℕ) (l : FieldLine) (lines_old lines_new : List ℕ) → static_index l.field ≡ None
+    → lines_new ≡ lines_old
+    ++ written_marked_line l.never_indexed (stateless_literal l.field (static_name_index l.field.name))
+    → AddsLine l (line_chosen base (draft_at t) l.field Alone) t lines_old lines_new
+adds_alone t base l lines_old lines_new none lines =
+    adds_line l _ t (stateless_literal l.field (static_name_index l.field.name)) lines_old lines_new
+    (line_alone_is t l.field none) lines
+
+-- no other choice
+pub adds_only_alone : (t : Table) (base : ℕ) (l : FieldLine) (c : choice.Choice) (lines_old lines_new : List ℕ)
+    → static_index l.field ≡ None → ((inserts : Bool) → c ≡ choice.TheVariants.Equal inserts → ⊥)
+    → ((inserts : Bool) → c ≡ choice.TheVariants.Named inserts → ⊥) → (c ≡ choice.TheVariants.Inserted → ⊥)
+    → lines_new ≡ lines_old
+    ++ written_marked_line l.never_indexed (stateless_literal l.field (static_name_index l.field.name))
+    → AddsLine l (line_chosen base (draft_at t) l.field (line_choice t l.field c)) t lines_old lines_new
+adds_only_alone t base l (choice.TheVariants.Alone inserts) lines_old lines_new none equal named inserted lines =
+    adds_alone t base l lines_old lines_new none lines
+adds_only_alone t base l (choice.TheVariants.Equal inserts) lines_old lines_new none equal named inserted lines =
+    absurd (equal inserts refl)
+adds_only_alone t base l (choice.TheVariants.Named inserts) lines_old lines_new none equal named inserted lines =
+    absurd (named inserts refl)
+adds_only_alone t base l choice.TheVariants.Inserted lines_old lines_new none equal named inserted lines =
+    absurd (inserted refl)
+
+-- a literal is the line of a field that no static field equals
+named_is_line : (t : Table) (base : ℕ) (f : Field) (o : Option ℕ) → static_index f ≡ None
+    → literal_chosen base (draft_at t) f (by_entry Names o) ≡ line_chosen base (draft_at t) f (by_entry Names o)
+named_is_line t base f None none = rw none refl
+named_is_line t base f (Some a) none = rw none refl
+
+pub line_of_named : (t new : Table) (base : ℕ) (l : FieldLine) (o : Option ℕ) (lines_old lines_new : List ℕ)
+    → static_index l.field ≡ None
+    → AddsLine l (literal_chosen base (draft_at t) l.field (by_entry Names o)) new lines_old lines_new
+    → AddsLine l (line_chosen base (draft_at t) l.field (by_entry Names o)) new lines_old lines_new
+line_of_named t new base l o lines_old lines_new none =
+    subst (λ (d : Draft). AddsLine l d new lines_old lines_new) (named_is_line t base l.field o none)
+
+-- ---- a marked field
+
+-- any choice but a name is a literal without the dynamic table
+pub adds_literal_alone : (t : Table) (base : ℕ) (l : FieldLine) (c : choice.Choice) (lines_old lines_new : List ℕ)
+    → ((inserts : Bool) → c ≡ choice.TheVariants.Named inserts → ⊥)
+    → lines_new ≡ lines_old
+    ++ written_marked_line l.never_indexed (stateless_literal l.field (static_name_index l.field.name))
+    → AddsLine l (literal_chosen base (draft_at t) l.field (line_choice t l.field c)) t lines_old lines_new
+adds_literal_alone t base l c lines_old lines_new other lines =
+    adds_line l _ t (stateless_literal l.field (static_name_index l.field.name)) lines_old lines_new (is c other) lines
+  where
+    alone : literal_alone (draft_at t) l.field (static_name_index l.field.name)
+        ≡ record {
+          table = t;
+          lines = stateless_literal l.field (static_name_index l.field.name) ∷ [];
+          instructions = [];
+        }
+    alone = literal_alone_is t l.field (static_name_index l.field.name)
+
+    entry : (o : Option ℕ) → literal_chosen base (draft_at t) l.field (by_entry References o)
+        ≡ literal_alone (draft_at t) l.field (static_name_index l.field.name)
+    entry None = refl
+    entry (Some a) = refl
+
+    is : (c : choice.Choice) → ((inserts : Bool) → c ≡ choice.TheVariants.Named inserts → ⊥)
+        → literal_chosen base (draft_at t) l.field (line_choice t l.field c)
+        ≡ record {
+          table = t;
+          lines = stateless_literal l.field (static_name_index l.field.name) ∷ [];
+          instructions = [];
+        }
+    is (choice.TheVariants.Alone inserts) other = alone
+    is (choice.TheVariants.Equal inserts) other = entry (newest_index t (is_field l.field)) ∙ alone
+    is (choice.TheVariants.Named inserts) other = absurd (other inserts refl)
+    is choice.TheVariants.Inserted other = alone
+
+marked_is : (t : Table) (base : ℕ) (l : FieldLine) (c : Chosen) → l.never_indexed ≡ true
+    → chosen_field base (draft_at t) l c ≡ literal_chosen base (draft_at t) l.field c.line
+marked_is t base l c is =
+    ap (λ (b : Bool). cond b (literal_chosen base (draft_at t) l.field c.line)
+    (unreferenced_chosen c.unreferenced (line_chosen base (draft_at t) l.field c.line) l.field)) is
+
+-- its line is that of a choice
+pub adds_marked : (t new : Table) (base : ℕ) (l : FieldLine) (c : Chosen) (lines_old lines_new written : List ℕ)
+    → l.never_indexed ≡ true
+    → AddsLine l (literal_chosen base (draft_at t) l.field c.line) new lines_old lines_new
+    → AddsLines (l ∷ []) (chosen_field base (draft_at t) l c) new lines_old lines_new written written
+unfolding written_encoder_instructions
+adds_marked t new base l c lines_old lines_new written never k =
+    subst (λ (d : Draft). AddsLines (l ∷ []) d new lines_old lines_new written written)
+    (sym (marked_is t base l c never))
+    (record {
+      table = k.table;
+      lines = k.lines;
+      written = sym (append-nil written) ∙ ap (λ is. written ++ written_encoder_instructions is) (sym k.none);
+    })
+
+-- ---- a field that may be indexed
+
+unmarked_is : (t : Table) (base : ℕ) (l : FieldLine) (c : Chosen) → l.never_indexed ≡ false
+    → chosen_field base (draft_at t) l c
+    ≡ unreferenced_chosen c.unreferenced (line_chosen base (draft_at t) l.field c.line) l.field
+unmarked_is t base l c is =
+    ap (λ (b : Bool). cond b (literal_chosen base (draft_at t) l.field c.line)
+    (unreferenced_chosen c.unreferenced (line_chosen base (draft_at t) l.field c.line) l.field)) is
+
+-- only its line was written
+pub adds_uninserted : (t new : Table) (base : ℕ) (l : FieldLine) (c : choice.Choice)
+    (lines_old lines_new written : List ℕ) → l.never_indexed ≡ false → inserts_after c ≡ false
+    → AddsLine l (line_chosen base (draft_at t) l.field (line_choice t l.field c)) new lines_old lines_new
+    → AddsLines (l ∷ []) (chosen_field base (draft_at t) l (chosen_of t l.field c)) new lines_old lines_new written
+    written
+unfolding written_encoder_instructions
+adds_uninserted t new base l c lines_old lines_new written unmarked none k =
+    let d = line_chosen base (draft_at t) l.field (line_choice t l.field c) in
+    let is : chosen_field base (draft_at t) l (chosen_of t l.field c) ≡ d =
+    unmarked_is t base l (chosen_of t l.field c) unmarked
+    ∙ ap (λ (b : Bool). unreferenced_chosen b d l.field) none in
+    subst (λ (x : Draft). AddsLines (l ∷ []) x new lines_old lines_new written written) (sym is)
+    (record {
+      table = k.table;
+      lines = k.lines;
+      written = sym (append-nil written)
+          ∙ ap (λ is. written ++ written_encoder_instructions is) (sym k.none);
+    })
+
+-- an insertion after a line does what it does at the line's table
+record AfterLine (d x y : Draft) : Type 0 where
+  table : x.table ≡ y.table
+  lines : x.lines ≡ d.lines
+  instructions : x.instructions ≡ y.instructions
+
+after_if : (b : Bool) (d : Draft) (f : Field) → d.instructions ≡ []
+    → AfterLine d (cond b (with_unreferenced_entry d f) d)
+    (cond b (with_unreferenced_entry (draft_at d.table) f) (draft_at d.table))
+after_if true d f none =
+    record {
+      table = refl;
+      lines = refl;
+      instructions = ap (λ is. is ++ instruction_for f (entries_left d.table f) ∷ []) none;
+    }
+after_if false d f none = record { table = refl; lines = refl; instructions = none }
+
+after_line : (d : Draft) (mid : Table) (f : Field) → mid ≡ d.table → d.instructions ≡ []
+    → AfterLine d (unreferenced_chosen true d f) (unreferenced_chosen true (draft_at mid) f)
+after_line d mid f is none =
+    subst (λ (t : Table). AfterLine d (unreferenced_chosen true d f) (unreferenced_chosen true (draft_at t) f)) (sym is)
+    (after_if (true && has_room d.table f) d f none)
+
+-- its line was written, and then it was inserted without a reference where there was room
+pub adds_inserted : (t mid new : Table) (base : ℕ) (l : FieldLine) (c : choice.Choice)
+    (lines_old lines_new written_old written_new : List ℕ) → l.never_indexed ≡ false → inserts_after c ≡ true
+    → AddsLine l (line_chosen base (draft_at t) l.field (line_choice t l.field c)) mid lines_old lines_new
+    → new ≡ (unreferenced_chosen true (draft_at mid) l.field).table
+    → written_new ≡ written_old
+    ++ written_encoder_instructions (unreferenced_chosen true (draft_at mid) l.field).instructions
+    → AddsLines (l ∷ []) (chosen_field base (draft_at t) l (chosen_of t l.field c)) new lines_old lines_new written_old
+    written_new
+adds_inserted t mid new base l c lines_old lines_new written_old written_new unmarked inserts k now written =
+    let d = line_chosen base (draft_at t) l.field (line_choice t l.field c) in
+    let is : chosen_field base (draft_at t) l (chosen_of t l.field c) ≡ unreferenced_chosen true d l.field =
+    unmarked_is t base l (chosen_of t l.field c) unmarked
+    ∙ ap (λ (b : Bool). unreferenced_chosen b d l.field) inserts in
+    let after = after_line d mid l.field k.table k.none in
+    subst (λ (x : Draft). AddsLines (l ∷ []) x new lines_old lines_new written_old written_new) (sym is)
+    (record {
+      table = now ∙ sym after.table;
+      lines = k.lines ∙ ap (λ ls. lines_old ++ written_marked_lines (l ∷ []) ls) (sym after.lines);
+      written = written ∙ ap (λ is. written_old ++ written_encoder_instructions is) (sym after.instructions);
+    })
+
+-- ---- a field that is inserted for its line
+
+-- the room and the limit were asked
+inserts_is : (t : Table) (base : ℕ) (f : Field) → (below_limit t && has_room t f) ≡ true
+    → line_chosen base (draft_at t) f Inserts ≡ with_new_entry base (draft_at t) f
+inserts_is t base f can = rw can refl
+
+inserts_none : (t : Table) (base : ℕ) (f : Field) → (below_limit t && has_room t f) ≡ false
+    → line_chosen base (draft_at t) f Inserts ≡ line_alone (draft_at t) f (static_index f)
+inserts_none t base f can = rw can refl
+
+-- what is written of an insertion's answer is its instruction
+IsOf : Field → EncoderInstruction → Type 0
+IsOf f i = (p a : ℕ) → written_insertion f (answer_of i p a) ≡ written_encoder_instruction i
+
+of_name : (f : Field) (n : ℕ) (o : Option ℕ) → IsOf f (by_name f n o)
+unfolding IsOf
+of_name f n (Some i) = λ p a. refl
+of_name f n None = λ p a. refl
+
+of_static : (f : Field) (stay : List Field) (o : Option ℕ) → IsOf f (by_static_name f stay o)
+unfolding IsOf
+of_static f stay (Some i) = λ p a. refl
+of_static f stay None = of_name f (length stay) _
+
+of_equal : (f : Field) (stay : List Field) (o : Option ℕ) → IsOf f (by_equal f stay o)
+unfolding IsOf
+of_equal f stay (Some i) = λ p a. refl
+of_equal f stay None = of_static f stay (static_name_index f.name)
+
+of_field : (f : Field) (stay : List Field) → IsOf f (instruction_for f stay)
+unfolding instruction_for
+of_field f stay = of_equal f stay _
+
+-- its instructions, as they are written
+insertion_written : (t : Table) (base : ℕ) (f : Field) (i : Insertion) → insertion_at t base f ≡ i
+    → written_insertion f i ≡ written_encoder_instructions (instruction_for f (entries_left t f) ∷ [])
+unfolding written_encoder_instructions IsOf
+insertion_written t base f i is =
+    ap (λ (x : Insertion). written_insertion f x) (sym is)
+    ∙ of_field f (entries_left t f) (insert_count t - base) (insert_count t + 1)
+    ∙ sym (append-nil (written_encoder_instruction (instruction_for f (entries_left t f))))
+
+answer_line : (f : Field) (i : EncoderInstruction) (p a : ℕ) → line_of f (answer_of i p a) ≡ IndexedPostBase p
+answer_line f (InsertStaticName x v) p a = refl
+answer_line f (InsertDynamicName x v) p a = refl
+answer_line f (InsertLiteralName n v) p a = refl
+answer_line f (Duplicate x) p a = refl
+answer_line f (SetCapacity n) p a = refl
+
+one_line : (l : Line) → written_lines (l ∷ []) ≡ written_line l
+unfolding written_lines
+one_line l = append-nil (written_line l)
+
+-- a field was inserted for its line, which was written or not: the table after it, and its instruction
+pub record IsInserted (t : Table) (base : ℕ) (f : Field) (insertion : Insertion) (new : Table) (written_old written_new :
+    List ℕ) : Type 0 where
+  pub can : (below_limit t && has_room t f) ≡ true
+  pub is : referenced_insertion t base f ≡ record { insertion = insertion; table = new }
+  pub written : written_new ≡ written_old ++ written_insertion f insertion
+
+inserted_table : {t : Table} {base : ℕ} {f : Field} {i : Insertion} {new : Table} {written_old written_new : List ℕ}
+    → IsInserted t base f i new written_old written_new → new ≡ (line_chosen base (draft_at t) f Inserts).table
+inserted_table {t} {base} {f} k =
+    sym (ap (λ (x : Insertable). x.table) k.is) ∙ sym (ap (λ (d : Draft). d.table) (inserts_is t base f k.can))
+
+inserted_written : {t : Table} {base : ℕ} {f : Field} {i : Insertion} {new : Table} {written_old written_new : List ℕ}
+    → IsInserted t base f i new written_old written_new
+    → written_new
+    ≡ written_old ++ written_encoder_instructions (line_chosen base (draft_at t) f Inserts).instructions
+inserted_written {t} {base} {f} {i} {new} {written_old} k =
+    k.written
+    ∙ ap (λ (b : List ℕ). written_old ++ b)
+    (insertion_written t base f i (ap (λ (x : Insertable). x.insertion) k.is))
+    ∙ sym (ap (λ (d : Draft). written_old ++ written_encoder_instructions d.instructions)
+    (inserts_is t base f k.can))
+
+pub adds_new : {t : Table} {base : ℕ} {f : Field} {i : Insertion} {new : Table} {written_old written_new : List ℕ}
+    → IsInserted t base f i new written_old written_new → (lines_old lines_new : List ℕ)
+    → lines_new ≡ lines_old ++ written_line (line_of f i)
+    → Adds (line_chosen base (draft_at t) f Inserts) new lines_old lines_new written_old written_new
+adds_new {t} {base} {f} {i} k lines_old lines_new lines =
+    let insertion : insertion_at t base f ≡ i = ap (λ (x : Insertable). x.insertion) k.is in
+    record {
+      table = inserted_table k;
+      lines = lines
+          ∙ ap (λ (x : Insertion). lines_old ++ written_line (line_of f x)) (sym insertion)
+          ∙ ap (λ (x : Line). lines_old ++ written_line x)
+          (answer_line f (instruction_for f (entries_left t f)) (insert_count t - base) (insert_count t + 1))
+          ∙ ap (λ (b : List ℕ). lines_old ++ b) (sym (one_line (IndexedPostBase (insert_count t - base))))
+          ∙ sym (ap (λ (d : Draft). lines_old ++ written_lines d.lines) (inserts_is t base f k.can));
+      written = inserted_written k;
+    }
+
+-- its line is refused
+pub stops_new : {t : Table} {base : ℕ} {f : Field} {i : Insertion} {new : Table} {written_old written_new : List ℕ}
+    → IsInserted t base f i new written_old written_new
+    → StopsAdding (line_chosen base (draft_at t) f Inserts) t new written_old written_new
+stops_new k = inr (inserted_table k, inserted_written k)
+
+-- there was no room for it, or no more may be blocked
+pub adds_not_new : (t new : Table) (base : ℕ) (l : FieldLine) (lines_old lines_new written_old written_new : List ℕ)
+    → (below_limit t && has_room t l.field) ≡ false → new ≡ t → static_index l.field ≡ None → l.never_indexed ≡ false
+    → lines_new ≡ lines_old
+    ++ written_marked_line l.never_indexed (stateless_literal l.field (static_name_index l.field.name))
+    → written_new ≡ written_old
+    → Adds (line_chosen base (draft_at t) l.field Inserts) new lines_old lines_new written_old written_new
+unfolding written_encoder_instructions
+adds_not_new t new base l lines_old lines_new written_old written_new can same none unmarked lines written =
+    let x = stateless_literal l.field (static_name_index l.field.name) in
+    let is = inserts_none t base l.field can ∙ line_alone_is t l.field none in
+    record {
+      table = same ∙ sym (ap (λ (d : Draft). d.table) is);
+      lines = lines
+          ∙ ap (λ (b : List ℕ). lines_old ++ b)
+          (ap (λ (b : Bool). written_marked_line b x) unmarked ∙ written_unmarked l.field x ∙ sym (one_line x))
+          ∙ sym (ap (λ (d : Draft). lines_old ++ written_lines d.lines) is);
+      written = written ∙ sym (append-nil written_old)
+          ∙ sym (ap (λ (d : Draft). written_old ++ written_encoder_instructions d.instructions) is);
+    }
+
+-- its line is that of a choice
+pub new_unmarked : (t new : Table) (base : ℕ) (l : FieldLine) (c : choice.Choice)
+    (lines_old lines_new written_old written_new : List ℕ) → l.never_indexed ≡ false
+    → c ≡ choice.TheVariants.Inserted
+    → Adds (line_chosen base (draft_at t) l.field Inserts) new lines_old lines_new written_old written_new
+    → AddsLines (l ∷ []) (chosen_field base (draft_at t) l (chosen_of t l.field c)) new lines_old lines_new written_old
+    written_new
+new_unmarked t new base l c lines_old lines_new written_old written_new unmarked is adds =
+    let d = line_chosen base (draft_at t) l.field Inserts in
+    subst (λ (x : Draft). AddsLines (l ∷ []) x new lines_old lines_new written_old written_new)
+    (sym (unmarked_is t base l (chosen_of t l.field choice.TheVariants.Inserted) unmarked)
+    ∙ ap (λ (k : choice.Choice). chosen_field base (draft_at t) l (chosen_of t l.field k)) (sym is))
+    (record {
+      table = adds.table;
+      lines = adds.lines ∙ ap (λ (b : List ℕ). lines_old ++ b) (sym (lines_unmarked t l d.lines unmarked));
+      written = adds.written;
+    })
+
+-- ---- an equal static field
+
+pub static_chosen : (t : Table) (base : ℕ) (l : FieldLine) (index : ℕ) (lines_old lines_new written : List ℕ)
+    → l.never_indexed ≡ false → static_index l.field ≡ Some index
+    → lines_new ≡ lines_old ++ written_line (IndexedStatic index)
+    → AddsLines (l ∷ []) (chosen_field base (draft_at t) l alone_chosen) t lines_old lines_new written written
+unfolding written_encoder_instructions
+static_chosen t base l index lines_old lines_new written unmarked at lines =
+    let d : Draft = record { table = t; lines = IndexedStatic index ∷ []; instructions = [] } in
+    let is : line_alone (draft_at t) l.field (static_index l.field) ≡ d = rw at refl in
+    subst (λ (x : Draft). AddsLines (l ∷ []) x t lines_old lines_new written written)
+    (sym (unmarked_is t base l alone_chosen unmarked ∙ is))
+    (record {
+      table = refl;
+      lines = lines
+          ∙ ap (λ (b : List ℕ). lines_old ++ b)
+          (sym (lines_unmarked t l (IndexedStatic index ∷ []) unmarked ∙ one_line (IndexedStatic index)));
+      written = sym (append-nil written);
+    })
+
+-- ---- an insertion that no line references
+
+pub unreferenced_table : (t new : Table) (base : ℕ) (f : Field) (insertion : Insertion) → has_room t f ≡ true
+    → unreferenced_insertion t base f ≡ record { insertion = insertion; table = new }
+    → new ≡ (unreferenced_chosen true (draft_at t) f).table
+unreferenced_table t new base f insertion room is = rw room (sym (ap (λ (x : Insertable). x.table) is))
+
+pub unreferenced_written : (t new : Table) (base : ℕ) (f : Field) (insertion : Insertion)
+    (written_old written_new : List ℕ) → has_room t f ≡ true
+    → unreferenced_insertion t base f ≡ record { insertion = insertion; table = new }
+    → written_new ≡ written_old ++ written_insertion f insertion
+    → written_new ≡ written_old
+    ++ written_encoder_instructions (unreferenced_chosen true (draft_at t) f).instructions
+unreferenced_written t new base f insertion written_old written_new room is written =
+    rw room (written
+    ∙ ap (λ (b : List ℕ). written_old ++ b)
+    (insertion_written t base f insertion (ap (λ (x : Insertable). x.insertion) is)))
+
+pub no_room_table : (t new : Table) (f : Field) → has_room t f ≡ false → new ≡ t
+    → new ≡ (unreferenced_chosen true (draft_at t) f).table
+no_room_table t new f room same = rw room same
+
+pub no_room_written : (t : Table) (f : Field) (written_old written_new : List ℕ) → has_room t f ≡ false
+    → written_new ≡ written_old
+    → written_new ≡ written_old
+    ++ written_encoder_instructions (unreferenced_chosen true (draft_at t) f).instructions
+unfolding written_encoder_instructions
+no_room_written t f written_old written_new room same = rw room (same ∙ sym (append-nil written_old))
+
+-- ---- what an insertion that depends on room answers
+
+pub inserts_some : (can : Bool) (o : Option DynamicInsertionResult) (i : DynamicInsertionResult) (inserted : Insertable)
+    (old new : Table) → o ≡ Some i → InsertsIf can (Ok o) inserted old new
+    → (can ≡ true) × (inserted ≡ record { insertion = insertion_of i; table = new })
+inserts_some can o i inserted old new is =
+    subst (λ (x : Option DynamicInsertionResult). InsertsIf can (Ok x) inserted old new
+    → (can ≡ true) × (inserted ≡ record { insertion = insertion_of i; table = new })) (sym is) (λ k. k)
+
+pub inserts_nothing : (can : Bool) (o : Option DynamicInsertionResult) (inserted : Insertable) (old new : Table)
+    → o ≡ None → InsertsIf can (Ok o) inserted old new → (can ≡ false) × (new ≡ old)
+inserts_nothing can o inserted old new is =
+    subst (λ (x : Option DynamicInsertionResult). InsertsIf can (Ok x) inserted old new → (can ≡ false) × (new ≡ old))
+    (sym is) (λ k. k)
+
+-- ---- what a line leaves of the table
+
+alone_keeps : (t : Table) (f : Field) (o : Option ℕ) → (line_alone (draft_at t) f o).table ≡ t
+alone_keeps t f (Some i) = refl
+alone_keeps t f None = ap (λ (d : Draft). d.table) (literal_alone_is t f (static_name_index f.name))
+
+-- a line without an insertion changes what is referenced alone
+pub line_keeps : (t : Table) (base : ℕ) (f : Field) (c : choice.Choice) → (c ≡ choice.TheVariants.Inserted → ⊥)
+    → without_references (line_chosen base (draft_at t) f (line_choice t f c)).table ≡ without_references t
+unfolding without_references with_reference
+line_keeps t base f c other = pick c other
+  where
+    alone : without_references (line_alone (draft_at t) f (static_index f)).table ≡ without_references t
+    alone = ap (λ (x : Table). without_references x) (alone_keeps t f (static_index f))
+
+    equal : (o : Option ℕ)
+        → without_references (line_chosen base (draft_at t) f (by_entry References o)).table ≡ without_references t
+    equal None = alone
+    equal (Some a) =
+        cond_both (passes_at t (is_field f) a && may_reference t a) _ (line_alone (draft_at t) f (static_index f))
+        (λ (d : Draft). without_references d.table ≡ without_references t) (λ _. refl) (λ _. alone)
+
+    named : (o : Option ℕ)
+        → without_references (line_chosen base (draft_at t) f (by_entry Names o)).table ≡ without_references t
+    named None = alone
+    named (Some a) =
+        cond_both (passes_at t (has_name f.name) a && may_reference t a) _ (line_alone (draft_at t) f (static_index f))
+        (λ (d : Draft). without_references d.table ≡ without_references t) (λ _. refl) (λ _. alone)
+
+    pick : (c : choice.Choice) → (c ≡ choice.TheVariants.Inserted → ⊥)
+        → without_references (line_chosen base (draft_at t) f (line_choice t f c)).table ≡ without_references t
+    pick (choice.TheVariants.Alone inserts) other = alone
+    pick (choice.TheVariants.Equal inserts) other = equal (newest_index t (is_field f))
+    pick (choice.TheVariants.Named inserts) other = named (newest_index t (has_name f.name))
+    pick choice.TheVariants.Inserted other = absurd (other refl)

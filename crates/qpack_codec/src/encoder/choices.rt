@@ -1,0 +1,92 @@
+//! What is chosen for each field of a section: how its line is written, and whether it is inserted (RFC 9204, section
+//! 2.1).
+
+ghost use Rattle.std.specs.Prelude.{◌≡◌, false};
+ghost use Rattle.qpack_base.specs.HeaderFields.{line_of};
+ghost use Rattle.qpack_spec.specs.Chosen.{Chosen};
+ghost use Rattle.qpack_spec.specs.Field.{FieldLine as Line};
+ghost use Rattle.qpack_spec.specs.Table.{Table};
+ghost use Rattle.qpack_table.specs.Handles.{AreHashesIn, IsSoughtIn};
+ghost use Rattle.qpack_codec.specs.Choices.{chosen_of, inserts_after, wish_of_mark};
+ghost use Rattle.qpack_codec.specs.declared.encoder.choices.Wish.{Wish as Asked};
+
+use qpack_base::field::FieldLine;
+use qpack_table::dynamic::{DynamicTableEncoder, SoughtField};
+
+/// What the caller of an encoder asks for a field.
+#[derive(Debug, Clone, Copy, PartialEq, Drop)]
+pub enum Wish {
+    /// Nothing: the encoder chooses.
+    Unmarked,
+    /// The field is never indexed: it is a literal that says so (RFC 9204, section 7.1.3).
+    Never,
+    /// What is in the table is referenced. The field is not inserted.
+    Reuse,
+    /// The field is inserted where there is room.
+    Insert,
+}
+
+impl Wish {
+    /// What a field line's mark asks.
+    pub fn of_mark(never_indexed: bool) -> Wish
+        ensures { result ≡ wish_of_mark never_indexed }
+    {
+        if never_indexed {
+            Wish::Never
+        } else {
+            Wish::Unmarked
+        }
+    }
+}
+
+/// What is done for a field. What is not safe for the table that it meets is replaced by a line without the dynamic
+/// table, and an insertion without room by nothing.
+#[derive(Debug, Clone, Copy, PartialEq, Drop)]
+pub enum Choice {
+    /// A line without the dynamic table. If `inserts`, the field is inserted after it, and nothing references the entry.
+    Alone { inserts: bool },
+    /// A reference to the newest equal entry. If `inserts`, the same insertion after it, which is a duplicate.
+    Equal { inserts: bool },
+    /// A literal with the name of the newest entry that has it. If `inserts`, the same insertion after it.
+    Named { inserts: bool },
+    /// An insertion that the line references.
+    Inserted,
+}
+
+impl Choice {
+    /// Whether the field is inserted after its line.
+    pub(super) fn inserts_after(&self) -> bool
+        ensures { result ≡ inserts_after self.now }
+    {
+        match *self {
+            Choice::Alone { inserts } | Choice::Equal { inserts } | Choice::Named { inserts } =>
+                inserts,
+            Choice::Inserted => false,
+        }
+    }
+}
+
+/// What chooses for the fields of a section, one after the other. Whatever is chosen, the section means its fields.
+pub trait Chooses {
+    // How it chooses for one field: what it is before, the table, the field line, what is asked for it, what is chosen,
+    // and what it is after.
+    ghost chooses: { Self → Table → Line → Asked → Chosen → Self → Type 0 };
+
+    /// Called before the first field of a section.
+    fn begin(&mut self, block: &DynamicTableEncoder<'_>);
+
+    /// Chooses for a field that no static field equals, or that is never indexed. Of the latter only the name counts:
+    /// `sought` holds no equal entry, and it is not inserted.
+    fn choose(
+        &mut self,
+        block: &DynamicTableEncoder<'_>,
+        field: &FieldLine<'_>,
+        wish: Wish,
+        sought: &SoughtField,
+    ) -> Choice
+        requires hashes { AreHashesIn (line_of field.now).field sought.now }
+        requires sought { (line_of field.now).never_indexed ≡ false
+            → IsSoughtIn block.now.table.now (line_of field.now).field sought.now }
+        ensures { chooses self.old block.now.table.now (line_of field.now) wish
+            (chosen_of block.now.table.now (line_of field.now).field result) self.new };
+}
