@@ -5,7 +5,7 @@ use Rattle.std.proofs.lemmas.List.{append-nil}
 use Rattle.std.specs.Prelude.{⊤}
 use Rattle.qpack_spec.specs.Field.{FieldLine}
 use Rattle.qpack_spec.specs.Instruction.{SetCapacity, written_encoder_instruction, written_encoder_instructions}
-use Rattle.qpack_spec.specs.Marked.{marked_rule}
+use Rattle.qpack_spec.specs.Chosen.{chosen_rule}
 use Rattle.qpack_ends.specs.declared.encoder.EncodingError.{EncodingError}
 use Rattle.qpack_ends.specs.declared.encoder.EncodingError.TheVariants.{Memory}
 use Rattle.qpack_ends.specs.Encoders.{EncodingEnd, begun, begun_with, WritesSection, WritesAlone, GivesUpSection}
@@ -58,7 +58,7 @@ module _ (e e' : EncodingEnd) (s : ℕ) (fields : List FieldLine) (section : Lis
       → (more : List ℕ) × (e'.unsent ≡ e.unsent ++ more)
       × WritesSection (begun (with_unsent [] e)) (with_unsent more e') s fields [] section required
   writes_framed required b w =
-      let added = written_encoder_instructions (marked_rule (begun e).table fields).instructions in
+      let added = written_encoder_instructions (chosen_rule (begun e).table fields w.section.choices).instructions in
       let more = b.more ++ added in (
         more,
         w.section.written ∙ ap (λ (x : List ℕ). x ++ added) b.written ∙ append_assoc e.unsent b.more added,
@@ -66,6 +66,7 @@ module _ (e e' : EncodingEnd) (s : ℕ) (fields : List FieldLine) (section : Lis
             (record {
               room = w.room;
               section = record {
+                choices = w.section.choices;
                 required_is = w.section.required_is;
                 table = w.section.table;
                 block = w.section.block;
@@ -95,14 +96,19 @@ module _ (e e' : EncodingEnd) (s : ℕ) (fields : List FieldLine) (section : Lis
       × GivesUpSection (begun (with_unsent [] e)) (with_unsent more e') fields
   gives_up_framed b w =
       let added = written_encoder_instructions
-      (marked_rule (begun e).table (take w.lines.many fields)).instructions in
+      (chosen_rule (begun e).table (take w.lines.many fields) w.lines.choices).instructions in
       let more = b.more ++ added in (
         more,
         w.lines.written ∙ ap (λ (x : List ℕ). x ++ added) b.written ∙ append_assoc e.unsent b.more added,
         subst (λ (x : EncodingEnd). GivesUpSection x (with_unsent more e') fields) (sym b.same)
             (record {
               room = w.room;
-              lines = record { many = w.lines.many; table = w.lines.table; written = refl };
+              lines = record {
+                many = w.lines.many;
+                choices = w.lines.choices;
+                table = w.lines.table;
+                written = refl;
+              };
               new_is = ap (with_unsent more) w.new_is;
             }),
       )

@@ -1,4 +1,3 @@
-pub mod ChosenSections
 pub mod LawfulPieces
 pub mod RefinedConnections
 pub mod RefinedCapacities

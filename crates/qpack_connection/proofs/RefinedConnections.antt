@@ -29,13 +29,11 @@ use Rattle.qpack_safety.proofs.Shown.{agrees_push, instructions_joined}
 use Rattle.qpack_safety.proofs.TwoEnds.{holds_started, holds_behind}
 use Rattle.qpack_safety.proofs.WritingEvents.{few_insertions}
 use Rattle.qpack_connection.specs.Connections.{SentSection, Connection, with_encoder, with_section}
-use Rattle.qpack_connection.specs.ChosenSections.{WritesChosen}
-use Rattle.qpack_ends.specs.Encoders.{EncodingEnd, IsToBeTold, begun, begun_with, WritesAlone}
+use Rattle.qpack_ends.specs.Encoders.{EncodingEnd, IsToBeTold, begun, begun_with, WritesSection, WritesAlone}
 use Rattle.qpack_ends.specs.Hearing as hearing
 use Rattle.qpack_ends.specs.Receiving as receiving
 use Rattle.qpack_connection.specs.RefinedConnections.{received_of, RefinesSection, RefinesStream, RefinesSession}
 use Rattle.qpack_connection.specs.RefinedConnections.{EncodesAreRefined}
-use Rattle.qpack_connection.proofs.ChosenSections.{encode_chosen}
 use Rattle.qpack_ends.proofs.Encoders.{takes_capacity}
 
 -- ---- the encoder writes
@@ -111,7 +109,7 @@ section_refined : (maximum limit : ℕ) (c : Connection) (w : AbstractSession) (
     (fields : List FieldLine) (section : List ℕ) (required : ℕ) → Invariant 0 maximum limit w
     → RefinesSession maximum c w → AllByRecursion IsByteField (fields_of_lines fields)
     → length (c.encoder_stream.written ++ e.unsent) < 2 ^ 63 → length section < 2 ^ 63
-    → (writes : WritesChosen c.encoder e s fields [] section required)
+    → (writes : WritesSection c.encoder e s fields [] section required)
     → RefinesSession maximum (with_section s fields section (Ok required) (with_encoder e c))
     (after_end_step w (Encode s fields writes.section.choices))
 section_refined maximum limit c w e s fields section required k r are short small writes =
@@ -222,9 +220,9 @@ begun_first c e s fields section written required unsent =
 
 -- the section of a call behind the capacity
 chosen_behind : (c : Connection) (e : EncodingEnd) (s : ℕ) (fields : List FieldLine) (section : List ℕ) (required : ℕ)
-    → WritesChosen (begun c.encoder) e s fields [] section required
+    → WritesSection (begun c.encoder) e s fields [] section required
     → (written : List ℕ) × (e.unsent ≡ (begun c.encoder).unsent ++ written)
-    × WritesChosen (with_encoder (begun c.encoder) c).encoder (record e { unsent = written }) s fields [] section
+    × WritesSection (with_encoder (begun c.encoder) c).encoder (record e { unsent = written }) s fields [] section
     required
 chosen_behind c e s fields section required writes =
     let cs = writes.section.choices in
@@ -268,7 +266,7 @@ encodes_refined maximum limit c new steps s fields required r sound are short ca
     let e = call.encoder in
     let k = (holds_behind 0 maximum limit first.0 w (holds_behind 0 maximum limit steps start
     (holds_started 0 maximum limit (omega arith)))).invariant in
-    elim (encode_chosen c.encoder e s fields [] call.section (Ok required) call.call).1 [
+    elim call.call.1 [
       | inl writes ↦
           let b = chosen_behind c e s fields call.section required writes in
           let same = begun_first c e s fields call.section b.0 required b.1 in

@@ -20,13 +20,11 @@ use Rattle.qpack_ends.specs.declared.encoder.EncodingError.TheVariants as encodi
 use Rattle.qpack_ends.specs.Decoders as decoders
 use Rattle.qpack_connection.specs.Connections.{Connection, with_encoder, with_decoder}
 use Rattle.qpack_ends.specs.Decoders.{DecodingEnd}
-use Rattle.qpack_connection.specs.ChosenSections.{StopsAmongChosen, RunsOutOfMemory}
-use Rattle.qpack_ends.specs.Encoders.{EncodingEnd, begun, begun_with, Checks}
+use Rattle.qpack_ends.specs.Encoders.{EncodingEnd, begun, begun_with, Checks, GivesUpSection, StopsForMemory}
 use Rattle.qpack_connection.specs.RefinedConnections.{RefinesSession}
 use Rattle.qpack_connection.specs.RefinedRefusals.{StopsEncoding, RefusedEncodesAreRefined}
 use Rattle.qpack_connection.specs.RefinedRefusals.{RefusedCapacitiesAreRefined, RefusedCancellationsAreRefined}
 use Rattle.qpack_connection.specs.RefinedStreams.{IsOpen}
-use Rattle.qpack_connection.proofs.ChosenSections.{encode_chosen}
 use Rattle.qpack_connection.proofs.RefinedCapacities.{same_refined}
 use Rattle.qpack_connection.proofs.RefinedConnections.{written_more, told_refined, after_more, after_last}
 use Rattle.qpack_connection.proofs.RefinedReceptions.{none_written}
@@ -59,7 +57,7 @@ first_bytes (suc many) (f ∷ fields) are = (are.0, first_bytes many fields are.
 
 given_up : (maximum limit : ℕ) (c : Connection) (w : AbstractSession) (e : EncodingEnd) (fields : List FieldLine)
     → Invariant 0 maximum limit w → RefinesSession maximum c w → AllByRecursion IsByteField (fields_of_lines fields)
-    → length (c.encoder_stream.written ++ e.unsent) < 2 ^ 63 → (g : StopsAmongChosen c.encoder e fields)
+    → length (c.encoder_stream.written ++ e.unsent) < 2 ^ 63 → (g : GivesUpSection c.encoder e fields)
     → RefinesSession maximum (with_encoder e c)
     (after_end_step w (Abandon (take g.lines.many fields) g.lines.choices))
 given_up maximum limit c w e fields k r are short g =
@@ -87,7 +85,7 @@ begun_failure (Some n) d = refl
 
 pub refused_encodes : RefusedEncodesAreRefined
 refused_encodes maximum limit c new steps s fields x r alive sound are short call =
-    by_call (encode_chosen c.encoder call.encoder s fields [] call.section (Err x) call.call).1
+    by_call call.call.1
   where
     start : AbstractSession
     start = abstract_start 0 maximum limit
@@ -117,7 +115,7 @@ refused_encodes maximum limit c new steps s fields x r alive sound are short cal
           k),
     )
 
-    by_memory : StopsEncoding s x → RunsOutOfMemory c.encoder e fields
+    by_memory : StopsEncoding s x → StopsForMemory c.encoder e fields
         → StopsEncoding s x × IsOpen new × (more : List EndStep)
         × RefinesSession maximum new (after_end_steps (steps ++ more) start)
     by_memory stops (inl same) =
@@ -137,7 +135,7 @@ refused_encodes maximum limit c new steps s fields x r alive sound are short cal
         let k = (holds_behind 0 maximum limit first.0 w (holds_behind 0 maximum limit steps start
         (holds_started 0 maximum limit (omega arith)))).invariant in
         let e1 : EncodingEnd = record e { unsent = written } in
-        let g1 : StopsAmongChosen c1.encoder e1 fields = record {
+        let g1 : GivesUpSection c1.encoder e1 fields = record {
           room = g.room;
           lines = record { many = g.lines.many; choices = cs; table = g.lines.table; written = refl };
           new_is = ap (λ (y : EncodingEnd). let z : EncodingEnd = record y { unsent = written } in z) g.new_is;
@@ -161,7 +159,7 @@ refused_encodes maximum limit c new steps s fields x r alive sound are short cal
 
     by_call : (Checks c.encoder s (Err x) × (e ≡ c.encoder))
         ⊎ (Checks c.encoder s (Ok tt) × (x ≡ encoding.Memory)
-        × RunsOutOfMemory c.encoder e fields)
+        × StopsForMemory c.encoder e fields)
         → StopsEncoding s x × IsOpen new × (more : List EndStep)
         × RefinesSession maximum new (after_end_steps (steps ++ more) start)
     by_call (inl (inl ended, same)) = absurd (let q = sym alive.encoder ∙ ended in cc)

@@ -1,36 +1,41 @@
 -- The encoding end of a connection is careful with any decoder, and understands one that keeps to the standard.
-use Rattle.std.proofs.Common.{◌≡◌, ◌⊎◌, ℕ, min, List, [], ◌∷◌, take, drop, Option, None}
+use Rattle.std.proofs.Common.{◌≡◌, ◌<◌, ◌^◌, ◌⊎◌, ℕ, min, true, List, [], ◌∷◌, take, drop, length, Option, None}
 use Rattle.std.proofs.Common.{Some, Result, Ok, Err, refl, sym, ap, subst, ◌∙◌, arith, inl, inr}
 use Rattle.std.specs.Option.{IfSome}
-use Rattle.std.specs.Prelude.{⊤}
-use Rattle.qpack_spec.specs.Chosen.{chosen_rule}
+use Rattle.std.specs.Prelude.{⊤, ◌&&◌}
+use Rattle.std.proofs.lemmas.Bool.{lt-ltb}
+use Rattle.qpack_spec.specs.Chosen.{Choice, Inserts, Chosen, chosen_rule}
 use Rattle.qpack_spec.specs.Field.{FieldLine}
 use Rattle.qpack_spec.specs.Instruction.{DecoderInstruction}
 use Rattle.qpack_spec.specs.Marked.{stateless_block_marked}
-use Rattle.qpack_spec.specs.Rule.{block_of, required_insert_count}
-use Rattle.qpack_spec.specs.Table.{Table, UnacknowledgedBlock, insert_count, window, with_numbers}
+use Rattle.qpack_spec.specs.LawfulDecoders.{IsQuiet, IsToBeInserted}
+use Rattle.qpack_spec.specs.Rule.{block_of, empty_draft, required_insert_count}
+use Rattle.qpack_spec.specs.Table.{Table, UnacknowledgedBlock, insert_count, window, with_numbers, without_references}
+use Rattle.qpack_spec.specs.Table.{below_limit, has_room, newest_index}
 use Rattle.qpack_spec.specs.Table.{with_unacknowledged}
 use Rattle.qpack_spec.proofs.AloneSections.{none_referenced}
 use Rattle.qpack_spec.proofs.ChosenDrafts.{chosen_drafts}
 use Rattle.qpack_safety.proofs.Encoding.{same_committed}
 use Rattle.qpack_connection.specs.LawfulDecoders.{CountsSection, Counts}
-use Rattle.qpack_spec.proofs.LawfulDecoders.{instructions_heard, go_on}
+use Rattle.qpack_spec.proofs.ChosenGoesOn.{go_on_chosen}
+use Rattle.qpack_spec.proofs.LawfulDecoders.{instructions_heard, has_room_quiet}
 use Rattle.qpack_ends.specs.declared.encoder.EncoderSettings.{EncoderSettings}
 use Rattle.qpack_ends.specs.declared.encoder.EncodingError.{EncodingError}
 use Rattle.qpack_ends.specs.declared.encoder.EncodingError.TheVariants.{DecoderStream, CapacityTooLarge}
 use Rattle.qpack_ends.specs.declared.encoder.EncodingError.TheVariants.{EntriesHeld, NoStream, Memory}
-use Rattle.qpack_connection.specs.ChosenSections.{WritesChosen, RunsOutOfMemory, EncodesByChoice}
 use Rattle.qpack_ends.specs.Encoders.{EncodingEnd, IsSound, IsToBeTold, Starts, begun, begun_with}
 use Rattle.qpack_ends.specs.Encoders.{told, with_section, StopsForMemory, SetsCapacity}
 use Rattle.qpack_ends.specs.Encoders.{WritesSection, WritesAlone, Encodes, ReceivesBytes}
 use Rattle.qpack_ends.specs.Hearing.{Receives}
+use Rattle.qpack_ends.specs.Wishes.{SuitsUnless, SuitAlong, EncodesAsWished}
+use Rattle.qpack_codec.specs.declared.encoder.choices.Wish.{Wish}
+use Rattle.qpack_codec.specs.declared.encoder.choices.Wish.TheVariants.{Unmarked, Reuse, Insert, Never}
 use Rattle.qpack_connection.specs.LawfulDecoders.{Call, Encode, SetCapacity, Receive, Sent, Step, Run, IsCareful}
 use Rattle.qpack_connection.specs.LawfulDecoders.{AllCareful, EncodersAreCareful, IsLawful, IsLawfulCall, AreLawful}
 use Rattle.qpack_connection.specs.LawfulDecoders.{GoesOn, Answers, AllAnswer, LawfulDecodersAreUnderstood}
 use Rattle.qpack_connection.proofs.CarefulTables.{IsCarefulTable, careful_needed, careful_count, careful_first}
 use Rattle.qpack_connection.proofs.CarefulTables.{careful_section, careful_given_up, careful_capacity}
 use Rattle.qpack_connection.proofs.CarefulTables.{careful_hearing, quiet_unblocked}
-use Rattle.qpack_connection.proofs.ChosenSections.{encode_chosen}
 use Rattle.qpack_ends.proofs.Encoders.{takes_capacity, told_still, received_sound, refused_sound}
 use Rattle.qpack_connection.proofs.KeptConnections.{sound_begun, sound_set, begun_failure}
 use Rattle.qpack_connection.proofs.LawfulPieces.{decoder_streams_heard}
@@ -90,7 +95,7 @@ stays_begun settings old new k is =
 -- ---- a call, with any peer
 
 stays_for_memory : (settings : EncoderSettings) (old new : EncodingEnd) (fields : List FieldLine) → Stays settings old
-    → RunsOutOfMemory old new fields → Stays settings new
+    → StopsForMemory old new fields → Stays settings new
 stays_for_memory settings old new fields k (inl none) = stays_same settings old new k none.1
 stays_for_memory settings old new fields k (inr (inl full)) = stays_begun settings old new k full.1
 stays_for_memory settings old new fields k (inr (inr g)) =
@@ -102,7 +107,7 @@ stays_for_memory settings old new fields k (inr (inr g)) =
 
 stays_encoded : (settings : EncoderSettings) (old new : EncodingEnd) (s : ℕ) (fields : List FieldLine)
     (section : List ℕ) (answer : Result ℕ EncodingError) → Stays settings old
-    → EncodesByChoice old new s fields [] section answer → Stays settings new
+    → Encodes old new s fields [] section answer → Stays settings new
 stays_encoded settings old new s fields section (Ok required) k (checks, inl writes) =
     stays_with settings old new new.table new.unsent k
     (subst (IsCarefulTable (most settings)) (sym writes.section.table)
@@ -175,8 +180,8 @@ stays_sent settings old many k =
 
 step_stays : (settings : EncoderSettings) (call : Call) (old new : EncodingEnd) → Stays settings old
     → Step call old new → Stays settings new
-step_stays settings (Encode s fields section answer) old new k step =
-    stays_encoded settings old new s fields section answer k (encode_chosen old new s fields [] section answer step)
+step_stays settings (Encode s fields wishes section answer) old new k step =
+    stays_encoded settings old new s fields section answer k step.0
 step_stays settings (SetCapacity n answer) old new k step = stays_set settings old new n answer k step
 step_stays settings (Receive bytes answer) old new k step = by old.failure refl step.1
   where
@@ -196,7 +201,7 @@ careful settings e k =
 
 counts_section : (settings : EncoderSettings) (old new : EncodingEnd) (s : ℕ) (fields : List FieldLine)
     (section : List ℕ) (required : ℕ) → Stays settings old
-    → WritesChosen (begun old) new s fields [] section required
+    → WritesSection (begun old) new s fields [] section required
     ⊎ WritesAlone (begun old) new fields [] section required → CountsSection (begun old) new s fields section
 counts_section settings old new s fields section required k (inl writes) =
     let t = (begun old).table in
@@ -227,10 +232,9 @@ counts_section settings old new s fields section required k (inr writes) =
 
 call_counts : (settings : EncoderSettings) (call : Call) (old new : EncodingEnd) → Stays settings old
     → Step call old new → Counts call old new
-call_counts settings (Encode s fields section (Ok required)) old new k step =
-    counts_section settings old new s fields section required k
-    (encode_chosen old new s fields [] section (Ok required) step).1
-call_counts settings (Encode s fields section (Err e)) old new k step = tt
+call_counts settings (Encode s fields wishes section (Ok required)) old new k step =
+    counts_section settings old new s fields section required k step.0.1
+call_counts settings (Encode s fields wishes section (Err e)) old new k step = tt
 call_counts settings (SetCapacity n answer) old new k step = tt
 call_counts settings (Receive bytes answer) old new k step = tt
 call_counts settings (Sent many) old new k step = tt
@@ -251,20 +255,43 @@ encoders_careful settings calls first last s run =
 
 -- ---- a call, with a lawful decoder
 
-goes_on : (settings : EncoderSettings) (old new : EncodingEnd) (s : ℕ) (fields : List FieldLine) (section : List ℕ)
-    (required : ℕ) → Stays settings old
-    → WritesSection (begun old) new s fields [] section required
-    ⊎ WritesAlone (begun old) new fields [] section required
-    → GoesOn settings (begun old) fields required
-goes_on settings old new s [] section required k writes = tt
-goes_on settings old new s (l ∷ more) section required k (inl writes) = λ quiet is some room few.
+-- the first field is chosen to be inserted, so that an insertion is required that was not made before
+first_goes_on : (t : Table) (l : FieldLine) (more : List FieldLine) (words : List Wish) (cs : List Chosen) → IsQuiet t
+    → IsToBeInserted t l → length t.blocked < t.limit → insert_count t < 2 ^ 62
+    → SuitAlong (insert_count t) (empty_draft t) (l ∷ more) (Insert ∷ words) cs
+    → insert_count t < required_insert_count (chosen_rule t (l ∷ more) cs)
+unfolding without_references newest_index
+first_goes_on t l more words [] quiet is below few suit = absurd suit
+first_goes_on t l more words (c ∷ cs) quiet is below few suit =
+    let d = empty_draft t in
+    let still : IsQuiet d.table = record { acknowledged = quiet.acknowledged; known = quiet.known } in
+    let wish = subst (λ (o : Option ℕ). SuitsUnless o l.never_indexed d.table l Insert c) is.not_static suit.0 in
+    let room = has_room_quiet d.table l.field still refl is.fits few in
+    let may : (below_limit d.table && has_room d.table l.field) ≡ true =
+    rw (lt-ltb (length t.blocked) t.limit below, room) refl in
+    let inserts = (wish is.indexable is.not_there).referenced may in
+    let same : c ≡ record { line = Inserts; unreferenced = c.unreferenced } =
+    ap (λ (x : Choice). let y : Chosen = record { line = x; unreferenced = c.unreferenced } in y) inserts in
+    subst (λ (x : Chosen). insert_count t < required_insert_count (chosen_rule t (l ∷ more) (x ∷ cs))) (sym same)
+    (go_on_chosen t l more c.unreferenced cs quiet is.indexable is.fits below few)
+
+goes_on : (settings : EncoderSettings) (old new : EncodingEnd) (s : ℕ) (fields : List FieldLine) (wishes : List Wish)
+    (section : List ℕ) (required : ℕ) → Stays settings old
+    → EncodesAsWished old new s fields wishes [] section (Ok required)
+    → GoesOn settings (begun old) fields wishes required
+goes_on settings old new s (l ∷ more) (Insert ∷ words) section required k wished = λ quiet is some room few.
     let t = (begun old).table in
     let careful = table_begun settings old k in
-    let reached = (go_on t l more quiet is (quiet_unblocked (most settings) t careful quiet.known (omega (arith, some)))
-    few).1 in
-    omega (arith, reached, writes.section.required_is)
-goes_on settings old new s (l ∷ more) section required k (inr writes) = λ quiet is some room few.
-    absurd (let full = writes.full in cc)
+    let w = wished room in
+    let below = quiet_unblocked (most settings) t careful quiet.known (omega (arith, some)) in
+    let reached = first_goes_on t l more words w.section.choices quiet is below few
+    (w.suit (λ none. omega (arith, none, is.fits))) in
+    omega (arith, reached, w.section.required_is)
+goes_on settings old new s (l ∷ more) (Reuse ∷ words) section required k wished = tt
+goes_on settings old new s (l ∷ more) (Never ∷ words) section required k wished = tt
+goes_on settings old new s (l ∷ more) (Unmarked ∷ words) section required k wished = tt
+goes_on settings old new s (l ∷ more) [] section required k wished = tt
+goes_on settings old new s [] wishes section required k wished = tt
 
 -- what a call answers, and that no error ends the connection
 abbrev AnswersSo : EncoderSettings → Call → EncodingEnd → EncodingEnd → Type 0
@@ -279,21 +306,23 @@ memory_alive old new fields alive (inr (inr g)) =
     ap (λ (y : EncodingEnd). y.failure) g.new_is ∙ begun_failure old.wanted old ∙ alive
 
 encode_answers : (settings : EncoderSettings) (old new : EncodingEnd) (s : ℕ) (fields : List FieldLine)
-    (section : List ℕ) (answer : Result ℕ EncodingError) → Stays settings old → old.failure ≡ None
-    → Encodes old new s fields [] section answer → AnswersSo settings (Encode s fields section answer) old new
-encode_answers settings old new s fields section (Ok required) k alive (checks, inl writes) = (
-  goes_on settings old new s fields section required k (inl writes),
+    (wishes : List Wish) (section : List ℕ) (answer : Result ℕ EncodingError) → Stays settings old
+    → old.failure ≡ None → Encodes old new s fields [] section answer
+    → EncodesAsWished old new s fields wishes [] section answer
+    → AnswersSo settings (Encode s fields wishes section answer) old new
+encode_answers settings old new s fields wishes section (Ok required) k alive (checks, inl writes) wished = (
+  goes_on settings old new s fields wishes section required k wished,
   ap (λ (y : EncodingEnd). y.failure) writes.new_is ∙ begun_failure old.wanted old ∙ alive,
 )
-encode_answers settings old new s fields section (Ok required) k alive (checks, inr writes) = (
-  goes_on settings old new s fields section required k (inr writes),
+encode_answers settings old new s fields wishes section (Ok required) k alive (checks, inr writes) wished = (
+  goes_on settings old new s fields wishes section required k wished,
   ap (λ (y : EncodingEnd). y.failure) writes.new_is ∙ begun_failure old.wanted old ∙ alive,
 )
-encode_answers settings old new s fields section (Err e) k alive (none, inl (inl ended, same)) =
+encode_answers settings old new s fields wishes section (Err e) k alive (none, inl (inl ended, same)) wished =
     absurd (let x = sym alive ∙ ended in cc)
-encode_answers settings old new s fields section (Err e) k alive (none, inl (inr number, same)) =
+encode_answers settings old new s fields wishes section (Err e) k alive (none, inl (inr number, same)) wished =
     (inr (number.2, number.1), ap (λ (y : EncodingEnd). y.failure) same ∙ alive)
-encode_answers settings old new s fields section (Err e) k alive (none, inr stopped) =
+encode_answers settings old new s fields wishes section (Err e) k alive (none, inr stopped) wished =
     (inl stopped.1, memory_alive old new fields alive stopped.2)
 
 set_answers : (settings : EncoderSettings) (old new : EncodingEnd) (n : ℕ) (answer : Result ⊤ EncodingError)
@@ -323,8 +352,8 @@ hear_answers settings old new bytes (Err Memory) k alive l call = absurd call
 
 step_answers : (settings : EncoderSettings) (call : Call) (old new : EncodingEnd) → Stays settings old
     → old.failure ≡ None → Step call old new → IsLawfulCall call old → AnswersSo settings call old new
-step_answers settings (Encode s fields section answer) old new k alive step asked =
-    encode_answers settings old new s fields section answer k alive step
+step_answers settings (Encode s fields wishes section answer) old new k alive step asked =
+    encode_answers settings old new s fields wishes section answer k alive step.0 step.1
 step_answers settings (SetCapacity n answer) old new k alive step asked =
     set_answers settings old new n answer alive step
 step_answers settings (Receive bytes answer) old new k alive step asked =

@@ -16,20 +16,25 @@ use Rattle.qpack_ends.specs.declared.encoder.EncodingError.{EncodingError}
 use Rattle.qpack_ends.specs.Encoders.{EncodingEnd, Starts, begun, is_full, Encodes, SetsCapacity, StopsTelling}
 use Rattle.qpack_ends.specs.Encoders.{ReceivesBytes}
 use Rattle.qpack_ends.specs.Hearing.{Receives}
+use Rattle.qpack_ends.specs.Wishes.{EncodesAsWished}
+use Rattle.qpack_codec.specs.declared.encoder.choices.Wish.{Wish}
+use Rattle.qpack_codec.specs.declared.encoder.choices.Wish.TheVariants.{Insert}
 use Rattle.qpack_connection.specs.RefinedRefusals.{StopsEncoding}
 
 -- ---- the calls
 
 -- a call of an encoding end, and what it answers
 pub data Call : Type 0 where
-  Encode : (stream : ℕ) (fields : List FieldLine) (section : List ℕ) (answer : Result ℕ EncodingError) → Call
+  Encode : (stream : ℕ) (fields : List FieldLine) (wishes : List Wish) (section : List ℕ)
+      (answer : Result ℕ EncodingError) → Call
   SetCapacity : (capacity : ℕ) (answer : Result ⊤ EncodingError) → Call
   Receive : (bytes : List ℕ) (answer : Result ⊤ EncodingError) → Call
   Sent : (bytes : ℕ) → Call
 
 -- what a call makes of the end, as its contract says
 abbrev pub Step : Call → EncodingEnd → EncodingEnd → Type 0
-Step (Encode s fields section answer) old new = Encodes old new s fields [] section answer
+Step (Encode s fields wishes section answer) old new =
+    Encodes old new s fields [] section answer × EncodesAsWished old new s fields wishes [] section answer
 Step (SetCapacity capacity answer) old new = SetsCapacity old new capacity answer
 Step (Receive bytes answer) old new =
     (old.failure ≡ None → (heard : List DecoderInstruction) (before : List ℕ) → Receives heard before old.stream
@@ -62,7 +67,7 @@ pub record CountsSection (old new : EncodingEnd) (stream : ℕ) (fields : List F
 
 -- so does each section that a call wrote
 abbrev pub Counts : Call → EncodingEnd → EncodingEnd → Type 0
-Counts (Encode s fields section (Ok required)) old new = CountsSection (begun old) new s fields section
+Counts (Encode s fields wishes section (Ok required)) old new = CountsSection (begun old) new s fields section
 Counts call old new = Unit {0}
 
 abbrev pub AllCareful : EncoderSettings → (calls : List Call) (old new : EncodingEnd) → Run calls old new → Type 0
@@ -102,20 +107,21 @@ abbrev pub AreLawful : (calls : List Call) (old new : EncodingEnd) → Run calls
 AreLawful [] old new run = Unit {0}
 AreLawful (call ∷ calls) old new run = IsLawfulCall call old × AreLawful calls run.0 new run.2
 
--- a section whose first field is to be inserted requires an insertion that was not made before, if nothing is under
--- way, some section may be blocked, and some may wait for its acknowledgment
-abbrev pub GoesOn : EncoderSettings → EncodingEnd → List FieldLine → ℕ → Type 0
-GoesOn settings e [] required = Unit {0}
-GoesOn settings e (l ∷ more) required =
+-- a section whose first field is new, and is to be inserted by the caller's word, requires an insertion that was not made
+-- before, if nothing is under way, some section may be blocked, and some may wait for its acknowledgment
+abbrev pub GoesOn : EncoderSettings → EncodingEnd → List FieldLine → List Wish → ℕ → Type 0
+GoesOn settings e (l ∷ more) (Insert ∷ words) required =
     IsQuiet e.table → IsToBeInserted e.table l → 0 < settings.max_blocked → is_full e ≡ false
     → insert_count e.table < 2 ^ 62 → insert_count e.table < required
+GoesOn settings e fields wishes required = Unit {0}
 
 -- what a call answers: a section is encoded, and insertions go on, or memory is refused or no stream has this number; a
 -- capacity is set, or it is above the maximum, or an entry would have to go that may be needed, or memory is refused;
 -- and nothing of the decoder stream is refused
 abbrev pub Answers : EncoderSettings → Call → EncodingEnd → Type 0
-Answers settings (Encode s fields section (Ok required)) old = GoesOn settings (begun old) fields required
-Answers settings (Encode s fields section (Err e)) old = StopsEncoding s e
+Answers settings (Encode s fields wishes section (Ok required)) old =
+    GoesOn settings (begun old) fields wishes required
+Answers settings (Encode s fields wishes section (Err e)) old = StopsEncoding s e
 Answers settings (SetCapacity capacity (Ok done)) old = Unit {0}
 Answers settings (SetCapacity capacity (Err e)) old = StopsTelling old.table capacity e
 Answers settings (Receive bytes answer) old = answer ≡ Ok tt

@@ -7,7 +7,6 @@ pub use Rattle.qpack_ends.specs.Blocked
 pub use Rattle.qpack_ends.specs.Decoders
 pub use Rattle.qpack_ends.specs.Hearing
 pub use Rattle.qpack_ends.specs.Encoders
-pub mod ChosenSections
 pub mod LawfulPieces
 pub mod Connections
 pub mod RefinedConnections

@@ -1,6 +1,5 @@
 //! Laws of the two instruction streams, for a peer that keeps to the standard, and of two ends in bytes.
 
-ghost use Rattle.qpack_connection.specs.ChosenSections.{EncodesAreByChoice};
 ghost use Rattle.qpack_connection.specs.LawfulDecoders.{EncodersAreCareful, LawfulDecodersAreUnderstood};
 ghost use Rattle.qpack_connection.specs.LawfulEncoders.{LawfulEncodersAreUnderstood};
 ghost use Rattle.qpack_connection.specs.ArrivedSections.{SectionsArrive};
@@ -19,12 +18,6 @@ ghost use Rattle.qpack_connection.specs.TwoEndsHeadline.{TwoEndsAnswerWhatWasHan
 pub fn lawful_streams_are_never_refused()
     ensures encoder_stream { EncoderStreamsAreNeverRefused }
     ensures decoder_stream { DecoderStreamsAreNeverRefused }
-{}
-
-/// Each encode of [`ConnectionEncoder`](crate::ConnectionEncoder) is one under some choices (RFC 9204, section 2.1).
-/// The laws below use only that of an encode, except where insertions go on with a decoder that keeps to the standard.
-pub fn encodes_are_by_choice()
-    ensures { EncodesAreByChoice }
 {}
 
 /// A connection of two ends in bytes is a session of two strict ends in values (RFC 9204, section 2): a new one, and
@@ -70,8 +63,8 @@ pub fn encoders_are_careful()
 {}
 
 /// And with any decoder that keeps to the standard, in whatever spelling, however the bytes of its stream are cut:
-/// nothing of the decoder stream is refused, no error ends the connection, and wherever nothing is under way the next
-/// field that is to be inserted is inserted (RFC 9204, sections 2.1, 2.2.2 and 4.4).
+/// nothing of the decoder stream is refused, no error ends the connection, and wherever nothing is under way a new field
+/// that the caller wishes to be inserted is inserted (RFC 9204, sections 2.1, 2.2.2 and 4.4).
 pub fn lawful_decoders_are_understood()
     ensures { LawfulDecodersAreUnderstood }
 {}

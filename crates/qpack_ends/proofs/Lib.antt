@@ -14,3 +14,4 @@ pub mod ReceivedStreams
 pub mod StrictHearing
 pub mod HeardBytes
 pub mod HeardStreams
+pub mod Wishes

@@ -8,7 +8,7 @@ use Rattle.qpack_spec.specs.Marked.{stateless_block_marked, written_marked_block
 use Rattle.qpack_spec.specs.Table.{Table, empty_table, with_capacity}
 use Rattle.qpack_spec.specs.Window.{DoesNotFit, AboveMaximum}
 use Rattle.qpack_table.specs.declared.dynamic.Error.TheVariants.{MaxTableSizeReached}
-use Rattle.qpack_codec.specs.Encoding.{EncodesLines, GivesUpLines}
+use Rattle.qpack_codec.specs.ChosenSections.{EncodesChosen, GivesUpChosen}
 use Rattle.qpack_codec.specs.declared.error.EncoderError.{EncoderError}
 use Rattle.qpack_codec.specs.declared.error.EncoderError.TheVariants as encoder
 use Rattle.qpack_ends.specs.declared.encoder.EncoderSettings.{EncoderSettings}
@@ -172,11 +172,11 @@ written_alone fields = written_marked_block fields (stateless_block_marked field
 abbrev pub with_section : Table → List ℕ → EncodingEnd → EncodingEnd
 with_section t unsent d = record d { table = t; unsent = unsent }
 
--- where sections may wait, the section is the rule's, and so are its instructions and the table behind it
+-- where sections may wait, the section was written under some choices, and so were its instructions (section 2.1)
 pub record WritesSection (d new : EncodingEnd) (stream : ℕ) (fields : List FieldLine) (before after : List ℕ)
     (required : ℕ) : Type 0 where
   pub room : is_full d ≡ false
-  pub section : EncodesLines stream fields d.table new.table before after d.unsent new.unsent required
+  pub section : EncodesChosen stream fields d.table new.table before after d.unsent new.unsent required
   pub new_is : new ≡ with_section new.table new.unsent d
 
 -- where as many wait as may, the section references no entry, and nothing else changes
@@ -187,10 +187,10 @@ pub record WritesAlone (d new : EncodingEnd) (fields : List FieldLine) (before a
   pub section : after ≡ before ++ written_alone fields
   pub new_is : new ≡ d
 
--- memory was refused behind some of the fields: their insertions stand and were written, and nothing is referenced
+-- memory ran out after some of the fields: their insertions stay and were written, and nothing is referenced
 pub record GivesUpSection (d new : EncodingEnd) (fields : List FieldLine) : Type 0 where
   pub room : is_full d ≡ false
-  pub lines : GivesUpLines fields d.table new.table d.unsent new.unsent
+  pub lines : GivesUpChosen fields d.table new.table d.unsent new.unsent
   pub new_is : new ≡ with_section new.table new.unsent d
 
 -- memory was refused: for the capacity that was to be told, and nothing changes; behind it, for a section without

@@ -7,3 +7,4 @@ pub mod Blocked
 pub mod Decoders
 pub mod Hearing
 pub mod Encoders
+pub mod Wishes

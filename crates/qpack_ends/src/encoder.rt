@@ -9,9 +9,11 @@ ghost use Rattle.qpack_ends.specs.Hearing.{Receives};
 ghost use Rattle.qpack_ends.specs.Encoders.{Starts, first_capacity, code_of, capacity_failure, SetsCapacity};
 ghost use Rattle.qpack_ends.specs.Encoders.{TellsCapacity, Begins, ReceivesBytes, Checks, is_full, written_alone};
 ghost use Rattle.qpack_ends.specs.Encoders.{Encodes};
+ghost use Rattle.qpack_ends.specs.Wishes.{EncodesAsWished};
 ghost use Rattle.qpack_ends.specs.declared.decoder.SettingsError.TheVariants.{CapacityTooLarge};
 ghost use Rattle.qpack_ends.specs.declared.encoder.EncodingError.TheVariants.{Memory};
 
+use crate::choosing::Chooser;
 use crate::decoder::{STREAMS, SettingsError};
 use crate::hearing::{DECODER_STREAM_ERROR, DecoderStream, DecoderStreamError};
 use qpack_base::coding::Cursor;
@@ -138,6 +140,7 @@ impl EncodingError {
 pub struct ConnectionEncoder {
     settings: EncoderSettings,
     table: EncoderTable,
+    chooser: Chooser,
     /// The capacity that is to be told before the first section, in bytes.
     wanted: Option<usize>,
     stream: DecoderStream,
@@ -186,6 +189,7 @@ impl ConnectionEncoder {
         Ok(ConnectionEncoder {
             settings,
             table: EncoderTable { table },
+            chooser: Chooser::new(alloc),
             wanted: settings.first_capacity(),
             stream: DecoderStream::new(),
             unsent: Vec::new(alloc),
@@ -273,11 +277,16 @@ impl ConnectionEncoder {
     }
 
     /// Encodes a field section for a stream (RFC 9204, section 2.1): appends it to the vector, and what it inserts to
-    /// the encoder stream, and answers its required insert count, 0 if it references no entry. For each field the first
-    /// is taken that applies: an equal static field, the newest equal entry that stood at the section's start, an
-    /// insertion, and a literal. A field that is never to be indexed is a literal that says so, by the name of a static
-    /// field or of an entry, and is neither inserted nor held against entries (section 7.1.3). Nothing is copied but
-    /// what is inserted.
+    /// the encoder stream, and answers its required insert count, 0 if it references no entry.
+    ///
+    /// A field that the static table has is one byte or two. Of the others, the table keeps those that come again: a
+    /// new field is inserted while a quarter of the capacity is free, when it comes a second time, or for a name that
+    /// no table has. The oldest entries that are still used are inserted again, so that the others can be evicted
+    /// (section 2.1.1.1). Where no more sections may be blocked, a field is inserted without a reference (section
+    /// 2.1.2). `AsField::wish` has the caller's word, which goes first: insert this field, or insert nothing for it.
+    ///
+    /// A field that is never to be indexed is a literal that says so, by the name of a static field or of an entry. It
+    /// is neither inserted nor held against entries (section 7.1.3). Nothing is copied but what is inserted.
     ///
     /// The first call tells the capacity of the settings, if none was told. While as many sections wait for
     /// acknowledgments as may, a section is written without references, as `encode_section_stateless` does, and does
@@ -295,6 +304,9 @@ impl ConnectionEncoder {
     ) -> Result<usize, EncodingError>
         ensures encodes { Encodes self.old self.new stream (map H.line fields.now) section.old.items section.new.items
             result }
+        // What the caller wishes of a field is done (section 2.1).
+        ensures wishes { EncodesAsWished self.old self.new stream (map H.line fields.now) (map H.wish fields.now)
+            section.old.items section.new.items result }
         ensures capacity { vec_capacity section.old ≤ vec_capacity section.new }
     {
         self.check(stream)?;
@@ -302,10 +314,13 @@ impl ConnectionEncoder {
         if self.is_full() {
             return encode_alone(fields, section);
         }
-        match self
-            .table
-            .write_section(stream, section, &mut self.unsent, fields)
-        {
+        match self.table.write_chosen_section(
+            stream,
+            section,
+            &mut self.unsent,
+            fields,
+            &mut self.chooser,
+        ) {
             Ok(required) => Ok(required),
             Err(_) => Err(EncodingError::Memory),
         }

@@ -3,6 +3,7 @@
 #![tactic(auto)]
 
 pub mod blocked;
+mod choosing;
 pub mod decoder;
 pub mod encoder;
 pub mod field_section;

@@ -6,11 +6,12 @@ ghost use Rattle.qpack_spec.specs.Field.{fields_of_lines};
 ghost use Rattle.qpack_spec.specs.Huffman.{AreBytes};
 ghost use Rattle.qpack_spec.specs.WrittenLaws.{IsByteField};
 ghost use Rattle.qpack_base.specs.HeaderFields.{line_of};
+ghost use Rattle.qpack_codec.specs.Choices.{wish_of_mark};
 ghost use Rattle.qpack_connection.specs.OwnedLines.{line_of as line_of_owned, lines_of};
 
 use qpack_base::coding::NoMemory;
 use qpack_base::field::FieldLine;
-use qpack_codec::encoder::AsField;
+use qpack_codec::encoder::{AsField, Wish};
 use std::alloc::Global;
 
 /// A field line that owns its name and its value (RFC 9110, section 5).
@@ -40,12 +41,18 @@ impl OwnedFieldLine {
 impl AsField for OwnedFieldLine {
     ghost line = { λ x. line_of_owned x };
 
+    ghost wish = { λ x. wish_of_mark x.never_indexed };
+
     fn as_field(&self) -> FieldLine<'_> {
         FieldLine {
             name: &self.name,
             value: &self.value,
             never_indexed: self.never_indexed,
         }
+    }
+
+    fn wish(&self) -> Wish {
+        Wish::of_mark(self.never_indexed)
     }
 }
 

@@ -1,0 +1,74 @@
+-- What the caller's word asks of an encoding end for each field (RFC 9204, sections 2.1, 2.1.2 and 7.1.3).
+use Rattle.std.specs.Prelude.{◌≡◌, ℕ, Bool, true, false, ◌&&◌, List, [], ◌∷◌, Option, None, Some, Result, Ok, Err}
+use Rattle.qpack_spec.specs.Chosen.{Choice, Inserts, Chosen, alone_chosen, chosen_field}
+use Rattle.qpack_spec.specs.Field.{Field, FieldLine, is_field}
+use Rattle.qpack_spec.specs.Rule.{Draft, empty_draft}
+use Rattle.qpack_spec.specs.StaticTable.{static_index}
+use Rattle.qpack_spec.specs.Table.{Table, insert_count, newest_index, has_room, below_limit}
+use Rattle.qpack_codec.specs.Choices.{inserts_after}
+use Rattle.qpack_codec.specs.ChoosesAlong.{Chooses}
+use Rattle.qpack_codec.specs.ChosenSections.{EncodesChosen}
+use Rattle.qpack_codec.specs.declared.encoder.choices.Choice as choices
+use Rattle.qpack_codec.specs.declared.encoder.choices.Choice.TheVariants.{Inserted}
+use Rattle.qpack_codec.specs.declared.encoder.choices.Wish.{Wish}
+use Rattle.qpack_codec.specs.declared.encoder.choices.Wish.TheVariants.{Unmarked, Reuse, Insert, Never}
+use Rattle.qpack_ends.specs.declared.encoder.EncodingError.{EncodingError}
+use Rattle.qpack_ends.specs.Encoders.{EncodingEnd, begun, is_full}
+
+-- a field is inserted: its line references the new entry where one more section may be blocked and there is room; where no
+-- more may be blocked, it is inserted without a reference (sections 2.1.1 and 2.1.2)
+pub record InsertsField (t : Table) (f : Field) (c : Chosen) : Type 0 where
+  pub referenced : (below_limit t && has_room t f) ≡ true → c.line ≡ Inserts
+  pub unreferenced : below_limit t ≡ false → c.unreferenced ≡ true
+
+-- nothing is inserted for a field
+pub record InsertsNothing (c : Chosen) : Type 0 where
+  pub line : c.line ≡ Inserts → ⊥
+  pub unreferenced : c.unreferenced ≡ false
+
+-- what the word asks of the choice of a chooser, where the newest equal entry is this
+abbrev pub KeepsWish : Table → Field → Wish → Option ℕ → choices.Choice → Type 0
+KeepsWish t f Insert None c =
+    ((below_limit t && has_room t f) ≡ true → c ≡ Inserted) × (below_limit t ≡ false → inserts_after c ≡ true)
+KeepsWish t f Reuse newest c = (c ≡ Inserted → ⊥) × (inserts_after c ≡ false)
+KeepsWish t f w newest c = Unit {0}
+
+-- what the word asks of a choice at a table, for a field that no static field equals: `Insert`, that it is inserted unless
+-- an entry equals it; `Reuse`, that nothing is inserted
+abbrev pub SuitsWish : Table → FieldLine → Wish → Chosen → Type 0
+SuitsWish t l Insert c = l.never_indexed ≡ false → newest_index t (is_field l.field) ≡ None → InsertsField t l.field c
+SuitsWish t l Reuse c = l.never_indexed ≡ false → InsertsNothing c
+SuitsWish t l w c = Unit {0}
+
+-- a chooser that chooses by the caller's words, whatever else it goes by
+abbrev pub by_wish : (K : Type 0) → Chooses K Wish
+by_wish K before t l w c after = SuitsWish t l w c
+
+-- the same of any field: one that a static field equals is written as that, unless it is never to be indexed
+abbrev pub SuitsUnless : Option ℕ → Bool → Table → FieldLine → Wish → Chosen → Type 0
+SuitsUnless (Some i) false t l w c = c ≡ alone_chosen
+SuitsUnless o marked t l w c = SuitsWish t l w c
+
+abbrev pub SuitsField : Table → FieldLine → Wish → Chosen → Type 0
+SuitsField t l w c = SuitsUnless (static_index l.field) l.never_indexed t l w c
+
+-- each field in turn, at the table that those before it left
+abbrev pub SuitAlong : ℕ → Draft → List FieldLine → List Wish → List Chosen → Type 0
+SuitAlong base d [] [] [] = Unit {0}
+SuitAlong base d (l ∷ ls) (w ∷ ws) (c ∷ cs) =
+    SuitsField d.table l w c × SuitAlong base (chosen_field base d l c) ls ws cs
+SuitAlong base d ls ws cs = ⊥
+
+-- where sections may wait, the section was written under choices that suit the caller's words; at capacity 0 there is nothing to choose
+pub record KeepsWishes (d new : EncodingEnd) (stream : ℕ) (fields : List FieldLine) (wishes : List Wish)
+    (before after : List ℕ) (required : ℕ) : Type 0 where
+  pub section : EncodesChosen stream fields d.table new.table before after d.unsent new.unsent required
+  pub suit : (d.table.capacity ≡ 0 → ⊥)
+      → SuitAlong (insert_count d.table) (empty_draft d.table) fields wishes section.choices
+
+-- an encode keeps to the caller's words, unless as many sections wait as may: then none references an entry
+abbrev pub EncodesAsWished : EncodingEnd → EncodingEnd → ℕ → List FieldLine → List Wish → List ℕ → List ℕ
+    → Result ℕ EncodingError → Type 0
+EncodesAsWished old new stream fields wishes before after (Ok required) =
+    is_full (begun old) ≡ false → KeepsWishes (begun old) new stream fields wishes before after required
+EncodesAsWished old new stream fields wishes before after (Err e) = Unit {0}
