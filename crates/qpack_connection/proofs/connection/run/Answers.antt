@@ -1,3 +1,4 @@
+use Rattle.std.proofs.lemmas.Result.{err_from_is_err_and}
 use Rattle.qpack_connection.proofs.ConnectionRuns.{goes_from_new, all_answer}
 use Rattle.qpack_connection.proofs.HandedFields.{decode_in_order}
 use Rattle.qpack_connection.specs.ConnectionRuns.{calls_of}
@@ -25,3 +26,8 @@ returns-clause-headline c =
     let all = returns-clause-answers c in
     decode_in_order c.args.settings.decoder.max_blocked (calls_of c.args.events.items c.step_all.new.outcomes.items)
     all.first all.last all.begins.new all.run all.answers
+
+pub returns-in_err-outcomes-clause-err : goal.returns-in_err-outcomes-clause-err
+returns-in_err-outcomes-clause-err c =
+    let p = err_from_is_err_and c.from_residual-in_err-outcomes.result c.from_residual-in_err-outcomes.ensures.1 in
+    rw (p.1, p.2) tt
