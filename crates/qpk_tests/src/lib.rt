@@ -20,4 +20,5 @@ mod scripts;
 mod shown;
 #[cfg(test)]
 mod streams;
+#[cfg(test)]
 mod words;
