@@ -78,7 +78,8 @@ static void fill_tables(kind k) {
   end_case("encode into a table that grows", kinds[k], size, 0);
   size_t len = sent.len;
   begin_case();
-  for (size_t i = 0; i < calls; i++) CHECK(encode_heard(&e, &f[i], &sent) == i + 1);
+  for (size_t i = 0; i < calls; i++)
+    CHECK(heard(&e, encode_as(&e, 0, &f[i], H3_QPACK_NV_FLAG_REUSE, &sent)) == i + 1);
   end_case("encode an entry", kinds[k], calls, 0);
   CHECK(sent.len == len);
   begin_case();

@@ -242,8 +242,8 @@ static inline void hear(h3_qpack_encoder *e, const void *p, size_t len) {
 }
 
 /* Encodes a section of one field, adds its instructions to |sent|, if that is wanted, and answers what it requires. */
-static inline size_t encode(h3_qpack_encoder *e, uint64_t stream_id, const field *f, bytes *sent) {
-  h3_qpack_nv nv = {f->name, sizeof f->name, f->value, sizeof f->value, 0};
+static inline size_t encode_as(h3_qpack_encoder *e, uint64_t stream_id, const field *f, uint8_t flags, bytes *sent) {
+  h3_qpack_nv nv = {f->name, sizeof f->name, f->value, sizeof f->value, flags};
   h3_qpack_encoded a = h3_qpack_encoder_encode(e, stream_id, &nv, 1, section, sizeof section);
   CHECK(a.status == H3_QPACK_OK);
   size_t len = h3_qpack_encoder_write_encoder(e, stream, sizeof stream);
@@ -251,11 +251,18 @@ static inline size_t encode(h3_qpack_encoder *e, uint64_t stream_id, const field
   return a.required;
 }
 
+static inline size_t encode(h3_qpack_encoder *e, uint64_t stream_id, const field *f, bytes *sent) {
+  return encode_as(e, stream_id, f, H3_QPACK_NV_FLAG_INSERT, sent);
+}
+
 /* The same, and it is acknowledged. */
-static inline size_t encode_heard(h3_qpack_encoder *e, const field *f, bytes *sent) {
-  size_t required = encode(e, 0, f, sent);
+static inline size_t heard(h3_qpack_encoder *e, size_t required) {
   if (required) hear(e, "\x80", 1);
   return required;
+}
+
+static inline size_t encode_heard(h3_qpack_encoder *e, const field *f, bytes *sent) {
+  return heard(e, encode(e, 0, f, sent));
 }
 
 static inline h3_qpack_decoded decode(h3_qpack_decoder *d, uint64_t stream_id, const bytes *b) {

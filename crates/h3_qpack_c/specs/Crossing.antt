@@ -1,8 +1,10 @@
 -- Fields, and bytes, as they cross to C and from it.
-use Rattle.std.specs.Prelude.{◌≡◌, ◌%◌, ◌-◌, ◌^◌, nat_eq, nat_le, min, ℕ, ℤ, if◌then◌else◌, ◌⊎◌, ◌&&◌, Bool}
+use Rattle.std.specs.Prelude.{◌≡◌, ◌%◌, ◌/◌, ◌-◌, ◌^◌, nat_eq, nat_le, min, ℕ, ℤ, if◌then◌else◌, ◌⊎◌, ◌&&◌, Bool}
 use Rattle.std.specs.Prelude.{List, [], ◌∷◌, ◌++◌, length, map, drop, Option, None, Some}
 use Rattle.h3_qpack_c.specs.declared.answers.Given.{Given}
 use Rattle.qpack_spec.specs.Field.{FieldLine}
+use Rattle.qpack_codec.specs.declared.encoder.choices.Wish.{Wish}
+use Rattle.qpack_codec.specs.declared.encoder.choices.Wish.TheVariants.{Unmarked, Never, Reuse, Insert}
 use Rattle.h3_qpack_c.specs.declared.answers.Written.{Written}
 use Rattle.h3_qpack_c.specs.declared.fields.Field.{Field}
 use Rattle.h3_qpack_c.specs.Statuses.{done, no_memory, no_room, invalid}
@@ -11,6 +13,15 @@ use Rattle.h3_qpack_c.specs.Statuses.{done, no_memory, no_room, invalid}
 abbrev pub line_of_lent : Field → FieldLine
 line_of_lent f =
     record { field = record { name = f.name.now; value = f.value.now }; never_indexed = nat_eq (f.flags % 2) 1 }
+
+-- what a lent field's flags ask: the lowest that it is never to be indexed, else the fifth that nothing is inserted for
+-- it, else the fourth that it is inserted
+abbrev pub wish_of_lent : Field → Wish
+wish_of_lent f =
+    if nat_eq (f.flags % 2) 1 then Never
+    else if nat_eq (f.flags / 16 % 2) 1 then Reuse
+    else if nat_eq (f.flags / 8 % 2) 1 then Insert
+    else Unmarked
 
 -- memory with bytes, or what else it has, at its front
 abbrev pub written_over : {A : Type 0} → List A → List A → List A

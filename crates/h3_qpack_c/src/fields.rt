@@ -10,8 +10,14 @@ use crate::statuses::{DONE, INVALID, NO_ROOM};
 use qpack_codec::encoder::{AsField, Wish};
 use qpack_ends::{FieldLine, FieldSection};
 
-/// A field that is lent: its name, its value, and its flags, of which the lowest says that it is never to be indexed
-/// (RFC 9204, section 7.1.3).
+/// The flag of a field that is to be inserted.
+const INSERT: u8 = 8;
+
+/// The flag of a field for which nothing is to be inserted.
+const REUSE: u8 = 16;
+
+/// A field that is lent: its name, its value, and its flags. The lowest says that it is never to be indexed (RFC 9204,
+/// section 7.1.3), the fourth that it is to be inserted, and the fifth that nothing is to be inserted for it.
 #[repr(C)]
 #[derive(Clone, Copy)]
 pub struct Field<'a> {
@@ -21,12 +27,11 @@ pub struct Field<'a> {
 }
 
 impl AsField for Field<'_> {
-    ghost use Rattle.qpack_codec.specs.Choices.{wish_of_mark};
-    ghost use Rattle.h3_qpack_c.specs.Crossing.{line_of_lent};
+    ghost use Rattle.h3_qpack_c.specs.Crossing.{line_of_lent, wish_of_lent};
 
     ghost line = { λ f. line_of_lent f };
 
-    ghost wish = { λ f. wish_of_mark (line_of_lent f).never_indexed };
+    ghost wish = { λ f. wish_of_lent f };
 
     fn as_field(&self) -> FieldLine<'_> {
         FieldLine {
@@ -37,7 +42,15 @@ impl AsField for Field<'_> {
     }
 
     fn wish(&self) -> Wish {
-        Wish::of_mark(self.flags % 2 == 1)
+        if self.flags % 2 == 1 {
+            Wish::Never
+        } else if self.flags / REUSE % 2 == 1 {
+            Wish::Reuse
+        } else if self.flags / INSERT % 2 == 1 {
+            Wish::Insert
+        } else {
+            Wish::Unmarked
+        }
     }
 }
 
