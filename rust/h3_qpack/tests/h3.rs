@@ -296,12 +296,14 @@ fn test_eviction_is_fifo() {
     assert!(decoder.decode(0, &[prefix(3, 3, TABLE_SIZE), vec![0x82]].concat()).is_err());
 }
 
+/// There nothing is inserted; here the entry is not referenced (RFC 9204, section 2.1.2).
 #[test]
 fn no_insert_when_max_blocked_0() {
     let settings = EncoderSettings { max_blocked: 0, ..EncoderSettings::new(TABLE_SIZE, 0) };
-    let mut encoder = ConnectionEncoder::new(settings).unwrap();
-    let (lines, instructions) = encode(&mut encoder, 44, &[HeaderField::new("foo", "bar")]);
-    assert_eq!((lines[0] & 0xe0, instructions), (0x20, set_capacity(TABLE_SIZE)));
+    let (mut encoder, field) = (ConnectionEncoder::new(settings).unwrap(), HeaderField::new("foo", "bar"));
+    let (lines, instructions) = encode(&mut encoder, 44, slice::from_ref(&field));
+    assert_eq!(lines[0] & 0xe0, 0x20);
+    assert_eq!(entries(&[&instructions], 1), [field]);
 }
 
 #[test]
@@ -311,7 +313,8 @@ fn no_insert_after_max_blocked_reached() {
     assert_eq!(encode(&mut encoder, 44, &[field(2)]).0, [0x10]);
     assert_eq!(encoder.blocked(), 2);
     let (lines, instructions) = encode(&mut encoder, 46, &[field(99)]);
-    assert_eq!((lines[0] & 0xe0, instructions), (0x20, vec![]));
+    assert_eq!((lines[0] & 0xe0, instructions[0] & 0xc0), (0x20, 0x40));
+    assert_eq!(encoder.blocked(), 2);
 }
 
 #[test]
@@ -319,7 +322,7 @@ fn insert_again_after_encoder_ack() {
     let mut encoder = ConnectionEncoder::new(EncoderSettings::new(TABLE_SIZE, 1)).unwrap();
     encode(&mut encoder, 42, &[field(1), field(2), field(3)]);
     assert_eq!(encoder.blocked(), 1);
-    assert_eq!(encode(&mut encoder, 44, &[field(99)]).1, []);
+    assert_eq!(encode(&mut encoder, 44, &[field(99)]).0[0] & 0xe0, 0x20);
     received(&mut encoder, 3);
     assert_eq!(encoder.blocked(), 0);
     assert_eq!(encode(&mut encoder, 46, &[HeaderField::new("foo", "bar")]).0, [0x10]);
