@@ -203,12 +203,16 @@ static void ours_to_theirs(size_t capacity, size_t limit, int late) {
 int main(int argc, char **argv) {
   CHECK(argc == 2);
   read_corpus(argv[1], 0);
+  const uint64_t first_seed = seed;
   add_random_lists(200);
   static const size_t capacities[] = {0, 64, 256, 4096, 65536}, limits[] = {0, 1, 100};
   for (size_t c = 0; c < 5; c++)
     for (size_t l = 0; l < 3; l++)
       for (int late = 0; late < 2; late++) {
+        /* Each run has its own numbers, so that what our encoder writes changes nothing of what nghttp3 does. */
+        seed = first_seed;
         theirs_to_ours(capacities[c], limits[l], late);
+        seed = first_seed;
         ours_to_theirs(capacities[c], limits[l], late);
       }
   CHECK(dynamic && waited && cancelled);
