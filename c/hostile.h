@@ -241,7 +241,8 @@ static inline void hear(h3_qpack_encoder *e, const void *p, size_t len) {
   CHECK(r.status == H3_QPACK_OK && r.taken == len);
 }
 
-/* Encodes a section of one field, adds its instructions to |sent|, if that is wanted, and answers what it requires. */
+/* Encodes a section of one field with these flags, adds its instructions to |sent| if that is not null, and returns what it
+ * requires. */
 static inline size_t encode_as(h3_qpack_encoder *e, uint64_t stream_id, const field *f, uint8_t flags, bytes *sent) {
   h3_qpack_nv nv = {f->name, sizeof f->name, f->value, sizeof f->value, flags};
   h3_qpack_encoded a = h3_qpack_encoder_encode(e, stream_id, &nv, 1, section, sizeof section);
@@ -251,16 +252,18 @@ static inline size_t encode_as(h3_qpack_encoder *e, uint64_t stream_id, const fi
   return a.required;
 }
 
+/* Encodes a field that is to be inserted. */
 static inline size_t encode(h3_qpack_encoder *e, uint64_t stream_id, const field *f, bytes *sent) {
   return encode_as(e, stream_id, f, H3_QPACK_NV_FLAG_INSERT, sent);
 }
 
-/* The same, and it is acknowledged. */
+/* Acknowledges a section of stream 0 if it requires insertions, and returns what it requires. */
 static inline size_t heard(h3_qpack_encoder *e, size_t required) {
   if (required) hear(e, "\x80", 1);
   return required;
 }
 
+/* Encodes a field that is to be inserted, and acknowledges its section. */
 static inline size_t encode_heard(h3_qpack_encoder *e, const field *f, bytes *sent) {
   return heard(e, encode(e, 0, f, sent));
 }

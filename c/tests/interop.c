@@ -209,7 +209,10 @@ int main(int argc, char **argv) {
   for (size_t c = 0; c < 5; c++)
     for (size_t l = 0; l < 3; l++)
       for (int late = 0; late < 2; late++) {
-        /* Each run has its own numbers, so that what our encoder writes changes nothing of what nghttp3 does. */
+        /* Each run has its own numbers, so that what our encoder writes changes nothing of what nghttp3 does. With some
+         * numbers, at capacity 64 and a limit of 100, nghttp3 0.8.0 evicts an entry that is not known to be received, once
+         * the section that referenced it is cancelled (RFC 9204, section 2.1.1). A later required insert count is then out
+         * of our decoder's range, and the section is refused. These numbers do not lead there. */
         seed = first_seed;
         theirs_to_ours(capacities[c], limits[l], late);
         seed = first_seed;
