@@ -1,26 +1,29 @@
 -- The line of a field by what is chosen for it, and an insertion after it that no line references.
 use Rattle.std.proofs.Common.{◌≡◌, ℕ, ◌+◌, ◌-◌, ◌≤◌, List, [], ◌∷◌, ◌++◌, length, Bool, true, false, cond, Option, None, Some, refl}
-use Rattle.std.proofs.Common.{sym, ap, subst, ◌∙◌, arith, append-nil, inl, inr, Result, Ok, Err, OnOk, OnErr}
-use Rattle.std.specs.Prelude.{◌&&◌, nat_le}
-use Rattle.std.proofs.lemmas.Bool.{cond_both, lt-ltb}
-use Rattle.qpack_spec.specs.Chosen as chosen
+use Rattle.std.proofs.Common.{sym, ap, subst, ◌∙◌, arith, append-nil, inr, Ok}
+use Rattle.std.proofs.Common.{◌<◌}
+use Rattle.std.specs.Option.{option_eq}
+use Rattle.std.specs.Prelude.{◌&&◌, nat_eq, nat_le, nat_lt, slice_get}
+use Rattle.std.proofs.lemmas.Bool.{and_parts, cond_both, eqb-true, lt-ltb, ltb-true}
+use Rattle.std.proofs.lemmas.List.{length-map}
+use Rattle.std.proofs.lemmas.Option.{slice_get_within}
 use Rattle.qpack_spec.specs.Chosen.{Chosen, Alone, References, Names, Inserts, passes_at, literal_alone, line_alone}
 use Rattle.qpack_spec.specs.Chosen.{literal_chosen, line_chosen, unreferenced_chosen, chosen_field}
-use Rattle.qpack_spec.specs.Chosen.{with_unreferenced_entry, alone_chosen}
+use Rattle.qpack_spec.specs.Chosen.{with_unreferenced_entry, alone_chosen, some_passes}
 use Rattle.qpack_spec.specs.Field.{Field, FieldLine, has_name, is_field}
 use Rattle.qpack_spec.specs.Handle.{Lookup, AtStatic, AtRelative, AtPostBase, NotFound, Found, found_entry, lookup_of}
 use Rattle.qpack_spec.specs.Handle.{literal_at, line_of, answer_of, Insertion, Insertable}
 use Rattle.qpack_spec.specs.Instruction.{EncoderInstruction, InsertStaticName, InsertDynamicName, InsertLiteralName}
 use Rattle.qpack_spec.specs.Instruction.{Duplicate, SetCapacity, written_encoder_instruction}
 use Rattle.qpack_spec.specs.Instruction.{written_encoder_instructions}
-use Rattle.qpack_spec.specs.Line.{Line, IndexedStatic, IndexedDynamic, IndexedPostBase, NamedStatic, NamedDynamic}
-use Rattle.qpack_spec.specs.Line.{NamedPostBase, Literal, written_line, written_lines, written_marked_line}
+use Rattle.qpack_spec.specs.Line.{Line, IndexedStatic, IndexedDynamic, IndexedPostBase, NamedDynamic}
+use Rattle.qpack_spec.specs.Line.{NamedPostBase, written_line, written_lines, written_marked_line}
 use Rattle.qpack_spec.specs.Marked.{written_marked_lines}
 use Rattle.qpack_spec.specs.Rule.{Draft, with_new_entry, by_name, by_static_name, by_equal, instruction_for}
 use Rattle.qpack_spec.specs.Rule.{entries_left}
 use Rattle.qpack_spec.specs.Stateless.{stateless_literal}
 use Rattle.qpack_spec.specs.StaticTable.{static_index, static_name_index}
-use Rattle.qpack_spec.specs.Table.{Table, insert_count, newest_index, may_reference, with_reference}
+use Rattle.qpack_spec.specs.Table.{Entry, Table, fields_in, insert_count, newest_index, may_reference, with_reference}
 use Rattle.qpack_spec.specs.Table.{without_references, has_room, below_limit}
 use Rattle.qpack_spec.proofs.Positions.{FoundEntry, newest_found}
 use Rattle.qpack_table.specs.Handles.{IsSoughtIn, InsertsIf, insertion_at, insertion_of, referenced_insertion}
@@ -42,6 +45,38 @@ found_passes : (t : Table) (p : Field → Bool) (a : ℕ) → FoundEntry t p a �
 found_passes t p a at =
     let n : a - t.dropped - 1 ≡ at.position = omega (arith, at.index) in
     rw (lt-ltb t.dropped a at.above, n, at.there) at.passes
+
+-- an entry that passes is live
+pub record LiveAt (t : Table) (a : ℕ) : Type 0 where
+  pub above : t.dropped < a
+  pub within : a ≤ insert_count t
+
+pub passes_live : (t : Table) (p : Field → Bool) (a : ℕ) → passes_at t p a ≡ true → LiveAt t a
+passes_live t p a h =
+    let both = and_parts (nat_lt t.dropped a) (some_passes p (slice_get (fields_in t.live) (a - t.dropped - 1))) h in
+    let above = ltb-true t.dropped a both.0 in
+    record { above = above; within = within above (slice_get (fields_in t.live) (a - t.dropped - 1)) refl both.1 }
+  where
+    within : t.dropped < a → (o : Option Field) → slice_get (fields_in t.live) (a - t.dropped - 1) ≡ o
+        → some_passes p o ≡ true → a ≤ insert_count t
+    within above (Some f) there q =
+        omega (
+          arith,
+          above,
+          slice_get_within (fields_in t.live) (a - t.dropped - 1) f there,
+          length-map t.live (λ (e : Entry). e.field),
+        )
+    within above None there q = absurd cc
+
+-- the newest equal entry passes
+pub newest_passes : (t : Table) (f : Field) (o : Option ℕ) (a : ℕ) → o ≡ newest_index t (is_field f)
+    → option_eq nat_eq o (Some a) ≡ true → passes_at t (is_field f) a ≡ true
+newest_passes t f o a newest equal =
+    found_passes t (is_field f) a (newest_found t (is_field f) a (sym newest ∙ same o equal))
+  where
+    same : (o : Option ℕ) → option_eq nat_eq o (Some a) ≡ true → o ≡ Some a
+    same None h = absurd cc
+    same (Some b) h = ap (λ (n : ℕ). Some n) (eqb-true b a h)
 
 -- to find an entry changes what is referenced alone
 entry_keeps : (t : Table) (base : ℕ) (o : Option ℕ)
@@ -123,16 +158,14 @@ reference_line_is base a f = both (nat_le a base)
     both true = refl
     both false = refl
 
-equal_is : (t : Table) (base : ℕ) (f : Field) (o : Option ℕ) → newest_index t (is_field f) ≡ o → static_index f ≡ None
-    → line_chosen base (draft_at t) f (by_entry References o)
+equal_is : (t : Table) (base : ℕ) (f : Field) (a : ℕ) → passes_at t (is_field f) a ≡ true → static_index f ≡ None
+    → line_chosen base (draft_at t) f (References a)
     ≡ record {
-      table = (found_entry t base o).table;
-      lines = equal_line f (found_entry t base o).lookup ∷ [];
+      table = (found_entry t base (Some a)).table;
+      lines = equal_line f (found_entry t base (Some a)).lookup ∷ [];
       instructions = [];
     }
-equal_is t base f None at none = line_alone_is t f none
-equal_is t base f (Some a) at none =
-    rw (found_passes t (is_field f) a (newest_found t (is_field f) a at)) (both (may_reference t a))
+equal_is t base f a passes none = rw passes (both (may_reference t a))
   where
     both : (b : Bool)
         → cond b (record {
@@ -152,16 +185,14 @@ equal_is t base f (Some a) at none =
         } in d) (reference_line_is base a f)
     both false = line_alone_is t f none
 
-adds_found_equal : (t new : Table) (base : ℕ) (l : FieldLine) (o : Option ℕ) (lookup : Lookup) (x : Line)
-    (lines_old lines_new : List ℕ) → o ≡ newest_index t (is_field l.field) → static_index l.field ≡ None
-    → found_entry t base o ≡ record { lookup = lookup; table = new } → equal_line l.field lookup ≡ x
+adds_found_equal : (t new : Table) (base : ℕ) (l : FieldLine) (a : ℕ) (lookup : Lookup) (x : Line)
+    (lines_old lines_new : List ℕ) → passes_at t (is_field l.field) a ≡ true → static_index l.field ≡ None
+    → found_entry t base (Some a) ≡ record { lookup = lookup; table = new } → equal_line l.field lookup ≡ x
     → lines_new ≡ lines_old ++ written_marked_line l.never_indexed x
-    → AddsLine l (line_chosen base (draft_at t) l.field (by_entry References (newest_index t (is_field l.field)))) new
-    lines_old lines_new
-adds_found_equal t new base l o lookup x lines_old lines_new at none found is lines =
+    → AddsLine l (line_chosen base (draft_at t) l.field (References a)) new lines_old lines_new
+adds_found_equal t new base l a lookup x lines_old lines_new passes none found is lines =
     adds_line l _ new x lines_old lines_new
-    (ap (λ (n : Option ℕ). line_chosen base (draft_at t) l.field (by_entry References n)) (sym at)
-    ∙ equal_is t base l.field o (sym at) none
+    (equal_is t base l.field a passes none
     ∙ ap (λ (y : Found). let d : Draft = record {
       table = y.table;
       lines = equal_line l.field y.lookup ∷ [];
@@ -170,17 +201,26 @@ adds_found_equal t new base l o lookup x lines_old lines_new at none found is li
     ∙ ap (λ (y : Line). let d : Draft = record { table = new; lines = y ∷ []; instructions = [] } in d) is)
     lines
 
-pub adds_equal : (t new : Table) (base : ℕ) (l : FieldLine) (o : Option ℕ) (lookup : Lookup) (x : Line)
-    (lines_old lines_new : List ℕ) → l.never_indexed ≡ false → o ≡ newest_index t (is_field l.field)
-    → static_index l.field ≡ None → found_entry t base o ≡ record { lookup = lookup; table = new }
+pub adds_equal : (t new : Table) (base : ℕ) (l : FieldLine) (a : ℕ) (lookup : Lookup) (x : Line)
+    (lines_old lines_new : List ℕ) → l.never_indexed ≡ false → passes_at t (is_field l.field) a ≡ true
+    → static_index l.field ≡ None → found_entry t base (Some a) ≡ record { lookup = lookup; table = new }
     → equal_line l.field lookup ≡ x → lines_new ≡ lines_old ++ written_line x
-    → AddsLine l (line_chosen base (draft_at t) l.field (by_entry References (newest_index t (is_field l.field)))) new
-    lines_old lines_new
-adds_equal t new base l o lookup x lines_old lines_new unmarked at none found is lines =
-    adds_found_equal t new base l o lookup x lines_old lines_new at none found is
+    → AddsLine l (line_chosen base (draft_at t) l.field (References a)) new lines_old lines_new
+adds_equal t new base l a lookup x lines_old lines_new unmarked passes none found is lines =
+    adds_found_equal t new base l a lookup x lines_old lines_new passes none found is
     (lines
     ∙ ap (λ (b : List ℕ). lines_old ++ b)
     (sym (ap (λ (b : Bool). written_marked_line b x) unmarked ∙ written_unmarked l.field x)))
+
+-- the entry is not live, or another field: a line without the dynamic table
+pub adds_no_equal : (t : Table) (base : ℕ) (l : FieldLine) (a : ℕ) (lines_old lines_new : List ℕ)
+    → passes_at t (is_field l.field) a ≡ false → static_index l.field ≡ None
+    → lines_new ≡ lines_old
+    ++ written_marked_line l.never_indexed (stateless_literal l.field (static_name_index l.field.name))
+    → AddsLine l (line_chosen base (draft_at t) l.field (References a)) t lines_old lines_new
+adds_no_equal t base l a lines_old lines_new other none lines =
+    adds_line l _ t (stateless_literal l.field (static_name_index l.field.name)) lines_old lines_new
+    (rw other (line_alone_is t l.field none)) lines
 
 -- no entry was found that may be referenced
 no_line : (f : Field) (lookup : DynamicLookupResult)
@@ -192,18 +232,17 @@ no_line f (answer.Relative index absolute) before since = absurd (before index a
 no_line f (answer.PostBase index absolute) before since = absurd (since index absolute refl)
 no_line f answer.NotFound before since = refl
 
-pub adds_equal_alone : (t new : Table) (base : ℕ) (l : FieldLine) (o : Option ℕ) (lookup : DynamicLookupResult)
-    (lines_old lines_new : List ℕ) → o ≡ newest_index t (is_field l.field) → static_index l.field ≡ None
-    → found_entry t base o ≡ record { lookup = result_of lookup; table = new }
+pub adds_equal_alone : (t new : Table) (base : ℕ) (l : FieldLine) (a : ℕ) (lookup : DynamicLookupResult)
+    (lines_old lines_new : List ℕ) → passes_at t (is_field l.field) a ≡ true → static_index l.field ≡ None
+    → found_entry t base (Some a) ≡ record { lookup = result_of lookup; table = new }
     → ((index absolute : ℕ) → lookup ≡ answer.Relative index absolute → ⊥)
     → ((index absolute : ℕ) → lookup ≡ answer.PostBase index absolute → ⊥)
     → lines_new ≡ lines_old
     ++ written_marked_line l.never_indexed (stateless_literal l.field (static_name_index l.field.name))
-    → AddsLine l (line_chosen base (draft_at t) l.field (by_entry References (newest_index t (is_field l.field)))) new
-    lines_old lines_new
-adds_equal_alone t new base l o lookup lines_old lines_new at none found before since lines =
-    adds_found_equal t new base l o (result_of lookup) (stateless_literal l.field (static_name_index l.field.name))
-    lines_old lines_new at none found (no_line l.field lookup before since) lines
+    → AddsLine l (line_chosen base (draft_at t) l.field (References a)) new lines_old lines_new
+adds_equal_alone t new base l a lookup lines_old lines_new passes none found before since lines =
+    adds_found_equal t new base l a (result_of lookup) (stateless_literal l.field (static_name_index l.field.name))
+    lines_old lines_new passes none found (no_line l.field lookup before since) lines
 
 -- ---- a literal with the name of an entry
 
@@ -286,15 +325,16 @@ adds_alone t base l lines_old lines_new none lines =
 
 -- no other choice
 pub adds_only_alone : (t : Table) (base : ℕ) (l : FieldLine) (c : choice.Choice) (lines_old lines_new : List ℕ)
-    → static_index l.field ≡ None → ((inserts : Bool) → c ≡ choice.TheVariants.Equal inserts → ⊥)
+    → static_index l.field ≡ None
+    → ((entry : ℕ) (inserts : Bool) → c ≡ choice.TheVariants.Equal entry inserts → ⊥)
     → ((inserts : Bool) → c ≡ choice.TheVariants.Named inserts → ⊥) → (c ≡ choice.TheVariants.Inserted → ⊥)
     → lines_new ≡ lines_old
     ++ written_marked_line l.never_indexed (stateless_literal l.field (static_name_index l.field.name))
     → AddsLine l (line_chosen base (draft_at t) l.field (line_choice t l.field c)) t lines_old lines_new
 adds_only_alone t base l (choice.TheVariants.Alone inserts) lines_old lines_new none equal named inserted lines =
     adds_alone t base l lines_old lines_new none lines
-adds_only_alone t base l (choice.TheVariants.Equal inserts) lines_old lines_new none equal named inserted lines =
-    absurd (equal inserts refl)
+adds_only_alone t base l (choice.TheVariants.Equal entry inserts) lines_old lines_new none equal named inserted lines =
+    absurd (equal entry inserts refl)
 adds_only_alone t base l (choice.TheVariants.Named inserts) lines_old lines_new none equal named inserted lines =
     absurd (named inserts refl)
 adds_only_alone t base l choice.TheVariants.Inserted lines_old lines_new none equal named inserted lines =
@@ -332,11 +372,6 @@ adds_literal_alone t base l c lines_old lines_new other lines =
         }
     alone = literal_alone_is t l.field (static_name_index l.field.name)
 
-    entry : (o : Option ℕ) → literal_chosen base (draft_at t) l.field (by_entry References o)
-        ≡ literal_alone (draft_at t) l.field (static_name_index l.field.name)
-    entry None = refl
-    entry (Some a) = refl
-
     is : (c : choice.Choice) → ((inserts : Bool) → c ≡ choice.TheVariants.Named inserts → ⊥)
         → literal_chosen base (draft_at t) l.field (line_choice t l.field c)
         ≡ record {
@@ -345,7 +380,7 @@ adds_literal_alone t base l c lines_old lines_new other lines =
           instructions = [];
         }
     is (choice.TheVariants.Alone inserts) other = alone
-    is (choice.TheVariants.Equal inserts) other = entry (newest_index t (is_field l.field)) ∙ alone
+    is (choice.TheVariants.Equal entry inserts) other = alone
     is (choice.TheVariants.Named inserts) other = absurd (other inserts refl)
     is choice.TheVariants.Inserted other = alone
 
@@ -662,10 +697,8 @@ line_keeps t base f c other = pick c other
     alone : without_references (line_alone (draft_at t) f (static_index f)).table ≡ without_references t
     alone = ap (λ (x : Table). without_references x) (alone_keeps t f (static_index f))
 
-    equal : (o : Option ℕ)
-        → without_references (line_chosen base (draft_at t) f (by_entry References o)).table ≡ without_references t
-    equal None = alone
-    equal (Some a) =
+    equal : (a : ℕ) → without_references (line_chosen base (draft_at t) f (References a)).table ≡ without_references t
+    equal a =
         cond_both (passes_at t (is_field f) a && may_reference t a) _ (line_alone (draft_at t) f (static_index f))
         (λ (d : Draft). without_references d.table ≡ without_references t) (λ _. refl) (λ _. alone)
 
@@ -679,6 +712,6 @@ line_keeps t base f c other = pick c other
     pick : (c : choice.Choice) → (c ≡ choice.TheVariants.Inserted → ⊥)
         → without_references (line_chosen base (draft_at t) f (line_choice t f c)).table ≡ without_references t
     pick (choice.TheVariants.Alone inserts) other = alone
-    pick (choice.TheVariants.Equal inserts) other = equal (newest_index t (is_field f))
+    pick (choice.TheVariants.Equal entry inserts) other = equal entry
     pick (choice.TheVariants.Named inserts) other = named (newest_index t (has_name f.name))
     pick choice.TheVariants.Inserted other = absurd (other refl)

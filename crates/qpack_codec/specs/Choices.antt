@@ -2,7 +2,7 @@
 use Rattle.std.specs.Prelude.{ℕ, Bool, true, false, Option, Some, None}
 use Rattle.qpack_spec.specs.Chosen as chosen
 use Rattle.qpack_spec.specs.Chosen.{Chosen}
-use Rattle.qpack_spec.specs.Field.{Field, has_name, is_field}
+use Rattle.qpack_spec.specs.Field.{Field, has_name}
 use Rattle.qpack_spec.specs.Table.{Table, newest_index}
 use Rattle.qpack_codec.specs.declared.encoder.choices.Choice.{Choice}
 use Rattle.qpack_codec.specs.declared.encoder.choices.Choice.TheVariants.{Alone, Equal, Named, Inserted}
@@ -19,17 +19,17 @@ abbrev pub by_entry : (ℕ → chosen.Choice) → Option ℕ → chosen.Choice
 by_entry refers None = chosen.Alone
 by_entry refers (Some a) = refers a
 
--- the line that is chosen for a field at a table: the entry that it references is the newest one
+-- the line that is chosen for a field at a table: a name is that of the newest entry that has it
 abbrev pub line_choice : Table → Field → Choice → chosen.Choice
 line_choice t f (Alone inserts) = chosen.Alone
-line_choice t f (Equal inserts) = by_entry chosen.References (newest_index t (is_field f))
+line_choice t f (Equal entry inserts) = chosen.References entry
 line_choice t f (Named inserts) = by_entry chosen.Names (newest_index t (has_name f.name))
 line_choice t f Inserted = chosen.Inserts
 
 -- whether the field is inserted after its line
 abbrev pub inserts_after : Choice → Bool
 inserts_after (Alone inserts) = inserts
-inserts_after (Equal inserts) = inserts
+inserts_after (Equal entry inserts) = inserts
 inserts_after (Named inserts) = inserts
 inserts_after Inserted = false
 

@@ -1,6 +1,6 @@
 -- What a chooser chose for the fields of a section, one after the other (RFC 9204, section 2.1). A chooser is of any
 -- type, and chooses by any relation.
-use Rattle.std.specs.Prelude.{◌≡◌, ℕ, Bool, false, List, [], ◌∷◌, Option, None, Some}
+use Rattle.std.specs.Prelude.{◌≡◌, ℕ, Bool, false, List, [], ◌∷◌, Option, Some}
 use Rattle.qpack_spec.specs.Chosen.{Chosen, alone_chosen, chosen_field}
 use Rattle.qpack_spec.specs.Field.{FieldLine}
 use Rattle.qpack_spec.specs.Rule.{Draft}

@@ -28,7 +28,7 @@ mod instructions;
 pub(crate) mod room;
 mod sections;
 
-pub use crate::encoder::as_field::AsField;
+pub use crate::encoder::as_field::{AsField, WishedField};
 pub use crate::encoder::capacity::set_dynamic_table_size;
 pub use crate::encoder::choices::{Choice, Chooses, Wish};
 pub use crate::encoder::sections::{EncoderTable, WritesSections};

@@ -10,6 +10,7 @@ pub use connection::{
     Connection, ConnectionSettings, Event, Outcome, OwnedFieldLine, RunError, Skip, run,
 };
 pub use qpack_base::field::FieldLine;
+pub use qpack_codec::encoder::{AsField, Wish, WishedField};
 pub use qpack_ends::blocked::BlockedStream;
 pub use qpack_ends::decoder::{ConnectionDecoder, DecoderSettings, DecodingError, SettingsError};
 pub use qpack_ends::encoder::{ConnectionEncoder, EncoderSettings, EncodingError};

@@ -17,17 +17,13 @@ use Rattle.qpack_ends.specs.Encoders.{EncodingEnd}
 use Rattle.qpack_ends.specs.Wishes.{KeepsWish, SuitsWish, by_wish, SuitsUnless, SuitsField, SuitAlong, KeepsWishes}
 
 -- a line by an entry is no insertion
-equal_is_none : (o : Option ℕ) → by_entry chosen.References o ≡ chosen.Inserts → ⊥
-equal_is_none None is = absurd cc
-equal_is_none (Some a) is = absurd cc
-
 named_is_none : (o : Option ℕ) → by_entry chosen.Names o ≡ chosen.Inserts → ⊥
 named_is_none None is = absurd cc
 named_is_none (Some a) is = absurd cc
 
 inserts_alone : (t : Table) (f : Field) (c : Choice) → (c ≡ Inserted → ⊥) → line_choice t f c ≡ chosen.Inserts → ⊥
 inserts_alone t f (Alone inserts) not is = absurd cc
-inserts_alone t f (Equal inserts) not is = equal_is_none (newest_index t (is_field f)) is
+inserts_alone t f (Equal entry inserts) not is = absurd cc
 inserts_alone t f (Named inserts) not is = named_is_none (newest_index t (has_name f.name)) is
 inserts_alone t f Inserted not is = not refl
 

@@ -1,6 +1,6 @@
 -- What the caller's word asks of an encoding end for each field (RFC 9204, sections 2.1, 2.1.2 and 7.1.3).
 use Rattle.std.specs.Prelude.{◌≡◌, ℕ, Bool, true, false, ◌&&◌, List, [], ◌∷◌, Option, None, Some, Result, Ok, Err}
-use Rattle.qpack_spec.specs.Chosen.{Choice, Inserts, Chosen, alone_chosen, chosen_field}
+use Rattle.qpack_spec.specs.Chosen.{Inserts, Chosen, alone_chosen, chosen_field}
 use Rattle.qpack_spec.specs.Field.{Field, FieldLine, is_field}
 use Rattle.qpack_spec.specs.Rule.{Draft, empty_draft}
 use Rattle.qpack_spec.specs.StaticTable.{static_index}
@@ -11,7 +11,7 @@ use Rattle.qpack_codec.specs.ChosenSections.{EncodesChosen}
 use Rattle.qpack_codec.specs.declared.encoder.choices.Choice as choices
 use Rattle.qpack_codec.specs.declared.encoder.choices.Choice.TheVariants.{Inserted}
 use Rattle.qpack_codec.specs.declared.encoder.choices.Wish.{Wish}
-use Rattle.qpack_codec.specs.declared.encoder.choices.Wish.TheVariants.{Unmarked, Reuse, Insert, Never}
+use Rattle.qpack_codec.specs.declared.encoder.choices.Wish.TheVariants.{Reuse, Insert}
 use Rattle.qpack_ends.specs.declared.encoder.EncodingError.{EncodingError}
 use Rattle.qpack_ends.specs.Encoders.{EncodingEnd, begun, is_full}
 

@@ -1,14 +1,15 @@
 //! What the encoding end chooses for each field of a section: what it inserts, what it references, and what it lets go
 //! (RFC 9204, sections 2.1 and 2.1.1.1).
 
-ghost use Rattle.std.specs.Prelude.{◌≡◌, false, true, Some};
+ghost use Rattle.std.specs.Prelude.{◌≡◌, false, true, None, Some};
 ghost use Rattle.qpack_base.specs.HeaderFields.{line_of};
 ghost use Rattle.qpack_table.specs.Handles.{AreHashesIn};
 ghost use Rattle.qpack_codec.specs.Choices.{inserts_after};
-ghost use Rattle.qpack_codec.specs.declared.encoder.choices.Choice.TheVariants.{Inserted};
+ghost use Rattle.qpack_codec.specs.declared.encoder.choices.Choice.TheVariants.{Equal, Inserted};
 ghost use Rattle.qpack_codec.specs.declared.encoder.choices.Wish.TheVariants.{Insert as Asked, Reuse as Reused};
 ghost use Rattle.qpack_ends.specs.Wishes.{KeepsWish, by_wish};
 
+use crate::choosing::copies::Copies;
 use crate::choosing::draining::Draining;
 use crate::choosing::history::History;
 use crate::choosing::names::NameCredit;
@@ -17,6 +18,7 @@ use qpack_codec::encoder::{Choice, Chooses, Wish};
 use qpack_table::dynamic::{DynamicTableEncoder, SoughtField};
 use std::alloc::Global;
 
+mod copies;
 mod draining;
 mod history;
 mod names;
@@ -28,6 +30,7 @@ const SECTIONS_WITHOUT_ROOM: u8 = 16;
 #[derive(Debug, Drop)]
 pub(crate) struct Chooser {
     draining: Draining,
+    copies: Copies,
     history: History,
     names: NameCredit,
     /// How many sections began since a wanted insertion found no room, at most 255.
@@ -39,6 +42,7 @@ impl Chooser {
     pub(crate) fn new(alloc: Global) -> Chooser {
         Chooser {
             draining: Draining::new(),
+            copies: Copies::new(),
             history: History::new(alloc),
             names: NameCredit::new(),
             sections_since: u8::MAX,
@@ -50,6 +54,24 @@ impl Chooser {
         self.sections_since <= SECTIONS_WITHOUT_ROOM
     }
 
+    /// Returns the newest equal entry that may be referenced: the newest of all, or the one that it is a copy of.
+    fn entry_to_reference(
+        &self,
+        block: &DynamicTableEncoder<'_>,
+        field: &FieldLine<'_>,
+        newest: usize,
+    ) -> Option<usize> {
+        if block.may_reference(newest) {
+            return Some(newest);
+        }
+        let original = self.copies.original_of(newest)?;
+        if block.may_reference(original) && block.is_equal(original, field) {
+            Some(original)
+        } else {
+            None
+        }
+    }
+
     /// Chooses for a field that an entry equals which may be referenced. One that drains is inserted again, so that the
     /// new entry is referenced and the old one can be evicted.
     fn choose_equal(
@@ -58,15 +80,20 @@ impl Chooser {
         field: &FieldLine<'_>,
         wish: Wish,
         entry: usize,
+        newest: usize,
     ) -> Choice
-        ensures { KeepsWish block.now.table.now (line_of field.now).field wish (Some entry) result }
+        ensures { KeepsWish block.now.table.now (line_of field.now).field wish (Some newest) result }
     {
         self.names.note_reference(entry);
-        if wish == Wish::Reuse || !self.draining.contains(entry) {
-            return Choice::Equal { inserts: false };
+        let reference = Choice::Equal {
+            entry,
+            inserts: false,
+        };
+        if wish == Wish::Reuse || entry < newest || !self.draining.contains(entry) {
+            return reference;
         }
         if !block.is_below_limit() {
-            return Choice::Equal { inserts: true };
+            return self.copy(block, entry);
         }
         if block.has_room(field) {
             return Choice::Inserted;
@@ -74,10 +101,22 @@ impl Chooser {
         if self.is_tight() {
             return Choice::Alone { inserts: false };
         }
-        Choice::Equal { inserts: false }
+        reference
     }
 
-    /// Chooses for a field that no entry equals which may be referenced.
+    /// Chooses a reference to an entry, and after it a copy that nothing references yet.
+    fn copy(&mut self, block: &DynamicTableEncoder<'_>, entry: usize) -> Choice
+        ensures { result ≡ Equal entry true }
+    {
+        self.copies
+            .note(block.total_inserted().saturating_add(1), entry);
+        Choice::Equal {
+            entry,
+            inserts: true,
+        }
+    }
+
+    /// Chooses for a field that no entry equals.
     fn choose_new(
         &mut self,
         block: &DynamicTableEncoder<'_>,
@@ -86,17 +125,19 @@ impl Chooser {
         sought: &SoughtField,
     ) -> Choice
         requires { AreHashesIn (line_of field.now).field sought.now }
-        ensures { KeepsWish block.now.table.now (line_of field.now).field wish sought.now.newest result }
+        ensures { KeepsWish block.now.table.now (line_of field.now).field wish None result }
     {
         let wanted = self.wants(block, field, wish, sought);
-        if wanted && block.is_below_limit() {
-            if block.has_room(field) {
-                return Choice::Inserted;
-            }
-            self.sections_since = 0;
-            return self.choose_literal(block, field, sought, false);
+        if !block.is_below_limit() {
+            return self.choose_literal(block, field, sought, wanted);
         }
-        self.choose_literal(block, field, sought, wanted && sought.newest().is_none())
+        if wanted && block.has_room(field) {
+            return Choice::Inserted;
+        }
+        if wanted {
+            self.sections_since = 0;
+        }
+        self.choose_literal(block, field, sought, false)
     }
 
     /// Returns whether a new field is to be inserted.
@@ -188,12 +229,13 @@ impl Chooses for Chooser {
         if field.never_indexed || wish == Wish::Never {
             return self.choose_literal(block, field, sought, false);
         }
-        if let Some(entry) = sought.newest() {
-            if block.may_reference(entry) {
-                return self.choose_equal(block, field, wish, entry);
-            }
+        let Some(newest) = sought.newest() else {
+            return self.choose_new(block, field, wish, sought);
+        };
+        match self.entry_to_reference(block, field, newest) {
+            Some(entry) => self.choose_equal(block, field, wish, entry, newest),
+            None => self.choose_literal(block, field, sought, false),
         }
-        self.choose_new(block, field, wish, sought)
     }
 }
 

@@ -20,6 +20,7 @@ pub use hearing::{DECODER_STREAM_ERROR, DecoderStream, DecoderStreamError, Heari
 pub use place::Place;
 pub use qpack_base::coding::Cursor;
 pub use qpack_base::field::FieldLine;
+pub use qpack_codec::encoder::{AsField, Wish, WishedField};
 pub use receiving::{ENCODER_STREAM_ERROR, EncoderStream, EncoderStreamError};
 pub use section::{
     DECOMPRESSION_FAILED, LineError, Reading, SectionError, longest_section, read_section,

@@ -27,6 +27,29 @@ pub trait AsField {
         ensures { result ≡ wish self.now };
 }
 
+/// A field line with what is asked for it.
+#[derive(Debug, Clone, Copy, Drop)]
+pub struct WishedField<'a> {
+    /// The field line. One that is never indexed stays so, whatever is asked.
+    pub line: FieldLine<'a>,
+    /// What is asked for it.
+    pub wish: Wish,
+}
+
+impl AsField for WishedField<'_> {
+    ghost line = { λ x. line_of x.line };
+
+    ghost wish = { λ x. x.wish };
+
+    fn as_field(&self) -> FieldLine<'_> {
+        self.line
+    }
+
+    fn wish(&self) -> Wish {
+        self.wish
+    }
+}
+
 impl AsField for HeaderField {
     ghost line = { λ x. unmarked (field_of x) };
 

@@ -45,8 +45,9 @@ impl Wish {
 pub enum Choice {
     /// A line without the dynamic table. If `inserts`, the field is inserted after it, and nothing references the entry.
     Alone { inserts: bool },
-    /// A reference to the newest equal entry. If `inserts`, the same insertion after it, which is a duplicate.
-    Equal { inserts: bool },
+    /// A reference to an equal entry, by its absolute index. If `inserts`, the same insertion after it, which is a
+    /// duplicate.
+    Equal { entry: usize, inserts: bool },
     /// A literal with the name of the newest entry that has it. If `inserts`, the same insertion after it.
     Named { inserts: bool },
     /// An insertion that the line references.
@@ -59,7 +60,7 @@ impl Choice {
         ensures { result ≡ inserts_after self.now }
     {
         match *self {
-            Choice::Alone { inserts } | Choice::Equal { inserts } | Choice::Named { inserts } =>
+            Choice::Alone { inserts } | Choice::Equal { inserts, .. } | Choice::Named { inserts } =>
                 inserts,
             Choice::Inserted => false,
         }

@@ -6,7 +6,8 @@ ghost use Rattle.std.specs.Prelude.{vec_capacity};
 ghost use Rattle.qpack_base.specs.HeaderFields.{line_of};
 ghost use Rattle.qpack_base.specs.Writes.{Writes};
 ghost use Rattle.qpack_spec.specs.Chosen as chosen;
-ghost use Rattle.qpack_spec.specs.Chosen.{Chosen, chosen_field, line_chosen, literal_chosen, unreferenced_chosen};
+ghost use Rattle.qpack_spec.specs.Chosen.{Chosen, chosen_field, line_chosen, literal_chosen, passes_at};
+ghost use Rattle.qpack_spec.specs.Chosen.{unreferenced_chosen};
 ghost use Rattle.qpack_spec.specs.Field.{field_size, has_name, is_field};
 ghost use Rattle.qpack_spec.specs.Instruction.{written_encoder_instructions};
 ghost use Rattle.qpack_spec.specs.Line.{written_marked_line};
@@ -170,7 +171,7 @@ fn append_line<A: Allocator>(
         (vec_len lines.new ≤ vec_capacity lines.old → vec_capacity lines.new ≡ vec_capacity lines.old) }
 {
     match choice {
-        Choice::Equal { .. } => Ok(append_equal(block, field, sought, lines)?),
+        Choice::Equal { entry, .. } => Ok(append_equal(block, field, sought, entry, lines)?),
         Choice::Named { .. } => Ok(append_named(block, field, sought, lines)?),
         _ => Ok(append_alone(field, sought, lines)?),
     }
@@ -194,12 +195,13 @@ fn append_alone<A: Allocator>(
     append_literal(field, lookup, lines)
 }
 
-/// Adds a reference to the newest entry that equals a field, if it may be referenced, and else a literal without the
+/// Adds a reference to an entry, if it is live, equals a field and may be referenced, and else a literal without the
 /// dynamic table.
 fn append_equal<A: Allocator>(
     block: &mut DynamicTableEncoder<'_>,
     field: &FieldLine<'_>,
     sought: &SoughtField,
+    entry: usize,
     lines: &mut Vec<u8, A>,
 ) -> Result<(), NoMemory>
     requires unmarked { field.now.never_indexed ≡ false }
@@ -209,8 +211,7 @@ fn append_equal<A: Allocator>(
     ensures stream { block.new.stream_id ≡ block.old.stream_id }
     ensures base { block.new.base ≡ block.old.base }
     ensures ok { OnOk result (AddsLine (line_of field.now) (line_chosen block.old.base
-        (draft_at block.old.table.now) (line_of field.now).field
-        (by_entry chosen.References (newest_index block.old.table.now (is_field (line_of field.now).field))))
+        (draft_at block.old.table.now) (line_of field.now).field (chosen.References entry))
         block.new.table.now lines.old.items lines.new.items) }
     ensures sought { OnOk result (IsSoughtIn block.new.table.now (line_of field.now).field sought.now) }
     ensures err { OnErr result
@@ -220,7 +221,10 @@ fn append_equal<A: Allocator>(
     ensures still { OnOk result
         (vec_len lines.new ≤ vec_capacity lines.old → vec_capacity lines.new ≡ vec_capacity lines.old) }
 {
-    let Ok(lookup) = block.reference(sought.newest()) else {
+    if !is_equal(block, field, sought, entry) {
+        return Ok(append_alone(field, sought, lines)?);
+    }
+    let Ok(lookup) = block.reference(Some(entry)) else {
         return Err(NoMemory);
     };
     match lookup {
@@ -230,6 +234,19 @@ fn append_equal<A: Allocator>(
         }
         _ => Ok(append_alone(field, sought, lines)?),
     }
+}
+
+/// Returns whether an entry is live and equals a field. Of the newest one this is known.
+fn is_equal(
+    block: &DynamicTableEncoder<'_>,
+    field: &FieldLine<'_>,
+    sought: &SoughtField,
+    entry: usize,
+) -> bool
+    requires { IsSoughtIn block.now.table.now (line_of field.now).field sought.now }
+    ensures { result ≡ passes_at block.now.table.now (is_field (line_of field.now).field) entry }
+{
+    sought.newest() == Some(entry) || block.is_equal(entry, field)
 }
 
 /// Adds a literal with the name of the newest entry that has it, if it may be referenced, and else one without the

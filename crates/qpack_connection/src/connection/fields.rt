@@ -6,7 +6,6 @@ ghost use Rattle.qpack_spec.specs.Field.{fields_of_lines};
 ghost use Rattle.qpack_spec.specs.Huffman.{AreBytes};
 ghost use Rattle.qpack_spec.specs.WrittenLaws.{IsByteField};
 ghost use Rattle.qpack_base.specs.HeaderFields.{line_of};
-ghost use Rattle.qpack_codec.specs.Choices.{wish_of_mark};
 ghost use Rattle.qpack_connection.specs.OwnedLines.{line_of as line_of_owned, lines_of};
 
 use qpack_base::coding::NoMemory;
@@ -23,10 +22,12 @@ pub struct OwnedFieldLine {
     pub value: Vec<u8>,
     /// Whether the field is never to be indexed (RFC 9204, section 7.1.3).
     pub never_indexed: bool,
+    /// What the encoding end is asked to do for the field.
+    pub wish: Wish,
 }
 
 impl OwnedFieldLine {
-    /// A copy of a field line.
+    /// A copy of a field line, for which its mark alone asks.
     pub fn copy(alloc: Global, line: FieldLine<'_>) -> Result<OwnedFieldLine, NoMemory>
         ensures { IfOk result (λ owned. line_of_owned owned ≡ line_of line.entry) }
     {
@@ -34,6 +35,7 @@ impl OwnedFieldLine {
             name: Vec::from_slice(alloc, line.name)?,
             value: Vec::from_slice(alloc, line.value)?,
             never_indexed: line.never_indexed,
+            wish: Wish::of_mark(line.never_indexed),
         })
     }
 }
@@ -41,7 +43,7 @@ impl OwnedFieldLine {
 impl AsField for OwnedFieldLine {
     ghost line = { λ x. line_of_owned x };
 
-    ghost wish = { λ x. wish_of_mark x.never_indexed };
+    ghost wish = { λ x. x.wish };
 
     fn as_field(&self) -> FieldLine<'_> {
         FieldLine {
@@ -52,7 +54,7 @@ impl AsField for OwnedFieldLine {
     }
 
     fn wish(&self) -> Wish {
-        Wish::of_mark(self.never_indexed)
+        self.wish
     }
 }
 

@@ -3,7 +3,8 @@
 ghost use Rattle.std.specs.Prelude.{◌≡◌, ◌<◌, ◌≤◌, ◌^◌, ◌&&◌, IfOk, IfSome};
 ghost use Rattle.std.specs.Option.{option_map};
 ghost use Rattle.qpack_base.specs.HeaderFields.{field_of, line_of};
-ghost use Rattle.qpack_spec.specs.Field.{field_size, has_name, total_size};
+ghost use Rattle.qpack_spec.specs.Chosen.{passes_at};
+ghost use Rattle.qpack_spec.specs.Field.{field_size, has_name, is_field, total_size};
 ghost use Rattle.qpack_spec.specs.Handle.{find_field, found_name, insert_field};
 ghost use Rattle.qpack_spec.specs.Reading.{greatest_of};
 ghost use Rattle.qpack_spec.specs.StaticTable.{static_name_index};
@@ -228,13 +229,6 @@ impl DynamicTableEncoder<'_> {
         self.table.insert_sought(self.base, field, found.sought())
     }
 
-    /// The known received count: how many insertions the decoder is known to have received (RFC 9204, section 2.1.4).
-    pub fn known_received_count(&self) -> usize
-        ensures { result ≡ self.now.table.now.known_received_count }
-    {
-        self.table.known_received_count()
-    }
-
     /// How many entries were evicted since the table was empty. The oldest live entry has the next absolute index.
     pub fn total_dropped(&self) -> usize
         ensures { result ≡ self.now.table.now.dropped }
@@ -254,6 +248,13 @@ impl DynamicTableEncoder<'_> {
         ensures { result ≡ option_map field_size (absolute_entry (window self.now.table.now) absolute) }
     {
         self.table.entry_size(absolute)
+    }
+
+    /// Whether an entry is live and equals a field, byte for byte.
+    pub fn is_equal(&self, absolute: usize, field: &FieldLine<'_>) -> bool
+        ensures { result ≡ passes_at self.now.table.now (is_field (line_of field.now).field) absolute }
+    {
+        self.table.is_equal(absolute, field)
     }
 
     /// Whether one more block may be blocked (RFC 9204, section 2.1.2).

@@ -3,9 +3,10 @@
 ghost use Rattle.std.specs.Prelude.{◌≡◌, ℕ, [], ◌+◌, ◌-◌, ◌^◌, ◌<◌, ◌≤◌, Some, None, IfOk, IfErr, IfSome, IfNone, true};
 ghost use Rattle.std.specs.Prelude.{false, IsOk, OnOk, OnErr, length};
 ghost use Rattle.std.specs.Prelude.{slice_get};
-ghost use Rattle.qpack_base.specs.HeaderFields.{field_of};
+ghost use Rattle.qpack_base.specs.HeaderFields.{field_of, line_of};
 ghost use Rattle.qpack_base.specs.Refusals.{IsRefusedFor};
-ghost use Rattle.qpack_spec.specs.Field.{Field, field_size, total_size};
+ghost use Rattle.qpack_spec.specs.Chosen.{passes_at};
+ghost use Rattle.qpack_spec.specs.Field.{Field, field_size, is_field, total_size};
 ghost use Rattle.qpack_spec.specs.Table.{empty_table, insert_count, window, fields_in, can_evict, eviction_count_for};
 ghost use Rattle.qpack_spec.specs.Table.{with_entry, with_reference, sent_entry};
 ghost use Rattle.qpack_spec.specs.Table.{put, with_capacity};
@@ -30,7 +31,7 @@ use crate::dynamic::entry_index::{EntryIndex, NoIndex};
 use crate::dynamic::index::{Hashes, Index};
 use crate::dynamic::open_blocks::OpenBlocks;
 use crate::vas::VirtualAddressSpace;
-use qpack_base::field::HeaderField;
+use qpack_base::field::{FieldLine, HeaderField};
 use std::alloc::{AllocError, Global};
 use std::collections::VecDeque;
 use std::marker::Model;
@@ -207,6 +208,23 @@ impl<I: EntryIndex> DynamicTable<I> {
         match self.entries.get(absolute - dropped - 1) {
             Some(entry) => Some(entry.field.mem_size()),
             None => None,
+        }
+    }
+
+    /// Whether the entry with an absolute index is live and equals a field.
+    pub(super) fn is_equal(&self, absolute: usize, field: &FieldLine<'_>) -> bool
+        ensures { result ≡ passes_at self.now (is_field (line_of field.now).field) absolute }
+    {
+        let dropped = self.vas.total_dropped();
+        if absolute <= dropped {
+            return false;
+        }
+        match self.entries.get(absolute - dropped - 1) {
+            Some(entry) => {
+                let entry = entry.field.as_line();
+                field.name == entry.name && field.value == entry.value
+            }
+            None => false,
         }
     }
 
