@@ -1,15 +1,14 @@
 //! Calls that begin an end or need none, and texts of errors that no case is answered.
 
-use crate::subject::Subject;
-use crate::words::{Words, push_refusal};
 use crate::{decoder, encoder};
 use anyhow::{Result, bail};
-use qpack_connection::decoder::{ConnectionDecoder, DecodingError, SettingsError};
-use qpack_connection::encoder::{ConnectionEncoder, EncodingError};
-use qpack_connection::{
+use qpack_ends::decoder::{ConnectionDecoder, DecodingError, SettingsError};
+use qpack_ends::encoder::{ConnectionEncoder, EncodingError};
+use qpack_ends::{
     DECODER_STREAM_ERROR, DECOMPRESSION_FAILED, ENCODER_STREAM_ERROR, EncoderStreamError,
     LineError, SectionError, longest_section,
 };
+use qpack_testing::cases::{Subject, Words, push_refusal};
 use std::alloc::Global;
 use std::fmt::Write;
 

@@ -1,13 +1,12 @@
 //! The decoding end of a connection.
 
 use crate::fields::push_reading;
-use crate::subject::Subject;
-use crate::words::{Words, push_bytes, push_refusal};
 use anyhow::{Result, bail, ensure};
 use h3_qpack::coding::Cursor;
 use h3_qpack::stream::{DecoderLine, HeaderAck, InsertCountIncrement, StreamCancel, next_line};
-use qpack_connection::decoder::{ConnectionDecoder, DecoderSettings, DecodingError};
-use qpack_connection::{FieldSection, Reading};
+use qpack_ends::decoder::{ConnectionDecoder, DecoderSettings, DecodingError};
+use qpack_ends::{FieldSection, Reading};
+use qpack_testing::cases::{Subject, Words, push_bytes, push_refusal};
 use std::alloc::Global;
 use std::fmt::Write;
 

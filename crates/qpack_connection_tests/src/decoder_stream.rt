@@ -1,12 +1,11 @@
 //! The decoder stream, received strictly.
 
-use crate::subject::Subject;
-use crate::words::{Words, push_refusal};
 use anyhow::{Result, bail};
 use h3_qpack::HeaderField;
 use h3_qpack::coding::Cursor;
 use h3_qpack::dynamic::{DynamicLookupResult, DynamicTable, DynamicTableEncoder, Error};
-use qpack_connection::{DecoderStream, DecoderStreamError};
+use qpack_ends::{DecoderStream, DecoderStreamError};
+use qpack_testing::cases::{Subject, Words, push_refusal};
 use std::alloc::Global;
 use std::fmt::Write;
 
@@ -41,7 +40,11 @@ fn reference(block: &mut DynamicTableEncoder<'_>, field: &HeaderField) -> Result
 }
 
 /// A section on a stream that references a field; answers how many insertions it requires.
-fn send(table: &mut DynamicTable, stream: u64, field: &HeaderField) -> Result<usize, Error> {
+pub(crate) fn send(
+    table: &mut DynamicTable,
+    stream: u64,
+    field: &HeaderField,
+) -> Result<usize, Error> {
     let mut block = table.encoder(stream);
     match reference(&mut block, field) {
         Ok(()) => {

@@ -1,15 +1,15 @@
 //! The encoding end of a connection.
 
-use crate::fields::{push_reading, read_fields};
-use crate::subject::Subject;
-use crate::words::{Words, push_bytes, push_refusal};
+use crate::fields::{push_reading, wish_fields};
 use anyhow::{Result, bail, ensure};
-use h3_qpack::HeaderField;
 use h3_qpack::coding::Cursor;
 use h3_qpack::encoder::AsField;
-use qpack_connection::decoder::{ConnectionDecoder, DecoderSettings};
-use qpack_connection::encoder::{ConnectionEncoder, EncoderSettings, EncodingError};
-use qpack_connection::{FieldSection, OwnedFieldLine};
+use qpack_ends::FieldSection;
+use qpack_ends::decoder::{ConnectionDecoder, DecoderSettings};
+use qpack_ends::encoder::{ConnectionEncoder, EncoderSettings, EncodingError};
+use qpack_testing::cases::{
+    Field, Subject, Words, header_fields, push_bytes, push_refusal, read_fields,
+};
 use std::alloc::Global;
 use std::fmt::Write;
 
@@ -30,12 +30,16 @@ const MOST_BLOCKED: usize = 65_534;
 
 impl Subject for Encoder {
     fn begin(alloc: Global, settings: &mut Words<'_>, size: usize) -> Result<Encoder> {
-        let is_of_header_fields = settings.word() == "encoder-of-header-fields";
-        let settings = read_settings(settings)?;
+        let end = read_settings(settings)?;
+        let is_of_header_fields = match settings.word() {
+            "" => false,
+            "of-header-fields" => true,
+            word => bail!("an encoder has no setting {word}"),
+        };
         Ok(Encoder {
-            end: ConnectionEncoder::new(alloc, settings)?,
+            end: ConnectionEncoder::new(alloc, end)?,
             section: Vec::new(alloc),
-            peer: peer_of(alloc, settings)?,
+            peer: peer_of(alloc, end)?,
             fields: FieldSection::new(alloc),
             is_of_header_fields,
             size,
@@ -52,12 +56,7 @@ impl Subject for Encoder {
         match word {
             "encodes" => self.encode_words(alloc, words, answer),
             "fills" => self.fill(alloc, words, answer),
-            "passes" => {
-                let stream = words.number()?;
-                let fields = fields_of(alloc, words)?;
-                self.encode(stream, &fields)?;
-                self.pass(stream, answer)
-            }
+            "passes" => self.encode_and_pass(alloc, words, answer),
             "hands-on" => {
                 let stream = words.number()?;
                 self.encode_again(alloc, stream)?;
@@ -110,19 +109,10 @@ fn peer_of(alloc: Global, settings: EncoderSettings) -> Result<ConnectionDecoder
     Ok(ConnectionDecoder::new(alloc, of_peer)?)
 }
 
-/// The fields of the words that are left.
-pub(crate) fn fields_of(alloc: Global, words: &mut Words<'_>) -> Result<Vec<OwnedFieldLine>> {
+/// Reads the fields of the words that are left.
+pub(crate) fn fields_of(alloc: Global, words: &mut Words<'_>) -> Result<Vec<Field>> {
     let fields = read_fields(alloc, words.rest)?;
     words.rest = "";
-    Ok(fields)
-}
-
-/// Header fields of these names and values.
-pub(crate) fn header_fields(alloc: Global, lines: &[OwnedFieldLine]) -> Result<Vec<HeaderField>> {
-    let mut fields = Vec::new(alloc);
-    for line in lines {
-        fields.push(HeaderField::from_pair(alloc, &line.name, &line.value)?)?;
-    }
     Ok(fields)
 }
 
@@ -166,13 +156,32 @@ impl Encoder {
         answer: &mut String,
     ) -> Result<()> {
         let stream = words.number()?;
-        let lines = fields_of(alloc, words)?;
-        let encoded = if self.is_of_header_fields {
-            let fields = header_fields(alloc, &lines)?;
-            self.encode(stream, &fields)
-        } else {
-            self.encode(stream, &lines)
-        };
+        let fields = fields_of(alloc, words)?;
+        let encoded = self.encode_fields(alloc, stream, &fields)?;
+        self.push_encoded(answer, encoded)
+    }
+
+    /// Encodes fields on a stream, as header fields or as lines.
+    fn encode_fields(
+        &mut self,
+        alloc: Global,
+        stream: u64,
+        fields: &[Field],
+    ) -> Result<Result<usize, EncodingError>> {
+        if self.is_of_header_fields {
+            let headers = header_fields(alloc, fields)?;
+            return Ok(self.encode(stream, &headers));
+        }
+        let lines = wish_fields(alloc, fields)?;
+        Ok(self.encode(stream, &lines))
+    }
+
+    /// Appends how many insertions a section requires, or why it was not encoded.
+    fn push_encoded(
+        &self,
+        answer: &mut String,
+        encoded: Result<usize, EncodingError>,
+    ) -> Result<()> {
         match encoded {
             Ok(required) => Ok(write!(answer, "{required}")?),
             Err(error) => {
@@ -182,10 +191,24 @@ impl Encoder {
         }
     }
 
+    /// Encodes the fields of words on a stream, and sends the section; answers what the peer decoded.
+    fn encode_and_pass(
+        &mut self,
+        alloc: Global,
+        words: &mut Words<'_>,
+        answer: &mut String,
+    ) -> Result<()> {
+        let stream = words.number()?;
+        let fields = fields_of(alloc, words)?;
+        self.encode_fields(alloc, stream, &fields)??;
+        self.pass(stream, answer)
+    }
+
     /// Encodes the fields on each of so many streams; answers how many insertions the sections require in all.
     fn fill(&mut self, alloc: Global, words: &mut Words<'_>, answer: &mut String) -> Result<()> {
         let streams = words.number()?;
         let fields = fields_of(alloc, words)?;
+        let fields = wish_fields(alloc, &fields)?;
         let mut required = 0usize;
         for stream in 0..streams {
             required = required.saturating_add(self.encode(stream, &fields)?);

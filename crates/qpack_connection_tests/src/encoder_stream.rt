@@ -1,11 +1,10 @@
 //! The encoder stream, received strictly.
 
-use crate::subject::Subject;
-use crate::words::{Words, push_refusal};
 use anyhow::{Result, bail};
 use h3_qpack::coding::Cursor;
 use h3_qpack::dynamic::DynamicTable;
-use qpack_connection::{EncoderStream, EncoderStreamError};
+use qpack_ends::{EncoderStream, EncoderStreamError};
+use qpack_testing::cases::{Subject, Words, push_refusal};
 use std::alloc::Global;
 use std::fmt::Write;
 

@@ -1,12 +1,11 @@
 //! The encoder of `h3_qpack`, whose sections those of an encoding end are.
 
-use crate::encoder::{fields_of, header_fields};
-use crate::subject::Subject;
-use crate::words::{Words, push_bytes};
+use crate::encoder::fields_of;
 use anyhow::{Result, bail};
 use h3_qpack::coding::Cursor;
 use h3_qpack::dynamic::DynamicTable;
 use h3_qpack::encoder::Encoder;
+use qpack_testing::cases::{Subject, Words, header_fields, push_bytes};
 use std::alloc::Global;
 use std::fmt::Write;
 

@@ -1,12 +1,11 @@
 //! Sections read strictly, up to a limit.
 
 use crate::fields::{push_fields, push_reading};
-use crate::subject::Subject;
-use crate::words::{Words, push_refusal};
 use anyhow::{Result, bail, ensure};
 use h3_qpack::HeaderField;
 use h3_qpack::dynamic::DynamicTable;
-use qpack_connection::{FieldSection, read_section};
+use qpack_ends::{FieldSection, read_section};
+use qpack_testing::cases::{Subject, Words, push_refusal};
 use std::alloc::Global;
 
 /// A table, and the fields of the section that was read last.

@@ -35,7 +35,7 @@ pub(crate) fn read_lists(alloc: Global, text: &str) -> Result<Vec<Vec<HeaderFiel
 
 /// Splits a line of a recording at its TABs: the stream's number, where it is a section, and the digits of its bytes.
 /// List i was sent on stream 4 i.
-pub(crate) fn parts_of(line: &str) -> Result<(Option<usize>, &str)> {
+fn parts_of(line: &str) -> Result<(Option<usize>, &str)> {
     let (kind, rest) = line.split_once('\t').context(UNREADABLE)?;
     if kind == "e" {
         return Ok((None, rest));

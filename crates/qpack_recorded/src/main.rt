@@ -4,7 +4,6 @@
 
 mod corpus;
 mod exchanged;
-mod inspected;
 mod mutated;
 mod receiver;
 mod replayed;
@@ -25,7 +24,7 @@ const RECORDINGS: [(&str, usize); 5] = [
     ("nghttp3_65536_16_ack.txt", 65_536),
 ];
 
-/// Holds one recording, its mutations, and what `qpk inspect` prints of it.
+/// Holds one recording, and its mutations.
 fn hold_recording(
     rt: &HostRuntime,
     lists: &[Vec<HeaderField>],
@@ -34,10 +33,7 @@ fn hold_recording(
 ) -> Result<()> {
     let text = fs::read_to_string(rt, file)?;
     let lines = read_lines(rt.alloc(), text.as_str())?;
-    hold_lines(rt, lists, file, &lines, max_capacity)?;
-    let inspected = inspected::hold(rt.alloc(), lists, text.as_str(), max_capacity)?;
-    println!(rt; "{file}: {inspected} sections inspected")?;
-    Ok(())
+    hold_lines(rt, lists, file, &lines, max_capacity)
 }
 
 /// Holds the lines of one recording, and their mutations.
@@ -58,13 +54,18 @@ fn hold_lines(
     Ok(())
 }
 
+/// Holds all that is compared with the lists.
+fn hold_all(rt: &HostRuntime, lists: &[Vec<HeaderField>]) -> Result<()> {
+    stateless::hold(rt, lists)?;
+    for (file, max_capacity) in RECORDINGS {
+        hold_recording(rt, lists, file, max_capacity)?;
+    }
+    exchanged::hold(rt, lists)
+}
+
 fn main(rt: HostRuntime) -> Result<()> {
     let text = fs::read_to_string(&rt, "corpus.qif")?;
     let lists = read_lists(rt.alloc(), text.as_str())?;
-    stateless::hold(&rt, &lists)?;
-    for (file, max_capacity) in RECORDINGS {
-        hold_recording(&rt, &lists, file, max_capacity)?;
-    }
-    exchanged::hold(&rt, &lists)?;
+    hold_all(&rt, &lists)?;
     short_lists::hold(&rt)
 }

@@ -41,18 +41,36 @@ pub(crate) fn hold(alloc: Global, lines: &[Line], max_capacity: usize) -> Result
     };
     for _ in 0..ROUNDS {
         let mut receiver = Receiver::new(alloc, max_capacity)?;
-        for line in lines {
-            if give(alloc, &mut numbers, line, &mut receiver, &mut answers)? {
-                break;
-            }
-        }
-        let again = receiver.again(alloc, max_capacity)?;
-        ensure!(
-            are_alike(receiver.table(), again.table()),
-            "the table is not what the bytes make that were taken"
-        );
+        give_all(alloc, &mut numbers, lines, &mut receiver, &mut answers)?;
+        hold_table(alloc, max_capacity, &receiver)?;
     }
     Ok(answers)
+}
+
+/// Gives the lines of a recording, up to a refusal of its encoder stream.
+fn give_all(
+    alloc: Global,
+    numbers: &mut Numbers,
+    lines: &[Line],
+    receiver: &mut Receiver,
+    answers: &mut Answers,
+) -> Result<()> {
+    for line in lines {
+        if give(alloc, numbers, line, receiver, answers)? {
+            break;
+        }
+    }
+    Ok(())
+}
+
+/// Fails if the table is not what the bytes make that were taken.
+fn hold_table(alloc: Global, max_capacity: usize, receiver: &Receiver) -> Result<()> {
+    let again = receiver.again(alloc, max_capacity)?;
+    ensure!(
+        are_alike(receiver.table(), again.table()),
+        "the table is not what the bytes make that were taken"
+    );
+    Ok(())
 }
 
 /// Gives a line, mutated or not; whether the connection ends.
@@ -68,11 +86,22 @@ fn give(
     } else {
         mutate(alloc, numbers, &line.bytes)?
     };
+    give_bytes(alloc, line, &bytes, receiver, answers)
+}
+
+/// Gives bytes in the place of a line's; whether the connection ends.
+fn give_bytes(
+    alloc: Global,
+    line: &Line,
+    bytes: &[u8],
+    receiver: &mut Receiver,
+    answers: &mut Answers,
+) -> Result<bool> {
     if line.list.is_some() {
-        answers.count(decode(alloc, receiver, &bytes)?)?;
+        answers.count(decode(alloc, receiver, bytes)?)?;
         return Ok(false);
     }
-    let refused = receiver.deliver(&bytes, 7)?;
+    let refused = receiver.deliver(bytes, 7)?;
     let ends = refused.is_some();
     answers.count(refused)?;
     Ok(ends)
@@ -93,9 +122,21 @@ fn decode(alloc: Global, receiver: &Receiver, section: &[u8]) -> Result<Option<D
 /// Flips a bit, cuts the end off, takes a part out, or puts a part in twice.
 fn mutate(alloc: Global, numbers: &mut Numbers, bytes: &[u8]) -> Result<Vec<u8>> {
     let from = numbers.below(bytes.len().max(1));
-    let to = from.saturating_add(numbers.below(8));
-    let (front, behind) = bytes.split_at_checked(from).unwrap_or((bytes, b""));
+    let front = bytes.get(..from).unwrap_or(bytes);
     let mut mutated = Vec::from_slice(alloc, front)?;
+    push_mutated(&mut mutated, numbers, bytes, from)?;
+    Ok(mutated)
+}
+
+/// Appends the bytes from a place on, mutated.
+fn push_mutated(
+    mutated: &mut Vec<u8>,
+    numbers: &mut Numbers,
+    bytes: &[u8],
+    from: usize,
+) -> Result<()> {
+    let to = from.saturating_add(numbers.below(8));
+    let behind = bytes.get(from..).unwrap_or(b"");
     match numbers.below(4) {
         0 => {
             mutated.extend_from_slice(behind)?;
@@ -110,7 +151,7 @@ fn mutate(alloc: Global, numbers: &mut Numbers, bytes: &[u8]) -> Result<Vec<u8>>
             mutated.extend_from_slice(behind)?;
         }
     }
-    Ok(mutated)
+    Ok(())
 }
 
 /// Whether two tables are alike in what a decoder sees of them.

@@ -6,7 +6,7 @@ use h3_qpack::decoder::Decoder;
 use h3_qpack::dynamic::DynamicTable;
 use h3_qpack::stream::{DecoderLine, InsertCountIncrement, next_line};
 use h3_qpack::{Decoded, DecoderError, HeaderField};
-use qpack_connection::{FieldSection, Reading, read_section};
+use qpack_ends::{FieldSection, Reading, read_section};
 use std::alloc::Global;
 
 /// The receiving end of a recorded connection.

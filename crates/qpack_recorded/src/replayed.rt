@@ -15,15 +15,27 @@ pub(crate) fn hold(
 ) -> Result<usize> {
     for piece in [1, 7, 65_536] {
         let mut receiver = Receiver::new(alloc, max_capacity)?;
-        for line in lines {
-            hold_line(alloc, lists, line, piece, &mut receiver)?;
-        }
-        ensure!(
-            receiver.reported(alloc)? == receiver.table().total_inserted(),
-            "the increments are not those of the insertions"
-        );
+        replay(alloc, lists, lines, piece, &mut receiver)?;
     }
     Ok(lines.iter().filter(|line| line.list.is_some()).count())
+}
+
+/// Replays a recording in pieces of this size.
+fn replay(
+    alloc: Global,
+    lists: &[Vec<HeaderField>],
+    lines: &[Line],
+    piece: usize,
+    receiver: &mut Receiver,
+) -> Result<()> {
+    for line in lines {
+        hold_line(alloc, lists, line, piece, receiver)?;
+    }
+    ensure!(
+        receiver.reported(alloc)? == receiver.table().total_inserted(),
+        "the increments are not those of the insertions"
+    );
+    Ok(())
 }
 
 /// Receives a line. Fails where instructions are refused, or a section is not read as its list, or not strictly.

@@ -106,20 +106,30 @@ fn is_decoded(
     Ok(plain.is_ok())
 }
 
+/// Whether `decode_header` takes a list, by this decoder, which is of the same capacity.
+fn decodes(decoder: &Decoder, capacity: usize, bytes: &[u8]) -> Result<bool> {
+    let answer = decoder.decode_header(&mut Cursor::new(bytes));
+    is_decoded(
+        "decode_header",
+        bytes,
+        answer,
+        plain::decode(capacity, bytes),
+    )
+}
+
+/// Whether `decode_stateless` takes a list.
+fn decodes_alone(alloc: Global, bytes: &[u8]) -> Result<bool> {
+    let answer = decode_stateless(alloc, &mut Cursor::new(bytes), u64::MAX);
+    is_decoded("decode_stateless", bytes, answer, plain::decode(0, bytes))
+}
+
 /// Gives a list to each call, and to this decoder, which is of the same capacity; how many calls took it.
 fn try_list(alloc: Global, decoder: &Decoder, capacity: usize, bytes: &[u8]) -> Result<usize> {
-    let with_table = decoder.decode_header(&mut Cursor::new(bytes));
-    let alone = decode_stateless(alloc, &mut Cursor::new(bytes), u64::MAX);
     let taken = [
         receives(alloc, capacity, bytes)?,
         hears(alloc, capacity, bytes)?,
-        is_decoded(
-            "decode_header",
-            bytes,
-            with_table,
-            plain::decode(capacity, bytes),
-        )?,
-        is_decoded("decode_stateless", bytes, alone, plain::decode(0, bytes))?,
+        decodes(decoder, capacity, bytes)?,
+        decodes_alone(alloc, bytes)?,
     ];
     Ok(taken.iter().filter(|is_taken| **is_taken).count())
 }
@@ -133,16 +143,27 @@ fn try_first(alloc: Global, decoder: &Decoder, capacity: usize, first: u8) -> Re
     Ok(taken)
 }
 
+/// Gives all lists to each call, and to this decoder; how many lists there are, and how many calls took one.
+fn try_all(alloc: Global, decoder: &Decoder, capacity: usize) -> Result<(usize, usize)> {
+    let mut taken = try_list(alloc, decoder, capacity, b"")?;
+    let mut lists = 1usize;
+    for first in 0..=255u8 {
+        taken = taken.saturating_add(try_first(alloc, decoder, capacity, first)?);
+        lists = lists.saturating_add(257);
+    }
+    Ok((lists, taken))
+}
+
+/// Gives all lists to the calls at this capacity; how many lists there are, and how many calls took one.
+fn try_capacity(alloc: Global, capacity: usize) -> Result<(usize, usize)> {
+    let decoder = Decoder::from(table(alloc, capacity)?);
+    try_all(alloc, &decoder, capacity)
+}
+
 /// Gives all lists to the calls at each capacity, and tells how many calls took one.
 pub(crate) fn hold(rt: &HostRuntime) -> Result<()> {
     for capacity in CAPACITIES {
-        let decoder = Decoder::from(table(rt.alloc(), capacity)?);
-        let mut taken = try_list(rt.alloc(), &decoder, capacity, b"")?;
-        let mut lists = 1usize;
-        for first in 0..=255u8 {
-            taken = taken.saturating_add(try_first(rt.alloc(), &decoder, capacity, first)?);
-            lists = lists.saturating_add(257);
-        }
+        let (lists, taken) = try_capacity(rt.alloc(), capacity)?;
         println!(rt;
             "capacity {capacity}: {lists} lists, four calls each as the plain reading has them; {taken} not refused"
         )?;

@@ -1,8 +1,7 @@
-//! Worked cases of the indexes and of the dynamic table, through public calls, and printed texts.
+//! The indexes, random calls of the dynamic table, the entries that a search looks at, and printed texts, through public
+//! calls. Worked cases of the table are data of `qpack_connection_tests`.
 #![tactic(auto)]
 
-#[cfg(test)]
-mod blocks;
 #[cfg(test)]
 mod indexes;
 #[cfg(test)]
@@ -13,8 +12,6 @@ mod model;
 mod newest;
 #[cfg(test)]
 mod random;
-#[cfg(test)]
-mod table;
 #[cfg(test)]
 mod tables;
 #[cfg(test)]

@@ -6,6 +6,7 @@ ghost use Rattle.std.specs.Prelude.{◌≡◌, ◌↔◌, IsOk, IfOk, IsTrue, Ok
 ghost use Rattle.hex.specs.Hex.{decode_of};
 ghost use Rattle.qpack_base.specs.HeaderFields.{field_of};
 
+pub mod cases;
 mod numbers;
 
 use hex::FromHexError;

@@ -1,16 +1,19 @@
 //! Scripts and inspections whose printed lines were foretold by a program that was written from the definitions alone.
 //! Each is run as `qpk` runs it; the first that prints anything else ends this program with an error. Then header lists
 //! and recordings of the offline interop format are held so, and what is refused of them. At last recordings of
-//! connections are shown, and the lists of a corpus encoded to recordings, and held against the lists that were sent.
+//! connections are shown and inspected, and the lists of a corpus encoded to recordings, and held against the lists that
+//! were sent.
 #![tactic(auto)]
 
 mod cases;
 mod corpus;
+mod inspected;
 mod recordings;
 
 use anyhow::{Context, Result, bail};
 use cases::read_cases;
 use corpus::hold_corpus;
+use inspected::hold_inspections;
 use recordings::hold_recordings;
 use std::fs;
 
@@ -70,5 +73,6 @@ fn main(rt: HostRuntime) -> Result<()> {
     )?;
     let recordings = hold_recordings(&rt)?;
     println!(rt; "{recordings} recordings were shown as the lists that were sent")?;
+    hold_inspections(&rt)?;
     hold_corpus(&rt)
 }

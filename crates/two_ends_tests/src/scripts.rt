@@ -1,186 +1,269 @@
-//! Worked scripts of events, and what each event answers.
+//! Scripts of calls by chance. Two ends answer each call lawfully, and at the end no section is left on its way.
 
-use crate::events::{BAZ_BAR, FOO_BAR, FOO_BAR_TWICE, Given};
-use qpack_testing::Pairs;
+use crate::connection::Connection;
+use crate::lawful::{Counts, Ends, Lawful, Rest};
+use crate::round::go_round;
+use crate::session::Session;
+use anyhow::{Context, Result, bail, ensure};
+use qpack_testing::Numbers;
+use qpack_testing::cases::{Subject, Words, make_call};
+use std::alloc::Global;
+use std::fmt::Write;
 
-/// An event and what it answers, as it is printed here; bytes are in hexadecimal.
+/// How many scripts one call plays.
+const CASES: usize = 400;
+
+/// How many calls a script has.
+const CALLS: usize = 60;
+
+/// How many streams a script uses.
+const STREAMS: u64 = 3;
+
+/// The fields of scripts. A session takes those without a mark, which come first.
+const FIELDS: [&str; 18] = [
+    ":method = GET",
+    "a = 1",
+    "a = 2",
+    "b = 1",
+    "user-agent = x",
+    "c = a longer value, for which there is not always room",
+    "never :method = GET",
+    "never a = 1",
+    "never a = 2",
+    "never b = 1",
+    "never user-agent = x",
+    "never c = a longer value, for which there is not always room",
+    "insert a = 1",
+    "insert b = 1",
+    "insert c = a longer value, for which there is not always room",
+    "reuse a = 1",
+    "reuse a = 2",
+    "reuse c = a longer value, for which there is not always room",
+];
+
+/// Which calls a script may make: with how many of the fields, and with capacities below this one.
 #[derive(Clone, Copy)]
-pub(crate) enum Case {
-    /// The event adds nothing.
-    Answers(Given, &'static str),
-    /// The event adds these bytes to a stream: a new capacity to the encoder stream, any other to the decoder stream.
-    Writes(Given, &'static str, &'static [u8]),
-    /// The fields are encoded for a stream, which adds this block, and these bytes to the encoder stream.
-    Encodes(u64, Pairs, &'static str, &'static [u8], &'static [u8]),
+struct Bounds {
+    fields: usize,
+    capacity: usize,
 }
 
-impl Case {
-    /// The event.
-    pub(crate) fn given(&self) -> Given {
-        match *self {
-            Case::Answers(given, _) | Case::Writes(given, _, _) => given,
-            Case::Encodes(stream, pairs, ..) => Given::Encode(stream, pairs),
-        }
+/// Scripts that are played with ends of some settings.
+#[derive(Drop)]
+pub(crate) struct Scripts {
+    bounds: Bounds,
+    /// The kind of the ends and their settings. Each word `?N` is a number below N by chance.
+    settings: String,
+    numbers: Numbers,
+    scripts: usize,
+    counts: Counts,
+}
+
+impl Subject for Scripts {
+    fn begin(alloc: Global, settings: &mut Words<'_>, _size: usize) -> Result<Scripts> {
+        let bounds = Bounds {
+            fields: settings.count()?,
+            capacity: settings.count()?,
+        };
+        let ends = settings.rest;
+        settings.rest = "";
+        Ok(Scripts {
+            bounds,
+            settings: String::from_str(alloc, ends)?,
+            numbers: Numbers::new(0x9e37_79b9_7f4a_7c15),
+            scripts: 0,
+            counts: Counts::NONE,
+        })
     }
 
-    /// What it answers.
-    pub(crate) fn answer(&self) -> &'static str {
-        match *self {
-            Case::Answers(_, answer) | Case::Writes(_, answer, _) => answer,
-            Case::Encodes(_, _, answer, _, _) => answer,
-        }
-    }
-
-    /// What it adds to a stream.
-    pub(crate) fn written(&self) -> &'static [u8] {
-        match *self {
-            Case::Answers(..) => b"",
-            Case::Writes(_, _, written) => written,
-            Case::Encodes(_, _, _, _, written) => written,
+    fn call(
+        &mut self,
+        alloc: Global,
+        word: &str,
+        words: &mut Words<'_>,
+        answer: &mut String,
+    ) -> Result<()> {
+        match word {
+            "plays" => {
+                for _ in 0..words.count()? {
+                    self.play(alloc)?;
+                }
+                Ok(answer.push_str("done")?)
+            }
+            "go-round" => {
+                go_round(alloc, self.settings.as_str(), words.count()?)?;
+                Ok(answer.push_str("done")?)
+            }
+            "at-least" => {
+                let least = [words.count()?, words.count()?, words.count()?];
+                Ok(write!(answer, "{}", self.are_at_least(least))?)
+            }
+            "dynamic" => Ok(write!(answer, "{}", self.counts.dynamic)?),
+            "blocked" => Ok(write!(answer, "{}", self.counts.blocked)?),
+            _ => bail!("scripts have no call {word}"),
         }
     }
 }
 
-/// A script for a capacity and a limit of blocked streams.
-#[derive(Clone, Copy)]
-pub(crate) struct Script {
-    pub(crate) capacity: usize,
-    pub(crate) limit: usize,
-    pub(crate) cases: &'static [Case],
+impl Scripts {
+    /// Plays scripts.
+    fn play(&mut self, alloc: Global) -> Result<()> {
+        for _ in 0..CASES {
+            self.scripts = self.scripts.saturating_add(1);
+            let settings = drawn(alloc, self.settings.as_str(), &mut self.numbers)?;
+            let mut words = Words {
+                rest: settings.as_str(),
+            };
+            let counts = match words.word() {
+                "session" => play_one::<Session>(alloc, words, self.bounds, &mut self.numbers)?,
+                "connection" => play_one::<Connection>(
+                    alloc,
+                    words,
+                    self.bounds,
+                    &mut self.numbers,
+                )?,
+                kind => bail!("there is no {kind}"),
+            };
+            self.counts.add(counts);
+        }
+        Ok(())
+    }
+
+    /// Whether a hundred scripts decoded at least the first number of sections, the second of sections that required an
+    /// insertion, and the third of sections that had to wait.
+    fn are_at_least(&self, least: [usize; 3]) -> bool {
+        let [decoded, dynamic, blocked] = least;
+        self.is_at_least(self.counts.decoded, decoded)
+            && self.is_at_least(self.counts.dynamic, dynamic)
+            && self.is_at_least(self.counts.blocked, blocked)
+    }
+
+    /// Whether a count is at least this in a hundred scripts.
+    fn is_at_least(&self, count: usize, in_a_hundred: usize) -> bool {
+        count.saturating_mul(100) >= self.scripts.saturating_mul(in_a_hundred)
+    }
 }
 
-const FOO_BAR_QUXX: Pairs = &[(b"foo", b"bar"), (b"foo", b"quxx")];
+/// Returns settings with a number by chance in the place of each word `?N`.
+fn drawn(alloc: Global, settings: &str, numbers: &mut Numbers) -> Result<String> {
+    let mut drawn = String::new(alloc);
+    for word in settings.split_whitespace() {
+        match word.strip_prefix('?') {
+            Some(limit) => write!(drawn, "{} ", numbers.below(limit.parse()?))?,
+            None => write!(drawn, "{word} ")?,
+        }
+    }
+    Ok(drawn)
+}
 
-/// There is no room for an entry that is held.
-const NO_ROOM: &str = "CapacitySet(Err(Insertion(MaxTableSizeReached)))";
+/// Plays a script with new ends of these settings.
+fn play_one<S: Ends>(
+    alloc: Global,
+    settings: Words<'_>,
+    bounds: Bounds,
+    numbers: &mut Numbers,
+) -> Result<Counts> {
+    let mut settings = settings;
+    let mut ends: Lawful<S> = Lawful::begin(alloc, &mut settings, 0)?;
+    let played = play_with(alloc, &mut ends, bounds, numbers);
+    played.map(|()| ends.counts())
+}
 
-/// A capacity is above the maximum.
-pub(crate) const TOO_LARGE: &str = "CapacitySet(Err(Insertion(MaximumTableSizeTooLarge)))";
+/// Plays a script.
+fn play_with<S: Ends>(
+    alloc: Global,
+    ends: &mut Lawful<S>,
+    bounds: Bounds,
+    numbers: &mut Numbers,
+) -> Result<()> {
+    let (mut call, mut answer) = (String::new(alloc), String::new(alloc));
+    for _ in 0..CALLS {
+        call.clear();
+        push_call(&mut call, bounds, numbers)?;
+        make_call(alloc, ends, call.as_str(), &mut answer).context("a script")?;
+    }
+    end(alloc, ends, &mut call, &mut answer)
+}
 
-/// A block waits for its insertion.
-pub(crate) static WAITING: Script = Script {
-    capacity: 4096,
-    limit: 1,
-    cases: &[
-        Case::Encodes(4, FOO_BAR, "Encoded(Ok(1))", b"028010", b"6294e7838c767f"),
-        Case::Answers(Given::Decode(4), "Decoded(Err(MissingRefs(1)))"),
-        Case::Answers(Given::ToDecoder(6), "Delivered(Ok(0))"),
-        Case::Answers(Given::Decode(4), "Decoded(Err(MissingRefs(1)))"),
-        Case::Writes(Given::ToDecoder(1), "Delivered(Ok(1))", b"01"),
-        Case::Answers(Given::Ack(4), "Skipped(4)"),
-        Case::Answers(Given::Decode(4), "\"foo\": \"bar\", 38 true"),
-        Case::Writes(Given::Ack(4), "Acknowledged(Ok(()))", b"84"),
-        Case::Answers(Given::Decode(4), "Skipped(2)"),
-        Case::Answers(Given::Ack(4), "Skipped(4)"),
-        Case::Encodes(8, FOO_BAR, "Encoded(Ok(0))", b"00002a94e7838c767f", b""),
-        Case::Answers(Given::ToEncoder(2), "Heard(Ok(()))"),
-        Case::Encodes(8, FOO_BAR, "Encoded(Ok(1))", b"020080", b""),
-        Case::Writes(Given::Cancel(8), "Cancelled(Ok(()))", b"48"),
-        Case::Answers(Given::Decode(8), "Skipped(3)"),
-        Case::Answers(Given::Cancel(8), "Skipped(3)"),
-    ],
-};
+/// Appends a call by chance.
+fn push_call(call: &mut String, bounds: Bounds, numbers: &mut Numbers) -> Result<()> {
+    let stream = numbers.below(STREAMS as usize);
+    match numbers.below(20) {
+        0..=4 => {
+            write!(call, "encodes {stream}")?;
+            push_fields(call, bounds.fields, numbers)?;
+        }
+        5..=8 => write!(call, "decodes {stream}")?,
+        9..=11 => write!(call, "to-decoder {}", numbers.below(60))?,
+        12 | 13 => write!(call, "to-encoder {}", numbers.below(6))?,
+        14 => write!(call, "sets {}", numbers.below(bounds.capacity))?,
+        15..=17 => write!(call, "acks {stream}")?,
+        18 => call.push_str("to-decoder all")?,
+        _ => match numbers.below(3) {
+            0 => write!(call, "cancels {stream}")?,
+            _ => write!(call, "to-decoder {}", numbers.below(20))?,
+        },
+    }
+    Ok(())
+}
 
-/// A field is referenced twice.
-pub(crate) static TWICE: Script = Script {
-    capacity: 4096,
-    limit: 1,
-    cases: &[Case::Encodes(
-        4,
-        FOO_BAR_TWICE,
-        "Encoded(Ok(2))",
-        b"03811011",
-        b"6294e7838c767f00",
-    )],
-};
+/// Appends up to three of the first fields.
+fn push_fields(call: &mut String, fields: usize, numbers: &mut Numbers) -> Result<()> {
+    for _ in 0..numbers.below(4) {
+        let field = FIELDS.get(numbers.below(fields)).context("no field")?;
+        write!(call, " | {field}")?;
+    }
+    Ok(())
+}
 
-/// There is no room for a second entry.
-pub(crate) static FULL: Script = Script {
-    capacity: 63,
-    limit: 1,
-    cases: &[Case::Encodes(
-        4,
-        FOO_BAR_QUXX,
-        "Encoded(Ok(1))",
-        b"0280100084ed6f9f3f",
-        b"6294e7838c767f",
-    )],
-};
+/// Delivers all that is on its way: each section of a stream that was not cancelled is decoded. If no stream was
+/// cancelled, every section is acknowledged then.
+fn end<S: Ends>(
+    alloc: Global,
+    ends: &mut Lawful<S>,
+    call: &mut String,
+    answer: &mut String,
+) -> Result<()> {
+    make_call(alloc, ends, "to-decoder all", answer)?;
+    for stream in 0..STREAMS {
+        end_stream(alloc, ends, stream, call, answer)?;
+    }
+    make_call(alloc, ends, "to-encoder all", answer)?;
+    let (rest, is_cancelled) = ends.rest()?;
+    let none = Rest {
+        unacknowledged: 0,
+        blocked: 0,
+    };
+    ensure!(
+        is_cancelled || rest == none,
+        "a section is not acknowledged"
+    );
+    Ok(())
+}
 
-/// A block is cancelled, and its entry goes once it is received.
-pub(crate) static CANCELLED: Script = Script {
-    capacity: 64,
-    limit: 4,
-    cases: &[
-        Case::Encodes(4, FOO_BAR, "Encoded(Ok(1))", b"028010", b"6294e7838c767f"),
-        Case::Encodes(4, FOO_BAR, "Encoded(Ok(1))", b"020080", b""),
-        Case::Writes(Given::Cancel(4), "Cancelled(Ok(()))", b"44"),
-        Case::Answers(Given::ToEncoder(1), "Heard(Ok(()))"),
-        Case::Encodes(8, BAZ_BAR, "Encoded(Ok(0))", b"00002b8c7eff838c767f", b""),
-        Case::Writes(Given::ToDecoder(7), "Delivered(Ok(1))", b"01"),
-        Case::Answers(Given::ToEncoder(1), "Heard(Ok(()))"),
-        Case::Encodes(
-            12,
-            BAZ_BAR,
-            "Encoded(Ok(2))",
-            b"038010",
-            b"638c7eff838c767f",
-        ),
-        Case::Answers(Given::Decode(4), "Skipped(3)"),
-    ],
-};
-
-/// All blocks of a stream are cancelled.
-pub(crate) static ALL_CANCELLED: Script = Script {
-    capacity: 64,
-    limit: 4,
-    cases: &[
-        Case::Encodes(4, FOO_BAR, "Encoded(Ok(1))", b"028010", b"6294e7838c767f"),
-        Case::Encodes(4, FOO_BAR, "Encoded(Ok(1))", b"020080", b""),
-        Case::Encodes(4, FOO_BAR, "Encoded(Ok(1))", b"020080", b""),
-        Case::Writes(Given::Cancel(4), "Cancelled(Ok(()))", b"44"),
-        Case::Writes(Given::ToDecoder(7), "Delivered(Ok(1))", b"01"),
-        Case::Answers(Given::ToEncoder(2), "Heard(Ok(()))"),
-        Case::Encodes(8, BAZ_BAR, "Encoded(Ok(2))", b"038010", b"638c7eff838c767f"),
-    ],
-};
-
-/// A capacity is set before all blocks.
-pub(crate) static RESIZED: Script = Script {
-    capacity: 64,
-    limit: 4,
-    cases: &[
-        Case::Writes(Given::SetCapacity(38), "CapacitySet(Ok(()))", b"3f07"),
-        Case::Encodes(4, FOO_BAR, "Encoded(Ok(1))", b"028010", b"6294e7838c767f"),
-        Case::Writes(Given::ToDecoder(9), "Delivered(Ok(1))", b"01"),
-        Case::Answers(Given::Decode(4), "\"foo\": \"bar\", 38 true"),
-        Case::Writes(Given::Ack(4), "Acknowledged(Ok(()))", b"84"),
-        Case::Answers(Given::ToEncoder(2), "Heard(Ok(()))"),
-        Case::Encodes(8, BAZ_BAR, "Encoded(Ok(2))", b"038010", b"638c7eff838c767f"),
-        Case::Writes(Given::ToDecoder(8), "Delivered(Ok(2))", b"01"),
-        Case::Answers(Given::Decode(8), "\"baz\": \"bar\", 38 true"),
-    ],
-};
-
-/// A capacity is refused while an entry is referenced.
-pub(crate) static HELD: Script = Script {
-    capacity: 64,
-    limit: 4,
-    cases: &[
-        Case::Encodes(4, FOO_BAR, "Encoded(Ok(1))", b"028010", b"6294e7838c767f"),
-        Case::Answers(Given::SetCapacity(37), NO_ROOM),
-        Case::Answers(Given::SetCapacity(65), TOO_LARGE),
-        Case::Writes(Given::ToDecoder(7), "Delivered(Ok(1))", b"01"),
-        Case::Answers(Given::Decode(4), "\"foo\": \"bar\", 38 true"),
-        Case::Writes(Given::Ack(4), "Acknowledged(Ok(()))", b"84"),
-        Case::Answers(Given::ToEncoder(2), "Heard(Ok(()))"),
-        Case::Writes(Given::SetCapacity(0), "CapacitySet(Ok(()))", b"20"),
-        Case::Encodes(8, FOO_BAR, "Encoded(Ok(0))", b"00002a94e7838c767f", b""),
-        Case::Writes(Given::SetCapacity(64), "CapacitySet(Ok(()))", b"3f21"),
-        Case::Encodes(12, FOO_BAR, "Encoded(Ok(2))", b"038010", b"6294e7838c767f"),
-        Case::Answers(Given::ToDecoder(1), "Delivered(Ok(1))"),
-        Case::Answers(Given::Decode(12), "Decoded(Err(MissingRefs(2)))"),
-        Case::Writes(Given::ToDecoder(9), "Delivered(Ok(2))", b"01"),
-        Case::Answers(Given::Decode(12), "\"foo\": \"bar\", 38 true"),
-    ],
-};
+/// Decodes each section of a stream that is left, and acknowledges them.
+fn end_stream<S: Ends>(
+    alloc: Global,
+    ends: &mut Lawful<S>,
+    stream: u64,
+    call: &mut String,
+    answer: &mut String,
+) -> Result<()> {
+    call.clear();
+    write!(call, "decodes {stream}")?;
+    for _ in 0..CALLS {
+        if ends.has_next(stream) {
+            make_call(alloc, ends, call.as_str(), answer)?;
+        }
+    }
+    ensure!(!ends.has_next(stream), "a section is not decoded");
+    call.clear();
+    write!(call, "acks {stream}")?;
+    for _ in 0..CALLS {
+        make_call(alloc, ends, call.as_str(), answer)?;
+        if answer.starts_with("skipped") {
+            break;
+        }
+    }
+    Ok(())
+}

@@ -6,30 +6,44 @@ use std::fmt::{Display, Write};
 
 /// The words of a line that are left.
 #[derive(Clone, Copy)]
-pub(crate) struct Words<'a> {
-    pub(crate) rest: &'a str,
+pub struct Words<'a> {
+    pub rest: &'a str,
 }
 
 impl<'a> Words<'a> {
     /// The next word; empty where there is none.
-    pub(crate) fn word(&mut self) -> &'a str {
+    pub fn word(&mut self) -> &'a str {
         let (word, rest) = self.rest.split_once(' ').unwrap_or((self.rest, ""));
         self.rest = rest;
         word
     }
 
+    /// The first word, a number, which stays; 0 if it is no number.
+    pub fn first_number(&self) -> u64 {
+        let mut words = *self;
+        words.word().parse().unwrap_or(0)
+    }
+
     /// The next word, a number.
-    pub(crate) fn number(&mut self) -> Result<u64> {
+    pub fn number(&mut self) -> Result<u64> {
         Ok(self.word().parse()?)
     }
 
     /// The next word, a count.
-    pub(crate) fn count(&mut self) -> Result<usize> {
+    pub fn count(&mut self) -> Result<usize> {
         Ok(self.word().parse()?)
     }
 
+    /// The next word, a count; `all` is the greatest.
+    pub fn amount(&mut self) -> Result<usize> {
+        match self.word() {
+            "all" => Ok(usize::MAX),
+            count => Ok(count.parse()?),
+        }
+    }
+
     /// The next word, bytes in hexadecimal.
-    pub(crate) fn bytes(&mut self, alloc: Global) -> Result<Vec<u8>> {
+    pub fn bytes(&mut self, alloc: Global) -> Result<Vec<u8>> {
         match self.word() {
             "nothing" => Ok(Vec::new(alloc)),
             digits => Ok(hex::decode(alloc, digits)?),
@@ -38,7 +52,7 @@ impl<'a> Words<'a> {
 }
 
 /// Appends bytes in hexadecimal.
-pub(crate) fn push_bytes(answer: &mut String, bytes: &[u8]) -> Result<()> {
+pub fn push_bytes(answer: &mut String, bytes: &[u8]) -> Result<()> {
     if bytes.is_empty() {
         answer.push_str("nothing")?;
     }
@@ -49,11 +63,7 @@ pub(crate) fn push_bytes(answer: &mut String, bytes: &[u8]) -> Result<()> {
 }
 
 /// Appends why a call was refused, and the code of the error if it ends the connection.
-pub(crate) fn push_refusal<E: Display>(
-    answer: &mut String,
-    code: Option<u64>,
-    error: &E,
-) -> Result<()> {
+pub fn push_refusal<E: Display>(answer: &mut String, code: Option<u64>, error: &E) -> Result<()> {
     match code {
         Some(code) => write!(answer, "ends {code:#x}: {error}")?,
         None => write!(answer, "refused: {error}")?,

@@ -5,18 +5,18 @@ use std::alloc::Global;
 
 /// A line, and its number in the file.
 #[derive(Clone, Copy)]
-pub(crate) struct Line<'a> {
-    pub(crate) number: usize,
-    pub(crate) text: &'a str,
+pub struct Line<'a> {
+    pub number: usize,
+    pub text: &'a str,
 }
 
 /// A case.
 #[derive(Drop)]
-pub(crate) struct Case<'a> {
-    pub(crate) name: &'a str,
+pub struct Case<'a> {
+    pub name: &'a str,
     /// What is called, with its settings: at least one.
-    pub(crate) subjects: Vec<&'a str>,
-    pub(crate) calls: Vec<Line<'a>>,
+    pub subjects: Vec<&'a str>,
+    pub calls: Vec<Line<'a>>,
     /// How many calls stand before the first `again`.
     common: Option<usize>,
 }

@@ -1,23 +1,16 @@
 //! What cases call, and whether it answers what they say.
 
-use crate::calls::Calls;
-use crate::decoder::Decoder;
-use crate::decoder_stream::Hearing;
-use crate::encoder::Encoder;
-use crate::encoder_stream::Receiving;
-use crate::h3_encoder::H3Encoder;
-use crate::script::{Case, Line};
-use crate::sections::Sections;
-use crate::words::Words;
+use crate::cases::script::{Case, Line};
+use crate::cases::words::Words;
 use anyhow::{Context, Result, bail, ensure};
 use std::alloc::Global;
 
 /// What a case calls.
-pub(crate) trait Subject: Drop {
-    /// One of these settings, which takes the bytes of a stream in pieces of this size.
+pub trait Subject: Drop {
+    /// Makes one of these settings, which takes the bytes of a stream in pieces of this size.
     fn begin(alloc: Global, settings: &mut Words<'_>, size: usize) -> Result<Self>;
 
-    /// Makes the call of a word and of those behind it, and appends its answer.
+    /// Makes the call of a word and of the words after it, and appends its answer.
     fn call(
         &mut self,
         alloc: Global,
@@ -26,22 +19,44 @@ pub(crate) trait Subject: Drop {
         answer: &mut String,
     ) -> Result<()>;
 
-    /// The calls that all answer the error once one ended the connection; none of what does not end.
+    /// The calls that all answer the error once one ended the connection. There are none if it does not end.
     fn calls_that_can_fail() -> &'static [&'static str] {
         &[]
     }
+
+    /// Whether a call was refused memory.
+    fn lacked_memory(&self) -> bool {
+        false
+    }
 }
 
-/// The sizes of pieces where a case says none: a stream comes whole.
+/// The kinds of what a program's cases call.
+pub trait Kinds {
+    /// Makes all calls of what has the kind and the settings of these words, by `hold`.
+    fn hold_kind(
+        alloc: Global,
+        kind: &str,
+        settings: &mut Words<'_>,
+        size: usize,
+        calls: &[Line<'_>],
+    ) -> Result<()>;
+}
+
+/// The size of pieces if a case names none: a stream comes whole.
 const WHOLE: &str = "1000000000";
 
-/// Makes all calls of a case, and answers how many they were.
-pub(crate) fn hold_case(alloc: Global, case: &Case<'_>) -> Result<usize> {
+/// Room for an answer, which is made before the first call: so no call fails because its answer is refused memory.
+const LONGEST: usize = 4096;
+
+/// Makes all calls of a case, and returns how many there were.
+pub(crate) fn hold_case<K: Kinds>(alloc: Global, case: &Case<'_>) -> Result<usize> {
     let mut calls = 0usize;
     for subject in &case.subjects {
         let (subject, sizes) = subject.split_once(" pieces ").unwrap_or((subject, WHOLE));
         for size in sizes.split_whitespace() {
-            hold_kind(alloc, subject, size.parse()?, &case.calls).context(subject)?;
+            let mut settings = Words { rest: subject };
+            let kind = settings.word();
+            K::hold_kind(alloc, kind, &mut settings, size.parse()?, &case.calls).context(subject)?;
             calls = calls.saturating_add(case.calls.len());
         }
     }
@@ -49,34 +64,22 @@ pub(crate) fn hold_case(alloc: Global, case: &Case<'_>) -> Result<usize> {
     Ok(calls)
 }
 
-/// Makes all calls of what a line names.
-fn hold_kind(alloc: Global, subject: &str, size: usize, calls: &[Line<'_>]) -> Result<()> {
-    let mut words = Words { rest: subject };
-    let kind = words.word();
-    let settings = &mut words;
-    match kind {
-        "decoder" => hold::<Decoder>(alloc, settings, size, calls),
-        "encoder" | "encoder-of-header-fields" => {
-            settings.rest = subject;
-            hold::<Encoder>(alloc, settings, size, calls)
-        }
-        "h3-encoder" => hold::<H3Encoder>(alloc, settings, size, calls),
-        "decoder-stream" => hold::<Hearing>(alloc, settings, size, calls),
-        "encoder-stream" => hold::<Receiving>(alloc, settings, size, calls),
-        "sections" => hold::<Sections>(alloc, settings, size, calls),
-        "calls" => hold::<Calls>(alloc, settings, size, calls),
-        _ => bail!("there is no {kind}"),
-    }
-}
-
 /// Makes all calls of one of these settings.
-fn hold<S: Subject>(
+pub fn hold<S: Subject>(
     alloc: Global,
     settings: &mut Words<'_>,
     size: usize,
     calls: &[Line<'_>],
 ) -> Result<()> {
-    let mut subject = S::begin(alloc, settings, size)?;
+    let words = *settings;
+    let mut subject = match S::begin(alloc, settings, size) {
+        Ok(subject) => subject,
+        // A second time, in case memory was refused.
+        Err(_) => {
+            *settings = words;
+            S::begin(alloc, settings, size)?
+        }
+    };
     hold_calls(alloc, &mut subject, settings.rest, calls)
 }
 
@@ -89,6 +92,10 @@ fn hold_calls<S: Subject>(
 ) -> Result<()> {
     ensure!(left.is_empty(), "there are no settings {left}");
     let mut answer = String::new(alloc);
+    // A second time, in case memory was refused.
+    if answer.reserve(LONGEST).is_err() {
+        answer.reserve(LONGEST)?;
+    }
     for line in calls {
         if let Err(error) = hold_line(alloc, subject, line.text, &mut answer) {
             bail!("line {}: {error:#}", line.number);
@@ -97,21 +104,36 @@ fn hold_calls<S: Subject>(
     Ok(())
 }
 
-/// Makes the call of a line, which answers what stands there.
+/// Makes the call of a line, which must give the answer of the line.
 fn hold_line<S: Subject>(
     alloc: Global,
     subject: &mut S,
     line: &str,
     answer: &mut String,
 ) -> Result<()> {
-    let (call, expected) = line.split_once(" -> ").context("no answer")?;
+    if let Some((call, expected)) = line.split_once(" => ") {
+        return hold_call(alloc, subject, call, expected, answer);
+    }
+    let Some((call, expected)) = line.split_once(" -> ") else {
+        return make_call(alloc, subject, line, answer);
+    };
     if call == "ended" {
         return hold_end(alloc, subject, expected, answer);
     }
-    hold_call(alloc, subject, call, expected, answer)
+    make_call(alloc, subject, call, answer)?;
+    if subject.lacked_memory() {
+        return Ok(());
+    }
+    is_expected(call, expected, answer)
 }
 
-/// Makes a call, which answers this.
+/// Fails if a call gave another answer.
+fn is_expected(call: &str, expected: &str, answer: &str) -> Result<()> {
+    ensure!(answer == expected, "{call} -> {answer}, and not {expected}");
+    Ok(())
+}
+
+/// Makes a call, which must give this answer.
 fn hold_call<S: Subject>(
     alloc: Global,
     subject: &mut S,
@@ -120,15 +142,11 @@ fn hold_call<S: Subject>(
     answer: &mut String,
 ) -> Result<()> {
     make_call(alloc, subject, call, answer)?;
-    ensure!(
-        answer.as_str() == expected,
-        "{call} -> {answer}, and not {expected}"
-    );
-    Ok(())
+    is_expected(call, expected, answer)
 }
 
-/// Makes a call.
-fn make_call<S: Subject>(
+/// Makes a call, whose answer takes the place of the last one.
+pub fn make_call<S: Subject>(
     alloc: Global,
     subject: &mut S,
     call: &str,
@@ -141,7 +159,7 @@ fn make_call<S: Subject>(
     Ok(())
 }
 
-/// Every call that can fail answers this, and changes nothing.
+/// Requires that every call that can fail gives this answer, and changes nothing.
 fn hold_end<S: Subject>(
     alloc: Global,
     subject: &mut S,

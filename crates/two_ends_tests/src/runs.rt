@@ -1,0 +1,196 @@
+//! Lists of events that are given at once, and what begins a session.
+
+use crate::{connection, session};
+use anyhow::{Result, bail};
+use h3_qpack::dynamic::DynamicTable;
+use h3_qpack::session::{Event, Outcome, Session, run};
+use qpack_connection::connection as ends;
+use qpack_testing::cases::{Subject, Words};
+use std::alloc::Global;
+use std::fmt::Write;
+
+/// The calls of the events that were given so far.
+#[derive(Drop)]
+pub(crate) struct Runs {
+    events: Vec<String>,
+}
+
+/// What the answer of a run has if an event, or the run, was refused memory.
+const REFUSED: &str = "refused Memory";
+
+impl Subject for Runs {
+    fn begin(alloc: Global, _settings: &mut Words<'_>, _size: usize) -> Result<Runs> {
+        Ok(Runs {
+            events: Vec::new(alloc),
+        })
+    }
+
+    fn call(
+        &mut self,
+        alloc: Global,
+        word: &str,
+        words: &mut Words<'_>,
+        answer: &mut String,
+    ) -> Result<()> {
+        let call = *words;
+        let made = self.make(alloc, word, words, answer);
+        if made.is_ok() && !answer.as_str().contains(REFUSED) {
+            return Ok(());
+        }
+        // A second time, in case memory was refused.
+        answer.clear();
+        *words = call;
+        self.make(alloc, word, words, answer)
+    }
+}
+
+impl Runs {
+    /// Makes a call.
+    fn make(
+        &mut self,
+        alloc: Global,
+        word: &str,
+        words: &mut Words<'_>,
+        answer: &mut String,
+    ) -> Result<()> {
+        match word {
+            "gives" => {
+                self.events.push(String::from_str(alloc, words.rest)?)?;
+                words.rest = "";
+                Ok(())
+            }
+            "begins-session" => push_begun(alloc, words, answer),
+            "runs-session" => {
+                let events = self.session_events(alloc)?;
+                push_session_run(alloc, words, &events, answer)
+            }
+            "runs-connection" => {
+                let events = self.connection_events(alloc)?;
+                push_connection_run(alloc, words, events, answer)
+            }
+            "equal-events" => push_equals(answer, &self.session_events(alloc)?),
+            "equal-outcomes" => {
+                let events = self.session_events(alloc)?;
+                push_equal_outcomes(alloc, words, &events, answer)
+            }
+            _ => bail!("runs have no call {word}"),
+        }
+    }
+
+    /// The events, for a session.
+    fn session_events(&self, alloc: Global) -> Result<Vec<Event>> {
+        let mut events = Vec::new(alloc);
+        for call in &self.events {
+            let mut words = Words {
+                rest: call.as_str(),
+            };
+            let word = words.word();
+            events.push(session::event_of(alloc, word, &mut words)?)?;
+        }
+        Ok(events)
+    }
+
+    /// The events, for a connection.
+    fn connection_events(&self, alloc: Global) -> Result<Vec<ends::Event>> {
+        let mut events = Vec::new(alloc);
+        for call in &self.events {
+            let mut words = Words {
+                rest: call.as_str(),
+            };
+            let word = words.word();
+            events.push(connection::event_of(alloc, word, &mut words)?)?;
+        }
+        Ok(events)
+    }
+}
+
+/// Appends the capacities of the tables of a new session, or why it is refused.
+fn push_begun(alloc: Global, words: &mut Words<'_>, answer: &mut String) -> Result<()> {
+    let (capacity, maximum, limit) = (words.count()?, words.count()?, words.count()?);
+    match Session::with_maximum(alloc, capacity, maximum, limit) {
+        Ok(session) => push_capacities(answer, &session),
+        Err(error) => session::push_refused(answer, &error),
+    }
+}
+
+/// Appends the capacities of the tables of a session.
+fn push_capacities(answer: &mut String, session: &Session) -> Result<()> {
+    push_capacity(answer, session.encoder().table())?;
+    answer.push_str(", ")?;
+    push_capacity(answer, session.decoder().table())
+}
+
+/// Appends the capacity of a table, and its maximum.
+fn push_capacity(answer: &mut String, table: &DynamicTable) -> Result<()> {
+    Ok(write!(answer, "{} of {}", table.max_mem_size(), table.agreed_max())?)
+}
+
+/// Appends the outcomes of a session's run, and the capacity then; or why it is refused.
+fn push_session_run(
+    alloc: Global,
+    words: &mut Words<'_>,
+    events: &[Event],
+    answer: &mut String,
+) -> Result<()> {
+    let (capacity, limit) = (words.count()?, words.count()?);
+    match run(alloc, capacity, limit, events) {
+        Ok((session, outcomes)) => push_outcomes(answer, &session, &outcomes),
+        Err(error) => session::push_refused(answer, &error),
+    }
+}
+
+/// Appends the outcomes of a session, and its capacity.
+fn push_outcomes(answer: &mut String, session: &Session, outcomes: &[Outcome]) -> Result<()> {
+    for outcome in outcomes {
+        session::push_outcome(answer, outcome)?;
+        answer.push_str("; ")?;
+    }
+    push_capacity(answer, session.encoder().table())
+}
+
+/// Appends the outcomes of a connection's run, and the capacity then; or why it is refused.
+fn push_connection_run(
+    alloc: Global,
+    words: &mut Words<'_>,
+    events: Vec<ends::Event>,
+    answer: &mut String,
+) -> Result<()> {
+    let settings = connection::read_settings(words)?;
+    match ends::run(alloc, settings, events) {
+        Ok((connection, outcomes)) => push_connection(answer, &connection, &outcomes),
+        Err(error) => session::push_refused(answer, &error),
+    }
+}
+
+/// Appends the outcomes of a connection, and its capacity.
+fn push_connection(
+    answer: &mut String,
+    connection: &ends::Connection,
+    outcomes: &[ends::Outcome],
+) -> Result<()> {
+    for outcome in outcomes {
+        connection::push_outcome(answer, outcome)?;
+        answer.push_str("; ")?;
+    }
+    push_capacity(answer, connection.encoder().table())
+}
+
+/// Appends, for each of the outcomes of a session's run, how many of them equal it.
+fn push_equal_outcomes(
+    alloc: Global,
+    words: &mut Words<'_>,
+    events: &[Event],
+    answer: &mut String,
+) -> Result<()> {
+    let (_, outcomes) = run(alloc, words.count()?, words.count()?, events)?;
+    push_equals(answer, &outcomes)
+}
+
+/// Appends, for each of the items, how many of them equal it.
+fn push_equals<T: PartialEq>(answer: &mut String, items: &[T]) -> Result<()> {
+    for item in items {
+        let equal = items.iter().filter(|other| *other == item).count();
+        write!(answer, "{equal}")?;
+    }
+    Ok(())
+}
