@@ -51,8 +51,8 @@ static times run_ours(size_t capacity) {
   h3_qpack_encoder e;
   h3_qpack_decoder d;
   times t = {{0}, 0};
-  CHECK(!h3_qpack_encoder_new_with(&e, capacity, 100, capacity, 1000));
-  CHECK(!h3_qpack_decoder_new(&d, capacity, 100, 1 << 20));
+  CHECK(!new_encoder(&e, capacity, 100));
+  CHECK(!new_decoder(&d, capacity, 100, 1 << 20));
   for (size_t i = 0; i < nlists; i++) {
     if (i == filling) t = (times){{0}, 0};
     double since = now();
@@ -173,7 +173,7 @@ static void time_boundary(int rounds) {
   h3_qpack_encoder e;
   h3_qpack_decoder d;
   double read = 1e18, field = 1e18;
-  CHECK(!h3_qpack_encoder_new(&e, 0, 0) && !h3_qpack_decoder_new(&d, 0, 0, 0));
+  CHECK(!new_encoder(&e, 0, 0) && !new_decoder(&d, 0, 0, 0));
   for (int r = 0; r < rounds; r++) {
     double t0 = now();
     for (int i = 0; i < 10000; i++) h3_qpack_encoder_read_decoder(&e, NULL, 0);

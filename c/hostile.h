@@ -219,14 +219,19 @@ static inline field field_of_place(uint64_t place) {
 static uint8_t section[1 << 12], stream[1 << 20];
 
 static inline void open_encoder(h3_qpack_encoder *e, size_t capacity, size_t blocked, size_t unacknowledged) {
-  CHECK(!h3_qpack_encoder_new_with(e, capacity, blocked, capacity, unacknowledged));
+  h3_qpack_encoder_settings settings;
+  h3_qpack_encoder_settings_default(&settings);
+  settings.max_capacity = settings.capacity = capacity;
+  settings.max_blocked = blocked;
+  settings.most_unacknowledged = unacknowledged;
+  CHECK(!h3_qpack_encoder_new(e, &settings));
 }
 
 /* A decoder whose peer set the greatest capacity. */
 static inline void open_decoder(h3_qpack_decoder *d, size_t capacity, size_t blocked, uint64_t limit) {
   bytes b = {NULL, 0, 0};
   put_int(&b, 0x20, 5, capacity);
-  CHECK(!h3_qpack_decoder_new(d, capacity, blocked, limit));
+  CHECK(!new_decoder(d, capacity, blocked, limit));
   CHECK(h3_qpack_decoder_read_encoder(d, b.at, b.len).status == H3_QPACK_OK);
   drop(&b);
 }

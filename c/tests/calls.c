@@ -9,6 +9,58 @@ static const h3_qpack_nv get = {(const uint8_t *)":method", 7, (const uint8_t *)
 static const h3_qpack_nv custom = {(const uint8_t *)"foo", 3, (const uint8_t *)"bar", 3, 0};
 static const h3_qpack_nv secret = {(const uint8_t *)"foo", 3, (const uint8_t *)"bar", 3, H3_QPACK_NV_FLAG_NEVER_INDEX};
 
+/* A caller of the version that the library has, which is this header's, and callers of others. */
+static void compare_versions(void) {
+  static const uint32_t others[] = {0, H3_QPACK_VERSION - 1, H3_QPACK_VERSION + 1, H3_QPACK_VERSION + 0x10000, UINT32_MAX};
+  h3_qpack_encoder_settings es, es_before;
+  h3_qpack_decoder_settings ds, ds_before;
+  CHECK(h3_qpack_version() == H3_QPACK_VERSION && H3_QPACK_VERSION == 65536);
+  memset(&es_before, 0, sizeof es);
+  memset(&ds_before, 0, sizeof ds);
+  for (size_t i = 0; i < sizeof others / sizeof *others; i++) {
+    h3_qpack_encoder e = {&es};
+    h3_qpack_decoder d = {&ds};
+    es = es_before;
+    ds = ds_before;
+    h3_qpack_encoder_settings_default_versioned(others[i], &es);
+    h3_qpack_decoder_settings_default_versioned(others[i], &ds);
+    CHECK(!memcmp(&es, &es_before, sizeof es) && !memcmp(&ds, &ds_before, sizeof ds));
+    CHECK(h3_qpack_encoder_new_versioned(&e, others[i], &es) == H3_QPACK_ERR_VERSION && !e.at);
+    CHECK(h3_qpack_decoder_new_versioned(&d, others[i], &ds) == H3_QPACK_ERR_VERSION && !d.at);
+  }
+}
+
+/* The defaults, and that each setting of an encoder is what it says. Those of a decoder are in the cases below. */
+static void use_settings(void) {
+  h3_qpack_encoder_settings es;
+  h3_qpack_decoder_settings ds;
+  h3_qpack_encoder e;
+  static const h3_qpack_nv insert = {(const uint8_t *)"foo", 3, (const uint8_t *)"bar", 3, H3_QPACK_NV_FLAG_INSERT};
+  h3_qpack_encoder_settings_default(NULL);
+  h3_qpack_decoder_settings_default(NULL);
+  h3_qpack_encoder_settings_default(&es);
+  h3_qpack_decoder_settings_default(&ds);
+  CHECK(!es.max_capacity && !es.max_blocked && es.capacity == 4096 && es.most_unacknowledged == 1000);
+  CHECK(!ds.max_capacity && !ds.max_blocked && ds.max_section_size == 65536);
+  es.max_capacity = 200;
+  es.max_blocked = 3;
+  es.capacity = 100;
+  es.most_unacknowledged = 2;
+  CHECK(!h3_qpack_encoder_new(&e, &es));
+  for (uint64_t id = 0; id < 3; id++) /* the third section would be one unacknowledged too many */
+    CHECK(h3_qpack_encoder_encode(&e, id, &insert, 1, section, sizeof section).required == (id < 2));
+  CHECK(h3_qpack_encoder_write_encoder(&e, stream, 2) == 2 && !memcmp(stream, "\x3f\x45", 2)); /* 100 bytes */
+  CHECK(h3_qpack_encoder_set_capacity(&e, 201) == H3_QPACK_ERR_INVALID && !h3_qpack_encoder_set_capacity(&e, 200));
+  h3_qpack_encoder_del(&e);
+  es.max_blocked = 1;
+  es.most_unacknowledged = 3;
+  CHECK(!h3_qpack_encoder_new(&e, &es));
+  for (uint64_t id = 0; id < 2; id++) /* the second section would be one blocked too many */
+    CHECK(h3_qpack_encoder_encode(&e, id, &insert, 1, section, sizeof section).required == (id < 1));
+  CHECK(h3_qpack_encoder_get_num_blocked(&e) == 1);
+  h3_qpack_encoder_del(&e);
+}
+
 /* Null ends, null memory with a length, and lengths that are too great; null with a length of 0 is taken. */
 static void refuse_arguments(void) {
   h3_qpack_encoder none = {NULL}, e;
@@ -16,11 +68,12 @@ static void refuse_arguments(void) {
   size_t much = (size_t)PTRDIFF_MAX + 1;
   h3_qpack_nv null_name = {NULL, 0, (const uint8_t *)"", 0, 0};
   uint64_t id = 7;
-  CHECK(h3_qpack_encoder_new(NULL, 0, 0) == H3_QPACK_ERR_INVALID);
-  CHECK(h3_qpack_decoder_new(NULL, 0, 0, 0) == H3_QPACK_ERR_INVALID);
-  CHECK(h3_qpack_encoder_new(&e, (size_t)1 << 30, 0) == H3_QPACK_ERR_INVALID && !e.at);
-  CHECK(h3_qpack_decoder_new(&d, (size_t)1 << 30, 0, 0) == H3_QPACK_ERR_INVALID && !d.at);
-  CHECK(h3_qpack_decoder_new(&d, 0, 65535, 0) == H3_QPACK_ERR_INVALID && !d.at);
+  CHECK(new_encoder(NULL, 0, 0) == H3_QPACK_ERR_INVALID && new_decoder(NULL, 0, 0, 0) == H3_QPACK_ERR_INVALID);
+  CHECK(h3_qpack_encoder_new(&e, NULL) == H3_QPACK_ERR_INVALID && !e.at);
+  CHECK(h3_qpack_decoder_new(&d, NULL) == H3_QPACK_ERR_INVALID && !d.at);
+  CHECK(new_encoder(&e, (size_t)1 << 30, 0) == H3_QPACK_ERR_INVALID && !e.at);
+  CHECK(new_decoder(&d, (size_t)1 << 30, 0, 0) == H3_QPACK_ERR_INVALID && !d.at);
+  CHECK(new_decoder(&d, 0, 65535, 0) == H3_QPACK_ERR_INVALID && !d.at);
   CHECK(h3_qpack_encoder_encode(&none, 0, &get, 1, section, 9).status == H3_QPACK_ERR_INVALID);
   CHECK(h3_qpack_encoder_section(NULL, section, 9).status == H3_QPACK_ERR_INVALID);
   CHECK(h3_qpack_encoder_read_decoder(&none, NULL, 0).status == H3_QPACK_ERR_INVALID);
@@ -39,7 +92,7 @@ static void refuse_arguments(void) {
   h3_qpack_decoder_del(NULL);
   h3_qpack_decoder_del(&nothing);
 
-  CHECK(!h3_qpack_encoder_new(&e, 4096, 1) && !h3_qpack_decoder_new(&d, 4096, 1, 100));
+  CHECK(!new_encoder(&e, 4096, 1) && !new_decoder(&d, 4096, 1, 100));
   CHECK(h3_qpack_encoder_encode(&e, 0, NULL, 1, section, 9).status == H3_QPACK_ERR_INVALID);
   CHECK(h3_qpack_encoder_encode(&e, 0, &null_name, 1, section, 9).status == H3_QPACK_ERR_INVALID);
   CHECK(h3_qpack_encoder_encode(&e, 0, &get, 1, NULL, 1).status == H3_QPACK_ERR_INVALID);
@@ -74,7 +127,7 @@ static void refuse_arguments(void) {
 static void ask_for_room(void) {
   h3_qpack_encoder e;
   h3_qpack_decoder d;
-  CHECK(!h3_qpack_encoder_new(&e, 0, 0) && !h3_qpack_decoder_new(&d, 0, 0, 100));
+  CHECK(!new_encoder(&e, 0, 0) && !new_decoder(&d, 0, 0, 100));
   memset(section, 0xee, 4);
   h3_qpack_encoded a = h3_qpack_encoder_encode(&e, 0, &get, 1, section, 2);
   CHECK(a.status == H3_QPACK_ERR_NO_ROOM && a.len == 3 && !a.required && section[0] == 0xee && section[1] == 0xee);
@@ -132,26 +185,29 @@ static void decode_alone(void) {
 static void end_connections(void) {
   h3_qpack_encoder e;
   h3_qpack_decoder d;
-  CHECK(!h3_qpack_encoder_new(&e, 4096, 1));
+  CHECK(!new_encoder(&e, 4096, 1));
   h3_qpack_received r = h3_qpack_encoder_read_decoder(&e, (const uint8_t *)"\x44\x84", 2);
   CHECK(r.status == H3_QPACK_DECODER_STREAM_ERROR && r.number == 2 && r.offset == 1);
   CHECK(h3_qpack_encoder_encode(&e, 0, &get, 1, section, 9).status == H3_QPACK_DECODER_STREAM_ERROR);
   CHECK(h3_qpack_encoder_set_capacity(&e, 0) == H3_QPACK_DECODER_STREAM_ERROR);
   h3_qpack_encoder_del(&e);
-  CHECK(!h3_qpack_decoder_new(&d, 4096, 1, 100));
+  CHECK(!new_decoder(&d, 4096, 1, 100));
   r = h3_qpack_decoder_read_encoder(&d, (const uint8_t *)"\x3f\xe1\x1f\x02", 4);
   CHECK(r.status == H3_QPACK_ENCODER_STREAM_ERROR && r.number == 2 && r.offset == 3);
   CHECK(h3_qpack_decoder_decode(&d, 0, (const uint8_t *)"\0\0\xd1", 3).status == H3_QPACK_ENCODER_STREAM_ERROR);
   CHECK(h3_qpack_decoder_cancel_stream(&d, 0) == H3_QPACK_ENCODER_STREAM_ERROR);
   h3_qpack_decoder_del(&d);
-  CHECK(!h3_qpack_decoder_new(&d, 4096, 1, 100));
+  CHECK(!new_decoder(&d, 4096, 1, 100));
   h3_qpack_decoded a = h3_qpack_decoder_decode(&d, 0, (const uint8_t *)"\0\0\xd1\xff\x3f", 5);
   CHECK(a.status == H3_QPACK_DECOMPRESSION_FAILED && a.number == 2 && a.offset == 3 && !a.fields);
   h3_qpack_decoder_del(&d);
-  CHECK(!h3_qpack_decoder_new(&d, 4096, 1, 50));
-  CHECK(h3_qpack_decoder_decode(&d, 0, (const uint8_t *)"\0\0\xd1\xd1", 4).status == H3_QPACK_ERR_TOO_LARGE);
-  CHECK(h3_qpack_decoder_decode(&d, 0, (const uint8_t *)"\0\0\xd1", 3).status == H3_QPACK_OK);
-  h3_qpack_decoder_del(&d);
+  for (uint64_t limit = 83; limit < 85; limit++) { /* two fields of 42 bytes each are 84 */
+    CHECK(!new_decoder(&d, 4096, 1, limit));
+    a = h3_qpack_decoder_decode(&d, 0, (const uint8_t *)"\0\0\xd1\xd1", 4);
+    CHECK(a.status == (limit < 84 ? H3_QPACK_ERR_TOO_LARGE : H3_QPACK_OK));
+    CHECK(h3_qpack_decoder_decode(&d, 0, (const uint8_t *)"\0\0\xd1", 3).status == H3_QPACK_OK);
+    h3_qpack_decoder_del(&d);
+  }
 }
 
 /* A section that waits, one that would be one too many, and a stream that is given up. */
@@ -159,7 +215,7 @@ static void wait_for_insertions(void) {
   h3_qpack_encoder e;
   h3_qpack_decoder d;
   uint64_t id = 0;
-  CHECK(!h3_qpack_encoder_new(&e, 4096, 2) && !h3_qpack_decoder_new(&d, 4096, 1, 100));
+  CHECK(!new_encoder(&e, 4096, 2) && !new_decoder(&d, 4096, 1, 100));
   h3_qpack_encoded a = h3_qpack_encoder_encode(&e, 4, &custom, 1, section, sizeof section);
   CHECK(a.status == H3_QPACK_OK && a.required == 1 && h3_qpack_encoder_get_num_blocked(&e) == 1);
   size_t len = h3_qpack_encoder_get_encoder_streamlen(&e);
@@ -196,7 +252,7 @@ static void *run_connection(void *rounds) {
   for (int round = 0; round < *(int *)rounds; round++) {
     h3_qpack_encoder e;
     h3_qpack_decoder d;
-    CHECK(!h3_qpack_encoder_new(&e, 4096, 100) && !h3_qpack_decoder_new(&d, 4096, 100, 1 << 20));
+    CHECK(!new_encoder(&e, 4096, 100) && !new_decoder(&d, 4096, 100, 1 << 20));
     for (size_t i = 0; i < nlists; i++) {
       h3_qpack_encoded a = h3_qpack_encoder_encode(&e, 4 * i, lists[i].nv, lists[i].len, own, sizeof own);
       CHECK(a.status == H3_QPACK_OK);
@@ -214,12 +270,35 @@ static void *run_connection(void *rounds) {
   return NULL;
 }
 
+/* A call that is refused for an argument keeps what the call before it left: the section, and the fields. */
+static void keep_results(void) {
+  h3_qpack_encoder e;
+  h3_qpack_decoder d;
+  uint8_t again[16];
+  const uint64_t no_stream = (uint64_t)1 << 62;
+  CHECK(!new_encoder(&e, 4096, 1) && !new_decoder(&d, 4096, 1, 100));
+  h3_qpack_encoded a = h3_qpack_encoder_encode(&e, 0, &get, 1, section, 16);
+  CHECK(a.status == H3_QPACK_OK && a.len == 3);
+  CHECK(h3_qpack_encoder_encode(&e, no_stream, &get, 1, again, sizeof again).status == H3_QPACK_ERR_INVALID);
+  CHECK(h3_qpack_encoder_encode(&e, 0, NULL, 1, again, sizeof again).status == H3_QPACK_ERR_INVALID);
+  h3_qpack_written w = h3_qpack_encoder_section(&e, again, sizeof again);
+  CHECK(w.status == H3_QPACK_OK && w.len == a.len && !memcmp(again, section, w.len));
+  CHECK(h3_qpack_decoder_decode(&d, 0, section, a.len).status == H3_QPACK_OK);
+  CHECK(h3_qpack_decoder_decode(&d, no_stream, section, a.len).status == H3_QPACK_ERR_INVALID);
+  CHECK(h3_qpack_decoder_decode(&d, 0, NULL, 1).status == H3_QPACK_ERR_INVALID);
+  check_fields(&d, &get, 1);
+  h3_qpack_encoder_del(&e);
+  h3_qpack_decoder_del(&d);
+}
+
 int main(int argc, char **argv) {
   CHECK(argc == 2);
   read_corpus(argv[1], 0);
   add_random_lists(50);
-  CHECK(h3_qpack_version() == 65536);
+  compare_versions();
+  use_settings();
   refuse_arguments();
+  keep_results();
   ask_for_room();
   decode_alone();
   end_connections();

@@ -126,6 +126,26 @@ static inline void free_lists(void) {
   nlists = nfields = 0;
 }
 
+/* Makes an encoder for a peer of these settings, whose table is as large as they allow. Returns the status. */
+static inline int new_encoder(h3_qpack_encoder *e, uint64_t max_capacity, uint64_t max_blocked) {
+  h3_qpack_encoder_settings settings;
+  h3_qpack_encoder_settings_default(&settings);
+  settings.max_capacity = settings.capacity = max_capacity;
+  settings.max_blocked = max_blocked;
+  return h3_qpack_encoder_new(e, &settings);
+}
+
+/* Makes a decoder of these settings. Returns the status. */
+static inline int new_decoder(h3_qpack_decoder *d, uint64_t max_capacity, uint64_t max_blocked,
+                              uint64_t max_section_size) {
+  h3_qpack_decoder_settings settings;
+  h3_qpack_decoder_settings_default(&settings);
+  settings.max_capacity = max_capacity;
+  settings.max_blocked = max_blocked;
+  settings.max_section_size = max_section_size;
+  return h3_qpack_decoder_new(d, &settings);
+}
+
 /* A field of a decoder is this one. */
 static inline void check_field(h3_qpack_decoder *d, size_t index, const h3_qpack_nv *nv) {
   static _Thread_local uint8_t bytes[1 << 16];
@@ -165,6 +185,39 @@ static inline void check_fields(h3_qpack_decoder *d, const h3_qpack_nv *nva, siz
     CHECK(few.status == H3_QPACK_ERR_NO_ROOM && few.len == w.len);
   }
   if (w.len) CHECK(h3_qpack_decoder_fields(d, fields, nvlen, text, w.len - 1).status == H3_QPACK_ERR_NO_ROOM);
+}
+
+/* Reads a section with nghttp3, and compares its fields with a list. Returns 0 where the section waits. */
+static inline int read_theirs(nghttp3_qpack_decoder *d, int64_t stream_id, const list *l, const uint8_t *p,
+                              size_t len) {
+  nghttp3_qpack_stream_context *context;
+  CHECK(!nghttp3_qpack_stream_context_new(&context, stream_id, nghttp3_mem_default()));
+  size_t k = 0;
+  for (;;) {
+    nghttp3_qpack_nv nv;
+    uint8_t flags;
+    nghttp3_ssize taken = nghttp3_qpack_decoder_read_request(d, context, &nv, &flags, p, len, 1);
+    CHECK(taken >= 0);
+    p += taken;
+    len -= (size_t)taken;
+    if (flags & NGHTTP3_QPACK_DECODE_FLAG_BLOCKED) {
+      nghttp3_qpack_stream_context_del(context);
+      return 0;
+    }
+    if (flags & NGHTTP3_QPACK_DECODE_FLAG_EMIT) {
+      const h3_qpack_nv *ours = &l->nv[k++];
+      nghttp3_vec name = nghttp3_rcbuf_get_buf(nv.name), value = nghttp3_rcbuf_get_buf(nv.value);
+      CHECK(k <= l->len && name.len == ours->namelen && !memcmp(name.base, ours->name, name.len));
+      CHECK(value.len == ours->valuelen && !memcmp(value.base, ours->value, value.len));
+      CHECK(!(nv.flags & NGHTTP3_NV_FLAG_NEVER_INDEX) == !ours->flags);
+      nghttp3_rcbuf_decref(nv.name);
+      nghttp3_rcbuf_decref(nv.value);
+    }
+    if (flags & NGHTTP3_QPACK_DECODE_FLAG_FINAL) break;
+  }
+  CHECK(k == l->len);
+  nghttp3_qpack_stream_context_del(context);
+  return 1;
 }
 
 #endif

@@ -256,13 +256,13 @@ static inline void begin(side *x, int is_client, size_t capacity, size_t blocked
   free(own.p);
   append_number(&x->out[is_client ? 6 : 7], 0x02);
   append_number(&x->out[is_client ? 10 : 11], 0x03);
-  CHECK(!h3_qpack_decoder_new(&x->decoder, capacity, blocked, 1 << 20));
+  CHECK(!new_decoder(&x->decoder, capacity, blocked, 1 << 20));
 }
 
 /* The encoder, from the settings that the peer sent. */
 static inline void make_encoder(side *x) {
   CHECK(x->peer_capacity == x->capacity && x->peer_blocked == x->blocked);
-  CHECK(!h3_qpack_encoder_new_with(&x->encoder, x->peer_capacity, x->peer_blocked, x->capacity, 1000));
+  CHECK(!new_encoder(&x->encoder, x->peer_capacity, x->peer_blocked));
 }
 
 /* Every request was answered, or given up, and nothing waits. */

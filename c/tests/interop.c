@@ -61,7 +61,7 @@ static void theirs_to_ours(size_t capacity, size_t limit, int late) {
   CHECK(waiting && !nghttp3_qpack_encoder_new(&e, capacity, mem));
   nghttp3_qpack_encoder_set_max_blocked_streams(e, limit);
   nghttp3_qpack_encoder_set_max_dtable_capacity(e, capacity);
-  CHECK(!h3_qpack_decoder_new(&d, capacity, limit, 1 << 20));
+  CHECK(!new_decoder(&d, capacity, limit, 1 << 20));
   nghttp3_buf_init(&prefix);
   nghttp3_buf_init(&lines);
   nghttp3_buf_init(&instructions);
@@ -109,36 +109,10 @@ static void theirs_to_ours(size_t capacity, size_t limit, int late) {
   free(waiting);
 }
 
-/* Reads a section with nghttp3, and answers whether it did not wait. */
-static int read_theirs(nghttp3_qpack_decoder *d, size_t i, const uint8_t *p, size_t len) {
-  nghttp3_qpack_stream_context *context;
-  CHECK(!nghttp3_qpack_stream_context_new(&context, (int64_t)(4 * i), nghttp3_mem_default()));
-  size_t k = 0;
-  for (;;) {
-    nghttp3_qpack_nv nv;
-    uint8_t flags;
-    nghttp3_ssize taken = nghttp3_qpack_decoder_read_request(d, context, &nv, &flags, p, len, 1);
-    CHECK(taken >= 0);
-    p += taken;
-    len -= (size_t)taken;
-    if (flags & NGHTTP3_QPACK_DECODE_FLAG_BLOCKED) {
-      nghttp3_qpack_stream_context_del(context);
-      return 0;
-    }
-    if (flags & NGHTTP3_QPACK_DECODE_FLAG_EMIT) {
-      const h3_qpack_nv *ours = &lists[i].nv[k++];
-      nghttp3_vec name = nghttp3_rcbuf_get_buf(nv.name), value = nghttp3_rcbuf_get_buf(nv.value);
-      CHECK(k <= lists[i].len && name.len == ours->namelen && !memcmp(name.base, ours->name, name.len));
-      CHECK(value.len == ours->valuelen && !memcmp(value.base, ours->value, value.len));
-      CHECK(!(nv.flags & NGHTTP3_NV_FLAG_NEVER_INDEX) == !ours->flags);
-      nghttp3_rcbuf_decref(nv.name);
-      nghttp3_rcbuf_decref(nv.value);
-    }
-    if (flags & NGHTTP3_QPACK_DECODE_FLAG_FINAL) break;
-  }
-  CHECK(k == lists[i].len);
+/* Reads the section of a list with nghttp3. Returns whether it did not wait. */
+static int read_list(nghttp3_qpack_decoder *d, size_t i, const uint8_t *p, size_t len) {
+  if (!read_theirs(d, (int64_t)(4 * i), &lists[i], p, len)) return 0;
   sections++;
-  nghttp3_qpack_stream_context_del(context);
   return 1;
 }
 
@@ -148,7 +122,7 @@ static void ours_to_theirs(size_t capacity, size_t limit, int late) {
   h3_qpack_encoder e;
   CHECK(!nghttp3_qpack_decoder_new(&d, capacity, limit, nghttp3_mem_default()));
   nghttp3_qpack_decoder_set_max_concurrent_streams(d, 10000);
-  CHECK(!h3_qpack_encoder_new_with(&e, capacity, limit, capacity, 1000));
+  CHECK(!new_encoder(&e, capacity, limit));
   kept *waiting = calloc(nlists, sizeof *waiting);
   CHECK(waiting);
   for (size_t i = 0; i < nlists; i++) {
@@ -159,7 +133,7 @@ static void ours_to_theirs(size_t capacity, size_t limit, int late) {
     else CHECK(a.status == H3_QPACK_OK);
     CHECK(h3_qpack_encoder_get_num_blocked(&e) <= limit || !a.required);
     dynamic += a.required > 0;
-    if (late && !read_theirs(d, i, section, a.len)) {
+    if (late && !read_list(d, i, section, a.len)) {
       waited++;
       waiting[i].bytes = copy_of(section, a.len);
       waiting[i].len = a.len;
@@ -169,13 +143,13 @@ static void ours_to_theirs(size_t capacity, size_t limit, int late) {
       CHECK(nghttp3_qpack_decoder_read_encoder(d, stream, len) == (nghttp3_ssize)len);
       encoder_bytes += len;
     }
-    if (!late) CHECK(read_theirs(d, i, section, a.len));
+    if (!late) CHECK(read_list(d, i, section, a.len));
     for (size_t k = 0; k <= i; k++)
       if (waiting[k].bytes) {
         if (!random_below(5)) {
           CHECK(!nghttp3_qpack_decoder_cancel_stream(d, (int64_t)(4 * k)));
           cancelled++;
-        } else CHECK(read_theirs(d, k, waiting[k].bytes, waiting[k].len));
+        } else CHECK(read_list(d, k, waiting[k].bytes, waiting[k].len));
         free(waiting[k].bytes);
         waiting[k].bytes = NULL;
       }

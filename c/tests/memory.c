@@ -80,10 +80,10 @@ static int run_connection(long number) {
   uint8_t section[1 << 12];
   int status;
   granted = number;
-  do status = h3_qpack_encoder_new(&e, 4096, 100);
+  do status = new_encoder(&e, 4096, 100);
   while (is_short(status));
   CHECK(status == H3_QPACK_OK);
-  do status = h3_qpack_decoder_new(&d, 4096, 100, 1 << 20);
+  do status = new_decoder(&d, 4096, 100, 1 << 20);
   while (is_short(status));
   CHECK(status == H3_QPACK_OK);
   for (size_t i = 0; i < LISTS; i++) send_list(&e, &d, i);

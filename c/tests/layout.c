@@ -1,0 +1,71 @@
+/* Prints the structs of h3_qpack.h as c/tests/layout.txt has them: a row for each struct, with "-" and its size, and a
+ * row for each of its fields, with its offset and its size in bytes. */
+#include <stdio.h>
+#include "h3_qpack.h"
+
+#define SIZE(s) printf("%s - 0 %zu\n", #s, sizeof(s))
+#define FIELD(s, f) printf("%s %s %zu %zu\n", #s, #f, offsetof(s, f), sizeof((s *)0)->f)
+
+static void print_arguments(void) {
+  SIZE(h3_qpack_nv);
+  FIELD(h3_qpack_nv, name);
+  FIELD(h3_qpack_nv, namelen);
+  FIELD(h3_qpack_nv, value);
+  FIELD(h3_qpack_nv, valuelen);
+  FIELD(h3_qpack_nv, flags);
+  SIZE(h3_qpack_encoder);
+  FIELD(h3_qpack_encoder, at);
+  SIZE(h3_qpack_decoder);
+  FIELD(h3_qpack_decoder, at);
+}
+
+static void print_results(void) {
+  SIZE(h3_qpack_field);
+  FIELD(h3_qpack_field, status);
+  FIELD(h3_qpack_field, flags);
+  FIELD(h3_qpack_field, namelen);
+  FIELD(h3_qpack_field, valuelen);
+  SIZE(h3_qpack_encoded);
+  FIELD(h3_qpack_encoded, status);
+  FIELD(h3_qpack_encoded, len);
+  FIELD(h3_qpack_encoded, required);
+  SIZE(h3_qpack_written);
+  FIELD(h3_qpack_written, status);
+  FIELD(h3_qpack_written, len);
+  SIZE(h3_qpack_received);
+  FIELD(h3_qpack_received, status);
+  FIELD(h3_qpack_received, taken);
+  FIELD(h3_qpack_received, number);
+  FIELD(h3_qpack_received, offset);
+  SIZE(h3_qpack_decoded_alone);
+  FIELD(h3_qpack_decoded_alone, status);
+  FIELD(h3_qpack_decoded_alone, fields);
+  FIELD(h3_qpack_decoded_alone, len);
+  FIELD(h3_qpack_decoded_alone, number);
+  FIELD(h3_qpack_decoded_alone, offset);
+  SIZE(h3_qpack_decoded);
+  FIELD(h3_qpack_decoded, status);
+  FIELD(h3_qpack_decoded, fields);
+  FIELD(h3_qpack_decoded, required);
+  FIELD(h3_qpack_decoded, number);
+  FIELD(h3_qpack_decoded, offset);
+}
+
+static void print_settings(void) {
+  SIZE(h3_qpack_encoder_settings);
+  FIELD(h3_qpack_encoder_settings, max_capacity);
+  FIELD(h3_qpack_encoder_settings, max_blocked);
+  FIELD(h3_qpack_encoder_settings, capacity);
+  FIELD(h3_qpack_encoder_settings, most_unacknowledged);
+  SIZE(h3_qpack_decoder_settings);
+  FIELD(h3_qpack_decoder_settings, max_capacity);
+  FIELD(h3_qpack_decoder_settings, max_blocked);
+  FIELD(h3_qpack_decoder_settings, max_section_size);
+}
+
+int main(void) {
+  print_arguments();
+  print_results();
+  print_settings();
+  return 0;
+}
