@@ -1,8 +1,7 @@
 #!/usr/bin/env bash
 # bench_h3.sh H3_SRC ROUNDS: the stateless pair of this crate beside h3's own, and beside nghttp3. H3_SRC is the folder
 # src of the crate h3 0.0.8, of which the module qpack with proto/coding.rs and proto/varint.rs is copied to a folder that
-# is removed at the end. It needs the crate bytes, from Debian's librust-bytes-dev, nghttp3, from libnghttp3-dev, and the
-# archive, as the crate does.
+# is removed at the end. It needs the crate bytes, from Debian's librust-bytes-dev, and nghttp3, from libnghttp3-dev.
 set -euo pipefail
 [ $# = 2 ] || { echo "usage: bench_h3.sh H3_SRC ROUNDS" >&2; exit 2; }
 sources=$(cd "$1" && pwd)

@@ -1,9 +1,10 @@
 #!/usr/bin/env bash
-# Tests the Rust crate. It needs cargo and rustc, 1.63 or later, make and a C linker (Debian: cargo, rustc, make and
-# gcc), and installs by apt-get what is not there, which only root can; where they can't be had nothing is tested, and
-# that is a failure. No other crate is wanted, and no network. The archive is made by rt lib and make -C c. valgrind and
-# clippy are used where they are there, and quic/run.sh is run where it can be. Ends in a line of what passed, with a
-# status that is not 0 if something failed.
+# Tests the Rust crate: over the library that c/check.sh tests; then over the assembly that the crate includes, if that was
+# generated from the sources as they are, and the package of it, from an empty folder. It needs cargo and rustc, 1.63 or
+# later, make and a C linker (Debian: cargo, rustc, make and gcc), and installs by apt-get what is not there, which only
+# root can; where they can't be had nothing is tested, and that is a failure. No other crate is wanted, and no network.
+# valgrind and clippy are used where they are there, and quic/run.sh is run where it can be. Ends in a line of what passed,
+# with a status that is not 0 if something failed.
 set -euo pipefail
 cd "$(dirname "$0")"
 script=rust/check.sh
@@ -37,9 +38,39 @@ check_memory() {
     [ "$programs" -gt 0 ] || { echo "rust/check.sh: cargo named no program" >&2; exit 1; }
 }
 
-# Adds the tests that passed, as cargo told them.
-count_tests() {
-    tests=$((tests + $(awk '/^test result: ok/ { sum += $4 } END { print sum + 0 }' "$room/told")))
+# Runs the tests of the crate in this folder, and adds those that passed to $tests. There must be some.
+run_tests() {
+    local kind before=$tests
+    for kind in --all-targets --doc; do
+        run cargo test --offline "$kind"
+        tests=$((tests + $(awk '/^test result: ok/ { sum += $4 } END { print sum + 0 }' "$room/told")))
+    done
+    [ "$tests" -gt "$before" ] || { echo "rust/check.sh: cargo ran no test" >&2; exit 1; }
+}
+
+# Has clippy look at the crate, if it is there.
+lint() {
+    ! cargo clippy --version >/dev/null 2>&1 || run cargo clippy --offline --all-targets -- -D warnings
+}
+
+# Whether H3_QPACK_LIB has its archive linked, and not the assembly: over an empty archive nothing can be linked.
+check_choice() {
+    mkdir "$room/empty"
+    ar rc "$room/empty/libh3_qpack.a"
+    ! H3_QPACK_LIB=$room/empty cargo build --offline --example stateless >"$room/linked" 2>&1 &&
+        grep 'undefined .*h3q_' "$room/linked"
+}
+
+# Tests the crate over the assembly that it includes, with the linker's optimizations too, which put all assembly in one
+# file; and its package, from a folder that has nothing else.
+test_assembly() {
+    unset H3_QPACK_LIB
+    run_tests
+    lint
+    run env CARGO_PROFILE_RELEASE_LTO=fat cargo run --offline -q --release --example connection
+    run cargo package --offline --allow-dirty --no-verify
+    tar -C "$room" -xzf "$CARGO_TARGET_DIR"/package/h3_qpack-*.crate
+    (cd "$room"/h3_qpack-* && CARGO_TARGET_DIR=$room/packaged run cargo test --offline --tests)
 }
 
 room=$(mktemp -d)
@@ -47,16 +78,14 @@ trap 'rm -rf "$room"' EXIT
 tests=0
 programs=0
 install_packages $(list_wanted) || exit 1
-build_archive
-run make -s -C ../c BUILD="$room/c"
+choose_library
+run make_library BUILD="$room/c"
 export H3_QPACK_LIB=$room/c
 export CARGO_TARGET_DIR=$room/target
 cd h3_qpack
-run cargo test --offline --all-targets
-count_tests
-run cargo test --offline --doc
-count_tests
-[ "$tests" -gt 0 ] || { echo "rust/check.sh: cargo ran no test" >&2; exit 1; }
+run check_choice
+run_tests
+lint
 examples=0
 for example in examples/*.rs; do
     name=$(basename "$example" .rs)
@@ -74,8 +103,12 @@ if ../quic/run.sh --can; then
     run ../quic/run.sh
     with="$with, HTTP/3 over quinn"
 fi
-if cargo clippy --version >/dev/null 2>&1; then
-    run cargo clippy --offline --all-targets -- -D warnings
-    with="$with, and clippy has nothing to say"
+passed="$tests tests and $examples examples passed over $library$with"
+if (cd .. && fits_dist); then
+    tests=0
+    test_assembly
+    passed="$passed; $tests tests over the assembly"
+else
+    passed="$passed; the assembly was generated from other sources, and is not tested"
 fi
-echo "rust/check.sh: $tests tests and $examples examples passed with $(rustc --version | cut -d ' ' -f 1,2)$with"
+echo "rust/check.sh: $passed, with $(rustc --version | cut -d ' ' -f 1,2)"

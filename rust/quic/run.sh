@@ -1,8 +1,7 @@
 #!/usr/bin/env bash
 # HTTP/3 GETs over QUIC on the loopback: builds the program and runs it with a certificate of its own. It needs cargo,
-# openssl, and quinn and tokio as Debian 12 has them (librust-quinn-dev, librust-tokio-dev), and the archive, as the
-# crate does. Ends with status 0 if the GETs were answered; with --can it only tells by its status whether what it needs
-# is there.
+# openssl, and quinn and tokio as Debian 12 has them (librust-quinn-dev, librust-tokio-dev). Ends with status 0 if the GETs
+# were answered; with --can it only tells by its status whether what it needs is there.
 set -euo pipefail
 cd "$(dirname "$0")"
 

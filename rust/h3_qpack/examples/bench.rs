@@ -27,7 +27,7 @@ impl Times {
 
 /// The lists of the corpus: a field a line, its name and its value parted by a TAB, and an empty line behind each list.
 fn read_corpus() -> Outcome<Lists> {
-    let path = Path::new(env!("CARGO_MANIFEST_DIR")).join("../../crates/qpack_recorded/data/corpus.qif");
+    let path = Path::new(env!("CARGO_MANIFEST_DIR")).join("tests/data/corpus.qif");
     let text = std::fs::read_to_string(path)?;
     let field_of = |line: &str| line.split_once('\t').map(HeaderField::from);
     Ok(text.trim_end().split("\n\n").map(|list| list.lines().filter_map(field_of).collect()).collect())

@@ -36,7 +36,7 @@ mod encoder;
 mod error;
 
 pub use crate::copied::Fields;
-pub use crate::field::FieldLine;
+pub use crate::field::{FieldLine, Wish, WishedField};
 pub use decoder::{ConnectionDecoder, DecoderSettings, Reading};
 pub use encoder::{ConnectionEncoder, EncoderSettings};
 pub use error::{

@@ -101,6 +101,51 @@ impl<'a> FieldLine<'a> {
     {
         FieldLine { never_indexed: true, ..FieldLine::new(name, value) }
     }
+
+    /// Returns the field with what you ask the encoder to do for it.
+    ///
+    /// ```
+    /// # use h3_qpack::connection::{ConnectionEncoder, EncoderSettings, FieldLine, Wish};
+    /// let mut encoder = ConnectionEncoder::new(EncoderSettings::new(4096, 16))?;
+    /// let fields = [
+    ///     FieldLine::new("x-tenant", "17").wish(Wish::Insert),
+    ///     FieldLine::new("x-request-id", "9d3f").wish(Wish::Reuse),
+    /// ];
+    /// assert_eq!(encoder.encode(0, fields, &mut Vec::new())?, 1);
+    /// # Ok::<(), Box<dyn std::error::Error>>(())
+    /// ```
+    pub fn wish(self, wish: Wish) -> WishedField<'a> {
+        WishedField { line: self, wish }
+    }
+}
+
+/// What you ask an encoder to do for a field.
+#[derive(Debug, Clone, Copy, PartialEq, Eq, Hash, Default)]
+pub enum Wish {
+    /// Nothing: the encoder chooses.
+    #[default]
+    Unmarked,
+    /// Never index the field: write a literal that says so (RFC 9204, section 7.1.3). Use this for secrets.
+    Never,
+    /// Reference an equal entry, and insert nothing. Use this for values that do not come again.
+    Reuse,
+    /// Insert the field where there is room, unless an entry equals it. Use this for values that come again.
+    Insert,
+}
+
+/// A field for an encoder, with what you ask for it.
+#[derive(Debug, Clone, Copy, PartialEq, Eq, Hash)]
+pub struct WishedField<'a> {
+    /// The field. One that is marked as never indexed stays so, whatever is asked.
+    pub line: FieldLine<'a>,
+    /// What you ask for it.
+    pub wish: Wish,
+}
+
+impl<'a, T: Into<FieldLine<'a>>> From<T> for WishedField<'a> {
+    fn from(field: T) -> WishedField<'a> {
+        field.into().wish(Wish::Unmarked)
+    }
 }
 
 impl<'a> From<&FieldLine<'a>> for FieldLine<'a> {

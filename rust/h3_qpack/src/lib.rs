@@ -5,8 +5,8 @@
 //!   section without a dynamic table;
 //! - [`connection`]: both ends of a connection with its dynamic table and its two instruction streams.
 //!
-//! It wants no other crate. `build.rs` links the archive of the proved library; the file `README.md` in `rust/` tells
-//! how it is made.
+//! It needs no other crate, and compiles no C: rustc assembles the library from text that was generated from its proved
+//! code, on Linux with x86-64 or aarch64. With `H3_QPACK_LIB` in the environment, an archive is linked in its place.
 //!
 //! ```
 //! use h3_qpack::{decode_stateless, encode_stateless, HeaderField};
@@ -22,10 +22,15 @@
 #![deny(missing_docs)]
 #![deny(unsafe_op_in_unsafe_fn)]
 #![deny(unsafe_code)]
+// `h3_qpack_archive` is of build.rs. Before Rust 1.80 it can't be declared without a warning.
+#![allow(unknown_lints, unexpected_cfgs)]
 
 pub mod connection;
 mod copied;
 mod field;
+#[allow(unsafe_code)]
+#[cfg(not(h3_qpack_archive))]
+mod generated;
 mod room;
 mod stateless;
 #[allow(unsafe_code)]
@@ -34,7 +39,7 @@ mod sys;
 pub use field::{HeaderField, ESTIMATED_OVERHEAD_BYTES};
 pub use stateless::{decode_stateless, encode_stateless, Decoded, DecoderError, EncoderError, Error};
 
-/// The version of the archive that is linked: it breaks with the first number, and grows with the second.
+/// The version of the library that is linked: it breaks with the first number, and grows with the second.
 pub fn library_version() -> (u16, u16) {
     let version = sys::version();
     ((version >> 16) as u16, version as u16)

@@ -1,10 +1,10 @@
 //! Field sections without a dynamic table, in the names of h3.
 
-use crate::connection::{FieldLine, Fields, NoMemory, Place, DECOMPRESSION_FAILED, QPACK_DECOMPRESSION_FAILED};
+use crate::connection::{FieldLine, Fields, NoMemory, Place, Wish, DECOMPRESSION_FAILED, QPACK_DECOMPRESSION_FAILED};
 use crate::copied::Copied;
 use crate::room::{copy_of, gather, make_room};
 use crate::sys::{self, Lent};
-use crate::HeaderField;
+use crate::{HeaderField, ESTIMATED_OVERHEAD_BYTES};
 use std::fmt;
 
 /// What [`encode_stateless`] answers where it can't encode.
@@ -129,7 +129,7 @@ where
     let fields = gather(fields.into_iter())?;
     let lent = gather(fields.iter().map(|field| {
         let field = field.as_ref();
-        Lent::new(&field.name, &field.value, false)
+        Lent::new(&field.name, &field.value, Wish::Unmarked)
     }))?;
     let size = fields.iter().map(|field| field.as_ref().mem_size() as u64).sum();
     let mut section = Vec::new();
@@ -183,7 +183,7 @@ pub struct Decoded {
 pub fn decode_stateless<T: AsRef<[u8]> + ?Sized>(buf: &T, max_size: u64) -> Result<Decoded, DecoderError> {
     let section = buf.as_ref();
     let mut copied = Copied::default();
-    let (mut fields, mut bytes) = (section.len() / LINE_LEN + 1, section.len().saturating_mul(2));
+    let (mut fields, mut bytes) = first_room(section.len(), max_size);
     loop {
         copied.make_room(fields, bytes)?;
         let decoded = sys::decode_stateless(section, max_size, &mut copied.told, &mut copied.bytes);
@@ -197,6 +197,14 @@ pub fn decode_stateless<T: AsRef<[u8]> + ?Sized>(buf: &T, max_size: u64) -> Resu
 
 /// How many bytes of a section are taken for a line, where room is made before it is decoded.
 const LINE_LEN: usize = 4;
+
+/// Returns the room that is made before a section of a length is decoded, in fields and in bytes of names and values: no
+/// more than fields within the limit can take.
+fn first_room(len: usize, max_size: u64) -> (usize, usize) {
+    let limit = usize::try_from(max_size).unwrap_or(usize::MAX);
+    let fields = (len / LINE_LEN + 1).min(limit / ESTIMATED_OVERHEAD_BYTES + 1);
+    (fields, len.saturating_mul(2).min(limit))
+}
 
 /// Fields that are lent, owned.
 fn own_fields(lent: Fields<'_>) -> Result<Decoded, DecoderError> {

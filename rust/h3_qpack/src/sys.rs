@@ -7,6 +7,7 @@
 //! - what is lent to be written is lent by `&mut`, so it overlaps nothing else;
 //! - an end is used by one thread at a time, for the ends are `Send` and not `Sync`.
 
+use crate::field::Wish;
 use std::cell::UnsafeCell;
 use std::ffi::c_void;
 use std::marker::PhantomData;
@@ -28,7 +29,13 @@ pub(crate) const TOO_LARGE: i32 = -5;
 pub(crate) const HELD: i32 = -6;
 
 /// The flag of a field that is never to be indexed.
-const NEVER_INDEX: u8 = 1;
+const NEVER_INDEX: u8 = 0x01;
+
+/// The flag of a field that is to be inserted.
+const INSERT: u8 = 0x08;
+
+/// The flag of a field for which nothing is to be inserted.
+const REUSE: u8 = 0x10;
 
 /// A field that is lent: `h3_qpack_nv`.
 #[repr(C)]
@@ -43,13 +50,18 @@ pub(crate) struct Lent<'a> {
 
 impl<'a> Lent<'a> {
     /// A field of these parts.
-    pub(crate) fn new(name: &'a [u8], value: &'a [u8], never_indexed: bool) -> Lent<'a> {
+    pub(crate) fn new(name: &'a [u8], value: &'a [u8], wish: Wish) -> Lent<'a> {
         Lent {
             name: name.as_ptr(),
             name_len: name.len(),
             value: value.as_ptr(),
             value_len: value.len(),
-            flags: if never_indexed { NEVER_INDEX } else { 0 },
+            flags: match wish {
+                Wish::Unmarked => 0,
+                Wish::Never => NEVER_INDEX,
+                Wish::Reuse => REUSE,
+                Wish::Insert => INSERT,
+            },
             lent: PhantomData,
         }
     }
@@ -229,15 +241,8 @@ pub(crate) fn decode_stateless(
     // SAFETY: the section and both rooms are lent for the length of the call, and do not overlap. At status OK the call
     // wrote `fields` items and `len` bytes to the rooms.
     unsafe {
-        let decoded = h3q_decode_stateless(
-            section.as_ptr(),
-            section.len(),
-            max_section_size,
-            fields,
-            fields_len,
-            room,
-            room_len,
-        );
+        let decoded =
+            h3q_decode_stateless(section.as_ptr(), section.len(), max_section_size, fields, fields_len, room, room_len);
         if decoded.status == OK {
             take_written(told, decoded.fields);
             take_written(bytes, decoded.len);
@@ -328,6 +333,8 @@ impl Drop for Encoder {
 /// A decoding end. Its cell makes it no `Sync`: a call that only asks is handed the end to itself, too.
 pub(crate) struct Decoder {
     handle: UnsafeCell<Handle>,
+    /// The number of fields of the section that was decoded last.
+    fields: usize,
 }
 
 // SAFETY: as for `Encoder`.
@@ -339,7 +346,7 @@ impl Decoder {
         let mut at = ptr::null_mut();
         // SAFETY: `at` is there for the call, which writes to it.
         match unsafe { h3q_decoder_new(max_capacity, max_blocked, max_section_size, &mut at) } {
-            OK => Ok(Decoder { handle: UnsafeCell::new(Handle { at }) }),
+            OK => Ok(Decoder { handle: UnsafeCell::new(Handle { at }), fields: 0 }),
             status => Err(status),
         }
     }
@@ -347,19 +354,26 @@ impl Decoder {
     /// Decodes a section of a stream.
     pub(crate) fn decode(&mut self, stream_id: u64, section: &[u8]) -> Decoded {
         // SAFETY: the end is one that `new` made, and the section is lent for the length of the call.
-        unsafe { h3q_decoder_decode(self.handle.get_mut(), stream_id, section.as_ptr(), section.len()) }
+        let decoded = unsafe { h3q_decoder_decode(self.handle.get_mut(), stream_id, section.as_ptr(), section.len()) };
+        self.fields = if decoded.status == OK { decoded.fields } else { 0 };
+        decoded
     }
 
-    /// Writes the fields of the section that was decoded last, of which there are so many, to the room behind what two
-    /// vectors hold, if all fit: what is told of each, and their names and values one behind the other.
-    pub(crate) fn fields(&mut self, count: usize, told: &mut Vec<Given>, bytes: &mut Vec<u8>) -> Written {
+    /// Returns the number of fields of the section that was decoded last.
+    pub(crate) fn field_count(&self) -> usize {
+        self.fields
+    }
+
+    /// Writes the fields of the section that was decoded last to the spare room of two vectors, if all fit: what is told
+    /// of each, and their names and values without gaps.
+    pub(crate) fn fields(&mut self, told: &mut Vec<Given>, bytes: &mut Vec<u8>) -> Written {
         let ((fields, fields_len), (room, room_len)) = (room_of(told), room_of(bytes));
         // SAFETY: the end is one that `new` made, and both rooms are lent for the length of the call, and do not overlap.
-        // At status OK the call wrote an item for each field, of which the end told `count`, and `len` bytes.
+        // At status OK the call wrote an item for each field, as many as its last decode returned, and `len` bytes.
         unsafe {
             let written = h3q_decoder_fields(self.handle.get_mut(), fields, fields_len, room, room_len);
             if written.status == OK {
-                take_written(told, count);
+                take_written(told, self.fields);
                 take_written(bytes, written.len);
             }
             written
@@ -420,5 +434,75 @@ impl Drop for Decoder {
     fn drop(&mut self) {
         // SAFETY: the end is one that `new` made, and nothing can use it behind its `drop`.
         unsafe { h3q_decoder_free(*self.handle.get_mut()) }
+    }
+}
+
+#[cfg(test)]
+mod tests {
+    use super::{Decoded, DecodedAlone, Encoded, Given, Handle, Lent, Received, Written, OK};
+    use crate::field::Wish;
+    use std::mem::size_of_val;
+    use std::ptr;
+
+    /// The structs of the header, as a C compiler lays them out.
+    const TABLE: &str = include_str!("../tests/layout.txt");
+
+    /// The rows that the table has of a struct of the header.
+    fn rows_of(name: &str) -> Vec<&'static str> {
+        TABLE.lines().filter(|line| line.split(' ').next() == Some(name)).collect()
+    }
+
+    /// Asserts that a value and its fields have the sizes and offsets that the table has of a struct of the header. Each
+    /// field is followed by its name in C.
+    macro_rules! assert_laid_out {
+        ($name:literal, $value:expr, $($field:ident is $c_name:literal),*) => {{
+            let value = $value;
+            let start = ptr::addr_of!(value) as usize;
+            let mut rows = vec![format!("{} - 0 {}", $name, size_of_val(&value))];
+            $(
+                let offset = ptr::addr_of!(value.$field) as usize - start;
+                rows.push(format!("{} {} {} {}", $name, $c_name, offset, size_of_val(&value.$field)));
+            )*
+            assert_eq!(rows, rows_of($name));
+        }};
+    }
+
+    #[test]
+    fn arguments_are_laid_out_as_in_c() {
+        assert_laid_out!(
+            "h3_qpack_nv", Lent::new(b"", b"", Wish::Unmarked),
+            name is "name", name_len is "namelen", value is "value", value_len is "valuelen", flags is "flags"
+        );
+        assert_laid_out!("h3_qpack_encoder", Handle { at: ptr::null_mut() }, at is "at");
+        assert_laid_out!("h3_qpack_decoder", Handle { at: ptr::null_mut() }, at is "at");
+    }
+
+    #[test]
+    fn results_of_encoding_are_laid_out_as_in_c() {
+        assert_laid_out!(
+            "h3_qpack_encoded", Encoded { status: OK, len: 0, required: 0 },
+            status is "status", len is "len", required is "required"
+        );
+        assert_laid_out!("h3_qpack_written", Written { status: OK, len: 0 }, status is "status", len is "len");
+    }
+
+    #[test]
+    fn results_of_decoding_are_laid_out_as_in_c() {
+        assert_laid_out!(
+            "h3_qpack_received", Received { status: OK, taken: 0, number: 0, offset: 0 },
+            status is "status", taken is "taken", number is "number", offset is "offset"
+        );
+        assert_laid_out!(
+            "h3_qpack_decoded", Decoded { status: OK, fields: 0, required: 0, number: 0, offset: 0 },
+            status is "status", fields is "fields", required is "required", number is "number", offset is "offset"
+        );
+        assert_laid_out!(
+            "h3_qpack_decoded_alone", DecodedAlone { status: OK, fields: 0, len: 0, number: 0, offset: 0 },
+            status is "status", fields is "fields", len is "len", number is "number", offset is "offset"
+        );
+        assert_laid_out!(
+            "h3_qpack_field", Given { status: OK, flags: 0, name_len: 0, value_len: 0 },
+            status is "status", flags is "flags", name_len is "namelen", value_len is "valuelen"
+        );
     }
 }

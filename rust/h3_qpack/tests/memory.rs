@@ -1,5 +1,5 @@
 //! Each allocation of the crate's own is refused in turn: the call says so, leaves what it was lent as it was, and can be
-//! made again. The archive asks malloc, which is not refused here: the tests in C do that.
+//! made again. The library asks malloc, which is not refused here: the tests in C do that.
 
 use h3_qpack::connection::{
     ConnectionDecoder, ConnectionEncoder, DecoderSettings, DecodingError, EncoderSettings, EncodingError, FieldLine,
@@ -13,6 +13,9 @@ use std::ptr;
 thread_local! {
     /// How many allocations of this thread are granted until one is refused; below 0 all are.
     static GRANTED: Cell<isize> = const { Cell::new(-1) };
+
+    /// The most bytes that one allocation of this thread asked for.
+    static LARGEST: Cell<usize> = const { Cell::new(0) };
 }
 
 /// The system's allocator, which refuses one allocation.
@@ -24,6 +27,7 @@ static ALLOCATOR: Refusing = Refusing;
 // SAFETY: what is granted is the system's, and null is what a refusal answers.
 unsafe impl GlobalAlloc for Refusing {
     unsafe fn alloc(&self, layout: Layout) -> *mut u8 {
+        LARGEST.with(|largest| largest.set(largest.get().max(layout.size())));
         let granted = GRANTED.with(|granted| granted.replace(granted.get().max(0) - 1));
         if granted == 0 {
             return ptr::null_mut();
@@ -110,4 +114,13 @@ fn a_connection() {
 fn the_stateless_pair() {
     let many = refuse_each(encode_and_decode);
     assert!(many >= 8, "{many} allocations were refused");
+}
+
+#[test]
+fn a_long_section_takes_no_more_memory_than_the_limit_allows() {
+    let mut section = vec![0xd1; 1 << 20];
+    section[..2].fill(0);
+    LARGEST.with(|largest| largest.set(0));
+    assert_eq!(decode_stateless(&section, 100), Err(DecoderError::HeaderTooLong(101)));
+    assert!(LARGEST.with(Cell::get) <= 200);
 }

@@ -4,12 +4,15 @@
 mod common;
 
 use common::{corpus, decoder, Random};
-use h3_qpack::connection::{ConnectionDecoder, ConnectionEncoder, EncoderSettings, FieldLine, Reading};
+use h3_qpack::connection::{ConnectionDecoder, ConnectionEncoder, EncoderSettings, FieldLine, Reading, Wish};
 use h3_qpack::{decode_stateless, encode_stateless, HeaderField};
 use std::collections::BTreeMap;
 use std::thread;
 
 type List = Vec<(HeaderField, bool)>;
+
+/// What is asked for a field that may be indexed.
+const WISHES: [Wish; 4] = [Wish::Unmarked, Wish::Unmarked, Wish::Reuse, Wish::Insert];
 
 /// The corpus, and lists at random.
 fn lists(random: &mut Random) -> Vec<List> {
@@ -77,10 +80,11 @@ impl<'a> Connection<'a> {
         }
     }
 
-    /// A list goes over; with `late` its instructions may come behind it.
+    /// A list goes over, each field with a wish at random; with `late` its instructions may come behind it.
     fn send(&mut self, stream_id: u64, is_late: bool, random: &mut Random) {
         let mut section = Vec::new();
         let list = lines(&self.lists[stream_id as usize / 4]);
+        let list = list.iter().map(|line| line.wish(WISHES[random.below(WISHES.len())]));
         self.encoder.encode(stream_id, list, &mut section).unwrap();
         if !is_late || random.below(4) == 0 {
             self.deliver(random);

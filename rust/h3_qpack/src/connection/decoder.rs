@@ -48,9 +48,7 @@ pub enum Reading {
 /// ```
 pub struct ConnectionDecoder {
     end: sys::Decoder,
-    /// How many fields the section has that was decoded last.
-    count: usize,
-    /// Its fields, if they were copied already.
+    /// The fields of the section that was decoded last, if they were copied already.
     copied: Copied,
 }
 
@@ -65,7 +63,7 @@ impl ConnectionDecoder {
     pub fn new(settings: DecoderSettings) -> Result<ConnectionDecoder, SettingsError> {
         let DecoderSettings { max_capacity, max_blocked, max_section_size } = settings;
         match sys::Decoder::new(max_capacity, max_blocked, max_section_size) {
-            Ok(end) => Ok(ConnectionDecoder { end, count: 0, copied: Copied::default() }),
+            Ok(end) => Ok(ConnectionDecoder { end, copied: Copied::default() }),
             Err(status) => Err(SettingsError::of(status)),
         }
     }
@@ -78,7 +76,6 @@ impl ConnectionDecoder {
     pub fn decode(&mut self, stream_id: u64, section: &[u8]) -> Result<Reading, DecodingError> {
         self.copied.clear();
         let decoded = self.end.decode(stream_id, section);
-        self.count = if decoded.status == sys::OK { decoded.fields } else { 0 };
         match decoded.status {
             sys::OK => Ok(Reading::Fields { count: decoded.fields, required: decoded.required }),
             sys::BLOCKED => Ok(Reading::Blocked { required: decoded.required }),
@@ -92,7 +89,7 @@ impl ConnectionDecoder {
     /// # Errors
     /// Want of memory to copy them to; the call can be made again.
     pub fn fields(&mut self) -> Result<Fields<'_>, NoMemory> {
-        if self.copied.told.len() < self.count {
+        if self.copied.told.len() < self.end.field_count() {
             self.copy_fields(FIRST_ROOM)?;
         }
         Ok(self.copied.fields())
@@ -101,12 +98,12 @@ impl ConnectionDecoder {
     /// Copies the fields of the section that was decoded last, in room for so many bytes of their names and values, or
     /// in as much as they want.
     fn copy_fields(&mut self, bytes: usize) -> Result<(), NoMemory> {
-        let copied = &mut self.copied;
-        copied.make_room(self.count, bytes)?;
-        let mut written = self.end.fields(self.count, &mut copied.told, &mut copied.bytes);
+        let (copied, count) = (&mut self.copied, self.end.field_count());
+        copied.make_room(count, bytes)?;
+        let mut written = self.end.fields(&mut copied.told, &mut copied.bytes);
         if written.status == sys::NO_ROOM {
-            copied.make_room(self.count, written.len)?;
-            written = self.end.fields(self.count, &mut copied.told, &mut copied.bytes);
+            copied.make_room(count, written.len)?;
+            written = self.end.fields(&mut copied.told, &mut copied.bytes);
         }
         assert_eq!(written.status, sys::OK, "the fields fit in the room that was told");
         Ok(())

@@ -2,7 +2,7 @@
 
 use super::error::{EncodingError, NoMemory, Place, SettingsError};
 use super::take_all;
-use crate::field::FieldLine;
+use crate::field::{FieldLine, Wish, WishedField};
 use crate::room::{gather, make_room};
 use crate::sys::{self, Lent};
 use std::fmt;
@@ -76,14 +76,14 @@ impl ConnectionEncoder {
     pub fn encode<'f, I>(&mut self, stream_id: u64, fields: I, section: &mut Vec<u8>) -> Result<usize, EncodingError>
     where
         I: IntoIterator,
-        I::Item: Into<FieldLine<'f>>,
+        I::Item: Into<WishedField<'f>>,
     {
         let mut size = SECTION_PREFIX;
         let lent = gather(fields.into_iter().map(|field| {
-            let FieldLine { name, value, never_indexed } = field.into();
+            let WishedField { line: FieldLine { name, value, never_indexed }, wish } = field.into();
             let text = name.len().saturating_add(value.len());
             size = size.saturating_add(text.saturating_mul(MOST_CODED)).saturating_add(LINE_LENGTHS);
-            Lent::new(name, value, never_indexed)
+            Lent::new(name, value, if never_indexed { Wish::Never } else { wish })
         }))?;
         make_room(section, size)?;
         let encoded = self.end.encode(stream_id, &lent, section);

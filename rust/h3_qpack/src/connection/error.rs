@@ -56,7 +56,7 @@ pub enum SettingsError {
     OutOfRange,
     /// The allocator refused.
     NoMemory,
-    /// A status that this crate does not know: the archive is of another version.
+    /// A status that this crate does not know: the library is of another version.
     Unknown(i32),
 }
 
@@ -101,7 +101,7 @@ pub enum EncodingError {
     EntriesHeld,
     /// The allocator refused; the call can be made again.
     NoMemory,
-    /// A status that this crate does not know: the archive is of another version.
+    /// A status that this crate does not know: the library is of another version.
     Unknown(i32),
 }
 
@@ -176,7 +176,7 @@ pub enum DecodingError {
         /// How many were taken; 0 of any other call.
         taken: usize,
     },
-    /// A status that this crate does not know: the archive is of another version.
+    /// A status that this crate does not know: the library is of another version.
     Unknown(i32),
 }
 

@@ -1,4 +1,4 @@
-//! What the tests share: forms of the wire, written plainly, the repository's corpus, and numbers at random.
+//! What the tests share: forms of the wire, written plainly, the corpus, and numbers at random.
 #![allow(dead_code)] // each test takes what it needs
 
 use h3_qpack::connection::{ConnectionDecoder, DecoderSettings, FieldLine};
@@ -6,10 +6,10 @@ use h3_qpack::HeaderField;
 use std::fs;
 use std::path::Path;
 
-/// A file of the repository's corpus.
+/// A file of the corpus.
 pub fn data(name: &str) -> String {
-    let folder = Path::new(env!("CARGO_MANIFEST_DIR")).join("../../crates/qpack_recorded/data");
-    fs::read_to_string(folder.join(name)).expect("the repository holds the file")
+    let folder = Path::new(env!("CARGO_MANIFEST_DIR")).join("tests/data");
+    fs::read_to_string(folder.join(name)).expect("the file is among the tests")
 }
 
 /// The lists of the corpus: a field a line, its name and its value parted by a TAB, and an empty line behind each list.

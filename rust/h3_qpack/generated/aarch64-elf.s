@@ -1,0 +1,1 @@
+../../../dist/aarch64-elf.s

@@ -1,0 +1,1 @@
+../../../dist/heap-aarch64-elf.s
