@@ -1,20 +1,17 @@
 #!/usr/bin/env bash
-# Tests the C library. It needs a C and a C++ compiler, make, pkg-config and the headers of nghttp3 and of ngtcp2 with
-# GnuTLS (Debian: gcc, g++, make, pkg-config, libnghttp3-dev, libngtcp2-dev, libngtcp2-crypto-gnutls-dev and
-# libgnutls28-dev), and installs by apt-get what is not there, which only root can. Where nghttp3 can't be had, all but
-# the symbols and the example is left out, and where ngtcp2 can't, the connection over QUIC; the last line says so.
-# Without a compiler nothing is tested, and that is a failure. valgrind is used where it is there. The library is built
-# by rt lib, with the crates below it, if it was not built from the sources as they stand. Ends in a line of what passed,
-# with a status that is not 0 if something failed.
+# Tests the C library. It needs a C and a C++ compiler, make, pkg-config, Python 3.8 and the headers of nghttp3 and of
+# ngtcp2 with GnuTLS (Debian: gcc, g++, make, pkg-config, python3, libnghttp3-dev, libngtcp2-dev,
+# libngtcp2-crypto-gnutls-dev and libgnutls28-dev), and installs by apt-get what is not there, which only root can. Where
+# nghttp3 can't be had, all but the interface and the example is left out, and where ngtcp2 can't, the connection over
+# QUIC; the last line says so. Without a compiler nothing is tested, and that is a failure. valgrind is used where it is
+# there. The library is the archive that is proved, if it is built of these sources; else that of dist/, if it was
+# generated from them; else the archive, which is proved first, in 20 minutes. Ends in a line of what passed, with a
+# status that is not 0 if something failed.
 set -euo pipefail
 cd "$(dirname "$0")"
 script=c/check.sh
 . ./archive
-
-# Whether a header is there.
-has_header() {
-    echo "#include <$1>" | cc -E - >/dev/null 2>&1
-}
+. ./programs
 
 # Prints the packages that are wanted and not there: those of the tools, of nghttp3, of ngtcp2.
 list_tools() {
@@ -22,6 +19,7 @@ list_tools() {
     command -v c++ >/dev/null || echo g++
     command -v make >/dev/null || echo make
     command -v pkg-config >/dev/null || echo pkg-config
+    command -v python3 >/dev/null || echo python3
 }
 list_nghttp3() {
     has_header nghttp3/nghttp3.h || echo libnghttp3-dev
@@ -34,7 +32,7 @@ list_ngtcp2() {
 
 # Leaves out what needs nghttp3 or ngtcp2, where they can't be had.
 choose_tests() {
-    tests="calls interop http3 quic memory"
+    tests="calls interop inserts http3 quic memory"
     peer=-lnghttp3
     left_out=
     if [ -n "$(list_tools)" ]; then
@@ -42,31 +40,14 @@ choose_tests() {
         exit 1
     fi
     if [ -n "$(list_ngtcp2)" ]; then
-        tests="calls interop http3 memory"
+        tests="calls interop inserts http3 memory"
         left_out=", without the connection over QUIC: ngtcp2 could not be had"
     fi
     if [ -n "$(list_nghttp3)" ]; then
         tests=
         peer=
-        left_out=", of the symbols and the example alone: nghttp3 could not be had"
+        left_out=", of the interface and the example alone: nghttp3 could not be had"
     fi
-}
-
-# Compiles a program against what was installed: its name, the source, and flags.
-compile() {
-    local name=$1 source=$2
-    shift 2
-    cc -std=c11 -D_GNU_SOURCE -Wall -Wextra -Werror "$@" "$source" $flags $peer $more -lpthread -o "$room/$name"
-}
-
-# What the program of a test is linked with beside nghttp3, or is told to the linker.
-choose_more() {
-    case $1 in
-        memory) more="-Wl,--wrap=malloc,--wrap=realloc" ;;
-        hostile) more="-Wl,--wrap=malloc,--wrap=realloc,--wrap=free" ;;
-        quic) more="-lngtcp2_crypto_gnutls -lngtcp2 -lgnutls" ;;
-        *) more= ;;
-    esac
 }
 
 # Runs a command, and keeps its last line for the end.
@@ -80,13 +61,37 @@ run() {
     passed=$((passed + 1))
 }
 
-# The exports and nothing else are seen, and only libc is wanted.
+strict=(-Wall -Wextra -Werror)
+
+# The functions that the header declares are exported and nothing else is, and only libc is wanted.
 check_symbols() {
-    local seen wanted
-    seen=$(nm -g --defined-only "$room/usr/lib/libh3_qpack.a" | awk 'NF == 3 && $3 !~ /^h3q_/ { print $3 }')
-    wanted=$(nm -u "$room/usr/lib/libh3_qpack.a" | awk 'NF == 2 { print $2 }' |
+    local archive=$room/usr/lib/libh3_qpack.a wanted
+    cc -E -P -DH3_QPACK_NO_INLINE ../include/h3_qpack.h | grep -oE '\bh3(q|_qpack)_\w+\(' | tr -d '(' | sort \
+        >"$room/declared"
+    nm -g --defined-only "$archive" | awk 'NF == 3 { print $3 }' | sort >"$room/exported"
+    wanted=$(nm -u "$archive" | awk 'NF == 2 { print $2 }' |
         grep -vxE 'malloc|realloc|free|mem(cpy|move|set|cmp)|_GLOBAL_OFFSET_TABLE_' || true)
-    [ -z "$seen$wanted" ] || { echo "symbols: $seen $wanted"; return 1; }
+    [ -z "$wanted" ] || { echo "symbols: $wanted"; return 1; }
+    diff "$room/declared" "$room/exported"
+}
+
+# The structs that cross the interface are laid out as the table says: in the header, by this compiler, and in Rattle.
+check_layout() {
+    cc "${strict[@]}" -std=c99 -pedantic -I../include tests/layout.c -o "$room/layout" || return
+    "$room/layout" | diff - tests/layout.txt && python3 tests/layout.py
+}
+
+# Builds the example by a compiler and its words, with the header in two objects of the program, and runs it.
+# shellcheck disable=SC2046,SC2086 # words
+try_example() {
+    "$@" "${strict[@]}" $(pkg-config --cflags h3_qpack) -Dmain=other -c examples/roundtrip.c -o "$room/other.o" || return
+    "$@" "${strict[@]}" examples/roundtrip.c -x none "$room/other.o" $flags -o "$room/roundtrip" && "$room/roundtrip"
+}
+
+# Calls the functions of the library without the header, as a binding does.
+try_bindings() {
+    cc -shared -Wl,--whole-archive "$room/usr/lib/libh3_qpack.a" -Wl,--no-whole-archive -o "$room/bindings.so" || return
+    python3 tests/bindings.py "$room/bindings.so" tests/layout.txt
 }
 
 room=$(mktemp -d)
@@ -94,27 +99,36 @@ trap 'rm -rf "$room"' EXIT
 corpus=../crates/qpack_recorded/data/corpus.qif
 for list in list_tools list_nghttp3 list_ngtcp2; do install_packages $("$list") || true; done
 choose_tests
-build_archive
-make -s BUILD="$room/build" PREFIX="$room/usr" install
+choose_library
+make_library BUILD="$room/build" PREFIX="$room/usr" install
+rm -f "$room/usr/lib"/libh3_qpack.so* # of dist/: the tests are of the static library
 export PKG_CONFIG_PATH=$room/usr/lib/pkgconfig
 flags=$(pkg-config --cflags --libs h3_qpack)
 
+run cc "${strict[@]}" -std=c99 -pedantic -I../include -fsyntax-only h3_qpack.c
 run check_symbols
-cc -std=c99 -pedantic -Wall -Wextra -Werror examples/roundtrip.c $flags -o "$room/roundtrip"
-c++ -x c++ -std=c++11 -pedantic -Wall -Wextra -Werror -fsyntax-only $flags ../include/h3_qpack.h
-run "$room/roundtrip"
+run check_layout
+run try_bindings
+run try_example cc -std=c99 -pedantic
+run try_example cc -std=c11 -pedantic -O2
+run try_example cc -std=c99 -fgnu89-inline
+run try_example c++ -x c++ -std=c++11 -pedantic
+run try_example c++ -x c++ -std=c++11 -pedantic -O2
 for test in $tests; do
     choose_more "$test"
     compile "$test" "tests/$test.c" -O2
     run "$room/$test" "$corpus"
     cat "$room/told"
-    compile "$test.sanitized" "tests/$test.c" -g -fsanitize=address,undefined -fno-sanitize-recover
+    compile "$test.sanitized" "tests/$test.c" -O1 -g -fsanitize=address,undefined -fno-sanitize-recover
     run "$room/$test.sanitized" "$corpus"
 done
 if [ -z "$tests" ]; then
-    echo "c/check.sh: $passed runs passed$left_out"
+    echo "c/check.sh: $passed runs passed over $library$left_out"
     exit
 fi
+choose_more calls
+compile calls.exported tests/calls.c -DH3_QPACK_NO_INLINE
+run "$room/calls.exported" "$corpus"
 with="with the address and undefined sanitizers"
 if command -v valgrind >/dev/null; then
     for test in calls memory; do
@@ -126,10 +140,12 @@ choose_more hostile
 compile hostile hostile.c -O2
 run "$room/hostile" 100 1000
 tail -n 1 "$room/told"
-compile hostile.sanitized hostile.c -g -fsanitize=address,undefined -fno-sanitize-recover
+compile hostile.sanitized hostile.c -O1 -g -fsanitize=address,undefined -fno-sanitize-recover
 run "$room/hostile.sanitized" 100
 choose_more bench
 compile bench bench.c -O2
 run "$room/bench" "$corpus" 3
 run "$room/bench" "$corpus" 3 4096 10
-echo "c/check.sh: $passed runs passed, $with$left_out"
+compile bytes bytes.c -O2
+run "$room/bytes" "$corpus"
+echo "c/check.sh: $passed runs passed over $library, $with$left_out"

@@ -1,6 +1,10 @@
 #!/bin/sh
-# Holds what ./qpk answers without a proof, and with one where it is proved here, against what is written below:
-# tests/launcher.sh. It is run by hand, since each answer without a proof is compiled anew, which takes half a minute.
+# Holds what ./qpk answers against what is written below: tests/launcher.sh [KIND..]. The kinds are
+#   generated  the program of dist/, in a copy without rt, a build or a proof; ten seconds
+#   unproved   a build by rt try, in a copy without dist/; ten minutes, since each call compiles it
+#   proved     the proved program, if it is built here
+# Without a kind all are tried. Those that are tried are compared with each other.
+# shellcheck disable=SC2317 # the cases are called by their names
 here=$(cd "$(dirname "$0")/.." && pwd) || exit 1
 room=$(mktemp -d) || exit 1
 trap 'rm -rf "$room"' EXIT
@@ -9,10 +13,14 @@ tab=$(printf '\t')
 line='
 '
 usage="usage: qpk encode | qpk decode LIMIT | qpk run CAPACITY LIMIT | qpk inspect CAPACITY$line"
+without_rt=/usr/bin:/bin
 
-# A copy of the sources, in which nothing is proved.
-mkdir "$room/unproved"
-(cd "$here" && tar --exclude=./.git --exclude=out -cf - .) | tar -xf - -C "$room/unproved"
+# Copies the sources, in which nothing is proved or built, to a folder of the room.
+copy() {
+    mkdir "$room/$1"
+    (cd "$here" && tar --exclude=./.git --exclude=out --exclude=./c/build --exclude=./dist/build --exclude=target -cf - .) |
+        tar -xf - -C "$room/$1"
+}
 
 # Tells what is other than it should be, and goes on.
 complain() {
@@ -41,7 +49,7 @@ try() {
     echo "launcher: $case"
     "$1" >"$room/$1.output.$kind" 2>"$said"
     echo "$?" >"$room/$1.status.$kind"
-    [ "$kind" = proved ] || take_notice "$1"
+    [ "$kind" != unproved ] || take_notice "$1"
     holds "the status" "$room/$1.status.$kind" "$2"
     holds "the output" "$room/$1.output.$kind" "$3"
     holds "what is said" "$said" "$4"
@@ -91,34 +99,131 @@ try_all() {
     try help "0$line" - ""
 }
 
-# What is too much without a proof, and a path without rt, are told, and end with status 3.
-try_without_answer() {
+# What is too much without a proof is refused, with status 3.
+try_too_much() {
     case="an output past 1 MiB"
     awk 'BEGIN { for (i = 0; i < 60000; i++) printf "x-name-%d\tvvvvvvvvvvvvvvvvvvvv\n", i }' | "$qpk" encode >"$room/output" 2>"$room/said"
-    [ "$?" -eq 3 ] && [ ! -s "$room/output" ] && [ "$(wc -l <"$room/said")" -eq 2 ] &&
-        grep -q '^qpk: no answer without a proof: .* more than 1048576 bytes' "$room/said" || complain "$case: $(cat "$room/said")"
-    case="no rt in PATH"
-    PATH=/usr/bin:/bin command -v rt >/dev/null && return
-    PATH=/usr/bin:/bin "$qpk" encode </dev/null >"$room/output" 2>"$room/said"
-    [ "$?" -eq 3 ] && [ ! -s "$room/output" ] && grep -q 'rt, .* is not in PATH$' "$room/said" || complain "$case: $(cat "$room/said")"
+    got=$?
+    is_got 3 '' '^qpk: no answer without a proof: .* more than 1048576 bytes' || complain "$case: $(cat "$room/said")"
+    [ "$(wc -l <"$room/said")" -eq 2 ] || complain "$case says more than two lines"
 }
 
-# A proved program answers as one that is not.
+# Whether a call ended with a status and printed an output, and a pattern is found in what it said; it said nothing if that
+# is empty.
+is_got() {
+    [ "$got" -eq "$1" ] && [ "$(cat "$room/output")" = "$2" ] || return
+    if [ -z "$3" ]; then
+        [ ! -s "$room/said" ]
+    else
+        grep -q -- "$3" "$room/said"
+    fi
+}
+
+# Runs a command in the folder $copy, over a field, and holds it against a status, an output and a pattern of what it says.
+try_choice() {
+    case=$1 status=$2 output=$3 said=$4
+    shift 4
+    (cd "$copy" && printf ':method\tGET\n' | "$@") >"$room/output" 2>"$room/said"
+    got=$?
+    is_got "$status" "$output" "$said" || complain "$case: status $got, $(cat "$room/output" "$room/said")"
+}
+
+# Which program answers, and why none does, in a copy with dist/ and without rt.
+try_choices() {
+    version="qpk [0-9.]*: generated from the proved program by rattle-kit-.*, and built here by cc"
+    try_choice "the first call" 0 0000d1 '^qpk: cc built the program from the assembly in dist/' ./qpk encode
+    try_choice "the second call" 0 0000d1 '' ./qpk encode
+    try_choice "full faults" 0 0000d1 '' sh -c 'rm -r dist/build && ./qpk encode 2>/dev/full'
+    (cd "$copy" && ./qpk --version) | grep -qx "$version" || complain "--version of the program of dist/"
+    echo '// edited' >>"$copy/crates/qpk/src/lib.rt"
+    try_choice "an edited source" 0 0000d1 '^qpk: this answer is of version [0-9.]*, as dist/ has it: the sources' ./qpk encode
+    (cd "$copy" && ./qpk --version 2>&1) | grep -qx 'the sources here were changed since' || complain "--version of an edited source"
+    cp "$here/crates/qpk/src/lib.rt" "$copy/crates/qpk/src/lib.rt"
+    mv "$copy/crates/qpk/proofs" "$room"
+    try_choice "no proofs" 0 0000d1 '^qpk: this answer is of version ' ./qpk encode
+    mv "$room/proofs" "$copy/crates/qpk"
+    rm -rf "$copy/dist/build"
+    try_choice "no compiler" 3 '' 'dist/ gives none: there is no C compiler none$' env CC=none ./qpk encode
+    try_choice "a compiler that fails" 3 '' 'dist/ gives none: this compiler fails$' env CC="$room/failing" ./qpk encode
+    echo '# edited' >>"$copy/$text"
+    try_choice "edited assembly" 3 '' "dist/ gives none: its ${text##*/} is not what its SUMS has\$" ./qpk encode
+    cp "$here/$text" "$copy/$text"
+    rm "$copy/dist/SUMS"
+    try_choice "no sums" 3 '' "dist/ gives none: it has no assembly for $(uname -sm)\$" ./qpk encode
+    cp "$here/dist/SUMS" "$copy/dist/SUMS"
+    try_choice "no proof" 3 '' '^qpk: no proof: rt, the command of the Rattle kit, is not in PATH$' ./qpk prove
+    rm -rf "$copy/dist/build"
+    touch "$copy/dist/build"
+    try_choice "no folder" 3 '' "dist/ gives none: a build can't be kept in " ./qpk encode
+    rm "$copy/dist/build"
+}
+
+# A build of dist/ is kept in the cache where dist/ can't be written. Root can write everywhere, so it tries as nobody.
+try_cache() {
+    [ "$(id -u)" -eq 0 ] && command -v setpriv >/dev/null || return
+    chmod 755 "$room"
+    mkdir -m 777 "$room/cache"
+    as_nobody="setpriv --reuid=65534 --regid=65534 --clear-groups env XDG_CACHE_HOME=$room/cache"
+    # shellcheck disable=SC2086 # words of a command
+    try_choice "the first call over the cache" 0 0000d1 '^qpk: cc built the program' $as_nobody ./qpk encode
+    # shellcheck disable=SC2086
+    try_choice "the second call over the cache" 0 0000d1 '' $as_nobody ./qpk encode
+    [ ! -e "$copy/dist/build" ] || complain "a build is kept in dist/, which can't be written"
+    ls "$room"/cache/h3_qpack/qpk-* >/dev/null || complain "no build is kept in the cache"
+}
+
+try_generated() {
+    text=dist/qpk-$(uname -m)-elf.s
+    copy generated
+    copy=$room/generated
+    printf '#!/bin/sh\necho this compiler fails\nexit 1\n' >"$room/failing"
+    chmod +x "$room/failing"
+    PATH=$without_rt
+    command -v rt >/dev/null && { complain "rt is in $without_rt, so nothing is tried without it"; return; }
+    [ "$("$copy/dist/sources" qpk_program)" = "$(sed -n 's/^sources qpk_program //p' "$copy/dist/SUMS")" ] ||
+        { complain "dist/ was not generated from these sources; dist/generate does it"; return; }
+    try_cache
+    try_choices
+    (cd "$copy" && echo 0000d1 | ./qpk decode 42) >/dev/null 2>&1
+    kind=generated qpk=$copy/qpk
+    try_all
+}
+
+try_unproved() {
+    copy unproved
+    rm -r "$room/unproved/dist"
+    kind=unproved qpk=$room/unproved/qpk
+    try_all
+    try_too_much
+}
+
+try_proved() {
+    case $("$here/qpk" --version 2>/dev/null) in
+    *": proved and built here"*) ;;
+    *) echo "launcher: the program is not proved here, so it is not tried" && return ;;
+    esac
+    kind=proved qpk=$here/qpk
+    try_all
+}
+
+# All kinds that were tried answer alike.
 compare() {
-    for proved in "$room"/*.proved; do
-        cmp -s "$proved" "${proved%.proved}.unproved" || complain "$(basename "$proved") is other without a proof"
+    for file in "$room"/*.status."$1" "$room"/*.output."$1" "$room"/*.said."$1"; do
+        other=${file%."$1"}.$2
+        [ ! -e "$file" ] || [ ! -e "$other" ] || cmp -s "$file" "$other" || complain "$(basename "$file") is other than with $2"
     done
 }
 
-kind=unproved qpk=$room/unproved/qpk
-try_all
-try_without_answer
-if "$here/qpk" --help </dev/null 2>&1 | grep -q 'not proved'; then
-    echo "launcher: the program is not proved here, so nothing is compared with it"
-else
-    kind=proved qpk=$here/qpk
-    try_all
-    compare
-fi
+[ "$#" -gt 0 ] || set -- generated unproved proved
+for word in "$@"; do
+    case $word in
+    generated) (try_generated; exit "$failed") || failed=1 ;;
+    unproved | proved) "try_$word" ;;
+    *) echo "launcher: there is no kind $word" && exit 2 ;;
+    esac
+done
+compare generated unproved
+compare generated proved
+compare unproved proved
 [ "$failed" -eq 0 ] && echo "launcher: all is as it should be"
 exit "$failed"
