@@ -5,17 +5,10 @@
 #include "tests/common.h"
 
 #define MOST_LATE 32
-#define MOST_BYTES (1 << 16)
 
 typedef struct {
   size_t capacity, blocked, late;
 } setting;
-
-/* What a decoder sent after one section. */
-typedef struct {
-  uint8_t bytes[MOST_BYTES];
-  size_t len;
-} answer;
 
 /* An encoder and a decoder of one library, which are connected. */
 typedef struct {
@@ -26,8 +19,6 @@ typedef struct {
   void (*hear)(void *, const answer *);
   void (*close)(void *);
 } library;
-
-static uint8_t section[MOST_BYTES], stream[MOST_BYTES];
 
 typedef struct {
   h3_qpack_encoder encoder;
@@ -43,19 +34,12 @@ static void *open_ours(setting s) {
 
 static size_t exchange_ours(void *at, uint64_t stream_id, const list *l, answer *answer) {
   ours *c = at;
-  h3_qpack_encoded a = h3_qpack_encoder_encode(&c->encoder, stream_id, l->nv, l->len, section, sizeof section);
-  CHECK(a.status == H3_QPACK_OK);
-  size_t len = h3_qpack_encoder_write_encoder(&c->encoder, stream, sizeof stream);
-  CHECK(h3_qpack_decoder_read_encoder(&c->decoder, stream, len).status == H3_QPACK_OK);
-  CHECK(h3_qpack_decoder_decode(&c->decoder, stream_id, section, a.len).status == H3_QPACK_OK);
-  check_fields(&c->decoder, l->nv, l->len);
-  answer->len = h3_qpack_decoder_write_decoder(&c->decoder, answer->bytes, sizeof answer->bytes);
-  return a.len + len;
+  return exchange_list(&c->encoder, &c->decoder, stream_id, l->nv, l->len, answer);
 }
 
 static void hear_ours(void *at, const answer *answer) {
   ours *c = at;
-  CHECK(h3_qpack_encoder_read_decoder(&c->encoder, answer->bytes, answer->len).status == H3_QPACK_OK);
+  hear(&c->encoder, answer->bytes, answer->len);
 }
 
 static void close_ours(void *at) {
@@ -86,6 +70,7 @@ static void *open_theirs(setting s) {
 }
 
 static size_t exchange_theirs(void *at, uint64_t stream_id, const list *l, answer *answer) {
+  static uint8_t section[1 << 16];
   theirs *c = at;
   nghttp3_buf sent;
   nghttp3_buf_reset(&c->prefix);

@@ -69,8 +69,7 @@ check_symbols() {
     cc -E -P -DH3_QPACK_NO_INLINE ../include/h3_qpack.h | grep -oE '\bh3(q|_qpack)_\w+\(' | tr -d '(' | sort \
         >"$room/declared"
     nm -g --defined-only "$archive" | awk 'NF == 3 { print $3 }' | sort >"$room/exported"
-    wanted=$(nm -u "$archive" | awk 'NF == 2 { print $2 }' |
-        grep -vxE 'malloc|realloc|free|mem(cpy|move|set|cmp)|_GLOBAL_OFFSET_TABLE_' || true)
+    wanted=$(nm -u "$archive" | awk 'NF == 2 { print $2 }' | list_unwanted)
     [ -z "$wanted" ] || { echo "symbols: $wanted"; return 1; }
     diff "$room/declared" "$room/exported"
 }

@@ -241,11 +241,6 @@ static inline void receive(h3_qpack_decoder *d, const bytes *b) {
   CHECK(r.status == H3_QPACK_OK && r.taken == b->len);
 }
 
-static inline void hear(h3_qpack_encoder *e, const void *p, size_t len) {
-  h3_qpack_received r = h3_qpack_encoder_read_decoder(e, p, len);
-  CHECK(r.status == H3_QPACK_OK && r.taken == len);
-}
-
 /* Encodes a section of one field with these flags, adds its instructions to |sent| if that is not null, and returns what it
  * requires. */
 static inline size_t encode_as(h3_qpack_encoder *e, uint64_t stream_id, const field *f, uint8_t flags, bytes *sent) {

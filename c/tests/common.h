@@ -187,6 +187,33 @@ static inline void check_fields(h3_qpack_decoder *d, const h3_qpack_nv *nva, siz
   if (w.len) CHECK(h3_qpack_decoder_fields(d, fields, nvlen, text, w.len - 1).status == H3_QPACK_ERR_NO_ROOM);
 }
 
+/* What a decoder sent after one section. */
+typedef struct {
+  uint8_t bytes[1 << 12];
+  size_t len;
+} answer;
+
+/* Encodes fields for a stream and decodes them, and leaves what the decoder sends. Returns the bytes of the section and of
+ * the encoder stream. */
+static inline size_t exchange_list(h3_qpack_encoder *e, h3_qpack_decoder *d, uint64_t stream_id,
+                                   const h3_qpack_nv *nva, size_t nvlen, answer *answer) {
+  static _Thread_local uint8_t section[1 << 16], stream[1 << 16];
+  h3_qpack_encoded a = h3_qpack_encoder_encode(e, stream_id, nva, nvlen, section, sizeof section);
+  CHECK(a.status == H3_QPACK_OK);
+  size_t len = h3_qpack_encoder_write_encoder(e, stream, sizeof stream);
+  CHECK(h3_qpack_decoder_read_encoder(d, stream, len).status == H3_QPACK_OK);
+  CHECK(h3_qpack_decoder_decode(d, stream_id, section, a.len).status == H3_QPACK_OK);
+  check_fields(d, nva, nvlen);
+  answer->len = h3_qpack_decoder_write_decoder(d, answer->bytes, sizeof answer->bytes);
+  return a.len + len;
+}
+
+/* Hands bytes of the decoder stream to an encoder, which takes them all. */
+static inline void hear(h3_qpack_encoder *e, const void *p, size_t len) {
+  h3_qpack_received r = h3_qpack_encoder_read_decoder(e, p, len);
+  CHECK(r.status == H3_QPACK_OK && r.taken == len);
+}
+
 /* Reads a section with nghttp3, and compares its fields with a list. Returns 0 where the section waits. */
 static inline int read_theirs(nghttp3_qpack_decoder *d, int64_t stream_id, const list *l, const uint8_t *p,
                               size_t len) {

@@ -31,26 +31,6 @@ static size_t make_fields(size_t section, int server_last, h3_qpack_nv *nva) {
   return n;
 }
 
-typedef struct {
-  uint8_t bytes[1 << 12];
-  size_t len;
-} answer;
-
-/* Encodes and decodes one section, and leaves what the decoder answers. Returns its bytes, with its instructions. */
-static size_t exchange(h3_qpack_encoder *e, h3_qpack_decoder *d, size_t i, int server_last, answer *answer) {
-  static uint8_t section[1 << 12], stream[1 << 12];
-  h3_qpack_nv nva[5];
-  size_t n = make_fields(i, server_last, nva);
-  h3_qpack_encoded a = h3_qpack_encoder_encode(e, 4 * i, nva, n, section, sizeof section);
-  CHECK(a.status == H3_QPACK_OK);
-  size_t len = h3_qpack_encoder_write_encoder(e, stream, sizeof stream);
-  CHECK(h3_qpack_decoder_read_encoder(d, stream, len).status == H3_QPACK_OK);
-  CHECK(h3_qpack_decoder_decode(d, 4 * i, section, a.len).status == H3_QPACK_OK);
-  check_fields(d, nva, n);
-  answer->len = h3_qpack_decoder_write_decoder(d, answer->bytes, sizeof answer->bytes);
-  return a.len + len;
-}
-
 static void run(size_t blocked, size_t late, int server_last) {
   static answer answers[LATE + 1];
   h3_qpack_encoder e;
@@ -58,13 +38,12 @@ static void run(size_t blocked, size_t late, int server_last) {
   size_t bytes = 0, inserted = 0;
   CHECK(!new_encoder(&e, 4096, blocked) && !new_decoder(&d, 4096, blocked, 65536));
   for (size_t i = 0; i < SECTIONS; i++) {
-    size_t len = exchange(&e, &d, i, server_last, &answers[i % (late + 1)]);
+    h3_qpack_nv nva[5];
+    size_t len = exchange_list(&e, &d, 4 * i, nva, make_fields(i, server_last, nva), &answers[i % (late + 1)]);
     bytes += len;
     if (i % EPOCH >= SETTLED) CHECK(len <= MOST_SETTLED);
-    if (i >= late) {
-      const answer *a = &answers[(i - late) % (late + 1)];
-      CHECK(h3_qpack_encoder_read_decoder(&e, a->bytes, a->len).status == H3_QPACK_OK);
-    }
+    const answer *heard = &answers[(i + 1) % (late + 1)]; /* of the section that came |late| before */
+    if (i >= late) hear(&e, heard->bytes, heard->len);
     if (i % EPOCH == EPOCH - 1) {
       CHECK(h3_qpack_decoder_get_icnt(&d) >= inserted + 2);
       inserted = h3_qpack_decoder_get_icnt(&d);
