@@ -2,16 +2,17 @@
 -- than 31, so that room for a text's payload is known before it is written.
 use Rattle.std.proofs.Common.{◌≡◌, ℕ, zero, suc, ◌+◌, ◌*◌, ◌-◌, ◌/◌, ◌^◌, ◌<◌, ◌≤◌, Bool, true}
 use Rattle.std.proofs.Common.{List, [], ◌∷◌, ◌++◌, length, refl, ap, subst, arith}
-use Rattle.std.proofs.Common.{inl, inr}
+use Rattle.std.proofs.Common.{inl, inr, Ok}
 use Rattle.std.proofs.lemmas.List.{length-append}
 use Rattle.std.proofs.lemmas.List.Concat.{flat_map-cons}
 use Rattle.std.proofs.lemmas.Bool.{cases_eq, cond_both, leb-true, and_parts}
 use Rattle.std.specs.Prelude.{◌&&◌, ◌==◌, nat_le, nat_lt, not}
 use Rattle.std.specs.List.{position_or_len, list_any, count_by}
 use Rattle.qpack_spec.specs.Huffman.{bits_of, bytes_by_length, bytes_of_length, first_code, code_length, code_of}
-use Rattle.qpack_spec.specs.Huffman.{bits_of_text, payload_of}
-use Rattle.qpack_spec.proofs.Bits.{bits_length}
+use Rattle.qpack_spec.specs.Huffman.{bits_of_text, payload_of, bits_of_bytes, text_of_bits, ones, AreBytes}
+use Rattle.qpack_spec.proofs.Bits.{bits_length, bytes_bits, bytes_length}
 use Rattle.qpack_spec.proofs.CodeTable.{thirty_rows}
+use Rattle.qpack_spec.proofs.Payloads.{text_means}
 use Rattle.qpack_spec.proofs.WrittenPayloads.{payload_length}
 use Rattle.qpack_base.specs.Payloads.{BeginsCode}
 
@@ -41,6 +42,30 @@ five_bits count loaded byte bits begins there =
       long_each 256 0 byte all_codes_long (omega arith) (omega (arith, begins.byte_is there)),
       ap (λ (l : List ℕ). length l) (begins.is there),
       bits_length bits (loaded / 2 ^ (count - bits)),
+    )
+
+bits_least : (text : List ℕ) → AreBytes text → 5 * length text ≤ length (bits_of_text text)
+bits_least [] h = omega arith
+bits_least (b ∷ text) h =
+    omega (
+      arith,
+      ap (λ (l : List ℕ). length l) (flat_map-cons code_of b text),
+      length-append (code_of b) (bits_of_text text),
+      long_each 256 0 b all_codes_long (omega arith) (omega (arith, h.0)),
+      bits_least text h.1,
+    )
+
+-- the length of what a payload means
+pub text_most : (payload value : List ℕ) → text_of_bits (bits_of_bytes payload) ≡ Ok value
+    → length value ≤ length payload / 5 * 8 + 6
+text_most payload value e =
+    let means = text_means (bits_of_bytes payload) value (bytes_bits payload) e in
+    omega (
+      arith,
+      bits_least value means.bytes,
+      ap (λ (l : List ℕ). length l) means.parts,
+      length-append (bits_of_text value) (ones means.padding),
+      bytes_length payload,
     )
 
 -- where a code is loaded, there is room for its byte

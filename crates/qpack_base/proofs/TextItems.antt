@@ -1,13 +1,14 @@
 -- The text of a payload, item by item.
 use Rattle.std.proofs.Common.{◌≡◌, ℕ, zero, suc, ◌<◌, List, [], ◌∷◌, ◌++◌, length, take, Option, Some, None, Result, Ok}
-use Rattle.std.proofs.Common.{Err, true, refl, sym, ap, ◌∙◌, arith, append_assoc, append-nil}
+use Rattle.std.proofs.Common.{Err, true, refl, sym, ap, ◌∙◌, arith, append_assoc, append-nil, ◌+◌, inl, inr}
+use Rattle.std.specs.Prelude.{OnOk, OnErr, IfErr}
 use Rattle.qpack_spec.specs.Huffman.{HuffmanFault, code_of, bits_of_text, AreBytes, is_padding}
 use Rattle.qpack_spec.specs.Huffman.{item_at, with_front, text_after, text_at, text_of_bits}
 use Rattle.qpack_base.specs.declared.prefix_string.decoding.HuffmanDecodingError.{HuffmanDecodingError}
 use Rattle.std.proofs.Math.Seq.{take-append_seam}
 use Rattle.std.proofs.lemmas.List.Concat.{flat_map-cons}
-use Rattle.qpack_base.specs.Payloads.{huffman_fault_of, item_of, GivesItem, PassesCodes}
-use Rattle.qpack_base.proofs.Items.{item_shorter, item_code, item_end}
+use Rattle.qpack_base.specs.Payloads.{huffman_fault_of, item_of, GivesItem, PassesCodes, HasRoom}
+use Rattle.qpack_base.proofs.Items.{item_shorter, item_code, item_end, byte_long}
 
 same_after : (o : Option (Result ℕ HuffmanFault)) (m n : Result (List ℕ) HuffmanFault)
     → ((x : Result ℕ HuffmanFault) → o ≡ Some x → m ≡ n) → text_after o m ≡ text_after o n
@@ -109,3 +110,42 @@ pub front_is : (a : List ℕ) (m : Result (List ℕ) HuffmanFault) (b : List ℕ
     → (value : List ℕ) × (m ≡ Ok value) × (b ≡ a ++ value)
 front_is a (Ok t) b e = (t, refl, cc)
 front_is a (Err f) b e = absurd cc
+
+-- ---- the room for a text
+
+text_behind : (old new value : List ℕ) (b : ℕ) → GivesItem old (Some (Ok b)) new → text_of_bits old ≡ Ok value
+    → (more : List ℕ) × (text_of_bits new ≡ Ok more) × (value ≡ b ∷ more)
+text_behind old new value b g is = go (text_of_bits new) (sym (text_step old new (Some (Ok b)) g) ∙ is)
+  where
+    go : (m : Result (List ℕ) HuffmanFault) → with_front (b ∷ []) m ≡ Ok value
+        → (more : List ℕ) × (m ≡ Ok more) × (value ≡ b ∷ more)
+    go (Ok more) e = (more, refl, cc)
+    go (Err f) e = absurd cc
+
+-- where there is room for the text there is room for its first byte
+pub room_for_byte : (old new : List ℕ) (b free : ℕ) → GivesItem old (Some (Ok b)) new → HasRoom old free → 0 < free
+room_for_byte old new b free g (inl fits) = omega (arith, byte_long old new b g, fits)
+room_for_byte old new b free g (inr means) =
+    let t = text_behind old new means.0 b g means.1 in omega (arith, ap length t.2, means.2)
+
+-- and behind it for what is left
+pub room_behind_byte : (old new : List ℕ) (b free after : ℕ) → GivesItem old (Some (Ok b)) new → HasRoom old free
+    → free ≡ after + 1 → HasRoom new after
+room_behind_byte old new b free after g (inl fits) one = inl (omega (arith, byte_long old new b g, fits, one))
+room_behind_byte old new b free after g (inr means) one =
+    let t = text_behind old new means.0 b g means.1 in inr (t.0, t.1, omega (arith, ap length t.2, means.2, one))
+
+-- ---- what follows from what a part answers
+
+pub after_ok : {E : Type 0} (r : Result (Unit {0}) E) (A B : Type 0) → (A → B) → OnOk r A → OnOk r B
+after_ok (Ok x) A B f h = f h
+after_ok (Err e) A B f h = tt
+
+pub after_err : {E : Type 0} (r : Result (Unit {0}) E) (A B : Type 0) → (A → B) → OnErr r A → OnErr r B
+after_err (Ok x) A B f h = tt
+after_err (Err e) A B f h = f h
+
+pub after_fault : {E : Type 0} (r : Result (Unit {0}) E) (A B : E → Type 0) → ((e : E) → A e → B e) → IfErr r A
+    → IfErr r B
+after_fault (Ok x) A B f h = tt
+after_fault (Err e) A B f h = f e h

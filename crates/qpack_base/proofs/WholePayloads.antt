@@ -1,7 +1,8 @@
 -- Which payloads memory is asked for: those that are not empty.
 use Rattle.std.proofs.Common.{◌≡◌, ◌≢◌, ℕ, ◌%◌, Bool, true, false, cond}
 use Rattle.std.proofs.Common.{List, [], ◌∷◌, length, Result, Ok, Err, rules, arith, refl, sym, ap, subst, ◌∙◌, inl, inr}
-use Rattle.std.proofs.lemmas.Bool.{eqb-true}
+use Rattle.std.proofs.Common.{◌≤◌, ◌++◌, append-nil}
+use Rattle.std.proofs.lemmas.Bool.{eqb-true, le-leb}
 use Rattle.std.specs.Prelude.{◌==◌}
 use Rattle.std.specs.Global.{Vec}
 use Rattle.qpack_spec.specs.Bytes.{Begins}
@@ -15,6 +16,7 @@ use Rattle.qpack_spec.proofs.Texts.{string_takes, reads_refusals}
 use Rattle.qpack_base.specs.declared.prefix_string.Error.{Error}
 use Rattle.qpack_base.specs.declared.prefix_string.Error.TheVariants.{Memory}
 use Rattle.qpack_base.specs.Cursor.{CursorView}
+use Rattle.qpack_base.specs.Writes.{kept_within}
 use Rattle.qpack_base.specs.Strings.{IsWhole, TakesMemory, ReadsString, meaning}
 
 -- no bits mean the empty text
@@ -31,6 +33,14 @@ meaning_of_no_payload flags [] e = go (flags % 2 == 0)
     go true = refl
     go false = text_of_no_bits
 meaning_of_no_payload flags (b ∷ payload) e = absurd (let z = eqb-true _ _ e in omega arith)
+
+-- all of a value is kept where it is no longer
+pub all_kept : (most : ℕ) (value : List ℕ) → length value ≤ most → kept_within most value ≡ value
+all_kept most value le = rw (le-leb (length value) most le) refl
+
+-- an empty payload keeps the text as it is
+pub nothing_kept : (most : ℕ) (text : List ℕ) → text ≡ text ++ kept_within most []
+nothing_kept most text = sym (ap (λ (l : List ℕ). text ++ l) (all_kept most [] (omega arith)) ∙ append-nil text)
 
 -- a payload that means the empty text is empty
 payload_of_no_text : (payload : List ℕ) → PayloadMeans payload [] → payload ≡ []

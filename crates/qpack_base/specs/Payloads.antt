@@ -1,7 +1,8 @@
 -- What readers of Huffman coded payloads answer, and which bits they leave.
 use Rattle.std.specs.Prelude.{◌≡◌, ℕ, ◌-◌, ◌*◌, ◌/◌, ◌^◌, ◌%◌, ◌<◌, ◌≤◌, ◌⊎◌, List, [], ◌++◌, Option, Some, None}
-use Rattle.std.specs.Prelude.{Result, Ok, Err}
+use Rattle.std.specs.Prelude.{Result, Ok, Err, length, ◌+◌}
 use Rattle.qpack_spec.specs.Huffman.{HuffmanFault, bits_of, bits_of_bytes, code_of, AreBytes, bits_of_text, item_at}
+use Rattle.qpack_spec.specs.Huffman.{text_of_bits}
 use Rattle.qpack_spec.specs.Huffman as huffman
 use Rattle.qpack_base.specs.declared.prefix_string.decoding.HuffmanDecodingError.{HuffmanDecodingError}
 use Rattle.qpack_base.specs.declared.prefix_string.decoding.HuffmanDecodingError.TheVariants.{MissingBits, Unhandled}
@@ -70,3 +71,9 @@ pub record PassesCodes (old new items appended : List ℕ) : Type 0 where
   pub are : AreBytes text
   pub bits : old ≡ bits_of_text text ++ new
   pub append : appended ≡ items ++ text
+
+-- there is room for the longest text of bits that are so many, since no code has fewer than five; or for the one that
+-- they mean
+abbrev pub HasRoom : List ℕ → ℕ → Type 0
+HasRoom bits free = (length bits ≤ 5 * free + 4)
+    ⊎ ((value : List ℕ) × (text_of_bits bits ≡ Ok value) × (length value ≤ free))

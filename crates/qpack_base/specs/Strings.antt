@@ -1,6 +1,6 @@
 -- What readers of string literals answer.
 use Rattle.std.specs.Prelude.{◌≡◌, ◌≢◌, ℕ, ◌%◌, List, [], ◌++◌, Option, Some, None, Result, Ok, Err, ◌==◌}
-use Rattle.std.specs.Prelude.{if◌then◌else◌}
+use Rattle.std.specs.Prelude.{if◌then◌else◌, ◌≤◌, length}
 use Rattle.std.specs.Global.{Vec}
 use Rattle.std.specs.declared.vec.Vec.{Vec as AnyVec}
 use Rattle.qpack_spec.specs.Huffman.{HuffmanFault, bits_of_bytes, text_of_bits}
@@ -13,6 +13,7 @@ use Rattle.qpack_base.specs.declared.prefix_string.Error.TheVariants.{Memory}
 use Rattle.qpack_base.specs.Cursor.{CursorView}
 use Rattle.qpack_base.specs.Payloads.{huffman_fault_of}
 use Rattle.qpack_base.specs.Refusals.{IsRefusedFor}
+use Rattle.qpack_base.specs.Writes.{kept_within}
 
 -- the error of a string whose length has this one
 abbrev pub error_of_integer : IntegerError → Error
@@ -70,7 +71,39 @@ AppendsText old new (Err (HuffmanDecoding e)) read = (read ≡ Err (huffman_faul
 AppendsText old new (Err Memory) read = TakesMemory read × (new.items ≡ old.items)
 AppendsText old new (Err e) read = ⊥
 
--- ---- the same by cases
+-- ---- values of at most so many bytes
+
+-- the value that was read, under some flags, is appended if it has at most so many bytes, and its length is answered;
+-- the cursor stands behind it. Or it is the fault, and the text is as before
+abbrev pub AppendsStringWithin : {A : Type 0} → ℕ → CursorView → CursorView → AnyVec ℕ A → AnyVec ℕ A → Result ℕ Error
+    → Result (ℕ × List ℕ × List ℕ) StringFault → Type 0
+AppendsStringWithin most old new text_old text_new (Ok len) read = ((flags : ℕ) × (value : List ℕ)
+    × (read ≡ Ok (flags, value, new.rest)) × (len ≡ length value)
+    × (text_new.items ≡ text_old.items ++ kept_within most value)) × (new.total ≡ old.total)
+AppendsStringWithin most old new text_old text_new (Err e) read =
+    FailsString e read × (text_new.items ≡ text_old.items)
+
+-- the value that was read, if any was, has at most so many bytes
+abbrev pub FitsStringWithin : ℕ → Result (ℕ × List ℕ × List ℕ) StringFault → Type 0
+FitsStringWithin most (Ok x) = length x.1 ≤ most
+FitsStringWithin most (Err fault) = Unit {0}
+
+-- the same of a payload alone
+abbrev pub AppendsTextWithin : {A : Type 0} → ℕ → AnyVec ℕ A → AnyVec ℕ A → Result ℕ Error
+    → Result (List ℕ) HuffmanFault → Type 0
+AppendsTextWithin most old new (Ok len) read = (value : List ℕ) × (read ≡ Ok value) × (len ≡ length value)
+    × (new.items ≡ old.items ++ kept_within most value)
+AppendsTextWithin most old new (Err (HuffmanDecoding e)) read =
+    (read ≡ Err (huffman_fault_of e)) × (new.items ≡ old.items)
+AppendsTextWithin most old new (Err Memory) read = TakesMemory read × (new.items ≡ old.items)
+AppendsTextWithin most old new (Err e) read = ⊥
+
+-- the text, if the payload means any, has at most so many bytes
+abbrev pub FitsWithin : ℕ → Result (List ℕ) HuffmanFault → Type 0
+FitsWithin most (Ok value) = length value ≤ most
+FitsWithin most (Err fault) = Unit {0}
+
+-- ---- reading by cases
 
 -- the answer is the value, and what moves moved; or memory was refused
 abbrev pub GivesValue : Result (Vec ℕ) Error → List ℕ → Type 0 → Type 0

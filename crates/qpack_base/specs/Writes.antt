@@ -1,5 +1,6 @@
 -- What a writer of an integer, a string, a line, an instruction or a prefix leaves in the vector.
 use Rattle.std.specs.Prelude.{◌≡◌, ℕ, ◌+◌, ◌≤◌, List, ◌++◌, length, vec_len, vec_capacity, Result, OnOk, OnErr, IsOk}
+use Rattle.std.specs.Prelude.{if◌then◌else◌, nat_le, []}
 use Rattle.std.specs.declared.vec.Vec.{Vec}
 
 -- the encoding is appended, or the vector is as before; free room for the encoding is enough, and then is not grown
@@ -9,3 +10,7 @@ pub record Writes {A E : Type 0} (encoding : List ℕ) (old new : Vec ℕ A) (r 
   pub succeeds : vec_len old + length encoding ≤ vec_capacity old → IsOk r
   pub still : vec_len old + length encoding ≤ vec_capacity old → vec_capacity new ≡ vec_capacity old
   pub capacity : vec_capacity old ≤ vec_capacity new
+
+-- the bytes if there are at most so many of them, else none
+abbrev pub kept_within : ℕ → List ℕ → List ℕ
+kept_within most bytes = if nat_le (length bytes) most then bytes else []

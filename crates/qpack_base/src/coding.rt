@@ -1,9 +1,11 @@
 //! A cursor over bytes, and the reading and writing of single bytes.
 
 ghost use Rattle.std.specs.Prelude.{◌≡◌, ℕ, ◌+◌, ◌^◌, ◌<◌, ◌≤◌, ◌++◌, ◌∷◌, [], List, OnOk, OnErr, IsOk, length, drop};
-ghost use Rattle.std.specs.Prelude.{vec_len, vec_capacity};
+ghost use Rattle.std.specs.Prelude.{vec_len, vec_capacity, max, IfOk};
 ghost use Rattle.qpack_base.specs.Cursor.{CursorView, ReadsByte};
+ghost use Rattle.qpack_base.specs.Writes.{kept_within};
 
+use core::mem::replace_with;
 use std::alloc::{AllocError, AllocFailed, Allocator};
 use std::marker::Model;
 use thiserror::Error as ThisError;
@@ -204,4 +206,69 @@ pub(crate) fn make_room<A: Allocator>(
     }
     buf.reserve(additional)?;
     Ok(())
+}
+
+/// The least room that a growth makes, in elements, where it may.
+const LEAST_GROWTH: usize = 4;
+
+/// Makes room for `additional` elements more, of at most `most`. A growth doubles the capacity, but makes no room past
+/// `most` elements more. Where it is free already, nothing changes and no memory is taken.
+pub fn make_room_within<T, A: Allocator>(
+    buf: &mut Vec<T, A>,
+    additional: usize,
+    most: usize,
+) -> std::result::Result<(), NoMemory>
+    requires { additional ≤ most }
+    ensures items { buf.new.items ≡ buf.old.items }
+    ensures len { vec_len buf.new ≡ vec_len buf.old }
+    ensures ok { OnOk result (vec_len buf.new + additional ≤ vec_capacity buf.new) }
+    ensures full { OnErr result (vec_capacity buf.old < vec_len buf.old + additional) }
+    ensures still { vec_len buf.old + additional ≤ vec_capacity buf.old → vec_capacity buf.new ≡ vec_capacity buf.old }
+    ensures capacity { vec_capacity buf.old ≤ vec_capacity buf.new }
+    ensures within { vec_capacity buf.new ≤ max (vec_capacity buf.old) (vec_len buf.old + most) }
+{
+    let free = buf.capacity().saturating_sub(buf.len());
+    if additional <= free {
+        return Ok(());
+    }
+    let doubled = buf.capacity().saturating_add(free);
+    buf.reserve_exact(doubled.max(LEAST_GROWTH).min(most).max(additional))?;
+    Ok(())
+}
+
+/// Appends the bytes if they are at most `most`, and makes no room past so many more. Returns how many they are. On
+/// error the vector is as before.
+pub fn append_within<A: Allocator>(
+    bytes: &[u8],
+    most: usize,
+    buf: &mut Vec<u8, A>,
+) -> std::result::Result<usize, NoMemory>
+    ensures ok { IfOk result (λ len. (len ≡ length bytes.now) ×
+        (buf.new.items ≡ buf.old.items ++ kept_within most bytes.now)) }
+    ensures err { OnErr result (buf.new.items ≡ buf.old.items) }
+    // Memory is refused only where there was less room, and only to bytes that would be appended.
+    ensures full { OnErr result (vec_capacity buf.old < vec_len buf.old + length bytes.now) }
+    ensures fits { OnErr result (length bytes.now ≤ most) }
+    ensures capacity { vec_capacity buf.old ≤ vec_capacity buf.new }
+    ensures within { vec_capacity buf.new ≤ max (vec_capacity buf.old) (vec_len buf.old + most) }
+{
+    let len = bytes.len();
+    if len > most {
+        return Ok(len);
+    }
+    make_room_within(buf, len, most)?;
+    replace_with(buf, bytes, extended);
+    Ok(len)
+}
+
+/// The vector with the bytes behind it, for which there is room. It is passed by value, so that it stays in registers.
+fn extended<A: Allocator>(mut buf: Vec<u8, A>, bytes: &[u8]) -> (Vec<u8, A>, ())
+    requires { vec_len buf + length bytes.now ≤ vec_capacity buf }
+    ensures items { result.0.items ≡ buf.items ++ bytes.now }
+    ensures capacity { vec_capacity result.0 ≡ vec_capacity buf }
+{
+    for byte in bytes {
+        buf.push_reserved(*byte);
+    }
+    (buf, ())
 }

@@ -2,17 +2,18 @@
 //! RFC 9204, section 4.1.2).
 
 ghost use Rattle.std.specs.Prelude.{◌≡◌, ◌≢◌, ℕ, ◌≤◌, ◌-◌, ◌++◌, ◌↔◌, List, [], Err, IfOk, IfErr, OnOk, OnErr};
-ghost use Rattle.std.specs.Prelude.{◌+◌, ◌*◌, ◌/◌, ◌<◌, Ok, length, take, vec_len, vec_capacity, IsTrue, false};
+ghost use Rattle.std.specs.Prelude.{◌+◌, ◌*◌, ◌/◌, ◌<◌, Ok, length, take, vec_len, vec_capacity, IsTrue, false, max};
 ghost use Rattle.qpack_spec.specs.Bytes.{Begins};
 ghost use Rattle.qpack_spec.specs.Huffman.{HuffmanFault, bits_of_bytes, with_front, text_of_bits};
 ghost use Rattle.qpack_spec.specs.Text.{LengthOverflows, BadHuffman, SpellsString, RefusesString, TruncatesString};
 ghost use Rattle.qpack_spec.specs.Text.{HoldsPayload, value_before, string_at, written_string};
 ghost use Rattle.qpack_base.specs.Cursor.{MovesPast};
-ghost use Rattle.qpack_base.specs.Payloads.{huffman_fault_of};
+ghost use Rattle.qpack_base.specs.Payloads.{huffman_fault_of, HasRoom};
 ghost use Rattle.qpack_base.specs.Refusals.{IsRefusedFor};
 ghost use Rattle.qpack_base.specs.Writes.{Writes};
 ghost use Rattle.qpack_base.specs.Strings.{error_of_integer, string_fault_of, meaning, ReadsString, AppendsString};
 ghost use Rattle.qpack_base.specs.Strings.{AppendsText, GivesValue, IsFaulty, GivesFault};
+ghost use Rattle.qpack_base.specs.Strings.{AppendsStringWithin, AppendsTextWithin, FitsWithin, FitsStringWithin};
 ghost use Rattle.qpack_base.specs.declared.prefix_string.Error.TheVariants.{UnexpectedEnd as Truncated};
 ghost use Rattle.qpack_base.specs.declared.prefix_string.Error.TheVariants.{Integer as BadLength};
 ghost use Rattle.qpack_base.specs.declared.prefix_string.Error.TheVariants.{HuffmanDecoding as BadPayload};
@@ -26,7 +27,7 @@ mod decoding_tables;
 mod encoding;
 mod encoding_table;
 
-use crate::coding::{Cursor, NoMemory, make_room};
+use crate::coding::{Cursor, NoMemory, append_within, make_room, make_room_within};
 use crate::prefix_int;
 use crate::prefix_string::ahead::push_codes;
 pub use crate::prefix_string::bitwin::BitWindow;
@@ -164,6 +165,30 @@ pub fn decode_onto<A: Allocator>(
     ensures capacity { vec_capacity text.old ≤ vec_capacity text.new }
 {
     read_payload(take_payload(size, buf)?, text)
+}
+
+/// Reads the string at the cursor as `decode_onto` does, and appends its value if it has at most `most` bytes. Returns
+/// how many it has. A longer one takes no memory, and the text is as before. The text never gets room past `most` bytes
+/// more.
+pub fn decode_within<A: Allocator>(
+    size: u8,
+    most: usize,
+    buf: &mut Cursor,
+    text: &mut Vec<u8, A>,
+) -> Result<usize, Error>
+    requires least { 2 ≤ size }
+    requires greatest { size ≤ 8 }
+    // The value that is read is appended if it is no longer, and the cursor moves past exactly its string.
+    ensures exact { AppendsStringWithin most buf.old buf.new text.old text.new result (string_at size buf.old.rest) }
+    // Memory is refused only where there was less room than any payload of the bytes that are left may want,
+    ensures memory { result ≡ Err NoRoom →
+        vec_capacity text.old < vec_len text.old + (length buf.old.rest / 5 * 8 + 6) }
+    // and only to a value that would be appended, or to a payload that means nothing.
+    ensures fits { result ≡ Err NoRoom → FitsStringWithin most (string_at size buf.old.rest) }
+    ensures capacity { vec_capacity text.old ≤ vec_capacity text.new }
+    ensures within { vec_capacity text.new ≤ max (vec_capacity text.old) (vec_len text.old + most) }
+{
+    read_within(take_payload(size, buf)?, most, text)
 }
 
 /// Appends the coded literal of the value with a prefix of `size` bits, under the flags, which are cut
@@ -354,6 +379,29 @@ fn read_payload<A: Allocator>(payload: Payload, text: &mut Vec<u8, A>) -> Result
     read_text(payload.bytes, text)
 }
 
+/// Appends the value of a payload if it has at most `most` bytes. Returns how many it has.
+fn read_within<A: Allocator>(
+    payload: Payload,
+    most: usize,
+    text: &mut Vec<u8, A>,
+) -> Result<usize, Error>
+    ensures exact { AppendsTextWithin most text.old text.new result
+        (meaning payload.entry.flags payload.entry.bytes.now) }
+    ensures memory { result ≡ Err NoRoom →
+        vec_capacity text.old < vec_len text.old + (length payload.entry.bytes.now / 5 * 8 + 6) }
+    ensures fits { result ≡ Err NoRoom → FitsWithin most (meaning payload.entry.flags payload.entry.bytes.now) }
+    ensures capacity { vec_capacity text.old ≤ vec_capacity text.new }
+    ensures within { vec_capacity text.new ≤ max (vec_capacity text.old) (vec_len text.old + most) }
+{
+    if payload.bytes.is_empty() {
+        return Ok(0);
+    }
+    if payload.flags % 2 == 0 {
+        return Ok(append_within(payload.bytes, most, text)?);
+    }
+    read_text_within(payload.bytes, most, text)
+}
+
 /// Appends a plain payload.
 fn push_plain<A: Allocator>(payload: &[u8], text: &mut Vec<u8, A>) -> Result<(), Error>
     ensures ok { OnOk result (text.new.items ≡ text.old.items ++ payload.now) }
@@ -380,8 +428,7 @@ fn make_text_room<A: Allocator>(text: &mut Vec<u8, A>, additional: usize) -> Res
     make_room(text, additional)
 }
 
-/// Appends the text that a coded payload means. No code has fewer than five bits, so that is the room that is asked
-/// for.
+/// Appends the text that a coded payload means, with room made for the longest.
 fn read_text<A: Allocator>(payload: &[u8], text: &mut Vec<u8, A>) -> Result<(), Error>
     requires { payload.now ≢ [] }
     ensures exact { AppendsText text.old text.new result (text_of_bits (bits_of_bytes payload.now)) }
@@ -389,13 +436,82 @@ fn read_text<A: Allocator>(payload: &[u8], text: &mut Vec<u8, A>) -> Result<(), 
         vec_capacity text.old < vec_len text.old + (length payload.now / 5 * 8 + 6) }
     ensures capacity { vec_capacity text.old ≤ vec_capacity text.new }
 {
-    make_text_room(text, payload.len() / 5 * 8 + 6)?;
+    make_text_room(text, longest_text(payload))?;
+    Ok(push_text(payload, text)?)
+}
+
+/// The same if the text has at most `most` bytes. Returns how many it has. It is counted first where a payload of this
+/// length may mean more.
+fn read_text_within<A: Allocator>(
+    payload: &[u8],
+    most: usize,
+    text: &mut Vec<u8, A>,
+) -> Result<usize, Error>
+    requires { payload.now ≢ [] }
+    ensures exact { AppendsTextWithin most text.old text.new result (text_of_bits (bits_of_bytes payload.now)) }
+    ensures memory { result ≡ Err NoRoom →
+        vec_capacity text.old < vec_len text.old + (length payload.now / 5 * 8 + 6) }
+    ensures fits { result ≡ Err NoRoom → FitsWithin most (text_of_bits (bits_of_bytes payload.now)) }
+    ensures capacity { vec_capacity text.old ≤ vec_capacity text.new }
+    ensures within { vec_capacity text.new ≤ max (vec_capacity text.old) (vec_len text.old + most) }
+{
+    let start = text.len();
+    let longest = longest_text(payload);
+    if longest <= most {
+        make_room_within(text, longest, most)?;
+        push_text(payload, text)?;
+        return Ok(text.len() - start);
+    }
+    let len = text_len(payload)?;
+    if len <= most {
+        make_room_within(text, len, most)?;
+        push_rest(start, DecodeIter::new(payload), text)?;
+    }
+    Ok(len)
+}
+
+/// No fewer bytes than any payload of this length means, since no code has fewer than five bits.
+fn longest_text(payload: &[u8]) -> usize
+    ensures { result ≡ length payload.now / 5 * 8 + 6 }
+{
+    payload.len() / 5 * 8 + 6
+}
+
+/// How many bytes the text has that a coded payload means.
+fn text_len(payload: &[u8]) -> Result<usize, HuffmanDecodingError>
+    ensures ok { IfOk result (λ len. (value : List ℕ) × (text_of_bits (bits_of_bytes payload.now) ≡ Ok value) ×
+        (len ≡ length value)) }
+    ensures fault { IfErr result (λ e. text_of_bits (bits_of_bytes payload.now) ≡ Err (huffman_fault_of e)) }
+{
+    let mut len = 0;
+    for byte in DecodeIter::new(payload) {
+        match byte {
+            Ok(_) => len += 1,
+            Err(e) => return Err(e),
+        }
+    }
+    Ok(len)
+}
+
+/// Appends the text that a coded payload means into the free room, which is enough for the longest. Where it means
+/// nothing, the text is as before.
+fn push_text<A: Allocator>(
+    payload: &[u8],
+    text: &mut Vec<u8, A>,
+) -> Result<(), HuffmanDecodingError>
+    requires room { 8 * length payload.now ≤ 5 * (vec_capacity text.old - vec_len text.old) + 4 }
+    ensures ok { OnOk result ((value : List ℕ) × (text_of_bits (bits_of_bytes payload.now) ≡ Ok value) ×
+        (text.new.items ≡ text.old.items ++ value)) }
+    ensures fault { IfErr result (λ e. text_of_bits (bits_of_bytes payload.now) ≡ Err (huffman_fault_of e)) }
+    ensures err { OnErr result (text.new.items ≡ text.old.items) }
+    ensures capacity { vec_capacity text.new ≡ vec_capacity text.old }
+{
     let start = text.len();
     let rest = replace_with(text, payload, push_codes);
     if rest.is_end() {
         return Ok(());
     }
-    Ok(push_rest(start, rest, text)?)
+    push_rest(start, rest, text)
 }
 
 /// Appends what the rest of a payload means into the free room. Where that is nothing, the text is cut to its first
@@ -406,7 +522,7 @@ fn push_rest<A: Allocator>(
     text: &mut Vec<u8, A>,
 ) -> Result<(), HuffmanDecodingError>
     requires start { start ≤ vec_len text.old }
-    requires room { length rest ≤ 5 * (vec_capacity text.old - vec_len text.old) + 4 }
+    requires room { HasRoom rest (vec_capacity text.old - vec_len text.old) }
     ensures ok { OnOk result (with_front text.old.items (text_of_bits rest.entry) ≡ Ok text.new.items) }
     ensures fault { IfErr result (λ e. text_of_bits rest.entry ≡ Err (huffman_fault_of e)) }
     ensures err { OnErr result (text.new.items ≡ take start text.old.items) }
