@@ -71,6 +71,11 @@ told_of_receiving (Err (EncoderStream place e)) taken =
     }
 told_of_receiving (Err e) taken = record { status = of_decoding e; taken = taken; number = 0; offset = 0 }
 
+-- how many bytes a call took: all if it refused the stream, which no earlier call did; otherwise those that are not left
+abbrev pub taken_of : Option DecodingError → Result ℕ DecodingError → ℕ → ℕ → ℕ
+taken_of None (Err (EncoderStream place e)) len left = len
+taken_of ended answer len left = len - left
+
 -- bytes of the encoder stream are received as the end does it, of which some are left
 pub record ReceivesTo (old new : State) (bytes : List ℕ) (told : Received) : Type 0 where
   pub answer : Result ℕ DecodingError
@@ -80,7 +85,7 @@ pub record ReceivesTo (old new : State) (bytes : List ℕ) (told : Received) : T
       → ReceivesBytes start before old.end new.end bytes left answer
   pub ended : IfSome old.end.failure (λ e. (answer ≡ Err e) × (new.end ≡ old.end) × (left ≡ bytes))
   pub fields : new.fields ≡ old.fields
-  pub told_is : told ≡ told_of_receiving answer (length bytes - length left)
+  pub told_is : told ≡ told_of_receiving answer (taken_of old.end.failure answer (length bytes) (length left))
 
 -- a stream that can be decoded now is told, and a 1 is answered; or there is none, and a 0 is
 abbrev pub TellsReady : Option ℕ → ℕ → ℕ → ℕ → Type 0

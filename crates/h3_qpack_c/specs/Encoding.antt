@@ -1,5 +1,5 @@
 -- What the calls of an encoding end do in C.
-use Rattle.std.specs.Prelude.{◌≡◌, ℕ, ℤ, ⊤, min, List, [], length, take, drop, Option, None, Some}
+use Rattle.std.specs.Prelude.{◌≡◌, ◌-◌, ℕ, ℤ, ⊤, min, List, [], length, take, drop, Option, None, Some}
 use Rattle.std.specs.Prelude.{Result, Ok, Err}
 use Rattle.std.specs.Option.{IfSome}
 use Rattle.qpack_spec.specs.Field.{FieldLine}
@@ -43,21 +43,23 @@ pub record TakesStream (old new : State) (before after : List ℕ) (taken : ℕ)
   pub copied_is : after ≡ written_over (take taken old.end.unsent) before
   pub new_is : new ≡ record old { end = record old.end { unsent = drop taken old.end.unsent } }
 
--- what is told of so many bytes of the decoder stream
+-- what is told of bytes of the decoder stream, of which so many were taken
 abbrev pub told_of_hearing : Result ⊤ EncodingError → ℕ → Received
-told_of_hearing (Ok done_) len = record { status = done; taken = len; number = 0; offset = 0 }
-told_of_hearing (Err (DecoderStream e)) len =
-    record { status = of_encoding (DecoderStream e); taken = 0; number = e.place.number; offset = e.place.offset }
-told_of_hearing (Err e) len = record { status = of_encoding e; taken = 0; number = 0; offset = 0 }
+told_of_hearing (Ok done_) taken = record { status = done; taken = taken; number = 0; offset = 0 }
+told_of_hearing (Err (DecoderStream e)) taken =
+    record { status = of_encoding (DecoderStream e); taken = taken; number = e.place.number; offset = e.place.offset }
+told_of_hearing (Err e) taken = record { status = of_encoding e; taken = taken; number = 0; offset = 0 }
 
--- bytes of the decoder stream are received as the end does it
+-- bytes of the decoder stream are received as the end does it: all of them, or none where the connection was ended
 pub record HearsTo (old new : State) (bytes : List ℕ) (told : Received) : Type 0 where
   pub answer : Result ⊤ EncodingError
-  pub receives : old.end.failure ≡ None → (heard : List DecoderInstruction) (before : List ℕ)
-      → Receives heard before old.end.stream → ReceivesBytes heard before old.end new.end bytes answer
-  pub ended : IfSome old.end.failure (λ e. (answer ≡ Err e) × (new.end ≡ old.end))
+  pub left : List ℕ
+  pub receives : old.end.failure ≡ None → (left ≡ [])
+      × ((heard : List DecoderInstruction) (before : List ℕ)
+      → Receives heard before old.end.stream → ReceivesBytes heard before old.end new.end bytes answer)
+  pub ended : IfSome old.end.failure (λ e. (answer ≡ Err e) × (new.end ≡ old.end) × (left ≡ bytes))
   pub section : new.section ≡ old.section
-  pub told_is : told ≡ told_of_hearing answer (length bytes)
+  pub told_is : told ≡ told_of_hearing answer (length bytes - length left)
 
 -- a capacity is set as the end does it
 pub record SetsCapacityTo (old new : State) (capacity : ℕ) (status : ℤ) : Type 0 where

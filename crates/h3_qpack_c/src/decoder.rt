@@ -8,6 +8,7 @@ ghost use Rattle.qpack_ends.specs.Decoders.{FailsSettings, blocked_streams};
 ghost use Rattle.qpack_ends.specs.declared.decoder.DecoderSettings.{DecoderSettings};
 ghost use Rattle.h3_qpack_c.specs.Crossing.{Makes, Gives, GivesAll};
 ghost use Rattle.h3_qpack_c.specs.Decoding.{DecodesTo, ReceivesTo, CancelsTo, TakesStream, TellsReady, InRange};
+ghost use Rattle.h3_qpack_c.specs.Decoding.{taken_of};
 ghost use Rattle.h3_qpack_c.specs.Decoding.{told_of_refusal, told_of_receiving, IsNew, KeepsNew};
 
 use crate::answers::{Decoding, Given, Received, Written};
@@ -218,9 +219,28 @@ pub extern "C" fn h3q_decoder_read(handle: &mut Handle, bytes: &[u8]) -> Receive
 fn read(state: &mut State, bytes: &[u8]) -> Received
     ensures { ReceivesTo state.old state.new bytes.now result }
 {
+    let ended = state.end.failure();
     let mut cursor = Cursor::new(bytes);
     let answer = state.end.receive(&mut cursor);
-    received(&answer, bytes.len().saturating_sub(cursor.remaining()))
+    received(
+        &answer,
+        taken(ended, &answer, bytes.len(), cursor.remaining()),
+    )
+}
+
+/// Returns how many bytes a call took: all if it refused the stream, and otherwise those that are not left.
+fn taken(
+    ended: Option<DecodingError>,
+    answer: &Result<usize, DecodingError>,
+    len: usize,
+    left: usize,
+) -> usize
+    ensures { result ≡ taken_of ended answer.now len left }
+{
+    match (ended, answer) {
+        (None, Err(DecodingError::EncoderStream { .. })) => len,
+        _ => len.saturating_sub(left),
+    }
 }
 
 /// What is told of bytes of the encoder stream, of which so many were taken.

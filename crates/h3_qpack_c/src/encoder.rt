@@ -7,6 +7,7 @@ ghost use Rattle.h3_qpack_c.specs.Crossing.{line_of_lent, copied, told_of_copy, 
 ghost use Rattle.h3_qpack_c.specs.Encoding.{EncodesTo, HearsTo, SetsCapacityTo, TakesStream, told_of_hearing};
 ghost use Rattle.h3_qpack_c.specs.Encoding.{IsNew, KeepsNew};
 ghost use Rattle.qpack_ends.specs.declared.encoder.EncoderSettings.{EncoderSettings};
+ghost use Rattle.qpack_ends.specs.Risk.{streams_at_risk};
 
 use crate::answers::{Encoded, Received, Written};
 use crate::fields::{Field, copy_front, write};
@@ -205,29 +206,29 @@ fn read(state: &mut State, bytes: &[u8]) -> Received
 {
     let mut cursor = Cursor::new(bytes);
     let answer = state.end.receive(&mut cursor);
-    heard(&answer, bytes.len())
+    heard(&answer, bytes.len().saturating_sub(cursor.remaining()))
 }
 
-/// What is told of bytes of the decoder stream.
-fn heard(answer: &Result<(), EncodingError>, len: usize) -> Received
-    ensures { result ≡ told_of_hearing answer.now len }
+/// What is told of bytes of the decoder stream, of which so many were taken.
+fn heard(answer: &Result<(), EncodingError>, taken: usize) -> Received
+    ensures { result ≡ told_of_hearing answer.now taken }
 {
     match answer {
         Ok(()) => Received {
             status: DONE,
-            taken: len,
+            taken,
             number: 0,
             offset: 0,
         },
         Err(EncodingError::DecoderStream(error)) => Received {
             status: DECODER_STREAM_ERROR,
-            taken: 0,
+            taken,
             number: error.place.number,
             offset: error.place.offset,
         },
         Err(error) => Received {
             status: status_of_encoding(error),
-            taken: 0,
+            taken,
             number: 0,
             offset: 0,
         },
@@ -254,11 +255,11 @@ fn set_capacity(state: &mut State, capacity: usize) -> i32
     }
 }
 
-/// How many sections may be blocked.
+/// How many streams may be blocked.
 #[unsafe(no_mangle)]
 pub extern "C" fn h3q_encoder_blocked(handle: &mut Handle) -> usize
     ensures same { handle.new.value ≡ handle.old.value }
-    ensures exact { result ≡ length handle.old.value.end.table.blocked }
+    ensures exact { result ≡ length (streams_at_risk handle.old.value.end.table) }
 {
     let state = state(handle);
     let blocked = state.end.blocked();

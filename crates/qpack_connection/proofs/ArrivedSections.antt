@@ -1,5 +1,5 @@
 -- All that a section requires was written before it, and is there once those bytes were received.
-use Rattle.std.proofs.Common.{◌≡◌, ◌≤◌, ◌+◌, ℕ, min, List, [], ◌∷◌, ◌++◌, length, drop, Some, Ok, Err, refl, sym}
+use Rattle.std.proofs.Common.{◌≡◌, ◌≤◌, ◌+◌, ℕ, List, [], ◌∷◌, ◌++◌, length, drop, Some, Ok, Err, refl, sym}
 use Rattle.std.proofs.Common.{ap, subst, ◌∙◌, arith, append_assoc, length-append}
 use Rattle.std.proofs.lemmas.Bool.{eq-eqb}
 use Rattle.std.proofs.lemmas.List.{append-nil, take-append-drop, length-take}
@@ -36,14 +36,14 @@ use Rattle.qpack_connection.proofs.TwoEndsHeadline.{step_kept, new_kept}
 
 -- ---- what is kept by calls in turn
 
-run_kept : (maximum limit most : ℕ) → limit ≤ most → (calls : List Call) (old new : Connection) (steps : List EndStep)
+run_kept : (maximum limit most : ℕ) → (calls : List Call) (old new : Connection) (steps : List EndStep)
     → IsKept maximum limit most old steps → (run : Run calls old new) → AllFit calls old new run
     → (done : List EndStep) × IsKept maximum limit most new done
-run_kept maximum limit most within [] old new steps k run fits =
+run_kept maximum limit most [] old new steps k run fits =
     (steps, subst (λ (x : Connection). IsKept maximum limit most x steps) (sym run) k)
-run_kept maximum limit most within (call ∷ calls) old new steps k run fits =
-    let one = step_kept maximum limit most within call old run.0 steps k run.1 fits.0 in
-    run_kept maximum limit most within calls run.0 new (steps ++ one.1) one.2 run.2 fits.1
+run_kept maximum limit most (call ∷ calls) old new steps k run fits =
+    let one = step_kept maximum limit most call old run.0 steps k run.1 fits.0 in
+    run_kept maximum limit most calls run.0 new (steps ++ one.1) one.2 run.2 fits.1
 
 -- ---- the encoder stream grows
 
@@ -193,15 +193,14 @@ pub sections_arrive : SectionsArrive
 sections_arrive before since first old sent now new s fields required many total n run fits step fit later more receives
     enough =
     let maximum = n.encoder_settings.max_capacity in
-    let limit = min n.encoder_settings.max_blocked 65534 in
+    let limit : ℕ = 4096 in
     let most = n.decoder_settings.max_blocked in
-    let within : limit ≤ most = omega (arith, n.same_blocked) in
     let holds = λ (steps : List EndStep). (holds_behind 0 maximum limit steps (abstract_start 0 maximum limit)
     (holds_started 0 maximum limit (omega arith))).invariant in
-    let k = run_kept maximum limit most within before first old [] (new_kept first n) run fits in
-    let a = step_kept maximum limit most within (Encode s fields (Ok required)) old sent k.0 k.1 step fit in
-    let b = run_kept maximum limit most within since sent now (k.0 ++ a.1) a.2 later more in
-    let c = step_kept maximum limit most within (Receive many (Ok total)) now new b.0 b.1 receives tt in
+    let k = run_kept maximum limit most before first old [] (new_kept first n) run fits in
+    let a = step_kept maximum limit most (Encode s fields (Ok required)) old sent k.0 k.1 step fit in
+    let b = run_kept maximum limit most since sent now (k.0 ++ a.1) a.2 later more in
+    let c = step_kept maximum limit most (Receive many (Ok total)) now new b.0 b.1 receives tt in
     let w = after_end_steps (k.0 ++ a.1) (abstract_start 0 maximum limit) in
     let v = after_end_steps (b.0 ++ c.1) (abstract_start 0 maximum limit) in
     let grown = run_grown since sent now later in

@@ -26,6 +26,8 @@ use Rattle.qpack_spec.proofs.Positions.{eviction_count_live}
 use Rattle.qpack_spec.proofs.Readings.{greatest_bound}
 use Rattle.qpack_spec.proofs.Results.{bind_ok, ok_is}
 use Rattle.qpack_spec.proofs.Windows.{Sound, sound_start, sound_grown, leads_sound}
+use Rattle.qpack_ends.specs.Risk.{streams_at_risk}
+use Rattle.qpack_ends.proofs.Risk.{heard_within}
 use Rattle.qpack_safety.proofs.Encoding.{same_committed, kept_committed, blocked_committed}
 use Rattle.qpack_safety.proofs.Fronts.{length_filter}
 use Rattle.qpack_safety.proofs.Hearing.{kept_opened, kept_raised}
@@ -288,6 +290,25 @@ careful_hearing limit t u [] k e = subst (IsCarefulTable limit) (ok_is t u e) k
 careful_hearing limit t u (i ∷ is) k e =
     let one = bind_ok (strict_hear t i) (λ v. hear_in_turn v is) u e in
     careful_hearing limit one.0 u is (careful_heard limit t one.0 i k one.1) one.2
+
+-- what is heard puts no stream at risk
+risk_heard : (limit : ℕ) (t u : Table) (i : DecoderInstruction) → IsCarefulTable limit t → strict_hear t i ≡ Ok u
+    → length (streams_at_risk u) ≤ length (streams_at_risk t)
+risk_heard limit t u i k e =
+    let few = careful_count limit t k in
+    heard_within t u i e (omega (arith, k.known, few))
+    (λ s. (let most = oldest_within t s t.unacknowledged k.kept.held in omega (arith, most, few)))
+
+pub careful_risk : (limit : ℕ) (t u : Table) (is : List DecoderInstruction) → IsCarefulTable limit t
+    → hear_in_turn t is ≡ Ok u → length (streams_at_risk u) ≤ length (streams_at_risk t)
+careful_risk limit t u [] k e = omega (arith, ap (λ (x : Table). length (streams_at_risk x)) (ok_is t u e))
+careful_risk limit t u (i ∷ is) k e =
+    let one = bind_ok (strict_hear t i) (λ v. hear_in_turn v is) u e in
+    omega (
+      arith,
+      risk_heard limit t one.0 i k one.1,
+      careful_risk limit one.0 u is (careful_heard limit t one.0 i k one.1) one.2,
+    )
 
 -- ---- nothing is blocked where all insertions are known
 

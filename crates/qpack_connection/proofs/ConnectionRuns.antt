@@ -80,7 +80,7 @@ makes_so old new call at m =
     let h = reached_holds old at in
     record {
       makes = m;
-      answers = (step_kept h.maximum h.limit old.decoder.settings.max_blocked h.within call old m.next h.steps h.kept
+      answers = (step_kept h.maximum h.limit old.decoder.settings.max_blocked call old m.next h.steps h.kept
           m.step m.fits).0;
     }
 
@@ -104,7 +104,7 @@ goes_so old new e outcome.NoRoom at g = tt
 pub reached_within : (s : Connection) → IsReached s → IsWithin s.decoder.settings.max_blocked s
 reached_within s at =
     let h = reached_holds s at in
-    kept_within h.maximum h.limit s.decoder.settings.max_blocked s h.steps h.within h.kept
+    kept_within h.maximum h.limit s.decoder.settings.max_blocked s h.steps h.kept
 
 -- ---- events in turn
 

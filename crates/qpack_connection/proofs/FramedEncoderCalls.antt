@@ -1,5 +1,5 @@
 -- An encoding end that keeps all that it wrote: a call adds to that what it writes, as of an end of which all was sent.
-use Rattle.std.proofs.Common.{◌≡◌, ℕ, List, [], ◌++◌, Option, None, Some, Result, Ok, Err, ◌⊎◌, inl, inr, true, take}
+use Rattle.std.proofs.Common.{◌≡◌, ℕ, List, [], ◌++◌, Option, None, Some, Result, Ok, Err, ◌⊎◌, inl, inr, take}
 use Rattle.std.proofs.Common.{refl, sym, ap, subst, ◌∙◌, append_assoc}
 use Rattle.std.proofs.lemmas.List.{append-nil}
 use Rattle.std.specs.Prelude.{⊤}
@@ -10,7 +10,7 @@ use Rattle.qpack_ends.specs.declared.encoder.EncodingError.{EncodingError}
 use Rattle.qpack_ends.specs.declared.encoder.EncodingError.TheVariants.{Memory}
 use Rattle.qpack_ends.specs.Encoders.{EncodingEnd, begun, begun_with, WritesSection, WritesAlone, GivesUpSection}
 use Rattle.qpack_ends.specs.Encoders.{StopsForMemory, Encodes, SetsIt, SetsCapacity, TellsCapacity}
-use Rattle.qpack_ends.specs.Encoders.{Checks, is_full}
+use Rattle.qpack_ends.specs.Encoders.{Checks}
 
 -- the end with other bytes that are to be sent
 abbrev pub with_unsent : List ℕ → EncodingEnd → EncodingEnd
@@ -72,6 +72,7 @@ module _ (e e' : EncodingEnd) (s : ℕ) (fields : List FieldLine) (section : Lis
                 block = w.section.block;
                 written = refl;
               };
+              known = w.known;
               new_is = ap (with_unsent more) w.new_is;
             }),
       )
@@ -113,17 +114,14 @@ module _ (e e' : EncodingEnd) (s : ℕ) (fields : List FieldLine) (section : Lis
             }),
       )
 
-  full_framed : (b : Begun e) → e' ≡ begun e
+  begun_told : (b : Begun e) → e' ≡ begun e
       → (more : List ℕ) × (e'.unsent ≡ e.unsent ++ more)
       × (with_unsent more e' ≡ begun (with_unsent [] e))
-  full_framed b same = (
+  begun_told b same = (
     b.more,
     ap (λ (y : EncodingEnd). y.unsent) same ∙ b.written,
     ap (with_unsent b.more) same ∙ sym b.same,
   )
-
-  full_still : (b : Begun e) → is_full (begun e) ≡ true → is_full (begun (with_unsent [] e)) ≡ true
-  full_still b full = subst (λ (x : EncodingEnd). is_full x ≡ true) (sym b.same) full
 
   by_memory : (x : EncodingError) → x ≡ Memory → [] ≡ section → Checks e s (Ok tt) → StopsForMemory e e' fields
       → Adds e e' (IsEncode (Err x))
@@ -131,11 +129,11 @@ module _ (e e' : EncodingEnd) (s : ℕ) (fields : List FieldLine) (section : Lis
       unchanged_adds e e' (IsEncode (Err x)) stops.1
       (λ same. (sym none, inr (checks, memory, inl (stops.0, same))))
   by_memory x memory none checks (inr (inl stops)) =
-      let f = full_framed (begun_framed e) stops.1 in
+      let f = begun_told (begun_framed e) stops in
       record {
         more = f.0;
         written = f.1;
-        call = (sym none, inr (checks, memory, inr (inl (full_still (begun_framed e) stops.0, f.2))));
+        call = (sym none, inr (checks, memory, inr (inl f.2)));
       }
   by_memory x memory none checks (inr (inr stops)) =
       let f = gives_up_framed (begun_framed e) stops in

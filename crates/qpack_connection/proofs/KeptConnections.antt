@@ -62,14 +62,25 @@ sound_set = sound_told
 
 -- ---- what waits, where the decoder counts the same
 
-pub next_kept : (old new : Connection) (b : BlockedStream)
-    → ((k : SentSection) → oldest_undecoded (stream_at old.streams b.stream) ≡ Some k
-    → oldest_undecoded (stream_at new.streams b.stream) ≡ Some k) → IsNextOf old b → IsNextOf new b
-next_kept old new b same n = record { section = n.section; next = same n.section n.next; required_is = n.required_is }
+-- the next section of a stream is the same, and the stream is not cancelled
+abbrev pub KeepsNext : Connection → Connection → ℕ → Type 0
+KeepsNext old new s =
+    ((k : SentSection) → oldest_undecoded (stream_at old.streams s) ≡ Some k
+    → oldest_undecoded (stream_at new.streams s) ≡ Some k)
+    × ((stream_at old.streams s).cancelled ≡ false → (stream_at new.streams s).cancelled ≡ false)
+
+pub next_kept : (old new : Connection) (b : BlockedStream) → KeepsNext old new b.stream → IsNextOf old b
+    → IsNextOf new b
+next_kept old new b same n =
+    record {
+      live = same.1 n.live;
+      section = n.section;
+      next = same.0 n.section n.next;
+      required_is = n.required_is;
+    }
 
 pub waiting_same : (old new : Connection) → new.decoder.blocked ≡ old.decoder.blocked
-    → ((s : ℕ) (k : SentSection) → oldest_undecoded (stream_at old.streams s) ≡ Some k
-    → oldest_undecoded (stream_at new.streams s) ≡ Some k) → BlockedAreNext old → BlockedAreNext new
+    → ((s : ℕ) → KeepsNext old new s) → BlockedAreNext old → BlockedAreNext new
 waiting_same old new is same k =
     record {
       once = subst AreOfOneEach (sym is) k.once;
@@ -99,6 +110,18 @@ next_more ps s more q k e = both (nat_eq s q) refl
         (subst (λ (x : ℕ). oldest_undecoded (stream_at ps x) ≡ Some k) (sym (eqb-true s q same)) e)
     both false apart = e
 
+pub live_more : (ps : List (ℕ × RequestStream SentSection)) (s : ℕ) (more : SentSection) (q : ℕ)
+    → (stream_at ps q).cancelled ≡ false
+    → (stream_at (with_stream ps s (record (stream_at ps s) { blocks = (stream_at ps s).blocks ++ more ∷ [] })) q).cancelled
+    ≡ false
+live_more ps s more q e = both (nat_eq s q) refl
+  where
+    both : (t : Bool) → nat_eq s q ≡ t
+        → (cond t (record (stream_at ps s) { blocks = (stream_at ps s).blocks ++ more ∷ [] }) (stream_at ps q)).cancelled
+        ≡ false
+    both true same = subst (λ (x : ℕ). (stream_at ps x).cancelled ≡ false) (sym (eqb-true s q same)) e
+    both false apart = e
+
 -- ---- a stream that is counted no more
 
 next_without : (old new : Connection) (s : ℕ) (bs : List BlockedStream)
@@ -111,8 +134,10 @@ next_without old new s (b ∷ bs) same h = both (nat_eq b.stream s) refl (next_w
         → AllByRecursion (IsNextOf new) (cond (not t) (b ∷ without s bs) (without s bs))
     both true e rest = rest
     both false e rest = (
-      next_kept old new b
-          (λ k is. ap oldest_undecoded (same b.stream (apart_swap b.stream s e)) ∙ is) h.0,
+      next_kept old new b (
+        λ k is. ap oldest_undecoded (same b.stream (apart_swap b.stream s e)) ∙ is,
+        λ live. ap (λ (x : RequestStream SentSection). x.cancelled) (same b.stream (apart_swap b.stream s e)) ∙ live,
+      ) h.0,
       rest,
     )
 
@@ -136,8 +161,10 @@ pub waiting_with : (old new : Connection) (b : BlockedStream) → new.decoder.bl
     → new.streams ≡ old.streams → IsNextOf old b → BlockedAreNext old → BlockedAreNext new
 waiting_with old new b is same n k =
     let kept : (x : BlockedStream) → IsNextOf old x → IsNextOf new x =
-    λ x h. next_kept old new x
-    (λ s e. ap (λ (ps : List (ℕ × RequestStream SentSection)). oldest_undecoded (stream_at ps x.stream)) same ∙ e) h in
+    λ x h. next_kept old new x (
+      λ s e. ap (λ (ps : List (ℕ × RequestStream SentSection)). oldest_undecoded (stream_at ps x.stream)) same ∙ e,
+      λ live. ap (λ (ps : List (ℕ × RequestStream SentSection)). (stream_at ps x.stream).cancelled) same ∙ live,
+    ) h in
     record {
       once = subst AreOfOneEach (sym is) (once_with b old.decoder.blocked k.once);
       next = subst (AllByRecursion (IsNextOf new)) (sym is)

@@ -182,19 +182,19 @@ refused_cancellation_kept maximum limit most old new s x steps k step =
     by_kind (inl none) = none.1
     by_kind (inr (checks, memory, some, same)) = same
 
--- an error of a decode leaves the streams that are counted
+-- after an error of a decode the streams that are counted are as before, or the others
 error_keeps : (old d : DecodingEnd) (s : ℕ) (read : StrictReading) (e : DecodingError)
     → IsNotAnswered old d s e ⊎ (Checks old s (Ok tt) × StopsDecoding old d s read e)
-    → (d.settings ≡ old.settings) × (d.blocked ≡ old.blocked)
+    → (d.settings ≡ old.settings) × ((d.blocked ≡ old.blocked) ⊎ (d.blocked ≡ without s old.blocked))
 error_keeps old d s read e (inl none) =
-    (ap (λ (y : DecodingEnd). y.settings) none.1, ap (λ (y : DecodingEnd). y.blocked) none.1)
+    (ap (λ (y : DecodingEnd). y.settings) none.1, inl (ap (λ (y : DecodingEnd). y.blocked) none.1))
 error_keeps old d s read (decoding.Section q x) (inr (checks, tells)) =
-    (ap (λ (y : DecodingEnd). y.settings) tells.2, ap (λ (y : DecodingEnd). y.blocked) tells.2)
+    (ap (λ (y : DecodingEnd). y.settings) tells.2, inr (ap (λ (y : DecodingEnd). y.blocked) tells.2))
 error_keeps old d s read (decoding.TooManyBlocked q) (inr (checks, tells)) =
-    (ap (λ (y : DecodingEnd). y.settings) tells.3, ap (λ (y : DecodingEnd). y.blocked) tells.3)
+    (ap (λ (y : DecodingEnd). y.settings) tells.3, inl (ap (λ (y : DecodingEnd). y.blocked) tells.3))
 error_keeps old d s read decoding.Memory (inr (checks, stops)) = elim (stops_for_memory old d read stops) [
-  | inl same ↦ (ap (λ (y : DecodingEnd). y.settings) same, ap (λ (y : DecodingEnd). y.blocked) same)
-  | inr same ↦ (ap (λ (y : DecodingEnd). y.settings) same, ap (λ (y : DecodingEnd). y.blocked) same)
+  | inl same ↦ (ap (λ (y : DecodingEnd). y.settings) same, inl (ap (λ (y : DecodingEnd). y.blocked) same))
+  | inr same ↦ (ap (λ (y : DecodingEnd). y.settings) same, inl (ap (λ (y : DecodingEnd). y.blocked) same))
 ]
 error_keeps old d s read (decoding.EncoderStream p x) (inr (checks, tells)) = absurd tells
 error_keeps old d s read (decoding.NoStream q) (inr (checks, tells)) = absurd tells
@@ -206,11 +206,11 @@ acknowledged_keeps old d s zero is =
 acknowledged_keeps old d s (suc many) is =
     (ap (λ (y : DecodingEnd). y.settings) is, ap (λ (y : DecodingEnd). y.blocked) is)
 
-pub decode_kept : (maximum limit most : ℕ) → limit ≤ most → (old new : Connection) (s : ℕ) (fields : List FieldLine)
+pub decode_kept : (maximum limit most : ℕ) (old new : Connection) (s : ℕ) (fields : List FieldLine)
     (answer : Result Reading DecodingError) (steps : List EndStep) → IsKept maximum limit most old steps
     → (step : DecodesOn old new s fields answer)
     → Behind maximum limit most (Decode s fields answer) old new step steps
-decode_kept maximum limit most within old new s fields answer steps k step = (
+decode_kept maximum limit most old new s fields answer steps k step = (
   (r.0, λ all. no_wait all answer r.0),
   r.2,
   decoder_kept maximum limit most old new step.decoder steps r.2 k r.3 r.1 (same_encoder answer step.new_is)
@@ -223,8 +223,8 @@ decode_kept maximum limit most within old new s fields answer steps k step = (
     r : AnswersSection old.decoder s step.section fields answer × IsOpen new × (more : List EndStep)
         × RefinesSession maximum new (after_end_steps (steps ++ more) (abstract_start 0 maximum limit))
     r = decodes_refined maximum limit old new steps s fields answer k.refines k.alive step
-        (may_wait maximum limit old steps s step.section k.refines (omega (arith, within, k.settings)) k.waiting
-        step.is_next)
+        (may_wait maximum limit old steps s step.section k.refines (omega (arith, k.encoder.few, k.settings)) k.waiting
+        step.live step.is_next)
 
     made : step.section.required ≤ insert_count old.encoder.table
     made =
@@ -269,13 +269,19 @@ decode_kept maximum limit most within old new s fields answer steps k step = (
       waiting_with old new (record { stream = s; required = n })
           (ap (λ (y : Connection). y.decoder.blocked) is ∙ ap (λ (y : DecodingEnd). y.blocked) h.1.3)
           (ap (λ (y : Connection). y.streams) is)
-          (record { section = step.section; next = step.is_next; required_is = told.1 }) k.waiting,
+          (record { live = step.live; section = step.section; next = step.is_next; required_is = told.1 }) k.waiting,
     )
     by_answer (Err e) h told is =
         let keeps = error_keeps old.decoder d s _ e h.1 in (
           keeps.0,
-          waiting_same old new (ap (λ (y : Connection). y.decoder.blocked) is ∙ keeps.1)
-              (stays old new (ap (λ (y : Connection). y.streams) is)) k.waiting,
+          elim keeps.1 [
+            | inl same ↦
+                waiting_same old new (ap (λ (y : Connection). y.decoder.blocked) is ∙ same)
+                (stays old new (ap (λ (y : Connection). y.streams) is)) k.waiting
+            | inr others ↦
+                waiting_without old new s (ap (λ (y : Connection). y.decoder.blocked) is ∙ others)
+                (λ q apart. ap (λ (y : Connection). stream_at y.streams q) is) k.waiting
+          ],
         )
 
     keeps : (d.settings ≡ old.decoder.settings) × BlockedAreNext new

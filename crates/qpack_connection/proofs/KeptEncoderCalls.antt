@@ -1,6 +1,6 @@
 -- What is kept between the calls of a connection in bytes, and by each call of the encoder.
 use Rattle.std.proofs.Common.{◌≡◌, ℕ, List, [], ◌++◌}
-use Rattle.std.proofs.Common.{Some, Result, Ok, Err, sym, ap, subst, ◌∙◌, inl, inr, ◌⊎◌}
+use Rattle.std.proofs.Common.{Result, Ok, Err, sym, ap, subst, ◌∙◌, inl, inr, ◌⊎◌}
 use Rattle.std.proofs.lemmas.List.{append-nil}
 use Rattle.std.specs.Prelude.{⊤}
 use Rattle.qpack_spec.specs.Field.{FieldLine}
@@ -25,7 +25,8 @@ use Rattle.qpack_connection.specs.TwoEndsHeadline.{Answers, Fits}
 use Rattle.qpack_connection.specs.Waiting.{BlockedAreNext}
 use Rattle.qpack_ends.proofs.Encoders.{received_sound}
 use Rattle.qpack_connection.proofs.KeptConnections.{sound_sent, sound_begun, sound_set, begun_failure, waiting_same}
-use Rattle.qpack_connection.proofs.KeptConnections.{next_more}
+use Rattle.qpack_connection.proofs.KeptConnections.{next_more, live_more, KeepsNext}
+use Rattle.qpack_connection.proofs.CarefulEnds.{Stays, stays_same, stays_sent, stays_encoded, stays_set, stays_heard}
 use Rattle.qpack_connection.proofs.RefinedCapacities.{capacities_refined}
 use Rattle.qpack_connection.proofs.RefinedConnections.{encodes_refined}
 use Rattle.qpack_connection.proofs.RefinedHearings.{hearings_refined}
@@ -37,6 +38,7 @@ pub record IsKept (maximum limit most : ℕ) (c : Connection) (steps : List EndS
   pub refines : RefinesSession maximum c (after_end_steps steps (abstract_start 0 maximum limit))
   pub alive : IsOpen c
   pub sound : IsSound c.encoder
+  pub encoder : Stays most c.encoder
   pub settings : c.decoder.settings.max_blocked ≡ most
   pub waiting : BlockedAreNext c
 
@@ -50,11 +52,9 @@ pub encoder_kept : (maximum limit most : ℕ) (old new : Connection) (e : Encodi
     → IsKept maximum limit most old steps
     → RefinesSession maximum new (after_end_steps (steps ++ more) (abstract_start 0 maximum limit))
     → new.encoder ≡ record e { unsent = [] } → new.decoder ≡ old.decoder → IsSound e
-    → e.failure ≡ old.encoder.failure
-    → ((s : ℕ) (k : SentSection) → oldest_undecoded (stream_at old.streams s) ≡ Some k
-    → oldest_undecoded (stream_at new.streams s) ≡ Some k)
+    → e.failure ≡ old.encoder.failure → Stays most e → ((s : ℕ) → KeepsNext old new s)
     → IsKept maximum limit most new (steps ++ more)
-encoder_kept maximum limit most old new e steps more k refines is same sound failure next =
+encoder_kept maximum limit most old new e steps more k refines is same sound failure encoder next =
     record {
       refines = refines;
       alive = record {
@@ -62,6 +62,7 @@ encoder_kept maximum limit most old new e steps more k refines is same sound fai
         decoder = ap (λ (y : DecodingEnd). y.failure) same ∙ k.alive.decoder;
       };
       sound = subst IsSound (sym is) (sound_sent e sound);
+      encoder = subst (Stays most) (sym is) (stays_sent most e [] encoder);
       settings = ap (λ (y : DecodingEnd). y.settings.max_blocked) same ∙ k.settings;
       waiting = waiting_same old new (ap (λ (y : DecodingEnd). y.blocked) same) next k.waiting;
     }
@@ -77,6 +78,7 @@ decoder_kept maximum limit most old new d steps more k refines alive same is set
       refines = refines;
       alive = alive;
       sound = subst IsSound (sym same) k.sound;
+      encoder = subst (Stays most) (sym same) k.encoder;
       settings = ap (λ (y : DecodingEnd). y.settings.max_blocked) is
           ∙ ap (λ s. s.max_blocked) settings ∙ k.settings;
       waiting = waiting;
@@ -119,8 +121,13 @@ section_kept maximum limit most old new s fields required steps k step fits =
           (ap (λ (y : Connection). y.encoder) step.new_is) (ap (λ (y : Connection). y.decoder) step.new_is)
           (sound_begun old.encoder step.encoder k.sound like.0 like.1 like.2)
           (like.2 ∙ begun_failure old.encoder.wanted old.encoder)
-          (λ q x e. ap (λ (y : Connection). oldest_undecoded (stream_at y.streams q)) step.new_is
-          ∙ next_more old.streams s (record { fields = fields; bytes = step.section; required = required }) q x e),
+          (stays_encoded most old.encoder step.encoder s fields step.section (Ok required) k.encoder step.call)
+          (λ q. (
+            λ x e. ap (λ (y : Connection). oldest_undecoded (stream_at y.streams q)) step.new_is
+                ∙ next_more old.streams s (record { fields = fields; bytes = step.section; required = required }) q x e,
+            λ live. ap (λ (y : Connection). (stream_at y.streams q).cancelled) step.new_is
+                ∙ live_more old.streams s (record { fields = fields; bytes = step.section; required = required }) q live,
+          )),
     )
   where
     by_kind : WritesSection (begun old.encoder) step.encoder s fields [] step.section required
@@ -130,10 +137,11 @@ section_kept maximum limit most old new s fields required steps k step fits =
     by_kind (inr writes) = like_same step.encoder (begun old.encoder) writes.new_is
 
 -- streams that stay
-pub stays : (old new : Connection) → new.streams ≡ old.streams → (s : ℕ) (k : SentSection)
-    → oldest_undecoded (stream_at old.streams s) ≡ Some k → oldest_undecoded (stream_at new.streams s) ≡ Some k
-stays old new same s k e =
-    ap (λ (ps : List (ℕ × RequestStream SentSection)). oldest_undecoded (stream_at ps s)) same ∙ e
+pub stays : (old new : Connection) → new.streams ≡ old.streams → (s : ℕ) → KeepsNext old new s
+stays old new same s = (
+  λ k e. ap (λ (ps : List (ℕ × RequestStream SentSection)). oldest_undecoded (stream_at ps s)) same ∙ e,
+  λ live. ap (λ (ps : List (ℕ × RequestStream SentSection)). (stream_at ps s).cancelled) same ∙ live,
+)
 
 pub refused_section_kept : (maximum limit most : ℕ) (old new : Connection) (s : ℕ) (fields : List FieldLine)
     (x : EncodingError) (steps : List EndStep) → IsKept maximum limit most old steps
@@ -146,7 +154,9 @@ refused_section_kept maximum limit most old new s fields x steps k step fits =
       r.2,
       encoder_kept maximum limit most old new step.encoder steps r.2 k r.3
           (ap (λ (y : Connection). y.encoder) step.new_is) (ap (λ (y : Connection). y.decoder) step.new_is)
-          kept.0 kept.1 (stays old new (ap (λ (y : Connection). y.streams) step.new_is)),
+          kept.0 kept.1
+          (stays_encoded most old.encoder step.encoder s fields step.section (Err x) k.encoder step.call)
+          (stays old new (ap (λ (y : Connection). y.streams) step.new_is)),
     )
   where
     e : EncodingEnd
@@ -168,7 +178,7 @@ refused_section_kept maximum limit most old new s fields x steps k step fits =
         → IsSound e × (e.failure ≡ old.encoder.failure)
     by_call (inl none) = same none.1
     by_call (inr (checks, memory, inl none)) = same none.1
-    by_call (inr (checks, memory, inr (inl full))) = like (like_same e (begun old.encoder) full.1)
+    by_call (inr (checks, memory, inr (inl told))) = like (like_same e (begun old.encoder) told)
     by_call (inr (checks, memory, inr (inr g))) =
         like (like_with e (begun old.encoder) e.table e.unsent g.new_is)
 
@@ -182,7 +192,8 @@ capacity_kept maximum limit most old new n steps k step =
       r.0,
       encoder_kept maximum limit most old new step.encoder steps r.0 k r.1
           (ap (λ (y : Connection). y.encoder) step.new_is) (ap (λ (y : Connection). y.decoder) step.new_is)
-          kept.0 kept.1 (stays old new (ap (λ (y : Connection). y.streams) step.new_is)),
+          kept.0 kept.1 (stays_set most old.encoder step.encoder n (Ok tt) k.encoder step.call)
+          (stays old new (ap (λ (y : Connection). y.streams) step.new_is)),
     )
   where
     by_kind : SetsIt old.encoder step.encoder n
@@ -205,6 +216,7 @@ refused_capacity_kept maximum limit most old new n x steps k step =
       encoder_kept maximum limit most old new step.encoder steps [] k (none_more maximum limit new steps r.2)
           (ap (λ (y : Connection). y.encoder) step.new_is) (ap (λ (y : Connection). y.decoder) step.new_is)
           (subst IsSound (sym same) k.sound) (ap (λ (y : EncodingEnd). y.failure) same)
+          (stays_same most old.encoder step.encoder k.encoder same)
           (stays old new (ap (λ (y : Connection). y.streams) step.new_is)),
     )
   where
@@ -223,6 +235,7 @@ hearing_kept maximum limit most old new many answer steps k step = (
       (subst IsSound (sym is) (received_sound old.encoder e.table e.stream (next_of many old.decoder_stream) k.sound
       k.alive.encoder (λ heard before h. (hears heard before h).0)))
       (ap (λ (y : EncodingEnd). y.failure) is)
+      (stays_heard most old.encoder e (next_of many old.decoder_stream) (Ok tt) k.encoder k.alive.encoder hears)
       (stays old new (ap (λ (y : Connection). y.streams) step.new_is)),
 )
   where

@@ -40,7 +40,7 @@ use Rattle.qpack_spec.specs.LawfulEncoders.{IsLawfulEncoder}
 use Rattle.qpack_spec.proofs.Windows.{leads_unique}
 use Rattle.std.proofs.lemmas.List.{append-nil}
 use Rattle.qpack_ends.specs.Sections.{TellsReading}
-use Rattle.qpack_connection.proofs.RefinedDecodes.{over_code, not_ended, read_fields, read_count, blocked_count}
+use Rattle.qpack_connection.proofs.RefinedDecodes.{over_code, refusal_is, read_fields, read_count, blocked_count}
 use Rattle.qpack_connection.proofs.RefinedDecodes.{stops_for_memory}
 
 -- ---- what was received
@@ -249,7 +249,7 @@ decode_answers d new s k fields answer read reads may alive call = by_answer ans
         let over = over_limit x tells.1 in
         let code = over_code read x over.0 tells.1 in (
           (none, tells.0, code, over.1),
-          ap (λ (y : DecodingEnd). y.failure) (not_ended d new s x code tells.2),
+          ap (λ (y : DecodingEnd). y.failure) (refusal_is d new s x code tells.2),
         )
     by_error (TooManyBlocked q) none (inr (checks, tells)) = absurd (may (waits tells.1.0 tells.1.1).1 tells.2)
     by_error Memory none (inr (checks, stops)) = elim (stops_for_memory d new read stops) [

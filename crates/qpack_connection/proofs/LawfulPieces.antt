@@ -8,7 +8,7 @@ use Rattle.qpack_spec.specs.Form.{BadInteger}
 use Rattle.qpack_spec.specs.Instruction.{DecoderInstruction}
 use Rattle.qpack_spec.specs.Instruction.{SpellsDecoderInstruction, decoder_instruction_form}
 use Rattle.qpack_spec.specs.Integer.{Overflow}
-use Rattle.qpack_spec.specs.LawfulStreams.{IsNotRefused}
+use Rattle.qpack_spec.specs.LawfulStreams.{IsNotRefused, IsLawfulStream}
 use Rattle.qpack_spec.specs.Stream.{SpellsAll}
 use Rattle.qpack_spec.specs.StrictInstructions.{HearingRefusal, strict_apply, strict_hear, hear_in_turn}
 use Rattle.qpack_spec.specs.Table.{Table}
@@ -40,8 +40,13 @@ refuses_none t rest e lawful (too_large cut large tells) =
 
 pub encoder_streams_taken : EncoderStreamsAreNeverRefused
 encoder_streams_taken start old new last before bytes behind left sent s u place e lawful received =
-    let k = received.1.0 in
-    let g = never_refused start new last (before ++ bytes) behind sent lawful
+    let r = received.1 in
+    let k = r.refused.0 in
+    let g = never_refused start new last (before ++ r.front) (r.back ++ behind) sent
+    (subst (λ (b : List ℕ). IsLawfulStream start last b sent)
+    (ap (λ (b : List ℕ). (before ++ b) ++ behind) r.cut
+    ∙ ap (λ (b : List ℕ). b ++ behind) (sym (append_assoc before r.front r.back))
+    ∙ append_assoc (before ++ r.front) r.back behind) lawful)
     (record {
       lines = k.lines;
       front = k.front;

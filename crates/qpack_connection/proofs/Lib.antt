@@ -8,12 +8,14 @@ pub mod RefinedDecodes
 pub mod WaitingStreams
 pub mod RefinedRefusals
 pub mod KeptConnections
+pub mod FirstEnds
+pub mod CarefulTables
+pub mod CarefulEnds
 pub mod KeptEncoderCalls
 pub mod KeptDecoderCalls
 pub mod TwoEndsHeadline
 pub mod LawfulEncoders
 pub mod UnderstoodEncoders
-pub mod CarefulTables
 pub mod UnderstoodDecoders
 pub mod FramedEncoderCalls
 pub mod FramedDecoderCalls
@@ -24,3 +26,4 @@ pub mod ConnectionStarts
 pub mod ConnectionRuns
 pub mod HandedFields
 pub mod ArrivedSections
+pub mod SettledSections

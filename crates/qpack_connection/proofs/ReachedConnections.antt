@@ -1,6 +1,6 @@
 -- Connections that calls lead to: what is kept of them, and how a call of one is a call of each that it shows.
-use Rattle.std.proofs.Common.{◌≡◌, ◌<◌, ◌≤◌, ◌^◌, ◌+◌, ◌-◌, ℕ, min, Bool, true, false, cond, List, [], ◌∷◌, ◌++◌}
-use Rattle.std.proofs.Common.{length, Ok, Err, refl, sym, ap, subst, ◌∙◌, arith}
+use Rattle.std.proofs.Common.{◌≡◌, ◌<◌, ◌^◌, ◌+◌, ◌-◌, ℕ, Bool, true, false, cond, List, [], ◌∷◌, ◌++◌}
+use Rattle.std.proofs.Common.{length, Ok, Err, refl, sym, ap, subst, ◌∙◌}
 use Rattle.std.specs.Prelude.{nat_eq, nat_lt}
 use Rattle.qpack_spec.specs.Session.{RequestStream, stream_at, with_stream, oldest_undecoded}
 use Rattle.qpack_safety.specs.TwoEnds.{EndStep}
@@ -56,7 +56,6 @@ pub record Holds (most : ℕ) (c : Connection) : Type 0 where
   pub maximum : ℕ
   pub limit : ℕ
   pub steps : List EndStep
-  pub within : limit ≤ most
   pub kept : IsKept maximum limit most c steps
 
 refines_shown : (maximum : ℕ) (s : Connection) (ps : List (ℕ × RequestStream SentSection)) (w : _)
@@ -88,8 +87,13 @@ laid_kept maximum limit most s ps steps keeps k =
       refines = refines_shown maximum s ps _ keeps k.refines;
       alive = record { encoder = k.alive.encoder; decoder = k.alive.decoder };
       sound = k.sound;
+      encoder = k.encoder;
       settings = k.settings;
-      waiting = waiting_same (laid_out ps s) s refl (λ n x e. ap oldest_undecoded (sym (keeps n)) ∙ e) k.waiting;
+      waiting = waiting_same (laid_out ps s) s refl
+          (λ n. (
+            λ x e. ap oldest_undecoded (sym (keeps n)) ∙ e,
+            λ live. ap (λ (x : RequestStream SentSection). x.cancelled) (sym (keeps n)) ∙ live,
+          )) k.waiting;
     }
 
 pub kept_shown : (maximum limit most : ℕ) (s c : Connection) (steps : List EndStep) → Shows s c
@@ -98,30 +102,28 @@ kept_shown maximum limit most s c steps shows k =
     laid_kept maximum limit most s c.streams steps shows.streams
     (subst (λ (x : Connection). IsKept maximum limit most x steps) (shown_is s c shows) k)
 
-run_holds : (maximum limit most : ℕ) → limit ≤ most → (calls : List Call) (old new : Connection) (steps : List EndStep)
+run_holds : (maximum limit most : ℕ) → (calls : List Call) (old new : Connection) (steps : List EndStep)
     → IsKept maximum limit most old steps → (run : Run calls old new) → AllFit calls old new run → Holds most new
-run_holds maximum limit most within [] old new steps k run fits =
+run_holds maximum limit most [] old new steps k run fits =
     record {
       maximum = maximum;
       limit = limit;
       steps = steps;
-      within = within;
       kept = subst (λ (x : Connection). IsKept maximum limit most x steps) (sym run) k;
     }
-run_holds maximum limit most within (call ∷ calls) old new steps k run fits =
-    let one = step_kept maximum limit most within call old run.0 steps k run.1 fits.0 in
-    run_holds maximum limit most within calls run.0 new (steps ++ one.1) one.2 run.2 fits.1
+run_holds maximum limit most (call ∷ calls) old new steps k run fits =
+    let one = step_kept maximum limit most call old run.0 steps k run.1 fits.0 in
+    run_holds maximum limit most calls run.0 new (steps ++ one.1) one.2 run.2 fits.1
 
 -- what is reached is kept
 pub reached_holds : (s : Connection) → IsReached s → Holds s.decoder.settings.max_blocked s
 reached_holds s at =
     let n = at.new in
-    let h = run_holds n.encoder_settings.max_capacity (min n.encoder_settings.max_blocked 65534)
-    n.decoder_settings.max_blocked (omega (arith, n.same_blocked)) at.calls at.first at.last [] (new_kept at.first n)
+    let h = run_holds n.encoder_settings.max_capacity 4096 n.decoder_settings.max_blocked at.calls at.first at.last [] (new_kept at.first n)
     at.run at.fits in
     let k = kept_shown h.maximum h.limit n.decoder_settings.max_blocked s at.last h.steps at.shows h.kept in
     subst (λ (most : ℕ). Holds most s) (sym k.settings)
-    (record { maximum = h.maximum; limit = h.limit; steps = h.steps; within = h.within; kept = k })
+    (record { maximum = h.maximum; limit = h.limit; steps = h.steps; kept = k })
 
 -- ---- a call of a connection is one of each that it shows
 

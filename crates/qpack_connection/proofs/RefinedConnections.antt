@@ -238,6 +238,7 @@ chosen_behind c e s fields section required writes =
           block = writes.section.block;
           written = refl;
         };
+        known = writes.known;
         new_is = ap (λ (x : EncodingEnd). let y : EncodingEnd = record x { unsent = written } in y) writes.new_is;
       },
     )

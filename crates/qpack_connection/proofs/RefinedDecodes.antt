@@ -35,7 +35,8 @@ use Rattle.qpack_ends.specs.declared.section.Reading.TheVariants as reading
 use Rattle.qpack_ends.specs.declared.section.SectionError.{SectionError}
 use Rattle.qpack_ends.specs.declared.section.SectionError.TheVariants as section
 use Rattle.qpack_connection.specs.Connections.{SentSection, Connection, with_decoder, with_reading}
-use Rattle.qpack_ends.specs.Decoders.{DecodingEnd, acknowledged, with_report, unreported, refused, Checks}
+use Rattle.qpack_ends.specs.Blocked.{without}
+use Rattle.qpack_ends.specs.Decoders.{DecodingEnd, acknowledged, with_report, unreported, section_refused, Checks}
 use Rattle.qpack_ends.specs.Decoders.{IsNotAnswered, StopsForMemory, StopsDecoding, Decodes}
 use Rattle.qpack_connection.specs.RefinedConnections.{RefinesSection, RefinesStream, RefinesSession}
 use Rattle.qpack_connection.specs.RefinedDecodes.{AnswersSection, DecodesAreRefined}
@@ -279,12 +280,13 @@ read_count fs gs m n e = cc
 pub blocked_count : (m n : ℕ) → Blocked m ≡ Blocked n → m ≡ n
 blocked_count m n e = cc
 
--- an error without a code ends nothing
-pub not_ended : (d new : DecodingEnd) (s : ℕ) (e : SectionError) → code_of e ≡ None → new ≡ refused (Section s e) d
-    → new ≡ d
-not_ended d new s e none is =
+-- after a refusal without a code the stream is blocked no more, and nothing else changes
+pub refusal_is : (d new : DecodingEnd) (s : ℕ) (e : SectionError) → code_of e ≡ None → new ≡ section_refused s e d
+    → new ≡ acknowledged s 0 d
+refusal_is d new s e none is =
     is ∙ ap (λ (o : Option ℕ). let x : DecodingEnd = record d {
       failure = cond (is_some o) (Some (Section s e)) d.failure;
+      blocked = without s d.blocked;
     } in x) none
 
 pub decodes_refined : DecodesAreRefined
@@ -423,9 +425,12 @@ decodes_refined maximum limit c new steps s fields answer r alive call may =
     by_error (Section q x) none (inr (checks, tells)) is =
         let over = over_limit x tells.1 in
         let code = over_code read x over.0 tells.1 in
-        let same = not_ended c.decoder d s x code tells.2 in
+        let same = refusal_is c.decoder d s x code tells.2 in
         unchanged (Err (Section q x)) refl is (none, tells.0, code, over.1)
-        (ap (λ (y : DecodingEnd). y.failure) same) [] (same_end same)
+        (ap (λ (y : DecodingEnd). y.failure) same) []
+        (quiet maximum c w d c.streams w.streams r (ap (λ (y : DecodingEnd). y.table) same)
+        (ap (λ (y : DecodingEnd). y.stream) same) (ap (λ (y : DecodingEnd). y.reported) same)
+        (ap (λ (y : DecodingEnd). y.unsent) same) r.streams)
     by_error (TooManyBlocked q) none (inr (checks, tells)) is =
         absurd (may (waits tells.1.0 tells.1.1).1 tells.2)
     by_error Memory none (inr (checks, stops)) is = elim (stops_for_memory c.decoder d read stops) [

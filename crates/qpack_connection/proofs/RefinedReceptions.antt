@@ -1,8 +1,9 @@
 -- What the decoder of a connection in bytes receives is what the decoder of the session takes, and reports.
 use Rattle.std.proofs.Common.{◌≡◌, ◌≤◌, ◌+◌, ◌-◌, ℕ, List, [], ◌∷◌, ◌++◌, length, take, drop, None, Some, Result}
-use Rattle.std.proofs.Common.{Ok, Err, refl, sym, ap, subst, ◌∙◌, arith, length-append, inl, inr}
+use Rattle.std.proofs.Common.{Ok, Err, refl, sym, ap, subst, ◌∙◌, arith, length-append}
 use Rattle.std.specs.Prelude.{⊤}
 use Rattle.std.proofs.lemmas.List.{append_assoc, append-nil, append_cancel_left, take-append-drop}
+use Rattle.std.proofs.lemmas.List.{take-append-le, take_all}
 use Rattle.qpack_spec.specs.Bytes.{◌>>=◌}
 use Rattle.qpack_spec.specs.Form.{Truncates}
 use Rattle.qpack_spec.specs.Instruction.{EncoderInstruction, SpellsEncoderInstruction}
@@ -187,6 +188,24 @@ came_whole maximum c w t s many r k least =
     × (length w.taken ≤ length x.0.lines)) (sym (came_all c.encoder_stream many)) (k, least) in
     record { stream = at.0; least = at.1; order = within_wire c.encoder_stream many r.encoder_stream_order }
 
+-- a front came
+came_front : (maximum : ℕ) (c : Connection) (w : AbstractSession) (t : Table) (s : StreamView) (many : ℕ)
+    (taken left : List ℕ) → RefinesSession maximum c w → next_of many c.encoder_stream ≡ taken ++ left
+    → (k : receiving.Receives (empty_table 0 (Some maximum) 0) t (received_of c.encoder_stream ++ taken) s)
+    → length w.taken ≤ length k.0.lines → Came maximum c w t s (length taken)
+came_front maximum c w t s many taken left r cut k least =
+    let others = drop c.encoder_stream.received c.encoder_stream.written in
+    let front : next_of (length taken) c.encoder_stream ≡ taken =
+    ap (take (length taken))
+    (sym (take-append-drop many others) ∙ ap (λ (b : List ℕ). b ++ drop many others) cut
+    ∙ append_assoc taken left (drop many others))
+    ∙ take-append-le (length taken) taken (left ++ drop many others) (omega arith)
+    ∙ take_all (length taken) taken (omega arith) in
+    let at = subst (λ (b : List ℕ). (x : receiving.Receives (empty_table 0 (Some maximum) 0) t
+    (received_of c.encoder_stream ++ b) s) × (length w.taken ≤ length x.0.lines)) (sym front) (k, least) in
+    subst (λ (b : List ℕ). Came maximum c w t s (length b)) front
+    (came_whole maximum c w t s (length taken) r at.0 at.1)
+
 -- nothing more that is whole waits
 pub least_whole : (taken lines : List EncoderInstruction) (front rest longer others : List ℕ)
     → SpellsAll SpellsEncoderInstruction front taken → SpellsAll SpellsEncoderInstruction longer lines
@@ -330,11 +349,11 @@ receptions_refined maximum limit c new steps many answer r alive call =
         )
 
     -- what came before is in front of what came now
-    behind_old : (k : receiving.Receives first d.table (before ++ next) d.stream)
-        → r.received.0.front ++ (r.received.0.rest ++ next) ≡ k.0.front ++ k.0.rest
-    behind_old k =
-        sym (append_assoc r.received.0.front r.received.0.rest next)
-        ∙ ap (λ (b : List ℕ). b ++ next) (sym r.received.0.cut) ∙ k.0.cut
+    behind_old : (more : List ℕ) (k : receiving.Receives first d.table (before ++ more) d.stream)
+        → r.received.0.front ++ (r.received.0.rest ++ more) ≡ k.0.front ++ k.0.rest
+    behind_old more k =
+        sym (append_assoc r.received.0.front r.received.0.rest more)
+        ∙ ap (λ (b : List ℕ). b ++ more) (sym r.received.0.cut) ∙ k.0.cut
 
     all_came : ReceivesMore first c.decoder.table d.table before next call.left c.decoder.stream d.stream (Ok tt)
         → Came maximum c w d.table d.stream (length next)
@@ -342,53 +361,39 @@ receptions_refined maximum limit c new steps many answer r alive call =
         came_whole maximum c w d.table d.stream many r k
         (subst (λ (ls : List EncoderInstruction). length ls ≤ length k.0.lines) r.taken_are
         (least_whole r.received.0.lines k.0.lines r.received.0.front (r.received.0.rest ++ next) k.0.front k.0.rest
-        r.received.0.joined k.0.joined (behind_old k)
+        r.received.0.joined k.0.joined (behind_old next k)
         (subst (λ (b : List ℕ). Truncates encoder_instruction_form b) (whole.0.ends.0 ∙ sym k.0.ends.0)
         whole.0.ends.1.cut)))
 
-    no_longer : (k : receiving.Receives first d.table (before ++ next) d.stream)
-        → length d.stream.pending ≤ length c.decoder.stream.pending + length next
+    no_longer : (more : List ℕ) (k : receiving.Receives first d.table (before ++ more) d.stream)
+        → length d.stream.pending ≤ length c.decoder.stream.pending + length more
         → length w.taken ≤ length k.0.lines
-    no_longer k fewer =
+    no_longer more k fewer =
         subst (λ (ls : List EncoderInstruction). length ls ≤ length k.0.lines) r.taken_are
-        (no_fewer r.received.0.lines k.0.lines r.received.0.front k.0.front (r.received.0.rest ++ next) k.0.rest
-        r.received.0.joined k.0.joined (behind_old k)
+        (no_fewer r.received.0.lines k.0.lines r.received.0.front k.0.front (r.received.0.rest ++ more) k.0.rest
+        r.received.0.joined k.0.joined (behind_old more k)
         (omega (
           arith,
           fewer,
-          ap length (behind_old k),
-          length-append r.received.0.front (r.received.0.rest ++ next),
-          length-append r.received.0.rest next,
+          ap length (behind_old more k),
+          length-append r.received.0.front (r.received.0.rest ++ more),
+          length-append r.received.0.rest more,
           length-append k.0.front k.0.rest,
           ap length r.received.0.ends.0,
           ap length k.0.ends.0,
         )))
-
-    none_came : d.table ≡ c.decoder.table → d.stream ≡ c.decoder.stream → Came maximum c w d.table d.stream 0
-    none_came table stream =
-        let stays : c.encoder_stream.received + 0 ≡ c.encoder_stream.received = omega arith in
-        let k = subst (λ (b : List ℕ). (y : receiving.Receives first d.table b d.stream) × (y.0.lines ≡ w.taken))
-        (ap (λ (n : ℕ). take n c.encoder_stream.written) (sym stays))
-        (subst (λ (t : Table). (y : receiving.Receives first t before d.stream) × (y.0.lines ≡ w.taken)) (sym table)
-        (subst (λ (s : StreamView). (y : receiving.Receives first c.decoder.table before s) × (y.0.lines ≡ w.taken))
-        (sym stream) (r.received, r.taken_are))) in
-        record {
-          stream = k.0;
-          least = omega (arith, ap length k.1);
-          order = omega (arith, r.encoder_stream_order);
-        }
 
     by_memory : (a : Result ℕ DecodingError)
         → ReceivesMore first c.decoder.table d.table before next call.left c.decoder.stream d.stream (Err Memory)
         → EndsReceiving (received d.table d.stream c.decoder) d (Err Memory) a
         → AnswersTotal new a × IsOpen new × (more : List EndStep)
         × RefinesSession maximum new (after_end_steps (steps ++ more) start)
-    by_memory a (inl same) ends =
-        kept a 0 ends.1 (subst (TellsTotal d.table) (sym ends.0) refl) (omega (arith, ap length same.0))
-        (none_came same.1 same.2)
-    by_memory a (inr more) ends =
-        kept a (length next) ends.1 (subst (TellsTotal d.table) (sym ends.0) refl) (omega (arith, ap length more.0))
-        (came_whole maximum c w d.table d.stream many r more.2 (no_longer more.2 more.3))
+    by_memory a more ends =
+        let t = more.0 in
+        kept a (length t.taken) ends.1 (subst (TellsTotal d.table) (sym ends.0) refl)
+        (omega (arith, ap length t.cut, length-append t.taken call.left))
+        (came_front maximum c w d.table d.stream many t.taken call.left r t.cut t.stream
+        (no_longer t.taken t.stream t.no_longer))
 
     by_taken : (a : Result ℕ DecodingError) (taken : Result ⊤ EncoderStreamError)
         → ReceivesMore first c.decoder.table d.table before next call.left c.decoder.stream d.stream taken

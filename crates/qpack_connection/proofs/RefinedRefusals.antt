@@ -120,11 +120,11 @@ refused_encodes maximum limit c new steps s fields x r alive sound are short cal
         × RefinesSession maximum new (after_end_steps (steps ++ more) start)
     by_memory stops (inl same) =
         behind [] (same_refined maximum c w e r same.1) (ap (λ (y : EncodingEnd). y.failure) same.1) stops
-    by_memory stops (inr (inl full)) =
+    by_memory stops (inr (inl told)) =
         behind first.0
-        (subst (λ (y : EncodingEnd). RefinesSession maximum (with_encoder y c) (after_end_steps first.0 w)) (sym full.1)
+        (subst (λ (y : EncodingEnd). RefinesSession maximum (with_encoder y c) (after_end_steps first.0 w)) (sym told)
         first.1)
-        (ap (λ (y : EncodingEnd). y.failure) full.1 ∙ begun_failure c.encoder.wanted c.encoder) stops
+        (ap (λ (y : EncodingEnd). y.failure) told ∙ begun_failure c.encoder.wanted c.encoder) stops
     by_memory stops (inr (inr g)) =
         let some = take g.lines.many fields in
         let cs = g.lines.choices in

@@ -1,12 +1,11 @@
 -- The encoding end of a connection is careful with any decoder, and understands one that keeps to the standard.
-use Rattle.std.proofs.Common.{◌≡◌, ◌<◌, ◌^◌, ◌⊎◌, ℕ, min, true, List, [], ◌∷◌, take, drop, length, Option, None}
+use Rattle.std.proofs.Common.{◌≡◌, ◌<◌, ◌^◌, ◌⊎◌, ℕ, true, List, [], ◌∷◌, drop, length, Option, None}
 use Rattle.std.proofs.Common.{Some, Result, Ok, Err, refl, sym, ap, subst, ◌∙◌, arith, inl, inr}
 use Rattle.std.specs.Option.{IfSome}
 use Rattle.std.specs.Prelude.{⊤, ◌&&◌}
 use Rattle.std.proofs.lemmas.Bool.{lt-ltb}
 use Rattle.qpack_spec.specs.Chosen.{Choice, Inserts, Chosen, chosen_rule}
 use Rattle.qpack_spec.specs.Field.{FieldLine}
-use Rattle.qpack_spec.specs.Instruction.{DecoderInstruction}
 use Rattle.qpack_spec.specs.Marked.{stateless_block_marked}
 use Rattle.qpack_spec.specs.LawfulDecoders.{IsQuiet, IsToBeInserted}
 use Rattle.qpack_spec.specs.Rule.{block_of, empty_draft, required_insert_count}
@@ -23,189 +22,55 @@ use Rattle.qpack_ends.specs.declared.encoder.EncoderSettings.{EncoderSettings}
 use Rattle.qpack_ends.specs.declared.encoder.EncodingError.{EncodingError}
 use Rattle.qpack_ends.specs.declared.encoder.EncodingError.TheVariants.{DecoderStream, CapacityTooLarge}
 use Rattle.qpack_ends.specs.declared.encoder.EncodingError.TheVariants.{EntriesHeld, NoStream, Memory}
-use Rattle.qpack_ends.specs.Encoders.{EncodingEnd, IsSound, IsToBeTold, Starts, begun, begun_with}
-use Rattle.qpack_ends.specs.Encoders.{told, with_section, StopsForMemory, SetsCapacity}
+use Rattle.qpack_ends.specs.Encoders.{EncodingEnd, begun}
+use Rattle.qpack_ends.specs.Encoders.{told, StopsForMemory, SetsCapacity}
 use Rattle.qpack_ends.specs.Encoders.{WritesSection, WritesAlone, Encodes, ReceivesBytes}
-use Rattle.qpack_ends.specs.Hearing.{Receives}
 use Rattle.qpack_ends.specs.Wishes.{SuitsUnless, SuitAlong, EncodesAsWished}
 use Rattle.qpack_codec.specs.declared.encoder.choices.Wish.{Wish}
 use Rattle.qpack_codec.specs.declared.encoder.choices.Wish.TheVariants.{Unmarked, Reuse, Insert, Never}
 use Rattle.qpack_connection.specs.LawfulDecoders.{Call, Encode, SetCapacity, Receive, Sent, Step, Run, IsCareful}
 use Rattle.qpack_connection.specs.LawfulDecoders.{AllCareful, EncodersAreCareful, IsLawful, IsLawfulCall, AreLawful}
 use Rattle.qpack_connection.specs.LawfulDecoders.{GoesOn, Answers, AllAnswer, LawfulDecodersAreUnderstood}
-use Rattle.qpack_connection.proofs.CarefulTables.{IsCarefulTable, careful_needed, careful_count, careful_first}
-use Rattle.qpack_connection.proofs.CarefulTables.{careful_section, careful_given_up, careful_capacity}
-use Rattle.qpack_connection.proofs.CarefulTables.{careful_hearing, quiet_unblocked}
-use Rattle.qpack_ends.proofs.Encoders.{takes_capacity, told_still, received_sound, refused_sound}
-use Rattle.qpack_connection.proofs.KeptConnections.{sound_begun, sound_set, begun_failure}
+use Rattle.qpack_connection.proofs.CarefulTables.{careful_needed, careful_count}
+use Rattle.qpack_connection.proofs.CarefulTables.{quiet_unblocked}
+use Rattle.qpack_connection.proofs.KeptConnections.{begun_failure}
 use Rattle.qpack_connection.proofs.LawfulPieces.{decoder_streams_heard}
-use Rattle.qpack_connection.proofs.TwoEndsHeadline.{sound_first}
+use Rattle.qpack_connection.proofs.CarefulEnds.{Stays, stays_first, stays_same, table_begun, stays_encoded, stays_set}
+use Rattle.qpack_connection.proofs.CarefulEnds.{stays_heard, stays_sent, begun_settings}
+use Rattle.std.proofs.Common.{Bool}
+use Rattle.qpack_ends.specs.Encoders.{may_block}
+use Rattle.qpack_ends.specs.Wishes.{limited, KeepsWishes}
+use Rattle.qpack_ends.proofs.Risk.{none_yet}
 
--- ---- between calls
-
--- as many sections may be blocked as the peer lets be, and as a table takes
-abbrev most : EncoderSettings → ℕ
-most settings = min settings.max_blocked 65534
-
-record Stays (settings : EncoderSettings) (e : EncodingEnd) : Type 0 where
-  pub table : IsCarefulTable (most settings) e.table
-  pub sound : IsSound e
-
-stays_first : (settings : EncoderSettings) (e : EncodingEnd) → Starts settings e → Stays settings e
-stays_first settings e s =
-    record {
-      table = subst (IsCarefulTable (most settings)) (sym s.table) (careful_first settings.max_capacity (most settings));
-      sound = sound_first settings e s;
-    }
-
-stays_same : (settings : EncoderSettings) (old new : EncodingEnd) → Stays settings old → new ≡ old → Stays settings new
-stays_same settings old new k same = subst (Stays settings) (sym same) k
-
--- once the first capacity is told
-begun_table : (settings : EncoderSettings) (e : EncodingEnd) (o : Option ℕ) → Stays settings e
-    → IfSome o (λ n. IsToBeTold e n) → IsCarefulTable (most settings) (begun_with o e).table
-begun_table settings e None k told = k.table
-begun_table settings e (Some n) k told =
-    careful_capacity (most settings) e.table (record e.table { capacity = n }) n k.table
-    (takes_capacity e.table n e.settings.max_capacity told.within told.small told.agreed told.nothing_live)
-
-table_begun : (settings : EncoderSettings) (e : EncodingEnd) → Stays settings e
-    → IsCarefulTable (most settings) (begun e).table
-table_begun settings e k = begun_table settings e e.wanted k k.sound.wanted
-
--- an end that is as it was once the first capacity is told, but for its table and what is to be sent
-stays_with : (settings : EncoderSettings) (old new : EncodingEnd) (t : Table) (b : List ℕ) → Stays settings old
-    → IsCarefulTable (most settings) new.table → new ≡ with_section t b (begun old) → Stays settings new
-stays_with settings old new t b k table is =
-    record {
-      table = table;
-      sound = sound_begun old new k.sound (ap (λ (y : EncodingEnd). y.wanted) is)
-          (ap (λ (y : EncodingEnd). y.stream) is) (ap (λ (y : EncodingEnd). y.failure) is);
-    }
-
-stays_begun : (settings : EncoderSettings) (old new : EncodingEnd) → Stays settings old → new ≡ begun old
-    → Stays settings new
-stays_begun settings old new k is =
-    record {
-      table = subst (λ (y : EncodingEnd). IsCarefulTable (most settings) y.table) (sym is) (table_begun settings old k);
-      sound = sound_begun old new k.sound (ap (λ (y : EncodingEnd). y.wanted) is)
-          (ap (λ (y : EncodingEnd). y.stream) is) (ap (λ (y : EncodingEnd). y.failure) is);
-    }
-
--- ---- a call, with any peer
-
-stays_for_memory : (settings : EncoderSettings) (old new : EncodingEnd) (fields : List FieldLine) → Stays settings old
-    → StopsForMemory old new fields → Stays settings new
-stays_for_memory settings old new fields k (inl none) = stays_same settings old new k none.1
-stays_for_memory settings old new fields k (inr (inl full)) = stays_begun settings old new k full.1
-stays_for_memory settings old new fields k (inr (inr g)) =
-    stays_with settings old new new.table new.unsent k
-    (subst (IsCarefulTable (most settings)) (sym g.lines.table)
-    (careful_given_up (most settings) (begun old).table (take g.lines.many fields) g.lines.choices
-    (table_begun settings old k)))
-    g.new_is
-
-stays_encoded : (settings : EncoderSettings) (old new : EncodingEnd) (s : ℕ) (fields : List FieldLine)
-    (section : List ℕ) (answer : Result ℕ EncodingError) → Stays settings old
-    → Encodes old new s fields [] section answer → Stays settings new
-stays_encoded settings old new s fields section (Ok required) k (checks, inl writes) =
-    stays_with settings old new new.table new.unsent k
-    (subst (IsCarefulTable (most settings)) (sym writes.section.table)
-    (careful_section (most settings) (begun old).table s fields writes.section.choices (table_begun settings old k)))
-    writes.new_is
-stays_encoded settings old new s fields section (Ok required) k (checks, inr writes) =
-    stays_begun settings old new k writes.new_is
-stays_encoded settings old new s fields section (Err e) k (none, inl stopped) = stays_same settings old new k stopped.1
-stays_encoded settings old new s fields section (Err e) k (none, inr stopped) =
-    stays_for_memory settings old new fields k stopped.2
-
-stays_set : (settings : EncoderSettings) (old new : EncodingEnd) (n : ℕ) (answer : Result ⊤ EncodingError)
-    → Stays settings old → SetsCapacity old new n answer → Stays settings new
-stays_set settings old new n (Ok done) k (alive, inl none) = stays_same settings old new k none.1
-stays_set settings old new n (Ok done) k (alive, inr tells) =
-    record {
-      table = careful_capacity (most settings) old.table new.table n k.table tells.1.0;
-      sound = sound_set old new k.sound (ap (λ (y : EncodingEnd). y.wanted) tells.1.1)
-          (ap (λ (y : EncodingEnd). y.stream) tells.1.1) (ap (λ (y : EncodingEnd). y.failure) tells.1.1);
-    }
-stays_set settings old new n (Err e) k (inl ended) = stays_same settings old new k ended.1
-stays_set settings old new n (Err e) k (inr stops) = stays_same settings old new k stops.1.1
-
--- what all calls so far received, and this one
-abbrev HearsAll : EncodingEnd → EncodingEnd → List ℕ → Result ⊤ EncodingError → Type 0
-HearsAll old new bytes answer =
-    (heard : List DecoderInstruction) (before : List ℕ) → Receives heard before old.stream
-    → ReceivesBytes heard before old new bytes answer
-
-stays_heard : (settings : EncoderSettings) (old new : EncodingEnd) (bytes : List ℕ) (answer : Result ⊤ EncodingError)
-    → Stays settings old → old.failure ≡ None → HearsAll old new bytes answer → Stays settings new
-stays_heard settings old new bytes (Ok done) k alive hears =
-    let was = k.sound.stream alive in
-    let call = hears was.0 was.1 was.2 in
-    record {
-      table = careful_hearing (most settings) old.table new.table call.0.more k.table call.0.applies;
-      sound = subst IsSound (sym call.1)
-          (received_sound old new.table new.stream bytes k.sound alive (λ heard before h. (hears heard before h).0));
-    }
-stays_heard settings old new bytes (Err (DecoderStream x)) k alive hears =
-    let was = k.sound.stream alive in
-    let call = hears was.0 was.1 was.2 in
-    record {
-      table = careful_hearing (most settings) old.table new.table call.0.0.more k.table call.0.0.applies;
-      sound = subst IsSound (sym call.1)
-          (refused_sound old new.table new.stream bytes x k.sound alive (λ heard before h. (hears heard before h).0));
-    }
-stays_heard settings old new bytes (Err CapacityTooLarge) k alive hears =
-    let was = k.sound.stream alive in absurd (hears was.0 was.1 was.2)
-stays_heard settings old new bytes (Err EntriesHeld) k alive hears =
-    let was = k.sound.stream alive in absurd (hears was.0 was.1 was.2)
-stays_heard settings old new bytes (Err (NoStream s)) k alive hears =
-    let was = k.sound.stream alive in absurd (hears was.0 was.1 was.2)
-stays_heard settings old new bytes (Err Memory) k alive hears =
-    let was = k.sound.stream alive in absurd (hears was.0 was.1 was.2)
-
-stays_sent : (settings : EncoderSettings) (old : EncodingEnd) (many : ℕ) → Stays settings old
-    → Stays settings (record old { unsent = drop many old.unsent })
-stays_sent settings old many k =
-    record {
-      table = k.table;
-      sound =
-          record {
-            wanted = told_still old (record old { unsent = drop many old.unsent }) old.wanted refl (refl, refl)
-                k.sound.wanted;
-            stream = k.sound.stream;
-            failure = k.sound.failure;
-          };
-    }
-
-step_stays : (settings : EncoderSettings) (call : Call) (old new : EncodingEnd) → Stays settings old
-    → Step call old new → Stays settings new
+step_stays : (settings : EncoderSettings) (call : Call) (old new : EncodingEnd) → Stays settings.max_blocked old
+    → Step call old new → Stays settings.max_blocked new
 step_stays settings (Encode s fields wishes section answer) old new k step =
-    stays_encoded settings old new s fields section answer k step.0
-step_stays settings (SetCapacity n answer) old new k step = stays_set settings old new n answer k step
+    stays_encoded settings.max_blocked old new s fields section answer k step.0
+step_stays settings (SetCapacity n answer) old new k step = stays_set settings.max_blocked old new n answer k step
 step_stays settings (Receive bytes answer) old new k step = by old.failure refl step.1
   where
     by : (o : Option EncodingError) → old.failure ≡ o → IfSome o (λ e. (answer ≡ Err e) × (new ≡ old))
-        → Stays settings new
-    by None alive ended = stays_heard settings old new bytes answer k alive (step.0 alive)
-    by (Some e) failed ended = stays_same settings old new k ended.1
+        → Stays settings.max_blocked new
+    by None alive ended = stays_heard settings.max_blocked old new bytes answer k alive (step.0 alive)
+    by (Some e) failed ended = stays_same settings.max_blocked old new k ended.1
 step_stays settings (Sent many) old new k step =
-    stays_same settings (record old { unsent = drop many old.unsent }) new (stays_sent settings old many k) step
+    stays_same settings.max_blocked (record old { unsent = drop many old.unsent }) new
+    (stays_sent settings.max_blocked old (drop many old.unsent) k) step
 
-careful : (settings : EncoderSettings) (e : EncodingEnd) → Stays settings e → IsCareful settings e
+careful : (settings : EncoderSettings) (e : EncodingEnd) → Stays settings.max_blocked e → IsCareful settings e
 careful settings e k =
     record {
-      needed = careful_needed (most settings) e.table k.table;
-      blocked = omega (arith, k.table.few, k.table.limit_is);
+      needed = careful_needed 4096 e.table k.table;
+      blocked = k.few;
     }
 
 counts_section : (settings : EncoderSettings) (old new : EncodingEnd) (s : ℕ) (fields : List FieldLine)
-    (section : List ℕ) (required : ℕ) → Stays settings old
+    (section : List ℕ) (required : ℕ) → Stays settings.max_blocked old
     → WritesSection (begun old) new s fields [] section required
     ⊎ WritesAlone (begun old) new fields [] section required → CountsSection (begun old) new s fields section
 counts_section settings old new s fields section required k (inl writes) =
     let t = (begun old).table in
-    let careful = table_begun settings old k in
+    let careful = table_begun settings.max_blocked old k in
     let cs = writes.section.choices in
     let p = chosen_drafts t careful.history fields cs careful.sound careful.kept in
     let d = chosen_rule t fields cs in
@@ -230,7 +95,7 @@ counts_section settings old new s fields section required k (inr writes) =
           (sym (none_referenced (insert_count t) (window t) fields));
     }
 
-call_counts : (settings : EncoderSettings) (call : Call) (old new : EncodingEnd) → Stays settings old
+call_counts : (settings : EncoderSettings) (call : Call) (old new : EncodingEnd) → Stays settings.max_blocked old
     → Step call old new → Counts call old new
 call_counts settings (Encode s fields wishes section (Ok required)) old new k step =
     counts_section settings old new s fields section required k step.0.1
@@ -240,7 +105,7 @@ call_counts settings (Receive bytes answer) old new k step = tt
 call_counts settings (Sent many) old new k step = tt
 
 all_careful : (settings : EncoderSettings) (calls : List Call) (old last : EncodingEnd) (run : Run calls old last)
-    → Stays settings old → AllCareful settings calls old last run
+    → Stays settings.max_blocked old → AllCareful settings calls old last run
 all_careful settings [] old last run k = tt
 all_careful settings (call ∷ calls) old last run k =
     let now = step_stays settings call old run.0 k run.1 in (
@@ -275,16 +140,36 @@ first_goes_on t l more words (c ∷ cs) quiet is below few suit =
     subst (λ (x : Chosen). insert_count t < required_insert_count (chosen_rule t (l ∷ more) (x ∷ cs))) (sym same)
     (go_on_chosen t l more c.unreferenced cs quiet is.indexable is.fits below few)
 
+-- where nothing is under way, a section may be blocked
+quiet_may : (settings : EncoderSettings) (d : EncodingEnd) (s : ℕ) → IsQuiet d.table
+    → d.settings.max_blocked ≡ settings.max_blocked → 0 < settings.max_blocked → may_block d s ≡ true
+quiet_may settings d s quiet same some =
+    rw (none_yet d.table quiet.acknowledged)
+    (lt-ltb 0 d.settings.max_blocked (omega (arith, same, some)))
+
+most_begun : (settings : EncoderSettings) (old : EncodingEnd) → Stays settings.max_blocked old
+    → (begun old).settings.max_blocked ≡ settings.max_blocked
+most_begun settings old k = ap (λ (s : EncoderSettings). s.max_blocked) (begun_settings old) ∙ k.most_is
+
+limit_as : (t : Table) → t.limit ≡ 4096 → record t { limit = 4096 } ≡ t
+limit_as t is = sym (ap (λ (n : ℕ). let u : Table = record t { limit = n } in u) is)
+
 goes_on : (settings : EncoderSettings) (old new : EncodingEnd) (s : ℕ) (fields : List FieldLine) (wishes : List Wish)
-    (section : List ℕ) (required : ℕ) → Stays settings old
+    (section : List ℕ) (required : ℕ) → Stays settings.max_blocked old
     → EncodesAsWished old new s fields wishes [] section (Ok required)
     → GoesOn settings (begun old) fields wishes required
 goes_on settings old new s (l ∷ more) (Insert ∷ words) section required k wished = λ quiet is some room few.
-    let t = (begun old).table in
-    let careful = table_begun settings old k in
-    let w = wished room in
-    let below = quiet_unblocked (most settings) t careful quiet.known (omega (arith, some)) in
-    let reached = first_goes_on t l more words w.section.choices quiet is below few
+    let d = begun old in
+    let careful = table_begun settings.max_blocked old k in
+    let may = quiet_may settings d s quiet (most_begun settings old k) some in
+    let limit : (limited true d).table ≡ d.table = limit_as d.table careful.limit_is in
+    let w = subst (λ (b : Bool). KeepsWishes (limited b d) (limited b new) s (l ∷ more) (Insert ∷ words) [] section
+    required) may (wished room) in
+    let below = quiet_unblocked 4096 d.table careful quiet.known (omega arith) in
+    let still : IsQuiet (limited true d).table = record { acknowledged = quiet.acknowledged; known = quiet.known } in
+    let reached = first_goes_on (limited true d).table l more words w.section.choices still
+    (subst (λ (t : Table). IsToBeInserted t l) (sym limit) is)
+    (omega (arith, below, careful.limit_is)) few
     (w.suit (λ none. omega (arith, none, is.fits))) in
     omega (arith, reached, w.section.required_is)
 goes_on settings old new s (l ∷ more) (Reuse ∷ words) section required k wished = tt
@@ -300,13 +185,13 @@ AnswersSo settings call old new = Answers settings call old × (new.failure ≡ 
 memory_alive : (old new : EncodingEnd) (fields : List FieldLine) → old.failure ≡ None → StopsForMemory old new fields
     → new.failure ≡ None
 memory_alive old new fields alive (inl none) = ap (λ (y : EncodingEnd). y.failure) none.1 ∙ alive
-memory_alive old new fields alive (inr (inl full)) =
-    ap (λ (y : EncodingEnd). y.failure) full.1 ∙ begun_failure old.wanted old ∙ alive
+memory_alive old new fields alive (inr (inl told)) =
+    ap (λ (y : EncodingEnd). y.failure) told ∙ begun_failure old.wanted old ∙ alive
 memory_alive old new fields alive (inr (inr g)) =
     ap (λ (y : EncodingEnd). y.failure) g.new_is ∙ begun_failure old.wanted old ∙ alive
 
 encode_answers : (settings : EncoderSettings) (old new : EncodingEnd) (s : ℕ) (fields : List FieldLine)
-    (wishes : List Wish) (section : List ℕ) (answer : Result ℕ EncodingError) → Stays settings old
+    (wishes : List Wish) (section : List ℕ) (answer : Result ℕ EncodingError) → Stays settings.max_blocked old
     → old.failure ≡ None → Encodes old new s fields [] section answer
     → EncodesAsWished old new s fields wishes [] section answer
     → AnswersSo settings (Encode s fields wishes section answer) old new
@@ -336,13 +221,13 @@ set_answers settings old new n (Err e) alive (inr stops) =
     (stops.1.0, ap (λ (y : EncodingEnd). y.failure) stops.1.1 ∙ alive)
 
 hear_answers : (settings : EncoderSettings) (old new : EncodingEnd) (bytes : List ℕ) (answer : Result ⊤ EncodingError)
-    → Stays settings old → old.failure ≡ None → (l : IsLawful old bytes)
+    → Stays settings.max_blocked old → old.failure ≡ None → (l : IsLawful old bytes)
     → ReceivesBytes l.heard l.before old new bytes answer → AnswersSo settings (Receive bytes answer) old new
 hear_answers settings old new bytes (Ok done) k alive l call =
     (refl, ap (λ (y : EncodingEnd). y.failure) call.1 ∙ alive)
 hear_answers settings old new bytes (Err (DecoderStream x)) k alive l call =
     let h = instructions_heard old.table l.received l.under_way l.may l.known l.made
-    (let few = careful_count (most settings) old.table k.table in omega (arith, few)) in
+    (let few = careful_count 4096 old.table k.table in omega (arith, few)) in
     absurd (decoder_streams_heard old.table new.table h.0 l.heard l.under_way l.before bytes l.behind new.stream x
     l.spelled h.1 call.0)
 hear_answers settings old new bytes (Err CapacityTooLarge) k alive l call = absurd call
@@ -350,7 +235,7 @@ hear_answers settings old new bytes (Err EntriesHeld) k alive l call = absurd ca
 hear_answers settings old new bytes (Err (NoStream s)) k alive l call = absurd call
 hear_answers settings old new bytes (Err Memory) k alive l call = absurd call
 
-step_answers : (settings : EncoderSettings) (call : Call) (old new : EncodingEnd) → Stays settings old
+step_answers : (settings : EncoderSettings) (call : Call) (old new : EncodingEnd) → Stays settings.max_blocked old
     → old.failure ≡ None → Step call old new → IsLawfulCall call old → AnswersSo settings call old new
 step_answers settings (Encode s fields wishes section answer) old new k alive step asked =
     encode_answers settings old new s fields wishes section answer k alive step.0 step.1
@@ -362,7 +247,7 @@ step_answers settings (Sent many) old new k alive step asked =
     (tt, ap (λ (y : EncodingEnd). y.failure) step ∙ alive)
 
 all_answer : (settings : EncoderSettings) (calls : List Call) (old last : EncodingEnd) (run : Run calls old last)
-    → Stays settings old → old.failure ≡ None → AreLawful calls old last run → AllAnswer settings calls old last run
+    → Stays settings.max_blocked old → old.failure ≡ None → AreLawful calls old last run → AllAnswer settings calls old last run
 all_answer settings [] old last run k alive asked = tt
 all_answer settings (call ∷ calls) old last run k alive asked =
     let one = step_answers settings call old run.0 k alive run.1 asked.0 in (

@@ -46,7 +46,7 @@ use Rattle.qpack_connection.proofs.RefinedReceptions.{applied_front, no_fewer, l
 use Rattle.qpack_ends.proofs.StrictCounts.{all_count}
 use Rattle.qpack_ends.specs.Receiving.{StreamView, Receives}
 use Rattle.qpack_connection.specs.RefinedDecodes.{AnswersSection}
-use Rattle.qpack_connection.proofs.RefinedDecodes.{not_ended}
+use Rattle.qpack_connection.proofs.RefinedDecodes.{refusal_is}
 use Rattle.qpack_connection.proofs.RefinedDecodes.{stops_for_memory}
 use Rattle.qpack_spec.specs.LawfulEncoders.{IsLawfulEncoder}
 use Rattle.qpack_connection.proofs.LawfulEncoders.{all_made, taken, is_read_as, decode_answers}
@@ -139,7 +139,7 @@ stays_decoded settings x y s k fields (Err e) read h come answers call = by_erro
         → Stays settings y
     by_error e answers (inl stopped) = stays_still settings x y h come stopped.1
     by_error (Section q f) answers (inr stopped) =
-        stays_still settings x y h come (not_ended x.end y.end s f answers.2 stopped.1.2)
+        stays_acknowledged settings x y s 0 h come (refusal_is x.end y.end s f answers.2 stopped.1.2)
     by_error (TooManyBlocked q) answers (inr stopped) = absurd answers
     by_error Memory answers (inr stopped) = elim (stops_for_memory x.end y.end read stopped.1) [
       | inl same ↦ stays_still settings x y h come same
@@ -228,57 +228,72 @@ receive_answers settings x y bytes left answer p k l step = by_taken answer call
     sent = lawful_stream settings p x.end (x.come ++ bytes) k.settings_are l
 
     -- what came before is in front of what came now
-    behind_old : (r : Receives start y.end.table (x.come ++ bytes) y.end.stream)
-        → k.stream.0.front ++ (k.stream.0.rest ++ bytes) ≡ r.0.front ++ r.0.rest
-    behind_old r =
-        sym (append_assoc k.stream.0.front k.stream.0.rest bytes)
-        ∙ ap (λ (b : List ℕ). b ++ bytes) (sym k.stream.0.cut) ∙ r.0.cut
+    behind_old : (more : List ℕ) (r : Receives start y.end.table (x.come ++ more) y.end.stream)
+        → k.stream.0.front ++ (k.stream.0.rest ++ more) ≡ r.0.front ++ r.0.rest
+    behind_old more r =
+        sym (append_assoc k.stream.0.front k.stream.0.rest more)
+        ∙ ap (λ (b : List ℕ). b ++ more) (sym k.stream.0.cut) ∙ r.0.cut
 
-    counts : (r : Receives start y.end.table (x.come ++ bytes) y.end.stream)
+    counts : (more others : List ℕ) → bytes ≡ more ++ others
+        → (r : Receives start y.end.table (x.come ++ more) y.end.stream)
         → length k.stream.0.lines ≤ length r.0.lines → insert_count x.end.table ≤ insert_count y.end.table
-    counts r fewer =
+    counts more others cut r fewer =
         further_counts x.end y.end.table
-        (further start x.end y.end x.come bytes l.behind p.sent sent.1.spelled k.stream r fewer)
+        (further start x.end y.end x.come more (others ++ l.behind) p.sent
+        (subst (λ (b : List ℕ). SpellsAll SpellsEncoderInstruction b p.sent)
+        (ap (λ (b : List ℕ). (x.come ++ b) ++ l.behind) cut
+        ∙ ap (λ (b : List ℕ). b ++ l.behind) (sym (append_assoc x.come more others))
+        ∙ append_assoc (x.come ++ more) others l.behind) sent.1.spelled) k.stream r fewer)
 
     counts_whole : ReceivesMore start x.end.table y.end.table x.come bytes left x.end.stream y.end.stream (Ok tt)
         → insert_count x.end.table ≤ insert_count y.end.table
     counts_whole (none, whole, r, short) =
-        counts r (least_whole k.stream.0.lines r.0.lines k.stream.0.front (k.stream.0.rest ++ bytes) r.0.front r.0.rest
-        k.stream.0.joined r.0.joined (behind_old r)
+        counts bytes [] (sym (append-nil bytes)) r
+        (least_whole k.stream.0.lines r.0.lines k.stream.0.front (k.stream.0.rest ++ bytes) r.0.front r.0.rest
+        k.stream.0.joined r.0.joined (behind_old bytes r)
         (subst (λ (b : List ℕ). Truncates encoder_instruction_form b) (whole.0.ends.0 ∙ sym r.0.ends.0)
         whole.0.ends.1.cut))
 
-    counts_longer : (r : Receives start y.end.table (x.come ++ bytes) y.end.stream)
-        → length y.end.stream.pending ≤ length x.end.stream.pending + length bytes
+    counts_longer : (more others : List ℕ) → bytes ≡ more ++ others
+        → (r : Receives start y.end.table (x.come ++ more) y.end.stream)
+        → length y.end.stream.pending ≤ length x.end.stream.pending + length more
         → insert_count x.end.table ≤ insert_count y.end.table
-    counts_longer r fewer =
-        counts r (no_fewer k.stream.0.lines r.0.lines k.stream.0.front r.0.front (k.stream.0.rest ++ bytes) r.0.rest
-        k.stream.0.joined r.0.joined (behind_old r)
+    counts_longer more others cut r fewer =
+        counts more others cut r
+        (no_fewer k.stream.0.lines r.0.lines k.stream.0.front r.0.front (k.stream.0.rest ++ more) r.0.rest
+        k.stream.0.joined r.0.joined (behind_old more r)
         (omega (
           arith,
           fewer,
-          ap length (behind_old r),
-          length-append k.stream.0.front (k.stream.0.rest ++ bytes),
-          length-append k.stream.0.rest bytes,
+          ap length (behind_old more r),
+          length-append k.stream.0.front (k.stream.0.rest ++ more),
+          length-append k.stream.0.rest more,
           length-append r.0.front r.0.rest,
           ap length k.stream.0.ends.0,
           ap length r.0.ends.0,
         )))
 
-    come_all : left ≡ [] → x.come ++ bytes ≡ y.come
-    come_all none = sym step.1 ∙ ap (λ (b : List ℕ). y.come ++ b) none ∙ append-nil y.come
+    -- what came of the bytes, but those that are left
+    come_front : (more : List ℕ) → bytes ≡ more ++ left → x.come ++ more ≡ y.come
+    come_front more cut =
+        sym (append_cancel_right y.come (x.come ++ more) left
+        (step.1 ∙ ap (λ (b : List ℕ). x.come ++ b) cut ∙ sym (append_assoc x.come more left)))
 
-    came : left ≡ [] → Receives start y.end.table (x.come ++ bytes) y.end.stream → y.end.failure ≡ x.end.failure
-        → y.end.settings ≡ x.end.settings → y.end.blocked ≡ x.end.blocked
+    came : (more : List ℕ) → bytes ≡ more ++ left → Receives start y.end.table (x.come ++ more) y.end.stream
+        → y.end.failure ≡ x.end.failure → y.end.settings ≡ x.end.settings → y.end.blocked ≡ x.end.blocked
         → y.end.reported ≤ insert_count y.end.table → Stays settings y
-    came none r failure same waits told =
+    came more cut r failure same waits told =
         record {
           alive = failure ∙ k.alive;
           settings_are = same ∙ k.settings_are;
-          stream = subst (λ (c : List ℕ). Receives start y.end.table c y.end.stream) (come_all none) r;
+          stream = subst (λ (c : List ℕ). Receives start y.end.table c y.end.stream) (come_front more cut) r;
           told = told;
           once = subst AreOfOneEach (sym waits) k.once;
         }
+
+    -- none are left
+    all_cut : left ≡ [] → bytes ≡ bytes ++ left
+    all_cut none = sym (append-nil bytes) ∙ ap (λ (b : List ℕ). bytes ++ b) (sym none)
 
     -- all that the encoder wrote has come
     all_came : p.bytes ≡ x.come ++ bytes
@@ -293,25 +308,18 @@ receive_answers settings x y bytes left answer p k l step = by_taken answer call
         → ReceivesMore start x.end.table y.end.table x.come bytes left x.end.stream y.end.stream (Err stream.Memory)
         → EndsReceiving (received y.end.table y.end.stream x.end) y.end (Err stream.Memory) a
         → Answers (Receive bytes left a) x y (p, l) × Stays settings y
-    by_memory a (inl same) ends = (
-      subst (λ (r : Result ℕ DecodingError). Answers (Receive bytes left r) x y (p, l)) (sym ends.0) refl,
-      stays_same settings x y k (ap (λ (e : DecodingEnd). e.failure) ends.1)
-          (ap (λ (e : DecodingEnd). e.settings) ends.1) same.1 same.2
-          (append_cancel_right y.come x.come bytes (ap (λ (b : List ℕ). y.come ++ b) (sym same.0) ∙ step.1))
-          (omega (arith, ap (λ (e : DecodingEnd). e.reported) ends.1, k.told))
-          (subst (λ (e : DecodingEnd). AreOfOneEach e.blocked) (sym ends.1) k.once),
-    )
-    by_memory a (inr more) ends = (
-      subst (λ (r : Result ℕ DecodingError). Answers (Receive bytes left r) x y (p, l)) (sym ends.0) refl,
-      came more.0 more.2 (ap (λ (e : DecodingEnd). e.failure) ends.1) (ap (λ (e : DecodingEnd). e.settings) ends.1)
-          (ap (λ (e : DecodingEnd). e.blocked) ends.1)
-          (omega (
-            arith,
-            ap (λ (e : DecodingEnd). e.reported) ends.1,
-            k.told,
-            counts_longer more.2 more.3,
-          )),
-    )
+    by_memory a more ends =
+        let t = more.0 in (
+          subst (λ (r : Result ℕ DecodingError). Answers (Receive bytes left r) x y (p, l)) (sym ends.0) refl,
+          came t.taken t.cut t.stream (ap (λ (e : DecodingEnd). e.failure) ends.1)
+              (ap (λ (e : DecodingEnd). e.settings) ends.1) (ap (λ (e : DecodingEnd). e.blocked) ends.1)
+              (omega (
+                arith,
+                ap (λ (e : DecodingEnd). e.reported) ends.1,
+                k.told,
+                counts_longer t.taken left t.cut t.stream t.no_longer,
+              )),
+        )
 
     by_taken : (a : Result ℕ DecodingError) (taken : Result ⊤ EncoderStreamError)
         → ReceivesMore start x.end.table y.end.table x.come bytes left x.end.stream y.end.stream taken
@@ -319,13 +327,13 @@ receive_answers settings x y bytes left answer p k l step = by_taken answer call
         → Answers (Receive bytes left a) x y (p, l) × Stays settings y
     by_taken (Ok total) (Ok it) s ends = (
       (ends.0, s.0, λ all. ends.0 ∙ all_came all s),
-      came s.0 s.2 (ap (λ (e : DecodingEnd). e.failure) ends.1) (ap (λ (e : DecodingEnd). e.settings) ends.1)
+      came bytes (all_cut s.0) s.2 (ap (λ (e : DecodingEnd). e.failure) ends.1) (ap (λ (e : DecodingEnd). e.settings) ends.1)
           (ap (λ (e : DecodingEnd). e.blocked) ends.1)
           (omega (arith, ap (λ (e : DecodingEnd). e.reported) ends.1)),
     )
     by_taken (Err e) (Ok it) s ends = (
       ends.0,
-      came s.0 s.2 (ap (λ (d : DecodingEnd). d.failure) ends.2) (ap (λ (d : DecodingEnd). d.settings) ends.2)
+      came bytes (all_cut s.0) s.2 (ap (λ (d : DecodingEnd). d.failure) ends.2) (ap (λ (d : DecodingEnd). d.settings) ends.2)
           (ap (λ (d : DecodingEnd). d.blocked) ends.2)
           (omega (arith, ap (λ (d : DecodingEnd). d.reported) ends.2, k.told, counts_whole s)),
     )

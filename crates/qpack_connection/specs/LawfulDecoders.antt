@@ -1,5 +1,5 @@
 -- What the encoding end of a connection promises, over calls and their answers: with any peer, that it evicts nothing
--- that may still be needed and lets no more sections be blocked than may be; and with a peer that keeps to the
+-- that may still be needed and lets no more streams be blocked than may be; and with a peer that keeps to the
 -- standard, that it refuses nothing of the decoder stream, and goes on inserting (RFC 9204, sections 2.1, 2.2.2 and
 -- 4.4).
 use Rattle.std.specs.Prelude.{◌≡◌, ◌<◌, ◌≤◌, ◌^◌, ℕ, ⊤, false, List, [], ◌∷◌, ◌++◌, length, drop, None, Result, Ok, Err}
@@ -16,6 +16,7 @@ use Rattle.qpack_ends.specs.declared.encoder.EncodingError.{EncodingError}
 use Rattle.qpack_ends.specs.Encoders.{EncodingEnd, Starts, begun, is_full, Encodes, SetsCapacity, StopsTelling}
 use Rattle.qpack_ends.specs.Encoders.{ReceivesBytes}
 use Rattle.qpack_ends.specs.Hearing.{Receives}
+use Rattle.qpack_ends.specs.Risk.{streams_at_risk}
 use Rattle.qpack_ends.specs.Wishes.{EncodesAsWished}
 use Rattle.qpack_codec.specs.declared.encoder.choices.Wish.{Wish}
 use Rattle.qpack_codec.specs.declared.encoder.choices.Wish.TheVariants.{Insert}
@@ -49,11 +50,12 @@ Run (call ∷ calls) old new = (now : EncodingEnd) × Step call old now × Run c
 
 -- ---- with any peer
 
--- what holds behind each call: nothing is evicted that may still be needed, and no more sections are blocked than the
--- peer lets be (sections 2.1.1 and 2.1.2)
+-- what holds behind each call: nothing is evicted that may still be needed, and no more streams may be blocked than the
+-- peer lets be: those with a section that is neither acknowledged nor cancelled, and requires insertions that are not
+-- known to be received (sections 2.1.1 and 2.1.2)
 pub record IsCareful (settings : EncoderSettings) (e : EncodingEnd) : Type 0 where
   pub needed : KeepsNeeded e.table
-  pub blocked : length e.table.blocked ≤ settings.max_blocked
+  pub blocked : length (streams_at_risk e.table) ≤ settings.max_blocked
 
 -- a section that was written counts as not acknowledged, with exactly the entries that its lines reference; one that
 -- references none does not count (sections 2.1.1 and 2.2.2.1)
@@ -108,7 +110,7 @@ AreLawful [] old new run = Unit {0}
 AreLawful (call ∷ calls) old new run = IsLawfulCall call old × AreLawful calls run.0 new run.2
 
 -- a section whose first field is new, and is to be inserted by the caller's word, requires an insertion that was not made
--- before, if nothing is under way, some section may be blocked, and some may wait for its acknowledgment
+-- before, if nothing is under way, some stream may be blocked, and some section may wait for its acknowledgment
 abbrev pub GoesOn : EncoderSettings → EncodingEnd → List FieldLine → List Wish → ℕ → Type 0
 GoesOn settings e (l ∷ more) (Insert ∷ words) required =
     IsQuiet e.table → IsToBeInserted e.table l → 0 < settings.max_blocked → is_full e ≡ false

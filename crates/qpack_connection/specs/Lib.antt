@@ -22,3 +22,4 @@ pub mod ConnectionEvents
 pub mod HandedFields
 pub mod ConnectionRuns
 pub mod ArrivedSections
+pub mod SettledSections

@@ -1,5 +1,5 @@
 -- A connection in bytes refines a session of values of two strict ends (RFC 9204, section 2).
-use Rattle.std.specs.Prelude.{◌≡◌, ◌<◌, ◌≤◌, ◌^◌, ◌+◌, ℕ, min, List, [], ◌++◌, length, take, Some, Ok}
+use Rattle.std.specs.Prelude.{◌≡◌, ◌<◌, ◌≤◌, ◌^◌, ◌+◌, ℕ, List, [], ◌++◌, length, take, Some, Ok}
 use Rattle.std.specs.List.{AllByRecursion}
 use Rattle.qpack_spec.specs.Field.{FieldLine, fields_of_lines}
 use Rattle.qpack_spec.specs.Instruction.{DecoderInstruction, SpellsEncoderInstruction, SpellsDecoderInstruction}
@@ -69,12 +69,13 @@ EncodesAreRefined =
     → (more : List EndStep)
     × RefinesSession maximum new (after_end_steps (steps ++ more) (abstract_start 0 maximum limit))
 
--- a new connection is the session at its beginning: capacity 0, and the maximum and the limit that were agreed on
+-- a new connection is the session at its beginning: capacity 0, and the maximum that was agreed on; the encoder's table
+-- keeps at most 4,096 sections that may be blocked
 abbrev pub NewConnectionsAreRefined : Type 0
 NewConnectionsAreRefined =
     (c : Connection) (k : IsNew c)
     → RefinesSession k.encoder_settings.max_capacity c
-    (abstract_start 0 k.encoder_settings.max_capacity (min k.encoder_settings.max_blocked 65534))
+    (abstract_start 0 k.encoder_settings.max_capacity 4096)
 
 -- a capacity that is set is one that the session sets, or nothing is done
 abbrev pub CapacitiesAreRefined : Type 0

@@ -13,6 +13,7 @@ use Rattle.qpack_connection.specs.Connections.{Connection, IsNew, Call, Encode, 
 use Rattle.qpack_connection.specs.Connections.{Cancel, Step, Run}
 use Rattle.qpack_ends.specs.Decoders.{blocked_streams}
 use Rattle.qpack_ends.specs.Encoders.{StopsTelling}
+use Rattle.qpack_ends.specs.Risk.{streams_at_risk}
 use Rattle.qpack_connection.specs.RefinedDecodes.{AnswersSection}
 use Rattle.qpack_connection.specs.RefinedRefusals.{StopsEncoding, StopsCancelling}
 use Rattle.qpack_connection.specs.RefinedStreams.{IsOpen, AnswersTotal}
@@ -58,11 +59,12 @@ Fits (Encode s fields (Err e)) old new step =
     AllByRecursion IsByteField (fields_of_lines fields) × (length new.encoder_stream.written < 2 ^ 63)
 Fits call old new step = Unit {0}
 
--- what holds between calls: no error ended an end; no more sections are blocked than may be, and no more streams wait at
--- the decoder (section 2.1.2); and the encoder takes no insertion for received that was not (section 2.1.4)
+-- what holds between calls: no error ended an end; of no more streams than may be blocked is a section neither
+-- acknowledged nor cancelled that requires insertions which are not known to be received, and no more wait at the decoder
+-- (section 2.1.2); and the encoder takes no insertion for received that was not (section 2.1.4)
 pub record IsWithin (most : ℕ) (c : Connection) : Type 0 where
   pub open_ends : IsOpen c
-  pub blocked : length c.encoder.table.blocked ≤ most
+  pub blocked : length (streams_at_risk c.encoder.table) ≤ most
   pub waiting : blocked_streams c.decoder ≤ most
   pub known : c.encoder.table.known_received_count ≤ insert_count c.decoder.table
 

@@ -43,10 +43,10 @@ pub struct ConnectionSettings {
 }
 
 impl ConnectionSettings {
-    /// What the decoding end sends; a capacity of 4,096 bytes is wanted, and 1,000 sections may wait for
+    /// What the decoding end sends; a capacity of 4,096 bytes is wanted, and 100 sections may wait for
     /// acknowledgments.
     pub fn new(decoder: DecoderSettings) -> ConnectionSettings
-        ensures { result ≡ record { decoder = decoder; capacity = 4096; most_unacknowledged = 1000 } }
+        ensures { result ≡ record { decoder = decoder; capacity = 4096; most_unacknowledged = 100 } }
     {
         ConnectionSettings {
             decoder,

@@ -10,6 +10,7 @@ ghost use Rattle.qpack_connection.specs.RefinedDecodes.{DecodesAreRefined};
 ghost use Rattle.qpack_connection.specs.RefinedRefusals.{RefusedEncodesAreRefined, RefusedCapacitiesAreRefined};
 ghost use Rattle.qpack_connection.specs.RefinedRefusals.{RefusedCancellationsAreRefined};
 ghost use Rattle.qpack_connection.specs.RefinedStreams.{HearingsAreRefined, ReceptionsAreRefined};
+ghost use Rattle.qpack_connection.specs.SettledSections.{SectionsSettle};
 ghost use Rattle.qpack_connection.specs.TwoEndsHeadline.{TwoEndsAnswerWhatWasHanded};
 
 /// What [`EncoderStream::receive`](crate::EncoderStream::receive) and
@@ -74,4 +75,11 @@ pub fn lawful_decoders_are_understood()
 /// 9204, section 2.1.2).
 pub fn sections_arrive()
     ensures { SectionsArrive }
+{}
+
+/// A stream whose section was passed to [`ConnectionDecoder::decode`](crate::ConnectionDecoder::decode) is not ready
+/// after it, whether the section was decoded, waits for more insertions or was refused. So a loop that decodes the
+/// sections of ready streams ends (RFC 9204, section 2.2.1).
+pub fn sections_settle()
+    ensures { SectionsSettle }
 {}

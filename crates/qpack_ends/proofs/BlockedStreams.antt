@@ -289,7 +289,7 @@ required_in_order q b (x ∷ xs) none =
     both false true true e f g more =
         absurd (eqb-false x.stream b.stream g (eqb-true x.stream q f ∙ sym (eqb-true b.stream q e)))
 
-gone : (s : ℕ) (bs : List BlockedStream) → required_of s (without s bs) ≡ None
+pub gone : (s : ℕ) (bs : List BlockedStream) → required_of s (without s bs) ≡ None
 gone s bs = required_without s s bs ∙ rw (eq-eqb s s refl) refl
 
 required_with : (q : ℕ) (b : BlockedStream) (bs : List BlockedStream)

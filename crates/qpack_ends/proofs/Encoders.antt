@@ -25,6 +25,9 @@ use Rattle.qpack_ends.specs.declared.encoder.EncodingError.{EncodingError}
 use Rattle.qpack_ends.specs.declared.encoder.EncodingError.TheVariants.{DecoderStream, CapacityTooLarge}
 use Rattle.qpack_ends.specs.declared.encoder.EncodingError.TheVariants.{EntriesHeld, Memory}
 use Rattle.qpack_ends.specs.declared.hearing.DecoderStreamError.{DecoderStreamError}
+use Rattle.qpack_ends.specs.declared.blocked.BlockedStream.{BlockedStream}
+use Rattle.qpack_ends.specs.Risk.{TracksRisk, still_at_risk}
+use Rattle.qpack_ends.proofs.LimitedSections.{tracks_hearing}
 
 -- ---- a capacity that is refused
 
@@ -173,3 +176,23 @@ refused_sound d t s bytes e sound live hears =
       stream = λ q. absurd cc;
       failure = refl;
     }
+
+-- ---- the streams at risk
+
+-- those that are kept are those of the table behind bytes that were received
+pub received_tracks : (d : EncodingEnd) (t : Table) (s : StreamView) (bytes : List ℕ) (rs kept : List BlockedStream)
+    → IsSound d → d.failure ≡ None → HearsAll d t s bytes (Ok tt) → kept ≡ still_at_risk t rs → TracksRisk rs d.table
+    → TracksRisk kept t
+received_tracks d t s bytes rs kept sound live hears is tracks =
+    let was = sound.stream live in
+    let more = hears was.0 was.1 was.2 in
+    tracks_hearing rs kept d.table t more.more more.applies is tracks
+
+-- and behind bytes at which the stream is refused
+pub refused_tracks : (d : EncodingEnd) (t : Table) (s : StreamView) (bytes : List ℕ) (e : DecoderStreamError)
+    (rs kept : List BlockedStream) → IsSound d → d.failure ≡ None → HearsAll d t s bytes (Err e)
+    → kept ≡ still_at_risk t rs → TracksRisk rs d.table → TracksRisk kept t
+refused_tracks d t s bytes e rs kept sound live hears is tracks =
+    let was = sound.stream live in
+    let more = (hears was.0 was.1 was.2).0 in
+    tracks_hearing rs kept d.table t more.more more.applies is tracks

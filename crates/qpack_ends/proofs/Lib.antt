@@ -7,11 +7,16 @@ pub mod PlacedTaking
 pub mod StrictTaking
 pub mod WaitingLengths
 pub mod BlockedStreams
+pub mod Risk
+pub mod LimitedChoices
+pub mod RiskRows
 pub mod StrictCounts
 pub mod Decoders
+pub mod LimitedSections
 pub mod Encoders
 pub mod ReceivedStreams
 pub mod StrictHearing
 pub mod HeardBytes
 pub mod HeardStreams
 pub mod Wishes
+pub mod SentBytes

@@ -1,8 +1,8 @@
 -- A line of a section, of the parts that are read of it.
 use Rattle.std.proofs.Common.{◌≡◌, ℕ, ◌+◌, ◌-◌, ◌<◌, ◌≤◌, ◌/◌, ◌%◌, Bool, true, false, List, [], ◌∷◌, ◌++◌}
 use Rattle.std.proofs.Common.{length, Result, Ok}
-use Rattle.std.proofs.Common.{Err, refl, sym, ap, subst, ◌∙◌, arith, append_assoc, append-nil, length-append, max, Some}
-use Rattle.std.specs.Prelude.{⊤, nat_le, if◌then◌else◌}
+use Rattle.std.proofs.Common.{Err, refl, sym, ap, subst, ◌∙◌, arith, append_assoc, append-nil, max, Some}
+use Rattle.std.specs.Prelude.{nat_le, if◌then◌else◌}
 use Rattle.std.proofs.lemmas.Bool.{lt-ltb, le-ltb, le-leb, eq-eqb, ne_eqb}
 use Rattle.qpack_spec.specs.Bytes.{◌>>=◌}
 use Rattle.qpack_spec.specs.Field.{Field}
@@ -18,12 +18,14 @@ use Rattle.qpack_spec.specs.StrictReading as strict
 use Rattle.qpack_spec.specs.Text.{string_at}
 use Rattle.qpack_spec.specs.Window.{with_value}
 use Rattle.qpack_base.specs.Cursor.{CursorView}
+use Rattle.qpack_base.specs.Writes.{kept_within}
 use Rattle.qpack_wire.proofs.Alones.{form_own}
 use Rattle.qpack_ends.specs.declared.section.LineError.{LineError}
 use Rattle.qpack_ends.specs.declared.section.LineError.TheVariants.{Memory}
+use Rattle.qpack_ends.specs.declared.section.lines.Lengths.{Lengths}
 use Rattle.qpack_ends.specs.declared.section.lines.Reference.{Reference}
 use Rattle.qpack_ends.specs.declared.section.lines.Reference.TheVariants.{Static, Relative, PostBase}
-use Rattle.qpack_ends.specs.Lines.{FailsLine, or_bad_line, AppendsName, AppendsEntry, AppendsLine, Stands}
+use Rattle.qpack_ends.specs.Lines.{FailsLine, or_bad_line, AppendsEntry, AppendsLine, Stands}
 use Rattle.qpack_ends.specs.Lines.{Extends}
 use Rattle.qpack_ends.specs.Lines.{entry_of, strict_entry, indexed_line, named_line, field_of_form}
 
@@ -48,6 +50,9 @@ fails_in_bytes {A} {B} e (Err x) line h on = subst (λ (r : Result B LineFault).
 -- nothing stands behind
 pub extends_none : (text : List ℕ) → Extends text text
 extends_none text = ([], sym (append-nil text))
+
+pub extends_same : (old new : List ℕ) → new ≡ old → Extends old new
+extends_same old new e = ([], e ∙ sym (append-nil old))
 
 -- ---- the field of a line by its index
 
@@ -165,23 +170,14 @@ literal_good u bytes middle rest name value flags more q p =
 
 -- ---- what was appended
 
-pub entry_line : (old new : CursorView) (text_old text_new : List ℕ) (result : Result ℕ LineError)
+pub entry_line : (most : ℕ) (old new : CursorView) (text_old text_new : List ℕ) (result : Result Lengths LineError)
     (entry : Result Field LineFault) (whole : Result (Field × List ℕ) LineFault) → whole ≡ and_rest new.rest entry
-    → new.total ≡ old.total → AppendsEntry text_old text_new result entry
-    → AppendsLine old new text_old text_new result whole
-entry_line old new text_old text_new (Ok middle) entry whole is total h =
+    → new.total ≡ old.total → AppendsEntry most text_old text_new result entry
+    → AppendsLine most old new text_old text_new result whole
+entry_line most old new text_old text_new (Ok lengths) entry whole is total h =
     (h.0, is ∙ ap (and_rest new.rest) h.1, h.2, total)
-entry_line old new text_old text_new (Err e) entry whole is total h =
+entry_line most old new text_old text_new (Err e) entry whole is total h =
     (fails_by e entry whole h.0 (λ x q. is ∙ ap (and_rest new.rest) q), h.1)
-
--- a name, and then a value
-pub stands_named : (text_old mid text_new name value : List ℕ) (middle : ℕ) (f : Field) → mid ≡ text_old ++ f.name
-    → text_new ≡ mid ++ value → middle ≡ length mid → Stands text_old text_new middle (with_value value f)
-stands_named text_old mid text_new name value middle f m t n =
-    record {
-      text = t ∙ ap (λ x. x ++ value) m;
-      middle_is = n ∙ ap length m ∙ length-append text_old f.name;
-    }
 
 -- whatever was appended first, more may stand behind it
 pub extends_more : (text_old mid text_new more value : List ℕ) → mid ≡ text_old ++ more → text_new ≡ mid ++ value
@@ -189,11 +185,27 @@ pub extends_more : (text_old mid text_new more value : List ℕ) → mid ≡ tex
 extends_more text_old mid text_new more value m t =
     (more ++ value, t ∙ ap (λ x. x ++ value) m ∙ append_assoc text_old more value)
 
--- a name may have been appended
-pub extends_named : (text_old mid : List ℕ) (result : Result ⊤ LineError) (entry : Result Field LineFault)
-    → AppendsName text_old mid result entry → Extends text_old mid
-extends_named text_old mid (Ok done) entry h = (h.0.name, h.2)
-extends_named text_old mid (Err e) entry h = ([], h.1 ∙ sym (append-nil text_old))
+-- bytes that are no more than the room are kept
+kept_whole : (most : ℕ) (bytes : List ℕ) → length bytes ≤ most → kept_within most bytes ≡ bytes
+kept_whole most bytes le = rw (le-leb (length bytes) most le) refl
+
+-- a name, and then a value in the room that is left
+pub stands_named : (most : ℕ) (text_old mid text_new value : List ℕ) (lengths : Lengths) (f : Field)
+    → lengths.name ≡ length f.name → lengths.value ≡ length value → mid ≡ text_old ++ kept_within most f.name
+    → text_new ≡ mid ++ kept_within (most - lengths.name) value
+    → Stands most text_old text_new lengths (with_value value f)
+stands_named most text_old mid text_new value lengths f n v m t =
+    record {
+      name = n;
+      value = v;
+      text = λ fits.
+          t ∙ ap (λ x. x ++ kept_within (most - lengths.name) value) m
+          ∙ ap (λ x. text_old ++ x ++ kept_within (most - lengths.name) value)
+          (kept_whole most f.name (omega (arith, fits)))
+          ∙ ap (λ x. text_old ++ f.name ++ x) (kept_whole (most - lengths.name) value (omega (arith, fits, n)));
+      extends = extends_more text_old mid text_new (kept_within most f.name) (kept_within (most - lengths.name) value) m
+          t;
+    }
 
 -- ---- the form that a first byte names
 

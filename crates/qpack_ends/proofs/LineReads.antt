@@ -17,7 +17,7 @@ use Rattle.qpack_spec.proofs.BlockReadings.{spelled_length}
 use Rattle.qpack_ends.specs.declared.field_section.Span.{Span}
 use Rattle.qpack_ends.specs.declared.section.LineError.{LineError}
 use Rattle.qpack_ends.specs.FieldSections.{IsWithin, field_at}
-use Rattle.qpack_ends.specs.Lines.{FailsLine, or_bad_line, Stands, field_of_form}
+use Rattle.qpack_ends.specs.Lines.{FailsLine, or_bad_line, field_of_form}
 use Rattle.qpack_ends.proofs.LineParts.{fails_by}
 
 -- a field, as it is read of a line that begins so
@@ -116,37 +116,41 @@ value_cut old name value end is =
     rw (back, at) (take-length value)
 
 -- how long the text is with a field
-pub length_with : (old new : List ℕ) (middle : ℕ) (f : Field) → Stands old new middle f
+pub length_with : (old new : List ℕ) (f : Field) → new ≡ old ++ f.name ++ f.value
     → length new ≡ length old + length f.name + length f.value
-length_with old new middle f s =
-    omega (arith, ap length s.text, length-append (old ++ f.name) f.value, length-append old f.name)
+length_with old new f text =
+    omega (arith, ap length text, length-append (old ++ f.name) f.value, length-append old f.name)
 
 -- the span of a field that stands behind the text
-pub span_of : (old new : List ℕ) (start middle end first : ℕ) (f : Field) (never : Bool) → Stands old new middle f
-    → start ≡ length old → end ≡ length new → never ≡ is_never_indexed first
+pub span_of : (old new : List ℕ) (start middle end first : ℕ) (f : Field) (never : Bool)
+    → new ≡ old ++ f.name ++ f.value → start ≡ length old → middle ≡ length old + length f.name
+    → end ≡ length old + length f.name + length f.value → never ≡ is_never_indexed first
     → (let s : Span = record { start = start; middle = middle; end = end; never_indexed = never } in
     IsWithin (length new) s × (field_at new s ≡ read_of first f))
-span_of old new start middle end first f never s b n bit =
-    let long = length_with old new middle f s in
-    let name : slice_range new start middle ≡ f.name =
-    rw (b, s.middle_is, s.text) (name_cut old f.name f.value) in
-    let value : slice_range new middle end ≡ f.value =
-    rw (s.middle_is, s.text) (value_cut old f.name f.value end (omega (arith, n, long))) in (
+span_of old new start middle end first f never text b m n bit =
+    let long = length_with old new f text in
+    let name : slice_range new start middle ≡ f.name = rw (b, m, text) (name_cut old f.name f.value) in
+    let value : slice_range new middle end ≡ f.value = rw (m, text) (value_cut old f.name f.value end n) in (
       record {
-        name = omega (arith, b, s.middle_is);
-        value = omega (arith, n, long, s.middle_is);
-        within = omega (arith, n);
+        name = omega (arith, b, m);
+        value = omega (arith, n, m);
+        within = omega (arith, n, long);
       },
       rw (name, value, bit) refl,
     )
 
 -- ---- sizes
 
-pub sum_is : (all before now after start end : ℕ) (f : Field) (old new : List ℕ) (middle : ℕ)
-    → Stands old new middle f → start ≡ length old → end ≡ length new → before ≡ saturated_size all
-    → now ≡ min (before + (end - start)) (2 ^ 64 - 1) → after ≡ min (now + 32) (2 ^ 64 - 1)
-    → after ≡ saturated_size (all + field_size f)
-sum_is all before now after start end f old new middle s b n h p q =
-    let long = length_with old new middle f s in
-    let size : end - start ≡ length f.name + length f.value = omega (arith, long, b, n) in
-    rw (q, p, h, size) (omega arith)
+pub sum_is : (all before name value first second third : ℕ) (f : Field) → name ≡ length f.name → value ≡ length f.value
+    → before ≡ saturated_size all → first ≡ min (before + name) (2 ^ 64 - 1)
+    → second ≡ min (first + value) (2 ^ 64 - 1) → third ≡ min (second + 32) (2 ^ 64 - 1)
+    → third ≡ saturated_size (all + field_size f)
+sum_is all before name value first second third f n v h p q r = rw (r, q, p, h, n, v) (omega arith)
+
+-- a sum that is within the limit, and not held at the greatest number, leaves room for the field
+pub room_is : (limit before name value first second third most : ℕ) → first ≡ min (before + name) (2 ^ 64 - 1)
+    → second ≡ min (first + value) (2 ^ 64 - 1) → third ≡ min (second + 32) (2 ^ 64 - 1) → third ≤ limit
+    → third < 2 ^ 64 - 1 → most ≡ limit - before - 32
+    → (name + value ≤ most) × (third ≡ before + name + value + 32)
+room_is limit before name value first second third most p q r le small m =
+    (omega (arith, p, q, r, le, small, m), omega (arith, p, q, r, small))

@@ -67,11 +67,6 @@ code_of (TooManyBlocked stream) = Some decompression_failed
 code_of (NoStream stream) = None
 code_of Memory = None
 
--- the error of a section, as an end's; want of memory stays what it is
-abbrev pub section_failure : ℕ → SectionError → DecodingError
-section_failure stream section.Memory = Memory
-section_failure stream e = Section stream e
-
 -- the same of the encoder stream's
 abbrev pub stream_failure : EncoderStreamError → DecodingError
 stream_failure (stream.Refused place e) = EncoderStream place e
@@ -89,6 +84,10 @@ pub record IsSound (d : DecodingEnd) : Type 0 where
 -- the end behind an error, which is kept if it ends the connection
 abbrev pub refused : DecodingError → DecodingEnd → DecodingEnd
 refused e d = record d { failure = if is_some (code_of e) then Some e else d.failure }
+
+-- the end after a section of this stream was refused: the stream is no longer blocked
+abbrev pub section_refused : ℕ → SectionError → DecodingEnd → DecodingEnd
+section_refused stream e d = record (refused (Section stream e) d) { blocked = without stream d.blocked }
 
 -- a call for a stream can be answered; else the connection was ended, or no stream has this number (RFC 9000, section
 -- 2.1)
@@ -189,7 +188,7 @@ StopsForMemory old new read = new ≡ old
 -- refused
 abbrev pub StopsDecoding : DecodingEnd → DecodingEnd → ℕ → StrictReading → DecodingError → Type 0
 StopsDecoding old new stream read (Section s e) =
-    (s ≡ stream) × TellsReading e read × (new ≡ refused (Section stream e) old)
+    (s ≡ stream) × TellsReading e read × (new ≡ section_refused stream e old)
 StopsDecoding old new stream read (TooManyBlocked s) =
     (s ≡ stream) × ((required : ℕ) × (read ≡ Blocked required)) × IsOneTooMany old stream
     × (new ≡ refused (TooManyBlocked stream) old)

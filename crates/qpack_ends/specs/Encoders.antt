@@ -1,11 +1,11 @@
 -- The encoding end of a connection (RFC 9204, sections 2.1, 3.2.3, 4.3.1 and 4.4).
-use Rattle.std.specs.Prelude.{◌≡◌, ◌<◌, ◌≤◌, ◌^◌, ℕ, min, ⊤, ◌⊎◌, Bool, true, false, if◌then◌else◌, nat_eq, nat_le}
+use Rattle.std.specs.Prelude.{◌≡◌, ◌<◌, ◌≤◌, ◌^◌, ℕ, min, ⊤, ◌⊎◌, Bool, true, false, if◌then◌else◌, nat_eq, nat_le, nat_lt, ◌||◌}
 use Rattle.std.specs.Prelude.{List, [], ◌++◌, length, Option, None, Some, Result, Ok, Err, IsOk}
 use Rattle.std.specs.Option.{IfSome, IsSome}
 use Rattle.qpack_spec.specs.Field.{FieldLine}
 use Rattle.qpack_spec.specs.Instruction.{DecoderInstruction, SetCapacity, written_encoder_instruction}
 use Rattle.qpack_spec.specs.Marked.{stateless_block_marked, written_marked_block}
-use Rattle.qpack_spec.specs.Table.{Table, empty_table, with_capacity}
+use Rattle.qpack_spec.specs.Table.{Table, empty_table, with_capacity, has_number}
 use Rattle.qpack_spec.specs.Window.{DoesNotFit, AboveMaximum}
 use Rattle.qpack_table.specs.declared.dynamic.Error.TheVariants.{MaxTableSizeReached}
 use Rattle.qpack_codec.specs.ChosenSections.{EncodesChosen, GivesUpChosen}
@@ -15,6 +15,7 @@ use Rattle.qpack_ends.specs.declared.encoder.EncoderSettings.{EncoderSettings}
 use Rattle.qpack_ends.specs.declared.encoder.EncodingError.{EncodingError}
 use Rattle.qpack_ends.specs.declared.encoder.EncodingError.TheVariants.{DecoderStream, CapacityTooLarge}
 use Rattle.qpack_ends.specs.declared.encoder.EncodingError.TheVariants.{EntriesHeld, NoStream, Memory}
+use Rattle.qpack_ends.specs.Risk.{streams_at_risk}
 use Rattle.qpack_ends.specs.Hearing.{StreamView, Receives, ReceivesMore, decoder_stream_error}
 
 -- an encoding end: its settings; the table; the capacity that is to be told before the first section, if one is; what
@@ -36,11 +37,11 @@ abbrev pub first_capacity : EncoderSettings → Option ℕ
 first_capacity s = if nat_eq (min s.capacity s.max_capacity) 0 then None else Some (min s.capacity s.max_capacity)
 
 -- the maximum capacity is in range, and nothing has happened: the table is empty and of capacity 0 (section 3.2.3), and
--- at most so many sections may be blocked as the peer has it, and as a table takes
+-- keeps at most 4,096 sections that may be blocked
 pub record Starts (settings : EncoderSettings) (d : EncodingEnd) : Type 0 where
   pub capacity_in_range : settings.max_capacity < 2 ^ 30
   pub settings_are : d.settings ≡ settings
-  pub table : d.table ≡ empty_table 0 (Some settings.max_capacity) (min settings.max_blocked 65534)
+  pub table : d.table ≡ empty_table 0 (Some settings.max_capacity) 4096
   pub wanted : d.wanted ≡ first_capacity settings
   pub stream : Receives [] [] d.stream
   pub unsent : d.unsent ≡ []
@@ -164,6 +165,12 @@ Checks d stream (Err e) = (d.failure ≡ Some e) ⊎ ((d.failure ≡ None) × (2
 abbrev pub is_full : EncodingEnd → Bool
 is_full d = nat_le d.settings.most_unacknowledged (length d.table.unacknowledged)
 
+-- a section of a stream may require insertions that are not known to be received: its stream may be blocked already, or
+-- fewer streams may be than the peer lets be (section 2.1.2)
+abbrev pub may_block : EncodingEnd → ℕ → Bool
+may_block d stream =
+    has_number stream (streams_at_risk d.table) || nat_lt (length (streams_at_risk d.table)) d.settings.max_blocked
+
 -- the section of fields that references no entry, which means them under every table
 abbrev pub written_alone : List FieldLine → List ℕ
 written_alone fields = written_marked_block fields (stateless_block_marked fields)
@@ -172,11 +179,13 @@ written_alone fields = written_marked_block fields (stateless_block_marked field
 abbrev pub with_section : Table → List ℕ → EncodingEnd → EncodingEnd
 with_section t unsent d = record d { table = t; unsent = unsent }
 
--- where sections may wait, the section was written under some choices, and so were its instructions (section 2.1)
+-- where sections may wait, the section was written under some choices, and so were its instructions; where none of its
+-- stream may be blocked, it requires nothing that is not known to be received (sections 2.1 and 2.1.2)
 pub record WritesSection (d new : EncodingEnd) (stream : ℕ) (fields : List FieldLine) (before after : List ℕ)
     (required : ℕ) : Type 0 where
   pub room : is_full d ≡ false
   pub section : EncodesChosen stream fields d.table new.table before after d.unsent new.unsent required
+  pub known : may_block d stream ≡ false → required ≤ d.table.known_received_count
   pub new_is : new ≡ with_section new.table new.unsent d
 
 -- where as many wait as may, the section references no entry, and nothing else changes
@@ -193,12 +202,12 @@ pub record GivesUpSection (d new : EncodingEnd) (fields : List FieldLine) : Type
   pub lines : GivesUpChosen fields d.table new.table d.unsent new.unsent
   pub new_is : new ≡ with_section new.table new.unsent d
 
--- memory was refused: for the capacity that was to be told, and nothing changes; behind it, for a section without
--- references; or among its fields
+-- memory was refused: for the capacity that was to be told, and nothing changes; behind it, before any field; or among
+-- the fields
 abbrev pub StopsForMemory : EncodingEnd → EncodingEnd → List FieldLine → Type 0
 StopsForMemory old new fields =
     (IsSome old.wanted × (new ≡ old))
-    ⊎ ((is_full (begun old) ≡ true) × (new ≡ begun old))
+    ⊎ (new ≡ begun old)
     ⊎ GivesUpSection (begun old) new fields
 
 -- a section was encoded, behind the capacity that was to be told; or the call was not answered, and nothing changes; or

@@ -4,7 +4,9 @@ pub mod Sections
 pub mod Receiving
 pub mod Places
 pub mod Blocked
+pub mod Risk
 pub mod Decoders
 pub mod Hearing
 pub mod Encoders
 pub mod Wishes
+pub mod Unsent

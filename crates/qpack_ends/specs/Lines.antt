@@ -13,6 +13,7 @@ use Rattle.qpack_spec.specs.StrictReading.{LineFault, LinesUnder, or_meaningless
 use Rattle.qpack_spec.specs.StrictReading as strict
 use Rattle.qpack_spec.specs.Table.{window}
 use Rattle.qpack_base.specs.Cursor.{CursorView}
+use Rattle.qpack_base.specs.Writes.{kept_within}
 use Rattle.qpack_base.specs.declared.parse_error.ParseError.{ParseError}
 use Rattle.qpack_base.specs.declared.static_.Error.{Error as StaticError}
 use Rattle.qpack_table.specs.declared.dynamic.Error.{Error as TableError}
@@ -24,6 +25,7 @@ use Rattle.qpack_codec.specs.declared.error.DecoderError.TheVariants as decoder
 use Rattle.qpack_ends.specs.declared.section.LineError.{LineError}
 use Rattle.qpack_ends.specs.declared.section.LineError.TheVariants.{Meaningless, PastRequired, TooLarge, Memory}
 use Rattle.qpack_ends.specs.declared.field_section.Span.{Span}
+use Rattle.qpack_ends.specs.declared.section.lines.Lengths.{Lengths}
 use Rattle.qpack_ends.specs.declared.section.lines.Lines.{Lines}
 use Rattle.qpack_ends.specs.declared.section.lines.Reference.{Reference}
 use Rattle.qpack_ends.specs.declared.section.lines.Reference.TheVariants.{Static, Relative, PostBase}
@@ -73,32 +75,36 @@ abbrev pub ReadsIndex : CursorView → CursorView → Result ℕ LineError → R
 ReadsIndex old new (Ok index) read = ((flags : ℕ) × (read ≡ Ok (flags, index, new.rest))) × (new.total ≡ old.total)
 ReadsIndex old new (Err e) read = FailsLine e (or_bad_line read)
 
--- a string was read and stands behind the text, and the cursor behind it; or it is refused, and the text is as before
-abbrev pub AppendsText : CursorView → CursorView → List ℕ → List ℕ → Result ⊤ LineError
+-- a string was read, and stands behind the text if it has at most so many bytes; its length is answered, and the cursor
+-- stands behind it. Or it is refused, and the text is as before
+abbrev pub AppendsText : ℕ → CursorView → CursorView → List ℕ → List ℕ → Result ℕ LineError
     → Result (ℕ × List ℕ × List ℕ) FormFault → Type 0
-AppendsText old new text_old text_new (Ok done) read =
-    (flags : ℕ) × (value : List ℕ) × (read ≡ Ok (flags, value, new.rest)) × (text_new ≡ text_old ++ value)
-    × (new.total ≡ old.total)
-AppendsText old new text_old text_new (Err e) read = FailsLine e (or_bad_line read) × (text_new ≡ text_old)
+AppendsText most old new text_old text_new (Ok len) read =
+    (flags : ℕ) × (value : List ℕ) × (read ≡ Ok (flags, value, new.rest)) × (len ≡ length value)
+    × (text_new ≡ text_old ++ kept_within most value) × (new.total ≡ old.total)
+AppendsText most old new text_old text_new (Err e) read = FailsLine e (or_bad_line read) × (text_new ≡ text_old)
 
--- the field's name stands behind the text
-abbrev pub AppendsName : List ℕ → List ℕ → Result ⊤ LineError → Result Field LineFault → Type 0
-AppendsName old new (Ok done) read = (f : Field) × (read ≡ Ok f) × (new ≡ old ++ f.name)
-AppendsName old new (Err e) read = FailsLine e read × (new ≡ old)
-
--- the field stands behind the text, and its name ends there
-pub record Stands (old new : List ℕ) (middle : ℕ) (f : Field) : Type 0 where
-  pub text : new ≡ old ++ f.name ++ f.value
-  pub middle_is : middle ≡ length old + length f.name
+-- the field's name stands behind the text if it has at most so many bytes, and its length is answered
+abbrev pub AppendsName : ℕ → List ℕ → List ℕ → Result ℕ LineError → Result Field LineFault → Type 0
+AppendsName most old new (Ok len) read =
+    (f : Field) × (read ≡ Ok f) × (len ≡ length f.name) × (new ≡ old ++ kept_within most f.name)
+AppendsName most old new (Err e) read = FailsLine e read × (new ≡ old)
 
 -- something may stand behind the text
 abbrev pub Extends : List ℕ → List ℕ → Type 0
 Extends old new = (more : List ℕ) × (new ≡ old ++ more)
 
--- the field stands behind the text; or why not
-abbrev pub AppendsEntry : List ℕ → List ℕ → Result ℕ LineError → Result Field LineFault → Type 0
-AppendsEntry old new (Ok middle) read = (f : Field) × (read ≡ Ok f) × Stands old new middle f
-AppendsEntry old new (Err e) read = FailsLine e read × Extends old new
+-- the lengths are the field's, and it stands behind the text if it has at most so many bytes
+pub record Stands (most : ℕ) (old new : List ℕ) (lengths : Lengths) (f : Field) : Type 0 where
+  pub name : lengths.name ≡ length f.name
+  pub value : lengths.value ≡ length f.value
+  pub text : length f.name + length f.value ≤ most → new ≡ old ++ f.name ++ f.value
+  pub extends : Extends old new
+
+-- the field stands behind the text if it has at most so many bytes; or why not
+abbrev pub AppendsEntry : ℕ → List ℕ → List ℕ → Result Lengths LineError → Result Field LineFault → Type 0
+AppendsEntry most old new (Ok lengths) read = (f : Field) × (read ≡ Ok f) × Stands most old new lengths f
+AppendsEntry most old new (Err e) read = FailsLine e read × Extends old new
 
 -- ---- lines
 
@@ -144,12 +150,12 @@ field_of_form u r = or_bad_line r >>= λ r. strict_field u r.0 >>= λ f. Ok (f, 
 abbrev pub AsksInForm : Form Line → List ℕ → Type 0
 AsksInForm form bytes = IsOk (made_at form bytes) ⊎ AsksFormAt (Some form) bytes
 
--- the line's field stands behind the text, and the cursor behind the line; or why not
-abbrev pub AppendsLine : CursorView → CursorView → List ℕ → List ℕ → Result ℕ LineError
+-- the line's field stands behind the text if it has at most so many bytes, and the cursor behind the line; or why not
+abbrev pub AppendsLine : ℕ → CursorView → CursorView → List ℕ → List ℕ → Result Lengths LineError
     → Result (Field × List ℕ) LineFault → Type 0
-AppendsLine old new text_old text_new (Ok middle) read =
-    (f : Field) × (read ≡ Ok (f, new.rest)) × Stands text_old text_new middle f × (new.total ≡ old.total)
-AppendsLine old new text_old text_new (Err e) read = FailsLine e read × Extends text_old text_new
+AppendsLine most old new text_old text_new (Ok lengths) read =
+    (f : Field) × (read ≡ Ok (f, new.rest)) × Stands most text_old text_new lengths f × (new.total ≡ old.total)
+AppendsLine most old new text_old text_new (Err e) read = FailsLine e read × Extends text_old text_new
 
 -- a field was read: its span stands behind the others, its strings behind the text, and the sizes have this sum with it
 pub record Adds (old new : CursorView) (text_old text_new : List ℕ) (spans_old spans_new : List Span) (all sum : ℕ)

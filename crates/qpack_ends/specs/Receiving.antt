@@ -135,25 +135,52 @@ Waits now s = 0 < s.wanted → MayGrow now s.pending × (s.wanted ≤ wanted s.p
 abbrev pub Receives : Table → Table → List ℕ → StreamView → Type 0
 Receives start now bytes s = TakesUpTo start now bytes s.place (λ rest. (rest ≡ s.pending) × Waits now s)
 
--- memory was refused: for the bytes, which are left, and nothing changed; or for the instruction at the front of what
--- waits, the bytes being taken in, and nothing waits that was taken before
-abbrev pub WantsMemory : Table → Table → Table → List ℕ → List ℕ → List ℕ → StreamView → StreamView → Type 0
-WantsMemory start old new before bytes left s u =
-    ((left ≡ bytes) × (new ≡ old) × (u ≡ s))
-    ⊎ ((left ≡ []) × AsksToTake new u.pending × Receives start new (before ++ bytes) u
-    × (length u.pending ≤ length s.pending + length bytes))
-
 -- the bytes up to an instruction are instructions that were taken, and there, at this place, the stream is refused
 abbrev pub HasRefused : Table → Table → List ℕ → Place → DecoderError → Type 0
 HasRefused start now bytes place e = TakesUpTo start now bytes place (λ rest. Refuses now rest e)
 
--- what a call makes of bytes behind those before them, of which these are left: all are received, and few wait; or
--- memory is refused; or the stream is, at the place that is told, and not for memory
+-- of the bytes a front was taken in, and these are left: the stream is received up to there, and no more waits than did
+-- and was taken in
+pub record TakesIn (start new : Table) (before bytes left : List ℕ) (s u : StreamView) : Type 0 where
+  pub taken : List ℕ
+  pub cut : bytes ≡ taken ++ left
+  pub stream : Receives start new (before ++ taken) u
+  pub no_longer : length u.pending ≤ length s.pending + length taken
+
+-- memory was refused: for the instruction at the front of what waits, or of what is left; or for bytes, of which some are
+-- left
+abbrev pub WantsMemory : Table → Table → List ℕ → List ℕ → List ℕ → StreamView → StreamView → Type 0
+WantsMemory start new before bytes left s u =
+    TakesIn start new before bytes left s u
+    × (AsksToTake new u.pending ⊎ AsksToTake new left ⊎ (left ≡ [] → ⊥))
+
+-- the stream is refused by a front of the bytes
+pub record RefusesFront (start now : Table) (before bytes : List ℕ) (place : Place) (e : DecoderError) : Type 0 where
+  pub front : List ℕ
+  pub back : List ℕ
+  pub cut : bytes ≡ front ++ back
+  pub refused : HasRefused start now (before ++ front) place e
+
+-- why bytes are not received: memory is refused; or the stream is, at the place that is told, and not for memory
+abbrev pub FailsReceiving : Table → Table → List ℕ → List ℕ → List ℕ → StreamView → StreamView → EncoderStreamError
+    → Type 0
+FailsReceiving start new before bytes left s u Memory = WantsMemory start new before bytes left s u
+FailsReceiving start new before bytes left s u (Refused place e) =
+    (e ≢ decoder.Memory) × RefusesFront start new before bytes place e
+
+-- what a step makes of bytes that follow on others: it takes in a front of them, and what is whole then; or why not
+abbrev pub ReceivesFront : Table → Table → List ℕ → List ℕ → List ℕ → StreamView → StreamView
+    → Result ⊤ EncoderStreamError → Type 0
+ReceivesFront start new before bytes left s u (Ok done) =
+    (t : TakesIn start new before bytes left s u) × HasReceived start new (before ++ t.taken) u.place u.pending
+    × IsShort new u.pending
+ReceivesFront start new before bytes left s u (Err e) = FailsReceiving start new before bytes left s u e
+
+-- what a call makes of bytes behind those before them, of which these are left: all are received, and few wait; or why
+-- not
 abbrev pub ReceivesMore : Table → Table → Table → List ℕ → List ℕ → List ℕ → StreamView → StreamView
     → Result ⊤ EncoderStreamError → Type 0
 ReceivesMore start old new before bytes left s u (Ok done) =
     (left ≡ []) × HasReceived start new (before ++ bytes) u.place u.pending × Receives start new (before ++ bytes) u
     × IsShort new u.pending
-ReceivesMore start old new before bytes left s u (Err Memory) = WantsMemory start old new before bytes left s u
-ReceivesMore start old new before bytes left s u (Err (Refused place e)) =
-    (e ≢ decoder.Memory) × HasRefused start new (before ++ bytes) place e
+ReceivesMore start old new before bytes left s u (Err e) = FailsReceiving start new before bytes left s u e

@@ -13,7 +13,8 @@ use Rattle.qpack_codec.specs.declared.encoder.choices.Choice.TheVariants.{Insert
 use Rattle.qpack_codec.specs.declared.encoder.choices.Wish.{Wish}
 use Rattle.qpack_codec.specs.declared.encoder.choices.Wish.TheVariants.{Reuse, Insert}
 use Rattle.qpack_ends.specs.declared.encoder.EncodingError.{EncodingError}
-use Rattle.qpack_ends.specs.Encoders.{EncodingEnd, begun, is_full}
+use Rattle.qpack_ends.specs.Encoders.{EncodingEnd, begun, is_full, may_block}
+use Rattle.qpack_ends.specs.Risk.{with_limit, limit_for}
 
 -- a field is inserted: its line references the new entry where one more section may be blocked and there is room; where no
 -- more may be blocked, it is inserted without a reference (sections 2.1.1 and 2.1.2)
@@ -66,9 +67,16 @@ pub record KeepsWishes (d new : EncodingEnd) (stream : ℕ) (fields : List Field
   pub suit : (d.table.capacity ≡ 0 → ⊥)
       → SuitAlong (insert_count d.table) (empty_draft d.table) fields wishes section.choices
 
+-- the end as a section of a stream meets it, and leaves it: the table lets one more be blocked if that stream may be
+-- (section 2.1.2)
+abbrev pub limited : Bool → EncodingEnd → EncodingEnd
+limited may d = record d { table = with_limit (limit_for may) d.table }
+
 -- an encode keeps to the caller's words, unless as many sections wait as may: then none references an entry
 abbrev pub EncodesAsWished : EncodingEnd → EncodingEnd → ℕ → List FieldLine → List Wish → List ℕ → List ℕ
     → Result ℕ EncodingError → Type 0
 EncodesAsWished old new stream fields wishes before after (Ok required) =
-    is_full (begun old) ≡ false → KeepsWishes (begun old) new stream fields wishes before after required
+    is_full (begun old) ≡ false
+    → KeepsWishes (limited (may_block (begun old) stream) (begun old)) (limited (may_block (begun old) stream) new) stream
+    fields wishes before after required
 EncodesAsWished old new stream fields wishes before after (Err e) = Unit {0}

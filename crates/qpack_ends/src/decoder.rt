@@ -7,7 +7,7 @@ ghost use Rattle.qpack_ends.specs.Blocked.{ready};
 ghost use Rattle.qpack_ends.specs.Receiving.{Receives};
 ghost use Rattle.qpack_ends.specs.Decoders.{Begins, FailsSettings, Checks, Reports, Acknowledges, BlocksStream};
 ghost use Rattle.qpack_ends.specs.Decoders.{TakesReading, DecodesInto, Decodes, Cancels, AsksToDecode, refused};
-ghost use Rattle.qpack_ends.specs.Decoders.{code_of, section_failure, stream_failure, ReceivesBytes};
+ghost use Rattle.qpack_ends.specs.Decoders.{code_of, stream_failure, ReceivesBytes};
 ghost use Rattle.qpack_ends.specs.Decoders.{blocked_streams};
 ghost use Rattle.qpack_ends.specs.declared.decoder.DecodingError.TheVariants.{Memory};
 ghost use Rattle.qpack_ends.specs.declared.decoder.SettingsError.TheVariants.{CapacityTooLarge};
@@ -17,9 +17,9 @@ use crate::field_section::FieldSection;
 use crate::place::Place;
 use crate::receiving::{ENCODER_STREAM_ERROR, EncoderStream, EncoderStreamError};
 use crate::section::{DECOMPRESSION_FAILED, Reading, SectionError, read_section};
+use crate::unsent::Unsent;
 use qpack_base::coding::{Cursor, NoMemory};
 use qpack_codec::DecoderError;
-use qpack_codec::decoder::{ack_header, stream_canceled, write_increments};
 use qpack_table::dynamic::{DynamicTable, ReceivedTable};
 use std::alloc::Global;
 use std::marker::Model;
@@ -108,16 +108,6 @@ impl DecodingError {
             EncoderStreamError::Memory => DecodingError::Memory,
         }
     }
-
-    /// The error of a section that came on a stream.
-    fn of_section(stream: u64, error: SectionError) -> DecodingError
-        ensures { result ≡ section_failure stream error }
-    {
-        match error {
-            SectionError::Memory => DecodingError::Memory,
-            error => DecodingError::Section { stream, error },
-        }
-    }
 }
 
 impl From<NoMemory> for DecodingError {
@@ -141,7 +131,7 @@ pub struct ConnectionDecoder {
     reported: usize,
     blocked: BlockedStreams,
     /// The bytes of the decoder stream that are not sent.
-    unsent: Vec<u8>,
+    unsent: Unsent,
     /// The error that ended the connection.
     failure: Option<DecodingError>,
 }
@@ -157,7 +147,7 @@ impl Model for ConnectionDecoder {
       stream = d.stream;
       reported = d.reported;
       blocked = d.blocked;
-      unsent = d.unsent.items;
+      unsent = d.unsent;
       failure = d.failure;
     } };
 
@@ -167,7 +157,7 @@ impl Model for ConnectionDecoder {
       stream = d.stream;
       reported = d.reported;
       blocked = d.blocked;
-      unsent = d.unsent.items;
+      unsent = d.unsent;
       failure = d.failure;
     }) };
 }
@@ -190,7 +180,7 @@ impl ConnectionDecoder {
             stream: EncoderStream::new(alloc),
             reported: 0,
             blocked: BlockedStreams::new(alloc),
-            unsent: Vec::new(alloc),
+            unsent: Unsent::new(alloc),
             failure: None,
         })
     }
@@ -235,15 +225,14 @@ impl ConnectionDecoder {
     pub fn decoder_stream(&self) -> &[u8]
         ensures { result.now ≡ self.now.unsent }
     {
-        &self.unsent
+        self.unsent.as_slice()
     }
 
     /// So many bytes of the decoder stream were sent, or all: they are dropped.
     pub fn sent(&mut self, many: usize)
         ensures { self.new ≡ record self.old { unsent = drop many self.old.unsent } }
     {
-        let many = many.min(self.unsent.len());
-        self.unsent.drain(..many);
+        self.unsent.sent(many);
     }
 
     /// A blocked stream of which the section can be decoded now: of those, the one that waited for the fewest insertions,
@@ -262,7 +251,8 @@ impl ConnectionDecoder {
     /// insertions are missing, and once `next_ready` tells the stream the section is handed in again. Refused are, in
     /// this order: every call behind an error that ended the connection, by that error; a number that no stream has
     /// (`NoStream`); what `read_section` refuses (`Section`); and a stream more than may be blocked (`TooManyBlocked`).
-    /// An error that has no code changes nothing, but that increments may have been written where memory was refused.
+    /// After `Section` the stream is blocked no more. Another error that has no code changes nothing, but that increments
+    /// may have been written where memory was refused.
     pub fn decode(
         &mut self,
         stream: u64,
@@ -292,7 +282,7 @@ impl ConnectionDecoder {
     {
         self.check(stream)?;
         if self.settings.max_capacity > 0 {
-            stream_canceled(stream, &mut self.unsent)?;
+            self.unsent.write_cancellation(stream)?;
         }
         self.blocked.forget(stream);
         Ok(())
@@ -352,7 +342,11 @@ impl ConnectionDecoder {
                 self.take_reading(stream, reading)?;
                 Ok(reading)
             }
-            Err(error) => Err(self.refuse(DecodingError::of_section(stream, error))),
+            Err(SectionError::Memory) => Err(DecodingError::Memory),
+            Err(error) => {
+                self.blocked.forget(stream);
+                Err(self.refuse(DecodingError::Section { stream, error }))
+            }
         }
     }
 
@@ -372,7 +366,7 @@ impl ConnectionDecoder {
     {
         if required > 0 {
             self.report()?;
-            ack_header(stream, &mut self.unsent)?;
+            self.unsent.write_acknowledgment(stream)?;
         }
         self.blocked.forget(stream);
         Ok(())
@@ -399,7 +393,8 @@ impl ConnectionDecoder {
         ensures { Reports self.old self.new result }
     {
         let inserted = self.table.total_inserted();
-        write_increments(inserted.saturating_sub(self.reported), &mut self.unsent)?;
+        self.unsent
+            .write_increments(inserted.saturating_sub(self.reported))?;
         self.reported = inserted;
         Ok(())
     }

@@ -2,25 +2,30 @@
 //! 5).
 
 ghost use Rattle.std.specs.Prelude.{◌≡◌, ◌<◌, ◌≤◌, ◌^◌, None, Some, IfOk, IfErr, IfSome, List, [], ℕ, drop, length};
-ghost use Rattle.std.specs.Prelude.{Err, min, map, ◌++◌, vec_capacity};
+ghost use Rattle.std.specs.Prelude.{Err, OnErr, false, map, ◌++◌, vec_capacity};
 ghost use Rattle.qpack_spec.specs.Instruction.{DecoderInstruction};
 ghost use Rattle.qpack_spec.specs.Table.{empty_table};
 ghost use Rattle.qpack_ends.specs.Hearing.{Receives};
 ghost use Rattle.qpack_ends.specs.Encoders.{Starts, first_capacity, code_of, capacity_failure, SetsCapacity};
 ghost use Rattle.qpack_ends.specs.Encoders.{TellsCapacity, Begins, ReceivesBytes, Checks, is_full, written_alone};
-ghost use Rattle.qpack_ends.specs.Encoders.{Encodes};
+ghost use Rattle.qpack_ends.specs.Encoders.{Encodes, may_block};
+ghost use Rattle.qpack_ends.specs.Risk.{streams_at_risk, with_limit, limit_for};
+ghost use Rattle.qpack_ends.specs.declared.choosing.Chooser.{Chooser as State};
+ghost use Rattle.qpack_ends.specs.Wishes.{by_wish};
+ghost use Rattle.qpack_codec.specs.ChosenSections.{EncodesAlong, EncodesChosen, GivesUpChosen};
 ghost use Rattle.qpack_ends.specs.Wishes.{EncodesAsWished};
 ghost use Rattle.qpack_ends.specs.declared.decoder.SettingsError.TheVariants.{CapacityTooLarge};
 ghost use Rattle.qpack_ends.specs.declared.encoder.EncodingError.TheVariants.{Memory};
 
+use crate::at_risk::StreamsAtRisk;
+use crate::blocked::BlockedStream;
 use crate::choosing::Chooser;
 use crate::decoder::{STREAMS, SettingsError};
 use crate::hearing::{DECODER_STREAM_ERROR, DecoderStream, DecoderStreamError};
+use crate::unsent::Unsent;
 use qpack_base::coding::Cursor;
 use qpack_codec::EncoderError;
-use qpack_codec::encoder::{
-    AsField, EncoderTable, WritesSections, encode_section_stateless, set_dynamic_table_size,
-};
+use qpack_codec::encoder::{AsField, EncoderTable, encode_section_stateless};
 use qpack_table::dynamic;
 use qpack_table::dynamic::DynamicTable;
 use std::alloc::{Allocator, Global};
@@ -31,18 +36,18 @@ use thiserror::Error;
 pub const DEFAULT_CAPACITY: usize = 4_096;
 
 /// How many sections may wait for acknowledgments by `EncoderSettings::new`.
-pub const DEFAULT_UNACKNOWLEDGED: usize = 1_000;
+pub const DEFAULT_UNACKNOWLEDGED: usize = 100;
 
-/// The greatest limit of blocked streams that a table takes.
-const MOST_BLOCKED: usize = 65_534;
+/// How many sections the table counts that may be blocked, cancelled ones among them.
+const MOST_BLOCKED: usize = 4_096;
 
 /// What the peer sent as its settings (RFC 9204, section 5), and what this end wants of its table.
 #[derive(Clone, Copy, Debug, PartialEq, Eq, Drop)]
 pub struct EncoderSettings {
     /// The peer's SETTINGS_QPACK_MAX_TABLE_CAPACITY, in bytes, below 2^30: the greatest capacity that may be set.
     pub max_capacity: usize,
-    /// The peer's SETTINGS_QPACK_BLOCKED_STREAMS: how many streams may be blocked at once. Above 65,534 it is taken as
-    /// that, since fewer may always be blocked (RFC 9204, section 2.1.2).
+    /// The peer's SETTINGS_QPACK_BLOCKED_STREAMS: how many streams may be blocked at once (RFC 9204, section 2.1.2). Of
+    /// their sections, 4,096 at most may be blocked that are not known to be received, cancelled ones among them.
     pub max_blocked: usize,
     /// The capacity that this end wants, in bytes; at most the maximum is taken (RFC 9204, section 3.2.3).
     pub capacity: usize,
@@ -53,13 +58,13 @@ pub struct EncoderSettings {
 
 impl EncoderSettings {
     /// What the peer sent, its maximum capacity in bytes and its limit of blocked streams; a capacity of 4,096 bytes is
-    /// wanted, and 1,000 sections may wait for acknowledgments.
+    /// wanted, and 100 sections may wait for acknowledgments.
     pub fn new(max_capacity: usize, max_blocked: usize) -> EncoderSettings
         ensures { result ≡ record {
           max_capacity = max_capacity;
           max_blocked = max_blocked;
           capacity = 4096;
-          most_unacknowledged = 1000;
+          most_unacknowledged = 100;
         } }
     {
         EncoderSettings {
@@ -140,18 +145,20 @@ impl EncodingError {
 pub struct ConnectionEncoder {
     settings: EncoderSettings,
     table: EncoderTable,
+    at_risk: StreamsAtRisk,
     chooser: Chooser,
     /// The capacity that is to be told before the first section, in bytes.
     wanted: Option<usize>,
     stream: DecoderStream,
     /// The bytes of the encoder stream that are not sent.
-    unsent: Vec<u8>,
+    unsent: Unsent,
     /// The error that ended the connection.
     failure: Option<EncodingError>,
 }
 
 impl Model for ConnectionEncoder {
     ghost use Rattle.qpack_ends.specs.Encoders.{EncodingEnd, IsSound};
+    ghost use Rattle.qpack_ends.specs.Risk.{TracksRisk};
 
     ghost Value = { EncodingEnd };
 
@@ -160,7 +167,7 @@ impl Model for ConnectionEncoder {
       table = d.table.table;
       wanted = d.wanted;
       stream = d.stream;
-      unsent = d.unsent.items;
+      unsent = d.unsent;
       failure = d.failure;
     } };
 
@@ -169,9 +176,9 @@ impl Model for ConnectionEncoder {
       table = d.table.table;
       wanted = d.wanted;
       stream = d.stream;
-      unsent = d.unsent.items;
+      unsent = d.unsent;
       failure = d.failure;
-    }) };
+    }) × TracksRisk d.at_risk.streams.items d.table.table };
 }
 
 impl ConnectionEncoder {
@@ -189,10 +196,11 @@ impl ConnectionEncoder {
         Ok(ConnectionEncoder {
             settings,
             table: EncoderTable { table },
+            at_risk: StreamsAtRisk::new(alloc),
             chooser: Chooser::new(alloc),
             wanted: settings.first_capacity(),
             stream: DecoderStream::new(),
-            unsent: Vec::new(alloc),
+            unsent: Unsent::new(alloc),
             failure: None,
         })
     }
@@ -225,12 +233,12 @@ impl ConnectionEncoder {
         self.table.table.unacknowledged_blocks()
     }
 
-    /// How many sections may be blocked: those that require insertions which the peer is not known to have received
-    /// (RFC 9204, section 2.1.2). A section that was cancelled counts until what it required is known to be received.
+    /// How many streams may be blocked: those with a section that is neither acknowledged nor cancelled, and requires
+    /// insertions which the peer is not known to have received (RFC 9204, section 2.1.2).
     pub fn blocked(&self) -> usize
-        ensures { result ≡ length self.now.table.blocked }
+        ensures { result ≡ length (streams_at_risk self.now.table) }
     {
-        self.table.table.blocked_blocks()
+        self.at_risk.len()
     }
 
     /// How many bytes of the decoder stream wait for those behind them, which are nine at most.
@@ -245,15 +253,14 @@ impl ConnectionEncoder {
     pub fn encoder_stream(&self) -> &[u8]
         ensures { result.now ≡ self.now.unsent }
     {
-        &self.unsent
+        self.unsent.as_slice()
     }
 
     /// So many bytes of the encoder stream were sent, or all: they are dropped.
     pub fn sent(&mut self, many: usize)
         ensures { self.new ≡ record self.old { unsent = drop many self.old.unsent } }
     {
-        let many = many.min(self.unsent.len());
-        self.unsent.drain(..many);
+        self.unsent.sent(many);
     }
 
     /// Sets the capacity of the table in bytes, and writes the instruction that tells it (RFC 9204, sections 3.2.3 and
@@ -314,16 +321,24 @@ impl ConnectionEncoder {
         if self.is_full() {
             return encode_alone(fields, section);
         }
-        match self.table.write_chosen_section(
+        // Room is made before anything is written, so that a section that is written is counted.
+        if self.at_risk.make_room().is_err() {
+            return Err(EncodingError::Memory);
+        }
+        let may_block = self.may_block(stream);
+        let required = write_section(
+            &mut self.table,
             stream,
+            may_block,
             section,
             &mut self.unsent,
             fields,
             &mut self.chooser,
-        ) {
-            Ok(required) => Ok(required),
-            Err(_) => Err(EncodingError::Memory),
+        )?;
+        if required > self.table.table.known_received_count() {
+            self.at_risk.put(BlockedStream { required, stream });
         }
+        Ok(required)
     }
 
     /// Receives the bytes of the decoder stream that the cursor has left, which follow on those of the calls before,
@@ -345,7 +360,9 @@ impl ConnectionEncoder {
         if let Some(failure) = self.failure {
             return Err(failure);
         }
-        match self.stream.receive(&mut self.table.table, buf) {
+        let received = self.stream.receive(&mut self.table.table, buf);
+        self.at_risk.keep_open(&self.table.table);
+        match received {
             Ok(()) => Ok(()),
             Err(error) => {
                 let failure = EncodingError::DecoderStream(error);
@@ -375,6 +392,14 @@ impl ConnectionEncoder {
         self.table.table.unacknowledged_blocks() >= self.settings.most_unacknowledged
     }
 
+    /// Whether a section of a stream may require insertions that the peer is not known to have received: the stream may
+    /// be blocked already, or fewer may be than the peer lets be (RFC 9204, section 2.1.2).
+    fn may_block(&self, stream: u64) -> bool
+        ensures { result ≡ may_block self.now stream }
+    {
+        self.at_risk.len() < self.settings.max_blocked || self.at_risk.contains(stream)
+    }
+
     /// Tells the capacity that is wanted, if one is to be told before the first section. On error, which is for memory
     /// alone, nothing changes.
     fn begin(&mut self) -> Result<(), EncodingError>
@@ -390,7 +415,7 @@ impl ConnectionEncoder {
     fn tell(&mut self, capacity: usize) -> Result<(), EncodingError>
         ensures { TellsCapacity self.old self.new capacity result }
     {
-        match set_dynamic_table_size(&mut self.table.table, &mut self.unsent, capacity) {
+        match self.unsent.set_capacity(&mut self.table.table, capacity) {
             Ok(()) => {
                 self.wanted = None;
                 Ok(())
@@ -417,19 +442,60 @@ fn encode_alone<A: Allocator, H: AsField>(
     }
 }
 
-/// An empty table of capacity 0, with the maximum capacity and the limit of blocked streams of these settings.
+/// Appends a section of a stream, which may be blocked or not, and its instructions. Where it may not be, the table lets
+/// none be while the section is written, so that it requires nothing that is not known to be received.
+fn write_section<A: Allocator, H: AsField>(
+    table: &mut EncoderTable,
+    stream: u64,
+    may_block: bool,
+    section: &mut Vec<u8, A>,
+    unsent: &mut Unsent,
+    fields: &[H],
+    chooser: &mut Chooser,
+) -> Result<usize, EncodingError>
+    requires { table.old.table.limit ≡ 4096 }
+    ensures section { IfOk result (λ required. EncodesChosen stream (map H.line fields.now) table.old.table table.new.table
+        section.old.items section.new.items unsent.old unsent.new required) }
+    ensures known { IfOk result (λ required. may_block ≡ false → required ≤ table.old.table.known_received_count) }
+    ensures small { IfOk result (λ required. required < 2 ^ 64) }
+    ensures wishes { IfOk result (λ required. EncodesAlong (by_wish State) stream (map H.line fields.now)
+        (map H.wish fields.now) (with_limit (limit_for may_block) table.old.table)
+        (with_limit (limit_for may_block) table.new.table) section.old.items section.new.items unsent.old unsent.new required) }
+    ensures err { OnErr result (GivesUpChosen (map H.line fields.now) table.old.table table.new.table unsent.old unsent.new) }
+    ensures as_before { OnErr result (section.new.items ≡ section.old.items) }
+    ensures memory { IfErr result (λ e. e ≡ Memory) }
+    ensures capacity { vec_capacity section.old ≤ vec_capacity section.new }
+{
+    limit_blocked(&mut table.table, if may_block { MOST_BLOCKED } else { 0 });
+    let written = unsent.write_section(table, stream, section, fields, chooser);
+    limit_blocked(&mut table.table, MOST_BLOCKED);
+    match written {
+        Ok(required) => Ok(required),
+        Err(_) => Err(EncodingError::Memory),
+    }
+}
+
+/// Sets how many sections may be blocked.
+fn limit_blocked(table: &mut DynamicTable, limit: usize)
+    requires { limit < 65535 }
+    ensures { table.new ≡ record table.old { limit = limit } }
+{
+    match table.set_max_blocked(limit) {
+        Ok(()) => {}
+        Err(_) => unreachable!(),
+    }
+}
+
+/// An empty table of capacity 0, with the maximum capacity of these settings.
 fn new_table(alloc: Global, settings: EncoderSettings) -> Result<DynamicTable, SettingsError>
     ensures ok { IfOk result (λ t. (settings.max_capacity < 2 ^ 30)
-        × (t ≡ empty_table 0 (Some settings.max_capacity) (min settings.max_blocked 65534))) }
+        × (t ≡ empty_table 0 (Some settings.max_capacity) 4096)) }
     ensures err { IfErr result (λ e. (e ≡ CapacityTooLarge) × (2 ^ 30 ≤ settings.max_capacity)) }
 {
     let mut table = DynamicTable::new(alloc);
     if table.set_agreed_max(settings.max_capacity).is_err() {
         return Err(SettingsError::CapacityTooLarge);
     }
-    match table.set_max_blocked(settings.max_blocked.min(MOST_BLOCKED)) {
-        Ok(()) => Ok(table),
-        // The limit is in range, so this is never answered.
-        Err(_) => Err(SettingsError::BlockedTooLarge),
-    }
+    limit_blocked(&mut table, MOST_BLOCKED);
+    Ok(table)
 }

@@ -1,6 +1,6 @@
 //! The fields of a section, in memory that is kept from section to section.
 
-ghost use Rattle.std.specs.Prelude.{◌≡◌, ℕ, List, [], length, nat_eq, slice_get, Err};
+ghost use Rattle.std.specs.Prelude.{◌≡◌, ◌≤◌, ℕ, List, [], length, nat_eq, slice_get, vec_capacity, Err};
 ghost use Rattle.std.specs.Option.{option_map};
 ghost use Rattle.std.specs.List.{AllByRecursion};
 ghost use Rattle.qpack_spec.specs.Bytes.{Begins};
@@ -14,7 +14,7 @@ ghost use Rattle.qpack_ends.specs.declared.section.SectionError.TheVariants.{Mem
 
 use crate::section::{Lines, SectionError, read_lines};
 use qpack_base::coding::Cursor;
-use qpack_base::field::FieldLine;
+use qpack_base::field::{ESTIMATED_OVERHEAD_BYTES, FieldLine};
 use qpack_table::dynamic::EntryIndex;
 use std::alloc::Global;
 use std::marker::Model;
@@ -44,15 +44,33 @@ fn field_at<'a>(text: &'a [u8], span: &Span) -> FieldLine<'a>
     }
 }
 
-/// The fields of a section, names and values one behind the other in one text, which is kept from section to section.
+/// Gives back the memory of an empty vector that has room for more than `most` elements.
+fn shrink_within<T>(vec: &mut Vec<T>, most: usize)
+    requires { vec.old.items ≡ [] }
+    ensures items { vec.new.items ≡ [] }
+    ensures room { vec_capacity vec.new ≤ most }
+{
+    if vec.capacity() > most {
+        vec.shrink_to_fit();
+    }
+}
+
+/// The fields of a section, names and values one behind the other in one text. Its memory is kept from section to
+/// section. Read under a limit of n bytes it has room for no more than n bytes of text, and for n / 32 fields of 32
+/// bytes each: both together take at most 2n bytes. Only `expect` or a greater limit makes room for more, and that is
+/// given back when a section is refused.
 #[derive(Debug, Drop)]
 pub struct FieldSection {
     text: Vec<u8>,
     spans: Vec<Span>,
+    /// The most bytes of text that there may be room for: the greatest limit, or what was expected.
+    most_bytes: usize,
+    /// The most fields that there may be room for.
+    most_fields: usize,
 }
 
 impl Model for FieldSection {
-    ghost use Rattle.std.specs.Prelude.{List, length};
+    ghost use Rattle.std.specs.Prelude.{◌≤◌, List, length, vec_capacity};
     ghost use Rattle.std.specs.List.{AllByRecursion};
     ghost use Rattle.qpack_spec.specs.Field.{FieldLine};
     ghost use Rattle.qpack_base.specs.HeaderFields.{line_of};
@@ -62,7 +80,8 @@ impl Model for FieldSection {
 
     ghost view = { λ s. fields_in s.text.items s.spans.items };
 
-    ghost invariant = { λ s. AllByRecursion (IsWithin (length s.text.items)) s.spans.items };
+    ghost invariant = { λ s. AllByRecursion (IsWithin (length s.text.items)) s.spans.items ×
+        (vec_capacity s.text ≤ s.most_bytes) × (vec_capacity s.spans ≤ s.most_fields) };
 }
 
 impl FieldSection {
@@ -73,6 +92,8 @@ impl FieldSection {
         FieldSection {
             text: Vec::new(alloc),
             spans: Vec::new(alloc),
+            most_bytes: 0,
+            most_fields: 0,
         }
     }
 
@@ -113,7 +134,12 @@ impl FieldSection {
     pub fn expect(&mut self, fields: usize, bytes: usize)
         ensures { self.new ≡ self.old }
     {
-        let _is_made = self.spans.reserve(fields).is_ok() && self.text.reserve(bytes).is_ok();
+        let most_fields = self.spans.len().saturating_add(fields);
+        let most_bytes = self.text.len().saturating_add(bytes);
+        let _is_made = self.spans.reserve_exact(fields).is_ok()
+            && self.text.reserve_exact(bytes).is_ok();
+        self.most_fields = self.most_fields.max(most_fields);
+        self.most_bytes = self.most_bytes.max(most_bytes);
     }
 
     /// Drops every field; the memory is kept.
@@ -122,6 +148,18 @@ impl FieldSection {
     {
         self.text.clear();
         self.spans.clear();
+    }
+
+    /// Drops every field. Memory past what a section within the limit can use is given back.
+    pub(crate) fn clear_within(&mut self, limit: u64)
+        ensures { self.new ≡ [] }
+    {
+        self.text.clear();
+        self.spans.clear();
+        self.most_bytes = limit as usize;
+        self.most_fields = limit as usize / ESTIMATED_OVERHEAD_BYTES;
+        shrink_within(&mut self.text, self.most_bytes);
+        shrink_within(&mut self.spans, self.most_fields);
     }
 
     /// Reads the lines of a section to the end of the cursor, where there is no field.
@@ -135,6 +173,10 @@ impl FieldSection {
             (strict_lines_at (length buf.old.rest) (under lines.now buf.old.total) 0 0 buf.old.rest) }
         ensures memory { result ≡ Err Memory → Begins AsksLine buf.old.rest }
     {
+        self.text.clear();
+        let limit = lines.limit as usize;
+        self.most_bytes = self.most_bytes.max(limit);
+        self.most_fields = self.most_fields.max(limit / ESTIMATED_OVERHEAD_BYTES);
         read_lines(lines, buf, &mut self.text, &mut self.spans)
     }
 }

@@ -2,6 +2,7 @@
 //! keeps, and the two instruction streams received strictly, however they are cut.
 #![tactic(auto)]
 
+mod at_risk;
 pub mod blocked;
 mod choosing;
 pub mod decoder;
@@ -11,6 +12,7 @@ pub mod hearing;
 pub mod place;
 pub mod receiving;
 pub mod section;
+mod unsent;
 
 pub use blocked::BlockedStream;
 pub use decoder::{ConnectionDecoder, DecoderSettings, DecodingError, SettingsError};

@@ -1,11 +1,11 @@
 //! The encoder stream as a strict decoder receives it: handed in once, cut anywhere (RFC 9204, section 4.3).
 
-ghost use Rattle.std.specs.Prelude.{◌≡◌, ◌≤◌, ℕ, [], List, length};
+ghost use Rattle.std.specs.Prelude.{◌≡◌, ◌<◌, ◌≤◌, ℕ, [], List, length, OnOk};
 ghost use Rattle.qpack_spec.specs.Form.{Truncates};
 ghost use Rattle.qpack_spec.specs.Instruction.{encoder_instruction_form};
 ghost use Rattle.qpack_spec.specs.Table.{Table, insert_count};
 ghost use Rattle.qpack_ends.specs.Receiving.{begins_unlawfully, TakesNextStrictly, TakesAllStrictly, FindsWanted};
-ghost use Rattle.qpack_ends.specs.Receiving.{Receives, ReceivesMore, PassesOne};
+ghost use Rattle.qpack_ends.specs.Receiving.{Receives, ReceivesFront, ReceivesMore, PassesOne};
 ghost use Rattle.qpack_ends.specs.Receiving.{stream_error_at, answer_at, stream_code_of};
 ghost use Rattle.qpack_table.specs.declared.dynamic.Error.TheVariants.{MaxTableSizeReached};
 ghost use Rattle.qpack_codec.specs.declared.error.DecoderError.TheVariants.{DynamicTable as DynamicTableError};
@@ -95,8 +95,8 @@ impl EncoderStream {
         }
     }
 
-    /// How many bytes wait: those of an instruction that is not whole, and where memory was refused those behind it
-    /// too.
+    /// How many bytes wait: those of an instruction that is not whole, and where memory was refused one after it for each
+    /// call.
     pub fn waiting(&self) -> usize
         ensures { result ≡ length self.now.pending }
     {
@@ -104,16 +104,15 @@ impl EncoderStream {
     }
 
     /// Receives the bytes that the cursor has left, which follow on the stream, and applies each instruction that
-    /// stands whole by now. A rest that is not whole is kept: fewer than four bytes for each byte of the capacity, and
-    /// ten more.
+    /// stands whole by now. They are read where they are; only a rest that is not whole is kept: fewer than four bytes
+    /// for each byte of the capacity, and ten more.
     ///
     /// Refused is an instruction whose bytes are (`InvalidInteger`, `InvalidString`), that names nothing
     /// (`InvalidStaticIndex`, `DynamicTable`), or that the table refuses (`DynamicTable`), where also an insertion at
     /// capacity 0 is refused, by its first byte, and a truncated one once its field can't fit. The error tells its
     /// place on the stream, the same however it is cut. Then the table is as before that instruction, and what waits is
-    /// unspecified. Where memory is refused for the bytes, nothing changes, and the cursor stays; for an instruction,
-    /// the bytes are taken in and those before it stay applied. So after want of memory what the cursor has left is
-    /// offered again, be it nothing.
+    /// unspecified. Where memory is refused, those before the instruction stay applied, and the cursor is moved past the
+    /// bytes that were taken in. Then what the cursor has left is offered again, even if that is nothing.
     pub fn receive<I: EntryIndex>(
         &mut self,
         table: &mut DynamicTable<I>,
@@ -142,14 +141,60 @@ impl EncoderStream {
         ensures grows { insert_count table.old ≤ insert_count table.new }
         ensures total { buf.new.total ≡ buf.old.total }
     {
+        while self.waiting() > 0 {
+            self.receive_front(table, buf)?;
+            if buf.remaining() == 0 {
+                return Ok(());
+            }
+        }
+        self.receive_rest(table, buf)
+    }
+
+    /// Takes in as many bytes as the instruction that waits is known to want, or one, and applies what is whole then.
+    fn receive_front<I: EntryIndex>(
+        &mut self,
+        table: &mut DynamicTable<I>,
+        buf: &mut Cursor,
+    ) -> Result<(), DecoderError>
+        ensures receives { (start : Table) (before : List ℕ) → Receives start table.old before self.old
+            → ReceivesFront start table.new before buf.old.rest buf.new.rest self.old self.new
+            (answer_at self.new.place result) }
+        ensures moves { OnOk result (0 < length buf.new.rest → length buf.new.rest < length buf.old.rest) }
+        ensures grows { insert_count table.old ≤ insert_count table.new }
+        ensures total { buf.new.total ≡ buf.old.total }
+    {
         let wanted = self.wanted;
-        self.pending.extend_from_slice(buf.chunk())?;
-        buf.advance(buf.remaining());
+        let missing = wanted.saturating_sub(self.pending.len()).max(1);
+        let count = missing.min(buf.remaining());
+        let front = &buf.chunk()[..count];
+        self.pending.extend_from_slice(front)?;
+        buf.advance(count);
         self.wanted = 0;
         if self.pending.len() >= wanted {
             take_whole(table, &mut self.place, &mut self.pending)?;
         }
         self.wanted = find_wanted(table, &self.pending)?;
+        Ok(())
+    }
+
+    /// Receives the bytes where none wait: each instruction is read from them, and a rest that is not whole is kept.
+    fn receive_rest<I: EntryIndex>(
+        &mut self,
+        table: &mut DynamicTable<I>,
+        buf: &mut Cursor,
+    ) -> Result<(), DecoderError>
+        ensures receives { (start : Table) (before : List ℕ) → Receives start table.old before self.old
+            → self.old.pending ≡ [] → ReceivesMore start table.old table.new before buf.old.rest buf.new.rest self.old
+            self.new (answer_at self.new.place result) }
+        ensures grows { insert_count table.old ≤ insert_count table.new }
+        ensures total { buf.new.total ≡ buf.old.total }
+    {
+        self.wanted = 0;
+        take_all_strictly(table, &mut self.place, buf)?;
+        let wanted = find_wanted(table, buf.chunk())?;
+        self.pending.extend_from_slice(buf.chunk())?;
+        buf.advance(buf.remaining());
+        self.wanted = wanted;
         Ok(())
     }
 }

@@ -145,6 +145,7 @@ pub fn longest_section(size: u64) -> u64
 
 /// Reads a section under a table, strictly, and up to a limit on the sum of its fields' sizes in bytes (RFC 9204,
 /// section 3.2.1). What stood in the field section is dropped first, and where no fields are answered it is empty.
+/// Nothing that passes the limit is appended to it: under a limit of n bytes its memory grows to no more than 2n bytes.
 ///
 /// Refused are, in this order: a section longer than any within the limit, unread (`TooLong`); bytes that are no prefix
 /// (`Prefix`); a count where the maximum capacity is 0 (`CountAtZero`); a prefix that is out of range, or a base below
@@ -164,7 +165,7 @@ pub fn read_section<I: EntryIndex>(
     fields.clear();
     let reading = read_into(table, section, limit, fields);
     if reading.is_err() {
-        fields.clear();
+        fields.clear_within(limit);
     }
     reading
 }

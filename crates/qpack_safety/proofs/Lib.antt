@@ -33,4 +33,4 @@ pub mod HandedSections
 pub mod ManySteps
 pub mod Limits
 pub mod MadeInsertions
-pub mod CountedBlocks
+pub mod WaitingStreams

@@ -1,6 +1,7 @@
 //! The lines of a section, appended to a text as they are read (RFC 9204, sections 4.5.2 to 4.5.6).
 
-ghost use Rattle.std.specs.Prelude.{◌≡◌, ℕ, ◌+◌, ◌-◌, ◌≤◌, ◌∷◌, [], drop, length, Err};
+ghost use Rattle.std.specs.Prelude.{◌≡◌, ℕ, ◌+◌, ◌*◌, ◌/◌, ◌-◌, ◌≤◌, ◌∷◌, [], drop, length, max, Err, IfOk};
+ghost use Rattle.std.specs.Prelude.{vec_len, vec_capacity};
 ghost use Rattle.std.specs.List.{AllByRecursion};
 ghost use Rattle.qpack_base.specs.HeaderFields.{field_of};
 ghost use Rattle.qpack_spec.specs.Bytes.{Begins};
@@ -24,14 +25,13 @@ ghost use Rattle.qpack_ends.specs.declared.section.SectionError.TheVariants.{Mem
 
 use crate::field_section::Span;
 use crate::section::{LineError, SectionError};
-use qpack_base::coding::Cursor;
+use qpack_base::coding::{Cursor, NoMemory, append_within, make_room_within};
 use qpack_base::field::{ESTIMATED_OVERHEAD_BYTES, HeaderField};
 use qpack_base::parse_error::ParseError;
 use qpack_base::static_::{self, StaticTable};
 use qpack_base::{prefix_int, prefix_string};
 use qpack_codec::DecoderError;
 use qpack_table::dynamic::{self, DynamicTable, EntryIndex};
-use std::alloc::AllocError;
 
 // The prefixes of indexes, and of strings with the bit H above them, in bits (RFC 9204, sections 4.5.2 to 4.5.6).
 const INDEXED_SIZE: u8 = 6;
@@ -70,10 +70,10 @@ impl From<static_::Error> for LineError {
     }
 }
 
-impl From<AllocError> for LineError {
+impl From<NoMemory> for LineError {
     ghost from_gives = { λ _ r. r ≡ NoRoom };
 
-    fn from(_e: AllocError) -> LineError {
+    fn from(_e: NoMemory) -> LineError {
         LineError::Memory
     }
 }
@@ -105,39 +105,55 @@ fn read_index(size: u8, buf: &mut Cursor) -> Result<usize, LineError>
     }
 }
 
-/// Appends the string at the cursor, with a prefix of `size` bits.
+/// Appends the string at the cursor, with a prefix of `size` bits, if it has at most `most` bytes. Returns how many it
+/// has.
 #[inline(always)]
-fn append_string(size: u8, buf: &mut Cursor, text: &mut Vec<u8>) -> Result<(), LineError>
+fn append_string(
+    size: u8,
+    most: usize,
+    buf: &mut Cursor,
+    text: &mut Vec<u8>,
+) -> Result<usize, LineError>
     requires least { 2 ≤ size }
-    requires most { size ≤ 8 }
-    ensures exact { AppendsText buf.old buf.new text.old.items text.new.items result
+    requires greatest { size ≤ 8 }
+    ensures exact { AppendsText most buf.old buf.new text.old.items text.new.items result
         (or_bad_string (string_at size buf.old.rest)) }
     ensures memory { result ≡ Err NoRoom → Begins (HoldsPayload size) buf.old.rest }
+    ensures left { IfOk result (λ len. vec_len text.new + (most - len) ≤ vec_len text.old + most) }
+    ensures room { vec_capacity text.new ≤ max (vec_capacity text.old) (vec_len text.old + most) }
 {
-    match prefix_string::decode_onto(size, buf, text) {
-        Ok(()) => Ok(()),
+    match prefix_string::decode_within(size, most, buf, text) {
+        Ok(len) => Ok(len),
         Err(e) => Err(LineError::from(ParseError::from(e))),
     }
 }
 
-/// Appends a field's name. On error the text is as before.
-#[inline(always)]
-fn append_name(field: &HeaderField, text: &mut Vec<u8>) -> Result<(), LineError>
-    ensures { AppendsName text.old.items text.new.items result (Ok (field_of field.now)) }
-{
-    text.extend_from_slice(field.name.as_slice())?;
-    Ok(())
+/// How many bytes a field's name and its value have.
+#[derive(Clone, Copy, Debug)]
+struct Lengths {
+    name: usize,
+    value: usize,
 }
 
-/// Appends a field's name and value, and answers where the name ends.
+/// Appends a field's name if it has at most `most` bytes, and returns how many it has. On error the text is as before.
 #[inline(always)]
-fn append_field(field: &HeaderField, text: &mut Vec<u8>) -> Result<usize, LineError>
-    ensures { AppendsEntry text.old.items text.new.items result (Ok (field_of field.now)) }
+fn append_name(field: &HeaderField, most: usize, text: &mut Vec<u8>) -> Result<usize, LineError>
+    ensures exact { AppendsName most text.old.items text.new.items result (Ok (field_of field.now)) }
+    ensures left { IfOk result (λ len. vec_len text.new + (most - len) ≤ vec_len text.old + most) }
+    ensures room { vec_capacity text.new ≤ max (vec_capacity text.old) (vec_len text.old + most) }
 {
-    text.extend_from_slice(field.name.as_slice())?;
-    let middle = text.len();
-    text.extend_from_slice(field.value.as_slice())?;
-    Ok(middle)
+    Ok(append_within(field.name.as_slice(), most, text)?)
+}
+
+/// Appends a field's name and value, each if it has at most as many bytes as are left of `most`.
+#[inline(always)]
+fn append_field(field: &HeaderField, most: usize, text: &mut Vec<u8>) -> Result<Lengths, LineError>
+    ensures exact { AppendsEntry most text.old.items text.new.items result (Ok (field_of field.now)) }
+    ensures room { vec_capacity text.new ≤ max (vec_capacity text.old) (vec_len text.old + most) }
+{
+    let name = append_name(field, most, text)?;
+    let value = append_within(field.value.as_slice(), most.saturating_sub(name), text)?;
+    Ok(Lengths { name, value })
 }
 
 /// What an index of a line counts.
@@ -174,137 +190,171 @@ impl<I: EntryIndex> Lines<'_, I> {
         Ok(())
     }
 
-    /// Appends the name that an index references.
+    /// Appends the name that an index references if it has at most `most` bytes, and returns how many it has.
     #[tactic(auto, unfolding(qpack_spec::specs::Reading::static_field))]
     fn append_name_of(
         &self,
         reference: Reference,
         index: usize,
+        most: usize,
         text: &mut Vec<u8>,
-    ) -> Result<(), LineError>
-        ensures { AppendsName text.old.items text.new.items result (entry_of (under self.now 0) reference index) }
+    ) -> Result<usize, LineError>
+        ensures exact { AppendsName most text.old.items text.new.items result
+            (entry_of (under self.now 0) reference index) }
+        ensures left { IfOk result (λ len. vec_len text.new + (most - len) ≤ vec_len text.old + most) }
+        ensures room { vec_capacity text.new ≤ max (vec_capacity text.old) (vec_len text.old + most) }
     {
         match reference {
-            Reference::Static => append_name(&StaticTable::get(index)?, text),
+            Reference::Static => append_name(&StaticTable::get(index)?, most, text),
             Reference::Relative => {
                 self.check_relative(index)?;
-                append_name(self.table.decoder(self.base).get_relative(index)?, text)
+                append_name(
+                    self.table.decoder(self.base).get_relative(index)?,
+                    most,
+                    text,
+                )
             }
             Reference::PostBase => {
                 self.check_post_base(index)?;
-                append_name(self.table.decoder(self.base).get_postbase(index)?, text)
+                append_name(
+                    self.table.decoder(self.base).get_postbase(index)?,
+                    most,
+                    text,
+                )
             }
         }
     }
 
-    /// Appends the field that an index references, and answers where its name ends.
+    /// Appends the field that an index references if it has at most `most` bytes, and returns how many it has.
     #[tactic(auto, unfolding(qpack_spec::specs::Reading::static_field))]
     fn append_entry(
         &self,
         reference: Reference,
         index: usize,
+        most: usize,
         text: &mut Vec<u8>,
-    ) -> Result<usize, LineError>
-        ensures { AppendsEntry text.old.items text.new.items result (entry_of (under self.now 0) reference index) }
+    ) -> Result<Lengths, LineError>
+        ensures exact { AppendsEntry most text.old.items text.new.items result
+            (entry_of (under self.now 0) reference index) }
+        ensures room { vec_capacity text.new ≤ max (vec_capacity text.old) (vec_len text.old + most) }
     {
         match reference {
-            Reference::Static => append_field(&StaticTable::get(index)?, text),
+            Reference::Static => append_field(&StaticTable::get(index)?, most, text),
             Reference::Relative => {
                 self.check_relative(index)?;
-                append_field(self.table.decoder(self.base).get_relative(index)?, text)
+                append_field(
+                    self.table.decoder(self.base).get_relative(index)?,
+                    most,
+                    text,
+                )
             }
             Reference::PostBase => {
                 self.check_post_base(index)?;
-                append_field(self.table.decoder(self.base).get_postbase(index)?, text)
+                append_field(
+                    self.table.decoder(self.base).get_postbase(index)?,
+                    most,
+                    text,
+                )
             }
         }
     }
 
-    /// Appends the field of an indexed field line (RFC 9204, sections 4.5.2 and 4.5.3), and answers where its name
-    /// ends.
+    /// Appends the field of an indexed field line (RFC 9204, sections 4.5.2 and 4.5.3), if it has at most `most` bytes.
     fn append_indexed(
         &self,
         reference: Reference,
         size: u8,
+        most: usize,
         buf: &mut Cursor,
         text: &mut Vec<u8>,
-    ) -> Result<usize, LineError>
+    ) -> Result<Lengths, LineError>
         requires least { 1 ≤ size }
-        requires most { size ≤ 8 }
-        ensures exact { AppendsLine buf.old buf.new text.old.items text.new.items result
+        requires greatest { size ≤ 8 }
+        ensures exact { AppendsLine most buf.old buf.new text.old.items text.new.items result
             (field_of_form (under self.now 0) (made_at (Index size (indexed_line reference)) buf.old.rest)) }
         ensures memory { result ≡ Err NoRoom → AsksInForm (Index size (indexed_line reference)) buf.old.rest }
+        ensures room { vec_capacity text.new ≤ max (vec_capacity text.old) (vec_len text.old + most) }
     {
         let index = read_index(size, buf)?;
-        self.append_entry(reference, index, text)
+        self.append_entry(reference, index, most, text)
     }
 
-    /// Appends the field of a literal field line with a name reference (RFC 9204, sections 4.5.4 and 4.5.5), and
-    /// answers where its name ends. What the index references is told behind the faults of the line's bytes.
+    /// Appends the field of a literal field line with a name reference (RFC 9204, sections 4.5.4 and 4.5.5), if it has
+    /// at most `most` bytes. What the index references is told behind the faults of the line's bytes.
     fn append_named(
         &self,
         reference: Reference,
         size: u8,
+        most: usize,
         buf: &mut Cursor,
         text: &mut Vec<u8>,
-    ) -> Result<usize, LineError>
+    ) -> Result<Lengths, LineError>
         requires least { 1 ≤ size }
-        requires most { size ≤ 8 }
-        ensures exact { AppendsLine buf.old buf.new text.old.items text.new.items result
+        requires greatest { size ≤ 8 }
+        ensures exact { AppendsLine most buf.old buf.new text.old.items text.new.items result
             (field_of_form (under self.now 0) (made_at (IndexAndValue size (named_line reference)) buf.old.rest)) }
         ensures memory { result ≡ Err NoRoom → AsksInForm (IndexAndValue size (named_line reference)) buf.old.rest }
+        ensures room { vec_capacity text.new ≤ max (vec_capacity text.old) (vec_len text.old + most) }
     {
         let index = read_index(size, buf)?;
-        let named = self.append_name_of(reference, index, text);
-        let middle = text.len();
-        append_string(VALUE_SIZE, buf, text)?;
-        named?;
-        Ok(middle)
+        match self.append_name_of(reference, index, most, text) {
+            Ok(name) => {
+                let value = append_string(VALUE_SIZE, most.saturating_sub(name), buf, text)?;
+                Ok(Lengths { name, value })
+            }
+            Err(e) => {
+                append_string(VALUE_SIZE, 0, buf, text)?;
+                Err(e)
+            }
+        }
     }
 
-    /// Appends the field of the line at the cursor, which begins with this byte, and answers where its name ends.
+    /// Appends the field of the line at the cursor, which begins with this byte, if it has at most `most` bytes. Returns
+    /// how many it has.
     fn append_line(
         &self,
         first: u8,
+        most: usize,
         buf: &mut Cursor,
         text: &mut Vec<u8>,
-    ) -> Result<usize, LineError>
+    ) -> Result<Lengths, LineError>
         requires { buf.old.rest ≡ first ∷ drop 1 buf.old.rest }
-        ensures exact { AppendsLine buf.old buf.new text.old.items text.new.items result
+        ensures exact { AppendsLine most buf.old buf.new text.old.items text.new.items result
             (field_of_form (under self.now 0) (form_at line_form buf.old.rest)) }
         ensures memory { result ≡ Err NoRoom → Begins AsksLine buf.old.rest }
+        ensures room { vec_capacity text.new ≤ max (vec_capacity text.old) (vec_len text.old + most) }
     {
         if first < 16 {
-            self.append_named(Reference::PostBase, POST_BASE_NAMED_SIZE, buf, text)
+            self.append_named(Reference::PostBase, POST_BASE_NAMED_SIZE, most, buf, text)
         } else if first < 32 {
-            self.append_indexed(Reference::PostBase, POST_BASE_SIZE, buf, text)
+            self.append_indexed(Reference::PostBase, POST_BASE_SIZE, most, buf, text)
         } else if first < 64 {
-            append_literal(buf, text)
+            append_literal(most, buf, text)
         } else if first < 128 {
             if first / 16 % 2 == 1 {
-                self.append_named(Reference::Static, NAMED_SIZE, buf, text)
+                self.append_named(Reference::Static, NAMED_SIZE, most, buf, text)
             } else {
-                self.append_named(Reference::Relative, NAMED_SIZE, buf, text)
+                self.append_named(Reference::Relative, NAMED_SIZE, most, buf, text)
             }
         } else if first < 192 {
-            self.append_indexed(Reference::Relative, INDEXED_SIZE, buf, text)
+            self.append_indexed(Reference::Relative, INDEXED_SIZE, most, buf, text)
         } else {
-            self.append_indexed(Reference::Static, INDEXED_SIZE, buf, text)
+            self.append_indexed(Reference::Static, INDEXED_SIZE, most, buf, text)
         }
     }
 }
 
-/// Appends the field of a literal field line with a literal name (RFC 9204, section 4.5.6), and answers where its name
-/// ends.
-fn append_literal(buf: &mut Cursor, text: &mut Vec<u8>) -> Result<usize, LineError>
-    ensures exact { (u : LinesUnder) → AppendsLine buf.old buf.new text.old.items text.new.items result
+/// Appends the field of a literal field line with a literal name (RFC 9204, section 4.5.6), if it has at most `most`
+/// bytes.
+fn append_literal(most: usize, buf: &mut Cursor, text: &mut Vec<u8>) -> Result<Lengths, LineError>
+    ensures exact { (u : LinesUnder) → AppendsLine most buf.old buf.new text.old.items text.new.items result
         (field_of_form u (made_at (NameAndValue 4 Literal) buf.old.rest)) }
     ensures memory { result ≡ Err NoRoom → AsksInForm (NameAndValue 4 Literal) buf.old.rest }
+    ensures room { vec_capacity text.new ≤ max (vec_capacity text.old) (vec_len text.old + most) }
 {
-    append_string(NAME_SIZE, buf, text)?;
-    let middle = text.len();
-    append_string(VALUE_SIZE, buf, text)?;
-    Ok(middle)
+    let name = append_string(NAME_SIZE, most, buf, text)?;
+    let value = append_string(VALUE_SIZE, most.saturating_sub(name), buf, text)?;
+    Ok(Lengths { name, value })
 }
 
 /// Whether the first byte of a line asks that its field stay a literal (RFC 9204, sections 4.5.4 to 4.5.6).
@@ -323,8 +373,18 @@ fn is_never_indexed(first: u8) -> bool
     }
 }
 
+/// How many bytes a field may have so that the sizes, which have this sum so far, don't pass the limit with it.
+fn most_of_field(limit: u64, sum: u64) -> usize
+    ensures { result ≡ limit - sum - 32 }
+{
+    limit
+        .saturating_sub(sum)
+        .saturating_sub(ESTIMATED_OVERHEAD_BYTES as u64) as usize
+}
+
 /// Appends the field of the line at the cursor, which begins with this byte, unless the sizes pass the limit with it;
-/// those so far have this sum. Answers the sum with it. On error text and spans are as before.
+/// those so far have this sum. Returns the sum with it. On error text and spans are as before. What passes the limit is
+/// never appended, and no room is made for it.
 fn read_line<I: EntryIndex>(
     lines: &Lines<I>,
     first: u8,
@@ -334,35 +394,50 @@ fn read_line<I: EntryIndex>(
     spans: &mut Vec<Span>,
 ) -> Result<u64, LineError>
     requires at { buf.old.rest ≡ first ∷ drop 1 buf.old.rest }
+    requires held { vec_len text.old + 32 * vec_len spans.old ≤ sum }
     ensures exact { (all : ℕ) → sum ≡ saturated_size all → ReadsLine buf.old buf.new text.old.items text.new.items
         spans.old.items spans.new.items all result
         (strict_line_at (under lines.now 0) all first (drop 1 buf.old.rest)) }
     ensures memory { result ≡ Err NoRoom → Begins AsksLine buf.old.rest }
+    ensures held { IfOk result (λ with. vec_len text.new + 32 * vec_len spans.new ≤ with) }
+    ensures text { vec_capacity text.new ≤ max (vec_capacity text.old) lines.now.limit }
+    ensures spans { vec_capacity spans.new ≤ max (vec_capacity spans.old) (lines.now.limit / 32) }
 {
     let start = text.len();
-    let middle = match lines.append_line(first, buf, text) {
-        Ok(middle) => middle,
+    let most = most_of_field(lines.limit, sum);
+    let lengths = match lines.append_line(first, most, buf, text) {
+        Ok(lengths) => lengths,
         Err(e) => {
             text.truncate(start);
             return Err(e);
         }
     };
-    let end = text.len();
     let sum = sum
-        .saturating_add((end - start) as u64)
+        .saturating_add(lengths.name as u64)
+        .saturating_add(lengths.value as u64)
         .saturating_add(ESTIMATED_OVERHEAD_BYTES as u64);
     if sum > lines.limit {
         text.truncate(start);
         return Err(LineError::TooLarge(sum));
     }
+    // No memory holds fields of so many bytes.
+    if sum == u64::MAX {
+        text.truncate(start);
+        return Err(LineError::Memory);
+    }
+    let middle = start + lengths.name;
     let span = Span {
         start,
         middle,
-        end,
+        end: middle + lengths.value,
         never_indexed: is_never_indexed(first),
     };
-    match spans.push(span) {
-        Ok(()) => Ok(sum),
+    let most = lines.limit as usize / ESTIMATED_OVERHEAD_BYTES;
+    match make_room_within(spans, 1, most.saturating_sub(spans.len())) {
+        Ok(()) => {
+            spans.push_reserved(span);
+            Ok(sum)
+        }
         Err(_) => {
             text.truncate(start);
             Err(LineError::Memory)
@@ -393,10 +468,13 @@ pub(crate) fn read_lines<I: EntryIndex>(
     spans: &mut Vec<Span>,
 ) -> Result<(), SectionError>
     requires none { spans.old.items ≡ [] }
+    requires empty { text.old.items ≡ [] }
     ensures exact { ReadsLines result (fields_in text.new.items spans.new.items)
         (strict_lines_at (length buf.old.rest) (under lines.now buf.old.total) 0 0 buf.old.rest) }
     ensures within { AllByRecursion (IsWithin (length text.new.items)) spans.new.items }
     ensures memory { result ≡ Err OutOfMemory → Begins AsksLine buf.old.rest }
+    ensures text { vec_capacity text.new ≤ max (vec_capacity text.old) lines.now.limit }
+    ensures spans { vec_capacity spans.new ≤ max (vec_capacity spans.old) (lines.now.limit / 32) }
 {
     let mut sum = 0u64;
     while let Some(byte) = buf.chunk().first() {

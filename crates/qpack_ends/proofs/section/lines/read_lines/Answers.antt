@@ -37,6 +37,9 @@ loop-byte-preserved g c =
       begun = inr (held_begun (under c.args.lines.now 0) inv.0 c.in-Some.byte.now c.args.buf.now.rest rest (drop 1 rest)
           a.field c.read_line.new.buf.rest c.loop-byte.invariant.begun at a.is);
       total = a.total ∙ c.loop-byte.invariant.total;
+      held = c.in-Ok.ensures.held;
+      text = omega (arith, c.in-Ok.ensures.text, c.loop-byte.invariant.text);
+      spans = omega (arith, c.in-Ok.ensures.spans, c.loop-byte.invariant.spans);
     }
 
 pub returns-in-Err-clause-exact : goal.returns-in-Err-clause-exact

@@ -1,4 +1,4 @@
-use Rattle.std.proofs.Common.{◌≡◌, ℕ, length}
+use Rattle.std.proofs.Common.{◌≡◌, ℕ, ◌+◌, ◌*◌, ◌/◌, ◌≤◌, length, max, vec_len, vec_capacity}
 use Rattle.std.specs.List.{AllByRecursion}
 use Rattle.qpack_spec.specs.Stateless.{saturated_size}
 use Rattle.qpack_spec.specs.StrictReading.{strict_lines_at}
@@ -18,6 +18,9 @@ invariant-loop-byte g l = record {
   within : AllByRecursion (IsWithin (length l.text.items)) l.spans.items;
   begun : HasBegun l.fn.buf.rest l.buf.rest;
   total : l.buf.total ≡ l.fn.buf.total;
+  held : vec_len l.text + 32 * vec_len l.spans ≤ l.sum;
+  text : vec_capacity l.text ≤ max (vec_capacity l.fn.text) l.fn.lines.limit;
+  spans : vec_capacity l.spans ≤ max (vec_capacity l.fn.spans) (l.fn.lines.limit / 32);
 }
 
 abbrev pub decreases-loop-byte : goal.decreases-loop-byte

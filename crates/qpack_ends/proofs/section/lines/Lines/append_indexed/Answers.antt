@@ -17,11 +17,11 @@ returns-in_err-index-clause-exact g c =
 
 pub returns-clause-exact : goal.returns-clause-exact
 returns-clause-exact g c =
-    entry_line c.args.buf.now c.read_index.new.buf c.args.text.now.items c.append_entry.new.text.items
+    entry_line c.args.most c.args.buf.now c.read_index.new.buf c.args.text.now.items c.append_entry.new.text.items
     c.append_entry.result (entry_of (under c.args.self.now 0) c.args.reference c.in_ok-index.index) _
     (index_good (under c.args.self.now 0) c.args.reference c.args.size c.args.buf.now.rest c.read_index.new.buf.rest
     c.in_ok-index.ensures.exact.0.0 c.in_ok-index.index c.in_ok-index.ensures.exact.0.1)
-    c.in_ok-index.ensures.exact.1 c.append_entry.ensures
+    c.in_ok-index.ensures.exact.1 c.append_entry.ensures.exact
 
 pub returns-clause-memory : goal.returns-clause-memory
 returns-clause-memory g c e =

@@ -1,11 +1,12 @@
-use Rattle.std.proofs.Common.{◌∙◌, arith}
+use Rattle.std.proofs.Common.{◌∙◌, ◌++◌, ap}
 use Rattle.std.proofs.lemmas.Result.{err_from_is_err_and}
 use Rattle.qpack_spec.specs.Form.{or_bad_integer, or_bad_string}
 use Rattle.qpack_spec.specs.Integer.{integer_at}
 use Rattle.qpack_spec.specs.Text.{string_at}
 use Rattle.qpack_spec.specs.Window.{with_value}
+use Rattle.qpack_base.specs.Writes.{kept_within}
 use Rattle.qpack_ends.specs.Lines.{under, named_line, entry_of}
-use Rattle.qpack_ends.proofs.LineParts.{fails_in_bytes, fails_by, extends_none, extends_named, extends_more}
+use Rattle.qpack_ends.proofs.LineParts.{fails_in_bytes, fails_by, extends_none, extends_same}
 use Rattle.qpack_ends.proofs.LineParts.{name_bad, value_bad, value_good, stands_named, value_is, value_fails}
 use Rattle.qpack_ends.proofs.Asking.{asks_named}
 use Rattle.qpack_ends.proofs.section.lines.Lines.append_named.Goals as goal
@@ -19,58 +20,62 @@ returns-in_err-index-clause-exact g c =
       extends_none c.args.text.now.items,
     )
 
-pub returns-in_err-append_string-clause-exact : goal.returns-in_err-append_string-clause-exact
-returns-in_err-append_string-clause-exact g c =
-    let p = err_from_is_err_and c.from_residual-in_err-append_string.result
-    c.from_residual-in_err-append_string.ensures.1 in
-    let named = extends_named c.args.text.now.items c.append_name_of-named.new.text.items
-    c.append_name_of-named.result _
-    c.append_name_of-named.ensures in
+pub returns-in_err-value-in-Ok-clause-exact : goal.returns-in_err-value-in-Ok-clause-exact
+returns-in_err-value-in-Ok-clause-exact g c =
+    let p = err_from_is_err_and c.from_residual-in_err-value-in-Ok.result c.from_residual-in_err-value-in-Ok.ensures.1 in
+    let n = c.in-Ok.ensures.exact in
     rw (p.1, p.2) (
-      fails_in_bytes _ (or_bad_string (string_at 8 c.read_index.new.buf.rest)) _ c.in_err-append_string.ensures.exact.0
+      fails_in_bytes _ (or_bad_string (string_at 8 c.read_index.new.buf.rest)) _ c.in_err-value-in-Ok.ensures.exact.0
           (λ x q. value_bad (under c.args.self.now 0) c.args.size (named_line c.args.reference) c.args.buf.now.rest
           c.read_index.new.buf.rest c.in_ok-index.ensures.exact.0.0 c.in_ok-index.index x
           c.in_ok-index.ensures.exact.0.1 q),
-      (named.0, c.in_err-append_string.ensures.exact.1 ∙ named.1),
+      (kept_within c.args.most n.0.name, c.in_err-value-in-Ok.ensures.exact.1 ∙ n.3),
     )
 
-pub returns-in_err-named-clause-exact : goal.returns-in_err-named-clause-exact
-returns-in_err-named-clause-exact g c =
-    let p = err_from_is_err_and c.from_residual-in_err-named.result c.from_residual-in_err-named.ensures.1 in
-    let s = c.in_ok-append_string.ensures.exact in
-    let rest = c.append_string.new.buf.rest in
-    let named = extends_named c.args.text.now.items c.append_name_of-named.new.text.items
-    c.append_name_of-named.result _
-    c.append_name_of-named.ensures in
+pub returns-in_err-append_string-in-Err-clause-exact : goal.returns-in_err-append_string-in-Err-clause-exact
+returns-in_err-append_string-in-Err-clause-exact g c =
+    let p = err_from_is_err_and c.from_residual-in_err-append_string-in-Err.result
+    c.from_residual-in_err-append_string-in-Err.ensures.1 in
     rw (p.1, p.2) (
-      fails_by _ (entry_of (under c.args.self.now 0) c.args.reference c.in_ok-index.index) _ c.in_err-named.ensures.0
+      fails_in_bytes _ (or_bad_string (string_at 8 c.read_index.new.buf.rest)) _ c.in_err-append_string-in-Err.ensures.exact.0
+          (λ x q. value_bad (under c.args.self.now 0) c.args.size (named_line c.args.reference) c.args.buf.now.rest
+          c.read_index.new.buf.rest c.in_ok-index.ensures.exact.0.0 c.in_ok-index.index x
+          c.in_ok-index.ensures.exact.0.1 q),
+      extends_same c.args.text.now.items _ (c.in_err-append_string-in-Err.ensures.exact.1 ∙ c.in-Err.ensures.exact.1),
+    )
+
+pub returns-in_ok-append_string-in-Err-clause-exact : goal.returns-in_ok-append_string-in-Err-clause-exact
+returns-in_ok-append_string-in-Err-clause-exact g c =
+    let s = c.in_ok-append_string-in-Err.ensures.exact in
+    let bad = c.in-Err.ensures.exact in
+    let rest = c.append_string-in-Err.new.buf.rest in (
+      fails_by _ (entry_of (under c.args.self.now 0) c.args.reference c.in_ok-index.index) _ bad.0
           (λ x q. value_good (under c.args.self.now 0) c.args.reference c.args.size c.args.buf.now.rest
           c.read_index.new.buf.rest rest c.in_ok-index.ensures.exact.0.0 c.in_ok-index.index s.0 s.1
           c.in_ok-index.ensures.exact.0.1 s.2
           ∙ value_fails rest s.1 (entry_of (under c.args.self.now 0) c.args.reference c.in_ok-index.index) x q),
-      extends_more c.args.text.now.items c.append_name_of-named.new.text.items c.append_string.new.text.items named.0
-          s.1
-          named.1 s.3,
+      (kept_within 0 s.1, s.4 ∙ ap (λ text. text ++ kept_within 0 s.1) bad.1),
     )
 
-pub returns-clause-exact : goal.returns-clause-exact
-returns-clause-exact g c =
-    let s = c.in_ok-append_string.ensures.exact in
-    let n = c.in_ok-named.ensures in
-    let rest = c.append_string.new.buf.rest in (
+pub returns-in_ok-value-in-Ok-clause-exact : goal.returns-in_ok-value-in-Ok-clause-exact
+returns-in_ok-value-in-Ok-clause-exact g c =
+    let s = c.in_ok-value-in-Ok.ensures.exact in
+    let n = c.in-Ok.ensures.exact in
+    let rest = c.append_string.new.buf.rest in
+    let mid = c.append_name_of.new.text.items in (
       with_value s.1 n.0,
       value_good (under c.args.self.now 0) c.args.reference c.args.size c.args.buf.now.rest c.read_index.new.buf.rest
           rest
           c.in_ok-index.ensures.exact.0.0 c.in_ok-index.index s.0 s.1 c.in_ok-index.ensures.exact.0.1 s.2
           ∙ value_is rest s.1 (entry_of (under c.args.self.now 0) c.args.reference c.in_ok-index.index) n.0 n.1,
-      stands_named c.args.text.now.items c.append_name_of-named.new.text.items c.append_string.new.text.items n.0.name
-          s.1 c.len-middle.result n.0 n.2 s.3 (omega (arith, c.len-middle.ensures)),
-      s.4 ∙ c.in_ok-index.ensures.exact.1,
+      stands_named c.args.most c.args.text.now.items mid c.append_string.new.text.items s.1 _ n.0 n.2 s.3 n.3
+          (s.4 ∙ ap (λ left. mid ++ kept_within left s.1) c.saturating_sub.ensures),
+      s.5 ∙ c.in_ok-index.ensures.exact.1,
     )
 
-pub returns-in_err-named-clause-memory : goal.returns-in_err-named-clause-memory
-returns-in_err-named-clause-memory g c e =
-    let s = c.in_ok-append_string.ensures.exact in
+pub returns-in_ok-append_string-in-Err-clause-memory : goal.returns-in_ok-append_string-in-Err-clause-memory
+returns-in_ok-append_string-in-Err-clause-memory g c e =
+    let s = c.in_ok-append_string-in-Err.ensures.exact in
     asks_named c.args.size (named_line c.args.reference) c.args.buf.now.rest c.read_index.new.buf.rest
-    c.append_string.new.buf.rest s.1 c.in_ok-index.ensures.exact.0.0 c.in_ok-index.index s.0
+    c.append_string-in-Err.new.buf.rest s.1 c.in_ok-index.ensures.exact.0.0 c.in_ok-index.index s.0
     c.in_ok-index.ensures.exact.0.1 s.2

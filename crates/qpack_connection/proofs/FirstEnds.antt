@@ -1,0 +1,42 @@
+-- A new encoding end is sound.
+use Rattle.std.proofs.Common.{◌≡◌, ◌≤◌, ◌<◌, ◌^◌, ℕ, min, Bool, true, false}
+use Rattle.std.proofs.Common.{cond, [], Option, None}
+use Rattle.std.proofs.Common.{Some, IfSome, sym, ap, subst, ◌∙◌, arith}
+use Rattle.std.specs.Option.{IsSome}
+use Rattle.std.specs.Prelude.{nat_eq}
+use Rattle.qpack_spec.specs.Table.{Table}
+use Rattle.qpack_ends.specs.declared.encoder.EncoderSettings.{EncoderSettings}
+use Rattle.qpack_ends.specs.declared.encoder.EncodingError.{EncodingError}
+use Rattle.qpack_ends.specs.Encoders.{EncodingEnd, Starts, IsSound, IsToBeTold, begun, WritesSection, WritesAlone}
+use Rattle.qpack_ends.specs.Encoders.{ReceivesBytes, Encodes, SetsIt, first_capacity}
+use Rattle.qpack_ends.specs.Encoders as encoders
+
+-- the first capacity is one that the table takes
+first_told : (d : EncodingEnd) (n most : ℕ) → n ≤ most → most < 2 ^ 30 → d.settings.max_capacity ≡ most
+    → d.table.agreed_max ≡ Some most → d.table.live ≡ [] → IsToBeTold d n
+first_told d n most within small settings agreed nothing =
+    record {
+      within = omega (arith, within, settings);
+      small = omega (arith, small, settings);
+      agreed = agreed ∙ ap (λ (m : ℕ). Some m) (sym settings);
+      nothing_live = nothing;
+    }
+
+first_wanted : (d : EncodingEnd) (n most : ℕ) (b : Bool) → n ≤ most → most < 2 ^ 30 → d.settings.max_capacity ≡ most
+    → d.table.agreed_max ≡ Some most → d.table.live ≡ []
+    → IfSome (cond b None (Some n)) (λ m. IsToBeTold d m)
+first_wanted d n most true within small settings agreed nothing = tt
+first_wanted d n most false within small settings agreed nothing =
+    first_told d n most within small settings agreed nothing
+
+pub sound_first : (settings : EncoderSettings) (d : EncodingEnd) → Starts settings d → IsSound d
+sound_first s d e =
+    record {
+      wanted = subst (λ (o : Option ℕ). IfSome o (λ m. IsToBeTold d m)) (sym e.wanted)
+          (first_wanted d (min s.capacity s.max_capacity) s.max_capacity
+          (nat_eq (min s.capacity s.max_capacity) 0) (omega arith) e.capacity_in_range
+          (ap (λ x. x.max_capacity) e.settings_are) (ap (λ (t : Table). t.agreed_max) e.table)
+          (ap (λ (t : Table). t.live) e.table));
+      stream = λ none. ([], [], e.stream);
+      failure = subst (λ (o : Option EncodingError). IfSome o (λ x. IsSome (encoders.code_of x))) (sym e.failure) tt;
+    }
