@@ -141,6 +141,10 @@ run "$room/hostile" 100 1000
 tail -n 1 "$room/told"
 compile hostile.sanitized hostile.c -O1 -g -fsanitize=address,undefined -fno-sanitize-recover
 run "$room/hostile.sanitized" 100
+choose_more bounds
+compile bounds bounds.c -O2
+run "$room/bounds"
+cat "$room/told"
 choose_more bench
 compile bench bench.c -O2
 run "$room/bench" "$corpus" 3

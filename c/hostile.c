@@ -235,7 +235,7 @@ static void cancel_all(const field *f) {
 
 /* As many sections as may be blocked, each by an insertion of its own, are unblocked one by one. */
 static void unblock_sections(void) {
-  size_t most = size < 65534 ? size : 65534;
+  size_t most = size < 4096 ? size : 4096; /* so many sections may be blocked, however many streams */
   field *f = make_fields(RANDOM, most + 1);
   h3_qpack_encoder e;
   bytes b = {NULL, 0, 0};
@@ -379,6 +379,31 @@ static void cancel_streams(void) {
   close_decoder(&d, &b);
 }
 
+/* Bytes that are to be sent are taken one by one: cancellations of a decoder, and an insertion of an encoder. */
+static void send_bytes(void) {
+  h3_qpack_decoder d;
+  h3_qpack_encoder e;
+  uint8_t byte;
+  size_t sent = 0;
+  open_decoder(&d, 4096, 0, 0);
+  for (size_t i = 0; i < 4 * size; i++) CHECK(h3_qpack_decoder_cancel_stream(&d, 0) == H3_QPACK_OK);
+  begin_case();
+  while (h3_qpack_decoder_write_decoder(&d, &byte, 1)) sent += byte == 0x40;
+  end_case("write_decoder", "byte by byte", sent, sent);
+  CHECK(sent == 4 * size && !most_taken());
+  h3_qpack_decoder_del(&d);
+  h3_qpack_nv nv = {text, 4 * size, text, 0, H3_QPACK_NV_FLAG_INSERT};
+  memset(text, 'a', 4 * size);
+  open_encoder(&e, 8 * size + 4096, 1, 1);
+  CHECK(h3_qpack_encoder_encode(&e, 0, &nv, 1, section, sizeof section).required == 1);
+  size_t len = h3_qpack_encoder_get_encoder_streamlen(&e);
+  begin_case();
+  for (sent = 0; h3_qpack_encoder_write_encoder(&e, &byte, 1); sent++) {}
+  end_case("write_encoder", "byte by byte", sent, sent);
+  CHECK(sent == len && sent > size && !most_taken());
+  h3_qpack_encoder_del(&e);
+}
+
 static const uint8_t waiting[] = {2, 0, 0x80};
 
 static size_t block_streams(h3_qpack_decoder *d, size_t first, size_t count) {
@@ -473,6 +498,7 @@ static void run_size(void) {
   decode_longest(&shortest);
   pass_required();
   cancel_streams();
+  send_bytes();
   block_all();
 }
 

@@ -6,10 +6,12 @@
 #include <malloc.h>
 #include "tests/common.h"
 
-/* ---- Memory: how much the library has, and the most that it had since a case began. To be linked with --wrap=malloc,
- * --wrap=realloc and --wrap=free. A block takes what malloc says; the program's own come from __real_malloc. */
+/* ---- Memory: how much the library has, in how many blocks, and the most that it had since a case began. To be linked with
+ * --wrap=malloc, --wrap=realloc and --wrap=free. A block takes what malloc says; the program's own come from
+ * __real_malloc. |most_moving| has 8 bytes more for each block, and a block that is enlarged twice, as before and as after
+ * it. */
 
-static size_t live, most_live;
+static size_t live, blocks, most_live, most_moving;
 
 void *__real_malloc(size_t size);
 void *__real_realloc(void *p, size_t size);
@@ -18,40 +20,48 @@ void *__wrap_malloc(size_t size);
 void *__wrap_realloc(void *p, size_t size);
 void __wrap_free(void *p);
 
-static void *count_block(void *p) {
+static void *count_block(void *p, size_t before) {
+  if (!p) return p;
+  blocks++;
   live += malloc_usable_size(p);
   if (live > most_live) most_live = live;
+  if (live + before + 8 * blocks > most_moving) most_moving = live + before + 8 * blocks;
   return p;
 }
 
-void *__wrap_malloc(size_t size) { return count_block(__real_malloc(size)); }
+static void *uncount_block(void *p) {
+  blocks -= p != NULL;
+  live -= malloc_usable_size(p);
+  return p;
+}
+
+void *__wrap_malloc(size_t size) { return count_block(__real_malloc(size), 0); }
 
 void *__wrap_realloc(void *p, size_t size) {
   size_t before = malloc_usable_size(p);
   void *q = __real_realloc(p, size);
-  if (q || !size) live -= before;
-  return q ? count_block(q) : q;
+  if (!q) return q;
+  live -= before;
+  blocks -= p != NULL;
+  return count_block(q, before);
 }
 
-void __wrap_free(void *p) {
-  live -= malloc_usable_size(p);
-  __real_free(p);
-}
+void __wrap_free(void *p) { __real_free(uncount_block(p)); }
 
 /* ---- The meter: a line for each case, with what a call took, and a byte where bytes are handed in. */
 
 static size_t size, rows, live_before;
 static double begun;
 
-static __attribute__((noinline)) void begin_case(void) {
-  live_before = most_live = live;
+static __attribute__((noinline, unused)) void begin_case(void) {
+  live_before = most_live = most_moving = live;
   begun = now();
 }
 
 /* How much more memory was live than when the case began, at most. */
 static inline size_t most_taken(void) { return most_live - live_before; }
 
-static __attribute__((noinline)) void end_case(const char *call, const char *input, size_t calls, size_t bytes) {
+static __attribute__((noinline, unused)) void end_case(const char *call, const char *input, size_t calls, size_t bytes) {
   double ns = now() - begun;
   printf("%6zu  %s, %s: %.0f ns", size, call, input, ns / (double)calls);
   if (bytes) printf(", %.1f a byte", ns / (double)bytes);

@@ -40,7 +40,7 @@ static void use_settings(void) {
   h3_qpack_decoder_settings_default(NULL);
   h3_qpack_encoder_settings_default(&es);
   h3_qpack_decoder_settings_default(&ds);
-  CHECK(!es.max_capacity && !es.max_blocked && es.capacity == 4096 && es.most_unacknowledged == 1000);
+  CHECK(!es.max_capacity && !es.max_blocked && es.capacity == 4096 && es.most_unacknowledged == 100);
   CHECK(!ds.max_capacity && !ds.max_blocked && ds.max_section_size == 65536);
   es.max_capacity = 200;
   es.max_blocked = 3;
@@ -187,19 +187,34 @@ static void end_connections(void) {
   h3_qpack_decoder d;
   CHECK(!new_encoder(&e, 4096, 1));
   h3_qpack_received r = h3_qpack_encoder_read_decoder(&e, (const uint8_t *)"\x44\x84", 2);
-  CHECK(r.status == H3_QPACK_DECODER_STREAM_ERROR && r.number == 2 && r.offset == 1);
+  CHECK(r.status == H3_QPACK_DECODER_STREAM_ERROR && r.number == 2 && r.offset == 1 && r.taken == 2);
   CHECK(h3_qpack_encoder_encode(&e, 0, &get, 1, section, 9).status == H3_QPACK_DECODER_STREAM_ERROR);
   CHECK(h3_qpack_encoder_set_capacity(&e, 0) == H3_QPACK_DECODER_STREAM_ERROR);
+  r = h3_qpack_encoder_read_decoder(&e, (const uint8_t *)"\x44", 1);
+  CHECK(r.status == H3_QPACK_DECODER_STREAM_ERROR && r.number == 2 && r.offset == 1 && !r.taken);
+  h3_qpack_written w = h3_qpack_encoder_section(&e, section, 9);
+  CHECK(w.status == H3_QPACK_OK && !w.len);
   h3_qpack_encoder_del(&e);
   CHECK(!new_decoder(&d, 4096, 1, 100));
-  r = h3_qpack_decoder_read_encoder(&d, (const uint8_t *)"\x3f\xe1\x1f\x02", 4);
-  CHECK(r.status == H3_QPACK_ENCODER_STREAM_ERROR && r.number == 2 && r.offset == 3);
-  CHECK(h3_qpack_decoder_decode(&d, 0, (const uint8_t *)"\0\0\xd1", 3).status == H3_QPACK_ENCODER_STREAM_ERROR);
+  CHECK(h3_qpack_decoder_decode(&d, 0, (const uint8_t *)"\0\0\xd1", 3).status == H3_QPACK_OK);
+  r = h3_qpack_decoder_read_encoder(&d, (const uint8_t *)"\x3f\xe1\x1f\x02\x20", 5);
+  CHECK(r.status == H3_QPACK_ENCODER_STREAM_ERROR && r.number == 2 && r.offset == 3 && r.taken == 5);
+  CHECK(h3_qpack_decoder_fields(&d, fields, 1, bytes, sizeof bytes).len == 10); /* those decoded before */
+  h3_qpack_decoded a = h3_qpack_decoder_decode(&d, 0, (const uint8_t *)"\0\0\xd1", 3);
+  CHECK(a.status == H3_QPACK_ENCODER_STREAM_ERROR && !a.number && !a.offset);
+  w = h3_qpack_decoder_fields(&d, fields, 1, bytes, sizeof bytes);
+  CHECK(w.status == H3_QPACK_OK && !w.len);
   CHECK(h3_qpack_decoder_cancel_stream(&d, 0) == H3_QPACK_ENCODER_STREAM_ERROR);
+  r = h3_qpack_decoder_read_encoder(&d, (const uint8_t *)"\x20", 1);
+  CHECK(r.status == H3_QPACK_ENCODER_STREAM_ERROR && r.number == 2 && r.offset == 3 && !r.taken);
   h3_qpack_decoder_del(&d);
   CHECK(!new_decoder(&d, 4096, 1, 100));
-  h3_qpack_decoded a = h3_qpack_decoder_decode(&d, 0, (const uint8_t *)"\0\0\xd1\xff\x3f", 5);
+  a = h3_qpack_decoder_decode(&d, 0, (const uint8_t *)"\0\0\xd1\xff\x3f", 5);
   CHECK(a.status == H3_QPACK_DECOMPRESSION_FAILED && a.number == 2 && a.offset == 3 && !a.fields);
+  a = h3_qpack_decoder_decode(&d, 4, (const uint8_t *)"\0\0\xd1", 3);
+  CHECK(a.status == H3_QPACK_DECOMPRESSION_FAILED && a.number == 2 && a.offset == 3);
+  r = h3_qpack_decoder_read_encoder(&d, (const uint8_t *)"\x20", 1);
+  CHECK(r.status == H3_QPACK_DECOMPRESSION_FAILED && !r.number && !r.offset && !r.taken);
   h3_qpack_decoder_del(&d);
   for (uint64_t limit = 83; limit < 85; limit++) { /* two fields of 42 bytes each are 84 */
     CHECK(!new_decoder(&d, 4096, 1, limit));
@@ -208,6 +223,22 @@ static void end_connections(void) {
     CHECK(h3_qpack_decoder_decode(&d, 0, (const uint8_t *)"\0\0\xd1", 3).status == H3_QPACK_OK);
     h3_qpack_decoder_del(&d);
   }
+}
+
+/* A blocked section turns out to be too large: its stream is not ready again. */
+static void refuse_ready(void) {
+  h3_qpack_decoder d;
+  uint64_t id = 0;
+  CHECK(!new_decoder(&d, 4096, 2, 65)); /* two fields of 33 bytes each are 66 */
+  CHECK(h3_qpack_decoder_decode(&d, 8, (const uint8_t *)"\x02\0\x80\x80", 4).status == H3_QPACK_BLOCKED);
+  CHECK(h3_qpack_decoder_read_encoder(&d, (const uint8_t *)"\x3f\xe1\x1f\x41\x61\0", 6).status == H3_QPACK_OK);
+  size_t rounds = 0;
+  while (h3_qpack_decoder_next_ready(&d, &id)) {
+    h3_qpack_decoded r = h3_qpack_decoder_decode(&d, id, (const uint8_t *)"\x02\0\x80\x80", 4);
+    CHECK(id == 8 && r.status == H3_QPACK_ERR_TOO_LARGE && r.number == 2 && ++rounds == 1);
+  }
+  CHECK(rounds == 1 && h3_qpack_decoder_cancel_stream(&d, 8) == H3_QPACK_OK);
+  h3_qpack_decoder_del(&d);
 }
 
 /* A section that waits, one that would be one too many, and a stream that is given up. */
@@ -303,6 +334,7 @@ int main(int argc, char **argv) {
   decode_alone();
   end_connections();
   wait_for_insertions();
+  refuse_ready();
   pthread_t threads[2];
   int rounds = 20;
   for (int i = 0; i < 2; i++) CHECK(!pthread_create(&threads[i], NULL, run_connection, &rounds));
