@@ -1,9 +1,9 @@
-//! The two ends of a connection (RFC 9204, section 2): an encoder, made from the settings that the peer sent, and a
-//! decoder, made from those that this side sent. They share nothing, and may live in different threads.
+//! The two ends of a connection (RFC 9204, section 2). Make the encoder from the settings that the peer sent, and the
+//! decoder from those that this side sent. They share nothing, and can be used by different threads.
 //!
-//! Each has a stream of instructions that it writes, and one that it reads; what came may be cut anywhere. An end whose
-//! error has a [`code`](DecodingError::code) is over: the connection is to be closed with that code, and each call of
-//! the end that can fail answers such an error from then on.
+//! Each end writes one stream of instructions and reads another, in pieces of any size. If an error has a
+//! [`code`](DecodingError::code), close the connection with it. Each later call of that end that can fail returns such an
+//! error too.
 //!
 //! ```
 //! use h3_qpack::connection::{
@@ -24,7 +24,7 @@
 //! assert_eq!(decoder.decode(4, &section)?, Reading::Fields { count: 1, required: 1 });
 //! assert_eq!(decoder.fields()?.next(), Some(FieldLine::new("foo", "bar")));
 //!
-//! // What the decoder answers goes back.
+//! // The decoder stream goes back to the encoder.
 //! decoder.take_decoder_stream(&mut answers)?;
 //! encoder.receive(&answers)?;
 //! assert_eq!(encoder.blocked(), 0);

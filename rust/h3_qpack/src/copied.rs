@@ -7,7 +7,7 @@ use crate::sys::Given;
 use std::fmt;
 use std::iter::FusedIterator;
 
-/// What is told of each field, and the names and values one behind the other.
+/// The lengths and flags of each field, and their names and values one after the other.
 #[derive(Default)]
 pub(crate) struct Copied {
     pub(crate) told: Vec<Given>,
@@ -21,7 +21,7 @@ impl Copied {
         self.bytes.clear();
     }
 
-    /// Makes room for so many fields, whose names and values have so many bytes.
+    /// Makes room for fields, and for the bytes of their names and values.
     pub(crate) fn make_room(&mut self, fields: usize, bytes: usize) -> Result<(), NoMemory> {
         make_room(&mut self.told, fields)?;
         make_room(&mut self.bytes, bytes)
@@ -33,7 +33,7 @@ impl Copied {
     }
 }
 
-/// The fields of a section, which a decoder lends until its next call.
+/// The fields of a section, in order. They are valid until the next call of the decoder.
 #[derive(Clone)]
 pub struct Fields<'a> {
     told: std::slice::Iter<'a, Given>,

@@ -3,7 +3,7 @@
 use std::borrow::Cow;
 use std::fmt;
 
-/// What a field's size counts beside its name and value, in bytes (RFC 9204, section 3.2.1).
+/// The bytes that a field's size counts besides its name and value (RFC 9204, section 3.2.1).
 pub const ESTIMATED_OVERHEAD_BYTES: usize = 32;
 
 /// A field: a name and a value, any bytes.
@@ -15,29 +15,29 @@ pub const ESTIMATED_OVERHEAD_BYTES: usize = 32;
 /// ```
 #[derive(Debug, Clone, PartialEq, Eq, Hash)]
 pub struct HeaderField {
-    /// The name, which HTTP/3 wants in lower case.
+    /// The name. HTTP/3 requires lower case.
     pub name: Cow<'static, [u8]>,
     /// The value.
     pub value: Cow<'static, [u8]>,
 }
 
 impl HeaderField {
-    /// A field of this name and value.
+    /// Makes a field of a name and a value.
     pub fn new<N: Into<Vec<u8>>, V: Into<Vec<u8>>>(name: N, value: V) -> HeaderField {
         HeaderField { name: Cow::Owned(name.into()), value: Cow::Owned(value.into()) }
     }
 
-    /// A field of the same name with another value.
+    /// Returns a field of the same name with another value.
     pub fn with_value<V: Into<Vec<u8>>>(&self, value: V) -> HeaderField {
         HeaderField { name: self.name.clone(), value: Cow::Owned(value.into()) }
     }
 
-    /// The size of the field, in bytes: its name, its value, and 32 (RFC 9204, section 3.2.1).
+    /// Returns the size of the field, in bytes: its name, its value, and 32 (RFC 9204, section 3.2.1).
     pub fn mem_size(&self) -> usize {
         self.name.len() + self.value.len() + ESTIMATED_OVERHEAD_BYTES
     }
 
-    /// The name and the value.
+    /// Returns the name and the value.
     pub fn into_inner(self) -> (Cow<'static, [u8]>, Cow<'static, [u8]>) {
         (self.name, self.value)
     }
@@ -75,7 +75,7 @@ fn text_of(bytes: &[u8]) -> Cow<'_, str> {
 /// A field that is lent: to an encoder by its caller, or by a decoder.
 #[derive(Debug, Clone, Copy, PartialEq, Eq, Hash)]
 pub struct FieldLine<'a> {
-    /// The name, which HTTP/3 wants in lower case.
+    /// The name. HTTP/3 requires lower case.
     pub name: &'a [u8],
     /// The value.
     pub value: &'a [u8],

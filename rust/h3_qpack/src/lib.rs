@@ -1,12 +1,12 @@
-//! QPACK, the header compression of HTTP/3 (RFC 9204), over a library that is proved: what its calls do is what their
-//! contracts say, on every input. This crate has two layers:
+//! QPACK, the header compression of HTTP/3 (RFC 9204), over a proved library: on every input, each call does what its
+//! contract says. This crate has two layers:
 //!
-//! - [`encode_stateless`] and [`decode_stateless`], in the names of the `qpack` module of the crate `h3`: a field
-//!   section without a dynamic table;
-//! - [`connection`]: both ends of a connection with its dynamic table and its two instruction streams.
+//! - [`connection`]: both ends of a connection, with the dynamic table and the two instruction streams.
+//! - [`encode_stateless`] and [`decode_stateless`]: a field section without a dynamic table, in the names of the `qpack`
+//!   module of the crate `h3`.
 //!
-//! It needs no other crate, and compiles no C: rustc assembles the library from text that was generated from its proved
-//! code, on Linux with x86-64 or aarch64. With `H3_QPACK_LIB` in the environment, an archive is linked in its place.
+//! The crate depends on no other crate, and compiles no C. rustc assembles the library from text that was generated from
+//! the proved code, on Linux with x86-64 or aarch64. To link an archive in its place, set `H3_QPACK_LIB`.
 //!
 //! ```
 //! use h3_qpack::{decode_stateless, encode_stateless, HeaderField};

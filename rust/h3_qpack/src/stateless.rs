@@ -7,11 +7,11 @@ use crate::sys::{self, Lent};
 use crate::{HeaderField, ESTIMATED_OVERHEAD_BYTES};
 use std::fmt;
 
-/// What [`encode_stateless`] answers where it can't encode.
+/// The errors of [`encode_stateless`].
 #[derive(Debug, Clone, Copy, PartialEq, Eq)]
 #[non_exhaustive]
 pub enum EncoderError {
-    /// The allocator refused. Nothing was written; the call can be made again.
+    /// There is no memory. Nothing was written: call it again later.
     Memory,
 }
 
@@ -29,21 +29,21 @@ impl From<NoMemory> for EncoderError {
     }
 }
 
-/// What [`decode_stateless`] answers where it can't decode.
+/// The errors of [`decode_stateless`].
 #[derive(Debug, Clone, Copy, PartialEq, Eq)]
 #[non_exhaustive]
 pub enum DecoderError {
-    /// The section is none that means fields without a dynamic table (RFC 9204, section 2.2). The line that was
-    /// refused, or `None` where it is the prefix.
+    /// The section is invalid, or references a dynamic table (RFC 9204, section 2.2). This is the invalid line, or `None`
+    /// for the prefix.
     Decompression(Option<Place>),
-    /// The sizes of the fields sum to more than the limit. The sum is at least this number, in bytes.
+    /// The fields exceed the limit: their sizes sum to this number of bytes or more.
     HeaderTooLong(u64),
-    /// The allocator refused; the call can be made again.
+    /// There is no memory: call it again later.
     Memory,
 }
 
 impl DecoderError {
-    /// The code of RFC 9204, section 6, to close the connection with; `None` where the connection can go on.
+    /// Returns the code to close the connection with (RFC 9204, section 6), or `None` if the connection can go on.
     pub fn code(&self) -> Option<u64> {
         match self {
             DecoderError::Decompression(_) => Some(QPACK_DECOMPRESSION_FAILED),
@@ -71,7 +71,7 @@ impl From<NoMemory> for DecoderError {
     }
 }
 
-/// An error of either.
+/// An error of [`encode_stateless`] or [`decode_stateless`].
 #[derive(Debug, Clone, Copy, PartialEq, Eq)]
 pub enum Error {
     /// Of [`encode_stateless`].
@@ -103,14 +103,13 @@ impl From<DecoderError> for Error {
     }
 }
 
-/// Encodes fields as a section without a dynamic table (RFC 9204, section 4.5), which is added to `block`, and answers
-/// the sum of their sizes, in bytes. `block` is a `Vec<u8>`, or a `BytesMut`, or what else takes bytes.
+/// Encodes fields as a section without a dynamic table (RFC 9204, section 4.5), and appends it to `block`, a `Vec<u8>`, a
+/// `BytesMut` or another buffer. Returns the sum of the fields' sizes, in bytes (section 3.2.1).
 ///
-/// No field is marked as one that is never to be indexed: for those use [`connection`](crate::connection).
+/// No field gets the N bit. To mark fields as never indexed, use [`connection`](crate::connection).
 ///
 /// # Errors
-/// [`EncoderError::Memory`] alone; nothing was added then. Where `block` itself can't grow, it does what its `Extend`
-/// does.
+/// [`EncoderError::Memory`]: nothing was appended. If `block` itself can't grow, it does what its `Extend` does.
 ///
 /// ```
 /// use h3_qpack::{encode_stateless, HeaderField};
@@ -138,8 +137,8 @@ where
     Ok(size)
 }
 
-/// Encodes fields whose sizes sum to this to a vector that holds nothing. A section is rarely longer than that sum;
-/// where it is, room is made, and it is encoded again.
+/// Encodes fields whose sizes sum to `size` to an empty vector. A section is rarely longer than that sum. If it is, makes
+/// room and encodes again.
 fn write_stateless(fields: &[Lent<'_>], section: &mut Vec<u8>, size: u64) -> Result<(), EncoderError> {
     let mut room = usize::try_from(size).map_or(usize::MAX, |size| size.saturating_add(2));
     loop {
@@ -153,25 +152,26 @@ fn write_stateless(fields: &[Lent<'_>], section: &mut Vec<u8>, size: u64) -> Res
     }
 }
 
-/// What [`decode_stateless`] answers.
+/// A decoded section.
 #[derive(Debug, Clone, PartialEq, Eq)]
 pub struct Decoded {
-    /// The fields, in their order.
+    /// The fields, in order.
     pub fields: Vec<HeaderField>,
-    /// Whether the section references the dynamic table: without one it does not.
+    /// Whether the section references the dynamic table: always false here.
     pub dyn_ref: bool,
     /// The sum of the fields' sizes, in bytes (RFC 9204, section 3.2.1).
     pub mem_size: u64,
 }
 
-/// Decodes a whole section without a dynamic table (RFC 9204, section 4.5), the sizes of whose fields may sum to
-/// `max_size` bytes. `buf` is whatever lends bytes, as a vector, a slice, or `Bytes`.
+/// Decodes a whole section without a dynamic table (RFC 9204, section 4.5). The sizes of its fields may sum to `max_size`
+/// bytes (section 3.2.1). `buf` is a vector, a slice, `Bytes` or another container of bytes.
 ///
-/// Whether a field is never to be indexed is not told: for that use [`connection`](crate::connection).
+/// The N bits of the fields are not returned. To get them, use [`connection`](crate::connection).
 ///
 /// # Errors
-/// A section that references a dynamic table, or that is none, is refused; so is one past the limit, of which what lies
-/// behind the field that passes it is not read.
+/// - [`DecoderError::Decompression`] if the section is invalid, or references a dynamic table.
+/// - [`DecoderError::HeaderTooLong`] if the fields exceed `max_size`. The rest of the section is not read.
+/// - [`DecoderError::Memory`].
 ///
 /// ```
 /// use h3_qpack::{decode_stateless, DecoderError};
@@ -195,18 +195,18 @@ pub fn decode_stateless<T: AsRef<[u8]> + ?Sized>(buf: &T, max_size: u64) -> Resu
     }
 }
 
-/// How many bytes of a section are taken for a line, where room is made before it is decoded.
+/// The bytes of a section that count as one line in an estimate of its fields.
 const LINE_LEN: usize = 4;
 
-/// Returns the room that is made before a section of a length is decoded, in fields and in bytes of names and values: no
-/// more than fields within the limit can take.
+/// Returns the room to make before a section of this length is decoded: a number of fields, and of bytes of names and
+/// values. It is at most what fields within the limit can take.
 fn first_room(len: usize, max_size: u64) -> (usize, usize) {
     let limit = usize::try_from(max_size).unwrap_or(usize::MAX);
     let fields = (len / LINE_LEN + 1).min(limit / ESTIMATED_OVERHEAD_BYTES + 1);
     (fields, len.saturating_mul(2).min(limit))
 }
 
-/// Fields that are lent, owned.
+/// Copies fields to ones of their own.
 fn own_fields(lent: Fields<'_>) -> Result<Decoded, DecoderError> {
     let mut decoded = Decoded { fields: Vec::new(), dyn_ref: false, mem_size: 0 };
     make_room(&mut decoded.fields, lent.len())?;
@@ -218,7 +218,7 @@ fn own_fields(lent: Fields<'_>) -> Result<Decoded, DecoderError> {
     Ok(decoded)
 }
 
-/// The refusal of a section with this status, at this line, where the limit is this one.
+/// Returns the error for a status, the line that was refused and the limit.
 fn refusal_of(status: i32, line: Option<Place>, max_size: u64) -> DecoderError {
     match status {
         sys::TOO_LARGE => DecoderError::HeaderTooLong(max_size.saturating_add(1)),

@@ -316,7 +316,7 @@ impl Encoder {
         unsafe { h3q_encoder_set_capacity(self.handle.get_mut(), capacity) }
     }
 
-    /// How many sections may be blocked.
+    /// Returns how many streams may be blocked.
     pub(crate) fn blocked(&self) -> usize {
         // SAFETY: as for `stream_len`.
         unsafe { h3q_encoder_blocked(self.handle.get()) }

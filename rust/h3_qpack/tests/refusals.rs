@@ -67,6 +67,7 @@ fn a_decoder_is_over_behind_its_encoder_stream() {
     assert_eq!((error.code(), error.to_string()), (Some(0x201), told("encoder", "2, at byte 3")));
     let over = DecodingError::EncoderStream { instruction: None };
     assert_eq!((decoder.decode(0, b"\x00\x00\xd1"), decoder.cancel(0)), (Err(over), Err(over)));
+    assert_eq!(decoder.receive(b"\x20"), Err(error));
 }
 
 #[test]
@@ -75,6 +76,7 @@ fn a_decoder_is_over_behind_a_section_that_means_nothing() {
     let line = Some(Place { number: 2, offset: 3 });
     let error = decoder.decode(0, b"\x00\x00\xd1\xff\x3f").unwrap_err();
     assert_eq!((error, error.code()), (DecodingError::DecompressionFailed { line }, Some(0x200)));
+    assert_eq!(decoder.decode(4, b"\x00\x00\xd1"), Err(error));
     assert_eq!(decoder.fields().unwrap().len(), 0);
     assert_eq!(decoder.cancel(0).unwrap_err().code(), Some(0x200));
 }

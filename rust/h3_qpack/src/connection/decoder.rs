@@ -1,4 +1,4 @@
-//! The decoding end.
+//! The decoder of a connection.
 
 use super::error::{DecodingError, NoMemory, Place, SettingsError};
 use super::take_all;
@@ -6,7 +6,7 @@ use crate::copied::{Copied, Fields};
 use crate::sys;
 use std::fmt;
 
-/// What a decoder is made from: the settings that this side sends.
+/// The settings of a decoder, which this side sends in its SETTINGS frame.
 #[derive(Debug, Clone, Copy, PartialEq, Eq)]
 pub struct DecoderSettings {
     /// SETTINGS_QPACK_MAX_TABLE_CAPACITY (RFC 9204, section 5), in bytes, below 2^30.
@@ -17,26 +17,25 @@ pub struct DecoderSettings {
     pub max_section_size: u64,
 }
 
-/// What became of a section.
+/// The result of decoding a section.
 #[derive(Debug, Clone, Copy, PartialEq, Eq)]
 pub enum Reading {
-    /// It was decoded: [`ConnectionDecoder::fields`] lends its fields.
+    /// The section was decoded. Get its fields from [`ConnectionDecoder::fields`].
     Fields {
-        /// How many there are.
+        /// The number of fields.
         count: usize,
-        /// Its required insert count: above 0 it references the dynamic table, and was acknowledged.
+        /// The Required Insert Count. If it is above 0, the section was acknowledged.
         required: usize,
     },
-    /// It waits for insertions (RFC 9204, section 2.2.1). Hand it in again when [`ConnectionDecoder::next_ready`] tells
-    /// its stream.
+    /// The section is blocked (RFC 9204, section 2.2.1). Keep it, and decode it again when
+    /// [`ConnectionDecoder::next_ready`] returns its stream.
     Blocked {
-        /// How many insertions have to be received first.
+        /// The number of insertions that must be received first.
         required: usize,
     },
 }
 
-/// The decoding end of a connection (RFC 9204, section 2.2). It can be sent to another thread, and is used by one at a
-/// time:
+/// The decoder of a connection (RFC 9204, section 2.2). It is [`Send`] and not [`Sync`]: one thread uses it at a time.
 ///
 /// ```
 /// fn is_send<T: Send>() {}
@@ -48,18 +47,19 @@ pub enum Reading {
 /// ```
 pub struct ConnectionDecoder {
     end: sys::Decoder,
-    /// The fields of the section that was decoded last, if they were copied already.
+    /// The fields of the last decoded section, if they were copied already.
     copied: Copied,
 }
 
-/// The room that is made at first for the names and values of a section, in bytes.
+/// The first room for the names and values of a section, in bytes.
 const FIRST_ROOM: usize = 1024;
 
 impl ConnectionDecoder {
-    /// Makes a decoder.
+    /// Makes a decoder. Its table has the capacity 0 until the peer sets one.
     ///
     /// # Errors
-    /// Settings out of their ranges are refused, and want of memory.
+    /// - [`SettingsError::OutOfRange`] if `max_capacity` is 2^30 or more, or `max_blocked` is 65,535 or more.
+    /// - [`SettingsError::NoMemory`].
     pub fn new(settings: DecoderSettings) -> Result<ConnectionDecoder, SettingsError> {
         let DecoderSettings { max_capacity, max_blocked, max_section_size } = settings;
         match sys::Decoder::new(max_capacity, max_blocked, max_section_size) {
@@ -68,11 +68,16 @@ impl ConnectionDecoder {
         }
     }
 
-    /// Decodes a whole section of a stream (RFC 9204, section 4.5). A section that is blocked is not kept.
+    /// Decodes a whole section of a stream (RFC 9204, section 4.5). Pass the sections of a stream in order.
     ///
     /// # Errors
-    /// A section that means no fields ends the decoder, as does one that blocks a stream too many. One past the limit
-    /// on sizes, a stream's number of 2^62 or more, and want of memory do not.
+    /// - [`DecodingError::DecompressionFailed`] if the section is invalid, or one stream too many is blocked. Close the
+    ///   connection.
+    /// - [`DecodingError::TooLarge`] if the fields exceed `max_section_size`. Refuse the message, and
+    ///   [`cancel`](Self::cancel) its stream.
+    /// - [`DecodingError::StreamId`] if `stream_id` is 2^62 or more.
+    /// - [`DecodingError::NoMemory`]: decode the section again later.
+    /// - [`DecodingError::EncoderStream`] if [`receive`](Self::receive) returned it before.
     pub fn decode(&mut self, stream_id: u64, section: &[u8]) -> Result<Reading, DecodingError> {
         self.copied.clear();
         let decoded = self.end.decode(stream_id, section);
@@ -83,11 +88,10 @@ impl ConnectionDecoder {
         }
     }
 
-    /// Lends the fields of the section that was decoded last, in their order; none if the last call that decodes
-    /// answered otherwise.
+    /// Returns the fields of the last decode, in order. There are none if it did not return [`Reading::Fields`].
     ///
     /// # Errors
-    /// Want of memory to copy them to; the call can be made again.
+    /// [`NoMemory`] if there is no memory to copy them to: call it again later.
     pub fn fields(&mut self) -> Result<Fields<'_>, NoMemory> {
         if self.copied.told.len() < self.end.field_count() {
             self.copy_fields(FIRST_ROOM)?;
@@ -95,8 +99,8 @@ impl ConnectionDecoder {
         Ok(self.copied.fields())
     }
 
-    /// Copies the fields of the section that was decoded last, in room for so many bytes of their names and values, or
-    /// in as much as they want.
+    /// Copies the fields of the last decode. Makes room for this number of bytes of names and values, or for more if they
+    /// have more.
     fn copy_fields(&mut self, bytes: usize) -> Result<(), NoMemory> {
         let (copied, count) = (&mut self.copied, self.end.field_count());
         copied.make_room(count, bytes)?;
@@ -105,16 +109,17 @@ impl ConnectionDecoder {
             copied.make_room(count, written.len)?;
             written = self.end.fields(&mut copied.told, &mut copied.bytes);
         }
-        assert_eq!(written.status, sys::OK, "the fields fit in the room that was told");
+        assert_eq!(written.status, sys::OK, "the fields fit in the room that the library asked for");
         Ok(())
     }
 
-    /// Receives the next bytes of the encoder stream, behind its type. Afterwards [`next_ready`](Self::next_ready)
-    /// tells which sections wait no more.
+    /// Receives the next bytes of the peer's encoder stream, without the stream type, in pieces of any size. Then
+    /// [`next_ready`](Self::next_ready) returns the streams whose sections are no longer blocked.
     ///
     /// # Errors
-    /// What the peer may not send ends the decoder (RFC 9204, section 4.3). Behind want of memory hand in the bytes
-    /// that were not taken.
+    /// - [`DecodingError::EncoderStream`] if an instruction is invalid (RFC 9204, section 4.3). Close the connection.
+    /// - [`DecodingError::NoMemory`]: pass the bytes after the first `taken` ones again, even if there are none.
+    /// - [`DecodingError::DecompressionFailed`] if [`decode`](Self::decode) returned it before.
     pub fn receive(&mut self, bytes: &[u8]) -> Result<(), DecodingError> {
         let received = self.end.read(bytes);
         match received.status {
@@ -126,43 +131,47 @@ impl ConnectionDecoder {
         }
     }
 
-    /// A blocked stream whose section can be decoded now: of those, the one that waited for the fewest insertions.
+    /// Returns a blocked stream whose section can be decoded now, the one that waited for the fewest insertions. It
+    /// returns the same stream until its section is decoded or the stream is cancelled.
     pub fn next_ready(&self) -> Option<u64> {
         self.end.next_ready()
     }
 
-    /// How many insertions were ever received.
+    /// Returns the number of insertions that were received since the connection began.
     pub fn insert_count(&self) -> usize {
         self.end.insert_count()
     }
 
-    /// How many streams are blocked.
+    /// Returns the number of blocked streams (RFC 9204, section 2.1.2).
     pub fn blocked(&self) -> usize {
         self.end.blocked()
     }
 
-    /// How many bytes are to be sent on the decoder stream.
+    /// Returns the number of bytes to send on the decoder stream.
     pub fn decoder_stream_len(&self) -> usize {
         self.end.stream_len()
     }
 
-    /// Takes bytes that are to be sent on the decoder stream, as many as `out` has room for, and answers how many.
+    /// Moves bytes to send on the decoder stream to `out`, as many as fit. Returns how many.
     pub fn write_decoder_stream(&mut self, out: &mut [u8]) -> usize {
         self.end.stream(out)
     }
 
-    /// Takes all bytes that are to be sent on the decoder stream, adds them to `out`, and answers how many.
+    /// Appends all bytes to send on the decoder stream to `out`. Returns how many.
     ///
     /// # Errors
-    /// Want of memory; nothing was taken then.
+    /// [`NoMemory`]: nothing was taken.
     pub fn take_decoder_stream(&mut self, out: &mut Vec<u8>) -> Result<usize, NoMemory> {
         take_all(out, self.end.stream_len(), |room| self.end.stream(room))
     }
 
-    /// A stream was reset, or its reading is given up (RFC 9204, section 2.2.2.2). It may be called for any stream.
+    /// Gives up the sections of a stream, and writes a Stream Cancellation (RFC 9204, section 2.2.2.2). Call this when a
+    /// stream is reset, or when you stop reading it. It is allowed for any stream.
     ///
     /// # Errors
-    /// A stream's number of 2^62 or more is refused, want of memory, and any call behind an error that has a code.
+    /// - [`DecodingError::StreamId`] if `stream_id` is 2^62 or more.
+    /// - [`DecodingError::NoMemory`]: nothing changed.
+    /// - An error with a code that another call returned before.
     pub fn cancel(&mut self, stream_id: u64) -> Result<(), DecodingError> {
         match self.end.cancel(stream_id) {
             sys::OK => Ok(()),

@@ -1,4 +1,4 @@
-//! The encoding end.
+//! The encoder of a connection.
 
 use super::error::{EncodingError, NoMemory, Place, SettingsError};
 use super::take_all;
@@ -7,28 +7,29 @@ use crate::room::{gather, make_room};
 use crate::sys::{self, Lent};
 use std::fmt;
 
-/// What an encoder is made from.
+/// The settings of an encoder.
 #[derive(Debug, Clone, Copy, PartialEq, Eq)]
 pub struct EncoderSettings {
     /// The peer's SETTINGS_QPACK_MAX_TABLE_CAPACITY (RFC 9204, section 5), in bytes, below 2^30.
     pub max_capacity: usize,
     /// The peer's SETTINGS_QPACK_BLOCKED_STREAMS (RFC 9204, section 5).
     pub max_blocked: usize,
-    /// The capacity of the table that is wanted, in bytes; at most the maximum is taken.
+    /// The capacity of the table, in bytes; `max_capacity` if that is less.
     pub capacity: usize,
-    /// While so many sections wait for acknowledgments, sections are written without references.
+    /// While this number of sections is unacknowledged (RFC 9204, section 4.4.1), sections reference only the static
+    /// table.
     pub most_unacknowledged: usize,
 }
 
 impl EncoderSettings {
-    /// The settings for a peer that sent these two, with a table of 4,096 bytes and 1,000 sections that may wait.
+    /// Returns the settings for a peer that sent these two, with a capacity of 4,096 bytes and 100 unacknowledged
+    /// sections.
     pub fn new(max_capacity: usize, max_blocked: usize) -> EncoderSettings {
-        EncoderSettings { max_capacity, max_blocked, capacity: 4096, most_unacknowledged: 1000 }
+        EncoderSettings { max_capacity, max_blocked, capacity: 4096, most_unacknowledged: 100 }
     }
 }
 
-/// The encoding end of a connection (RFC 9204, section 2.1). It can be sent to another thread, and is used by one at a
-/// time:
+/// The encoder of a connection (RFC 9204, section 2.1). It is [`Send`] and not [`Sync`]: one thread uses it at a time.
 ///
 /// ```
 /// fn is_send<T: Send>() {}
@@ -43,10 +44,11 @@ pub struct ConnectionEncoder {
 }
 
 impl ConnectionEncoder {
-    /// Makes an encoder. Its capacity is told to the peer before the first section, on the encoder stream.
+    /// Makes an encoder. It writes its table capacity to the encoder stream before the first section.
     ///
     /// # Errors
-    /// A maximum capacity of 2^30 or more is refused, and want of memory.
+    /// - [`SettingsError::OutOfRange`] if `max_capacity` is 2^30 or more: for such a peer pass 0.
+    /// - [`SettingsError::NoMemory`].
     pub fn new(settings: EncoderSettings) -> Result<ConnectionEncoder, SettingsError> {
         let EncoderSettings { max_capacity, max_blocked, capacity, most_unacknowledged } = settings;
         match sys::Encoder::new(max_capacity, max_blocked, capacity, most_unacknowledged) {
@@ -55,14 +57,15 @@ impl ConnectionEncoder {
         }
     }
 
-    /// Encodes fields for a stream, as a section that is added to `section` (RFC 9204, section 4.5), and answers its
-    /// required insert count: above 0 the peer will acknowledge it. What is inserted is added to the encoder stream.
-    /// Room is made first, for the longest section that there can be, so that no section is lost for want of it: four
-    /// bytes for each byte of the fields.
+    /// Encodes fields for a stream, and appends the section to `section` (RFC 9204, section 4.5). Returns its Required
+    /// Insert Count: if that is above 0, the peer acknowledges the section. Send the bytes of the encoder stream before
+    /// the section. Reserves four bytes for each byte of the fields.
     ///
     /// # Errors
-    /// A stream's number of 2^62 or more is refused, want of memory, and any call behind an error that has a code.
-    /// `section` is as before then.
+    /// `section` is unchanged.
+    /// - [`EncodingError::StreamId`] if `stream_id` is 2^62 or more.
+    /// - [`EncodingError::NoMemory`]: encode the fields again later.
+    /// - [`EncodingError::DecoderStream`] if [`receive`](Self::receive) returned it before.
     ///
     /// ```
     /// # use h3_qpack::connection::{ConnectionEncoder, EncoderSettings, FieldLine};
@@ -93,29 +96,29 @@ impl ConnectionEncoder {
         }
     }
 
-    /// How many bytes are to be sent on the encoder stream.
+    /// Returns the number of bytes to send on the encoder stream.
     pub fn encoder_stream_len(&self) -> usize {
         self.end.stream_len()
     }
 
-    /// Takes bytes that are to be sent on the encoder stream, as many as `out` has room for, and answers how many.
+    /// Moves bytes to send on the encoder stream to `out`, as many as fit. Returns how many.
     pub fn write_encoder_stream(&mut self, out: &mut [u8]) -> usize {
         self.end.stream(out)
     }
 
-    /// Takes all bytes that are to be sent on the encoder stream, adds them to `out`, and answers how many.
+    /// Appends all bytes to send on the encoder stream to `out`. Returns how many.
     ///
     /// # Errors
-    /// Want of memory; nothing was taken then.
+    /// [`NoMemory`]: nothing was taken.
     pub fn take_encoder_stream(&mut self, out: &mut Vec<u8>) -> Result<usize, NoMemory> {
         take_all(out, self.end.stream_len(), |room| self.end.stream(room))
     }
 
-    /// Receives the next bytes of the decoder stream, behind its type.
+    /// Receives the next bytes of the peer's decoder stream, without the stream type, in pieces of any size.
     ///
     /// # Errors
-    /// What the peer may not send ends the encoder: acknowledgments of what does not wait, increments past what was
-    /// inserted (RFC 9204, section 4.4).
+    /// [`EncodingError::DecoderStream`] if an instruction is invalid (RFC 9204, section 4.4): an acknowledgment of a stream
+    /// without an unacknowledged section, or an increment of 0 or past the insertions. Close the connection.
     pub fn receive(&mut self, bytes: &[u8]) -> Result<(), EncodingError> {
         let received = self.end.read(bytes);
         match received.status {
@@ -130,8 +133,12 @@ impl ConnectionEncoder {
     /// Sets the capacity of the table, in bytes, at most the peer's maximum (RFC 9204, section 4.3.1).
     ///
     /// # Errors
-    /// A capacity above the maximum is refused, and one for which entries would have to go that may still be referenced
-    /// (RFC 9204, section 2.1.1); want of memory; and any call behind an error that has a code.
+    /// Nothing changes.
+    /// - [`EncodingError::CapacityTooLarge`] if it is above the maximum.
+    /// - [`EncodingError::EntriesHeld`] if entries would be evicted that the peer may still reference (RFC 9204, section
+    ///   2.1.1): call it again after more acknowledgments.
+    /// - [`EncodingError::NoMemory`]: call it again later.
+    /// - [`EncodingError::DecoderStream`] if [`receive`](Self::receive) returned it before.
     pub fn set_capacity(&mut self, capacity: usize) -> Result<(), EncodingError> {
         match self.end.set_capacity(capacity) {
             sys::OK => Ok(()),
@@ -139,7 +146,7 @@ impl ConnectionEncoder {
         }
     }
 
-    /// How many sections may be blocked at the peer (RFC 9204, section 2.1.2).
+    /// Returns the number of streams that may be blocked at the peer (RFC 9204, section 2.1.2).
     pub fn blocked(&self) -> usize {
         self.end.blocked()
     }

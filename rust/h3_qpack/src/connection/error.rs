@@ -13,9 +13,9 @@ pub const QPACK_DECODER_STREAM_ERROR: u64 = 0x202;
 /// Where a line of a section, or an instruction of a stream, was refused.
 #[derive(Debug, Clone, Copy, PartialEq, Eq)]
 pub struct Place {
-    /// Which one it is, from 1.
+    /// The number of the line or instruction, from 1.
     pub number: u64,
-    /// Where it begins: in bytes from the start of the section, or of the stream behind its type.
+    /// Where it begins, in bytes from the start of the section, or of the stream after its type.
     pub offset: u64,
 }
 
@@ -36,7 +36,7 @@ impl fmt::Display for Place {
     }
 }
 
-/// The allocator refused. The call can be made again.
+/// The allocator refused. Repeat the call later.
 #[derive(Debug, Clone, Copy, PartialEq, Eq)]
 pub struct NoMemory;
 
@@ -87,10 +87,10 @@ impl std::error::Error for SettingsError {}
 #[derive(Debug, Clone, Copy, PartialEq, Eq)]
 #[non_exhaustive]
 pub enum EncodingError {
-    /// The decoder stream can't be interpreted, and the encoder is over. The instruction that was refused, where this
-    /// call read it.
+    /// The decoder stream can't be interpreted (RFC 9204, section 4.4). Close the connection: the encoder is unusable, and
+    /// each later call returns this error.
     DecoderStream {
-        /// Its place on the stream.
+        /// The place of the invalid instruction on the stream. `None` in an error of a call that does not read it.
         instruction: Option<Place>,
     },
     /// The number of the stream is 2^62 or more; nothing was done.
@@ -114,7 +114,7 @@ impl EncodingError {
         }
     }
 
-    /// The error of a status, `invalid` being what the call answers for an argument out of its range.
+    /// Returns the error for a status. `invalid` is the call's error for an argument out of range.
     pub(crate) fn of(status: i32, invalid: EncodingError, instruction: Option<Place>) -> EncodingError {
         match status {
             DECODER_STREAM_ERROR => EncodingError::DecoderStream { instruction },
@@ -154,26 +154,28 @@ impl From<NoMemory> for EncodingError {
 #[derive(Debug, Clone, Copy, PartialEq, Eq)]
 #[non_exhaustive]
 pub enum DecodingError {
-    /// A section can't be interpreted, or blocks a stream too many, and the decoder is over. The line that was refused,
-    /// where this call read it; `None` also for the prefix, and for a stream too many.
+    /// A section can't be interpreted, or one stream too many is blocked (RFC 9204, sections 2.1.2 and 4.5). Close the
+    /// connection: the decoder is unusable, and each later call returns this error.
     DecompressionFailed {
-        /// Its place in the section.
+        /// The place of the invalid line in the first section that failed. `None` if its prefix is invalid, if a stream
+        /// too many is blocked, and in an error of a call that decodes no section.
         line: Option<Place>,
     },
-    /// The encoder stream can't be interpreted, and the decoder is over. The instruction that was refused, where this
-    /// call read it.
+    /// The encoder stream can't be interpreted (RFC 9204, section 4.3). Close the connection: the decoder is unusable, and
+    /// each later call returns this error.
     EncoderStream {
-        /// Its place on the stream.
+        /// The place of the invalid instruction on the stream. `None` in an error of a call that does not read it.
         instruction: Option<Place>,
     },
-    /// The sizes of the section's fields sum to more than the limit: an error of its stream alone.
+    /// The sizes of the section's fields sum to more than `max_section_size` (RFC 9114, section 4.2.2). The connection
+    /// goes on: refuse the message, and cancel its stream.
     TooLarge,
     /// The number of the stream is 2^62 or more; nothing was done.
     StreamId,
-    /// The allocator refused; the call can be made again. Of the bytes that were handed to
-    /// [`receive`](crate::connection::ConnectionDecoder::receive) some were taken: hand in the others, be it none.
+    /// The allocator refused. Repeat the call later.
     NoMemory {
-        /// How many were taken; 0 of any other call.
+        /// How many bytes [`receive`](crate::connection::ConnectionDecoder::receive) read: pass it those after them, even
+        /// if there are none. 0 for any other call.
         taken: usize,
     },
     /// A status that this crate does not know: the library is of another version.
