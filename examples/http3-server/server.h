@@ -1,0 +1,142 @@
+/* The parts of the example server: bytes, connections and streams, and what quic.c, http3.c, qpack.c and pages.c do
+ * with them. */
+#ifndef SERVER_H
+#define SERVER_H
+
+#include <gnutls/gnutls.h>
+#include <h3_qpack.h>
+#include <netinet/in.h>
+#include <ngtcp2/ngtcp2.h>
+#include <ngtcp2/ngtcp2_crypto.h>
+#include <stdint.h>
+#include <stdio.h>
+
+/* Ends the program with a message if |x| does not hold. */
+#define CHECK(x) ((x) ? (void)0 : stop_at(__FILE__, __LINE__, #x))
+_Noreturn void stop_at(const char *file, int line, const char *what);
+
+/* ---- Bytes (bytes.c) */
+
+typedef struct bytes {
+  uint8_t *at;
+  size_t len, room;
+} bytes;
+
+void add(bytes *b, const void *p, size_t len);
+void add_text(bytes *b, const char *format, ...) __attribute__((format(printf, 2, 3)));
+void add_varint(bytes *b, uint64_t value);
+void add_hex(bytes *b, const uint8_t *p, size_t len);
+void add_json(bytes *b, const uint8_t *p, size_t len); /* a string, each byte as the character of its number */
+void drop(bytes *b);
+
+/* Reads a varint (RFC 9000, section 16), and moves |*at| past it. Returns 0 if it is not whole. */
+int take_varint(const uint8_t **at, const uint8_t *end, uint64_t *value);
+
+/* ---- Settings of this server, from the command line */
+
+typedef struct options {
+  int port;
+  uint64_t capacity, blocked, limit; /* what the decoder sends as its settings */
+  uint64_t encoder_capacity;         /* the capacity of the encoder's table, if the peer allows it */
+  int late;                          /* so many milliseconds the encoder stream is held back, to have the peer wait */
+  int lose;                          /* one datagram in so many that arrive is lost; 0: none */
+  const char *folder, *certificate, *key, *log;
+} options;
+
+extern options option;
+
+/* ---- Connections and streams */
+
+/* Bytes that were handed to QUIC, and are kept until they are acknowledged. */
+typedef struct chunk {
+  struct chunk *next;
+  size_t len, sent, acknowledged;
+  uint8_t at[];
+} chunk;
+
+typedef struct stream {
+  int64_t id;
+  struct stream *next;
+  /* receiving */
+  int64_t type;          /* of a unidirectional stream; -1 until it is read */
+  bytes in;              /* what is received and not read */
+  int has_ended;         /* the peer ended it */
+  int is_waiting;        /* its section is blocked, and is kept at the front of |in| */
+  int is_given_up;       /* it was reset or refused: what still arrives is dropped */
+  int has_fields;        /* the request's section was decoded */
+  int is_answered;
+  h3_qpack_nv *fields;   /* of the request, in |text| */
+  size_t field_count;
+  uint8_t *text;
+  bytes body;
+  /* sending */
+  chunk *first, *last, *unsent;
+  int ends;              /* it ends after its last chunk */
+  int is_ended;          /* QUIC has the end */
+  int is_queued, is_full, is_shut;
+  struct stream *next_queued;
+} stream;
+
+enum { CONTROL, ENCODER, DECODER, OWN_STREAMS };
+
+typedef struct connection {
+  struct connection *next;
+  unsigned number;
+  ngtcp2_conn *quic;
+  ngtcp2_crypto_conn_ref ref;
+  gnutls_session_t tls;
+  ngtcp2_cid first_id;
+  struct sockaddr_in peer;
+  ngtcp2_connection_close_error error;
+  int is_open, is_closing, is_over;
+  stream *streams;                  /* of the peer */
+  stream own[OWN_STREAMS];          /* opened by this side */
+  stream *first_queued, *last_queued;
+  int has_settings;                 /* the peer's */
+  h3_qpack_encoder encoder;
+  h3_qpack_decoder decoder;
+  uint64_t encoder_stream_due;
+  bytes events;                     /* lines of JSON: what QPACK did, for /live and the log */
+} connection;
+
+/* ---- QUIC (quic.c) */
+
+void serve(void);
+stream *stream_of(connection *c, int64_t id); /* NULL if there is none */
+void send_on(connection *c, stream *s, const uint8_t *p, size_t len);
+void end_stream(connection *c, stream *s);
+void reset_stream(connection *c, stream *s, uint64_t code);
+void end_connection(connection *c, uint64_t code, const char *why);
+uint64_t now(void);
+
+/* ---- HTTP/3 (http3.c) */
+
+void open_http3(connection *c);                  /* the handshake is complete */
+void receive_on(connection *c, stream *s);       /* bytes or the end of a stream arrived */
+void give_up(connection *c, stream *s);          /* the peer reset the stream, or it closed */
+void free_stream(stream *s);
+
+/* ---- QPACK (qpack.c) */
+
+void open_qpack(connection *c);
+void take_settings(connection *c, uint64_t max_capacity, uint64_t max_blocked);
+void read_instructions(connection *c, stream *s);
+int read_section(connection *c, stream *s, const uint8_t *section, size_t len);
+void cancel_section(connection *c, stream *s);
+void send_section(connection *c, stream *s, const h3_qpack_nv *nva, size_t nvlen, bytes *out);
+void send_instructions(connection *c);
+void close_qpack(connection *c);
+
+/* ---- Answers (pages.c) */
+
+void answer(connection *c, stream *s);
+
+/* ---- Events: a line of JSON each (events.c) */
+
+void add_event(connection *c, const char *kind, const char *format, ...) __attribute__((format(printf, 3, 4)));
+void add_bytes_event(connection *c, const char *kind, unsigned type, const uint8_t *p, size_t len);
+void add_section_event(connection *c, const char *kind, const stream *s, size_t required, const uint8_t *section,
+                       size_t len, const h3_qpack_nv *nva, size_t nvlen);
+void add_fields(bytes *b, const h3_qpack_nv *nva, size_t nvlen); /* as [["name","value"],..] */
+
+#endif

@@ -1,0 +1,170 @@
+// Asks the server each second what QPACK did on this connection, and shows both tables and the last sections.
+'use strict';
+
+const SHOWN_SECTIONS = 12, SHOWN_ENTRIES = 25;
+
+// One direction: the table that its decoder has, and what its sections took.
+class Direction {
+  constructor(maximum) {
+    this.table = new Table(maximum);
+    this.sections = [];
+    this.waiting = []; // sections that came before the instructions that they require
+    this.count = this.sectionBytes = this.textBytes = this.wrong = 0;
+    this.kinds = {};
+    this.answers = {acknowledgments: 0, cancellations: 0, increments: 0};
+  }
+
+  receive(bytes) {
+    this.table.receive(bytes);
+    const ready = this.waiting.filter(event => event.required <= this.table.insertCount);
+    this.waiting = this.waiting.filter(event => event.required > this.table.insertCount);
+    ready.forEach(event => this.addSection(event));
+  }
+
+  section(event) {
+    if (event.required > this.table.insertCount) this.waiting.push(event);
+    else this.addSection(event);
+  }
+
+  addSection({id, hex, fields}) {
+    const bytes = bytesOf(hex), lines = this.table.lines(bytes);
+    const isWrong = lines.length !== fields.length ||
+      lines.some(({name, value}, i) => name !== fields[i][0] || value !== fields[i][1]);
+    const textBytes = fields.reduce((sum, [name, value]) => sum + name.length + value.length + 4, 0);
+    for (const {how} of lines) this.kinds[how] = (this.kinds[how] || 0) + 1;
+    this.sections.unshift({id, bytes: bytes.length, textBytes, lines, isWrong});
+    this.sections.length = Math.min(this.sections.length, SHOWN_SECTIONS);
+    this.count++;
+    this.sectionBytes += bytes.length;
+    this.textBytes += textBytes;
+    this.wrong += isWrong;
+  }
+
+  // The decoder stream of this direction (RFC 9204, section 4.4). Its pieces here are whole instructions.
+  answer(bytes) {
+    const reader = new Reader(bytes);
+    while (!reader.isAtEnd) {
+      const first = bytes[reader.at];
+      if (first & 0x80) reader.integer(7), this.answers.acknowledgments++;
+      else if (first & 0x40) reader.integer(6), this.answers.cancellations++;
+      else this.answers.increments += reader.integer(6);
+    }
+  }
+}
+
+let received = null, sent = null, from = 0, isPaused = false, settings = {};
+
+function take(event) {
+  switch (event.event) {
+    case 'begin':
+      settings.ours = event;
+      received = new Direction(event.capacity);
+      break;
+    case 'settings':
+      settings.theirs = event;
+      sent = new Direction(event.capacity);
+      break;
+    case 'received':
+      if (event.type === 2) received.receive(bytesOf(event.hex));
+      else sent.answer(bytesOf(event.hex));
+      break;
+    case 'sent':
+      if (event.type === 2) sent.receive(bytesOf(event.hex));
+      else received.answer(bytesOf(event.hex));
+      break;
+    case 'section received':
+      received.section(event);
+      break;
+    case 'section sent':
+      sent.section(event);
+      break;
+  }
+}
+
+function element(tag, className = '', text = '') {
+  const made = document.createElement(tag);
+  made.className = className;
+  made.textContent = text;
+  return made;
+}
+
+function row(tag, cells) {
+  const made = element('tr');
+  cells.forEach((cell, i) => made.append(element(tag, i < 2 ? 'number' : '', cell)));
+  return made;
+}
+
+function showTable(table) {
+  const shown = element('table'), {entries, dropped} = table;
+  shown.append(row('th', ['index', 'used', 'name', 'value']));
+  for (let i = entries.length - 1; i >= Math.max(0, entries.length - SHOWN_ENTRIES); i--)
+    shown.append(row('td', [dropped + i, entries[i].uses, entries[i].name, entries[i].value]));
+  return shown;
+}
+
+function showSection({id, bytes, textBytes, lines, isWrong}) {
+  const title = `stream ${id}: ${bytes} bytes for ${textBytes}${isWrong ? ', WRONG' : ''} `;
+  const shown = element('div', isWrong ? 'wrong' : '', title);
+  for (const {how, name, value} of lines) {
+    const field = element('span', 'field ' + how, `${name}: ${value}`);
+    field.title = field.textContent;
+    shown.append(field);
+  }
+  return shown;
+}
+
+function show(id, title, direction) {
+  if (!direction) return;
+  const {table, answers} = direction, {name, literal, duplicate} = table.insertions;
+  const share = direction.textBytes ? (100 * direction.sectionBytes / direction.textBytes).toFixed(1) : '0';
+  const bar = element('div', 'bar'), full = element('i');
+  full.style.width = (table.capacity ? 100 * table.size / table.capacity : 0) + '%';
+  bar.append(full);
+  document.getElementById(id).replaceChildren(
+    element('h2', '', title),
+    element('div', '', `${direction.count} sections, ${direction.sectionBytes} bytes for ${direction.textBytes} ` +
+      `of text (${share} %), and ${table.streamBytes} on the encoder stream`),
+    element('div', '', `${table.insertCount} insertions: ${name} with a name of a table, ${literal} spelled out, ` +
+      `${duplicate} duplicates`),
+    element('div', '', `${answers.acknowledgments} acknowledgments, ${answers.increments} insertions reported, ` +
+      `${answers.cancellations} cancellations`),
+    element('div', '', 'lines: ' + Object.entries(direction.kinds).map(([how, count]) => `${count} ${how}`).join(', ')),
+    element('div', direction.wrong ? 'wrong' : '', `${direction.wrong} sections read otherwise by this page`),
+    element('div', '', `table: ${table.size} of ${table.capacity} bytes, at most ${table.maximum}`),
+    bar, showTable(table), element('h2', '', 'The last sections'), ...direction.sections.map(showSection));
+}
+
+async function update() {
+  try {
+    if (!isPaused) {
+      const response = await fetch('/live/events?from=' + from);
+      const lines = (await response.text()).split('\n').filter(line => line);
+      from = Number(response.headers.get('x-next'));
+      lines.forEach(line => take(JSON.parse(line)));
+      const {ours, theirs} = settings;
+      document.getElementById('settings').textContent = `settings: server capacity ${ours.capacity}, ` +
+        `blocked ${ours.blocked}; browser capacity ${theirs.capacity}, blocked ${theirs.blocked}`;
+      show('received', 'Browser to server: the library decodes', received);
+      show('sent', 'Server to browser: the library encodes', sent);
+    }
+    document.getElementById('error').textContent = '';
+  } catch (error) {
+    document.getElementById('error').textContent = String(error);
+  }
+  setTimeout(update, 1000);
+}
+
+function request(turn) {
+  const body = 'x-same\tthe same in every answer\nx-turn\t' + turn + '\n';
+  const headers = {'x-page': 'the same in every request', 'x-turn': String(turn)};
+  return fetch('/echo', {method: 'POST', body, headers});
+}
+
+for (const button of document.querySelectorAll('[data-requests]'))
+  button.onclick = () => Array.from({length: Number(button.dataset.requests)}, (_, turn) => request(turn));
+document.getElementById('cookie').onclick = () => {
+  document.cookie = 'page=' + 'abcdefgh'.repeat(1 + Math.floor(Math.random() * 20)) + '; path=/';
+};
+document.getElementById('pause').onclick = () => { isPaused = !isPaused; };
+if (location.hash === '#demo') setTimeout(() => document.querySelector('[data-requests="20"]').click(), 1000);
+update();
