@@ -19,7 +19,7 @@ void h3_qpack_encoder_settings_default_versioned(uint32_t version, h3_qpack_enco
   settings->max_capacity = 0;
   settings->max_blocked = 0;
   settings->capacity = 4096;
-  settings->most_unacknowledged = 1000;
+  settings->most_unacknowledged = 100;
 }
 
 int h3_qpack_encoder_new_versioned(h3_qpack_encoder *encoder, uint32_t version,

@@ -67,7 +67,9 @@ H3_QPACK_INLINE uint32_t h3_qpack_version(void);
 /* ---- Statuses */
 
 /* A status above 0 is an error code of section 6: close the connection with it. The encoder or decoder is unusable
- * then. Each later call that can fail returns the same status again. */
+ * then. Each later encode, decode, read, set_capacity and cancel_stream returns the same status again. |number| and
+ * |offset| still locate that first error in the call that returned it, and are 0 in others. The calls that only read the
+ * last result still succeed: after a failed encode or decode the result is empty. */
 #define H3_QPACK_DECOMPRESSION_FAILED 0x200
 #define H3_QPACK_ENCODER_STREAM_ERROR 0x201
 #define H3_QPACK_DECODER_STREAM_ERROR 0x202
@@ -121,7 +123,8 @@ typedef struct h3_qpack_written {
 
 typedef struct h3_qpack_received {
   int32_t status;
-  size_t taken;    /* with H3_QPACK_OK all bytes; with H3_QPACK_ERR_NO_MEMORY those that must not be passed again */
+  size_t taken;    /* with H3_QPACK_ERR_NO_MEMORY the bytes that must not be passed again; else all bytes, or 0 if the
+                      call only returned an earlier error again */
   uint64_t number; /* the number of the invalid instruction, from 1 at the start of its stream; else 0 */
   uint64_t offset; /* the position of its first byte, from 0 after the stream type; else 0 */
 } h3_qpack_received;
@@ -151,7 +154,7 @@ typedef struct h3_qpack_decoder { void *at; } h3_qpack_decoder;
 
 typedef struct h3_qpack_encoder_settings {
   uint64_t max_capacity;        /* the peer's SETTINGS_QPACK_MAX_TABLE_CAPACITY, in bytes, below 2^30 (section 5) */
-  uint64_t max_blocked;         /* the peer's SETTINGS_QPACK_BLOCKED_STREAMS; 65,534 at most are used (section 5) */
+  uint64_t max_blocked;         /* the peer's SETTINGS_QPACK_BLOCKED_STREAMS (section 5) */
   uint64_t capacity;            /* the table capacity, in bytes; |max_capacity| if that is less (section 3.2.3) */
   uint64_t most_unacknowledged; /* while this many sections that reference the table are unacknowledged (section 4.4.1),
                                    sections reference only the static table */
@@ -167,7 +170,7 @@ typedef struct h3_qpack_decoder_settings {
 /* ---- The encoder */
 
 /* Stores the defaults in |settings|: |max_capacity| 0 and |max_blocked| 0, which are those of a peer that sends no such
- * settings, |capacity| 4,096 and |most_unacknowledged| 1,000. Does nothing if |settings| is NULL.
+ * settings, |capacity| 4,096 and |most_unacknowledged| 100. Does nothing if |settings| is NULL.
  *
  * Bindings call h3_qpack_encoder_settings_default_versioned, with the H3_QPACK_VERSION that their struct is of. It does
  * nothing for a version that _new refuses. */
@@ -242,8 +245,8 @@ H3_QPACK_INLINE h3_qpack_received h3_qpack_encoder_read_decoder(h3_qpack_encoder
  *   H3_QPACK_DECODER_STREAM_ERROR  h3_qpack_encoder_read_decoder returned it before. */
 H3_QPACK_INLINE int h3_qpack_encoder_set_capacity(h3_qpack_encoder *encoder, size_t capacity);
 
-/* Returns how many sections may be blocked at the peer: it is not known to have the insertions that they require
- * (section 2.1.2). */
+/* Returns how many streams may be blocked at the peer (section 2.1.2): of a section on each it is not known that the peer
+ * has the insertions that it requires, and neither was the section acknowledged nor the stream cancelled. */
 H3_QPACK_INLINE size_t h3_qpack_encoder_get_num_blocked(h3_qpack_encoder *encoder);
 
 /* ---- The decoder */
@@ -323,7 +326,8 @@ H3_QPACK_INLINE h3_qpack_written h3_qpack_decoder_fields(h3_qpack_decoder *decod
                                                          size_t fieldslen, uint8_t *out, size_t outlen);
 
 /* Stores in |stream_id| a blocked stream whose section can be decoded now (section 2.2.1). Decode that section, or
- * cancel the stream, before you call it again: until then it stores the same stream.
+ * cancel the stream, before you call it again: until then it stores the same stream. A loop that decodes the section of
+ * each such stream ends, except that a decode without memory leaves its stream: end the loop then.
  *
  * Returns 1, or 0 if there is none or |stream_id| is NULL. */
 H3_QPACK_INLINE int h3_qpack_decoder_next_ready(h3_qpack_decoder *decoder, uint64_t *stream_id);

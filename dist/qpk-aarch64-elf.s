@@ -35606,8 +35606,8 @@
 	ldrb	w8, [x20, #8]
 	adrp	x9, ".Lh3q_switch.table.core::fmt::formatter::Formatter::write_piece::<#aa19d8a742ec42eb>.rel"
 	add	x9, x9, :lo12:".Lh3q_switch.table.core::fmt::formatter::Formatter::write_piece::<#aa19d8a742ec42eb>.rel"
-	adrp	x13, ".Lh3q_switch.table.core::fmt::formatter::Formatter::write_piece::<#aa19d8a742ec42eb>.1052"
-	add	x13, x13, :lo12:".Lh3q_switch.table.core::fmt::formatter::Formatter::write_piece::<#aa19d8a742ec42eb>.1052"
+	adrp	x13, ".Lh3q_switch.table.core::fmt::formatter::Formatter::write_piece::<#aa19d8a742ec42eb>.1053"
+	add	x13, x13, :lo12:".Lh3q_switch.table.core::fmt::formatter::Formatter::write_piece::<#aa19d8a742ec42eb>.1053"
 	ldr	x10, [x20, #16]
 	ldrsw	x12, [x9, x8, lsl #2]
 	ldr	x8, [x13, x8, lsl #3]
@@ -80713,8 +80713,8 @@
 	adrp	x11, ".Lh3q_switch.table.qpk::serve::refuse::<#03326aa510967ad1>"
 	add	x11, x11, :lo12:".Lh3q_switch.table.qpk::serve::refuse::<#03326aa510967ad1>"
 	str	w10, [sp, #24]
-	adrp	x10, ".Lh3q_switch.table.qpk::serve::refuse::<#03326aa510967ad1>.1053"
-	add	x10, x10, :lo12:".Lh3q_switch.table.qpk::serve::refuse::<#03326aa510967ad1>.1053"
+	adrp	x10, ".Lh3q_switch.table.qpk::serve::refuse::<#03326aa510967ad1>.1054"
+	add	x10, x10, :lo12:".Lh3q_switch.table.qpk::serve::refuse::<#03326aa510967ad1>.1054"
 	sub	x23, x29, #56
 	str	x8, [sp]
 	mov	x8, #-1
@@ -86923,14 +86923,14 @@ qpk_main:
 	.word	.Lh3q_static.97-".Lh3q_switch.table.core::fmt::formatter::Formatter::write_piece::<#aa19d8a742ec42eb>.rel"
 	.size	".Lh3q_switch.table.core::fmt::formatter::Formatter::write_piece::<#aa19d8a742ec42eb>.rel", 12
 
-	.type	".Lh3q_switch.table.core::fmt::formatter::Formatter::write_piece::<#aa19d8a742ec42eb>.1052",@object
-	.section	".rodata..Lh3q_switch.table.core::fmt::formatter::Formatter::write_piece::<#aa19d8a742ec42eb>.1052","a",@progbits
+	.type	".Lh3q_switch.table.core::fmt::formatter::Formatter::write_piece::<#aa19d8a742ec42eb>.1053",@object
+	.section	".rodata..Lh3q_switch.table.core::fmt::formatter::Formatter::write_piece::<#aa19d8a742ec42eb>.1053","a",@progbits
 	.p2align	3, 0x0
-".Lh3q_switch.table.core::fmt::formatter::Formatter::write_piece::<#aa19d8a742ec42eb>.1052":
+".Lh3q_switch.table.core::fmt::formatter::Formatter::write_piece::<#aa19d8a742ec42eb>.1053":
 	.xword	14
 	.xword	14
 	.xword	6
-	.size	".Lh3q_switch.table.core::fmt::formatter::Formatter::write_piece::<#aa19d8a742ec42eb>.1052", 24
+	.size	".Lh3q_switch.table.core::fmt::formatter::Formatter::write_piece::<#aa19d8a742ec42eb>.1053", 24
 
 	.type	".Lh3q_switch.table.h3_qpack::session::streams::Streams::encode",@object
 	.section	".rodata..Lh3q_switch.table.h3_qpack::session::streams::Streams::encode","a",@progbits
@@ -86950,14 +86950,14 @@ qpk_main:
 	.xword	15
 	.size	".Lh3q_switch.table.qpk::serve::refuse::<#03326aa510967ad1>", 24
 
-	.type	".Lh3q_switch.table.qpk::serve::refuse::<#03326aa510967ad1>.1053",@object
-	.section	".data.rel.ro..Lh3q_switch.table.qpk::serve::refuse::<#03326aa510967ad1>.1053","aw",@progbits
+	.type	".Lh3q_switch.table.qpk::serve::refuse::<#03326aa510967ad1>.1054",@object
+	.section	".data.rel.ro..Lh3q_switch.table.qpk::serve::refuse::<#03326aa510967ad1>.1054","aw",@progbits
 	.p2align	3, 0x0
-".Lh3q_switch.table.qpk::serve::refuse::<#03326aa510967ad1>.1053":
+".Lh3q_switch.table.qpk::serve::refuse::<#03326aa510967ad1>.1054":
 	.xword	.Lh3q_static.235
 	.xword	.Lh3q_static.236
 	.xword	.Lh3q_static.237
-	.size	".Lh3q_switch.table.qpk::serve::refuse::<#03326aa510967ad1>.1053", 24
+	.size	".Lh3q_switch.table.qpk::serve::refuse::<#03326aa510967ad1>.1054", 24
 
 	.ident	"rattle logic=dac8208d650f15bf3e2dc313a14fa4c783a3acf887bdfab66e1714b038d9e11b"
 	.section	".note.GNU-stack","",@progbits

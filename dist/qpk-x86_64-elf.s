@@ -44752,7 +44752,7 @@
 	leaq	".Lh3q_switch.table.core::fmt::formatter::Formatter::write_piece::<#aa19d8a742ec42eb>.rel"(%rip), %rcx
 	movslq	(%rcx,%rax,4), %rdx
 	addq	%rcx, %rdx
-	leaq	".Lh3q_switch.table.core::fmt::formatter::Formatter::write_piece::<#aa19d8a742ec42eb>.1052"(%rip), %rcx
+	leaq	".Lh3q_switch.table.core::fmt::formatter::Formatter::write_piece::<#aa19d8a742ec42eb>.1053"(%rip), %rcx
 	movq	(%rcx,%rax,8), %rax
 	movq	16(%r14), %rcx
 	movq	%rdx, 64(%rsp)
@@ -99687,7 +99687,7 @@
 	shll	$3, %eax
 	leaq	".Lh3q_switch.table.qpk::serve::refuse::<#03326aa510967ad1>"(%rip), %rcx
 	movq	(%rax,%rcx), %rbx
-	leaq	".Lh3q_switch.table.qpk::serve::refuse::<#03326aa510967ad1>.1053"(%rip), %rcx
+	leaq	".Lh3q_switch.table.qpk::serve::refuse::<#03326aa510967ad1>.1054"(%rip), %rcx
 	movq	(%rax,%rcx), %r14
 	movups	%xmm0, 16(%rsp)
 	movl	$0, 65(%rsp)
@@ -104019,14 +104019,14 @@ qpk_main:
 	.long	.Lh3q_static.97-".Lh3q_switch.table.core::fmt::formatter::Formatter::write_piece::<#aa19d8a742ec42eb>.rel"
 	.size	".Lh3q_switch.table.core::fmt::formatter::Formatter::write_piece::<#aa19d8a742ec42eb>.rel", 12
 
-	.type	".Lh3q_switch.table.core::fmt::formatter::Formatter::write_piece::<#aa19d8a742ec42eb>.1052",@object
-	.section	".rodata..Lh3q_switch.table.core::fmt::formatter::Formatter::write_piece::<#aa19d8a742ec42eb>.1052","a",@progbits
+	.type	".Lh3q_switch.table.core::fmt::formatter::Formatter::write_piece::<#aa19d8a742ec42eb>.1053",@object
+	.section	".rodata..Lh3q_switch.table.core::fmt::formatter::Formatter::write_piece::<#aa19d8a742ec42eb>.1053","a",@progbits
 	.p2align	3, 0x0
-".Lh3q_switch.table.core::fmt::formatter::Formatter::write_piece::<#aa19d8a742ec42eb>.1052":
+".Lh3q_switch.table.core::fmt::formatter::Formatter::write_piece::<#aa19d8a742ec42eb>.1053":
 	.quad	14
 	.quad	14
 	.quad	6
-	.size	".Lh3q_switch.table.core::fmt::formatter::Formatter::write_piece::<#aa19d8a742ec42eb>.1052", 24
+	.size	".Lh3q_switch.table.core::fmt::formatter::Formatter::write_piece::<#aa19d8a742ec42eb>.1053", 24
 
 	.type	".Lh3q_switch.table.h3_qpack::session::Session::encode",@object
 	.section	".rodata..Lh3q_switch.table.h3_qpack::session::Session::encode","a",@progbits
@@ -104046,14 +104046,14 @@ qpk_main:
 	.quad	15
 	.size	".Lh3q_switch.table.qpk::serve::refuse::<#03326aa510967ad1>", 24
 
-	.type	".Lh3q_switch.table.qpk::serve::refuse::<#03326aa510967ad1>.1053",@object
-	.section	".data.rel.ro..Lh3q_switch.table.qpk::serve::refuse::<#03326aa510967ad1>.1053","aw",@progbits
+	.type	".Lh3q_switch.table.qpk::serve::refuse::<#03326aa510967ad1>.1054",@object
+	.section	".data.rel.ro..Lh3q_switch.table.qpk::serve::refuse::<#03326aa510967ad1>.1054","aw",@progbits
 	.p2align	3, 0x0
-".Lh3q_switch.table.qpk::serve::refuse::<#03326aa510967ad1>.1053":
+".Lh3q_switch.table.qpk::serve::refuse::<#03326aa510967ad1>.1054":
 	.quad	.Lh3q_static.235
 	.quad	.Lh3q_static.236
 	.quad	.Lh3q_static.237
-	.size	".Lh3q_switch.table.qpk::serve::refuse::<#03326aa510967ad1>.1053", 24
+	.size	".Lh3q_switch.table.qpk::serve::refuse::<#03326aa510967ad1>.1054", 24
 
 	.ident	"rattle logic=dac8208d650f15bf3e2dc313a14fa4c783a3acf887bdfab66e1714b038d9e11b"
 	.section	".note.GNU-stack","",@progbits
