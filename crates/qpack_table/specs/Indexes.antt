@@ -1,6 +1,6 @@
 -- The index of the dynamic table's live entries: rows of absolute indexes, cut by a hash of a part of their fields.
-use Rattle.std.specs.Prelude.{◌≡◌, ◌≢◌, ℕ, ◌+◌, ◌<◌, ◌≤◌, Bool, List, length, Option, MatchOption, Contains}
-use Rattle.std.specs.Prelude.{slice_index_or}
+use Rattle.std.specs.Prelude.{◌≡◌, ◌≢◌, ℕ, ◌+◌, ◌*◌, ◌<◌, ◌≤◌, ◌⊎◌, max, Bool, List, length, Option, MatchOption}
+use Rattle.std.specs.Prelude.{slice_index_or, Contains}
 use Rattle.std.specs.VecDeque.{deque_len, deque_capacity}
 use Rattle.qpack_spec.specs.Field.{Field}
 use Rattle.qpack_spec.specs.Table as table
@@ -64,6 +64,11 @@ pub record IsIndexOf (dropped : ℕ) (live : List Field) (entered : ℕ) (index 
   pub names : AreRowsOf Name dropped live entered index.names.rows.items
   pub hashes : AreAllHashesOf dropped live entered index.hashes.items
   pub matched : length index.names.rows.items ≡ length index.fields.rows.items
+
+-- an index of so many entries that makes room for one more keeps its rows; or it makes more where they would be fewer than
+-- the entries: four times as many, and 32 at least
+abbrev pub GrowsRows : (entries old new : ℕ) → Type 0
+GrowsRows entries old new = (new ≡ old) ⊎ ((old ≤ entries) × (new ≤ max (4 * old) 32))
 
 -- there is room for one more entry with such hashes
 pub record HasRoomForEntry (hashes : Hashes) (index : Index) : Type 0 where

@@ -9,6 +9,7 @@ ghost use Rattle.qpack_table.specs.Tables.{entries_of, live_fields};
 ghost use Rattle.qpack_table.specs.declared.dynamic.index.hash.Hashes.{Hashes};
 ghost use Rattle.qpack_table.specs.Hashes.{name_hash};
 ghost use Rattle.qpack_table.specs.Indexes.{AreHashesOf, IsIndexOf, HasRoomForEntry, IsNewestIn};
+ghost use Rattle.qpack_table.specs.Indexes.{GrowsRows};
 
 mod group;
 mod hash;
@@ -32,9 +33,8 @@ use std::collections::VecDeque;
 /// The least number of rows, once there are any.
 const LEAST_ROWS: usize = 32;
 
-/// How many times as many rows there are where they would be fewer than the entries. With 32 rows first, a table of
-/// 4096
-/// bytes, which has at most 128 entries, makes its rows anew once.
+/// How many times as many rows are made where they would be fewer than the entries. With 32 rows first, a table of 4,096
+/// bytes, which has at most 128 entries, makes more rows once.
 const GROWTH: usize = 4;
 
 /// The newest live entry of each different field, and of each different name. There are at least as many rows of
@@ -155,7 +155,8 @@ impl Index {
         self.names.newest(entries, dropped, &sought, steps)
     }
 
-    /// Makes room for one entry more, with such hashes. On error the index is as before.
+    /// Makes room for one entry more, with such hashes. Where the rows would be fewer than the entries, it makes four
+    /// times as many, and at least 32. On error the index is as before.
     #[inline(always)]
     pub(super) fn reserve(
         &mut self,
@@ -166,6 +167,8 @@ impl Index {
         requires index { IsIndexOf dropped (live_fields entries.now.items) (length entries.now.items) self.old }
         requires few { dropped + length entries.now.items ≤ 2 ^ 62 }
         ensures index { IsIndexOf dropped (live_fields entries.now.items) (length entries.now.items) self.new }
+        ensures rows { GrowsRows (length entries.now.items) (length self.old.fields.rows.items)
+            (length self.new.fields.rows.items) }
         ensures room { OnOk result (HasRoomForEntry hashes self.new) }
     {
         let count = self.fields.count();
