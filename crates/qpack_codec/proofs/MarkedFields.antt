@@ -2,7 +2,8 @@
 use Rattle.std.proofs.Common.{◌≡◌, ℕ, zero, suc, List, [], ◌∷◌, ◌++◌, map, take, Bool, true, false, cond, Option}
 use Rattle.std.proofs.Common.{Some, None, refl}
 use Rattle.std.proofs.Common.{sym, ap, subst, ◌∙◌, inl, inr, append-nil, append_assoc, Result, Ok, Err, ◌+◌, ◌<◌}
-use Rattle.std.proofs.Common.{get_or, length}
+use Rattle.std.proofs.Common.{get_or, length, length-append, ◌≤◌, arith, vec_len, vec_capacity}
+use Rattle.std.specs.declared.vec.Vec.{Vec}
 use Rattle.std.specs.Borrow.{Bor}
 use Rattle.std.specs.Prelude.{OnOk, OnErr, IfOk}
 use Rattle.std.proofs.lemmas.Bool.{cond_both}
@@ -13,7 +14,7 @@ use Rattle.qpack_spec.specs.Instruction.{written_encoder_instructions}
 use Rattle.qpack_spec.specs.Line.{Line, written_line, written_lines, written_marked_line}
 use Rattle.qpack_spec.specs.Marked.{marked_rule, written_marked_lines, written_marked_block, stateless_line_marked}
 use Rattle.qpack_spec.specs.Marked.{stateless_block_marked}
-use Rattle.qpack_spec.specs.Prefix.{written_prefix, prefix_for}
+use Rattle.qpack_spec.specs.Prefix.{Prefix, written_prefix, prefix_for}
 use Rattle.qpack_spec.specs.Rule.{Draft, rule, block_of, required_insert_count, committed_table}
 use Rattle.qpack_spec.specs.Stateless.{stateless_line, stateless_literal}
 use Rattle.qpack_spec.specs.StaticTable.{static_name_index}
@@ -265,6 +266,77 @@ stateless_grown line xs i x l before mid now within is lent so_far more =
     ∙ append_assoc before (written_stateless (map line (take i xs)))
     (written_marked_line l.never_indexed (stateless_line_marked l))
     ∙ ap (λ (b : List ℕ). before ++ b) (sym (stateless_more (map line (take i xs)) l)))
+
+-- the lines of the first fields are no longer than those of all
+stateless_lines_front : {H : Type 0} (line : H → FieldLine) (xs : List H) (n : ℕ)
+    → length (written_marked_lines (map line (take n xs)) (map (λ k. stateless_line_marked k) (map line (take n xs))))
+    ≤ length (written_marked_lines (map line xs) (map (λ k. stateless_line_marked k) (map line xs)))
+unfolding written_marked_lines written_lines
+stateless_lines_front {H} line xs zero = omega arith
+stateless_lines_front {H} line [] (suc n) = omega arith
+stateless_lines_front {H} line (x ∷ xs) (suc n) =
+    let first = written_marked_line (line x).never_indexed (stateless_line_marked (line x)) in
+    let lines : List H → List ℕ =
+    λ ys. written_marked_lines (map line ys) (map (λ k. stateless_line_marked k) (map line ys)) in
+    omega (
+      arith,
+      length-append first (lines (take n xs)),
+      length-append first (lines xs),
+      stateless_lines_front line xs n,
+    )
+
+-- so is the block of the first fields no longer than that of all
+pub stateless_front : {H : Type 0} (line : H → FieldLine) (xs : List H) (n : ℕ)
+    → length (written_stateless (map line (take n xs))) ≤ length (written_stateless (map line xs))
+unfolding written_marked_block
+stateless_front {H} line xs n =
+    let p = written_prefix (record { count = 0; sign = false; delta = 0 }) in
+    let lines : List H → List ℕ =
+    λ ys. written_marked_lines (map line ys) (map (λ k. stateless_line_marked k) (map line ys)) in
+    omega (
+      arith,
+      length-append p (lines (take n xs)),
+      length-append p (lines xs),
+      stateless_lines_front line xs n,
+    )
+
+-- where the block fits, its prefix does
+pub prefix_fits : {H A : Type 0} (line : H → FieldLine) (xs : List H) (v : Vec ℕ A) {p : Prefix}
+    → p ≡ prefix_for 0 0 0
+    → vec_len v + length (written_stateless (map line xs)) ≤ vec_capacity v
+    → vec_len v + length (written_prefix p) ≤ vec_capacity v
+prefix_fits line xs v is fits =
+    omega (
+      arith,
+      fits,
+      stateless_front line xs 0,
+      ap (λ (l : List ℕ). length l) (stateless_begun [] (written_prefix (prefix_for 0 0 0)) refl),
+      ap (λ (p : Prefix). length (written_prefix p)) is,
+    )
+
+-- so does each line behind those that are written
+pub line_fits : {H A : Type 0} (line : H → FieldLine) (xs : List H) (i : ℕ) (x : H) (l : FieldLine)
+    (first mid : Vec ℕ A) → i < length xs → x ≡ get_or xs i x → l ≡ line x
+    → mid.items ≡ first.items ++ written_stateless (map line (take i xs))
+    → (vec_len mid ≤ vec_capacity first → vec_capacity mid ≡ vec_capacity first)
+    → vec_len first + length (written_stateless (map line xs)) ≤ vec_capacity first
+    → vec_len mid + length (written_marked_line l.never_indexed (stateless_line_marked l)) ≤ vec_capacity mid
+line_fits line xs i x l first mid within is lent so_far still fits =
+    let next = written_marked_line l.never_indexed (stateless_line_marked l) in
+    let more : mid.items ++ next ≡ first.items ++ written_stateless (map line (take (i + 1) xs)) =
+    stateless_grown line xs i x l first.items mid.items (mid.items ++ next) within is lent so_far refl in
+    let lengths = ap (λ (l : List ℕ). length l) more in
+    let long : vec_len mid + length next ≤ vec_capacity first = omega (
+      arith,
+      fits,
+      lengths,
+      stateless_front line xs (i + 1),
+      length-append mid.items next,
+      length-append first.items (written_stateless (map line (take (i + 1) xs))),
+      first.ok.0,
+      mid.ok.0,
+    ) in
+    omega (arith, long, still (omega (arith, long)))
 
 -- the line of a field that may be indexed
 pub alone_unmarked : (l : FieldLine) → l.never_indexed ≡ false

@@ -1,6 +1,7 @@
 //! Field sections that reference no entry, of field lines that are lent (RFC 9204, sections 2.1 and 4.5).
 
-ghost use Rattle.std.specs.Prelude.{◌≡◌, ◌++◌, ◌≤◌, true, map, IfErr, OnOk, OnErr, take, vec_len, vec_capacity};
+ghost use Rattle.std.specs.Prelude.{◌≡◌, ◌+◌, ◌++◌, ◌≤◌, true, map, IfErr, IsOk, OnOk, OnErr, length, take, vec_len};
+ghost use Rattle.std.specs.Prelude.{vec_capacity};
 ghost use Rattle.qpack_spec.specs.Line.{written_line, written_marked_line};
 ghost use Rattle.qpack_spec.specs.Marked.{stateless_line_marked, stateless_block_marked, written_marked_block};
 ghost use Rattle.qpack_spec.specs.Stateless.{stateless_line, stateless_literal};
@@ -20,8 +21,8 @@ use std::alloc::Allocator;
 
 /// Appends the section of field lines that is written without a dynamic table, as `encode_stateless` writes it: it
 /// references no entry, and is never blocked. A field line that is never to be indexed is a literal that says so, by
-/// the first static field of its name if there is one (RFC 9204, section 7.1.3). On error, which is want of memory alone,
-/// the vector is as before.
+/// the first static field of its name if there is one (RFC 9204, section 7.1.3). Room for the section is enough, and
+/// then is not grown. On error, which is for memory alone, the vector is as before.
 pub fn encode_section_stateless<A: Allocator, H: AsField>(
     block: &mut Vec<u8, A>,
     fields: &[H],
@@ -30,7 +31,11 @@ pub fn encode_section_stateless<A: Allocator, H: AsField>(
         ++ written_marked_block (map H.line fields.now) (stateless_block_marked (map H.line fields.now))) }
     ensures err { OnErr result (block.new.items ≡ block.old.items) }
     ensures memory { IfErr result (λ e. e ≡ Memory) }
+    ensures succeeds { vec_len block.old + length (written_marked_block (map H.line fields.now)
+        (stateless_block_marked (map H.line fields.now))) ≤ vec_capacity block.old → IsOk result }
     ensures capacity { vec_capacity block.old ≤ vec_capacity block.new }
+    ensures still { OnOk result
+        (vec_len block.new ≤ vec_capacity block.old → vec_capacity block.new ≡ vec_capacity block.old) }
 {
     let len = block.len();
     let appended = append_section(block, fields);
@@ -48,6 +53,8 @@ pub(crate) fn append_section<A: Allocator, H: AsField>(
     ensures ok { OnOk result (block.new.items ≡ block.old.items
         ++ written_marked_block (map H.line fields.now) (stateless_block_marked (map H.line fields.now))) }
     ensures err { OnErr result (take (vec_len block.old) block.new.items ≡ block.old.items) }
+    ensures succeeds { vec_len block.old + length (written_marked_block (map H.line fields.now)
+        (stateless_block_marked (map H.line fields.now))) ≤ vec_capacity block.old → IsOk result }
     ensures capacity { vec_capacity block.old ≤ vec_capacity block.new }
     ensures still { OnOk result
         (vec_len block.new ≤ vec_capacity block.old → vec_capacity block.new ≡ vec_capacity block.old) }

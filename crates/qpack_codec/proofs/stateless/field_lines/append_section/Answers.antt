@@ -2,8 +2,9 @@ use Rattle.std.proofs.Common.{◌++◌, ap, sym, ◌∙◌, arith, map, take}
 use Rattle.std.proofs.lemmas.Result.{err_from_is_err_and}
 use Rattle.qpack_spec.specs.Prefix.{Prefix, written_prefix}
 use Rattle.qpack_base.specs.HeaderFields.{line_of}
-use Rattle.qpack_codec.proofs.MarkedFields.{written_stateless, stateless_begun, stateless_grown}
+use Rattle.qpack_codec.proofs.MarkedFields.{written_stateless, stateless_begun, stateless_grown, prefix_fits, line_fits}
 use Rattle.qpack_codec.proofs.WrittenBlocks.{take-append_front}
+use Rattle.qpack_codec.proofs.Rooms.{no_err}
 use Rattle.qpack_codec.proofs.Stills.{still_written, still_next, longer_written}
 use Rattle.qpack_codec.proofs.stateless.field_lines.append_section.Goals as goal
 
@@ -26,6 +27,18 @@ returns-in_err-append_line-clause-err g c =
     (written_stateless (map g.H.AsField.line (take c.loop-field.field-index c.args.fields.now)))
     c.loop-field.block.items c.append_line.new.block.items _ (sym c.args.block.now.ok.0)
     c.in_err-append_line.ensures.writes.err c.loop-field.invariant.written)
+
+pub returns-in_err-encode-clause-succeeds : goal.returns-in_err-encode-clause-succeeds
+returns-in_err-encode-clause-succeeds g c fits =
+    absurd (no_err c.encode.result c.in_err-encode.field-0.0 (c.encode.ensures.writes.succeeds
+    (prefix_fits g.H.AsField.line c.args.fields.now c.args.block.now c.new.ensures fits)) c.in_err-encode.was)
+
+pub returns-in_err-append_line-clause-succeeds : goal.returns-in_err-append_line-clause-succeeds
+returns-in_err-append_line-clause-succeeds g c fits =
+    absurd (no_err c.append_line.result c.in_err-append_line.field-0.0 (c.append_line.ensures.writes.succeeds
+    (line_fits g.H.AsField.line c.args.fields.now c.loop-field.field-index c.field-item.result
+    (line_of c.as_field.result) c.args.block.now c.loop-field.block (omega arith) c.field-item.is c.as_field.ensures
+    c.loop-field.invariant.written c.loop-field.invariant.still fits)) c.in_err-append_line.was)
 
 pub loop-field-preserved : goal.loop-field-preserved
 loop-field-preserved g c = record {
