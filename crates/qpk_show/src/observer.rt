@@ -3,7 +3,7 @@
 
 ghost use Rattle.std.specs.Prelude.{◌≡◌, ◌^◌, ◌≤◌, ◌<◌, ◌++◌, ◌∷◌, [], ℕ, List, None, Some, position, length, set};
 ghost use Rattle.std.specs.Prelude.{remove};
-ghost use Rattle.std.specs.Prelude.{slice_get, IfOk, OnOk, OnErr, MatchOption, ◌&&◌, not};
+ghost use Rattle.std.specs.Prelude.{slice_get, IfOk, OnOk, OnErr, OnErr, MatchOption, ◌&&◌, not};
 ghost use Rattle.std.specs.List.{list_any};
 ghost use Rattle.qpack_spec.specs.Table.{insert_count};
 ghost use Rattle.qpk_show.specs.Showing.{is_due, waits_on, blocked_streams, may_wait, next_shown, next_told};
@@ -139,24 +139,26 @@ impl Observer {
         self.decoder_stream.cut()
     }
 
-    /// Bytes of the encoder stream come.
+    /// Takes bytes of the encoder stream. On error, which is for memory alone, nothing changes.
     pub fn receive_encoder(&mut self, bytes: &[u8]) -> Result<(), AllocError>
-        ensures { OnOk result (self.new ≡ record self.old {
+        ensures ok { OnOk result (self.new ≡ record self.old {
           encoder_stream = record self.old.encoder_stream {
             received = self.old.encoder_stream.received ++ bytes.now;
           };
         }) }
+        ensures err { OnErr result (self.new ≡ self.old) }
     {
         self.encoder_stream.receive(bytes)
     }
 
-    /// Bytes of the decoder stream come.
+    /// Takes bytes of the decoder stream. On error, which is for memory alone, nothing changes.
     pub fn receive_decoder(&mut self, bytes: &[u8]) -> Result<(), AllocError>
-        ensures { OnOk result (self.new ≡ record self.old {
+        ensures ok { OnOk result (self.new ≡ record self.old {
           decoder_stream = record self.old.decoder_stream {
             received = self.old.decoder_stream.received ++ bytes.now;
           };
         }) }
+        ensures err { OnErr result (self.new ≡ self.old) }
     {
         self.decoder_stream.receive(bytes)
     }
