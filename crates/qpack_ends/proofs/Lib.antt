@@ -20,3 +20,6 @@ pub mod HeardBytes
 pub mod HeardStreams
 pub mod Wishes
 pub mod SentBytes
+pub mod SpansInTurn
+pub mod NoFields
+pub mod AskingToReceive

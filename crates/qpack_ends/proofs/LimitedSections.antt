@@ -8,7 +8,8 @@ use Rattle.qpack_spec.specs.Rule.{Draft, required_insert_count, block_of, commit
 use Rattle.qpack_spec.specs.Table.{Table, commit, without_references}
 use Rattle.std.specs.List.{list_any}
 use Rattle.std.specs.Prelude.{nat_eq, nat_lt, ◌||◌}
-use Rattle.std.proofs.Common.{Ok, Option, None, Some, IfSome}
+use Rattle.std.proofs.Common.{Result, Ok, Err, Option, None, Some, IfSome}
+use Rattle.std.specs.Prelude.{OnOk, is_err}
 use Rattle.qpack_spec.specs.Instruction.{DecoderInstruction}
 use Rattle.qpack_spec.specs.StrictInstructions.{hear_in_turn}
 use Rattle.qpack_spec.specs.Table.{has_number, with_capacity}
@@ -235,3 +236,13 @@ pub written_known : (stream : ℕ) (fields : List FieldLine) (t u : Table) (befo
     → u.known_received_count ≡ t.known_received_count
 written_known stream fields t u before after written more required k =
     ap (λ (x : Table). x.known_received_count) k.table ∙ committed_known t fields k.choices stream
+
+-- what holds where a call did what it was asked for
+pub where_done : {A E : Type 0} {P : Type 0} (r : Result A E) → is_err r ≡ false → OnOk r P → P
+where_done (Ok x) is k = k
+where_done (Err e) is k = absurd cc
+
+-- a section that requires more than is known is of a stream that may be blocked
+pub may_be : (may : Bool) (required known : ℕ) → (may ≡ false → required ≤ known) → known < required → may ≡ true
+may_be true required known k above = refl
+may_be false required known k above = absurd (let low = k refl in omega (arith, above, low))

@@ -1,10 +1,8 @@
 -- Which streams may be blocked, on examples (RFC 9204, section 2.1.2).
-use Rattle.std.proofs.Common.{◌≡◌, ℕ, Bool, true, false, List, [], ◌∷◌, Some, Ok, refl}
-use Rattle.qpack_spec.specs.Instruction.{Acknowledgment, Cancellation, Increment}
+use Rattle.std.proofs.Common.{◌≡◌, ℕ, List, [], ◌∷◌, Some, refl}
 use Rattle.qpack_spec.specs.Reading.{greatest_of}
-use Rattle.qpack_spec.specs.StrictInstructions.{strict_hear}
-use Rattle.qpack_spec.specs.Table.{Table, Entry, UnacknowledgedBlock, empty_table, with_number, without_oldest}
-use Rattle.qpack_spec.specs.Table.{without_stream, apply_decoder_instruction, with_increment}
+use Rattle.qpack_spec.specs.Table.{Table, UnacknowledgedBlock, empty_table, with_number}
+use Rattle.qpack_spec.specs.Table.{without_stream}
 use Rattle.qpack_ends.specs.Risk.{streams_at_risk}
 
 section : ℕ → List ℕ → UnacknowledgedBlock

@@ -1,6 +1,6 @@
 -- The lines of a section, read one behind the other.
 use Rattle.std.proofs.Common.{◌≡◌, ℕ, zero, suc, ◌+◌, ◌-◌, ◌<◌, ◌≤◌, List, [], ◌∷◌, ◌++◌, length, Result, Ok, Err}
-use Rattle.std.proofs.Common.{refl, sym, ap, subst, ◌∙◌, arith, append_assoc, append-nil, length-append, drop}
+use Rattle.std.proofs.Common.{refl, sym, ap, subst, ◌∙◌, arith, append_assoc, append-nil, drop}
 use Rattle.std.specs.Prelude.{slice_range, slice_get, None, Some}
 use Rattle.std.specs.List.{AllByRecursion}
 use Rattle.std.proofs.lemmas.List.{take-append-le, drop-append-le, length-drop}
@@ -43,18 +43,6 @@ map_last : (text : List ℕ) (spans : List Span) (s : Span) → fields_in text (
 map_last text [] s = refl
 map_last text (t ∷ spans) s = ap (λ fs. field_at text t ∷ fs) (map_last text spans s)
 
-longer : (m n : ℕ) (spans : List Span) → m ≤ n → AllByRecursion (IsWithin m) spans → AllByRecursion (IsWithin n) spans
-longer m n [] le w = tt
-longer m n (s ∷ spans) le w = (
-  record { name = w.0.name; value = w.0.value; within = omega (arith, le, w.0.within) },
-  longer m n spans le w.1,
-)
-
-all_last : (n : ℕ) (spans : List Span) (s : Span) → AllByRecursion (IsWithin n) spans → IsWithin n s
-    → AllByRecursion (IsWithin n) (spans ++ s ∷ [])
-all_last n [] s w h = (h, tt)
-all_last n (t ∷ spans) s w h = (w.0, all_last n spans s w.1 h)
-
 -- with one more field, the fields are those before it and it
 pub fields_more : (old new : CursorView) (text_old text_new : List ℕ) (spans_old spans_new : List Span) (all sum : ℕ)
     (read : Result (FieldLine × List ℕ) LineFault)
@@ -66,17 +54,6 @@ fields_more old new text_old text_new spans_old spans_new all sum read a w =
     ∙ ap (λ f. fields_in text_new spans_old ++ f ∷ []) a.at
     ∙ ap (λ t. fields_in t spans_old ++ a.field ∷ []) a.text
     ∙ ap (λ fs. fs ++ a.field ∷ []) (fields_again text_old a.more spans_old w)
-
-pub within_more : (old new : CursorView) (text_old text_new : List ℕ) (spans_old spans_new : List Span) (all sum : ℕ)
-    (read : Result (FieldLine × List ℕ) LineFault)
-    → (a : Adds old new text_old text_new spans_old spans_new all sum read)
-    → AllByRecursion (IsWithin (length text_old)) spans_old
-    → AllByRecursion (IsWithin (length text_new)) spans_new
-within_more old new text_old text_new spans_old spans_new all sum read a w =
-    subst (AllByRecursion (IsWithin (length text_new))) (sym a.spans)
-    (all_last (length text_new) spans_old a.span
-    (longer (length text_old) (length text_new) spans_old
-    (omega (arith, ap length a.text, length-append text_old a.more)) w) a.within)
 
 -- ---- the lines behind those that were read
 

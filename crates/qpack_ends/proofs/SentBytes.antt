@@ -1,11 +1,17 @@
 -- Bytes that are to be sent, behind some that were.
-use Rattle.std.proofs.Common.{◌≡◌, ◌+◌, ◌≤◌, ℕ, List, ◌++◌, length, drop, Result, Ok, Err, IfOk, ap, ◌∙◌, arith}
-use Rattle.std.proofs.lemmas.List.{drop-append-le}
+use Rattle.std.proofs.Common.{◌≡◌, ◌+◌, ◌≤◌, ℕ, List, ◌++◌, length, drop, Result, Ok, Err, IfOk, ap, ◌∙◌, arith, refl}
+use Rattle.std.proofs.Common.{vec_len, vec_capacity}
+use Rattle.std.specs.Prelude.{⊤, OnOk, OnErr}
+use Rattle.std.specs.declared.vec.Vec.{Vec}
+use Rattle.std.proofs.lemmas.List.{drop-append-le, length-drop}
 use Rattle.qpack_spec.specs.Field.{FieldLine}
 use Rattle.qpack_spec.specs.Table.{Table}
+use Rattle.qpack_base.specs.Writes.{Writes}
 use Rattle.qpack_codec.specs.ChoosesAlong.{Chooses}
 use Rattle.qpack_codec.specs.ChosenSections.{EncodesAlong}
+use Rattle.qpack_codec.specs.Encoding.{GrowsWithin}
 use Rattle.qpack_codec.specs.declared.error.EncoderError.{EncoderError}
+use Rattle.qpack_ends.specs.Unsent.{UnsentView, HasRoom, KeepsRoom, Appends}
 
 -- what is appended to all is appended to those that are to be sent
 appended : (sent : ℕ) (old new bytes : List ℕ) → sent + sent ≤ length old → new ≡ old ++ bytes
@@ -32,3 +38,45 @@ section_written chooses sent stream fields wishes old new block_old block_new wr
       along = k.along;
     }
 section_written chooses sent stream fields wishes old new block_old block_new written_old written_new (Err e) few k = k
+
+-- ---- room
+
+-- the bytes that are to be sent, of a vector of which so many were sent
+abbrev pub unsent_of : {A : Type 0} → ℕ → Vec ℕ A → UnsentView
+unsent_of sent v = record { bytes = drop sent v.items; front = sent; capacity = vec_capacity v }
+
+-- what there is room for fits the vector
+pub fits : {A : Type 0} (sent many : ℕ) (v : Vec ℕ A) → vec_len v ≡ length v.items → sent + sent ≤ length v.items
+    → HasRoom many (unsent_of sent v) → vec_len v + many ≤ vec_capacity v
+fits sent many v len few room = omega (arith, len, few, room, length-drop sent v.items)
+
+on_ok : {A E : Type 0} {P Q : Type 0} (r : Result A E) → (P → Q) → OnOk r P → OnOk r Q
+on_ok (Ok x) f h = f h
+on_ok (Err e) f h = tt
+
+on_err : {A E : Type 0} {P Q : Type 0} (r : Result A E) → (P → Q) → OnErr r P → OnErr r Q
+on_err (Ok x) f h = tt
+on_err (Err e) f h = f h
+
+-- what a writer leaves in the vector is appended to what is to be sent
+pub appends : {A E : Type 0} (sent : ℕ) (bytes : List ℕ) (old new : Vec ℕ A) (r : Result ⊤ E)
+    → vec_len old ≡ length old.items → sent + sent ≤ length old.items → Writes bytes old new r
+    → Appends bytes (unsent_of sent old) (unsent_of sent new) r
+appends sent bytes old new r len few w =
+    record {
+      ok = on_ok r (appended sent old.items new.items bytes few) w.ok;
+      err = on_err r (ap (drop sent)) w.err;
+      succeeds = λ room. w.succeeds (fits sent (length bytes) old len few room);
+      front = refl;
+      room = record {
+        still = λ room. w.still (fits sent (length bytes) old len few room);
+        capacity = w.capacity;
+      };
+    }
+
+-- instructions that keep a vector's room keep it
+pub keeps_room : {A : Type 0} (sent many : ℕ) (old new : Vec ℕ A) → vec_len old ≡ length old.items
+    → sent + sent ≤ length old.items → GrowsWithin many old new
+    → KeepsRoom many (unsent_of sent old) (unsent_of sent new)
+keeps_room sent many old new len few k =
+    record { still = λ room. k.still (fits sent many old len few room); capacity = k.capacity }

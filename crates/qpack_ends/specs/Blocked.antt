@@ -72,10 +72,17 @@ pub record AreMapped (bs : List BlockedStream) (m : BTreeMap ℕ ℕ) : Type 0 w
   pub once : AreOfOneEach bs
   pub each : (stream : ℕ) → get nat_cmp m stream ≡ required_of stream bs
 
--- a stream comes to be blocked, where fewer than may be are, or it is already; else nothing changes
+-- a stream may come to be blocked where so many insertions were received and no more than so many streams may be: it is
+-- blocked already, or fewer are (section 2.1.2)
+abbrev pub MayBlockAmong : ℕ → ℕ → ℕ → List BlockedStream → Type 0
+MayBlockAmong inserted most stream bs = is_blocked inserted stream bs ≡ false → blocked_among inserted bs < most
+
+-- a stream comes to be blocked, where it may; it is one too many; or memory is refused, where it may be blocked and is not
+-- counted yet with what its section requires. Unless it comes to be blocked, nothing changes
 abbrev pub Blocks : List BlockedStream → List BlockedStream → BlockedStream → ℕ → ℕ → Result ⊤ NotBlocked → Type 0
 Blocks old new b inserted most (Ok done) =
-    (new ≡ with_blocked b old) × (is_blocked inserted b.stream old ≡ false → blocked_among inserted old < most)
+    (new ≡ with_blocked b old) × MayBlockAmong inserted most b.stream old
 Blocks old new b inserted most (Err TooMany) =
     (new ≡ old) × (is_blocked inserted b.stream old ≡ false) × (most ≤ blocked_among inserted old)
-Blocks old new b inserted most (Err Memory) = (new ≡ old) × IsCountedAnew b old
+Blocks old new b inserted most (Err Memory) =
+    (new ≡ old) × IsCountedAnew b old × MayBlockAmong inserted most b.stream old

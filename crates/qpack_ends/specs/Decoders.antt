@@ -20,9 +20,8 @@ use Rattle.qpack_ends.specs.declared.receiving.EncoderStreamError.TheVariants as
 use Rattle.qpack_ends.specs.declared.section.Reading.{Reading}
 use Rattle.qpack_ends.specs.declared.section.Reading.TheVariants as reading
 use Rattle.qpack_ends.specs.declared.section.SectionError.{SectionError}
-use Rattle.qpack_ends.specs.declared.section.SectionError.TheVariants as section
-use Rattle.qpack_ends.specs.Blocked.{IsCountedAnew, is_blocked, blocked_among, with_blocked, without}
-use Rattle.qpack_ends.specs.Receiving.{StreamView, Receives, ReceivesMore, encoder_stream_error}
+use Rattle.qpack_ends.specs.Blocked.{IsCountedAnew, MayBlockAmong, is_blocked, blocked_among, with_blocked, without}
+use Rattle.qpack_ends.specs.Receiving.{StreamView, Receives, ReceivesMore, AsksToReceive, encoder_stream_error}
 use Rattle.qpack_ends.specs.Sections.{decompression_failed, TellsReading, ReadsInto}
 use Rattle.qpack_ends.specs.Sections as sections
 
@@ -139,7 +138,7 @@ is_blocked_now stream d = is_blocked (insert_count d.table) stream d.blocked
 
 -- a stream may come to be blocked: it is, or fewer are than may be (section 2.1.2)
 abbrev pub MayBlock : DecodingEnd → ℕ → Type 0
-MayBlock d stream = is_blocked_now stream d ≡ false → blocked_streams d < d.settings.max_blocked
+MayBlock d stream = MayBlockAmong (insert_count d.table) d.settings.max_blocked stream d.blocked
 
 -- as many streams are blocked as may be, and this is another
 abbrev pub IsOneTooMany : DecodingEnd → ℕ → Type 0
@@ -150,11 +149,11 @@ abbrev pub blocked_behind : ℕ → ℕ → DecodingEnd → DecodingEnd
 blocked_behind stream required d =
     record d { blocked = with_blocked (record { stream = stream; required = required }) d.blocked }
 
--- why a stream was not counted as blocked: it would be one too many, or memory was refused
+-- why a stream was not counted as blocked: it would be one too many; or memory was refused, where it may be blocked
 abbrev pub StopsBlocking : DecodingEnd → DecodingEnd → BlockedStream → DecodingError → Type 0
 StopsBlocking old new b (TooManyBlocked s) =
     (s ≡ b.stream) × IsOneTooMany old b.stream × (new ≡ refused (TooManyBlocked b.stream) old)
-StopsBlocking old new b Memory = (new ≡ old) × IsCountedAnew b old.blocked
+StopsBlocking old new b Memory = (new ≡ old) × IsCountedAnew b old.blocked × MayBlock old b.stream
 StopsBlocking old new b e = ⊥
 
 -- the stream was counted as blocked; or why not
@@ -214,12 +213,12 @@ Decodes old new stream read fields (Err e) =
     (fields ≡ [])
     × (IsNotAnswered old new stream e ⊎ (Checks old stream (Ok tt) × StopsDecoding old new stream read e))
 
--- memory may be asked for behind a reading: an acknowledgment is to be written, or a stream comes to be blocked that was
+-- memory may be asked for behind a reading: an acknowledgment is to be written; or the stream may come to be blocked, and is
 -- not counted yet with what the section requires
 abbrev pub AsksBehind : DecodingEnd → ℕ → StrictReading → Type 0
 AsksBehind d stream (Read fields required) = 0 < required
 AsksBehind d stream (Blocked required) =
-    IsCountedAnew (record { stream = stream; required = required }) d.blocked
+    IsCountedAnew (record { stream = stream; required = required }) d.blocked × MayBlock d stream
 AsksBehind d stream read = ⊥
 
 -- memory may be asked for: by the section, or behind its reading
@@ -259,6 +258,10 @@ abbrev pub EndsReceiving : DecodingEnd → DecodingEnd → Result ⊤ EncoderStr
 EndsReceiving d new (Ok done) (Ok total) = (total ≡ insert_count d.table) × (new ≡ with_report d)
 EndsReceiving d new (Ok done) (Err e) = Reports d new (Err e)
 EndsReceiving d new (Err e) r = (r ≡ Err (stream_failure e)) × (new ≡ refused (stream_failure e) d)
+
+-- memory may be asked for to receive bytes, of which these are left: for increments, or by the stream
+abbrev pub AsksForBytes : DecodingEnd → List ℕ → Type 0
+AsksForBytes d left = (0 < unreported d) ⊎ AsksToReceive d.table left d.stream
 
 -- the next bytes of the encoder stream were received, of which these are left
 pub record ReceivesBytes (start : Table) (before : List ℕ) (old new : DecodingEnd) (bytes left : List ℕ)

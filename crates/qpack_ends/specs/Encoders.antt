@@ -1,6 +1,8 @@
 -- The encoding end of a connection (RFC 9204, sections 2.1, 3.2.3, 4.3.1 and 4.4).
 use Rattle.std.specs.Prelude.{◌≡◌, ◌<◌, ◌≤◌, ◌^◌, ℕ, min, ⊤, ◌⊎◌, Bool, true, false, if◌then◌else◌, nat_eq, nat_le, nat_lt, ◌||◌}
-use Rattle.std.specs.Prelude.{List, [], ◌++◌, length, Option, None, Some, Result, Ok, Err, IsOk}
+use Rattle.std.specs.Prelude.{List, [], ◌+◌, ◌++◌, length, Option, None, Some, Result, Ok, Err, IsOk}
+use Rattle.std.specs.Prelude.{vec_len, vec_capacity}
+use Rattle.std.specs.declared.vec.Vec.{Vec}
 use Rattle.std.specs.Option.{IfSome, IsSome}
 use Rattle.qpack_spec.specs.Field.{FieldLine}
 use Rattle.qpack_spec.specs.Instruction.{DecoderInstruction, SetCapacity, written_encoder_instruction}
@@ -115,12 +117,13 @@ SetsIt old new capacity =
     (IsNoCapacity old capacity × (new ≡ old))
     ⊎ ((IsNoCapacity old capacity → ⊥) × TellsCapacity old new capacity (Ok tt))
 
--- a capacity was set; or the connection was ended, and nothing changes; or why it was not set, and nothing changes
+-- a capacity was set; or the connection was ended, and nothing changes; or why it was not set, where something is to be
+-- done for it, and nothing changes
 abbrev pub SetsCapacity : EncodingEnd → EncodingEnd → ℕ → Result ⊤ EncodingError → Type 0
 SetsCapacity old new capacity (Ok done) = (old.failure ≡ None) × SetsIt old new capacity
 SetsCapacity old new capacity (Err e) =
     ((old.failure ≡ Some e) × (new ≡ old))
-    ⊎ ((old.failure ≡ None) × TellsCapacity old new capacity (Err e))
+    ⊎ ((old.failure ≡ None) × (IsNoCapacity old capacity → ⊥) × TellsCapacity old new capacity (Err e))
 
 -- the end behind a capacity that was to be told, if one was: the table, which is empty, has it
 abbrev pub begun_with : Option ℕ → EncodingEnd → EncodingEnd
@@ -202,12 +205,17 @@ pub record GivesUpSection (d new : EncodingEnd) (fields : List FieldLine) : Type
   pub lines : GivesUpChosen fields d.table new.table d.unsent new.unsent
   pub new_is : new ≡ with_section new.table new.unsent d
 
--- memory was refused: for the capacity that was to be told, and nothing changes; behind it, before any field; or among
+-- before any field memory is asked for where as many sections wait as may, for the section, or where its stream may be
+-- blocked, for that
+abbrev pub AsksFirst : EncodingEnd → ℕ → Type 0
+AsksFirst d stream = (is_full d ≡ true) ⊎ (may_block d stream ≡ true)
+
+-- memory was refused: for the capacity that was to be told, and nothing changes; after it, before any field; or among
 -- the fields
-abbrev pub StopsForMemory : EncodingEnd → EncodingEnd → List FieldLine → Type 0
-StopsForMemory old new fields =
+abbrev pub StopsForMemory : EncodingEnd → EncodingEnd → ℕ → List FieldLine → Type 0
+StopsForMemory old new stream fields =
     (IsSome old.wanted × (new ≡ old))
-    ⊎ (new ≡ begun old)
+    ⊎ (AsksFirst (begun old) stream × (new ≡ begun old))
     ⊎ GivesUpSection (begun old) new fields
 
 -- a section was encoded, behind the capacity that was to be told; or the call was not answered, and nothing changes; or
@@ -221,4 +229,17 @@ Encodes old new stream fields before after (Ok required) =
 Encodes old new stream fields before after (Err e) =
     (after ≡ before)
     × ((Checks old stream (Err e) × (new ≡ old))
-    ⊎ (Checks old stream (Ok tt) × (e ≡ Memory) × StopsForMemory old new fields))
+    ⊎ (Checks old stream (Ok tt) × (e ≡ Memory) × StopsForMemory old new stream fields))
+
+-- memory may be asked for to write a section: there is a field; or there is none, and the vector has no room for the two
+-- bytes of the prefix
+abbrev pub AsksForSection : {A : Type 0} → List FieldLine → Vec ℕ A → Type 0
+AsksForSection fields section = (fields ≡ [] → ⊥) ⊎ (vec_capacity section < vec_len section + 2)
+
+-- the section that references no entry does not fit the vector
+abbrev pub HasNoRoomAlone : {A : Type 0} → List FieldLine → Vec ℕ A → Type 0
+HasNoRoomAlone fields section = vec_capacity section < vec_len section + length (written_alone fields)
+
+-- memory may be asked for to encode a section: for the capacity that is to be told, or to write it
+abbrev pub AsksToEncode : {A : Type 0} → EncodingEnd → List FieldLine → Vec ℕ A → Type 0
+AsksToEncode d fields section = IsSome d.wanted ⊎ AsksForSection fields section

@@ -23,6 +23,13 @@ pub record IsWithin (len : ℕ) (s : Span) : Type 0 where
   pub value : s.middle ≤ s.end
   pub within : s.end ≤ len
 
+-- the spans are in turn: the first begins here, each further one where the one before it ended, and the last ends the text
+-- of so many bytes
+abbrev pub AreInTurn : ℕ → List Span → ℕ → Type 0
+AreInTurn at [] len = at ≡ len
+AreInTurn at (s ∷ spans) len =
+    (s.start ≡ at) × (s.start ≤ s.middle) × (s.middle ≤ s.end) × AreInTurn s.end spans len
+
 -- the next field is given, and those behind it are left; or there is none
 abbrev pub GivesNext : List FieldLine → Option LentLine → List FieldLine → Type 0
 GivesNext [] None after = after ≡ []

@@ -157,7 +157,8 @@ AppendsLine most old new text_old text_new (Ok lengths) read =
     (f : Field) × (read ≡ Ok (f, new.rest)) × Stands most text_old text_new lengths f × (new.total ≡ old.total)
 AppendsLine most old new text_old text_new (Err e) read = FailsLine e read × Extends text_old text_new
 
--- a field was read: its span stands behind the others, its strings behind the text, and the sizes have this sum with it
+-- a field was read: its span stands behind the others, its strings are all that was added to the text, and the sizes have
+-- this sum with it
 pub record Adds (old new : CursorView) (text_old text_new : List ℕ) (spans_old spans_new : List Span) (all sum : ℕ)
     (read : Result (FieldLine × List ℕ) LineFault) : Type 0 where
   pub field : FieldLine
@@ -167,6 +168,8 @@ pub record Adds (old new : CursorView) (text_old text_new : List ℕ) (spans_old
   pub more : List ℕ
   pub text : text_new ≡ text_old ++ more
   pub within : IsWithin (length text_new) span
+  pub start : span.start ≡ length text_old
+  pub end : span.end ≡ length text_new
   pub at : field_at text_new span ≡ field
   pub sum_is : sum ≡ saturated_size (all + field_size field.field)
   pub shorter : length new.rest < length old.rest

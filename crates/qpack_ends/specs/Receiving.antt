@@ -147,12 +147,15 @@ pub record TakesIn (start new : Table) (before bytes left : List ℕ) (s u : Str
   pub stream : Receives start new (before ++ taken) u
   pub no_longer : length u.pending ≤ length s.pending + length taken
 
--- memory was refused: for the instruction at the front of what waits, or of what is left; or for bytes, of which some are
--- left
+-- memory may be asked for: for the instruction at the front of what waits, or of what is left; or for bytes, of which some
+-- are left
+abbrev pub AsksToReceive : Table → List ℕ → StreamView → Type 0
+AsksToReceive t left s = AsksToTake t s.pending ⊎ AsksToTake t left ⊎ (left ≡ [] → ⊥)
+
+-- memory was refused, where it is asked for
 abbrev pub WantsMemory : Table → Table → List ℕ → List ℕ → List ℕ → StreamView → StreamView → Type 0
 WantsMemory start new before bytes left s u =
-    TakesIn start new before bytes left s u
-    × (AsksToTake new u.pending ⊎ AsksToTake new left ⊎ (left ≡ [] → ⊥))
+    TakesIn start new before bytes left s u × AsksToReceive new left u
 
 -- the stream is refused by a front of the bytes
 pub record RefusesFront (start now : Table) (before bytes : List ℕ) (place : Place) (e : DecoderError) : Type 0 where

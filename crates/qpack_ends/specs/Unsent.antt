@@ -1,7 +1,27 @@
--- The bytes of a stream that are to be sent.
-use Rattle.std.specs.Prelude.{◌≡◌, ℕ, ⊤, List, ◌++◌, Result, Ok, Err}
+-- The bytes of a stream that are to be sent, and the room that they are kept in.
+use Rattle.std.specs.Prelude.{◌≡◌, ◌≤◌, ℕ, ◌+◌, ⊤, List, ◌++◌, length, Result, OnOk, OnErr, IsOk}
 
--- bytes are appended to those that are to be sent; or they are refused, and nothing changes
-abbrev pub Appends : {E : Type 0} → List ℕ → List ℕ → List ℕ → Result ⊤ E → Type 0
-Appends bytes old new (Ok done) = new ≡ old ++ bytes
-Appends bytes old new (Err e) = new ≡ old
+-- the bytes that are to be sent; how many that were sent are kept in front of them; and for how many bytes there is
+-- room, all these among them
+pub record UnsentView : Type 0 where
+  pub bytes : List ℕ
+  pub front : ℕ
+  pub capacity : ℕ
+
+-- there is room for so many bytes more
+abbrev pub HasRoom : ℕ → UnsentView → Type 0
+HasRoom many u = u.front + length u.bytes + many ≤ u.capacity
+
+-- where there is room for so many bytes more, the room is kept as it is; it is never less
+pub record KeepsRoom (many : ℕ) (old new : UnsentView) : Type 0 where
+  pub still : HasRoom many old → new.capacity ≡ old.capacity
+  pub capacity : old.capacity ≤ new.capacity
+
+-- bytes are appended to those that are to be sent; or they are refused, where there is no room for them, and then no
+-- byte changes
+pub record Appends {E : Type 0} (bytes : List ℕ) (old new : UnsentView) (r : Result ⊤ E) : Type 0 where
+  pub ok : OnOk r (new.bytes ≡ old.bytes ++ bytes)
+  pub err : OnErr r (new.bytes ≡ old.bytes)
+  pub succeeds : HasRoom (length bytes) old → IsOk r
+  pub front : new.front ≡ old.front
+  pub room : KeepsRoom (length bytes) old new

@@ -1,6 +1,6 @@
 //! The streams that may be blocked, as the encoding end keeps them (RFC 9204, section 2.1.2).
 
-ghost use Rattle.std.specs.Prelude.{◌≡◌, ◌<◌, [], length, nat_eq, OnOk, vec_len, vec_capacity};
+ghost use Rattle.std.specs.Prelude.{◌≡◌, ◌<◌, ◌≤◌, true, [], length, nat_eq, OnOk, OnErr, vec_len, vec_capacity};
 ghost use Rattle.std.specs.List.{list_any};
 ghost use Rattle.qpack_ends.specs.Risk.{covers, with_stream, still_at_risk};
 
@@ -39,11 +39,16 @@ impl StreamsAtRisk {
         self.streams.iter().any(|kept| kept.stream == stream)
     }
 
-    /// Makes room for one more.
-    pub(crate) fn make_room(&mut self) -> Result<(), NoMemory>
+    /// Makes room for one more, where a stream may be blocked. It asks for memory only there, and where there is no room.
+    pub(crate) fn make_room(&mut self, may_block: bool) -> Result<(), NoMemory>
         ensures same { self.new.streams.items ≡ self.old.streams.items }
-        ensures room { OnOk result (vec_len self.new.streams < vec_capacity self.new.streams) }
+        ensures room { OnOk result (may_block ≡ true → vec_len self.new.streams < vec_capacity self.new.streams) }
+        ensures memory { OnErr result ((may_block ≡ true)
+            × (vec_capacity self.old.streams ≤ vec_len self.old.streams)) }
     {
+        if !may_block {
+            return Ok(());
+        }
         match self.streams.reserve(1) {
             Ok(()) => Ok(()),
             Err(_) => Err(NoMemory),

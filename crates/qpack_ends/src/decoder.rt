@@ -7,7 +7,7 @@ ghost use Rattle.qpack_ends.specs.Blocked.{ready};
 ghost use Rattle.qpack_ends.specs.Receiving.{Receives};
 ghost use Rattle.qpack_ends.specs.Decoders.{Begins, FailsSettings, Checks, Reports, Acknowledges, BlocksStream};
 ghost use Rattle.qpack_ends.specs.Decoders.{TakesReading, DecodesInto, Decodes, Cancels, AsksToDecode, refused};
-ghost use Rattle.qpack_ends.specs.Decoders.{code_of, stream_failure, ReceivesBytes};
+ghost use Rattle.qpack_ends.specs.Decoders.{code_of, stream_failure, ReceivesBytes, AsksForBytes};
 ghost use Rattle.qpack_ends.specs.Decoders.{blocked_streams};
 ghost use Rattle.qpack_ends.specs.declared.decoder.DecodingError.TheVariants.{Memory};
 ghost use Rattle.qpack_ends.specs.declared.decoder.SettingsError.TheVariants.{CapacityTooLarge};
@@ -147,7 +147,7 @@ impl Model for ConnectionDecoder {
       stream = d.stream;
       reported = d.reported;
       blocked = d.blocked;
-      unsent = d.unsent;
+      unsent = d.unsent.bytes;
       failure = d.failure;
     } };
 
@@ -157,7 +157,7 @@ impl Model for ConnectionDecoder {
       stream = d.stream;
       reported = d.reported;
       blocked = d.blocked;
-      unsent = d.unsent;
+      unsent = d.unsent.bytes;
       failure = d.failure;
     }) };
 }
@@ -261,7 +261,7 @@ impl ConnectionDecoder {
     ) -> Result<Reading, DecodingError>
         ensures decodes { Decodes self.old self.new stream
             (strict_reading (window self.old.table) self.old.settings.max_section_size section.now) fields.new result }
-        // Memory is refused only where the section asks for it, where a stream comes to be blocked that was not counted
+        // Memory is refused only where the section asks for it, where the stream may come to be blocked and is not counted
         // with this count, or where an acknowledgment is written.
         ensures memory { result ≡ Err Memory → AsksToDecode self.old stream section.now }
     {
@@ -300,6 +300,8 @@ impl ConnectionDecoder {
             → ReceivesBytes start before self.old self.new buf.old.rest buf.new.rest result }
         ensures ended { IfSome self.old.failure
             (λ e. (result ≡ Err e) × (self.new ≡ self.old) × (buf.new.rest ≡ buf.old.rest)) }
+        // Memory is refused only where insertions are to be reported, for an instruction, or for bytes that are left.
+        ensures memory { result ≡ Err Memory → AsksForBytes self.new buf.new.rest }
         ensures total { buf.new.total ≡ buf.old.total }
     {
         if let Some(failure) = self.failure {

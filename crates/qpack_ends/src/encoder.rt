@@ -2,17 +2,20 @@
 //! 5).
 
 ghost use Rattle.std.specs.Prelude.{◌≡◌, ◌<◌, ◌≤◌, ◌^◌, None, Some, IfOk, IfErr, IfSome, List, [], ℕ, drop, length};
-ghost use Rattle.std.specs.Prelude.{Err, OnErr, false, map, ◌++◌, vec_capacity};
+ghost use Rattle.std.specs.Prelude.{Err, OnOk, OnErr, IsSome, false, true, map, ◌+◌, ◌⊎◌, ◌++◌, vec_len, vec_capacity};
+ghost use Rattle.qpack_spec.specs.Field.{fields_of_lines};
 ghost use Rattle.qpack_spec.specs.Instruction.{DecoderInstruction};
 ghost use Rattle.qpack_spec.specs.Table.{empty_table};
 ghost use Rattle.qpack_ends.specs.Hearing.{Receives};
 ghost use Rattle.qpack_ends.specs.Encoders.{Starts, first_capacity, code_of, capacity_failure, SetsCapacity};
 ghost use Rattle.qpack_ends.specs.Encoders.{TellsCapacity, Begins, ReceivesBytes, Checks, is_full, written_alone};
-ghost use Rattle.qpack_ends.specs.Encoders.{Encodes, may_block};
+ghost use Rattle.qpack_ends.specs.Encoders.{Encodes, begun, may_block, AsksToEncode, HasNoRoomAlone};
 ghost use Rattle.qpack_ends.specs.Risk.{streams_at_risk, with_limit, limit_for};
 ghost use Rattle.qpack_ends.specs.declared.choosing.Chooser.{Chooser as State};
 ghost use Rattle.qpack_ends.specs.Wishes.{by_wish};
 ghost use Rattle.qpack_codec.specs.ChosenSections.{EncodesAlong, EncodesChosen, GivesUpChosen};
+ghost use Rattle.qpack_codec.specs.Encoding.{instructions_room};
+ghost use Rattle.qpack_ends.specs.Unsent.{KeepsRoom};
 ghost use Rattle.qpack_ends.specs.Wishes.{EncodesAsWished};
 ghost use Rattle.qpack_ends.specs.declared.decoder.SettingsError.TheVariants.{CapacityTooLarge};
 ghost use Rattle.qpack_ends.specs.declared.encoder.EncodingError.TheVariants.{Memory};
@@ -25,9 +28,10 @@ use crate::hearing::{DECODER_STREAM_ERROR, DecoderStream, DecoderStreamError};
 use crate::unsent::Unsent;
 use qpack_base::coding::Cursor;
 use qpack_codec::EncoderError;
-use qpack_codec::encoder::{AsField, EncoderTable, encode_section_stateless};
+use qpack_codec::encoder::{AsField, EncoderTable, WritesSections, encode_section_stateless};
 use qpack_table::dynamic;
 use qpack_table::dynamic::DynamicTable;
+use qpack_wire::block::HeaderPrefix;
 use std::alloc::{Allocator, Global};
 use std::marker::Model;
 use thiserror::Error;
@@ -167,7 +171,7 @@ impl Model for ConnectionEncoder {
       table = d.table.table;
       wanted = d.wanted;
       stream = d.stream;
-      unsent = d.unsent;
+      unsent = d.unsent.bytes;
       failure = d.failure;
     } };
 
@@ -176,7 +180,7 @@ impl Model for ConnectionEncoder {
       table = d.table.table;
       wanted = d.wanted;
       stream = d.stream;
-      unsent = d.unsent;
+      unsent = d.unsent.bytes;
       failure = d.failure;
     }) × TracksRisk d.at_risk.streams.items d.table.table };
 }
@@ -302,7 +306,7 @@ impl ConnectionEncoder {
     /// Refused are, in this order: every call behind an error that ended the connection, by that error; a number that
     /// no stream has (`NoStream`); and any other where memory is refused. The vector is then as before; where memory
     /// was refused, the capacity may have been told, and insertions that were made stand and are written: the call can
-    /// be made again.
+    /// be made again. A section that the vector has room for does not grow it.
     pub fn encode<A: Allocator, H: AsField>(
         &mut self,
         stream: u64,
@@ -314,18 +318,30 @@ impl ConnectionEncoder {
         // What the caller wishes of a field is done (section 2.1).
         ensures wishes { EncodesAsWished self.old self.new stream (map H.line fields.now) (map H.wish fields.now)
             section.old.items section.new.items result }
+        // Memory is refused only where a capacity is to be told, where there is a field, or where the two bytes of a section
+        // without fields do not fit the vector. Where as many sections wait as may, the section's own bytes do not fit it.
+        ensures memory { result ≡ Err Memory → AsksToEncode self.old (map H.line fields.now) section.old }
+        ensures alone { result ≡ Err Memory → is_full (begun self.old) ≡ true
+            → IsSome self.old.wanted ⊎ HasNoRoomAlone (map H.line fields.now) section.old }
         ensures capacity { vec_capacity section.old ≤ vec_capacity section.new }
+        // A vector with room for the section is not grown.
+        ensures still { OnOk result
+            (vec_len section.new ≤ vec_capacity section.old → vec_capacity section.new ≡ vec_capacity section.old) }
     {
         self.check(stream)?;
         self.begin()?;
         if self.is_full() {
             return encode_alone(fields, section);
         }
-        // Room is made before anything is written, so that a section that is written is counted.
-        if self.at_risk.make_room().is_err() {
-            return Err(EncodingError::Memory);
+        if fields.is_empty() {
+            self.table.give_up();
+            return encode_nothing(section);
         }
         let may_block = self.may_block(stream);
+        // Room is made before anything is written, so that a section that is written is counted.
+        if self.at_risk.make_room(may_block).is_err() {
+            return Err(EncodingError::Memory);
+        }
         let required = write_section(
             &mut self.table,
             stream,
@@ -375,6 +391,7 @@ impl ConnectionEncoder {
     /// Whether a call for a stream can be answered.
     fn check(&self, stream: u64) -> Result<(), EncodingError>
         ensures checks { Checks self.now stream result }
+        ensures no_memory { result ≡ Err Memory → ⊥ }
     {
         if let Some(failure) = self.failure {
             return Err(failure);
@@ -425,6 +442,23 @@ impl ConnectionEncoder {
     }
 }
 
+/// Appends the section of no field, which is two bytes, and answers its required insert count, which is 0. On error the
+/// vector is as before. Memory is asked for only where the two bytes do not fit it.
+fn encode_nothing<A: Allocator>(section: &mut Vec<u8, A>) -> Result<usize, EncodingError>
+    ensures ok { IfOk result (λ required. (required ≡ 0)
+        × (section.new.items ≡ section.old.items ++ written_alone [])) }
+    ensures err { IfErr result (λ e. (e ≡ Memory) × (section.new.items ≡ section.old.items)) }
+    ensures memory { OnErr result (vec_capacity section.old < vec_len section.old + 2) }
+    ensures capacity { vec_capacity section.old ≤ vec_capacity section.new }
+    ensures still { OnOk result
+        (vec_len section.new ≤ vec_capacity section.old → vec_capacity section.new ≡ vec_capacity section.old) }
+{
+    match HeaderPrefix::new(0, 0, 0, 0).encode(section) {
+        Ok(()) => Ok(0),
+        Err(_) => Err(EncodingError::Memory),
+    }
+}
+
 /// Appends the section of the fields that references no entry, and answers its required insert count, which is 0.
 /// On error, which is want of memory alone, the vector is as before.
 fn encode_alone<A: Allocator, H: AsField>(
@@ -434,7 +468,10 @@ fn encode_alone<A: Allocator, H: AsField>(
     ensures ok { IfOk result (λ required. (required ≡ 0)
         × (section.new.items ≡ section.old.items ++ written_alone (map H.line fields.now))) }
     ensures err { IfErr result (λ e. (e ≡ Memory) × (section.new.items ≡ section.old.items)) }
+    ensures memory { OnErr result (HasNoRoomAlone (map H.line fields.now) section.old) }
     ensures capacity { vec_capacity section.old ≤ vec_capacity section.new }
+    ensures still { OnOk result
+        (vec_len section.new ≤ vec_capacity section.old → vec_capacity section.new ≡ vec_capacity section.old) }
 {
     match encode_section_stateless(section, fields) {
         Ok(()) => Ok(0),
@@ -455,16 +492,21 @@ fn write_section<A: Allocator, H: AsField>(
 ) -> Result<usize, EncodingError>
     requires { table.old.table.limit ≡ 4096 }
     ensures section { IfOk result (λ required. EncodesChosen stream (map H.line fields.now) table.old.table table.new.table
-        section.old.items section.new.items unsent.old unsent.new required) }
+        section.old.items section.new.items unsent.old.bytes unsent.new.bytes required) }
     ensures known { IfOk result (λ required. may_block ≡ false → required ≤ table.old.table.known_received_count) }
     ensures small { IfOk result (λ required. required < 2 ^ 64) }
     ensures wishes { IfOk result (λ required. EncodesAlong (by_wish State) stream (map H.line fields.now)
         (map H.wish fields.now) (with_limit (limit_for may_block) table.old.table)
-        (with_limit (limit_for may_block) table.new.table) section.old.items section.new.items unsent.old unsent.new required) }
-    ensures err { OnErr result (GivesUpChosen (map H.line fields.now) table.old.table table.new.table unsent.old unsent.new) }
+        (with_limit (limit_for may_block) table.new.table) section.old.items section.new.items unsent.old.bytes
+        unsent.new.bytes required) }
+    ensures err { OnErr result (GivesUpChosen (map H.line fields.now) table.old.table table.new.table unsent.old.bytes
+        unsent.new.bytes) }
     ensures as_before { OnErr result (section.new.items ≡ section.old.items) }
     ensures memory { IfErr result (λ e. e ≡ Memory) }
     ensures capacity { vec_capacity section.old ≤ vec_capacity section.new }
+    ensures still { OnOk result
+        (vec_len section.new ≤ vec_capacity section.old → vec_capacity section.new ≡ vec_capacity section.old) }
+    ensures room { KeepsRoom (instructions_room (fields_of_lines (map H.line fields.now))) unsent.old unsent.new }
 {
     limit_blocked(&mut table.table, if may_block { MOST_BLOCKED } else { 0 });
     let written = unsent.write_section(table, stream, section, fields, chooser);

@@ -12,6 +12,7 @@ ghost use Rattle.qpack_ends.specs.Lines.{under};
 ghost use Rattle.qpack_ends.specs.Sections.{ReadsLines};
 ghost use Rattle.qpack_ends.specs.declared.section.SectionError.TheVariants.{Memory};
 
+use crate::room::shrink_within;
 use crate::section::{Lines, SectionError, read_lines};
 use qpack_base::coding::Cursor;
 use qpack_base::field::{ESTIMATED_OVERHEAD_BYTES, FieldLine};
@@ -44,18 +45,7 @@ fn field_at<'a>(text: &'a [u8], span: &Span) -> FieldLine<'a>
     }
 }
 
-/// Gives back the memory of an empty vector that has room for more than `most` elements.
-fn shrink_within<T>(vec: &mut Vec<T>, most: usize)
-    requires { vec.old.items ≡ [] }
-    ensures items { vec.new.items ≡ [] }
-    ensures room { vec_capacity vec.new ≤ most }
-{
-    if vec.capacity() > most {
-        vec.shrink_to_fit();
-    }
-}
-
-/// The fields of a section, names and values one behind the other in one text. Its memory is kept from section to
+/// The fields of a section: names and values one after the other in one text, which holds nothing else. Its memory is kept from section to
 /// section. Read under a limit of n bytes it has room for no more than n bytes of text, and for n / 32 fields of 32
 /// bytes each: both together take at most 2n bytes. Only `expect` or a greater limit makes room for more, and that is
 /// given back when a section is refused.
@@ -71,16 +61,15 @@ pub struct FieldSection {
 
 impl Model for FieldSection {
     ghost use Rattle.std.specs.Prelude.{◌≤◌, List, length, vec_capacity};
-    ghost use Rattle.std.specs.List.{AllByRecursion};
     ghost use Rattle.qpack_spec.specs.Field.{FieldLine};
     ghost use Rattle.qpack_base.specs.HeaderFields.{line_of};
-    ghost use Rattle.qpack_ends.specs.FieldSections.{IsWithin, fields_in};
+    ghost use Rattle.qpack_ends.specs.FieldSections.{AreInTurn, fields_in};
 
     ghost Value = { List FieldLine };
 
     ghost view = { λ s. fields_in s.text.items s.spans.items };
 
-    ghost invariant = { λ s. AllByRecursion (IsWithin (length s.text.items)) s.spans.items ×
+    ghost invariant = { λ s. AreInTurn 0 s.spans.items (length s.text.items) ×
         (vec_capacity s.text ≤ s.most_bytes) × (vec_capacity s.spans ≤ s.most_fields) };
 }
 
@@ -115,11 +104,11 @@ impl FieldSection {
     pub fn get(&self, index: usize) -> Option<FieldLine<'_>>
         ensures { option_map line_of result ≡ slice_get self.now index }
     {
-        let span = self.spans.get(index)?;
-        Some(field_at(&self.text, span))
+        self.iter().at(index)
     }
 
     /// The fields, in the order of their lines.
+    #[tactic(auto, using(crate::proofs::SpansInTurn::all_within))]
     pub fn iter(&self) -> Fields<'_>
         ensures { result ≡ self.now }
     {
@@ -200,6 +189,16 @@ impl<'a> Model for Fields<'a> {
     ghost view = { λ s. fields_in s.text.now s.spans.now };
 
     ghost invariant = { λ s. AllByRecursion (IsWithin (length s.text.now)) s.spans.now };
+}
+
+impl<'a> Fields<'a> {
+    /// The field at an index of those that are still to come, from 0.
+    fn at(&self, index: usize) -> Option<FieldLine<'a>>
+        ensures { option_map line_of result ≡ slice_get self.now index }
+    {
+        let span = self.spans.get(index)?;
+        Some(field_at(self.text, span))
+    }
 }
 
 impl<'a> Iterator for Fields<'a> {

@@ -11,6 +11,7 @@ pub mod field_section;
 pub mod hearing;
 pub mod place;
 pub mod receiving;
+mod room;
 pub mod section;
 mod unsent;
 

@@ -1,14 +1,15 @@
 //! The encoder stream as a strict decoder receives it: handed in once, cut anywhere (RFC 9204, section 4.3).
 
-ghost use Rattle.std.specs.Prelude.{◌≡◌, ◌<◌, ◌≤◌, ℕ, [], List, length, OnOk};
+ghost use Rattle.std.specs.Prelude.{◌≡◌, ◌<◌, ◌≤◌, ℕ, [], List, length, Err, OnOk};
 ghost use Rattle.qpack_spec.specs.Form.{Truncates};
 ghost use Rattle.qpack_spec.specs.Instruction.{encoder_instruction_form};
 ghost use Rattle.qpack_spec.specs.Table.{Table, insert_count};
 ghost use Rattle.qpack_ends.specs.Receiving.{begins_unlawfully, TakesNextStrictly, TakesAllStrictly, FindsWanted};
-ghost use Rattle.qpack_ends.specs.Receiving.{Receives, ReceivesFront, ReceivesMore, PassesOne};
+ghost use Rattle.qpack_ends.specs.Receiving.{Receives, ReceivesFront, ReceivesMore, AsksToReceive, PassesOne};
 ghost use Rattle.qpack_ends.specs.Receiving.{stream_error_at, answer_at, stream_code_of};
 ghost use Rattle.qpack_table.specs.declared.dynamic.Error.TheVariants.{MaxTableSizeReached};
-ghost use Rattle.qpack_codec.specs.declared.error.DecoderError.TheVariants.{DynamicTable as DynamicTableError};
+ghost use Rattle.qpack_codec.specs.declared.error.DecoderError.TheVariants.{DynamicTable as DynamicTableError, Memory};
+ghost use Rattle.qpack_ends.specs.declared.receiving.EncoderStreamError.TheVariants.{Memory as NoRoom};
 
 use crate::place::Place;
 use qpack_base::coding::Cursor;
@@ -120,6 +121,8 @@ impl EncoderStream {
     ) -> Result<(), EncoderStreamError>
         ensures receives { (start : Table) (before : List ℕ) → Receives start table.old before self.old
             → ReceivesMore start table.old table.new before buf.old.rest buf.new.rest self.old self.new result }
+        // Memory is refused only for an instruction, or for bytes that are left.
+        ensures memory { result ≡ Err NoRoom → AsksToReceive table.new buf.new.rest self.new }
         ensures grows { insert_count table.old ≤ insert_count table.new }
         ensures total { buf.new.total ≡ buf.old.total }
     {
@@ -138,6 +141,7 @@ impl EncoderStream {
         ensures receives { (start : Table) (before : List ℕ) → Receives start table.old before self.old
             → ReceivesMore start table.old table.new before buf.old.rest buf.new.rest self.old self.new
             (answer_at self.new.place result) }
+        ensures memory { result ≡ Err Memory → AsksToReceive table.new buf.new.rest self.new }
         ensures grows { insert_count table.old ≤ insert_count table.new }
         ensures total { buf.new.total ≡ buf.old.total }
     {
@@ -160,6 +164,7 @@ impl EncoderStream {
             → ReceivesFront start table.new before buf.old.rest buf.new.rest self.old self.new
             (answer_at self.new.place result) }
         ensures moves { OnOk result (0 < length buf.new.rest → length buf.new.rest < length buf.old.rest) }
+        ensures memory { result ≡ Err Memory → AsksToReceive table.new buf.new.rest self.new }
         ensures grows { insert_count table.old ≤ insert_count table.new }
         ensures total { buf.new.total ≡ buf.old.total }
     {
@@ -186,6 +191,7 @@ impl EncoderStream {
         ensures receives { (start : Table) (before : List ℕ) → Receives start table.old before self.old
             → self.old.pending ≡ [] → ReceivesMore start table.old table.new before buf.old.rest buf.new.rest self.old
             self.new (answer_at self.new.place result) }
+        ensures memory { result ≡ Err Memory → AsksToReceive table.new buf.new.rest self.new }
         ensures grows { insert_count table.old ≤ insert_count table.new }
         ensures total { buf.new.total ≡ buf.old.total }
     {
@@ -278,7 +284,8 @@ fn find_wanted<I: EntryIndex>(
     table: &DynamicTable<I>,
     pending: &[u8],
 ) -> Result<usize, DecoderError>
-    ensures { Truncates encoder_instruction_form pending.now → FindsWanted table.now pending.now result }
+    ensures finds { Truncates encoder_instruction_form pending.now → FindsWanted table.now pending.now result }
+    ensures no_memory { result ≡ Err Memory → ⊥ }
 {
     if stream::least_field_size(pending) > table.max_mem_size() {
         return Err(does_not_fit());

@@ -1,16 +1,20 @@
 //! The bytes of a stream that are to be sent: instructions are written at their end, and a front is taken in pieces of any
 //! size.
 
-ghost use Rattle.std.specs.Prelude.{◌≡◌, ◌<◌, ◌≤◌, [], drop, map, IfOk, OnErr, vec_capacity};
+ghost use Rattle.std.specs.Prelude.{◌≡◌, ◌<◌, ◌≤◌, [], drop, map, Err, IfOk, OnOk, OnErr, vec_len, vec_capacity};
+ghost use Rattle.qpack_spec.specs.Field.{fields_of_lines};
 ghost use Rattle.qpack_spec.specs.Instruction.{Acknowledgment, Cancellation, written_decoder_instruction};
 ghost use Rattle.qpack_codec.specs.ChosenSections.{EncodesAlong, GivesUpChosen};
+ghost use Rattle.qpack_codec.specs.Encoding.{instructions_room};
 ghost use Rattle.qpack_codec.specs.Hearing.{SetsCapacity};
 ghost use Rattle.qpack_codec.specs.Receiving.{written_report};
-ghost use Rattle.qpack_ends.specs.Unsent.{Appends};
+ghost use Rattle.qpack_codec.specs.declared.error.EncoderError.TheVariants.{Memory};
+ghost use Rattle.qpack_ends.specs.Unsent.{Appends, HasRoom, KeepsRoom};
 ghost use Rattle.qpack_ends.specs.Wishes.{by_wish};
 ghost use Rattle.qpack_ends.specs.declared.choosing.Chooser.{Chooser};
 
 use crate::choosing::Chooser;
+use crate::room::shrink_within;
 use qpack_base::coding::NoMemory;
 use qpack_codec::EncoderError;
 use qpack_codec::decoder::{ack_header, stream_canceled, write_increments};
@@ -18,6 +22,9 @@ use qpack_codec::encoder::{AsField, EncoderTable, WritesSections, set_dynamic_ta
 use qpack_table::dynamic::DynamicTable;
 use std::alloc::{Allocator, Global};
 use std::marker::Model;
+
+/// How many bytes there may be room for once all are sent; the memory of more is given back.
+const KEPT_ROOM: usize = 1_024;
 
 /// The bytes of a stream that are to be sent.
 #[derive(Debug, Drop)]
@@ -29,11 +36,16 @@ pub(crate) struct Unsent {
 }
 
 impl Model for Unsent {
-    ghost use Rattle.std.specs.Prelude.{ℕ, List, ◌+◌, ◌≤◌, drop, length};
+    ghost use Rattle.std.specs.Prelude.{◌+◌, ◌≤◌, drop, length, vec_capacity};
+    ghost use Rattle.qpack_ends.specs.Unsent.{UnsentView};
 
-    ghost Value = { List ℕ };
+    ghost Value = { UnsentView };
 
-    ghost view = { λ u. drop u.sent u.bytes.items };
+    ghost view = { λ u. record {
+      bytes = drop u.sent u.bytes.items;
+      front = u.sent;
+      capacity = vec_capacity u.bytes;
+    } };
 
     ghost invariant = { λ u. u.sent + u.sent ≤ length u.bytes.items };
 }
@@ -41,7 +53,7 @@ impl Model for Unsent {
 impl Unsent {
     /// No bytes. Takes no memory.
     pub(crate) fn new(alloc: Global) -> Unsent
-        ensures { result ≡ [] }
+        ensures { result ≡ record { bytes = []; front = 0; capacity = 0 } }
     {
         Unsent {
             bytes: Vec::new(alloc),
@@ -51,7 +63,7 @@ impl Unsent {
 
     /// The bytes that are to be sent, in order.
     pub(crate) fn as_slice(&self) -> &[u8]
-        ensures { result.now ≡ self.now }
+        ensures { result.now ≡ self.now.bytes }
     {
         &self.bytes[self.sent..]
     }
@@ -59,9 +71,12 @@ impl Unsent {
     /// Drops this many bytes from the front, which were sent, or all.
     ///
     /// Those that are left are moved to the front once they are fewer than those that were sent. So taking all costs linear
-    /// time in pieces of any size, and at most as many bytes are kept in front of the others as they are.
+    /// time in pieces of any size, and at most as many bytes are kept in front of the others as they are. Once none is
+    /// left, the memory of more than `KEPT_ROOM` bytes is given back; otherwise the memory is kept.
     pub(crate) fn sent(&mut self, many: usize)
-        ensures { self.new ≡ drop many self.old }
+        ensures bytes { self.new.bytes ≡ drop many self.old.bytes }
+        ensures given_back { self.new.bytes ≡ [] → self.new.capacity ≤ 1024 }
+        ensures kept { (self.new.bytes ≡ [] → self.old.capacity ≤ 1024) → self.new.capacity ≡ self.old.capacity }
     {
         let left = self.bytes.len() - self.sent;
         let many = many.min(left);
@@ -72,23 +87,29 @@ impl Unsent {
         } else {
             self.sent = sent;
         }
+        if self.bytes.is_empty() {
+            shrink_within(&mut self.bytes, KEPT_ROOM);
+        }
     }
 
-    /// Appends the acknowledgment of a section of this stream. On error nothing changes.
+    /// Appends the acknowledgment of a section of this stream. On error the bytes are as before. It asks for memory only
+    /// where there is no room for it.
     pub(crate) fn write_acknowledgment(&mut self, stream: u64) -> Result<(), NoMemory>
         ensures { Appends (written_decoder_instruction (Acknowledgment stream)) self.old self.new result }
     {
         ack_header(stream, &mut self.bytes)
     }
 
-    /// Appends the cancellation of this stream. On error nothing changes.
+    /// Appends the cancellation of this stream. On error the bytes are as before. It asks for memory only where there is
+    /// no room for it.
     pub(crate) fn write_cancellation(&mut self, stream: u64) -> Result<(), NoMemory>
         ensures { Appends (written_decoder_instruction (Cancellation stream)) self.old self.new result }
     {
         stream_canceled(stream, &mut self.bytes)
     }
 
-    /// Appends increments that report this many insertions. On error nothing changes.
+    /// Appends increments that report this many insertions. On error the bytes are as before. It asks for memory only
+    /// where there is no room for them.
     pub(crate) fn write_increments(&mut self, insertions: usize) -> Result<(), NoMemory>
         ensures appends { Appends (written_report insertions) self.old self.new result }
         ensures memory { OnErr result (0 < insertions) }
@@ -96,19 +117,23 @@ impl Unsent {
         write_increments(insertions, &mut self.bytes)
     }
 
-    /// Sets the capacity of the table, and appends the instruction that tells it. On error nothing changes.
+    /// Sets the capacity of the table, and appends the instruction that tells it. On error the bytes are as before. With
+    /// room for eleven bytes, which no number exceeds, it asks for no memory.
     pub(crate) fn set_capacity(
         &mut self,
         table: &mut DynamicTable,
         capacity: usize,
     ) -> Result<(), EncoderError>
-        ensures { SetsCapacity capacity table.old table.new self.old self.new result }
+        ensures sets { SetsCapacity capacity table.old table.new self.old.bytes self.new.bytes result }
+        ensures memory { HasRoom 11 self.old → result ≡ Err Memory → ⊥ }
+        ensures room { KeepsRoom 11 self.old self.new }
     {
         set_dynamic_table_size(table, &mut self.bytes, capacity)
     }
 
     /// Appends a section to the vector, and the instructions of its insertions to the bytes, as `write_chosen_section`
-    /// does.
+    /// does. With room for the section the vector is not grown. With room for four bytes for each byte of the fields'
+    /// sizes that of the instructions is not grown.
     pub(crate) fn write_section<A: Allocator, H: AsField>(
         &mut self,
         table: &mut EncoderTable,
@@ -118,12 +143,15 @@ impl Unsent {
         chooser: &mut Chooser,
     ) -> Result<usize, EncoderError>
         ensures ok { IfOk result (λ required. EncodesAlong (by_wish Chooser) stream (map H.line fields.now)
-            (map H.wish fields.now) table.old.table table.new.table section.old.items section.new.items self.old self.new
-            required) }
-        ensures err { OnErr result (GivesUpChosen (map H.line fields.now) table.old.table table.new.table self.old
-            self.new) }
+            (map H.wish fields.now) table.old.table table.new.table section.old.items section.new.items self.old.bytes
+            self.new.bytes required) }
+        ensures err { OnErr result (GivesUpChosen (map H.line fields.now) table.old.table table.new.table self.old.bytes
+            self.new.bytes) }
         ensures as_before { OnErr result (section.new.items ≡ section.old.items) }
         ensures capacity { vec_capacity section.old ≤ vec_capacity section.new }
+        ensures still { OnOk result
+            (vec_len section.new ≤ vec_capacity section.old → vec_capacity section.new ≡ vec_capacity section.old) }
+        ensures room { KeepsRoom (instructions_room (fields_of_lines (map H.line fields.now))) self.old self.new }
     {
         table.write_chosen_section(stream, section, &mut self.bytes, fields, chooser)
     }

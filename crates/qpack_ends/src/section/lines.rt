@@ -2,7 +2,6 @@
 
 ghost use Rattle.std.specs.Prelude.{◌≡◌, ℕ, ◌+◌, ◌*◌, ◌/◌, ◌-◌, ◌≤◌, ◌∷◌, [], drop, length, max, Err, IfOk};
 ghost use Rattle.std.specs.Prelude.{vec_len, vec_capacity};
-ghost use Rattle.std.specs.List.{AllByRecursion};
 ghost use Rattle.qpack_base.specs.HeaderFields.{field_of};
 ghost use Rattle.qpack_spec.specs.Bytes.{Begins};
 ghost use Rattle.qpack_spec.specs.Form.{Index, IndexAndValue, NameAndValue, made_at, form_at, or_bad_integer};
@@ -18,7 +17,7 @@ ghost use Rattle.qpack_ends.specs.Lines.{field_of_form, entry_of, line_error_of_
 ghost use Rattle.qpack_ends.specs.Lines.{line_error_of_static, ChecksRequired, indexed_line, named_line};
 ghost use Rattle.qpack_ends.specs.Lines.{ReadsLine};
 ghost use Rattle.qpack_ends.specs.Lines.{AsksInForm};
-ghost use Rattle.qpack_ends.specs.FieldSections.{IsWithin, fields_in};
+ghost use Rattle.qpack_ends.specs.FieldSections.{AreInTurn, fields_in};
 ghost use Rattle.qpack_ends.specs.Sections.{ReadsLines, error_at};
 ghost use Rattle.qpack_ends.specs.declared.section.LineError.TheVariants.{Memory as NoRoom};
 ghost use Rattle.qpack_ends.specs.declared.section.SectionError.TheVariants.{Memory as OutOfMemory};
@@ -471,7 +470,7 @@ pub(crate) fn read_lines<I: EntryIndex>(
     requires empty { text.old.items ≡ [] }
     ensures exact { ReadsLines result (fields_in text.new.items spans.new.items)
         (strict_lines_at (length buf.old.rest) (under lines.now buf.old.total) 0 0 buf.old.rest) }
-    ensures within { AllByRecursion (IsWithin (length text.new.items)) spans.new.items }
+    ensures in_turn { AreInTurn 0 spans.new.items (length text.new.items) }
     ensures memory { result ≡ Err OutOfMemory → Begins AsksLine buf.old.rest }
     ensures text { vec_capacity text.new ≤ max (vec_capacity text.old) lines.now.limit }
     ensures spans { vec_capacity spans.new ≤ max (vec_capacity spans.old) (lines.now.limit / 32) }

@@ -15,8 +15,8 @@ returns-in-Ok-clause-section g c =
     let v = c.write_section-written.new.table.table in
     let before = c.args.section.now.items in
     let after = c.write_section-written.new.section.items in
-    let written = c.args.unsent.now in
-    let more = c.write_section-written.new.self in
+    let written = c.args.unsent.now.bytes in
+    let more = c.write_section-written.new.self.bytes in
     let n : c.if-may_block.limit_blocked ≡ limit_for c.args.may_block = elim c.if-may_block.branch [
       | then-may_block w ↦ w.limit_blocked-is ∙ ap limit_for (sym w.if-may_block.true)
       | else-may_block w ↦ w.limit_blocked-is ∙ ap limit_for (sym w.if-may_block.false)
@@ -36,8 +36,8 @@ returns-in-Ok-clause-known g c none =
     let v = c.write_section-written.new.table.table in
     let before = c.args.section.now.items in
     let after = c.write_section-written.new.section.items in
-    let written = c.args.unsent.now in
-    let more = c.write_section-written.new.self in
+    let written = c.args.unsent.now.bytes in
+    let more = c.write_section-written.new.self.bytes in
     let n : c.if-may_block.limit_blocked ≡ limit_for c.args.may_block = elim c.if-may_block.branch [
       | then-may_block w ↦ w.limit_blocked-is ∙ ap limit_for (sym w.if-may_block.true)
       | else-may_block w ↦ w.limit_blocked-is ∙ ap limit_for (sym w.if-may_block.false)
@@ -56,8 +56,8 @@ returns-in-Ok-clause-wishes g c =
     let v = c.write_section-written.new.table.table in
     let before = c.args.section.now.items in
     let after = c.write_section-written.new.section.items in
-    let written = c.args.unsent.now in
-    let more = c.write_section-written.new.self in
+    let written = c.args.unsent.now.bytes in
+    let more = c.write_section-written.new.self.bytes in
     let n : c.if-may_block.limit_blocked ≡ limit_for c.args.may_block = elim c.if-may_block.branch [
       | then-may_block w ↦ w.limit_blocked-is ∙ ap limit_for (sym w.if-may_block.true)
       | else-may_block w ↦ w.limit_blocked-is ∙ ap limit_for (sym w.if-may_block.false)
@@ -79,8 +79,8 @@ returns-in-Err-clause-err g c =
     let lines = map g.H.AsField.line c.args.fields.now in
     let t = c.args.table.now.table in
     let v = c.write_section-written.new.table.table in
-    let written = c.args.unsent.now in
-    let more = c.write_section-written.new.self in
+    let written = c.args.unsent.now.bytes in
+    let more = c.write_section-written.new.self.bytes in
     let n : c.if-may_block.limit_blocked ≡ limit_for c.args.may_block = elim c.if-may_block.branch [
       | then-may_block w ↦ w.limit_blocked-is ∙ ap limit_for (sym w.if-may_block.true)
       | else-may_block w ↦ w.limit_blocked-is ∙ ap limit_for (sym w.if-may_block.false)

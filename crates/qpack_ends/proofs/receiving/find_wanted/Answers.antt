@@ -5,8 +5,8 @@ use Rattle.qpack_ends.specs.Receiving.{MayGrow}
 use Rattle.qpack_ends.proofs.WaitingLengths.{waiting_short}
 use Rattle.qpack_ends.proofs.receiving.find_wanted.Goals as goal
 
-pub returns : goal.returns
-returns g c cut =
+pub returns-clause-finds : goal.returns-clause-finds
+returns-clause-finds g c cut =
     let grows : MayGrow c.args.table.now c.args.pending.now = record {
       cut = cut;
       fits = omega (

@@ -1,8 +1,12 @@
-use Rattle.std.proofs.Common.{arith, ◌∙◌, sym, subst, ap, Ok, Err}
+use Rattle.std.proofs.Common.{inr, arith, ◌≡◌, ◌∙◌, sym, subst, ap, Result, Ok, Err}
+use Rattle.std.specs.Prelude.{⊤}
+use Rattle.qpack_ends.specs.declared.decoder.DecodingError.TheVariants.{Memory}
+use Rattle.qpack_ends.specs.declared.receiving.EncoderStreamError.{EncoderStreamError}
 use Rattle.qpack_spec.specs.Table.{insert_count}
 use Rattle.std.proofs.lemmas.Result.{err_from_is_err_and}
 use Rattle.qpack_ends.specs.Decoders.{DecodingEnd, ReceivesBytes}
 use Rattle.qpack_ends.specs.Receiving.{Receives}
+use Rattle.qpack_ends.proofs.AskingToReceive.{memory_of_stream}
 use Rattle.qpack_ends.proofs.Decoders.{stream_refused, stream_reported, stream_unreported}
 use Rattle.qpack_ends.proofs.BlockedStreams.{fewer_blocked}
 use Rattle.qpack_ends.proofs.decoder.ConnectionDecoder.receive.Goals as goal
@@ -54,3 +58,11 @@ invariant_of-self-in-Err c =
     c.self.inside.blocked c.in-Err.ensures.grows in
     let within = c.self.invariant.blocked in
     record { blocked = omega (arith, fewer, within); failure = c.self.invariant.failure }
+
+pub returns-in-Err-clause-memory : goal.returns-in-Err-clause-memory
+returns-in-Err-clause-memory c e =
+    let failed : c.refuse.result ≡ Memory = cc in
+    rw c.refuse.ensures.ends
+    (inr (c.in-Err.ensures.memory
+    (ap (λ (x : EncoderStreamError). let r : Result ⊤ EncoderStreamError = Err x in r)
+    (memory_of_stream c.in-Err.error (sym c.of_stream.ensures ∙ sym c.refuse.ensures.is ∙ failed)))))

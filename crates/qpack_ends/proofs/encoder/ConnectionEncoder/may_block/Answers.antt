@@ -11,7 +11,7 @@ returns-then-len-self c =
       table = c.self.inside.table.table;
       wanted = c.self.inside.wanted;
       stream = c.self.inside.stream;
-      unsent = c.self.inside.unsent;
+      unsent = c.self.inside.unsent.bytes;
       failure = c.self.inside.failure;
     } in
     lt-ltb c.len.result c.self.inside.settings.max_blocked c.if-len-self.true
@@ -26,7 +26,7 @@ returns-else-len-self c =
       table = c.self.inside.table.table;
       wanted = c.self.inside.wanted;
       stream = c.self.inside.stream;
-      unsent = c.self.inside.unsent;
+      unsent = c.self.inside.unsent.bytes;
       failure = c.self.inside.failure;
     } in
     c.contains.ensures

@@ -13,7 +13,7 @@ invariant_of-self c =
       table = c.self.inside.table.table;
       wanted = c.self.inside.wanted;
       stream = c.self.inside.stream;
-      unsent = c.self.inside.unsent;
+      unsent = c.self.inside.unsent.bytes;
       failure = c.self.inside.failure;
     } in
     let t = c.receive-received.new.table in
@@ -34,7 +34,7 @@ invariant_of-self-in-Err c =
       table = c.self.inside.table.table;
       wanted = c.self.inside.wanted;
       stream = c.self.inside.stream;
-      unsent = c.self.inside.unsent;
+      unsent = c.self.inside.unsent.bytes;
       failure = c.self.inside.failure;
     } in
     let t = c.receive-received.new.table in

@@ -1,4 +1,4 @@
-use Rattle.std.proofs.Common.{refl, ◌∙◌, ◌++◌, arith}
+use Rattle.std.proofs.Common.{refl, sym, ◌∙◌, ◌++◌, arith}
 use Rattle.std.proofs.lemmas.Result.{err_from_is_err_and}
 use Rattle.qpack_ends.proofs.ReceivedStreams.{none_in, takes_on, fails_on, front_on, front_is_all, more_on, nothing_waits}
 use Rattle.qpack_ends.proofs.receiving.EncoderStream.receive_bytes.Goals as goal
@@ -48,3 +48,8 @@ returns-clause-receives g c start before k =
     c.receive_rest.new.buf.rest c.args.self.now c.loop-self.self c.receive_rest.new.self _ t
     (c.receive_rest.ensures.receives start (before ++ t.taken) t.stream
     (nothing_waits c.loop-self.self.pending c.waiting.result c.waiting.ensures (λ some. omega (arith, some, c.loop-self-test.false))))
+
+pub returns-in_err-receive_front-clause-memory : goal.returns-in_err-receive_front-clause-memory
+returns-in_err-receive_front-clause-memory g c e =
+    let p = err_from_is_err_and c.from_residual.result c.from_residual.ensures.1 in
+    c.in_err-receive_front.ensures.memory (let q = sym p.1 ∙ e in cc)

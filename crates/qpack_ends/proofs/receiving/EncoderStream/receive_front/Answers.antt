@@ -1,9 +1,10 @@
-use Rattle.std.proofs.Common.{refl, ℕ, List, ◌≡◌, ◌≤◌, ◌<◌, ◌+◌, ◌∙◌, ◌++◌, ap, take, length, length-append, rules, arith}
+use Rattle.std.proofs.Common.{refl, sym, inl, inr, ℕ, List, ◌≡◌, ◌≤◌, ◌<◌, ◌+◌, ◌∙◌, ◌++◌, ap, take, length, length-append, rules, arith}
 use Rattle.std.proofs.lemmas.List.{length-take}
 use Rattle.std.proofs.lemmas.Result.{err_from_is_err_and}
 use Rattle.qpack_ends.specs.Receiving.{StreamView}
 use Rattle.qpack_ends.proofs.ReceivedStreams.{reaches_same, still_waiting, took_whole, kept_shorter, cut_at}
 use Rattle.qpack_ends.proofs.ReceivedStreams.{front_not_taken, front_waits, front_too_large, front_unkept}
+use Rattle.qpack_ends.proofs.AskingToReceive.{all_asks}
 use Rattle.qpack_ends.proofs.StrictCounts.{all_count}
 use Rattle.qpack_ends.proofs.receiving.EncoderStream.receive_front.Goals as goal
 use Rattle.qpack_ends.proofs.receiving.EncoderStream.receive_front.Goals.{then-len-wanted+in_ok-take_whole}
@@ -76,7 +77,7 @@ returns-in_err-self-inside-clause-receives g c start before k =
           (still_waiting start c.args.table.now before x c.extend_from_slice.new.self.items
           c.args.self.now k grown
           (omega (arith, w.if-len-wanted.false, len, ap (λ (v : StreamView). v.wanted) c.self.view_is)))
-    ]) cut c.in_err-self-inside.ensures)
+    ]) cut c.in_err-self-inside.ensures.finds)
 
 pub returns-clause-receives : goal.returns-clause-receives
 returns-clause-receives g c start before k =
@@ -129,7 +130,7 @@ returns-clause-receives g c start before k =
           (still_waiting start c.args.table.now before x c.extend_from_slice.new.self.items
           c.args.self.now k grown
           (omega (arith, w.if-len-wanted.false, len, ap (λ (v : StreamView). v.wanted) c.self.view_is)))
-    ]) cut shorter c.in_ok-self-inside.ensures)
+    ]) cut shorter c.in_ok-self-inside.ensures.finds)
 
 pub returns-in_err-take_whole-clause-grows : goal.returns-in_err-take_whole-clause-grows
 returns-in_err-take_whole-clause-grows g c =
@@ -153,3 +154,25 @@ returns-clause-grows g c =
           w.in_ok-take_whole.ensures.0.applies)
       | else-len-wanted w ↦ rw w.table-is (omega arith)
     ]
+
+pub returns-in_err-extend_from_slice-clause-memory : goal.returns-in_err-extend_from_slice-clause-memory
+returns-in_err-extend_from_slice-clause-memory g c e =
+    inr (inr (λ none. absurd (omega (
+      arith,
+      c.in_err-extend_from_slice.ensures.full,
+      c.self.inside.pending.ok.1,
+      length-take c.min-count.result c.chunk.result.now,
+      ap length c.chunk.ensures,
+      ap length none,
+    ))))
+
+pub returns-in_err-take_whole-clause-memory : goal.returns-in_err-take_whole-clause-memory
+returns-in_err-take_whole-clause-memory g c e =
+    let p = err_from_is_err_and c.from_residual-in_err-take_whole.result c.from_residual-in_err-take_whole.ensures.1 in
+    inl (all_asks _ _ _ _ _ _ c.in_err-take_whole.field-0.0 (let q = sym p.1 ∙ e in cc) c.in_err-take_whole.ensures)
+
+pub returns-in_err-self-inside-clause-memory : goal.returns-in_err-self-inside-clause-memory
+returns-in_err-self-inside-clause-memory g c e =
+    let p = err_from_is_err_and c.from_residual-in_err-self-inside.result
+    c.from_residual-in_err-self-inside.ensures.1 in
+    absurd (c.in_err-self-inside.ensures.no_memory (let q = sym p.1 ∙ e in cc))

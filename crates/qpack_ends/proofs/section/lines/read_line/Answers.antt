@@ -1,4 +1,4 @@
-use Rattle.std.proofs.Common.{◌∙◌, ◌+◌, ◌++◌, ◌∷◌, List, [], ap, append_assoc, arith, drop, refl}
+use Rattle.std.proofs.Common.{◌∙◌, ◌+◌, ◌++◌, ◌∷◌, List, [], ap, append_assoc, arith, drop, length, length-append, refl}
 use Rattle.qpack_ends.specs.declared.field_section.Span.{Span}
 use Rattle.qpack_ends.specs.Lines.{under}
 use Rattle.qpack_ends.proofs.LineReads.{line_fails, line_large, line_read, line_shortens, text_again, span_of}
@@ -66,6 +66,8 @@ returns-in-Ok-make_room_within-clause-exact g c all held =
       more = h.0.name ++ h.0.value;
       text = text ∙ append_assoc c.args.text.now.items h.0.name h.0.value;
       within = span.0;
+      start = omega (arith, c.len-start.ensures);
+      end = omega (arith, c.len-start.ensures, h.2.name, h.2.value, ap length text, length-append c.args.text.now.items (h.0.name ++ h.0.value), length-append h.0.name h.0.value, ap length (append_assoc c.args.text.now.items h.0.name h.0.value));
       at = span.1;
       sum_is = sum;
       shorter = line_shortens (under c.args.lines.now 0) c.args.buf.now.rest h.0 c.append_line.new.buf.rest h.1;

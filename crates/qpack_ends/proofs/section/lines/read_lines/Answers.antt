@@ -5,8 +5,9 @@ use Rattle.qpack_spec.specs.Field.{field_size}
 use Rattle.qpack_spec.specs.StrictReading.{strict_line_at}
 use Rattle.qpack_ends.specs.FieldSections.{fields_in}
 use Rattle.qpack_ends.specs.Lines.{under}
-use Rattle.qpack_ends.proofs.SectionLines.{fields_more, within_more, goes_bad, goes_on, goes_end, first_is}
+use Rattle.qpack_ends.proofs.SectionLines.{fields_more, goes_bad, goes_on, goes_end, first_is}
 use Rattle.qpack_ends.proofs.SectionLines.{none_is}
+use Rattle.qpack_ends.proofs.SpansInTurn.{all_within, in_turn_more}
 use Rattle.qpack_wire.proofs.Asking.{asks_begun}
 use Rattle.qpack_ends.proofs.Asking.{held_begun, memory_at}
 use Rattle.qpack_ends.proofs.section.lines.read_lines.Goals as goal
@@ -20,7 +21,8 @@ loop-byte-preserved g c =
     let read = strict_line_at (under c.args.lines.now 0) inv.0 c.in-Some.byte.now (drop 1 rest) in
     let a = c.in-Ok.ensures.exact inv.0 inv.1 in
     let fields = fields_more c.loop-byte.buf c.read_line.new.buf c.loop-byte.text.items c.read_line.new.text.items
-    c.loop-byte.spans.items c.read_line.new.spans.items inv.0 c.in-Ok.with read a c.loop-byte.invariant.within in
+    c.loop-byte.spans.items c.read_line.new.spans.items inv.0 c.in-Ok.with read a
+    (all_within 0 (length c.loop-byte.text.items) c.loop-byte.spans.items c.loop-byte.invariant.in_turn) in
     let number : length c.read_line.new.spans.items ≡ suc (length c.loop-byte.spans.items) =
     omega (arith, ap length a.spans, length-append c.loop-byte.spans.items (a.span ∷ [])) in
     record {
@@ -32,8 +34,8 @@ loop-byte-preserved g c =
             (fields_in c.loop-byte.text.items c.loop-byte.spans.items) _ c.in-Some.byte.now (drop 1 rest) a.field
             c.read_line.new.buf.rest inv.2 at a.is a.shorter),
       );
-      within = within_more c.loop-byte.buf c.read_line.new.buf c.loop-byte.text.items c.read_line.new.text.items
-          c.loop-byte.spans.items c.read_line.new.spans.items inv.0 c.in-Ok.with read a c.loop-byte.invariant.within;
+      in_turn = in_turn_more c.loop-byte.buf c.read_line.new.buf c.loop-byte.text.items c.read_line.new.text.items
+          c.loop-byte.spans.items c.read_line.new.spans.items inv.0 c.in-Ok.with read a c.loop-byte.invariant.in_turn;
       begun = inr (held_begun (under c.args.lines.now 0) inv.0 c.in-Some.byte.now c.args.buf.now.rest rest (drop 1 rest)
           a.field c.read_line.new.buf.rest c.loop-byte.invariant.begun at a.is);
       total = a.total ∙ c.loop-byte.invariant.total;

@@ -1,9 +1,8 @@
 use Rattle.std.proofs.Common.{◌≡◌, ℕ, ◌+◌, ◌*◌, ◌/◌, ◌≤◌, length, max, vec_len, vec_capacity}
-use Rattle.std.specs.List.{AllByRecursion}
 use Rattle.qpack_spec.specs.Stateless.{saturated_size}
 use Rattle.qpack_spec.specs.StrictReading.{strict_lines_at}
 use Rattle.qpack_wire.proofs.Asking.{HasBegun}
-use Rattle.qpack_ends.specs.FieldSections.{IsWithin, fields_in}
+use Rattle.qpack_ends.specs.FieldSections.{AreInTurn, fields_in}
 use Rattle.qpack_ends.specs.Lines.{under}
 use Rattle.qpack_ends.proofs.SectionLines.{Goes}
 use Rattle.qpack_ends.proofs.section.lines.read_lines.Given as goal
@@ -15,7 +14,7 @@ invariant-loop-byte g l = record {
       × Goes (under l.fn.lines l.fn.buf.total) (length l.spans.items) all l.buf.rest
       (fields_in l.text.items l.spans.items)
       (strict_lines_at (length l.fn.buf.rest) (under l.fn.lines l.fn.buf.total) 0 0 l.fn.buf.rest);
-  within : AllByRecursion (IsWithin (length l.text.items)) l.spans.items;
+  in_turn : AreInTurn 0 l.spans.items (length l.text.items);
   begun : HasBegun l.fn.buf.rest l.buf.rest;
   total : l.buf.total ≡ l.fn.buf.total;
   held : vec_len l.text + 32 * vec_len l.spans ≤ l.sum;
