@@ -36,7 +36,7 @@ use Rattle.qpack_connection.proofs.TwoEndsHeadline.{step_kept, new_kept}
 
 -- ---- what is kept by calls in turn
 
-run_kept : (maximum limit most : ℕ) → (calls : List Call) (old new : Connection) (steps : List EndStep)
+pub run_kept : (maximum limit most : ℕ) → (calls : List Call) (old new : Connection) (steps : List EndStep)
     → IsKept maximum limit most old steps → (run : Run calls old new) → AllFit calls old new run
     → (done : List EndStep) × IsKept maximum limit most new done
 run_kept maximum limit most [] old new steps k run fits =
@@ -47,7 +47,7 @@ run_kept maximum limit most (call ∷ calls) old new steps k run fits =
 
 -- ---- the encoder stream grows
 
-abbrev Grown : Connection → Connection → Type 0
+abbrev pub Grown : Connection → Connection → Type 0
 Grown old new = (more : List ℕ) × (new.encoder_stream.written ≡ old.encoder_stream.written ++ more)
 
 none_grown : (old new : Connection) → new.encoder_stream.written ≡ old.encoder_stream.written → Grown old new
@@ -75,7 +75,7 @@ call_grown (Cancel s (Ok it)) old new step =
 call_grown (Cancel s (Err e)) old new step =
     none_grown old new (ap (λ (c : Connection). c.encoder_stream.written) step.new_is)
 
-run_grown : (calls : List Call) (old new : Connection) → Run calls old new → Grown old new
+pub run_grown : (calls : List Call) (old new : Connection) → Run calls old new → Grown old new
 run_grown [] old new run = none_grown old new (ap (λ (c : Connection). c.encoder_stream.written) run)
 run_grown (call ∷ calls) old new run =
     let one = call_grown call old run.0 run.1 in

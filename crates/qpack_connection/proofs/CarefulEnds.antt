@@ -105,11 +105,11 @@ stays_begun most old new k is =
 
 -- ---- a call, with any peer
 
-stays_for_memory : (most : ℕ) (old new : EncodingEnd) (fields : List FieldLine) → Stays most old
-    → StopsForMemory old new fields → Stays most new
-stays_for_memory most old new fields k (inl none) = stays_same most old new k none.1
-stays_for_memory most old new fields k (inr (inl begins)) = stays_begun most old new k begins
-stays_for_memory most old new fields k (inr (inr g)) =
+stays_for_memory : (most : ℕ) (old new : EncodingEnd) (s : ℕ) (fields : List FieldLine) → Stays most old
+    → StopsForMemory old new s fields → Stays most new
+stays_for_memory most old new s fields k (inl none) = stays_same most old new k none.1
+stays_for_memory most old new s fields k (inr (inl begins)) = stays_begun most old new k begins.1
+stays_for_memory most old new s fields k (inr (inr g)) =
     stays_with most old new new.table new.unsent k
     (subst (IsCarefulTable 4096) (sym g.lines.table)
     (careful_given_up 4096 (begun old).table (take g.lines.many fields) g.lines.choices
@@ -159,7 +159,7 @@ stays_encoded most old new s fields section (Ok required) k (checks, inr writes)
     stays_begun most old new k writes.new_is
 stays_encoded most old new s fields section (Err e) k (none, inl stopped) = stays_same most old new k stopped.1
 stays_encoded most old new s fields section (Err e) k (none, inr stopped) =
-    stays_for_memory most old new fields k stopped.2
+    stays_for_memory most old new s fields k stopped.2
 
 pub stays_set : (most : ℕ) (old new : EncodingEnd) (n : ℕ) (answer : Result ⊤ EncodingError)
     → Stays most old → SetsCapacity old new n answer → Stays most new
@@ -175,7 +175,7 @@ stays_set most old new n (Ok done) k (alive, inr tells) =
           (ap (λ (y : EncodingEnd). y.stream) tells.1.1) (ap (λ (y : EncodingEnd). y.failure) tells.1.1);
     }
 stays_set most old new n (Err e) k (inl ended) = stays_same most old new k ended.1
-stays_set most old new n (Err e) k (inr stops) = stays_same most old new k stops.1.1
+stays_set most old new n (Err e) k (inr (live, some, stops)) = stays_same most old new k stops.1
 
 -- what all calls so far received, and this one
 abbrev pub HearsAll : EncodingEnd → EncodingEnd → List ℕ → Result ⊤ EncodingError → Type 0

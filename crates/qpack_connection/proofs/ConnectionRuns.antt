@@ -18,7 +18,7 @@ use Rattle.qpack_connection.proofs.TwoEndsHeadline.{step_kept, kept_within, two_
 -- ---- one event
 
 -- one call more, which fits
-run_more : (calls : List Call) (old mid new : Connection) (call : Call) (run : Run calls old mid)
+pub run_more : (calls : List Call) (old mid new : Connection) (call : Call) (run : Run calls old mid)
     → AllFit calls old mid run → (step : Step call mid new) → Fits call mid new step
     → (whole : Run (calls ++ call ∷ []) old new) × AllFit (calls ++ call ∷ []) old new whole
 run_more [] old mid new call run fits step fit =

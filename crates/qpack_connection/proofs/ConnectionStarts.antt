@@ -1,5 +1,5 @@
 -- How a connection begins of which both ends keep all that they wrote.
-use Rattle.std.proofs.Common.{◌≡◌, ℕ, List, [], refl, ap}
+use Rattle.std.proofs.Common.{◌≡◌, ℕ, List, [], refl, ap, arith}
 use Rattle.qpack_spec.specs.Session.{RequestStream}
 use Rattle.qpack_connection.specs.declared.connection.ConnectionSettings.{ConnectionSettings}
 use Rattle.qpack_ends.specs.declared.decoder.DecoderSettings.{DecoderSettings}
@@ -51,7 +51,7 @@ begins_with settings e d given ps is starts begins none =
         encoder_settings = given;
         decoder_settings = settings.decoder;
         same_capacity = ap (λ (s : EncoderSettings). s.max_capacity) is;
-        same_blocked = ap (λ (s : EncoderSettings). s.max_blocked) is;
+        blocks_within = omega (arith, ap (λ (s : EncoderSettings). s.max_blocked) is);
         encoder = starts_sent given e starts;
         decoder = begins_sent settings.decoder d begins;
         encoder_stream = wire_is e.unsent [] 0 starts.unsent;

@@ -9,7 +9,8 @@ use Rattle.qpack_spec.specs.Chosen.{chosen_rule}
 use Rattle.qpack_ends.specs.declared.encoder.EncodingError.{EncodingError}
 use Rattle.qpack_ends.specs.declared.encoder.EncodingError.TheVariants.{Memory}
 use Rattle.qpack_ends.specs.Encoders.{EncodingEnd, begun, begun_with, WritesSection, WritesAlone, GivesUpSection}
-use Rattle.qpack_ends.specs.Encoders.{StopsForMemory, Encodes, SetsIt, SetsCapacity, TellsCapacity}
+use Rattle.qpack_ends.specs.Encoders.{AsksFirst, StopsForMemory, Encodes, SetsIt, SetsCapacity, TellsCapacity}
+use Rattle.qpack_ends.specs.Encoders.{IsNoCapacity}
 use Rattle.qpack_ends.specs.Encoders.{Checks}
 
 -- the end with other bytes that are to be sent
@@ -123,24 +124,28 @@ module _ (e e' : EncodingEnd) (s : ℕ) (fields : List FieldLine) (section : Lis
     ap (with_unsent b.more) same ∙ sym b.same,
   )
 
-  by_memory : (x : EncodingError) → x ≡ Memory → [] ≡ section → Checks e s (Ok tt) → StopsForMemory e e' fields
+  by_memory : (x : EncodingError) → x ≡ Memory → [] ≡ section → Checks e s (Ok tt) → StopsForMemory e e' s fields
       → Adds e e' (IsEncode (Err x))
   by_memory x memory none checks (inl stops) =
       unchanged_adds e e' (IsEncode (Err x)) stops.1
       (λ same. (sym none, inr (checks, memory, inl (stops.0, same))))
   by_memory x memory none checks (inr (inl stops)) =
-      let f = begun_told (begun_framed e) stops in
+      let b = begun_framed e in
+      let f = begun_told b stops.1 in
       record {
         more = f.0;
         written = f.1;
-        call = (sym none, inr (checks, memory, inr (inl f.2)));
+        call = (
+          sym none,
+          inr (checks, memory, inr (inl (subst (λ (y : EncodingEnd). AsksFirst y s) (sym b.same) stops.0, f.2))),
+        );
       }
   by_memory x memory none checks (inr (inr stops)) =
       let f = gives_up_framed (begun_framed e) stops in
       record { more = f.0; written = f.1; call = (sym none, inr (checks, memory, inr (inr f.2))) }
 
   by_error : (x : EncodingError) → section ≡ []
-      → (Checks e s (Err x) × (e' ≡ e)) ⊎ (Checks e s (Ok tt) × (x ≡ Memory) × StopsForMemory e e' fields)
+      → (Checks e s (Err x) × (e' ≡ e)) ⊎ (Checks e s (Ok tt) × (x ≡ Memory) × StopsForMemory e e' s fields)
       → Adds e e' (IsEncode (Err x))
   by_error x none (inl stops) =
       unchanged_adds e e' (IsEncode (Err x)) stops.1 (λ same. (none, inl (stops.0, same)))
@@ -181,12 +186,13 @@ module _ (e e' : EncodingEnd) (n : ℕ) where
       }
 
   refused_set : (x : EncodingError)
-      → ((e.failure ≡ Some x) × (e' ≡ e)) ⊎ ((e.failure ≡ None) × TellsCapacity e e' n (Err x))
+      → ((e.failure ≡ Some x) × (e' ≡ e))
+      ⊎ ((e.failure ≡ None) × (IsNoCapacity e n → ⊥) × TellsCapacity e e' n (Err x))
       → Adds e e' (IsSetting (Err x))
   refused_set x (inl ended) =
       unchanged_adds e e' (IsSetting (Err x)) ended.1 (λ same. (inl (ended.0, same)))
   refused_set x (inr stops) =
-      unchanged_adds e e' (IsSetting (Err x)) stops.1.1 (λ same. (inr (stops.0, (stops.1.0, same))))
+      unchanged_adds e e' (IsSetting (Err x)) stops.2.1 (λ same. (inr (stops.0, stops.1, (stops.2.0, same))))
 
   pub capacity_framed : (answer : Result ⊤ EncodingError) → SetsCapacity e e' n answer → Adds e e' (IsSetting answer)
   capacity_framed (Ok it) call = set_framed call.0 call.1

@@ -49,7 +49,7 @@ use Rattle.qpack_connection.proofs.KeptEncoderCalls.{IsKept, Behind, decoder_kep
 
 -- ---- bytes of the encoder stream
 
-ends_keep : (d0 d : DecodingEnd) (taken : Result ⊤ EncoderStreamError) (a : Result ℕ DecodingError)
+pub ends_keep : (d0 d : DecodingEnd) (taken : Result ⊤ EncoderStreamError) (a : Result ℕ DecodingError)
     → EndsReceiving d0 d taken a → (d.settings ≡ d0.settings) × (d.blocked ≡ d0.blocked)
 ends_keep d0 d (Ok it) (Ok total) ends =
     (ap (λ (y : DecodingEnd). y.settings) ends.1, ap (λ (y : DecodingEnd). y.blocked) ends.1)
@@ -183,7 +183,7 @@ refused_cancellation_kept maximum limit most old new s x steps k step =
     by_kind (inr (checks, memory, some, same)) = same
 
 -- after an error of a decode the streams that are counted are as before, or the others
-error_keeps : (old d : DecodingEnd) (s : ℕ) (read : StrictReading) (e : DecodingError)
+pub error_keeps : (old d : DecodingEnd) (s : ℕ) (read : StrictReading) (e : DecodingError)
     → IsNotAnswered old d s e ⊎ (Checks old s (Ok tt) × StopsDecoding old d s read e)
     → (d.settings ≡ old.settings) × ((d.blocked ≡ old.blocked) ⊎ (d.blocked ≡ without s old.blocked))
 error_keeps old d s read e (inl none) =
@@ -199,7 +199,7 @@ error_keeps old d s read decoding.Memory (inr (checks, stops)) = elim (stops_for
 error_keeps old d s read (decoding.EncoderStream p x) (inr (checks, tells)) = absurd tells
 error_keeps old d s read (decoding.NoStream q) (inr (checks, tells)) = absurd tells
 
-acknowledged_keeps : (old d : DecodingEnd) (s required : ℕ) → d ≡ acknowledged s required old
+pub acknowledged_keeps : (old d : DecodingEnd) (s required : ℕ) → d ≡ acknowledged s required old
     → (d.settings ≡ old.settings) × (d.blocked ≡ without s old.blocked)
 acknowledged_keeps old d s zero is =
     (ap (λ (y : DecodingEnd). y.settings) is, ap (λ (y : DecodingEnd). y.blocked) is)
@@ -223,8 +223,8 @@ decode_kept maximum limit most old new s fields answer steps k step = (
     r : AnswersSection old.decoder s step.section fields answer × IsOpen new × (more : List EndStep)
         × RefinesSession maximum new (after_end_steps (steps ++ more) (abstract_start 0 maximum limit))
     r = decodes_refined maximum limit old new steps s fields answer k.refines k.alive step
-        (may_wait maximum limit old steps s step.section k.refines (omega (arith, k.encoder.few, k.settings)) k.waiting
-        step.live step.is_next)
+        (may_wait maximum limit old steps s step.section k.refines
+        (omega (arith, k.encoder.few, k.within, k.settings)) k.waiting step.live step.is_next)
 
     made : step.section.required ≤ insert_count old.encoder.table
     made =

@@ -1,5 +1,5 @@
 -- What is kept between the calls of a connection in bytes, and by each call of the encoder.
-use Rattle.std.proofs.Common.{◌≡◌, ℕ, List, [], ◌++◌}
+use Rattle.std.proofs.Common.{◌≡◌, ◌≤◌, ℕ, List, [], ◌++◌}
 use Rattle.std.proofs.Common.{Result, Ok, Err, sym, ap, subst, ◌∙◌, inl, inr, ◌⊎◌}
 use Rattle.std.proofs.lemmas.List.{append-nil}
 use Rattle.std.specs.Prelude.{⊤}
@@ -38,7 +38,9 @@ pub record IsKept (maximum limit most : ℕ) (c : Connection) (steps : List EndS
   pub refines : RefinesSession maximum c (after_end_steps steps (abstract_start 0 maximum limit))
   pub alive : IsOpen c
   pub sound : IsSound c.encoder
-  pub encoder : Stays most c.encoder
+  pub most_at_risk : ℕ
+  pub encoder : Stays most_at_risk c.encoder
+  pub within : most_at_risk ≤ most
   pub settings : c.decoder.settings.max_blocked ≡ most
   pub waiting : BlockedAreNext c
 
@@ -49,10 +51,10 @@ Behind maximum limit most call old new step steps =
 
 -- by a call of the encoder
 pub encoder_kept : (maximum limit most : ℕ) (old new : Connection) (e : EncodingEnd) (steps more : List EndStep)
-    → IsKept maximum limit most old steps
+    → (k : IsKept maximum limit most old steps)
     → RefinesSession maximum new (after_end_steps (steps ++ more) (abstract_start 0 maximum limit))
     → new.encoder ≡ record e { unsent = [] } → new.decoder ≡ old.decoder → IsSound e
-    → e.failure ≡ old.encoder.failure → Stays most e → ((s : ℕ) → KeepsNext old new s)
+    → e.failure ≡ old.encoder.failure → Stays k.most_at_risk e → ((s : ℕ) → KeepsNext old new s)
     → IsKept maximum limit most new (steps ++ more)
 encoder_kept maximum limit most old new e steps more k refines is same sound failure encoder next =
     record {
@@ -62,7 +64,9 @@ encoder_kept maximum limit most old new e steps more k refines is same sound fai
         decoder = ap (λ (y : DecodingEnd). y.failure) same ∙ k.alive.decoder;
       };
       sound = subst IsSound (sym is) (sound_sent e sound);
-      encoder = subst (Stays most) (sym is) (stays_sent most e [] encoder);
+      most_at_risk = k.most_at_risk;
+      encoder = subst (Stays k.most_at_risk) (sym is) (stays_sent k.most_at_risk e [] encoder);
+      within = k.within;
       settings = ap (λ (y : DecodingEnd). y.settings.max_blocked) same ∙ k.settings;
       waiting = waiting_same old new (ap (λ (y : DecodingEnd). y.blocked) same) next k.waiting;
     }
@@ -78,7 +82,9 @@ decoder_kept maximum limit most old new d steps more k refines alive same is set
       refines = refines;
       alive = alive;
       sound = subst IsSound (sym same) k.sound;
-      encoder = subst (Stays most) (sym same) k.encoder;
+      most_at_risk = k.most_at_risk;
+      encoder = subst (Stays k.most_at_risk) (sym same) k.encoder;
+      within = k.within;
       settings = ap (λ (y : DecodingEnd). y.settings.max_blocked) is
           ∙ ap (λ s. s.max_blocked) settings ∙ k.settings;
       waiting = waiting;
@@ -121,7 +127,8 @@ section_kept maximum limit most old new s fields required steps k step fits =
           (ap (λ (y : Connection). y.encoder) step.new_is) (ap (λ (y : Connection). y.decoder) step.new_is)
           (sound_begun old.encoder step.encoder k.sound like.0 like.1 like.2)
           (like.2 ∙ begun_failure old.encoder.wanted old.encoder)
-          (stays_encoded most old.encoder step.encoder s fields step.section (Ok required) k.encoder step.call)
+          (stays_encoded k.most_at_risk old.encoder step.encoder s fields step.section (Ok required) k.encoder
+          step.call)
           (λ q. (
             λ x e. ap (λ (y : Connection). oldest_undecoded (stream_at y.streams q)) step.new_is
                 ∙ next_more old.streams s (record { fields = fields; bytes = step.section; required = required }) q x e,
@@ -155,7 +162,7 @@ refused_section_kept maximum limit most old new s fields x steps k step fits =
       encoder_kept maximum limit most old new step.encoder steps r.2 k r.3
           (ap (λ (y : Connection). y.encoder) step.new_is) (ap (λ (y : Connection). y.decoder) step.new_is)
           kept.0 kept.1
-          (stays_encoded most old.encoder step.encoder s fields step.section (Err x) k.encoder step.call)
+          (stays_encoded k.most_at_risk old.encoder step.encoder s fields step.section (Err x) k.encoder step.call)
           (stays old new (ap (λ (y : Connection). y.streams) step.new_is)),
     )
   where
@@ -174,11 +181,11 @@ refused_section_kept maximum limit most old new s fields x steps k step fits =
     by_call : (encoders.Checks old.encoder s (Err x) × (e ≡ old.encoder))
         ⊎ (encoders.Checks old.encoder s (Ok tt)
         × (x ≡ encoding.Memory)
-        × encoders.StopsForMemory old.encoder e fields)
+        × encoders.StopsForMemory old.encoder e s fields)
         → IsSound e × (e.failure ≡ old.encoder.failure)
     by_call (inl none) = same none.1
     by_call (inr (checks, memory, inl none)) = same none.1
-    by_call (inr (checks, memory, inr (inl told))) = like (like_same e (begun old.encoder) told)
+    by_call (inr (checks, memory, inr (inl told))) = like (like_same e (begun old.encoder) told.1)
     by_call (inr (checks, memory, inr (inr g))) =
         like (like_with e (begun old.encoder) e.table e.unsent g.new_is)
 
@@ -192,7 +199,7 @@ capacity_kept maximum limit most old new n steps k step =
       r.0,
       encoder_kept maximum limit most old new step.encoder steps r.0 k r.1
           (ap (λ (y : Connection). y.encoder) step.new_is) (ap (λ (y : Connection). y.decoder) step.new_is)
-          kept.0 kept.1 (stays_set most old.encoder step.encoder n (Ok tt) k.encoder step.call)
+          kept.0 kept.1 (stays_set k.most_at_risk old.encoder step.encoder n (Ok tt) k.encoder step.call)
           (stays old new (ap (λ (y : Connection). y.streams) step.new_is)),
     )
   where
@@ -216,13 +223,13 @@ refused_capacity_kept maximum limit most old new n x steps k step =
       encoder_kept maximum limit most old new step.encoder steps [] k (none_more maximum limit new steps r.2)
           (ap (λ (y : Connection). y.encoder) step.new_is) (ap (λ (y : Connection). y.decoder) step.new_is)
           (subst IsSound (sym same) k.sound) (ap (λ (y : EncodingEnd). y.failure) same)
-          (stays_same most old.encoder step.encoder k.encoder same)
+          (stays_same k.most_at_risk old.encoder step.encoder k.encoder same)
           (stays old new (ap (λ (y : Connection). y.streams) step.new_is)),
     )
   where
     by_kind : encoders.SetsCapacity old.encoder step.encoder n (Err x) → step.encoder ≡ old.encoder
     by_kind (inl ended) = ended.1
-    by_kind (inr stops) = stops.1.1
+    by_kind (inr (live, some, stops)) = stops.1
 
 pub hearing_kept : (maximum limit most : ℕ) (old new : Connection) (many : ℕ) (answer : Result ⊤ EncodingError)
     (steps : List EndStep) → IsKept maximum limit most old steps → (step : HearsOn old new many answer)
@@ -235,7 +242,8 @@ hearing_kept maximum limit most old new many answer steps k step = (
       (subst IsSound (sym is) (received_sound old.encoder e.table e.stream (next_of many old.decoder_stream) k.sound
       k.alive.encoder (λ heard before h. (hears heard before h).0)))
       (ap (λ (y : EncodingEnd). y.failure) is)
-      (stays_heard most old.encoder e (next_of many old.decoder_stream) (Ok tt) k.encoder k.alive.encoder hears)
+      (stays_heard k.most_at_risk old.encoder e (next_of many old.decoder_stream) (Ok tt) k.encoder
+      k.alive.encoder hears)
       (stays old new (ap (λ (y : Connection). y.streams) step.new_is)),
 )
   where

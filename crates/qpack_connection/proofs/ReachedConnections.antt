@@ -87,7 +87,9 @@ laid_kept maximum limit most s ps steps keeps k =
       refines = refines_shown maximum s ps _ keeps k.refines;
       alive = record { encoder = k.alive.encoder; decoder = k.alive.decoder };
       sound = k.sound;
+      most_at_risk = k.most_at_risk;
       encoder = k.encoder;
+      within = k.within;
       settings = k.settings;
       waiting = waiting_same (laid_out ps s) s refl
           (λ n. (

@@ -115,16 +115,16 @@ refused_encodes maximum limit c new steps s fields x r alive sound are short cal
           k),
     )
 
-    by_memory : StopsEncoding s x → StopsForMemory c.encoder e fields
+    by_memory : StopsEncoding s x → StopsForMemory c.encoder e s fields
         → StopsEncoding s x × IsOpen new × (more : List EndStep)
         × RefinesSession maximum new (after_end_steps (steps ++ more) start)
     by_memory stops (inl same) =
         behind [] (same_refined maximum c w e r same.1) (ap (λ (y : EncodingEnd). y.failure) same.1) stops
     by_memory stops (inr (inl told)) =
         behind first.0
-        (subst (λ (y : EncodingEnd). RefinesSession maximum (with_encoder y c) (after_end_steps first.0 w)) (sym told)
+        (subst (λ (y : EncodingEnd). RefinesSession maximum (with_encoder y c) (after_end_steps first.0 w)) (sym told.1)
         first.1)
-        (ap (λ (y : EncodingEnd). y.failure) told ∙ begun_failure c.encoder.wanted c.encoder) stops
+        (ap (λ (y : EncodingEnd). y.failure) told.1 ∙ begun_failure c.encoder.wanted c.encoder) stops
     by_memory stops (inr (inr g)) =
         let some = take g.lines.many fields in
         let cs = g.lines.choices in
@@ -159,7 +159,7 @@ refused_encodes maximum limit c new steps s fields x r alive sound are short cal
 
     by_call : (Checks c.encoder s (Err x) × (e ≡ c.encoder))
         ⊎ (Checks c.encoder s (Ok tt) × (x ≡ encoding.Memory)
-        × StopsForMemory c.encoder e fields)
+        × StopsForMemory c.encoder e s fields)
         → StopsEncoding s x × IsOpen new × (more : List EndStep)
         × RefinesSession maximum new (after_end_steps (steps ++ more) start)
     by_call (inl (inl ended, same)) = absurd (let q = sym alive.encoder ∙ ended in cc)
@@ -172,11 +172,11 @@ pub refused_capacities : RefusedCapacitiesAreRefined
 refused_capacities maximum limit c new steps n x r alive call = elim call.call [
   | inl ended ↦ absurd (let q = sym alive.encoder ∙ ended.0 in cc)
   | inr stops ↦ (
-    stops.1.0,
-    open_encoder c new call.encoder alive call.new_is (ap (λ (y : EncodingEnd). y.failure) stops.1.1),
+    stops.2.0,
+    open_encoder c new call.encoder alive call.new_is (ap (λ (y : EncodingEnd). y.failure) stops.2.1),
     subst (λ (y : Connection). RefinesSession maximum y (after_end_steps steps (abstract_start 0 maximum limit)))
         (sym call.new_is)
-        (same_refined maximum c (after_end_steps steps (abstract_start 0 maximum limit)) call.encoder r stops.1.1),
+        (same_refined maximum c (after_end_steps steps (abstract_start 0 maximum limit)) call.encoder r stops.2.1),
   )
 ]
 

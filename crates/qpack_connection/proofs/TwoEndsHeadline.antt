@@ -21,7 +21,7 @@ use Rattle.qpack_connection.specs.TwoEndsHeadline.{TwoEndsAnswerWhatWasHanded}
 use Rattle.qpack_connection.specs.Waiting.{AreOfOneEach, IsNextOf}
 use Rattle.qpack_connection.proofs.RefinedCapacities.{new_refined}
 use Rattle.qpack_connection.proofs.FirstEnds.{sound_first}
-use Rattle.qpack_connection.proofs.CarefulEnds.{Stays, stays_first}
+use Rattle.qpack_connection.proofs.CarefulEnds.{stays_first}
 use Rattle.qpack_connection.proofs.WaitingStreams.{apart_from_none, none_waits_twice, all_at_risk}
 use Rattle.qpack_ends.specs.Risk.{streams_at_risk}
 use Rattle.qpack_ends.proofs.Risk.{at_risk_within}
@@ -72,8 +72,8 @@ kept_within maximum limit most c steps k =
     ap (λ (t : Table). length (streams_at_risk t)) r.encoder_is in
     record {
       open_ends = k.alive;
-      blocked = k.encoder.few;
-      waiting = omega (arith, few, length-map waiting (λ (b : BlockedStream). b.stream), same, k.encoder.few);
+      blocked = omega (arith, k.encoder.few, k.within);
+      waiting = omega (arith, few, length-map waiting (λ (b : BlockedStream). b.stream), same, k.encoder.few, k.within);
       known = omega (
         arith,
         safe.received,
@@ -107,7 +107,9 @@ new_kept c k =
       refines = new_refined c k;
       alive = record { encoder = k.encoder.failure; decoder = k.decoder.failure };
       sound = new_sound c k;
-      encoder = subst (λ (m : ℕ). Stays m c.encoder) k.same_blocked (stays_first k.encoder_settings c.encoder k.encoder);
+      most_at_risk = k.encoder_settings.max_blocked;
+      encoder = stays_first k.encoder_settings c.encoder k.encoder;
+      within = k.blocks_within;
       settings = ap (λ x. x.max_blocked) k.decoder.settings_are;
       waiting = record {
         once = subst AreOfOneEach (sym k.decoder.blocked) tt;

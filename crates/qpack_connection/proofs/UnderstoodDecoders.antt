@@ -42,7 +42,7 @@ use Rattle.qpack_ends.specs.Encoders.{may_block}
 use Rattle.qpack_ends.specs.Wishes.{limited, KeepsWishes}
 use Rattle.qpack_ends.proofs.Risk.{none_yet}
 
-step_stays : (settings : EncoderSettings) (call : Call) (old new : EncodingEnd) → Stays settings.max_blocked old
+pub step_stays : (settings : EncoderSettings) (call : Call) (old new : EncodingEnd) → Stays settings.max_blocked old
     → Step call old new → Stays settings.max_blocked new
 step_stays settings (Encode s fields wishes section answer) old new k step =
     stays_encoded settings.max_blocked old new s fields section answer k step.0
@@ -182,12 +182,12 @@ goes_on settings old new s [] wishes section required k wished = tt
 abbrev AnswersSo : EncoderSettings → Call → EncodingEnd → EncodingEnd → Type 0
 AnswersSo settings call old new = Answers settings call old × (new.failure ≡ None)
 
-memory_alive : (old new : EncodingEnd) (fields : List FieldLine) → old.failure ≡ None → StopsForMemory old new fields
-    → new.failure ≡ None
-memory_alive old new fields alive (inl none) = ap (λ (y : EncodingEnd). y.failure) none.1 ∙ alive
-memory_alive old new fields alive (inr (inl told)) =
-    ap (λ (y : EncodingEnd). y.failure) told ∙ begun_failure old.wanted old ∙ alive
-memory_alive old new fields alive (inr (inr g)) =
+memory_alive : (old new : EncodingEnd) (s : ℕ) (fields : List FieldLine) → old.failure ≡ None
+    → StopsForMemory old new s fields → new.failure ≡ None
+memory_alive old new s fields alive (inl none) = ap (λ (y : EncodingEnd). y.failure) none.1 ∙ alive
+memory_alive old new s fields alive (inr (inl told)) =
+    ap (λ (y : EncodingEnd). y.failure) told.1 ∙ begun_failure old.wanted old ∙ alive
+memory_alive old new s fields alive (inr (inr g)) =
     ap (λ (y : EncodingEnd). y.failure) g.new_is ∙ begun_failure old.wanted old ∙ alive
 
 encode_answers : (settings : EncoderSettings) (old new : EncodingEnd) (s : ℕ) (fields : List FieldLine)
@@ -208,7 +208,7 @@ encode_answers settings old new s fields wishes section (Err e) k alive (none, i
 encode_answers settings old new s fields wishes section (Err e) k alive (none, inl (inr number, same)) wished =
     (inr (number.2, number.1), ap (λ (y : EncodingEnd). y.failure) same ∙ alive)
 encode_answers settings old new s fields wishes section (Err e) k alive (none, inr stopped) wished =
-    (inl stopped.1, memory_alive old new fields alive stopped.2)
+    (inl stopped.1, memory_alive old new s fields alive stopped.2)
 
 set_answers : (settings : EncoderSettings) (old new : EncodingEnd) (n : ℕ) (answer : Result ⊤ EncodingError)
     → old.failure ≡ None → SetsCapacity old new n answer → AnswersSo settings (SetCapacity n answer) old new
@@ -217,8 +217,8 @@ set_answers settings old new n (Ok done) alive (live, inl none) =
 set_answers settings old new n (Ok done) alive (live, inr tells) =
     (tt, ap (λ (y : EncodingEnd). y.failure) tells.1.1 ∙ alive)
 set_answers settings old new n (Err e) alive (inl ended) = absurd (let x = sym alive ∙ ended.0 in cc)
-set_answers settings old new n (Err e) alive (inr stops) =
-    (stops.1.0, ap (λ (y : EncodingEnd). y.failure) stops.1.1 ∙ alive)
+set_answers settings old new n (Err e) alive (inr (live, some, stops)) =
+    (stops.0, ap (λ (y : EncodingEnd). y.failure) stops.1 ∙ alive)
 
 hear_answers : (settings : EncoderSettings) (old new : EncodingEnd) (bytes : List ℕ) (answer : Result ⊤ EncodingError)
     → Stays settings.max_blocked old → old.failure ≡ None → (l : IsLawful old bytes)

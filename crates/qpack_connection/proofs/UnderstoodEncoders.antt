@@ -55,14 +55,14 @@ use Rattle.qpack_connection.proofs.LawfulEncoders.{all_made, taken, is_read_as, 
 
 -- what holds between calls: no error ended the connection, what came of the encoder stream is received, no more
 -- insertions are reported than were made, each stream that waits is counted once, and the settings are as they were
-record Stays (settings : DecoderSettings) (x : Decoder) : Type 0 where
+pub record Stays (settings : DecoderSettings) (x : Decoder) : Type 0 where
   pub alive : x.end.failure ≡ None
   pub settings_are : x.end.settings ≡ settings
   pub stream : Receives (empty_table 0 (Some settings.max_capacity) 0) x.end.table x.come x.end.stream
   pub told : x.end.reported ≤ insert_count x.end.table
   pub once : AreOfOneEach x.end.blocked
 
-stays_first : (settings : DecoderSettings) (x : Decoder) → Begins settings x.end → x.come ≡ [] → Stays settings x
+pub stays_first : (settings : DecoderSettings) (x : Decoder) → Begins settings x.end → x.come ≡ [] → Stays settings x
 stays_first settings x b none =
     record {
       alive = b.failure;
@@ -213,9 +213,10 @@ lawful_stream settings p d come same l =
       },
     )
 
-receive_answers : (settings : DecoderSettings) (x y : Decoder) (bytes left : List ℕ) (answer : Result ℕ DecodingError)
+pub receive_answers : (settings : DecoderSettings) (x y : Decoder) (bytes left : List ℕ) (answer : Result ℕ DecodingError)
     (p : Encoder) → Stays settings x → (l : IsLawful p x.end (x.come ++ bytes)) → Step (Receive bytes left answer) x y
     → Answers (Receive bytes left answer) x y (p, l) × Stays settings y
+    × (insert_count x.end.table ≤ insert_count y.end.table)
 receive_answers settings x y bytes left answer p k l step = by_taken answer call.taken call.stream call.ends
   where
     start : Table
@@ -308,6 +309,7 @@ receive_answers settings x y bytes left answer p k l step = by_taken answer call
         → ReceivesMore start x.end.table y.end.table x.come bytes left x.end.stream y.end.stream (Err stream.Memory)
         → EndsReceiving (received y.end.table y.end.stream x.end) y.end (Err stream.Memory) a
         → Answers (Receive bytes left a) x y (p, l) × Stays settings y
+        × (insert_count x.end.table ≤ insert_count y.end.table)
     by_memory a more ends =
         let t = more.0 in (
           subst (λ (r : Result ℕ DecodingError). Answers (Receive bytes left r) x y (p, l)) (sym ends.0) refl,
@@ -319,23 +321,27 @@ receive_answers settings x y bytes left answer p k l step = by_taken answer call
                 k.told,
                 counts_longer t.taken left t.cut t.stream t.no_longer,
               )),
+          counts_longer t.taken left t.cut t.stream t.no_longer,
         )
 
     by_taken : (a : Result ℕ DecodingError) (taken : Result ⊤ EncoderStreamError)
         → ReceivesMore start x.end.table y.end.table x.come bytes left x.end.stream y.end.stream taken
         → EndsReceiving (received y.end.table y.end.stream x.end) y.end taken a
         → Answers (Receive bytes left a) x y (p, l) × Stays settings y
+        × (insert_count x.end.table ≤ insert_count y.end.table)
     by_taken (Ok total) (Ok it) s ends = (
       (ends.0, s.0, λ all. ends.0 ∙ all_came all s),
       came bytes (all_cut s.0) s.2 (ap (λ (e : DecodingEnd). e.failure) ends.1) (ap (λ (e : DecodingEnd). e.settings) ends.1)
           (ap (λ (e : DecodingEnd). e.blocked) ends.1)
           (omega (arith, ap (λ (e : DecodingEnd). e.reported) ends.1)),
+      counts_whole s,
     )
     by_taken (Err e) (Ok it) s ends = (
       ends.0,
       came bytes (all_cut s.0) s.2 (ap (λ (d : DecodingEnd). d.failure) ends.2) (ap (λ (d : DecodingEnd). d.settings) ends.2)
           (ap (λ (d : DecodingEnd). d.blocked) ends.2)
           (omega (arith, ap (λ (d : DecodingEnd). d.reported) ends.2, k.told, counts_whole s)),
+      counts_whole s,
     )
     by_taken a (Err stream.Memory) s ends = by_memory a s ends
     by_taken a (Err (stream.Refused place e)) s ends =
@@ -386,10 +392,10 @@ may_wait p d s k limit known once missing one =
 
 -- ---- all calls
 
-step_answers : (settings : DecoderSettings) (call : Call) (x y : Decoder) → Stays settings x → Step call x y
+pub step_answers : (settings : DecoderSettings) (call : Call) (x y : Decoder) → Stays settings x → Step call x y
     → (asked : IsLawfulCall call x) → Answers call x y asked × Stays settings y
 step_answers settings (Receive bytes left answer) x y k step asked =
-    receive_answers settings x y bytes left answer asked.0 k asked.1 step
+    let r = receive_answers settings x y bytes left answer asked.0 k asked.1 step in (r.0, r.1)
 step_answers settings (Decode s section fields answer) x y k step asked =
     let p = asked.0 in
     let stream = subst (λ (c : DecoderSettings). Receives (empty_table 0 (Some c.max_capacity) 0) x.end.table x.come

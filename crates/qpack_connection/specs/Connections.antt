@@ -1,7 +1,7 @@
 -- A connection in bytes: an encoding end and the decoding end of its peer, the two instruction streams between them,
 -- and the sections of each request stream (RFC 9204, sections 2 and 4.2). A step is a call of an end, and what it makes
 -- of that end is what the call's contract says.
-use Rattle.std.specs.Prelude.{◌≡◌, ℕ, ⊤, ◌+◌, ◌-◌, nat_lt, true, false, if◌then◌else◌, List, [], ◌∷◌, ◌++◌}
+use Rattle.std.specs.Prelude.{◌≡◌, ◌≤◌, ℕ, ⊤, ◌+◌, ◌-◌, nat_lt, true, false, if◌then◌else◌, List, [], ◌∷◌, ◌++◌}
 use Rattle.std.specs.Prelude.{length, take, drop, None, Some, Result, Ok, Err}
 use Rattle.std.specs.Option.{IfSome}
 use Rattle.qpack_spec.specs.Field.{FieldLine}
@@ -57,12 +57,13 @@ pub record Connection : Type 0 where
   pub decoder_stream : Wire
   pub streams : List (ℕ × RequestStream SentSection)
 
--- both ends were made with the same settings, and nothing has happened (section 3.2.3)
+-- both ends were made with one maximum capacity, the encoding end lets no more streams be blocked than the decoding end
+-- does, and nothing has happened (sections 2.1.2 and 3.2.3)
 pub record IsNew (c : Connection) : Type 0 where
   pub encoder_settings : EncoderSettings
   pub decoder_settings : DecoderSettings
   pub same_capacity : encoder_settings.max_capacity ≡ decoder_settings.max_capacity
-  pub same_blocked : encoder_settings.max_blocked ≡ decoder_settings.max_blocked
+  pub blocks_within : encoder_settings.max_blocked ≤ decoder_settings.max_blocked
   pub encoder : Starts encoder_settings c.encoder
   pub decoder : Begins decoder_settings c.decoder
   pub encoder_stream : c.encoder_stream ≡ record { written = []; received = 0 }

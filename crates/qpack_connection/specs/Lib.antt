@@ -19,7 +19,9 @@ pub mod LawfulEncoders
 pub mod LawfulDecoders
 pub mod OwnedLines
 pub mod ConnectionEvents
-pub mod HandedFields
 pub mod ConnectionRuns
+pub mod Headline
 pub mod ArrivedSections
 pub mod SettledSections
+pub mod LawfulRows
+pub mod LawfulEnds

@@ -4,8 +4,8 @@
 ghost use Rattle.std.specs.Prelude.{◌≡◌, ◌+◌, ◌≤◌, length, vec_len, vec_capacity, IfOk, IfErr};
 ghost use Rattle.qpack_connection.specs.ConnectionEvents.{encoder_settings, BeginsWith, Goes, IsReached};
 ghost use Rattle.qpack_connection.specs.ConnectionRuns.{AnswersEvent, StepsAll, GoesFrom, RefusesRun};
-ghost use Rattle.qpack_connection.specs.ConnectionRuns.{AnswerWhatWasHanded, calls_of};
-ghost use Rattle.qpack_connection.specs.HandedFields.{DecodeInOrder};
+ghost use Rattle.qpack_connection.specs.ConnectionRuns.{AnswerWhatWasHanded};
+ghost use Rattle.qpack_connection.specs.Headline.{EventsAnswerWhatWasHanded};
 ghost use Rattle.qpack_connection.specs.declared.connection.RunError.TheVariants.{Settings, Memory};
 ghost use Rattle.qpack_ends.specs.Decoders.{FailsSettings};
 ghost use Rattle.qpack_connection.specs.TwoEndsHeadline.{IsWithin};
@@ -233,9 +233,11 @@ pub fn run(
     // The events in turn, each with its answer, lead from a new connection of these settings to the one that is
     // answered.
     ensures goes { IfOk result (λ p. GoesFrom settings events.items p.1.items p.0) }
-    // The headline, by events and answers alone: on each stream the fields that were decoded are the first of those
-    // that were handed to encodes, section by section and with their marks, in order.
-    ensures headline { IfOk result (λ p. DecodeInOrder (calls_of events.items p.1.items)) }
+    // The headline, by events and outcomes alone: on each stream each decode answers exactly the fields of the next
+    // section that was handed to an encode, with their marks, and waits exactly while fewer insertions were received
+    // than that encode answered. No end refuses what the other sent, no other error is answered than may be, each skip
+    // has its reason, and no more streams wait than may.
+    ensures headline { IfOk result (λ p. EventsAnswerWhatWasHanded settings events.items p.1.items) }
     // The theorem of two ends: neither end refuses what the other sent, each section is decoded exactly to what was
     // handed to its encode, or waits while fewer insertions were received than it requires, and no more streams are
     // blocked than may be.

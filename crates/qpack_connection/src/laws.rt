@@ -3,6 +3,11 @@
 ghost use Rattle.qpack_connection.specs.LawfulDecoders.{EncodersAreCareful, LawfulDecodersAreUnderstood};
 ghost use Rattle.qpack_connection.specs.LawfulEncoders.{LawfulEncodersAreUnderstood};
 ghost use Rattle.qpack_connection.specs.ArrivedSections.{SectionsArrive};
+ghost use Rattle.qpack_connection.specs.LawfulEnds.{EncodersKeepToTheStandard, DecodersWriteWhatTheyMay};
+ghost use Rattle.qpack_connection.specs.LawfulEnds.{EncodersAreWriters, HeardFrontsLeaveTheRest};
+ghost use Rattle.qpack_connection.specs.LawfulRows.{AppendixEncoderIsLawful, AppendixSectionsAreLawful};
+ghost use Rattle.qpack_connection.specs.LawfulRows.{AppendixDecoderIsLawful, AppendixSectionsAreInOrder};
+ghost use Rattle.qpack_connection.specs.LawfulRows.{AppendixDecoderIsPeer};
 ghost use Rattle.qpack_connection.specs.LawfulPieces.{EncoderStreamsAreNeverRefused, DecoderStreamsAreNeverRefused};
 ghost use Rattle.qpack_connection.specs.RefinedConnections.{NewConnectionsAreRefined, EncodesAreRefined};
 ghost use Rattle.qpack_connection.specs.RefinedConnections.{CapacitiesAreRefined, CancellationsAreRefined};
@@ -82,4 +87,35 @@ pub fn sections_arrive()
 /// sections of ready streams ends (RFC 9204, section 2.2.1).
 pub fn sections_settle()
     ensures { SectionsSettle }
+{}
+
+/// What the laws ask of a peer is met by the ends of RFC 9204, appendix B, at each of its moments: its encoder stream,
+/// however it is cut; its sections, also marked ones, those with a base above, at and below their count, and those that
+/// wait; and its decoder stream, also where more than one insertion is reported at once. Its sections are decoded in
+/// order, and its decoder is a peer of its encoder.
+pub fn ends_of_the_standard_are_lawful()
+    ensures encoder_stream { AppendixEncoderIsLawful }
+    ensures sections { AppendixSectionsAreLawful }
+    ensures decoder_stream { AppendixDecoderIsLawful }
+    ensures order { AppendixSectionsAreInOrder }
+    ensures peers { AppendixDecoderIsPeer }
+{}
+
+/// What [`ConnectionEncoder`](crate::ConnectionEncoder) writes is what the laws of a decoder ask of its peer, whatever
+/// its own peer writes. After each call all that it wrote on the encoder stream is lawful, however much of it has come;
+/// each section is lawful while it is neither acknowledged nor cancelled; and no more streams are at risk than may be
+/// blocked (RFC 9204, sections 2.1, 3.2, 4.3 and 4.5). All calls of a new encoder are such calls.
+pub fn encoders_keep_to_the_standard()
+    ensures keep { EncodersKeepToTheStandard }
+    ensures writers { EncodersAreWriters }
+{}
+
+/// What [`ConnectionDecoder`](crate::ConnectionDecoder) writes is what the laws of an encoder ask of its peer. That
+/// holds with any encoder that keeps to the standard, whose sections are decoded in order on each stream. After any
+/// calls all that was written is acknowledgments of sections that were decoded, each once, cancellations, and
+/// increments of no more insertions than were received. Once a front of it was heard, the rest is still what may be
+/// written (RFC 9204, sections 2.1.4, 2.2.2 and 4.4).
+pub fn decoders_write_what_they_may()
+    ensures written { DecodersWriteWhatTheyMay }
+    ensures rest { HeardFrontsLeaveTheRest }
 {}

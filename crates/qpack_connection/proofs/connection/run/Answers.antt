@@ -1,7 +1,6 @@
 use Rattle.std.proofs.lemmas.Result.{err_from_is_err_and}
 use Rattle.qpack_connection.proofs.ConnectionRuns.{goes_from_new, all_answer}
-use Rattle.qpack_connection.proofs.HandedFields.{decode_in_order}
-use Rattle.qpack_connection.specs.ConnectionRuns.{calls_of}
+use Rattle.qpack_connection.proofs.Headline.{events_answer}
 use Rattle.qpack_connection.proofs.connection.run.Goals as goal
 
 pub returns-clause-goes : goal.returns-clause-goes
@@ -23,9 +22,11 @@ returns-clause-answers c =
 
 pub returns-clause-headline : goal.returns-clause-headline
 returns-clause-headline c =
-    let all = returns-clause-answers c in
-    decode_in_order c.args.settings.decoder.max_blocked (calls_of c.args.events.items c.step_all.new.outcomes.items)
-    all.first all.last all.begins.new all.run all.answers
+    events_answer c.args.settings c.in_ok-connection.connection c.step_all.new.self c.args.events.items
+    c.step_all.new.outcomes.items c.in_ok-connection.ensures.ok
+    (goes_from_new c.args.settings c.in_ok-connection.connection c.step_all.new.self c.args.events.items
+    c.in_ok-outcomes.outcomes.items c.step_all.new.outcomes.items c.in_ok-connection.ensures.ok
+    c.in_ok-outcomes.ensures.items c.step_all.ensures)
 
 pub returns-in_err-outcomes-clause-err : goal.returns-in_err-outcomes-clause-err
 returns-in_err-outcomes-clause-err c =

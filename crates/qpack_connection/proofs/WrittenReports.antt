@@ -1,0 +1,394 @@
+-- A decoding end writes what it may, with any lawful encoder.
+use Rattle.std.proofs.Common.{◌≡◌, ◌<◌, ◌≤◌, ◌+◌, ◌-◌, ◌^◌, ◌⊎◌, ℕ, zero, suc, max, Bool, true, false, cond, List, []}
+use Rattle.std.proofs.Common.{◌∷◌, ◌++◌, drop, Some, Result, Ok, Err, refl, sym, ap, subst}
+use Rattle.std.proofs.Common.{◌∙◌, arith, inl, inr}
+use Rattle.std.specs.List.{AllByRecursion}
+use Rattle.std.specs.Prelude.{⊤, nat_eq}
+use Rattle.std.proofs.lemmas.List.{append_assoc, append-nil, take-append-drop}
+use Rattle.qpack_spec.specs.Field.{FieldLine}
+use Rattle.qpack_spec.specs.Instruction.{DecoderInstruction, Acknowledgment, Cancellation, SpellsDecoderInstruction}
+use Rattle.qpack_spec.specs.Instruction.{written_decoder_instruction}
+use Rattle.qpack_spec.specs.LawfulDecoders.{MayWrite}
+use Rattle.qpack_spec.specs.Session.{sum_of, increments, IsPiece, pieces_of}
+use Rattle.qpack_spec.specs.Stream.{SpellsAll}
+use Rattle.qpack_spec.specs.StrictInstructions.{oldest_required}
+use Rattle.qpack_spec.specs.StrictReading.{StrictReading, strict_reading}
+use Rattle.qpack_spec.specs.Table.{UnacknowledgedBlock, insert_count, window, without_oldest, without_stream}
+use Rattle.qpack_spec.proofs.Cuttings.{joined_append}
+use Rattle.qpack_spec.proofs.Pieces.{pieces_add_up, pieces_small}
+use Rattle.qpack_spec.proofs.WrittenForms.{decoder_instructions_spelled}
+use Rattle.qpack_safety.proofs.Shown.{decoder_instructions_joined, increments_writable, one_joined}
+use Rattle.qpack_codec.specs.Receiving.{written_report}
+use Rattle.qpack_ends.specs.declared.decoder.DecoderSettings.{DecoderSettings}
+use Rattle.qpack_ends.specs.declared.decoder.DecodingError.{DecodingError}
+use Rattle.qpack_ends.specs.declared.decoder.DecodingError.TheVariants.{EncoderStream, Section, TooManyBlocked}
+use Rattle.qpack_ends.specs.declared.decoder.DecodingError.TheVariants.{NoStream, Memory}
+use Rattle.qpack_ends.specs.declared.receiving.EncoderStreamError.{EncoderStreamError}
+use Rattle.qpack_ends.specs.declared.section.Reading.{Reading}
+use Rattle.qpack_ends.specs.declared.section.Reading.TheVariants as reading
+use Rattle.qpack_ends.specs.Decoders.{DecodingEnd, acknowledged, with_report, received, cancelled, Checks}
+use Rattle.qpack_ends.specs.Decoders.{Decodes, Cancels, EndsReceiving, IsNotAnswered, StopsDecoding}
+use Rattle.qpack_connection.specs.Connections.{SentSection}
+use Rattle.qpack_connection.specs.LawfulEncoders.{Decoder, Call, Receive, Decode, Cancel, Sent, Step, Run}
+use Rattle.qpack_connection.specs.LawfulEncoders.{IsLawfulCall, AreLawful}
+use Rattle.qpack_connection.specs.LawfulEnds.{sends, all_sent, Releases, AreInOrder}
+use Rattle.qpack_connection.specs.LawfulEnds.{DecodersWriteWhatTheyMay}
+use Rattle.qpack_connection.specs.RefinedDecodes.{AnswersSection}
+use Rattle.qpack_connection.proofs.RefinedDecodes.{refusal_is, stops_for_memory}
+use Rattle.qpack_connection.proofs.UnderstoodEncoders.{Stays, stays_first, receive_answers, step_answers}
+
+-- ---- increments
+
+may_increments : (most told : ℕ) (sections : List UnacknowledgedBlock) (ps : List ℕ) (more : List DecoderInstruction)
+    → AllByRecursion IsPiece ps → told + sum_of ps ≤ most → MayWrite most (told + sum_of ps) sections more
+    → MayWrite most told sections (increments ps ++ more)
+may_increments most told sections [] more small within may =
+    subst (λ (n : ℕ). MayWrite most n sections more) (omega arith) may
+may_increments most told sections (p ∷ ps) more small within may = (
+  omega (arith, small.0.0),
+  omega (arith, within),
+  may_increments most (told + p) sections ps more small.1 (omega (arith, within))
+      (subst (λ (n : ℕ). MayWrite most n sections more) (omega arith) may),
+)
+
+-- what reports all insertions that were received
+may_report : (most told count : ℕ) (sections : List UnacknowledgedBlock) (more : List DecoderInstruction) → told ≤ count
+    → count ≤ most → MayWrite most count sections more
+    → MayWrite most told sections (increments (pieces_of (count - told)) ++ more)
+may_report most told count sections more low within may =
+    let sum : told + sum_of (pieces_of (count - told)) ≡ count = omega (arith, low, pieces_add_up (count - told)) in
+    may_increments most told sections (pieces_of (count - told)) more (pieces_small (count - told))
+    (omega (arith, sum, within)) (subst (λ (n : ℕ). MayWrite most n sections more) (sym sum) may)
+
+report_spelled : (many : ℕ) → SpellsAll SpellsDecoderInstruction (written_report many) (increments (pieces_of many))
+report_spelled many =
+    decoder_instructions_joined (increments (pieces_of many)) (increments_writable (pieces_of many) (pieces_small many))
+
+-- ---- what a call writes
+
+-- the bytes that are to be sent, of which a call sends some
+abbrev left_of : Call → List ℕ → List ℕ
+left_of (Sent many) b = drop many b
+left_of call b = b
+
+-- a call writes these instructions, which it may write before all that may be written after it
+record WritesMore (call : Call) (x y : DecodingEnd) (sections others : List UnacknowledgedBlock) : Type 0 where
+  pub instructions : List DecoderInstruction
+  pub bytes : List ℕ
+  pub unsent : y.unsent ≡ left_of call x.unsent ++ bytes
+  pub spelled : SpellsAll SpellsDecoderInstruction bytes instructions
+  pub may : (most : ℕ) (more : List DecoderInstruction) → insert_count y.table ≤ most
+      → MayWrite most y.reported others more → MayWrite most x.reported sections (instructions ++ more)
+
+-- it writes nothing
+writes_none : (call : Call) (x y : DecodingEnd) (sections others : List UnacknowledgedBlock)
+    → y.unsent ≡ left_of call x.unsent → y.reported ≡ x.reported → others ≡ sections
+    → WritesMore call x y sections others
+writes_none call x y sections others unsent reported same =
+    record {
+      instructions = [];
+      bytes = [];
+      unsent = unsent ∙ sym (append-nil (left_of call x.unsent));
+      spelled = refl;
+      may = λ most more within may.
+          subst (λ (n : ℕ). MayWrite most n sections more) reported
+          (subst (λ (bs : List UnacknowledgedBlock). MayWrite most y.reported bs more) same may);
+    }
+
+-- it reports what was received, of which no more was reported before
+writes_report : (call : Call) (x d y : DecodingEnd) (sections others : List UnacknowledgedBlock)
+    → d.unsent ≡ left_of call x.unsent → d.reported ≡ x.reported → d.reported ≤ insert_count d.table
+    → y ≡ with_report d → others ≡ sections → WritesMore call x y sections others
+writes_report call x d y sections others unsent reported told is same =
+    let many = insert_count d.table - d.reported in
+    record {
+      instructions = increments (pieces_of many);
+      bytes = written_report many;
+      unsent = ap (λ (e : DecodingEnd). e.unsent) is ∙ ap (λ (b : List ℕ). b ++ written_report many) unsent;
+      spelled = report_spelled many;
+      may = λ most more within may.
+          subst (λ (n : ℕ). MayWrite most n sections (increments (pieces_of many) ++ more)) reported
+          (may_report most d.reported (insert_count d.table) sections more told
+          (omega (arith, within, ap (λ (e : DecodingEnd). insert_count e.table) is))
+          (subst (λ (n : ℕ). MayWrite most n sections more) (ap (λ (e : DecodingEnd). e.reported) is)
+          (subst (λ (bs : List UnacknowledgedBlock). MayWrite most y.reported bs more) same may)));
+    }
+
+-- it reports all that was received, and then acknowledges a section
+writes_acknowledgment : (call : Call) (x y : DecodingEnd) (s n required : ℕ)
+    (sections others : List UnacknowledgedBlock) → left_of call x.unsent ≡ x.unsent → s < 2 ^ 62
+    → x.reported ≤ insert_count x.table → y ≡ acknowledged s (suc n) x → oldest_required s sections ≡ Some required
+    → without_oldest s sections ≡ Some others → required ≤ insert_count x.table → WritesMore call x y sections others
+writes_acknowledgment call x y s n required sections others left small told is oldest released decoded =
+    let many = insert_count x.table - x.reported in
+    let all = increments (pieces_of many) in
+    let ack = written_decoder_instruction (Acknowledgment s) in
+    record {
+      instructions = all ++ Acknowledgment s ∷ [];
+      bytes = written_report many ++ ack;
+      unsent = ap (λ (e : DecodingEnd). e.unsent) is ∙ append_assoc x.unsent (written_report many) ack
+          ∙ ap (λ (b : List ℕ). b ++ (written_report many ++ ack)) (sym left);
+      spelled = joined_append SpellsDecoderInstruction (written_report many) ack all (Acknowledgment s ∷ [])
+          (report_spelled many)
+          (one_joined SpellsDecoderInstruction ack (Acknowledgment s)
+          (decoder_instructions_spelled (Acknowledgment s) (omega (arith, small))));
+      may = λ most more within may.
+          (let table : insert_count y.table ≡ insert_count x.table =
+          ap (λ (e : DecodingEnd). insert_count e.table) is in
+          let reported : y.reported ≡ insert_count x.table = ap (λ (e : DecodingEnd). e.reported) is in
+          let same : y.reported ≡ max (insert_count x.table) required = omega (arith, reported, decoded) in
+          subst (λ (is : List DecoderInstruction). MayWrite most x.reported sections is)
+          (sym (append_assoc all (Acknowledgment s ∷ []) more))
+          (may_report most x.reported (insert_count x.table) sections (Acknowledgment s ∷ more) told
+          (omega (arith, within, table)) (
+            record {
+              required = required;
+              others = others;
+              oldest = oldest;
+              others_are = released;
+              decoded = omega (arith, decoded, within, table);
+            },
+            subst (λ (k : ℕ). MayWrite most k others more) same may,
+          )));
+    }
+
+-- it cancels a stream
+writes_cancellation : (x y : DecodingEnd) (s : ℕ) (sections others : List UnacknowledgedBlock) → s < 2 ^ 62
+    → y ≡ cancelled s x
+    → others ≡ cond (nat_eq x.settings.max_capacity 0) sections (without_stream s sections)
+    → WritesMore (Cancel s (Ok tt)) x y sections others
+writes_cancellation x y s sections others small is released = by (nat_eq x.settings.max_capacity 0) refl
+  where
+    reported : y.reported ≡ x.reported
+    reported = ap (λ (e : DecodingEnd). e.reported) is
+
+    by : (b : Bool) → nat_eq x.settings.max_capacity 0 ≡ b → WritesMore (Cancel s (Ok tt)) x y sections others
+    by true none =
+        writes_none (Cancel s (Ok tt)) x y sections others
+        (ap (λ (e : DecodingEnd). e.unsent) is
+        ∙ ap (λ (b : Bool). cond b x.unsent (x.unsent ++ written_decoder_instruction (Cancellation s))) none) reported
+        (released ∙ ap (λ (b : Bool). cond b sections (without_stream s sections)) none)
+    by false some =
+        record {
+          instructions = Cancellation s ∷ [];
+          bytes = written_decoder_instruction (Cancellation s);
+          unsent = ap (λ (e : DecodingEnd). e.unsent) is
+              ∙ ap (λ (b : Bool). cond b x.unsent (x.unsent ++ written_decoder_instruction (Cancellation s))) some;
+          spelled = one_joined SpellsDecoderInstruction (written_decoder_instruction (Cancellation s)) (Cancellation s)
+              (decoder_instructions_spelled (Cancellation s) (omega (arith, small)));
+          may = λ most more within may.
+              subst (λ (n : ℕ). MayWrite most n (without_stream s sections) more) reported
+              (subst (λ (bs : List UnacknowledgedBlock). MayWrite most y.reported bs more)
+              (released ∙ ap (λ (b : Bool). cond b sections (without_stream s sections)) some) may);
+        }
+
+-- ---- a call
+
+receive_writes : (call : Call) (x y : DecodingEnd) (sections others : List UnacknowledgedBlock)
+    (taken : Result ⊤ EncoderStreamError) (answer : Result ℕ DecodingError) → left_of call x.unsent ≡ x.unsent
+    → x.reported ≤ insert_count y.table → EndsReceiving (received y.table y.stream x) y taken answer
+    → others ≡ sections → WritesMore call x y sections others
+receive_writes call x y sections others (Ok done) (Ok total) left told ends same =
+    writes_report call x (received y.table y.stream x) y sections others (sym left) refl told ends.1 same
+receive_writes call x y sections others (Ok done) (Err e) left told ends same =
+    writes_none call x y sections others (ap (λ (d : DecodingEnd). d.unsent) ends.2 ∙ sym left)
+    (ap (λ (d : DecodingEnd). d.reported) ends.2) same
+receive_writes call x y sections others (Err e) answer left told ends same =
+    writes_none call x y sections others (ap (λ (d : DecodingEnd). d.unsent) ends.1 ∙ sym left)
+    (ap (λ (d : DecodingEnd). d.reported) ends.1) same
+
+decode_writes : (x y : DecodingEnd) (s : ℕ) (k : SentSection) (fields : List FieldLine)
+    (answer : Result Reading DecodingError) (read : StrictReading) (sections others : List UnacknowledgedBlock)
+    (maximum : ℕ) → x.reported ≤ insert_count x.table → AnswersSection x s k fields answer
+    → Decodes x y s read fields answer → Releases maximum (Decode s k fields answer) sections others
+    → WritesMore (Decode s k fields answer) x y sections others
+decode_writes x y s k fields (Ok (reading.Fields zero)) read sections others maximum told answers call same =
+    writes_none (Decode s k fields (Ok (reading.Fields zero))) x y sections others
+    (ap (λ (d : DecodingEnd). d.unsent) call.1.1) (ap (λ (d : DecodingEnd). d.reported) call.1.1) same
+decode_writes x y s k fields (Ok (reading.Fields (suc n))) read sections others maximum told answers call released =
+    writes_acknowledgment (Decode s k fields (Ok (reading.Fields (suc n)))) x y s n k.required sections others refl
+    call.0.1 told call.1.1 released.0 released.1 answers.2
+decode_writes x y s k fields (Ok (reading.Blocked required)) read sections others maximum told answers call same =
+    writes_none (Decode s k fields (Ok (reading.Blocked required))) x y sections others
+    (ap (λ (d : DecodingEnd). d.unsent) call.1.3) (ap (λ (d : DecodingEnd). d.reported) call.1.3) same
+decode_writes x y s k fields (Err e) read sections others maximum told answers call same = by_error e answers call.1
+  where
+    -- nothing is written where the end is one that has the same to send
+    none : (f : DecodingError) (d : DecodingEnd) → y ≡ d → d.unsent ≡ x.unsent → d.reported ≡ x.reported
+        → WritesMore (Decode s k fields (Err f)) x y sections others
+    none f d is unsent reported =
+        writes_none (Decode s k fields (Err f)) x y sections others (ap (λ (e : DecodingEnd). e.unsent) is ∙ unsent)
+        (ap (λ (e : DecodingEnd). e.reported) is ∙ reported) same
+
+    by_error : (f : DecodingError) → AnswersSection x s k fields (Err f)
+        → IsNotAnswered x y s f ⊎ (Checks x s (Ok tt) × StopsDecoding x y s read f)
+        → WritesMore (Decode s k fields (Err f)) x y sections others
+    by_error f answers (inl stopped) = none f x stopped.1 refl refl
+    by_error (Section q f) answers (inr stopped) =
+        none (Section q f) (acknowledged s 0 x) (refusal_is x y s f answers.2 stopped.1.2) refl refl
+    by_error (TooManyBlocked q) answers (inr stopped) = absurd answers
+    by_error Memory answers (inr stopped) = elim (stops_for_memory x y read stopped.1) [
+      | inl is ↦ none Memory x is refl refl
+      | inr reported ↦
+          writes_report (Decode s k fields (Err Memory)) x x y sections others refl refl told reported same
+    ]
+    by_error (EncoderStream q f) answers (inr stopped) = absurd answers
+    by_error (NoStream q) answers (inr stopped) = absurd stopped.1
+
+cancel_writes : (settings : DecoderSettings) (x y : DecodingEnd) (s : ℕ) (answer : Result ⊤ DecodingError)
+    (sections others : List UnacknowledgedBlock) → x.settings ≡ settings → Cancels x y s answer
+    → Releases settings.max_capacity (Cancel s answer) sections others
+    → WritesMore (Cancel s answer) x y sections others
+cancel_writes settings x y s (Ok done) sections others same call released =
+    writes_cancellation x y s sections others call.0.1 call.1
+    (released ∙ ap (λ (c : DecoderSettings). cond (nat_eq c.max_capacity 0) sections (without_stream s sections))
+    (sym same))
+cancel_writes settings x y s (Err e) sections others same (inl stopped) released =
+    writes_none (Cancel s (Err e)) x y sections others (ap (λ (d : DecodingEnd). d.unsent) stopped.1)
+    (ap (λ (d : DecodingEnd). d.reported) stopped.1) released
+cancel_writes settings x y s (Err e) sections others same (inr stopped) released =
+    writes_none (Cancel s (Err e)) x y sections others (ap (λ (d : DecodingEnd). d.unsent) stopped.3)
+    (ap (λ (d : DecodingEnd). d.reported) stopped.3) released
+
+-- neither a section nor a cancellation changes what was received
+decode_counts : (x y : DecodingEnd) (s : ℕ) (k : SentSection) (fields : List FieldLine)
+    (answer : Result Reading DecodingError) (read : StrictReading) → AnswersSection x s k fields answer
+    → Decodes x y s read fields answer → insert_count x.table ≤ insert_count y.table
+decode_counts x y s k fields (Ok (reading.Fields zero)) read answers call =
+    omega (arith, ap (λ (d : DecodingEnd). insert_count d.table) call.1.1)
+decode_counts x y s k fields (Ok (reading.Fields (suc n))) read answers call =
+    omega (arith, ap (λ (d : DecodingEnd). insert_count d.table) call.1.1)
+decode_counts x y s k fields (Ok (reading.Blocked required)) read answers call =
+    omega (arith, ap (λ (d : DecodingEnd). insert_count d.table) call.1.3)
+decode_counts x y s k fields (Err e) read answers call = by_error e answers call.1
+  where
+    counted : (d : DecodingEnd) → y ≡ d → insert_count d.table ≡ insert_count x.table
+        → insert_count x.table ≤ insert_count y.table
+    counted d is same = omega (arith, same, ap (λ (e : DecodingEnd). insert_count e.table) is)
+
+    by_error : (f : DecodingError) → AnswersSection x s k fields (Err f)
+        → IsNotAnswered x y s f ⊎ (Checks x s (Ok tt) × StopsDecoding x y s read f)
+        → insert_count x.table ≤ insert_count y.table
+    by_error f answers (inl stopped) = counted x stopped.1 refl
+    by_error (Section q f) answers (inr stopped) =
+        counted (acknowledged s 0 x) (refusal_is x y s f answers.2 stopped.1.2) refl
+    by_error (TooManyBlocked q) answers (inr stopped) = absurd answers
+    by_error Memory answers (inr stopped) = elim (stops_for_memory x y read stopped.1) [
+      | inl is ↦ counted x is refl
+      | inr reported ↦ counted (with_report x) reported refl
+    ]
+    by_error (EncoderStream q f) answers (inr stopped) = absurd answers
+    by_error (NoStream q) answers (inr stopped) = absurd stopped.1
+
+cancel_counts : (x y : DecodingEnd) (s : ℕ) (answer : Result ⊤ DecodingError) → Cancels x y s answer
+    → insert_count x.table ≤ insert_count y.table
+cancel_counts x y s (Ok done) call = omega (arith, ap (λ (d : DecodingEnd). insert_count d.table) call.1)
+cancel_counts x y s (Err e) (inl stopped) = omega (arith, ap (λ (d : DecodingEnd). insert_count d.table) stopped.1)
+cancel_counts x y s (Err e) (inr stopped) = omega (arith, ap (λ (d : DecodingEnd). insert_count d.table) stopped.3)
+
+-- what holds after a call: it wrote what it may, no fewer insertions were received, and what holds between calls
+record StepWrites (settings : DecoderSettings) (call : Call) (x y : Decoder)
+    (sections others : List UnacknowledgedBlock) : Type 0 where
+  pub writes : WritesMore call x.end y.end sections others
+  pub counts : insert_count x.end.table ≤ insert_count y.end.table
+  pub stays : Stays settings y
+
+step_writes : (settings : DecoderSettings) (call : Call) (x y : Decoder) (sections others : List UnacknowledgedBlock)
+    → Stays settings x → Step call x y → IsLawfulCall call x → Releases settings.max_capacity call sections others
+    → StepWrites settings call x y sections others
+step_writes settings (Receive bytes left answer) x y sections others k step asked released =
+    let r = receive_answers settings x y bytes left answer asked.0 k asked.1 step in
+    let call = step.0 k.alive _ x.come k.stream in
+    record {
+      writes = receive_writes (Receive bytes left answer) x.end y.end sections others call.taken answer refl
+          (omega (arith, k.told, r.2)) call.ends released;
+      counts = r.2;
+      stays = r.1;
+    }
+step_writes settings (Decode s section fields answer) x y sections others k step asked released =
+    let r = step_answers settings (Decode s section fields answer) x y k step asked in
+    record {
+      writes = decode_writes x.end y.end s section fields answer
+          (strict_reading (window x.end.table) x.end.settings.max_section_size section.bytes) sections others
+          settings.max_capacity k.told r.0 step.0 released;
+      counts = decode_counts x.end y.end s section fields answer
+          (strict_reading (window x.end.table) x.end.settings.max_section_size section.bytes) r.0 step.0;
+      stays = r.1;
+    }
+step_writes settings (Cancel s answer) x y sections others k step asked released =
+    let r = step_answers settings (Cancel s answer) x y k step asked in
+    record {
+      writes = cancel_writes settings x.end y.end s answer sections others k.settings_are step.0 released;
+      counts = cancel_counts x.end y.end s answer step.0;
+      stays = r.1;
+    }
+step_writes settings (Sent many) x y sections others k step asked released =
+    record {
+      writes = writes_none (Sent many) x.end y.end sections others (ap (λ (d : DecodingEnd). d.unsent) step.0)
+          (ap (λ (d : DecodingEnd). d.reported) step.0) released;
+      counts = omega (arith, ap (λ (d : DecodingEnd). insert_count d.table) step.0);
+      stays = (step_answers settings (Sent many) x y k step asked).1;
+    }
+
+-- ---- all calls
+
+-- what calls wrote, after what was to be sent before them
+record AllWrite (x last : DecodingEnd) (sections : List UnacknowledgedBlock) (all : List ℕ) : Type 0 where
+  pub instructions : List DecoderInstruction
+  pub bytes : List ℕ
+  pub all_is : all ≡ x.unsent ++ bytes
+  pub spelled : SpellsAll SpellsDecoderInstruction bytes instructions
+  pub may : MayWrite (insert_count last.table) x.reported sections instructions
+  pub counts : insert_count x.table ≤ insert_count last.table
+
+-- what is sent, and what is left
+sent_and_left : (call : Call) (d : DecodingEnd) → sends call d ++ left_of call d.unsent ≡ d.unsent
+sent_and_left (Receive bytes left answer) d = refl
+sent_and_left (Decode s section fields answer) d = refl
+sent_and_left (Cancel s answer) d = refl
+sent_and_left (Sent many) d = take-append-drop many d.unsent
+
+all_write : (settings : DecoderSettings) (calls : List Call) (x last : Decoder) (sections : List UnacknowledgedBlock)
+    (run : Run calls x last) → Stays settings x → AreLawful calls x last run
+    → AreInOrder settings.max_capacity calls sections
+    → AllWrite x.end last.end sections (all_sent calls x last run ++ last.end.unsent)
+all_write settings [] x last sections run k asked order =
+    record {
+      instructions = [];
+      bytes = [];
+      all_is = ap (λ (d : Decoder). d.end.unsent) run ∙ sym (append-nil x.end.unsent);
+      spelled = refl;
+      may = tt;
+      counts = omega (arith, ap (λ (d : Decoder). insert_count d.end.table) run);
+    }
+all_write settings (call ∷ calls) x last sections run k asked order =
+    let y = run.0 in
+    let one = step_writes settings call x y sections order.0 k run.1 asked.0 order.1 in
+    let w = one.writes in
+    let rest = all_write settings calls y last order.0 run.2 one.stays asked.1 order.2 in
+    let sent = sends call x.end in
+    let left = left_of call x.end.unsent in
+    record {
+      instructions = w.instructions ++ rest.instructions;
+      bytes = w.bytes ++ rest.bytes;
+      all_is = append_assoc sent (all_sent calls y last run.2) last.end.unsent
+          ∙ ap (λ (b : List ℕ). sent ++ b)
+          (rest.all_is ∙ ap (λ (b : List ℕ). b ++ rest.bytes) w.unsent ∙ append_assoc left w.bytes rest.bytes)
+          ∙ sym (append_assoc sent left (w.bytes ++ rest.bytes))
+          ∙ ap (λ (b : List ℕ). b ++ (w.bytes ++ rest.bytes)) (sent_and_left call x.end);
+      spelled = joined_append SpellsDecoderInstruction w.bytes rest.bytes w.instructions rest.instructions w.spelled
+          rest.spelled;
+      may = w.may (insert_count last.end.table) rest.instructions rest.counts rest.may;
+      counts = omega (arith, one.counts, rest.counts);
+    }
+
+pub decoders_may : DecodersWriteWhatTheyMay
+decoders_may settings calls first last sections begins none run asked order =
+    let all = all_write settings calls first last sections run (stays_first settings first begins none) asked order in
+    record {
+      instructions = all.instructions;
+      spelled = subst (λ (b : List ℕ). SpellsAll SpellsDecoderInstruction b all.instructions)
+          (sym (all.all_is ∙ ap (λ (b : List ℕ). b ++ all.bytes) begins.unsent)) all.spelled;
+      may = subst (λ (n : ℕ). MayWrite (insert_count last.end.table) n sections all.instructions) begins.reported
+          all.may;
+    }
