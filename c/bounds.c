@@ -10,6 +10,7 @@
 #define LIMIT 65536
 #define DECODER_BOUND (192 * 1024)
 #define PIECE_BOUND (112 * 1024)
+#define LEFT_BOUND (12 * 1024)
 #define ENCODER_BOUND (144 * 1024)
 #define CANCELLED_BOUND (256 * 1024)
 
@@ -124,7 +125,8 @@ static void hold_decoder(void) {
   CHECK(!live && !blocks);
 }
 
-/* Whole instructions in one piece of so many bytes: what stands after it does not grow with the piece. */
+/* Whole instructions in one piece of so many bytes: what is kept after it does not grow with the piece. Once all that
+ * reports its insertions is sent, the memory for that is given back. */
 static void hold_piece(size_t len) {
   bytes b = {NULL, 0, 0};
   h3_qpack_decoder d;
@@ -134,6 +136,7 @@ static void hold_piece(size_t len) {
   CHECK(h3_qpack_decoder_read_encoder(&d, b.at, b.len).status == H3_QPACK_OK);
   while (h3_qpack_decoder_write_decoder(&d, stream, sizeof stream)) {}
   check_bound("bytes of insertions in one piece", len, PIECE_BOUND);
+  CHECK(live + 8 * blocks <= LEFT_BOUND);
   h3_qpack_decoder_del(&d);
   drop(&b);
   CHECK(!live && !blocks);

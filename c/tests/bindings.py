@@ -1,7 +1,8 @@
 #!/usr/bin/env python3
 """Calls the library as a binding does, without the header: bindings.py LIBRARY LAYOUT, a shared library and layout.txt.
 
-The structs are made of the table. Two fields go through an encoder and a decoder whose section is blocked at first.
+The structs are made of the table. Two fields go through an encoder and a decoder whose section is blocked at first, and
+both ends tell of the entry that one of them is.
 """
 
 import ctypes
@@ -77,7 +78,7 @@ def main() -> None:
 
     nva = lend(fields, library.structs["h3_qpack_nv"])
     sent = library.call("encoded", "encoder_encode", encoder, stream_id, nva, size(2), section, size(256))
-    assert sent.status == OK and sent.required == 1
+    assert sent.status == OK and sent.required == 1 and sent.size == 10 + 9 + 2 * 32
     count = library.call(ctypes.c_size_t, "encoder_write_encoder", encoder, stream, size(256))
     words = decoder, stream_id, section, size(sent.len)
     got = library.call("decoded", "decoder_decode", *words)
@@ -85,12 +86,18 @@ def main() -> None:
     heard = library.call("received", "decoder_read_encoder", decoder, stream, size(count))
     assert heard.status == OK and heard.taken == count
     got = library.call("decoded", "decoder_decode", *words)
-    assert got.status == OK and got.fields == 2
+    assert got.status == OK and got.fields == 2 and got.len == 10 + 9
 
     told = (library.structs["h3_qpack_field"] * 2)()
     written = library.call("written", "decoder_fields", decoder, told, size(2), text, size(256))
     assert written.status == OK and text.raw[: written.len] == b"".join(name + value for name, value in fields)
     assert [(it.namelen, it.valuelen) for it in told] == [(len(name), len(value)) for name, value in fields]
+    for end, at in (("encoder", encoder), ("decoder", decoder)):
+        entry = library.call("field", f"{end}_entry", at, size(0), text, size(256))
+        assert entry.status == OK and (entry.namelen, entry.valuelen) == (7, 2)
+        assert text.raw[:9] == b"x-trace\xff\x00"
+        counts = ("icnt", 1), ("num_entries", 1), ("table_size", 41), ("capacity", 4096)
+        assert all(library.call(ctypes.c_size_t, f"{end}_get_{name}", at) == count for name, count in counts)
     library.call(None, "encoder_del", encoder)
     library.call(None, "decoder_del", decoder)
     print(f"bindings: {len(library.structs)} structs, and two fields through both ends, from Python")

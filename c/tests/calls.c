@@ -66,7 +66,7 @@ static void refuse_arguments(void) {
   h3_qpack_encoder none = {NULL}, e;
   h3_qpack_decoder nothing = {NULL}, d;
   size_t much = (size_t)PTRDIFF_MAX + 1;
-  h3_qpack_nv null_name = {NULL, 0, (const uint8_t *)"", 0, 0};
+  h3_qpack_nv null_name = {NULL, 1, (const uint8_t *)"", 0, 0}, null_value = {(const uint8_t *)"a", 1, NULL, 1, 0};
   uint64_t id = 7;
   CHECK(new_encoder(NULL, 0, 0) == H3_QPACK_ERR_INVALID && new_decoder(NULL, 0, 0, 0) == H3_QPACK_ERR_INVALID);
   CHECK(h3_qpack_encoder_new(&e, NULL) == H3_QPACK_ERR_INVALID && !e.at);
@@ -79,13 +79,20 @@ static void refuse_arguments(void) {
   CHECK(h3_qpack_encoder_read_decoder(&none, NULL, 0).status == H3_QPACK_ERR_INVALID);
   CHECK(h3_qpack_encoder_set_capacity(&none, 0) == H3_QPACK_ERR_INVALID);
   CHECK(!h3_qpack_encoder_write_encoder(&none, section, 9) && !h3_qpack_encoder_get_encoder_streamlen(NULL));
-  CHECK(!h3_qpack_encoder_get_num_blocked(&none));
+  CHECK(!h3_qpack_encoder_get_num_blocked(&none) && !h3_qpack_encoder_get_num_unacked(NULL));
+  CHECK(!h3_qpack_encoder_get_icnt(&none) && !h3_qpack_encoder_get_krcnt(&none));
+  CHECK(!h3_qpack_encoder_get_capacity(NULL) && !h3_qpack_encoder_get_table_size(&none));
+  CHECK(!h3_qpack_encoder_get_num_entries(&none));
+  CHECK(h3_qpack_encoder_entry(&none, 0, section, 2).status == H3_QPACK_ERR_INVALID);
   CHECK(h3_qpack_decoder_decode(&nothing, 0, section, 2).status == H3_QPACK_ERR_INVALID);
   CHECK(h3_qpack_decoder_field(NULL, 0, section, 2).status == H3_QPACK_ERR_INVALID);
   CHECK(h3_qpack_decoder_read_encoder(&nothing, NULL, 0).status == H3_QPACK_ERR_INVALID);
   CHECK(h3_qpack_decoder_cancel_stream(&nothing, 0) == H3_QPACK_ERR_INVALID);
   CHECK(!h3_qpack_decoder_write_decoder(&nothing, section, 2) && !h3_qpack_decoder_get_decoder_streamlen(&nothing));
   CHECK(!h3_qpack_decoder_get_icnt(NULL) && !h3_qpack_decoder_get_num_blocked(&nothing));
+  CHECK(!h3_qpack_decoder_get_capacity(&nothing) && !h3_qpack_decoder_get_table_size(NULL));
+  CHECK(!h3_qpack_decoder_get_num_entries(&nothing));
+  CHECK(h3_qpack_decoder_entry(NULL, 0, section, 2).status == H3_QPACK_ERR_INVALID);
   CHECK(!h3_qpack_decoder_next_ready(&nothing, &id) && id == 7);
   h3_qpack_encoder_del(NULL);
   h3_qpack_encoder_del(&none);
@@ -95,6 +102,8 @@ static void refuse_arguments(void) {
   CHECK(!new_encoder(&e, 4096, 1) && !new_decoder(&d, 4096, 1, 100));
   CHECK(h3_qpack_encoder_encode(&e, 0, NULL, 1, section, 9).status == H3_QPACK_ERR_INVALID);
   CHECK(h3_qpack_encoder_encode(&e, 0, &null_name, 1, section, 9).status == H3_QPACK_ERR_INVALID);
+  CHECK(h3_qpack_encoder_encode(&e, 0, &null_value, 1, section, 9).status == H3_QPACK_ERR_INVALID);
+  CHECK(h3_qpack_encode_stateless(&null_value, 1, section, 9).status == H3_QPACK_ERR_INVALID);
   CHECK(h3_qpack_encoder_encode(&e, 0, &get, 1, NULL, 1).status == H3_QPACK_ERR_INVALID);
   CHECK(h3_qpack_encoder_encode(&e, 0, &get, 1, section, much).status == H3_QPACK_ERR_INVALID);
   CHECK(h3_qpack_encoder_encode(&e, 0, &get, much, section, 9).status == H3_QPACK_ERR_INVALID);
@@ -103,6 +112,8 @@ static void refuse_arguments(void) {
   CHECK(h3_qpack_encoder_read_decoder(&e, NULL, 1).status == H3_QPACK_ERR_INVALID);
   CHECK(h3_qpack_encoder_read_decoder(&e, NULL, 0).status == H3_QPACK_OK);
   CHECK(h3_qpack_encoder_set_capacity(&e, 4097) == H3_QPACK_ERR_INVALID);
+  CHECK(h3_qpack_encoder_entry(&e, 0, bytes, sizeof bytes).status == H3_QPACK_ERR_INVALID);
+  CHECK(h3_qpack_decoder_entry(&d, 0, bytes, sizeof bytes).status == H3_QPACK_ERR_INVALID);
   CHECK(h3_qpack_decoder_decode(&d, 0, NULL, 1).status == H3_QPACK_ERR_INVALID);
   CHECK(h3_qpack_decoder_decode(&d, (uint64_t)1 << 62, section, 0).status == H3_QPACK_ERR_INVALID);
   CHECK(h3_qpack_decoder_cancel_stream(&d, (uint64_t)1 << 62) == H3_QPACK_ERR_INVALID);
@@ -123,6 +134,26 @@ static void refuse_arguments(void) {
   h3_qpack_decoder_del(&d);
 }
 
+/* A pointer of a field may be null where its length is 0: the section is that of empty texts. */
+static void take_null_texts(void) {
+  const uint8_t *some = (const uint8_t *)"";
+  h3_qpack_nv nulls[] = {{NULL, 0, NULL, 0, 0}, get, {(const uint8_t *)"x", 1, NULL, 0, H3_QPACK_NV_FLAG_INSERT}};
+  h3_qpack_nv texts[] = {{some, 0, some, 0, 0}, get, {(const uint8_t *)"x", 1, some, 0, H3_QPACK_NV_FLAG_INSERT}};
+  uint8_t others[64];
+  h3_qpack_written w = h3_qpack_encode_stateless(nulls, 3, section, sizeof others);
+  CHECK(w.status == H3_QPACK_OK && w.len == h3_qpack_encode_stateless(texts, 3, others, sizeof others).len);
+  CHECK(!memcmp(section, others, w.len));
+  h3_qpack_encoder e, other;
+  CHECK(!new_encoder(&e, 4096, 1) && !new_encoder(&other, 4096, 1));
+  h3_qpack_encoded a = h3_qpack_encoder_encode(&e, 0, nulls, 3, section, sizeof others);
+  h3_qpack_encoded b = h3_qpack_encoder_encode(&other, 0, texts, 3, others, sizeof others);
+  CHECK(a.status == H3_QPACK_OK && b.status == H3_QPACK_OK && a.len == b.len && a.required == b.required);
+  CHECK(a.required && !memcmp(section, others, a.len));
+  CHECK(nulls[0].name == NULL && nulls[2].value == NULL);
+  h3_qpack_encoder_del(&e);
+  h3_qpack_encoder_del(&other);
+}
+
 /* Memory that is too small changes nothing in it, and what was made is had by a second call. */
 static void ask_for_room(void) {
   h3_qpack_encoder e;
@@ -131,12 +162,13 @@ static void ask_for_room(void) {
   memset(section, 0xee, 4);
   h3_qpack_encoded a = h3_qpack_encoder_encode(&e, 0, &get, 1, section, 2);
   CHECK(a.status == H3_QPACK_ERR_NO_ROOM && a.len == 3 && !a.required && section[0] == 0xee && section[1] == 0xee);
+  CHECK(a.size == 42);
   h3_qpack_written w = h3_qpack_encoder_section(&e, NULL, 0);
   CHECK(w.status == H3_QPACK_ERR_NO_ROOM && w.len == 3);
   w = h3_qpack_encoder_section(&e, section, 4);
   CHECK(w.status == H3_QPACK_OK && w.len == 3 && !memcmp(section, "\0\0\xd1\xee", 4));
   h3_qpack_decoded r = h3_qpack_decoder_decode(&d, 0, section, 3);
-  CHECK(r.status == H3_QPACK_OK && r.fields == 1 && !r.required);
+  CHECK(r.status == H3_QPACK_OK && r.fields == 1 && r.len == 10 && !r.required);
   memset(bytes, 0xee, 11);
   h3_qpack_field f = h3_qpack_decoder_field(&d, 0, bytes, 9);
   CHECK(f.status == H3_QPACK_ERR_NO_ROOM && f.namelen == 7 && f.valuelen == 3 && !f.flags && bytes[0] == 0xee);
@@ -152,7 +184,10 @@ static void ask_for_room(void) {
   CHECK(w.status == H3_QPACK_ERR_NO_ROOM && w.len == 3);
   w = h3_qpack_encode_stateless(&get, 1, section, 3);
   CHECK(w.status == H3_QPACK_OK && !memcmp(section, "\0\0\xd1", 3));
-  CHECK(h3_qpack_encoder_encode(&e, 8, NULL, 0, section, 2).len == 2);
+  a = h3_qpack_encoder_encode(&e, 8, NULL, 0, section, 2);
+  CHECK(a.status == H3_QPACK_OK && a.len == 2 && !a.size);
+  r = h3_qpack_decoder_decode(&d, 8, section, 2);
+  CHECK(r.status == H3_QPACK_OK && !r.fields && !r.len);
   h3_qpack_encoder_del(&e);
   h3_qpack_decoder_del(&d);
 }
@@ -188,7 +223,8 @@ static void end_connections(void) {
   CHECK(!new_encoder(&e, 4096, 1));
   h3_qpack_received r = h3_qpack_encoder_read_decoder(&e, (const uint8_t *)"\x44\x84", 2);
   CHECK(r.status == H3_QPACK_DECODER_STREAM_ERROR && r.number == 2 && r.offset == 1 && r.taken == 2);
-  CHECK(h3_qpack_encoder_encode(&e, 0, &get, 1, section, 9).status == H3_QPACK_DECODER_STREAM_ERROR);
+  h3_qpack_encoded b = h3_qpack_encoder_encode(&e, 0, &get, 1, section, 9);
+  CHECK(b.status == H3_QPACK_DECODER_STREAM_ERROR && !b.len && !b.size);
   CHECK(h3_qpack_encoder_set_capacity(&e, 0) == H3_QPACK_DECODER_STREAM_ERROR);
   r = h3_qpack_encoder_read_decoder(&e, (const uint8_t *)"\x44", 1);
   CHECK(r.status == H3_QPACK_DECODER_STREAM_ERROR && r.number == 2 && r.offset == 1 && !r.taken);
@@ -210,7 +246,7 @@ static void end_connections(void) {
   h3_qpack_decoder_del(&d);
   CHECK(!new_decoder(&d, 4096, 1, 100));
   a = h3_qpack_decoder_decode(&d, 0, (const uint8_t *)"\0\0\xd1\xff\x3f", 5);
-  CHECK(a.status == H3_QPACK_DECOMPRESSION_FAILED && a.number == 2 && a.offset == 3 && !a.fields);
+  CHECK(a.status == H3_QPACK_DECOMPRESSION_FAILED && a.number == 2 && a.offset == 3 && !a.fields && !a.len);
   a = h3_qpack_decoder_decode(&d, 4, (const uint8_t *)"\0\0\xd1", 3);
   CHECK(a.status == H3_QPACK_DECOMPRESSION_FAILED && a.number == 2 && a.offset == 3);
   r = h3_qpack_decoder_read_encoder(&d, (const uint8_t *)"\x20", 1);
@@ -219,7 +255,7 @@ static void end_connections(void) {
   for (uint64_t limit = 83; limit < 85; limit++) { /* two fields of 42 bytes each are 84 */
     CHECK(!new_decoder(&d, 4096, 1, limit));
     a = h3_qpack_decoder_decode(&d, 0, (const uint8_t *)"\0\0\xd1\xd1", 4);
-    CHECK(a.status == (limit < 84 ? H3_QPACK_ERR_TOO_LARGE : H3_QPACK_OK));
+    CHECK(a.status == (limit < 84 ? H3_QPACK_ERR_TOO_LARGE : H3_QPACK_OK) && a.len == (limit < 84 ? 0 : 20));
     CHECK(h3_qpack_decoder_decode(&d, 0, (const uint8_t *)"\0\0\xd1", 3).status == H3_QPACK_OK);
     h3_qpack_decoder_del(&d);
   }
@@ -253,7 +289,8 @@ static void wait_for_insertions(void) {
   CHECK(h3_qpack_encoder_write_encoder(&e, stream, 3) == 3 && h3_qpack_encoder_get_encoder_streamlen(&e) == len - 3);
   CHECK(h3_qpack_encoder_write_encoder(&e, stream + 3, sizeof stream - 3) == len - 3);
   h3_qpack_decoded r = h3_qpack_decoder_decode(&d, 4, section, a.len);
-  CHECK(r.status == H3_QPACK_BLOCKED && r.required == 1 && !r.fields && h3_qpack_decoder_get_num_blocked(&d) == 1);
+  CHECK(r.status == H3_QPACK_BLOCKED && r.required == 1 && !r.fields && !r.len);
+  CHECK(h3_qpack_decoder_get_num_blocked(&d) == 1);
   CHECK(h3_qpack_encoder_set_capacity(&e, 0) == H3_QPACK_ERR_HELD);
   CHECK(!h3_qpack_decoder_next_ready(&d, &id));
   h3_qpack_received t = h3_qpack_decoder_read_encoder(&d, stream, len);
@@ -277,6 +314,89 @@ static void wait_for_insertions(void) {
   h3_qpack_decoder_del(&d);
 }
 
+/* An entry of the table of an encoder, or of a decoder where there is no encoder. */
+static h3_qpack_field entry_of(h3_qpack_encoder *e, h3_qpack_decoder *d, size_t index, uint8_t *out, size_t outlen) {
+  return e ? h3_qpack_encoder_entry(e, index, out, outlen) : h3_qpack_decoder_entry(d, index, out, outlen);
+}
+
+/* The table has these entries, the newest first: the name of each is n, its value a letter of |letters|. */
+static void check_entries(h3_qpack_encoder *e, h3_qpack_decoder *d, const char *letters) {
+  size_t count = strlen(letters);
+  CHECK((e ? h3_qpack_encoder_get_num_entries(e) : h3_qpack_decoder_get_num_entries(d)) == count);
+  CHECK((e ? h3_qpack_encoder_get_table_size(e) : h3_qpack_decoder_get_table_size(d)) == 34 * count);
+  for (size_t i = 0; i < count; i++) {
+    memset(bytes, 0xee, 3);
+    h3_qpack_field f = entry_of(e, d, i, bytes, 1);
+    CHECK(f.status == H3_QPACK_ERR_NO_ROOM && f.namelen == 1 && f.valuelen == 1 && bytes[0] == 0xee);
+    f = entry_of(e, d, i, bytes, 2);
+    CHECK(f.status == H3_QPACK_OK && f.namelen == 1 && f.valuelen == 1 && !f.flags);
+    CHECK(bytes[0] == 'n' && bytes[1] == (uint8_t)letters[i] && bytes[2] == 0xee);
+    CHECK(entry_of(e, d, i, NULL, 0).status == H3_QPACK_ERR_NO_ROOM);
+    CHECK(entry_of(e, d, i, NULL, 1).status == H3_QPACK_ERR_INVALID);
+  }
+  bytes[0] = 0xee;
+  h3_qpack_field none = entry_of(e, d, count, bytes, 9);
+  CHECK(none.status == H3_QPACK_ERR_INVALID && !none.namelen && !none.valuelen && bytes[0] == 0xee);
+  CHECK(entry_of(e, d, SIZE_MAX, bytes, 9).status == H3_QPACK_ERR_INVALID);
+}
+
+static void check_counts(h3_qpack_encoder *e, size_t insertions, size_t known, size_t unacknowledged) {
+  CHECK(h3_qpack_encoder_get_icnt(e) == insertions && h3_qpack_encoder_get_krcnt(e) == known);
+  CHECK(h3_qpack_encoder_get_num_unacked(e) == unacknowledged);
+}
+
+/* What both ends tell of their tables: with an entry more at a time, and after evictions. */
+static void tell_tables(void) {
+  static const char *const values[] = {"a", "b", "c"}, *const tables[] = {"a", "ba", "cb"};
+  h3_qpack_encoder e;
+  h3_qpack_decoder d;
+  CHECK(!new_encoder(&e, 70, 9) && !new_decoder(&d, 70, 9, 100));
+  CHECK(!h3_qpack_encoder_get_capacity(&e) && !h3_qpack_decoder_get_capacity(&d));
+  check_entries(&e, NULL, "");
+  check_entries(NULL, &d, "");
+  for (size_t i = 0; i < 3; i++) {
+    h3_qpack_nv nv = {(const uint8_t *)"n", 1, (const uint8_t *)values[i], 1, H3_QPACK_NV_FLAG_INSERT};
+    check_counts(&e, i, i, 0);
+    h3_qpack_encoded a = h3_qpack_encoder_encode(&e, 4 * i, &nv, 1, section, sizeof section);
+    CHECK(a.status == H3_QPACK_OK && a.required == i + 1 && h3_qpack_encoder_get_capacity(&e) == 70);
+    check_counts(&e, i + 1, i, 1);
+    check_entries(&e, NULL, tables[i]);
+    size_t len = h3_qpack_encoder_write_encoder(&e, stream, sizeof stream);
+    CHECK(h3_qpack_decoder_read_encoder(&d, stream, len).status == H3_QPACK_OK);
+    CHECK(h3_qpack_decoder_get_capacity(&d) == 70 && h3_qpack_decoder_get_icnt(&d) == i + 1);
+    check_entries(NULL, &d, tables[i]);
+    CHECK(h3_qpack_decoder_decode(&d, 4 * i, section, a.len).status == H3_QPACK_OK);
+    len = h3_qpack_decoder_write_decoder(&d, stream, sizeof stream);
+    hear(&e, stream, len);
+  }
+  check_counts(&e, 3, 3, 0);
+  CHECK(h3_qpack_encoder_set_capacity(&e, 67) == H3_QPACK_OK && h3_qpack_encoder_get_capacity(&e) == 67);
+  check_entries(&e, NULL, "c");
+  CHECK(h3_qpack_encoder_set_capacity(&e, 0) == H3_QPACK_OK && !h3_qpack_encoder_get_capacity(&e));
+  check_entries(&e, NULL, "");
+  check_counts(&e, 3, 3, 0);
+  h3_qpack_encoder_del(&e);
+  h3_qpack_decoder_del(&d);
+}
+
+/* Both ends have the same table. */
+static void compare_tables(h3_qpack_encoder *e, h3_qpack_decoder *d) {
+  static _Thread_local uint8_t ours[1 << 12], theirs[1 << 12];
+  size_t count = h3_qpack_encoder_get_num_entries(e), size = 0;
+  CHECK(count == h3_qpack_decoder_get_num_entries(d));
+  for (size_t i = 0; i < count; i++) {
+    h3_qpack_field f = h3_qpack_encoder_entry(e, i, ours, sizeof ours);
+    h3_qpack_field g = h3_qpack_decoder_entry(d, i, theirs, sizeof theirs);
+    CHECK(!f.status && !g.status && f.namelen == g.namelen && f.valuelen == g.valuelen);
+    CHECK(!memcmp(ours, theirs, f.namelen + f.valuelen));
+    size += f.namelen + f.valuelen + 32;
+  }
+  CHECK(size == h3_qpack_encoder_get_table_size(e) && size == h3_qpack_decoder_get_table_size(d));
+  CHECK(size <= h3_qpack_encoder_get_capacity(e));
+  CHECK(h3_qpack_encoder_get_capacity(e) == h3_qpack_decoder_get_capacity(d));
+  CHECK(h3_qpack_encoder_get_icnt(e) == h3_qpack_decoder_get_icnt(d));
+}
+
 /* A thread's own connection, over all lists. */
 static void *run_connection(void *rounds) {
   static _Thread_local uint8_t own[1 << 16], instructions[1 << 16];
@@ -290,11 +410,14 @@ static void *run_connection(void *rounds) {
       size_t len = h3_qpack_encoder_write_encoder(&e, instructions, sizeof instructions);
       CHECK(h3_qpack_decoder_read_encoder(&d, instructions, len).status == H3_QPACK_OK);
       h3_qpack_decoded r = h3_qpack_decoder_decode(&d, 4 * i, own, a.len);
-      CHECK(r.status == H3_QPACK_OK && r.fields == lists[i].len);
+      CHECK(r.status == H3_QPACK_OK && r.fields == lists[i].len && r.len + 32 * r.fields == a.size);
+      CHECK(r.len == h3_qpack_decoder_fields(&d, NULL, 0, NULL, 0).len);
       check_fields(&d, lists[i].nv, lists[i].len);
       len = h3_qpack_decoder_write_decoder(&d, instructions, sizeof instructions);
       CHECK(h3_qpack_encoder_read_decoder(&e, instructions, len).status == H3_QPACK_OK);
+      if (i % 16 == 0) compare_tables(&e, &d);
     }
+    CHECK(h3_qpack_encoder_get_krcnt(&e) == h3_qpack_encoder_get_icnt(&e) && !h3_qpack_encoder_get_num_unacked(&e));
     h3_qpack_encoder_del(&e);
     h3_qpack_decoder_del(&d);
   }
@@ -329,12 +452,14 @@ int main(int argc, char **argv) {
   compare_versions();
   use_settings();
   refuse_arguments();
+  take_null_texts();
   keep_results();
   ask_for_room();
   decode_alone();
   end_connections();
   wait_for_insertions();
   refuse_ready();
+  tell_tables();
   pthread_t threads[2];
   int rounds = 20;
   for (int i = 0; i < 2; i++) CHECK(!pthread_create(&threads[i], NULL, run_connection, &rounds));

@@ -29,6 +29,7 @@ static void print_results(void) {
   FIELD(h3_qpack_encoded, status);
   FIELD(h3_qpack_encoded, len);
   FIELD(h3_qpack_encoded, required);
+  FIELD(h3_qpack_encoded, size);
   SIZE(h3_qpack_written);
   FIELD(h3_qpack_written, status);
   FIELD(h3_qpack_written, len);
@@ -46,6 +47,7 @@ static void print_results(void) {
   SIZE(h3_qpack_decoded);
   FIELD(h3_qpack_decoded, status);
   FIELD(h3_qpack_decoded, fields);
+  FIELD(h3_qpack_decoded, len);
   FIELD(h3_qpack_decoded, required);
   FIELD(h3_qpack_decoded, number);
   FIELD(h3_qpack_decoded, offset);

@@ -1,1 +1,3 @@
+mod Entries
+mod Sizes
 mod Texts

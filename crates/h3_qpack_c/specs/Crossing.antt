@@ -2,7 +2,7 @@
 use Rattle.std.specs.Prelude.{◌≡◌, ◌%◌, ◌/◌, ◌-◌, ◌^◌, nat_eq, nat_le, min, ℕ, ℤ, if◌then◌else◌, ◌⊎◌, ◌&&◌, Bool}
 use Rattle.std.specs.Prelude.{List, [], ◌∷◌, ◌++◌, length, map, drop, Option, None, Some}
 use Rattle.h3_qpack_c.specs.declared.answers.Given.{Given}
-use Rattle.qpack_spec.specs.Field.{FieldLine}
+use Rattle.qpack_spec.specs.Field.{FieldLine, fields_of_lines, total_size}
 use Rattle.qpack_codec.specs.declared.encoder.choices.Wish.{Wish}
 use Rattle.qpack_codec.specs.declared.encoder.choices.Wish.TheVariants.{Unmarked, Never, Reuse, Insert}
 use Rattle.h3_qpack_c.specs.declared.answers.Written.{Written}
@@ -69,6 +69,15 @@ abbrev pub text_of : List FieldLine → List ℕ
 text_of [] = []
 text_of (f ∷ fs) = text_of_field f ++ text_of fs
 
+-- how many bytes the names and values of fields have, held at the greatest number
+abbrev pub text_len : List FieldLine → ℕ
+text_len fs = min (length (text_of fs)) (2 ^ 64 - 1)
+
+-- the size of a list of fields: the names, the values, and 32 bytes for each field (RFC 9114, section 4.2.2), held at the
+-- greatest number
+abbrev pub list_size : List FieldLine → ℕ
+list_size fs = min (total_size (fields_of_lines fs)) (2 ^ 64 - 1)
+
 -- what is told of a field that is copied
 abbrev pub told_of_field : FieldLine → Given
 told_of_field f =
@@ -83,7 +92,7 @@ fit fs told old = nat_le (length fs) (length told) && nat_le (length (text_of fs
 pub record GivesAll (fields : List FieldLine) (told_before told_after : List Given) (before after : List ℕ)
     (answer : Written) : Type 0 where
   pub status_is : answer.status ≡ (if fit fields told_before before then done else no_room)
-  pub len_is : answer.len ≡ min (length (text_of fields)) (2 ^ 64 - 1)
+  pub len_is : answer.len ≡ text_len fields
   pub told_is : told_after
       ≡ (if fit fields told_before before then written_over (map told_of_field fields) told_before else told_before)
   pub text_is : after ≡ (if fit fields told_before before then written_over (text_of fields) before else before)

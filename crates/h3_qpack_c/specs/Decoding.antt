@@ -16,7 +16,7 @@ use Rattle.qpack_ends.specs.Receiving.{Receives}
 use Rattle.h3_qpack_c.specs.declared.answers.Decoding.{Decoding}
 use Rattle.h3_qpack_c.specs.declared.answers.Received.{Received}
 use Rattle.h3_qpack_c.specs.declared.decoder.State.{State}
-use Rattle.h3_qpack_c.specs.Crossing.{written_over}
+use Rattle.h3_qpack_c.specs.Crossing.{text_len, written_over}
 use Rattle.h3_qpack_c.specs.Statuses.{done, blocked, of_decoding, of_decoding_call}
 
 -- the settings that an end takes
@@ -37,18 +37,26 @@ told_of_refusal (Section stream (Line number offset e)) =
     record {
       status = of_decoding (Section stream (Line number offset e));
       fields = 0;
+      len = 0;
       required = 0;
       number = number;
       offset = offset;
     }
-told_of_refusal e = record { status = of_decoding e; fields = 0; required = 0; number = 0; offset = 0 }
+told_of_refusal e = record { status = of_decoding e; fields = 0; len = 0; required = 0; number = 0; offset = 0 }
 
 -- what is told of a section that has these fields
 abbrev pub told_of_decoding : Result Reading DecodingError → List FieldLine → Decoding
 told_of_decoding (Ok (Fields required)) fields =
-    record { status = done; fields = length fields; required = required; number = 0; offset = 0 }
+    record {
+      status = done;
+      fields = length fields;
+      len = text_len fields;
+      required = required;
+      number = 0;
+      offset = 0;
+    }
 told_of_decoding (Ok (Blocked required)) fields =
-    record { status = blocked; fields = 0; required = required; number = 0; offset = 0 }
+    record { status = blocked; fields = 0; len = 0; required = required; number = 0; offset = 0 }
 told_of_decoding (Err e) fields = told_of_refusal e
 
 -- a section is decoded as the end does it, and its fields are kept; where there are none, none are

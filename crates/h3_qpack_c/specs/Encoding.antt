@@ -12,7 +12,7 @@ use Rattle.qpack_ends.specs.Hearing.{Receives}
 use Rattle.h3_qpack_c.specs.declared.answers.Encoded.{Encoded}
 use Rattle.h3_qpack_c.specs.declared.answers.Received.{Received}
 use Rattle.h3_qpack_c.specs.declared.encoder.State.{State}
-use Rattle.h3_qpack_c.specs.Crossing.{copied, status_of_copy, written_over}
+use Rattle.h3_qpack_c.specs.Crossing.{copied, list_size, status_of_copy, written_over}
 use Rattle.h3_qpack_c.specs.Statuses.{done, of_encoding, of_encoding_call}
 
 -- an end at which nothing happened yet, and no section
@@ -23,11 +23,16 @@ IsNew settings s = Starts settings s.end × (s.section.items ≡ [])
 abbrev pub KeepsNew : EncoderSettings → Option State → Type 0
 KeepsNew settings kept = (s : State) × (kept ≡ Some s) × IsNew settings s
 
--- what is told of an encoding, of which the section is these bytes, and the caller's memory these
-abbrev pub told_of_encoding : Result ℕ EncodingError → List ℕ → List ℕ → Encoded
-told_of_encoding (Ok required) section before =
-    record { status = status_of_copy section before; len = length section; required = required }
-told_of_encoding (Err e) section before = record { status = of_encoding e; len = 0; required = 0 }
+-- what is told of an encoding of fields, of which the section is these bytes, and the caller's memory these
+abbrev pub told_of_encoding : Result ℕ EncodingError → List FieldLine → List ℕ → List ℕ → Encoded
+told_of_encoding (Ok required) fields section before =
+    record {
+      status = status_of_copy section before;
+      len = length section;
+      required = required;
+      size = list_size fields;
+    }
+told_of_encoding (Err e) fields section before = record { status = of_encoding e; len = 0; required = 0; size = 0 }
 
 -- a section is encoded as the end does it, and is copied to the caller's memory if it fits; refused, there is none
 pub record EncodesTo (old new : State) (stream : ℕ) (fields : List FieldLine) (before after : List ℕ) (told : Encoded) :
@@ -35,7 +40,7 @@ pub record EncodesTo (old new : State) (stream : ℕ) (fields : List FieldLine) 
   pub answer : Result ℕ EncodingError
   pub encodes : Encodes old.end new.end stream fields [] new.section.items answer
   pub copied_is : after ≡ copied new.section.items before
-  pub told_is : told ≡ told_of_encoding answer new.section.items before
+  pub told_is : told ≡ told_of_encoding answer fields new.section.items before
 
 -- a front of the encoder stream, as much as the caller's memory has room for, is copied there, and dropped
 pub record TakesStream (old new : State) (before after : List ℕ) (taken : ℕ) : Type 0 where

@@ -4,6 +4,7 @@ pub mod Crossing
 pub mod Encoding
 pub mod Decoding
 pub mod Alone
+pub mod Tables
 pub mod EncoderSlots
 pub mod DecoderSlots
 pub mod EncoderFollows

@@ -11,6 +11,8 @@ pub struct Encoded {
     pub len: usize,
     /// Its required insert count, 0 if it references no entry.
     pub required: usize,
+    /// The size of the list of fields in bytes (RFC 9114, section 4.2.2), at most 2^64 - 1.
+    pub size: usize,
 }
 
 /// A status and a number of bytes.
@@ -41,6 +43,8 @@ pub struct Decoding {
     pub status: i32,
     /// How many fields there are.
     pub fields: usize,
+    /// How many bytes their names and values have, at most 2^64 - 1.
+    pub len: usize,
     /// The required insert count of a section that was decoded or that waits.
     pub required: usize,
     /// Where a line was refused: its number in the section, from 1, else 0.

@@ -12,7 +12,7 @@ ghost use Rattle.h3_qpack_c.specs.Decoding.{taken_of};
 ghost use Rattle.h3_qpack_c.specs.Decoding.{told_of_refusal, told_of_receiving, IsNew, KeepsNew};
 
 use crate::answers::{Decoding, Given, Received, Written};
-use crate::fields::{copy_front, give, give_all, no_field};
+use crate::fields::{copy_front, give, give_all, no_field, text_len};
 use crate::statuses::{
     BLOCKED, DONE, ENCODER_STREAM_ERROR, INVALID, NO_MEMORY, status_of_decoding,
 };
@@ -26,6 +26,7 @@ use std::marker::Model;
 
 mod lend;
 mod slot;
+mod table;
 
 use lend::state;
 use slot::{Slot, put};
@@ -128,17 +129,21 @@ fn decode(state: &mut State, stream: u64, section: &[u8]) -> Decoding
     ensures { DecodesTo state.old state.new stream section.now result }
 {
     match state.end.decode(stream, section, &mut state.fields) {
-        Ok(Reading::Fields { required }) => decoded(DONE, state.fields.len(), required),
-        Ok(Reading::Blocked { required }) => decoded(BLOCKED, 0, required),
+        Ok(Reading::Fields { required }) => {
+            let (fields, len) = (state.fields.len(), text_len(&state.fields));
+            decoded(DONE, fields, len, required)
+        }
+        Ok(Reading::Blocked { required }) => decoded(BLOCKED, 0, 0, required),
         Err(error) => refused(&error),
     }
 }
 
 /// What is told of a section that was read.
-fn decoded(status: i32, fields: usize, required: usize) -> Decoding
+fn decoded(status: i32, fields: usize, len: usize, required: usize) -> Decoding
     ensures { result ≡ record {
       status = status;
       fields = fields;
+      len = len;
       required = required;
       number = 0;
       offset = 0;
@@ -147,6 +152,7 @@ fn decoded(status: i32, fields: usize, required: usize) -> Decoding
     Decoding {
         status,
         fields,
+        len,
         required,
         number: 0,
         offset: 0,
@@ -168,6 +174,7 @@ fn refused(error: &DecodingError) -> Decoding
     Decoding {
         status,
         fields: 0,
+        len: 0,
         required: 0,
         number,
         offset,

@@ -10,7 +10,7 @@ ghost use Rattle.qpack_ends.specs.declared.encoder.EncoderSettings.{EncoderSetti
 ghost use Rattle.qpack_ends.specs.Risk.{streams_at_risk};
 
 use crate::answers::{Encoded, Received, Written};
-use crate::fields::{Field, copy_front, write};
+use crate::fields::{Field, copy_front, list_size, write};
 use crate::statuses::{DECODER_STREAM_ERROR, DONE, INVALID, NO_MEMORY, status_of_encoding};
 use qpack_base::coding::Cursor;
 use qpack_ends::{ConnectionEncoder, EncoderSettings, EncodingError, SettingsError};
@@ -19,6 +19,7 @@ use std::marker::Model;
 
 mod lend;
 mod slot;
+mod table;
 
 use lend::state;
 use slot::{Slot, put};
@@ -138,12 +139,14 @@ fn encode(state: &mut State, stream: u64, fields: &[Field], section: &mut [u8]) 
                 status,
                 len,
                 required,
+                size: list_size(fields),
             }
         }
         Err(error) => Encoded {
             status: status_of_encoding(&error),
             len: 0,
             required: 0,
+            size: 0,
         },
     }
 }

@@ -3,7 +3,8 @@
 ghost use Rattle.std.specs.Prelude.{◌≡◌, ◌≤◌, ◌+◌, ◌-◌, ◌^◌, ◌++◌, length, map, min, take, drop, Some};
 ghost use Rattle.qpack_base.specs.HeaderFields.{line_of};
 ghost use Rattle.h3_qpack_c.specs.Crossing.{written_over, copied, told_of_copy, Gives, no_such_field};
-ghost use Rattle.h3_qpack_c.specs.Crossing.{text_of, text_of_field, told_of_field, GivesAll};
+ghost use Rattle.h3_qpack_c.specs.Crossing.{line_of_lent, text_of, text_of_field, told_of_field, GivesAll};
+ghost use Rattle.h3_qpack_c.specs.Crossing as crossing;
 
 use crate::answers::{Given, Written};
 use crate::statuses::{DONE, INVALID, NO_ROOM};
@@ -148,9 +149,20 @@ pub(crate) fn give_all(section: &FieldSection, told: &mut [Given], out: &mut [u8
     Written { status: DONE, len }
 }
 
+/// Returns the size of a list of fields in bytes, at most 2^64 - 1 (RFC 9114, section 4.2.2).
+pub(crate) fn list_size(fields: &[Field]) -> usize
+    ensures { result ≡ crossing.list_size (map line_of_lent fields.now) }
+{
+    let mut size = 0usize;
+    for field in fields {
+        size = size.saturating_add(field.as_field().mem_size());
+    }
+    size
+}
+
 /// How many bytes the names and values have, at most 2^64 - 1.
-fn text_len(section: &FieldSection) -> usize
-    ensures { result ≡ min (length (text_of section.now)) (2 ^ 64 - 1) }
+pub(crate) fn text_len(section: &FieldSection) -> usize
+    ensures { result ≡ crossing.text_len section.now }
 {
     let mut len = 0usize;
     for index in 0..section.len() {

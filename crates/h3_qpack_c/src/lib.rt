@@ -10,6 +10,7 @@ mod encoder;
 mod fields;
 mod stateless;
 mod statuses;
+mod tables;
 
 /// The version of this interface: 65,536 for each breaking change, 1 for each addition.
 #[unsafe(no_mangle)]
