@@ -33,12 +33,14 @@
 
 mod decoder;
 mod encoder;
+mod entries;
 mod error;
 
 pub use crate::copied::Fields;
 pub use crate::field::{FieldLine, Wish, WishedField};
 pub use decoder::{ConnectionDecoder, DecoderSettings, Reading};
 pub use encoder::{ConnectionEncoder, EncoderSettings};
+pub use entries::Entries;
 pub use error::{
     DecodingError, EncodingError, NoMemory, Place, SettingsError, QPACK_DECODER_STREAM_ERROR,
     QPACK_DECOMPRESSION_FAILED, QPACK_ENCODER_STREAM_ERROR,

@@ -2,7 +2,7 @@
 
 use crate::connection::NoMemory;
 
-/// Makes room for so many more items.
+/// Makes room for `many` more items.
 pub(crate) fn make_room<T>(items: &mut Vec<T>, many: usize) -> Result<(), NoMemory> {
     items.try_reserve(many).map_err(|_| NoMemory)
 }

@@ -73,6 +73,7 @@ pub(crate) struct Encoded {
     pub(crate) status: i32,
     pub(crate) len: usize,
     pub(crate) required: usize,
+    pub(crate) size: usize,
 }
 
 /// A status and a number of bytes: `h3_qpack_written`.
@@ -96,6 +97,7 @@ pub(crate) struct Received {
 pub(crate) struct Decoded {
     pub(crate) status: i32,
     pub(crate) fields: usize,
+    pub(crate) len: usize,
     pub(crate) required: usize,
     pub(crate) number: u64,
     pub(crate) offset: u64,
@@ -111,11 +113,11 @@ pub(crate) struct DecodedAlone {
     pub(crate) offset: u64,
 }
 
-/// What is told of a field: `h3_qpack_field`.
+/// A field's lengths and flags: `h3_qpack_field`.
 #[repr(C)]
 #[derive(Clone, Copy)]
 pub(crate) struct Given {
-    status: i32,
+    pub(crate) status: i32,
     flags: u32,
     pub(crate) name_len: usize,
     pub(crate) value_len: usize,
@@ -158,6 +160,13 @@ extern "C" {
     fn h3q_encoder_read(encoder: *mut Handle, bytes: *const u8, bytes_len: usize) -> Received;
     fn h3q_encoder_set_capacity(encoder: *mut Handle, capacity: usize) -> i32;
     fn h3q_encoder_blocked(encoder: *mut Handle) -> usize;
+    fn h3q_encoder_unacknowledged(encoder: *mut Handle) -> usize;
+    fn h3q_encoder_insert_count(encoder: *mut Handle) -> usize;
+    fn h3q_encoder_known_received_count(encoder: *mut Handle) -> usize;
+    fn h3q_encoder_capacity(encoder: *mut Handle) -> usize;
+    fn h3q_encoder_table_size(encoder: *mut Handle) -> usize;
+    fn h3q_encoder_entries(encoder: *mut Handle) -> usize;
+    fn h3q_encoder_entry(encoder: *mut Handle, index: usize, out: *mut u8, out_len: usize) -> Given;
     fn h3q_decoder_new(max_capacity: usize, max_blocked: usize, max_section_size: u64, at: *mut *mut c_void) -> i32;
     fn h3q_decoder_free(decoder: Handle);
     fn h3q_decoder_decode(decoder: *mut Handle, stream_id: u64, section: *const u8, section_len: usize) -> Decoded;
@@ -171,6 +180,10 @@ extern "C" {
     fn h3q_decoder_read(decoder: *mut Handle, bytes: *const u8, bytes_len: usize) -> Received;
     fn h3q_decoder_insert_count(decoder: *mut Handle) -> usize;
     fn h3q_decoder_blocked(decoder: *mut Handle) -> usize;
+    fn h3q_decoder_capacity(decoder: *mut Handle) -> usize;
+    fn h3q_decoder_table_size(decoder: *mut Handle) -> usize;
+    fn h3q_decoder_entries(decoder: *mut Handle) -> usize;
+    fn h3q_decoder_entry(decoder: *mut Handle, index: usize, out: *mut u8, out_len: usize) -> Given;
     fn h3q_decoder_next_ready(decoder: *mut Handle, stream_id: *mut u64) -> u32;
     fn h3q_decoder_stream(decoder: *mut Handle, out: *mut u8, out_len: usize) -> usize;
     fn h3q_decoder_stream_len(decoder: *mut Handle) -> usize;
@@ -204,7 +217,7 @@ fn room_of<T>(items: &mut Vec<T>) -> (*mut T, usize) {
     (room.as_mut_ptr().cast(), room.len())
 }
 
-/// Takes so many items for written that a call wrote to the room behind what a vector holds.
+/// Counts items as written that a call wrote to the spare room of a vector.
 ///
 /// # Safety
 /// The first `len` items of that room are initialised.
@@ -213,6 +226,17 @@ unsafe fn take_written<T>(items: &mut Vec<T>, len: usize) {
     assert!(len <= items.capacity(), "a call wrote past its room");
     // SAFETY: so many lie within the capacity, and the caller says that they are initialised.
     unsafe { items.set_len(len) }
+}
+
+/// Takes a name and a value for written, if a call wrote them to the spare room of a vector.
+///
+/// # Safety
+/// At status OK the bytes of both are initialised there.
+unsafe fn take_given(bytes: &mut Vec<u8>, given: &Given) {
+    if given.status == OK {
+        // SAFETY: the caller says that they are initialised.
+        unsafe { take_written(bytes, given.name_len + given.value_len) }
+    }
 }
 
 /// Encodes fields without a table, to the room behind what a vector holds.
@@ -229,8 +253,8 @@ pub(crate) fn encode_stateless(fields: &[Lent<'_>], section: &mut Vec<u8>) -> Wr
     }
 }
 
-/// Decodes a section without a table, to the room behind what two vectors hold: what is told of each field, and their
-/// names and values one behind the other.
+/// Decodes a section without a table, to the spare room of two vectors: each field's lengths and flags, and the names and
+/// values without gaps.
 pub(crate) fn decode_stateless(
     section: &[u8],
     max_section_size: u64,
@@ -249,6 +273,15 @@ pub(crate) fn decode_stateless(
         }
         decoded
     }
+}
+
+/// An end whose table can be read.
+pub(crate) trait Table {
+    /// Returns how many entries the table has.
+    fn entries(&self) -> usize;
+
+    /// Writes the name and the value of an entry to the spare room of a vector, if both fit. Index 0 is the newest entry.
+    fn entry(&self, index: usize, bytes: &mut Vec<u8>) -> Given;
 }
 
 /// An encoding end. Its cell makes it no `Sync`: a call that only asks is handed the end to itself, too.
@@ -321,6 +354,54 @@ impl Encoder {
         // SAFETY: as for `stream_len`.
         unsafe { h3q_encoder_blocked(self.handle.get()) }
     }
+
+    /// Returns how many sections wait for acknowledgments.
+    pub(crate) fn unacknowledged(&self) -> usize {
+        // SAFETY: as for `stream_len`.
+        unsafe { h3q_encoder_unacknowledged(self.handle.get()) }
+    }
+
+    /// Returns how many insertions were made.
+    pub(crate) fn insert_count(&self) -> usize {
+        // SAFETY: as for `stream_len`.
+        unsafe { h3q_encoder_insert_count(self.handle.get()) }
+    }
+
+    /// Returns how many insertions the peer is known to have received.
+    pub(crate) fn known_received_count(&self) -> usize {
+        // SAFETY: as for `stream_len`.
+        unsafe { h3q_encoder_known_received_count(self.handle.get()) }
+    }
+
+    /// Returns the capacity of the table, in bytes.
+    pub(crate) fn capacity(&self) -> usize {
+        // SAFETY: as for `stream_len`.
+        unsafe { h3q_encoder_capacity(self.handle.get()) }
+    }
+
+    /// Returns the size of the table, in bytes.
+    pub(crate) fn table_size(&self) -> usize {
+        // SAFETY: as for `stream_len`.
+        unsafe { h3q_encoder_table_size(self.handle.get()) }
+    }
+}
+
+impl Table for Encoder {
+    fn entries(&self) -> usize {
+        // SAFETY: as for `stream_len`.
+        unsafe { h3q_encoder_entries(self.handle.get()) }
+    }
+
+    fn entry(&self, index: usize, bytes: &mut Vec<u8>) -> Given {
+        let (room, room_len) = room_of(bytes);
+        // SAFETY: as for `stream_len`; the room is lent for the length of the call. At status OK the call wrote both
+        // lengths to the room.
+        unsafe {
+            let given = h3q_encoder_entry(self.handle.get(), index, room, room_len);
+            take_given(bytes, &given);
+            given
+        }
+    }
 }
 
 impl Drop for Encoder {
@@ -333,8 +414,9 @@ impl Drop for Encoder {
 /// A decoding end. Its cell makes it no `Sync`: a call that only asks is handed the end to itself, too.
 pub(crate) struct Decoder {
     handle: UnsafeCell<Handle>,
-    /// The number of fields of the section that was decoded last.
+    /// The number of fields of the section that was decoded last, and the bytes of their names and values.
     fields: usize,
+    fields_len: usize,
 }
 
 // SAFETY: as for `Encoder`.
@@ -346,7 +428,7 @@ impl Decoder {
         let mut at = ptr::null_mut();
         // SAFETY: `at` is there for the call, which writes to it.
         match unsafe { h3q_decoder_new(max_capacity, max_blocked, max_section_size, &mut at) } {
-            OK => Ok(Decoder { handle: UnsafeCell::new(Handle { at }), fields: 0 }),
+            OK => Ok(Decoder { handle: UnsafeCell::new(Handle { at }), fields: 0, fields_len: 0 }),
             status => Err(status),
         }
     }
@@ -355,7 +437,7 @@ impl Decoder {
     pub(crate) fn decode(&mut self, stream_id: u64, section: &[u8]) -> Decoded {
         // SAFETY: the end is one that `new` made, and the section is lent for the length of the call.
         let decoded = unsafe { h3q_decoder_decode(self.handle.get_mut(), stream_id, section.as_ptr(), section.len()) };
-        self.fields = if decoded.status == OK { decoded.fields } else { 0 };
+        (self.fields, self.fields_len) = if decoded.status == OK { (decoded.fields, decoded.len) } else { (0, 0) };
         decoded
     }
 
@@ -364,8 +446,13 @@ impl Decoder {
         self.fields
     }
 
-    /// Writes the fields of the section that was decoded last to the spare room of two vectors, if all fit: what is told
-    /// of each, and their names and values without gaps.
+    /// Returns the number of bytes of their names and values.
+    pub(crate) fn fields_len(&self) -> usize {
+        self.fields_len
+    }
+
+    /// Writes the fields of the section that was decoded last to the spare room of two vectors, if all fit: each field's
+    /// lengths and flags, and the names and values without gaps.
     pub(crate) fn fields(&mut self, told: &mut Vec<Given>, bytes: &mut Vec<u8>) -> Written {
         let ((fields, fields_len), (room, room_len)) = (room_of(told), room_of(bytes));
         // SAFETY: the end is one that `new` made, and both rooms are lent for the length of the call, and do not overlap.
@@ -399,6 +486,18 @@ impl Decoder {
         unsafe { h3q_decoder_blocked(self.handle.get()) }
     }
 
+    /// Returns the capacity of the table, in bytes.
+    pub(crate) fn capacity(&self) -> usize {
+        // SAFETY: as for `insert_count`.
+        unsafe { h3q_decoder_capacity(self.handle.get()) }
+    }
+
+    /// Returns the size of the table, in bytes.
+    pub(crate) fn table_size(&self) -> usize {
+        // SAFETY: as for `insert_count`.
+        unsafe { h3q_decoder_table_size(self.handle.get()) }
+    }
+
     /// A stream whose section waits no more.
     pub(crate) fn next_ready(&self) -> Option<u64> {
         let mut stream_id = 0;
@@ -427,6 +526,24 @@ impl Decoder {
     pub(crate) fn cancel(&mut self, stream_id: u64) -> i32 {
         // SAFETY: the end is one that `new` made.
         unsafe { h3q_decoder_cancel(self.handle.get_mut(), stream_id) }
+    }
+}
+
+impl Table for Decoder {
+    fn entries(&self) -> usize {
+        // SAFETY: as for `insert_count`.
+        unsafe { h3q_decoder_entries(self.handle.get()) }
+    }
+
+    fn entry(&self, index: usize, bytes: &mut Vec<u8>) -> Given {
+        let (room, room_len) = room_of(bytes);
+        // SAFETY: as for `insert_count`; the room is lent for the length of the call. At status OK the call wrote both
+        // lengths to the room.
+        unsafe {
+            let given = h3q_decoder_entry(self.handle.get(), index, room, room_len);
+            take_given(bytes, &given);
+            given
+        }
     }
 }
 
@@ -480,8 +597,8 @@ mod tests {
     #[test]
     fn results_of_encoding_are_laid_out_as_in_c() {
         assert_laid_out!(
-            "h3_qpack_encoded", Encoded { status: OK, len: 0, required: 0 },
-            status is "status", len is "len", required is "required"
+            "h3_qpack_encoded", Encoded { status: OK, len: 0, required: 0, size: 0 },
+            status is "status", len is "len", required is "required", size is "size"
         );
         assert_laid_out!("h3_qpack_written", Written { status: OK, len: 0 }, status is "status", len is "len");
     }
@@ -493,8 +610,9 @@ mod tests {
             status is "status", taken is "taken", number is "number", offset is "offset"
         );
         assert_laid_out!(
-            "h3_qpack_decoded", Decoded { status: OK, fields: 0, required: 0, number: 0, offset: 0 },
-            status is "status", fields is "fields", required is "required", number is "number", offset is "offset"
+            "h3_qpack_decoded", Decoded { status: OK, fields: 0, len: 0, required: 0, number: 0, offset: 0 },
+            status is "status", fields is "fields", len is "len", required is "required", number is "number",
+            offset is "offset"
         );
         assert_laid_out!(
             "h3_qpack_decoded_alone", DecodedAlone { status: OK, fields: 0, len: 0, number: 0, offset: 0 },

@@ -73,6 +73,7 @@ fn connect(number: isize) -> usize {
     decoder.receive(&stream).unwrap();
     assert_eq!(decoder.decode(4, &section), Ok(Reading::Fields { count: 3, required: 2 }));
     again(&mut refused, || decoder.fields().map(|lent| assert!(lent.eq(fields))), |_| true);
+    again(&mut refused, || encoder.entries().try_for_each(|entry| entry.map(drop)), |_| true);
     let mut answers = Vec::new();
     assert_eq!(again(&mut refused, || decoder.take_decoder_stream(&mut answers), |_| true), 2);
     GRANTED.with(|granted| granted.set(-1));
@@ -107,7 +108,7 @@ fn refuse_each(run: fn(isize) -> usize) -> usize {
 #[test]
 fn a_connection() {
     let many = refuse_each(connect);
-    assert!(many >= 5, "{many} allocations were refused");
+    assert!(many >= 11, "{many} allocations were refused");
 }
 
 #[test]

@@ -62,7 +62,9 @@ impl<'a> Connection<'a> {
         let list = lines(&self.lists[stream_id as usize / 4]);
         let fields = self.decoder.fields().unwrap();
         assert_eq!(fields.len(), list.len());
-        assert!(fields.eq(list));
+        assert!(fields.eq(list.iter().copied()));
+        let len: usize = list.iter().map(|line| line.name.len() + line.value.len()).sum();
+        assert_eq!(self.decoder.fields_len(), len);
     }
 
     /// Hands in a section; whether it did not wait.
@@ -86,6 +88,8 @@ impl<'a> Connection<'a> {
         let list = lines(&self.lists[stream_id as usize / 4]);
         let list = list.iter().map(|line| line.wish(WISHES[random.below(WISHES.len())]));
         self.encoder.encode(stream_id, list, &mut section).unwrap();
+        let size: usize = self.lists[stream_id as usize / 4].iter().map(|(field, _)| field.mem_size()).sum();
+        assert_eq!(self.encoder.list_size(), size);
         if !is_late || random.below(4) == 0 {
             self.deliver(random);
         }
@@ -128,6 +132,17 @@ impl<'a> Connection<'a> {
     }
 }
 
+/// Both ends have the same table, and the encoder knows that the decoder has all of it.
+fn check_tables(encoder: &ConnectionEncoder, decoder: &ConnectionDecoder) {
+    let sizes = encoder.entries().map(|entry| entry.unwrap().mem_size());
+    assert_eq!(sizes.sum::<usize>(), encoder.table_size());
+    assert!(encoder.entries().eq(decoder.entries()));
+    assert_eq!(encoder.table_size(), decoder.table_size());
+    assert_eq!(encoder.capacity(), decoder.capacity());
+    assert_eq!(encoder.insert_count(), decoder.insert_count());
+    assert_eq!((encoder.known_received_count(), encoder.unacknowledged()), (encoder.insert_count(), 0));
+}
+
 /// A whole connection.
 fn connect(lists: &[List], capacity: usize, max_blocked: usize, is_late: bool, random: &mut Random) -> Counts {
     let mut connection = Connection::new(lists, capacity, max_blocked);
@@ -141,6 +156,7 @@ fn connect(lists: &[List], capacity: usize, max_blocked: usize, is_late: bool, r
     connection.answer(random);
     assert!(connection.waiting.is_empty() && connection.decoder.blocked() == 0);
     assert_eq!(connection.encoder.blocked(), 0);
+    check_tables(&connection.encoder, &connection.decoder);
     connection.counts
 }
 

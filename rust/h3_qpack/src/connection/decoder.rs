@@ -1,5 +1,6 @@
 //! The decoder of a connection.
 
+use super::entries::Entries;
 use super::error::{DecodingError, NoMemory, Place, SettingsError};
 use super::take_all;
 use crate::copied::{Copied, Fields};
@@ -51,9 +52,6 @@ pub struct ConnectionDecoder {
     copied: Copied,
 }
 
-/// The first room for the names and values of a section, in bytes.
-const FIRST_ROOM: usize = 1024;
-
 impl ConnectionDecoder {
     /// Makes a decoder. Its table has the capacity 0 until the peer sets one.
     ///
@@ -94,21 +92,31 @@ impl ConnectionDecoder {
     /// [`NoMemory`] if there is no memory to copy them to: call it again later.
     pub fn fields(&mut self) -> Result<Fields<'_>, NoMemory> {
         if self.copied.told.len() < self.end.field_count() {
-            self.copy_fields(FIRST_ROOM)?;
+            self.copy_fields()?;
         }
         Ok(self.copied.fields())
     }
 
-    /// Copies the fields of the last decode. Makes room for this number of bytes of names and values, or for more if they
-    /// have more.
-    fn copy_fields(&mut self, bytes: usize) -> Result<(), NoMemory> {
-        let (copied, count) = (&mut self.copied, self.end.field_count());
-        copied.make_room(count, bytes)?;
-        let mut written = self.end.fields(&mut copied.told, &mut copied.bytes);
-        if written.status == sys::NO_ROOM {
-            copied.make_room(count, written.len)?;
-            written = self.end.fields(&mut copied.told, &mut copied.bytes);
-        }
+    /// Returns the length of all names and values of the last decode, in bytes. It is 0 if that did not return
+    /// [`Reading::Fields`].
+    ///
+    /// ```
+    /// # use h3_qpack::connection::{ConnectionDecoder, DecoderSettings};
+    /// let settings = DecoderSettings { max_capacity: 0, max_blocked: 0, max_section_size: 65_536 };
+    /// let mut decoder = ConnectionDecoder::new(settings)?;
+    /// decoder.decode(0, &[0x00, 0x00, 0xd1])?; // :method GET
+    /// assert_eq!(decoder.fields_len(), 10);
+    /// # Ok::<(), Box<dyn std::error::Error>>(())
+    /// ```
+    pub fn fields_len(&self) -> usize {
+        self.end.fields_len()
+    }
+
+    /// Copies the fields of the last decode.
+    fn copy_fields(&mut self) -> Result<(), NoMemory> {
+        let copied = &mut self.copied;
+        copied.make_room(self.end.field_count(), self.end.fields_len())?;
+        let written = self.end.fields(&mut copied.told, &mut copied.bytes);
         assert_eq!(written.status, sys::OK, "the fields fit in the room that the library asked for");
         Ok(())
     }
@@ -145,6 +153,33 @@ impl ConnectionDecoder {
     /// Returns the number of blocked streams (RFC 9204, section 2.1.2).
     pub fn blocked(&self) -> usize {
         self.end.blocked()
+    }
+
+    /// Returns the capacity of the table, in bytes: 0 until the peer sets one (RFC 9204, section 4.3.1).
+    pub fn capacity(&self) -> usize {
+        self.end.capacity()
+    }
+
+    /// Returns the size of the table, in bytes: the sum over its entries of name, value and 32 bytes each (RFC 9204,
+    /// section 3.2.1). Goes through all entries.
+    pub fn table_size(&self) -> usize {
+        self.end.table_size()
+    }
+
+    /// Returns the entries of the table, the newest first.
+    ///
+    /// ```
+    /// # use h3_qpack::connection::{ConnectionDecoder, DecoderSettings};
+    /// # use h3_qpack::HeaderField;
+    /// let settings = DecoderSettings { max_capacity: 4096, max_blocked: 16, max_section_size: 65_536 };
+    /// let mut decoder = ConnectionDecoder::new(settings)?;
+    /// decoder.receive(&[0x3f, 0x45, 0xc1, 0x01, b'x'])?; // the capacity 100, and an insertion of the name :path
+    /// assert_eq!((decoder.capacity(), decoder.table_size()), (100, 38));
+    /// assert_eq!(decoder.entries().next(), Some(Ok(HeaderField::new(":path", "x"))));
+    /// # Ok::<(), Box<dyn std::error::Error>>(())
+    /// ```
+    pub fn entries(&self) -> Entries<'_> {
+        Entries::new(&self.end)
     }
 
     /// Returns the number of bytes to send on the decoder stream.

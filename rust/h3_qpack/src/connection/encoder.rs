@@ -1,5 +1,6 @@
 //! The encoder of a connection.
 
+use super::entries::Entries;
 use super::error::{EncodingError, NoMemory, Place, SettingsError};
 use super::take_all;
 use crate::field::{FieldLine, Wish, WishedField};
@@ -41,6 +42,8 @@ impl EncoderSettings {
 /// ```
 pub struct ConnectionEncoder {
     end: sys::Encoder,
+    /// The size of the fields of the last section.
+    list_size: usize,
 }
 
 impl ConnectionEncoder {
@@ -52,7 +55,7 @@ impl ConnectionEncoder {
     pub fn new(settings: EncoderSettings) -> Result<ConnectionEncoder, SettingsError> {
         let EncoderSettings { max_capacity, max_blocked, capacity, most_unacknowledged } = settings;
         match sys::Encoder::new(max_capacity, max_blocked, capacity, most_unacknowledged) {
-            Ok(end) => Ok(ConnectionEncoder { end }),
+            Ok(end) => Ok(ConnectionEncoder { end, list_size: 0 }),
             Err(status) => Err(SettingsError::of(status)),
         }
     }
@@ -81,6 +84,7 @@ impl ConnectionEncoder {
         I: IntoIterator,
         I::Item: Into<WishedField<'f>>,
     {
+        self.list_size = 0;
         let mut size = SECTION_PREFIX;
         let lent = gather(fields.into_iter().map(|field| {
             let WishedField { line: FieldLine { name, value, never_indexed }, wish } = field.into();
@@ -90,10 +94,25 @@ impl ConnectionEncoder {
         }))?;
         make_room(section, size)?;
         let encoded = self.end.encode(stream_id, &lent, section);
+        self.list_size = encoded.size;
         match encoded.status {
             sys::OK => Ok(encoded.required),
             status => Err(EncodingError::of(status, EncodingError::StreamId, None)),
         }
+    }
+
+    /// Returns the size of the fields of the last encode, in bytes: the sum of name, value and 32 bytes each. It is 0 if
+    /// that failed. The peer may refuse a section above its SETTINGS_MAX_FIELD_SECTION_SIZE (RFC 9114, section 4.2.2).
+    ///
+    /// ```
+    /// # use h3_qpack::connection::{ConnectionEncoder, EncoderSettings};
+    /// let mut encoder = ConnectionEncoder::new(EncoderSettings::new(4096, 16))?;
+    /// encoder.encode(0, [(":method", "GET"), ("foo", "bar")], &mut Vec::new())?;
+    /// assert_eq!(encoder.list_size(), 10 + 32 + 6 + 32);
+    /// # Ok::<(), Box<dyn std::error::Error>>(())
+    /// ```
+    pub fn list_size(&self) -> usize {
+        self.list_size
     }
 
     /// Returns the number of bytes to send on the encoder stream.
@@ -149,6 +168,61 @@ impl ConnectionEncoder {
     /// Returns the number of streams that may be blocked at the peer (RFC 9204, section 2.1.2).
     pub fn blocked(&self) -> usize {
         self.end.blocked()
+    }
+
+    /// Returns the number of unacknowledged sections that reference the table (RFC 9204, section 4.4.1). While it is
+    /// `most_unacknowledged`, sections reference only the static table.
+    pub fn unacknowledged(&self) -> usize {
+        self.end.unacknowledged()
+    }
+
+    /// Returns the number of insertions that were made since the connection began (RFC 9204, section 2.1.4).
+    ///
+    /// ```
+    /// # use h3_qpack::connection::{ConnectionEncoder, EncoderSettings};
+    /// let mut encoder = ConnectionEncoder::new(EncoderSettings::new(4096, 16))?;
+    /// encoder.encode(4, [("foo", "bar")], &mut Vec::new())?;
+    /// assert_eq!((encoder.insert_count(), encoder.known_received_count(), encoder.unacknowledged()), (1, 0, 1));
+    /// encoder.receive(&[0x84])?; // the acknowledgment of stream 4
+    /// assert_eq!((encoder.insert_count(), encoder.known_received_count(), encoder.unacknowledged()), (1, 1, 0));
+    /// # Ok::<(), Box<dyn std::error::Error>>(())
+    /// ```
+    pub fn insert_count(&self) -> usize {
+        self.end.insert_count()
+    }
+
+    /// Returns the number of insertions that the peer is known to have received (RFC 9204, section 2.1.4).
+    pub fn known_received_count(&self) -> usize {
+        self.end.known_received_count()
+    }
+
+    /// Returns the capacity of the table, in bytes (RFC 9204, section 3.2.2). It is 0 before the first
+    /// [`encode`](Self::encode) or [`set_capacity`](Self::set_capacity).
+    pub fn capacity(&self) -> usize {
+        self.end.capacity()
+    }
+
+    /// Returns the size of the table, in bytes: the sum over its entries of name, value and 32 bytes each (RFC 9204,
+    /// section 3.2.1). Goes through all entries.
+    pub fn table_size(&self) -> usize {
+        self.end.table_size()
+    }
+
+    /// Returns the entries of the table, the newest first.
+    ///
+    /// ```
+    /// # use h3_qpack::connection::{ConnectionEncoder, EncoderSettings};
+    /// # use h3_qpack::HeaderField;
+    /// let mut encoder = ConnectionEncoder::new(EncoderSettings::new(4096, 16))?;
+    /// encoder.encode(4, [("foo", "bar"), ("trace", "17")], &mut Vec::new())?;
+    /// let entries = encoder.entries().collect::<Result<Vec<_>, _>>()?;
+    /// assert_eq!(entries, [HeaderField::new("trace", "17"), HeaderField::new("foo", "bar")]);
+    /// assert_eq!(encoder.table_size(), entries.iter().map(HeaderField::mem_size).sum());
+    /// assert_eq!(encoder.capacity(), 4096);
+    /// # Ok::<(), Box<dyn std::error::Error>>(())
+    /// ```
+    pub fn entries(&self) -> Entries<'_> {
+        Entries::new(&self.end)
     }
 }
 
