@@ -29,9 +29,17 @@ void add_event(connection *c, const char *kind, const char *format, ...) {
   bytes line = begin_event(c, kind);
   va_list arguments;
   va_start(arguments, format);
-  vsnprintf(text, sizeof text, format, arguments);
+  int len = vsnprintf(text, sizeof text, format, arguments);
   va_end(arguments);
+  CHECK(len >= 0 && (size_t)len < sizeof text);
   add_text(&line, "%s", text);
+  end_event(c, &line);
+}
+
+void add_text_event(connection *c, const char *kind, const uint8_t *text, size_t len) {
+  bytes line = begin_event(c, kind);
+  add_text(&line, ",\"text\":");
+  add_json(&line, text, len);
   end_event(c, &line);
 }
 

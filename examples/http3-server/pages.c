@@ -73,11 +73,12 @@ static void answer_file(const char *path, fields *l, bytes *body) {
 
 /* ---- What a page asks for */
 
-/* The events of this connection from a place on, and in a field the place after them. */
-static void answer_events(const connection *c, const char *query, fields *l, bytes *body) {
+/* The events of this connection from a place on, and after them its tables; in a field, the place after the events. */
+static void answer_events(connection *c, const char *query, fields *l, bytes *body) {
   size_t from = query ? (size_t)strtoull(query + 5, NULL, 10) : 0;
   char next[24];
   if (from < c->events.len) add(body, c->events.at + from, c->events.len - from);
+  add_tables(body, c);
   snprintf(next, sizeof next, "%zu", c->events.len);
   add_field(l, "x-next", next);
   add_field(l, "content-type", "text/plain");
@@ -103,11 +104,7 @@ static void answer_echo(const stream *s, fields *l, bytes *body) {
 
 /* A page of the tests says what it saw. */
 static void answer_report(connection *c, const stream *s, fields *l) {
-  bytes text = {NULL, 0, 0};
-  add(&text, s->body.at, s->body.len);
-  add(&text, "", 1);
-  add_event(c, "report", ",\"page\":%s", (char *)text.at);
-  drop(&text);
+  add_text_event(c, "report", s->body.at, s->body.len);
   add_field(l, "content-type", "text/plain");
 }
 

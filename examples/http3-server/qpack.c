@@ -65,10 +65,9 @@ int read_section(connection *c, stream *s, const uint8_t *section, size_t len) {
   }
   h3_qpack_field *lengths = calloc(d.fields + 1, sizeof *lengths);
   h3_qpack_nv *fields = calloc(d.fields + 1, sizeof *fields);
-  h3_qpack_written w = h3_qpack_decoder_fields(&c->decoder, NULL, 0, NULL, 0); /* how many bytes they have */
-  uint8_t *text = malloc(w.len + 1), *at = text;
+  uint8_t *text = malloc(d.len + 1), *at = text;
   CHECK(lengths && fields && text);
-  w = h3_qpack_decoder_fields(&c->decoder, lengths, d.fields, text, w.len);
+  h3_qpack_written w = h3_qpack_decoder_fields(&c->decoder, lengths, d.fields, text, d.len);
   CHECK(w.status == H3_QPACK_OK);
   for (size_t i = 0; i < d.fields; i++) {
     const h3_qpack_field *f = &lengths[i];
@@ -130,6 +129,49 @@ void send_instructions(connection *c) {
     add_bytes_event(c, "sent", 3, piece, len);
     send_on(c, &c->own[DECODER], piece, len);
   }
+}
+
+/* ---- What both ends tell of their tables */
+
+enum { SHOWN_ENTRIES = 25 };
+
+/* Appends the newest entries of the encoder's table, or of the decoder's, as [["name","value"],..]. */
+static void add_entries(bytes *b, connection *c, int is_encoder) {
+  size_t count = is_encoder ? h3_qpack_encoder_get_num_entries(&c->encoder)
+                            : h3_qpack_decoder_get_num_entries(&c->decoder);
+  size_t room = is_encoder ? h3_qpack_encoder_get_capacity(&c->encoder) : h3_qpack_decoder_get_capacity(&c->decoder);
+  uint8_t *text = malloc(room + 1); /* an entry is smaller than the table */
+  CHECK(text);
+  add(b, "[", 1);
+  for (size_t i = 0; i < count && i < SHOWN_ENTRIES; i++) {
+    h3_qpack_field f = is_encoder ? h3_qpack_encoder_entry(&c->encoder, i, text, room)
+                                  : h3_qpack_decoder_entry(&c->decoder, i, text, room);
+    CHECK(f.status == H3_QPACK_OK);
+    add_text(b, i ? ",[" : "[");
+    add_json(b, text, f.namelen);
+    add(b, ",", 1);
+    add_json(b, text + f.namelen, f.valuelen);
+    add(b, "]", 1);
+  }
+  add(b, "]", 1);
+  free(text);
+}
+
+/* Appends a line of JSON: both tables as they are now. The calls return 0 for an encoder that is not made yet. */
+void add_tables(bytes *b, connection *c) {
+  add_text(b, "{\"connection\":%u,\"event\":\"tables\",\"received\":{\"capacity\":%zu,\"size\":%zu,\"insertions\":%zu,",
+           c->number, h3_qpack_decoder_get_capacity(&c->decoder), h3_qpack_decoder_get_table_size(&c->decoder),
+           h3_qpack_decoder_get_icnt(&c->decoder));
+  add_text(b, "\"blocked\":%zu,\"entries\":", h3_qpack_decoder_get_num_blocked(&c->decoder));
+  add_entries(b, c, 0);
+  add_text(b, "},\"sent\":{\"capacity\":%zu,\"size\":%zu,\"insertions\":%zu,",
+           h3_qpack_encoder_get_capacity(&c->encoder), h3_qpack_encoder_get_table_size(&c->encoder),
+           h3_qpack_encoder_get_icnt(&c->encoder));
+  add_text(b, "\"known\":%zu,\"unacknowledged\":%zu,\"blocked\":%zu,\"entries\":",
+           h3_qpack_encoder_get_krcnt(&c->encoder), h3_qpack_encoder_get_num_unacked(&c->encoder),
+           h3_qpack_encoder_get_num_blocked(&c->encoder));
+  add_entries(b, c, 1);
+  add_text(b, "}}\n");
 }
 
 void close_qpack(connection *c) {

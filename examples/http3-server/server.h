@@ -125,6 +125,7 @@ int read_section(connection *c, stream *s, const uint8_t *section, size_t len);
 void cancel_section(connection *c, stream *s);
 void send_section(connection *c, stream *s, const h3_qpack_nv *nva, size_t nvlen, bytes *out);
 void send_instructions(connection *c);
+void add_tables(bytes *b, connection *c); /* a line of JSON */
 void close_qpack(connection *c);
 
 /* ---- Answers (pages.c) */
@@ -134,6 +135,7 @@ void answer(connection *c, stream *s);
 /* ---- Events: a line of JSON each (events.c) */
 
 void add_event(connection *c, const char *kind, const char *format, ...) __attribute__((format(printf, 3, 4)));
+void add_text_event(connection *c, const char *kind, const uint8_t *text, size_t len);
 void add_bytes_event(connection *c, const char *kind, unsigned type, const uint8_t *p, size_t len);
 void add_section_event(connection *c, const char *kind, const stream *s, size_t required, const uint8_t *section,
                        size_t len, const h3_qpack_nv *nva, size_t nvlen);

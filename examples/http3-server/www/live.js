@@ -1,12 +1,13 @@
 // Asks the server each second what QPACK did on this connection, and shows both tables and the last sections.
 'use strict';
 
-const SHOWN_SECTIONS = 12, SHOWN_ENTRIES = 25;
+const SHOWN_SECTIONS = 12;
 
-// One direction: the table that its decoder has, and what its sections took.
+// One direction: what its sections took, and a reader of them with a table of its own. The table that is shown is the
+// library's.
 class Direction {
   constructor(maximum) {
-    this.table = new Table(maximum);
+    this.reader = new Table(maximum);
     this.sections = [];
     this.waiting = []; // sections that came before the instructions that they require
     this.count = this.sectionBytes = this.textBytes = this.wrong = 0;
@@ -15,19 +16,19 @@ class Direction {
   }
 
   receive(bytes) {
-    this.table.receive(bytes);
-    const ready = this.waiting.filter(event => event.required <= this.table.insertCount);
-    this.waiting = this.waiting.filter(event => event.required > this.table.insertCount);
+    this.reader.receive(bytes);
+    const ready = this.waiting.filter(event => event.required <= this.reader.insertCount);
+    this.waiting = this.waiting.filter(event => event.required > this.reader.insertCount);
     ready.forEach(event => this.addSection(event));
   }
 
   section(event) {
-    if (event.required > this.table.insertCount) this.waiting.push(event);
+    if (event.required > this.reader.insertCount) this.waiting.push(event);
     else this.addSection(event);
   }
 
   addSection({id, hex, fields}) {
-    const bytes = bytesOf(hex), lines = this.table.lines(bytes);
+    const bytes = bytesOf(hex), lines = this.reader.lines(bytes);
     const isWrong = lines.length !== fields.length ||
       lines.some(({name, value}, i) => name !== fields[i][0] || value !== fields[i][1]);
     const textBytes = fields.reduce((sum, [name, value]) => sum + name.length + value.length + 4, 0);
@@ -52,7 +53,7 @@ class Direction {
   }
 }
 
-let received = null, sent = null, from = 0, isPaused = false, settings = {};
+let received = null, sent = null, tables = null, from = 0, isPaused = false, settings = {};
 
 function take(event) {
   switch (event.event) {
@@ -78,6 +79,9 @@ function take(event) {
     case 'section sent':
       sent.section(event);
       break;
+    case 'tables':
+      tables = event;
+      break;
   }
 }
 
@@ -94,12 +98,22 @@ function row(tag, cells) {
   return made;
 }
 
-function showTable(table) {
-  const shown = element('table'), {entries, dropped} = table;
+// The newest entries of the library's table, and how often the reader saw each used.
+function showTable({insertions, entries}, reader) {
+  const shown = element('table');
   shown.append(row('th', ['index', 'used', 'name', 'value']));
-  for (let i = entries.length - 1; i >= Math.max(0, entries.length - SHOWN_ENTRIES); i--)
-    shown.append(row('td', [dropped + i, entries[i].uses, entries[i].name, entries[i].value]));
+  entries.forEach(([name, value], i) => {
+    const index = insertions - 1 - i;
+    shown.append(row('td', [index, reader.uses(index), name, value]));
+  });
   return shown;
+}
+
+// What the library tells of its table: of the encoder's, how much of it the peer has.
+function describe({insertions, blocked, known, unacknowledged}) {
+  if (known === undefined) return `${insertions} insertions received, ${blocked} streams blocked`;
+  return `${insertions} insertions, of which the peer has ${known}; ${unacknowledged} sections unacknowledged, ` +
+    `${blocked} streams may be blocked`;
 }
 
 function showSection({id, bytes, textBytes, lines, isWrong}) {
@@ -113,9 +127,10 @@ function showSection({id, bytes, textBytes, lines, isWrong}) {
   return shown;
 }
 
-function show(id, title, direction) {
+function show(id, title, direction, table) {
   if (!direction) return;
-  const {table, answers} = direction, {name, literal, duplicate} = table.insertions;
+  const {reader, answers} = direction, {name, literal, duplicate} = reader.insertions;
+  const isOther = reader.insertCount === table.insertions && !reader.hasNewest(table.entries);
   const share = direction.textBytes ? (100 * direction.sectionBytes / direction.textBytes).toFixed(1) : '0';
   const bar = element('div', 'bar'), full = element('i');
   full.style.width = (table.capacity ? 100 * table.size / table.capacity : 0) + '%';
@@ -123,15 +138,16 @@ function show(id, title, direction) {
   document.getElementById(id).replaceChildren(
     element('h2', '', title),
     element('div', '', `${direction.count} sections, ${direction.sectionBytes} bytes for ${direction.textBytes} ` +
-      `of text (${share} %), and ${table.streamBytes} on the encoder stream`),
-    element('div', '', `${table.insertCount} insertions: ${name} with a name of a table, ${literal} spelled out, ` +
-      `${duplicate} duplicates`),
+      `of text (${share} %), and ${reader.streamBytes} on the encoder stream`),
+    element('div', '', describe(table)),
+    element('div', '', `insertions: ${name} with a name of a table, ${literal} spelled out, ${duplicate} duplicates`),
     element('div', '', `${answers.acknowledgments} acknowledgments, ${answers.increments} insertions reported, ` +
       `${answers.cancellations} cancellations`),
     element('div', '', 'lines: ' + Object.entries(direction.kinds).map(([how, count]) => `${count} ${how}`).join(', ')),
-    element('div', direction.wrong ? 'wrong' : '', `${direction.wrong} sections read otherwise by this page`),
-    element('div', '', `table: ${table.size} of ${table.capacity} bytes, at most ${table.maximum}`),
-    bar, showTable(table), element('h2', '', 'The last sections'), ...direction.sections.map(showSection));
+    element('div', direction.wrong || isOther ? 'wrong' : '',
+      `${direction.wrong} sections read otherwise by this page` + (isOther ? ', and entries of the table' : '')),
+    element('div', '', `table: ${table.size} of ${table.capacity} bytes, at most ${reader.maximum}`),
+    bar, showTable(table, reader), element('h2', '', 'The last sections'), ...direction.sections.map(showSection));
 }
 
 async function update() {
@@ -144,8 +160,8 @@ async function update() {
       const {ours, theirs} = settings;
       document.getElementById('settings').textContent = `settings: server capacity ${ours.capacity}, ` +
         `blocked ${ours.blocked}; browser capacity ${theirs.capacity}, blocked ${theirs.blocked}`;
-      show('received', 'Browser to server: the library decodes', received);
-      show('sent', 'Server to browser: the library encodes', sent);
+      show('received', 'Browser to server: the library decodes', received, tables.received);
+      show('sent', 'Server to browser: the library encodes', sent, tables.sent);
     }
     document.getElementById('error').textContent = '';
   } catch (error) {
