@@ -1,0 +1,177 @@
+/* Holds the library's decoder against a strict reader, call by call, over what libFuzzer makes of an input.
+ *
+ * An input is three bytes of settings, and then calls: a byte that says which, two bytes of a length, and so many bytes,
+ * or all that are left. */
+#include <stdio.h>
+#include <stdlib.h>
+#include <string.h>
+
+#include "h3_qpack.h"
+#include "strict.h"
+
+#define CHECK(x)                                                  \
+  do {                                                            \
+    if (!(x)) {                                                   \
+      fprintf(stderr, "%s:%d: not %s\n", __FILE__, __LINE__, #x); \
+      abort();                                                    \
+    }                                                             \
+  } while (0)
+
+#define MOST_WAITING 256
+
+int LLVMFuzzerTestOneInput(const uint8_t *p, size_t len);
+
+/* A connection: both decoders, and the sections that wait at them. */
+typedef struct connection {
+  h3_qpack_decoder library;
+  strict_decoder strict;
+  uint64_t max_blocked, limit;
+  uint64_t waiting[MOST_WAITING]; /* what each stream's blocked section requires, by its number; else 0 */
+  int error;                      /* the code that ended the connection, else 0 */
+} connection;
+
+static size_t count_blocked(const connection *c) {
+  size_t blocked = 0;
+  for (size_t i = 0; i < MOST_WAITING; i++) blocked += c->waiting[i] > c->strict.insert_count;
+  return blocked;
+}
+
+/* Checks what the library says of streams that wait. */
+static void compare_waiting(const connection *c) {
+  uint64_t ready = 0;
+  int is_ready = h3_qpack_decoder_next_ready((h3_qpack_decoder *)&c->library, &ready);
+  int has_ready = 0;
+  for (size_t i = 0; i < MOST_WAITING; i++)
+    has_ready |= c->waiting[i] && c->waiting[i] <= c->strict.insert_count;
+  CHECK(is_ready == has_ready);
+  if (is_ready) CHECK(ready < MOST_WAITING && c->waiting[ready] && c->waiting[ready] <= c->strict.insert_count);
+  CHECK(h3_qpack_decoder_get_num_blocked((h3_qpack_decoder *)&c->library) == count_blocked(c));
+  CHECK(h3_qpack_decoder_get_icnt((h3_qpack_decoder *)&c->library) == c->strict.insert_count);
+}
+
+static void receive(connection *c, const uint8_t *p, size_t len) {
+  int is_doomed;
+  strict_status status = strict_receive(&c->strict, p, len, &is_doomed);
+  h3_qpack_received got = h3_qpack_decoder_read_encoder(&c->library, p, len);
+  CHECK(got.taken == len);
+  if (got.status == H3_QPACK_ENCODER_STREAM_ERROR) {
+    CHECK(status == STRICT_REFUSED || is_doomed);
+    CHECK(got.number == c->strict.number && got.offset == c->strict.offset);
+    c->error = got.status;
+    return;
+  }
+  CHECK(got.status == H3_QPACK_OK && status == STRICT_OK && !got.number && !got.offset);
+  compare_waiting(c);
+}
+
+static void compare_fields(connection *c, const strict_fields *fields, size_t got) {
+  size_t len = 0, at = 0;
+  CHECK(got == fields->len);
+  for (size_t i = 0; i < fields->len; i++) len += fields->at[i].namelen + fields->at[i].valuelen;
+  h3_qpack_field *told = malloc((got + 1) * sizeof *told);
+  uint8_t *text = malloc(len + 1);
+  CHECK(told && text);
+  h3_qpack_written written = h3_qpack_decoder_fields(&c->library, told, got, text, len);
+  CHECK(written.status == H3_QPACK_OK && written.len == len);
+  for (size_t i = 0; i < got; i++) {
+    const strict_field *f = &fields->at[i];
+    CHECK(told[i].namelen == f->namelen && told[i].valuelen == f->valuelen);
+    CHECK(told[i].flags == (f->is_never_indexed ? H3_QPACK_NV_FLAG_NEVER_INDEX : 0u));
+    CHECK(!memcmp(text + at, f->text, f->namelen + f->valuelen));
+    at += f->namelen + f->valuelen;
+  }
+  free(told);
+  free(text);
+}
+
+static void decode(connection *c, uint64_t stream, const uint8_t *p, size_t len) {
+  strict_section want = strict_decode(&c->strict, p, len, c->limit);
+  h3_qpack_decoded got = h3_qpack_decoder_decode(&c->library, stream, p, len);
+  if (len > 4 * c->limit + 20) { /* no section of so many bytes is within the limit */
+    CHECK(got.status == H3_QPACK_ERR_TOO_LARGE && !got.number && !got.offset && !got.fields);
+    c->waiting[stream] = 0;
+  } else if (want.status == STRICT_BLOCKED) {
+    uint64_t before = c->waiting[stream];
+    c->waiting[stream] = want.required;
+    if (count_blocked(c) > c->max_blocked) {
+      CHECK(got.status == H3_QPACK_DECOMPRESSION_FAILED && !got.number && !got.offset);
+      c->waiting[stream] = before;
+      c->error = got.status;
+    } else {
+      CHECK(got.status == H3_QPACK_BLOCKED && got.required == want.required && !got.fields);
+    }
+  } else {
+    c->waiting[stream] = 0;
+    CHECK(got.number == want.number && got.offset == want.offset);
+    if (want.status == STRICT_OK) {
+      CHECK(got.status == H3_QPACK_OK && got.required == want.required);
+      compare_fields(c, &want.fields, got.fields);
+    } else {
+      CHECK(!got.fields);
+      CHECK(got.status == (want.status == STRICT_REFUSED ? H3_QPACK_DECOMPRESSION_FAILED : H3_QPACK_ERR_TOO_LARGE));
+      if (want.status == STRICT_REFUSED) c->error = got.status;
+    }
+  }
+  strict_free_fields(&want.fields);
+  if (!c->error) compare_waiting(c);
+}
+
+/* An error that ended the connection is returned by each later call. */
+static void compare_end(connection *c) {
+  CHECK(h3_qpack_decoder_read_encoder(&c->library, NULL, 0).status == c->error);
+  CHECK(h3_qpack_decoder_decode(&c->library, 0, (const uint8_t *)"\0\0\xd1", 3).status == c->error);
+  CHECK(h3_qpack_decoder_cancel_stream(&c->library, 0) == c->error);
+}
+
+static void take_decoder_stream(connection *c) {
+  uint8_t bytes[64];
+  while (h3_qpack_decoder_get_decoder_streamlen(&c->library))
+    CHECK(h3_qpack_decoder_write_decoder(&c->library, bytes, sizeof bytes));
+}
+
+/* Runs one call of an input. */
+static void run(connection *c, uint8_t what, const uint8_t *p, size_t len) {
+  /* The bytes stand alone, so that a sanitizer sees what is read after them. */
+  uint8_t *alone = malloc(len + !len);
+  CHECK(alone);
+  if (len) memcpy(alone, p, len);
+  uint64_t stream = what >> 2;
+  if (what % 4 < 2) receive(c, alone, len);
+  else if (what % 4 == 2) decode(c, stream, alone, len);
+  else {
+    CHECK(h3_qpack_decoder_cancel_stream(&c->library, stream) == H3_QPACK_OK);
+    c->waiting[stream] = 0;
+    compare_waiting(c);
+  }
+  free(alone);
+  if (what & 0x80) take_decoder_stream(c);
+}
+
+int LLVMFuzzerTestOneInput(const uint8_t *p, size_t len) {
+  static const uint64_t capacities[] = {0, 31, 32, 64, 100, 256, 4096, 65536};
+  if (len < 3) return 0;
+  connection c = {.max_blocked = p[1] % 32, .limit = p[2] % 4 ? 64u << p[2] % 16 : p[2]};
+  h3_qpack_decoder_settings settings;
+  h3_qpack_decoder_settings_default(&settings);
+  settings.max_capacity = capacities[p[0] % 8];
+  settings.max_blocked = c.max_blocked;
+  settings.max_section_size = c.limit;
+  CHECK(h3_qpack_decoder_new(&c.library, &settings) == H3_QPACK_OK);
+  strict_new(&c.strict, settings.max_capacity);
+  p += 3;
+  len -= 3;
+  while (len >= 3 && !c.error) {
+    uint8_t what = p[0];
+    size_t part = (size_t)p[1] << 8 | p[2];
+    p += 3;
+    len -= 3;
+    if (part > len) part = len;
+    run(&c, what, p, part);
+    p += part;
+    len -= part;
+  }
+  if (c.error) compare_end(&c);
+  h3_qpack_decoder_del(&c.library);
+  strict_del(&c.strict);
+  return 0;
+}

@@ -1,0 +1,52 @@
+/* A strict reader of QPACK (RFC 9204), written from the standard to hold the library's decoder against: slow, plain, and
+ * with nothing of the library in it. */
+#ifndef STRICT_H
+#define STRICT_H
+
+#include <stddef.h>
+#include <stdint.h>
+
+/* A field line or an entry: the name, and directly after it the value. */
+typedef struct strict_field {
+  uint8_t *text; /* owned */
+  size_t namelen, valuelen;
+  int is_never_indexed;
+} strict_field;
+
+typedef struct strict_fields {
+  strict_field *at;
+  size_t len, room;
+} strict_fields;
+
+/* What a decoder of a connection keeps. */
+typedef struct strict_decoder {
+  uint64_t max_capacity, capacity, size, insert_count;
+  strict_fields entries; /* the oldest first */
+  uint8_t *pending;      /* bytes of the encoder stream that are no whole instruction yet */
+  size_t pendinglen;
+  uint64_t number, offset; /* of the instruction at the front of |pending|, or of the one that is refused */
+  int is_refused;
+} strict_decoder;
+
+typedef enum strict_status { STRICT_OK, STRICT_BLOCKED, STRICT_TOO_LARGE, STRICT_REFUSED } strict_status;
+
+void strict_new(strict_decoder *d, uint64_t max_capacity);
+void strict_del(strict_decoder *d);
+void strict_free_fields(strict_fields *fields);
+
+/* Reads more bytes of the encoder stream (section 4.3). Returns STRICT_OK or STRICT_REFUSED. |is_doomed| says whether the
+ * cut instruction at the end must be refused whatever follows: a decoder may refuse it already. */
+strict_status strict_receive(strict_decoder *d, const uint8_t *p, size_t len, int *is_doomed);
+
+/* What a section reads as (section 4.5). */
+typedef struct strict_section {
+  strict_status status;
+  uint64_t required;
+  uint64_t number, offset; /* of the line at which it is refused or too large; else 0 */
+  strict_fields fields;    /* to be freed */
+} strict_section;
+
+/* Reads a section whose fields take at most |limit| bytes, 32 more for each field (RFC 9114, section 4.2.2). */
+strict_section strict_decode(const strict_decoder *d, const uint8_t *p, size_t len, uint64_t limit);
+
+#endif
