@@ -1,0 +1,152 @@
+#!/usr/bin/env python3
+"""Finds words that the texts of the repository do not use, and counts those that they use seldom.
+
+    tests/words.py
+
+It reads the documents, the comments of the C header, the doc comments of the Rust crate, and the help of qpk. Code in
+them is left out. It prints each forbidden word with its file and line, the count of each watched word, and the number
+of words of all documents. The exit status is 1 if a forbidden word was found.
+"""
+import re
+import sys
+from pathlib import Path
+
+TOP = Path(__file__).resolve().parent.parent
+# Forbidden words, each with what to write in its place. A group of a pattern is one of several words.
+FORBIDDEN = {
+    r"(?:is|are|be|been) told": "returns, reports, prints",
+    r"tells us": "shows, says",
+    r"wants? of (?:memory|room)": "out of memory, no room",
+    r"for want of": "without",
+    r"(?:lets|is let|are let) be": "leaves, does nothing, not",
+    r"so many": "that many",
+    r"be it": "even if, or",
+    r"anew": "again",
+    r"for who": "for anyone who",
+    r"(?<!anyone\s)who debugs": "anyone who debugs",
+    r"(?:be|is|are) had by": "returned by, available from",
+    r"as it stands": "as it is",
+}
+# Words that are right in few places: behind for a position, stands for what it is short for. They are counted.
+WATCHED = {
+    "behind": r"behind",
+    "stand": r"stands?",
+    "tell": r"tells?|told",
+    "want": r"wants?|wanted",
+    "hand": r"hands?|handed",
+    "lend": r"lends?|lent",
+    "hardly": r"hardly",
+    "but for": r"but for",
+    "of its own": r"of (?:its|their) own",
+    "other than": r"other(?:wise)? than",
+    "held against": r"(?:holds?|held) against",
+}
+# Documents that a script writes.
+GENERATED = ["docs/DEFINITIONS.md"]
+# Texts that are still to be rewritten: what is found there is counted, and fails nothing.
+NOT_YET_HELD = [
+    "docs/PROVED.md",
+]
+# Between two words of a phrase: blanks, or the end of a line.
+GAP = r"(?: +| *\n *)"
+# Code in a line, which does not go on past an empty line.
+CODE = r"`(?:[^`\n]|\n(?! *\n))*`"
+
+
+def list_files():
+    """Returns the files that are read, each with the function that keeps its prose."""
+    patterns = {
+        prose_of_markdown: [
+            "*.md", "docs/*.md", "dist/README.md", "rust/README.md", "examples/*/README.md", "tests/definitions.md",
+        ],
+        prose_of_c: ["include/h3_qpack.h"],
+        prose_of_rust: ["rust/h3_qpack/src/**/*.rs"],
+        prose_of_help: ["crates/qpk/src/usage.rt"],
+        prose_of_manual: ["dist/qpk.1"],
+    }
+    found = [(path, prose) for prose, globs in patterns.items() for it in globs for path in sorted(TOP.glob(it))]
+    return [(path, prose) for path, prose in found if str(path.relative_to(TOP)) not in GENERATED]
+
+
+def blank(found):
+    """Returns blanks for what was found, and its ends of lines, so that every other character keeps its place."""
+    return re.sub(r"[^\n]", " ", found[0])
+
+
+def prose_of_markdown(text):
+    """Blanks out blocks of code, code in a line, and the targets of links."""
+    text = re.sub(r"^( *)```.*?^\1```", blank, text, flags=re.M | re.S)
+    lines, is_code, before = [], False, ""
+    for line in text.split("\n"):
+        is_code = line.startswith("    ") and (is_code or not before.strip())
+        lines.append(" " * len(line) if is_code else line)
+        before = line
+    return re.sub(CODE + r"|\]\([^)]*\)", blank, "\n".join(lines))
+
+
+def prose_of_c(text):
+    """Keeps the comments, without their stars and the code in them."""
+    kept = keep(text, re.compile(r"/\*.*?\*/", re.S))
+    kept = re.sub(r"^ *\*|/\*|\*/", blank, kept, flags=re.M)
+    return re.sub(CODE, blank, kept)
+
+
+def prose_of_rust(text):
+    """Keeps the doc comments, without the code in them."""
+    kept = keep(text, re.compile(r"^ *//[/!].*", re.M))
+    kept = re.sub(r"^ *//[/!]", blank, kept, flags=re.M)
+    return re.sub(CODE, blank, re.sub(r"```.*?```", blank, kept, flags=re.S))
+
+
+def prose_of_help(text):
+    """Keeps the texts in quotes."""
+    return keep(text, re.compile(r'"(?:[^"\\]|\\.)*"', re.S))
+
+
+def prose_of_manual(text):
+    """Blanks out the first words of the lines with requests."""
+    return re.sub(r"^\.\w+", blank, text, flags=re.M)
+
+
+def keep(text, pattern):
+    """Blanks out what the pattern does not match."""
+    at, parts = 0, []
+    for it in pattern.finditer(text):
+        parts += [re.sub(r"[^\n]", " ", text[at:it.start()]), it[0]]
+        at = it.end()
+    return "".join(parts) + re.sub(r"[^\n]", " ", text[at:])
+
+
+def compile_words(words):
+    """Returns the patterns of words and phrases by their names. A phrase may go on in the next line."""
+    return {name: re.compile(rf"\b(?:{word.replace(' ', GAP)})\b", re.I) for name, word in words.items()}
+
+
+def main():
+    forbidden = compile_words({it: it for it in FORBIDDEN})
+    watched = compile_words(WATCHED)
+    wrong, later, counts, words = [], dict.fromkeys(NOT_YET_HELD, 0), dict.fromkeys(WATCHED, 0), 0
+    for path, keep_prose in list_files():
+        text = path.read_text(encoding="utf-8")
+        name, prose = str(path.relative_to(TOP)), keep_prose(text)
+        words += len(text.split()) if path.suffix == ".md" else 0
+        for word, pattern in watched.items():
+            counts[word] += len(pattern.findall(prose))
+        for word, pattern in forbidden.items():
+            for it in pattern.finditer(prose):
+                if name in later:
+                    later[name] += 1
+                    continue
+                line = prose.count("\n", 0, it.start()) + 1
+                wrong.append(f"{name}:{line}: '{' '.join(it[0].split())}' is forbidden; write: {FORBIDDEN[word]}")
+    for it in wrong:
+        print(it)
+    for name, count in later.items():
+        print(f"{name} is not held to the list yet: {count} forbidden" + ("" if count else "; take it from that list"))
+    print("watched:", ", ".join(f"{word} {count}" for word, count in counts.items()))
+    print(f"words: {len(wrong)} forbidden, in documents of {words} words")
+    return 1 if wrong else 0
+
+
+if __name__ == "__main__":
+    sys.exit(main())
