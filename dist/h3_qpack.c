@@ -1,7 +1,9 @@
-/* The functions of h3_qpack.h that the library exports: those whose bodies are in the header, and those that read or fill
- * settings. */
+/* The functions of h3_qpack.h that the library exports: those whose bodies are in the header, those that read or fill
+ * settings, and those that take fields with NULL pointers. */
 #define H3_QPACK_INLINE /* so each body of the header is the definition of an ordinary function here */
 #include "h3_qpack.h"
+
+#include <stdlib.h>
 
 /* A field that version 1.n adds to settings is read and written only if the caller's version is 1.n or later: an older
  * caller's struct ends before it, and the field has its default. */
@@ -49,4 +51,36 @@ int h3_qpack_decoder_new_versioned(h3_qpack_decoder *decoder, uint32_t version,
   if (!settings || !fits_size(settings->max_capacity) || !fits_size(settings->max_blocked)) return H3_QPACK_ERR_INVALID;
   return h3q_decoder_new((size_t)settings->max_capacity, (size_t)settings->max_blocked, settings->max_section_size,
                          &decoder->at);
+}
+
+/* Returns a copy of fields, in which a pointer to nothing is in the place of NULL. Returns NULL without memory. */
+static h3_qpack_nv *copy_fields(const h3_qpack_nv *nva, size_t nvlen) {
+  static const uint8_t nothing[1];
+  h3_qpack_nv *copy = malloc(nvlen * sizeof *copy);
+  if (!copy) return NULL;
+  for (size_t i = 0; i < nvlen; i++) {
+    copy[i] = nva[i];
+    if (!nva[i].name) copy[i].name = nothing;
+    if (!nva[i].value) copy[i].value = nothing;
+  }
+  return copy;
+}
+
+h3_qpack_encoded h3q_encode_copy(h3_qpack_encoder *encoder, uint64_t stream_id, const h3_qpack_nv *nva, size_t nvlen,
+                                 uint8_t *section, size_t sectionlen) {
+  h3_qpack_encoded answer = {H3_QPACK_ERR_NO_MEMORY, 0, 0, 0};
+  h3_qpack_nv *copy = copy_fields(nva, nvlen);
+  if (!copy) return answer;
+  answer = h3q_encoder_encode(encoder, stream_id, copy, nvlen, section, sectionlen);
+  free(copy);
+  return answer;
+}
+
+h3_qpack_written h3q_encode_copy_stateless(const h3_qpack_nv *nva, size_t nvlen, uint8_t *section, size_t sectionlen) {
+  h3_qpack_written answer = {H3_QPACK_ERR_NO_MEMORY, 0};
+  h3_qpack_nv *copy = copy_fields(nva, nvlen);
+  if (!copy) return answer;
+  answer = h3q_encode_stateless(copy, nvlen, section, sectionlen);
+  free(copy);
+  return answer;
 }

@@ -91,7 +91,7 @@ H3_QPACK_INLINE uint32_t h3_qpack_version(void);
 #define H3_QPACK_NV_FLAG_INSERT 0x08      /* insert it if there is room, unless an entry equals it */
 #define H3_QPACK_NV_FLAG_REUSE 0x10       /* insert nothing for it; an entry that equals it is referenced */
 
-/* A field that is passed to an encoder. Neither pointer is NULL, even if its length is 0. */
+/* A field that is passed to an encoder. A pointer may be NULL if its length is 0. */
 typedef struct h3_qpack_nv {
   const uint8_t *name;
   size_t namelen; /* bytes */
@@ -114,6 +114,8 @@ typedef struct h3_qpack_encoded {
   int32_t status;
   size_t len;      /* the length of the section, in bytes */
   size_t required; /* its Required Insert Count; if this is above 0, the peer acknowledges the section */
+  size_t size;     /* the size of the fields, in bytes: the sum of name, value and 32 bytes each, at most SIZE_MAX. The
+                      peer may refuse a section above its SETTINGS_MAX_FIELD_SECTION_SIZE (RFC 9114, section 4.2.2) */
 } h3_qpack_encoded;
 
 typedef struct h3_qpack_written {
@@ -140,6 +142,7 @@ typedef struct h3_qpack_decoded_alone {
 typedef struct h3_qpack_decoded {
   int32_t status;
   size_t fields;   /* the number of fields */
+  size_t len;      /* the length of all names and values, in bytes; at most SIZE_MAX */
   size_t required; /* the section's Required Insert Count, with H3_QPACK_OK and with H3_QPACK_BLOCKED */
   uint64_t number; /* the number of the field line at which decoding failed, from 1; else 0 */
   uint64_t offset; /* the position of its first byte in the section, from 0; else 0 */
@@ -201,12 +204,13 @@ H3_QPACK_INLINE void h3_qpack_encoder_del(h3_qpack_encoder *encoder);
  * |section|, which has |sectionlen| bytes (section 2.1). Send the section on that stream. Send the instructions that it
  * needs, which h3_qpack_encoder_write_encoder returns, on the encoder stream.
  *
- * Returns the length of the section and its Required Insert Count, with a status:
+ * Returns the length of the section, its Required Insert Count and the size of the fields, with a status:
  *   H3_QPACK_OK
  *   H3_QPACK_ERR_NO_ROOM    the fields are encoded, and the section has |len| bytes. Get it from
  *                           h3_qpack_encoder_section before the next encode; do not encode the fields again.
  *   H3_QPACK_ERR_NO_MEMORY  there is no section: encode the fields again later.
- *   H3_QPACK_ERR_INVALID    a name or a value is NULL, a length is above PTRDIFF_MAX, or |stream_id| is 2^62 or more.
+ *   H3_QPACK_ERR_INVALID    a pointer is NULL and its length is not 0, a length is above PTRDIFF_MAX, or |stream_id| is
+ *                           2^62 or more.
  *   H3_QPACK_DECODER_STREAM_ERROR  h3_qpack_encoder_read_decoder returned it before. */
 H3_QPACK_INLINE h3_qpack_encoded h3_qpack_encoder_encode(h3_qpack_encoder *encoder, uint64_t stream_id,
                                                          const h3_qpack_nv *nva, size_t nvlen, uint8_t *section,
@@ -248,6 +252,36 @@ H3_QPACK_INLINE int h3_qpack_encoder_set_capacity(h3_qpack_encoder *encoder, siz
 /* Returns how many streams may be blocked at the peer (section 2.1.2): of a section on each it is not known that the peer
  * has the insertions that it requires, and neither was the section acknowledged nor the stream cancelled. */
 H3_QPACK_INLINE size_t h3_qpack_encoder_get_num_blocked(h3_qpack_encoder *encoder);
+
+/* Returns how many sections that reference the table are unacknowledged (section 4.4.1). While this is
+ * |most_unacknowledged|, sections reference only the static table. */
+H3_QPACK_INLINE size_t h3_qpack_encoder_get_num_unacked(h3_qpack_encoder *encoder);
+
+/* Returns the Insert Count: how many insertions were made since the connection began (section 2.1.4). */
+H3_QPACK_INLINE size_t h3_qpack_encoder_get_icnt(h3_qpack_encoder *encoder);
+
+/* Returns the Known Received Count: how many insertions the peer is known to have received (section 2.1.4). */
+H3_QPACK_INLINE size_t h3_qpack_encoder_get_krcnt(h3_qpack_encoder *encoder);
+
+/* Returns the capacity of the table, in bytes (section 3.2.2). It is 0 before the first encode or set_capacity. */
+H3_QPACK_INLINE size_t h3_qpack_encoder_get_capacity(h3_qpack_encoder *encoder);
+
+/* Returns the size of the table, in bytes: the sum over its entries of name, value and 32 bytes each (section 3.2.1).
+ * The call goes through all entries. */
+H3_QPACK_INLINE size_t h3_qpack_encoder_get_table_size(h3_qpack_encoder *encoder);
+
+/* Returns how many entries the table has. Of the insertions, the newest ones are entries; those before were evicted. */
+H3_QPACK_INLINE size_t h3_qpack_encoder_get_num_entries(h3_qpack_encoder *encoder);
+
+/* Copies one entry of the table to |out|, which has |outlen| bytes: its name, and directly after it its value. |index|
+ * is 0 for the newest entry, as a relative index in an instruction is (section 3.2.5).
+ *
+ * Returns both lengths, with a status:
+ *   H3_QPACK_OK
+ *   H3_QPACK_ERR_NO_ROOM  |outlen| is less than both lengths together: nothing was written.
+ *   H3_QPACK_ERR_INVALID  there is no such entry. */
+H3_QPACK_INLINE h3_qpack_field h3_qpack_encoder_entry(h3_qpack_encoder *encoder, size_t index, uint8_t *out,
+                                                      size_t outlen);
 
 /* ---- The decoder */
 
@@ -291,7 +325,8 @@ H3_QPACK_INLINE h3_qpack_received h3_qpack_decoder_read_encoder(h3_qpack_decoder
  * sections of a stream in order. Get the fields from h3_qpack_decoder_fields or h3_qpack_decoder_field: they are kept
  * until the next decode.
  *
- * Returns the number of fields and the section's Required Insert Count, with a status:
+ * Returns the number of fields, the length of all names and values, and the section's Required Insert Count, with a
+ * status:
  *   H3_QPACK_OK
  *   H3_QPACK_BLOCKED               keep the section. Pass it again when h3_qpack_decoder_next_ready returns its stream
  *                                  (section 2.2.1).
@@ -338,6 +373,19 @@ H3_QPACK_INLINE size_t h3_qpack_decoder_get_icnt(h3_qpack_decoder *decoder);
 /* Returns how many streams are blocked: their sections require insertions that have not arrived (section 2.1.2). */
 H3_QPACK_INLINE size_t h3_qpack_decoder_get_num_blocked(h3_qpack_decoder *decoder);
 
+/* Returns the capacity of the table, in bytes: 0 until the peer sets one (section 4.3.1). */
+H3_QPACK_INLINE size_t h3_qpack_decoder_get_capacity(h3_qpack_decoder *decoder);
+
+/* Returns the size of the table, in bytes, as h3_qpack_encoder_get_table_size does (section 3.2.1). */
+H3_QPACK_INLINE size_t h3_qpack_decoder_get_table_size(h3_qpack_decoder *decoder);
+
+/* Returns how many entries the table has. */
+H3_QPACK_INLINE size_t h3_qpack_decoder_get_num_entries(h3_qpack_decoder *decoder);
+
+/* Copies one entry of the table to |out|, which has |outlen| bytes, as h3_qpack_encoder_entry does. */
+H3_QPACK_INLINE h3_qpack_field h3_qpack_decoder_entry(h3_qpack_decoder *decoder, size_t index, uint8_t *out,
+                                                      size_t outlen);
+
 /* Returns how many bytes are to be sent on the decoder stream (section 4.4). */
 H3_QPACK_INLINE size_t h3_qpack_decoder_get_decoder_streamlen(h3_qpack_decoder *decoder);
 
@@ -366,7 +414,7 @@ H3_QPACK_INLINE int h3_qpack_decoder_cancel_stream(h3_qpack_decoder *decoder, ui
  *   H3_QPACK_OK
  *   H3_QPACK_ERR_NO_ROOM    |sectionlen| is less than |len|: nothing was written. Call it again with |len| bytes.
  *   H3_QPACK_ERR_NO_MEMORY  call it again later.
- *   H3_QPACK_ERR_INVALID    a name or a value is NULL, or a length is above PTRDIFF_MAX. */
+ *   H3_QPACK_ERR_INVALID    a pointer is NULL and its length is not 0, or a length is above PTRDIFF_MAX. */
 H3_QPACK_INLINE h3_qpack_written h3_qpack_encode_stateless(const h3_qpack_nv *nva, size_t nvlen, uint8_t *section,
                                                            size_t sectionlen);
 
@@ -384,8 +432,7 @@ H3_QPACK_INLINE h3_qpack_decoded_alone h3_qpack_decode_stateless(const uint8_t *
                                                                  uint64_t max_section_size, h3_qpack_field *fields,
                                                                  size_t fieldslen, uint8_t *out, size_t outlen);
 
-/* ---- The exports of the verified library. Call those above: these check neither pointers nor lengths. The last is not
- * one of them: it returns whether fields can be passed to an encoder, and is called by the bodies below. */
+/* ---- The exports of the verified library. Call those above: these check neither pointers nor lengths. */
 
 uint32_t h3q_version(void);
 int32_t h3q_encoder_new(size_t max_capacity, size_t max_blocked, size_t capacity, size_t most_unacknowledged,
@@ -399,6 +446,13 @@ size_t h3q_encoder_stream_len(h3_qpack_encoder *encoder);
 h3_qpack_received h3q_encoder_read(h3_qpack_encoder *encoder, const uint8_t *src, size_t srclen);
 int32_t h3q_encoder_set_capacity(h3_qpack_encoder *encoder, size_t capacity);
 size_t h3q_encoder_blocked(h3_qpack_encoder *encoder);
+size_t h3q_encoder_unacknowledged(h3_qpack_encoder *encoder);
+size_t h3q_encoder_insert_count(h3_qpack_encoder *encoder);
+size_t h3q_encoder_known_received_count(h3_qpack_encoder *encoder);
+size_t h3q_encoder_capacity(h3_qpack_encoder *encoder);
+size_t h3q_encoder_table_size(h3_qpack_encoder *encoder);
+size_t h3q_encoder_entries(h3_qpack_encoder *encoder);
+h3_qpack_field h3q_encoder_entry(h3_qpack_encoder *encoder, size_t index, uint8_t *out, size_t outlen);
 int32_t h3q_decoder_new(size_t max_capacity, size_t max_blocked, uint64_t max_section_size, void **at);
 void h3q_decoder_free(h3_qpack_decoder decoder);
 h3_qpack_decoded h3q_decoder_decode(h3_qpack_decoder *decoder, uint64_t stream_id, const uint8_t *src, size_t srclen);
@@ -408,6 +462,10 @@ h3_qpack_written h3q_decoder_fields(h3_qpack_decoder *decoder, h3_qpack_field *f
 h3_qpack_received h3q_decoder_read(h3_qpack_decoder *decoder, const uint8_t *src, size_t srclen);
 size_t h3q_decoder_insert_count(h3_qpack_decoder *decoder);
 size_t h3q_decoder_blocked(h3_qpack_decoder *decoder);
+size_t h3q_decoder_capacity(h3_qpack_decoder *decoder);
+size_t h3q_decoder_table_size(h3_qpack_decoder *decoder);
+size_t h3q_decoder_entries(h3_qpack_decoder *decoder);
+h3_qpack_field h3q_decoder_entry(h3_qpack_decoder *decoder, size_t index, uint8_t *out, size_t outlen);
 uint32_t h3q_decoder_next_ready(h3_qpack_decoder *decoder, uint64_t *stream_id);
 size_t h3q_decoder_stream(h3_qpack_decoder *decoder, uint8_t *out, size_t outlen);
 size_t h3q_decoder_stream_len(h3_qpack_decoder *decoder);
@@ -415,7 +473,15 @@ int32_t h3q_decoder_cancel(h3_qpack_decoder *decoder, uint64_t stream_id);
 h3_qpack_written h3q_encode_stateless(const h3_qpack_nv *nva, size_t nvlen, uint8_t *section, size_t sectionlen);
 h3_qpack_decoded_alone h3q_decode_stateless(const uint8_t *src, size_t srclen, uint64_t max_section_size,
                                             h3_qpack_field *fields, size_t fieldslen, uint8_t *out, size_t outlen);
+
+/* ---- What the bodies below share. H3Q_HAVE_NULL are fields of which a pointer is NULL, which the exports may not be
+ * passed: the two calls pass a copy without NULL, from malloc. */
+
+enum { H3Q_NO_FIELDS, H3Q_FIELDS, H3Q_HAVE_NULL };
 H3_QPACK_INLINE int h3q_are_fields(const h3_qpack_nv *nva, size_t nvlen);
+h3_qpack_encoded h3q_encode_copy(h3_qpack_encoder *encoder, uint64_t stream_id, const h3_qpack_nv *nva, size_t nvlen,
+                                 uint8_t *section, size_t sectionlen);
+h3_qpack_written h3q_encode_copy_stateless(const h3_qpack_nv *nva, size_t nvlen, uint8_t *section, size_t sectionlen);
 
 /* ---- The bodies, which check arguments and call the exports */
 
@@ -429,12 +495,14 @@ H3_QPACK_INLINE int h3q_are_fields(const h3_qpack_nv *nva, size_t nvlen);
 
 H3_QPACK_INLINE int h3q_are_fields(const h3_qpack_nv *nva, size_t nvlen) {
   size_t i;
-  if ((!nva && nvlen) || nvlen > (size_t)PTRDIFF_MAX / sizeof *nva) return 0;
-  for (i = 0; i < nvlen; i++)
-    if (!nva[i].name || !nva[i].value || nva[i].namelen > (size_t)PTRDIFF_MAX ||
-        nva[i].valuelen > (size_t)PTRDIFF_MAX)
-      return 0;
-  return 1;
+  int are = H3Q_FIELDS;
+  if ((!nva && nvlen) || nvlen > (size_t)PTRDIFF_MAX / sizeof *nva) return H3Q_NO_FIELDS;
+  for (i = 0; i < nvlen; i++) {
+    if (!H3Q_IS_MEMORY(nva[i].name, nva[i].namelen) || !H3Q_IS_MEMORY(nva[i].value, nva[i].valuelen))
+      return H3Q_NO_FIELDS;
+    if (!nva[i].name || !nva[i].value) are = H3Q_HAVE_NULL;
+  }
+  return are;
 }
 
 H3_QPACK_INLINE uint32_t h3_qpack_version(void) { return h3q_version(); }
@@ -449,9 +517,12 @@ H3_QPACK_INLINE void h3_qpack_encoder_del(h3_qpack_encoder *encoder) {
 H3_QPACK_INLINE h3_qpack_encoded h3_qpack_encoder_encode(h3_qpack_encoder *encoder, uint64_t stream_id,
                                                          const h3_qpack_nv *nva, size_t nvlen, uint8_t *section,
                                                          size_t sectionlen) {
-  h3_qpack_encoded invalid = {H3_QPACK_ERR_INVALID, 0, 0};
-  if (!H3Q_IS_END(encoder) || !H3Q_IS_STREAM(stream_id) || !h3q_are_fields(nva, nvlen)) return invalid;
+  h3_qpack_encoded invalid = {H3_QPACK_ERR_INVALID, 0, 0, 0};
+  int are = h3q_are_fields(nva, nvlen);
+  if (!H3Q_IS_END(encoder) || !H3Q_IS_STREAM(stream_id) || are == H3Q_NO_FIELDS) return invalid;
   if (!H3Q_IS_MEMORY(section, sectionlen)) return invalid;
+  if (are == H3Q_HAVE_NULL)
+    return h3q_encode_copy(encoder, stream_id, nva, nvlen, H3Q_LEND(uint8_t, section), sectionlen);
   return h3q_encoder_encode(encoder, stream_id, H3Q_LEND(const h3_qpack_nv, nva), nvlen, H3Q_LEND(uint8_t, section),
                             sectionlen);
 }
@@ -487,6 +558,37 @@ H3_QPACK_INLINE size_t h3_qpack_encoder_get_num_blocked(h3_qpack_encoder *encode
   return H3Q_IS_END(encoder) ? h3q_encoder_blocked(encoder) : 0;
 }
 
+H3_QPACK_INLINE size_t h3_qpack_encoder_get_num_unacked(h3_qpack_encoder *encoder) {
+  return H3Q_IS_END(encoder) ? h3q_encoder_unacknowledged(encoder) : 0;
+}
+
+H3_QPACK_INLINE size_t h3_qpack_encoder_get_icnt(h3_qpack_encoder *encoder) {
+  return H3Q_IS_END(encoder) ? h3q_encoder_insert_count(encoder) : 0;
+}
+
+H3_QPACK_INLINE size_t h3_qpack_encoder_get_krcnt(h3_qpack_encoder *encoder) {
+  return H3Q_IS_END(encoder) ? h3q_encoder_known_received_count(encoder) : 0;
+}
+
+H3_QPACK_INLINE size_t h3_qpack_encoder_get_capacity(h3_qpack_encoder *encoder) {
+  return H3Q_IS_END(encoder) ? h3q_encoder_capacity(encoder) : 0;
+}
+
+H3_QPACK_INLINE size_t h3_qpack_encoder_get_table_size(h3_qpack_encoder *encoder) {
+  return H3Q_IS_END(encoder) ? h3q_encoder_table_size(encoder) : 0;
+}
+
+H3_QPACK_INLINE size_t h3_qpack_encoder_get_num_entries(h3_qpack_encoder *encoder) {
+  return H3Q_IS_END(encoder) ? h3q_encoder_entries(encoder) : 0;
+}
+
+H3_QPACK_INLINE h3_qpack_field h3_qpack_encoder_entry(h3_qpack_encoder *encoder, size_t index, uint8_t *out,
+                                                      size_t outlen) {
+  h3_qpack_field invalid = {H3_QPACK_ERR_INVALID, 0, 0, 0};
+  if (!H3Q_IS_END(encoder) || !H3Q_IS_MEMORY(out, outlen)) return invalid;
+  return h3q_encoder_entry(encoder, index, H3Q_LEND(uint8_t, out), outlen);
+}
+
 H3_QPACK_INLINE void h3_qpack_decoder_del(h3_qpack_decoder *decoder) {
   if (H3Q_IS_END(decoder)) {
     h3q_decoder_free(*decoder);
@@ -503,7 +605,7 @@ H3_QPACK_INLINE h3_qpack_received h3_qpack_decoder_read_encoder(h3_qpack_decoder
 
 H3_QPACK_INLINE h3_qpack_decoded h3_qpack_decoder_decode(h3_qpack_decoder *decoder, uint64_t stream_id,
                                                          const uint8_t *src, size_t srclen) {
-  h3_qpack_decoded invalid = {H3_QPACK_ERR_INVALID, 0, 0, 0, 0};
+  h3_qpack_decoded invalid = {H3_QPACK_ERR_INVALID, 0, 0, 0, 0, 0};
   if (!H3Q_IS_END(decoder) || !H3Q_IS_STREAM(stream_id) || !H3Q_IS_MEMORY(src, srclen)) return invalid;
   return h3q_decoder_decode(decoder, stream_id, H3Q_LEND(const uint8_t, src), srclen);
 }
@@ -534,6 +636,25 @@ H3_QPACK_INLINE size_t h3_qpack_decoder_get_num_blocked(h3_qpack_decoder *decode
   return H3Q_IS_END(decoder) ? h3q_decoder_blocked(decoder) : 0;
 }
 
+H3_QPACK_INLINE size_t h3_qpack_decoder_get_capacity(h3_qpack_decoder *decoder) {
+  return H3Q_IS_END(decoder) ? h3q_decoder_capacity(decoder) : 0;
+}
+
+H3_QPACK_INLINE size_t h3_qpack_decoder_get_table_size(h3_qpack_decoder *decoder) {
+  return H3Q_IS_END(decoder) ? h3q_decoder_table_size(decoder) : 0;
+}
+
+H3_QPACK_INLINE size_t h3_qpack_decoder_get_num_entries(h3_qpack_decoder *decoder) {
+  return H3Q_IS_END(decoder) ? h3q_decoder_entries(decoder) : 0;
+}
+
+H3_QPACK_INLINE h3_qpack_field h3_qpack_decoder_entry(h3_qpack_decoder *decoder, size_t index, uint8_t *out,
+                                                      size_t outlen) {
+  h3_qpack_field invalid = {H3_QPACK_ERR_INVALID, 0, 0, 0};
+  if (!H3Q_IS_END(decoder) || !H3Q_IS_MEMORY(out, outlen)) return invalid;
+  return h3q_decoder_entry(decoder, index, H3Q_LEND(uint8_t, out), outlen);
+}
+
 H3_QPACK_INLINE size_t h3_qpack_decoder_get_decoder_streamlen(h3_qpack_decoder *decoder) {
   return H3Q_IS_END(decoder) ? h3q_decoder_stream_len(decoder) : 0;
 }
@@ -550,7 +671,9 @@ H3_QPACK_INLINE int h3_qpack_decoder_cancel_stream(h3_qpack_decoder *decoder, ui
 H3_QPACK_INLINE h3_qpack_written h3_qpack_encode_stateless(const h3_qpack_nv *nva, size_t nvlen, uint8_t *section,
                                                            size_t sectionlen) {
   h3_qpack_written invalid = {H3_QPACK_ERR_INVALID, 0};
-  if (!h3q_are_fields(nva, nvlen) || !H3Q_IS_MEMORY(section, sectionlen)) return invalid;
+  int are = h3q_are_fields(nva, nvlen);
+  if (are == H3Q_NO_FIELDS || !H3Q_IS_MEMORY(section, sectionlen)) return invalid;
+  if (are == H3Q_HAVE_NULL) return h3q_encode_copy_stateless(nva, nvlen, H3Q_LEND(uint8_t, section), sectionlen);
   return h3q_encode_stateless(H3Q_LEND(const h3_qpack_nv, nva), nvlen, H3Q_LEND(uint8_t, section), sectionlen);
 }
 
