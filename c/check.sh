@@ -15,11 +15,7 @@ script=c/check.sh
 
 # Prints the packages that are wanted and not there: those of the tools, of nghttp3, of ngtcp2.
 list_tools() {
-    command -v cc >/dev/null || echo gcc libc6-dev
-    command -v c++ >/dev/null || echo g++
-    command -v make >/dev/null || echo make
-    command -v pkg-config >/dev/null || echo pkg-config
-    command -v python3 >/dev/null || echo python3
+    list_lacking cc c++ make pkg-config python3
 }
 list_nghttp3() {
     has_header nghttp3/nghttp3.h || echo libnghttp3-dev

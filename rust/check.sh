@@ -12,10 +12,7 @@ script=rust/check.sh
 
 # Prints the packages that are wanted and not there.
 list_wanted() {
-    command -v cargo >/dev/null || echo cargo
-    command -v rustc >/dev/null || echo rustc
-    command -v make >/dev/null || echo make
-    command -v cc >/dev/null || echo gcc libc6-dev
+    list_lacking cargo rustc make cc
 }
 
 # Runs a command, and shows what it printed if it fails.

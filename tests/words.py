@@ -43,8 +43,6 @@ WATCHED = {
 }
 # Documents that a script writes.
 GENERATED = ["docs/DEFINITIONS.md"]
-# Texts that are still to be rewritten: what is found there is counted, and fails nothing.
-NOT_YET_HELD = []
 # Between two words of a phrase: blanks, or the end of a line.
 GAP = r"(?: +| *\n *)"
 # Code in a line, which does not go on past an empty line.
@@ -123,7 +121,7 @@ def compile_words(words):
 def main():
     forbidden = compile_words({it: it for it in FORBIDDEN})
     watched = compile_words(WATCHED)
-    wrong, later, counts, words = [], dict.fromkeys(NOT_YET_HELD, 0), dict.fromkeys(WATCHED, 0), 0
+    wrong, counts, words = [], dict.fromkeys(WATCHED, 0), 0
     for path, keep_prose in list_files():
         text = path.read_text(encoding="utf-8")
         name, prose = str(path.relative_to(TOP)), keep_prose(text)
@@ -132,15 +130,10 @@ def main():
             counts[word] += len(pattern.findall(prose))
         for word, pattern in forbidden.items():
             for it in pattern.finditer(prose):
-                if name in later:
-                    later[name] += 1
-                    continue
                 line = prose.count("\n", 0, it.start()) + 1
                 wrong.append(f"{name}:{line}: '{' '.join(it[0].split())}' is forbidden; write: {FORBIDDEN[word]}")
     for it in wrong:
         print(it)
-    for name, count in later.items():
-        print(f"{name} is not held to the list yet: {count} forbidden" + ("" if count else "; take it from that list"))
     print("watched:", ", ".join(f"{word} {count}" for word, count in counts.items()))
     print(f"words: {len(wrong)} forbidden, in documents of {words} words")
     return 1 if wrong else 0

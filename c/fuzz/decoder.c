@@ -1,7 +1,7 @@
 /* Holds the library's decoder against a strict reader, call by call, over what libFuzzer makes of an input.
  *
- * An input is three bytes of settings, and then calls: a byte that says which, two bytes of a length, and so many bytes,
- * or all that are left. */
+ * An input is three bytes of settings, and then calls: a byte that says which, two bytes of a length, and that many bytes,
+ * or all that are left. fuzz/seeds.py writes such inputs. */
 #include <stdio.h>
 #include <stdlib.h>
 #include <string.h>
@@ -37,16 +37,16 @@ static size_t count_blocked(const connection *c) {
 }
 
 /* Checks what the library says of streams that wait. */
-static void compare_waiting(const connection *c) {
+static void compare_waiting(connection *c) {
   uint64_t ready = 0;
-  int is_ready = h3_qpack_decoder_next_ready((h3_qpack_decoder *)&c->library, &ready);
+  int is_ready = h3_qpack_decoder_next_ready(&c->library, &ready);
   int has_ready = 0;
   for (size_t i = 0; i < MOST_WAITING; i++)
     has_ready |= c->waiting[i] && c->waiting[i] <= c->strict.insert_count;
   CHECK(is_ready == has_ready);
   if (is_ready) CHECK(ready < MOST_WAITING && c->waiting[ready] && c->waiting[ready] <= c->strict.insert_count);
-  CHECK(h3_qpack_decoder_get_num_blocked((h3_qpack_decoder *)&c->library) == count_blocked(c));
-  CHECK(h3_qpack_decoder_get_icnt((h3_qpack_decoder *)&c->library) == c->strict.insert_count);
+  CHECK(h3_qpack_decoder_get_num_blocked(&c->library) == count_blocked(c));
+  CHECK(h3_qpack_decoder_get_icnt(&c->library) == c->strict.insert_count);
 }
 
 static void receive(connection *c, const uint8_t *p, size_t len) {

@@ -19,8 +19,8 @@ static void *claim(void *p) {
   return p;
 }
 
-/* An integer of a prefix of so many bits (section 4.1.1). Ten bytes after the prefix are too many, as the library has it:
- * it takes integers below 2^62, as section 4.1.1 asks, and a few more. */
+/* Reads an integer with a prefix of |bits| bits (section 4.1.1). Ten bytes after the prefix are too many, as the library
+ * has it: nine have room for the integers below 2^62 that section 4.1.1 asks for. */
 static outcome read_integer(reader *r, int bits, uint64_t *value) {
   if (r->at == r->len) return CUT;
   uint64_t most = (1u << bits) - 1;
@@ -76,12 +76,13 @@ typedef struct text {
   uint8_t *p; /* owned; NULL for what is no text */
   size_t len;
   uint64_t least; /* the least length that it can have by its declared length */
+  int is_whole;   /* the reader is after it, even if its code means nothing */
 } text;
 
-/* A string of a prefix of so many bits, above which the flag of the code is (section 4.1.2). A code that means nothing is
- * BAD, and the reader is after it. */
+/* Reads a string with a prefix of |bits| bits, above which the flag of the code is (section 4.1.2). A code that means
+ * nothing is BAD. */
 static outcome read_text(reader *r, int bits, text *t) {
-  *t = (text){NULL, 0, 0};
+  *t = (text){.p = NULL};
   if (r->at == r->len) return CUT;
   int is_code = r->p[r->at] >> bits & 1;
   uint64_t len;
@@ -92,6 +93,7 @@ static outcome read_text(reader *r, int bits, text *t) {
   if (len > r->len - r->at) return CUT;
   const uint8_t *from = r->p + r->at;
   r->at += len;
+  t->is_whole = 1;
   t->p = claim(malloc(is_code ? 8 * len / 5 + 1 : len + 1));
   if (!is_code) {
     memcpy(t->p, from, len);
@@ -194,19 +196,19 @@ static outcome read_insertion_by_name(strict_decoder *d, reader *r, int is_stati
 }
 
 static outcome read_insertion(strict_decoder *d, reader *r, int *is_doomed) {
-  text name, value = {NULL, 0, 0};
+  text name, value;
   *is_doomed = d->capacity < 32;
-  outcome done = read_text(r, 5, &name), second;
+  outcome done = read_text(r, 5, &name);
   *is_doomed |= name.least + 32 > d->capacity;
-  int is_name = done == WHOLE, is_whole = is_name || (done == BAD && r->at <= r->len && name.least);
-  if (done == CUT || !is_whole) return done;
+  if (!name.is_whole) return done;
+  int is_name = done == WHOLE;
   *is_doomed |= !is_name;
-  second = read_text(r, 7, &value);
-  *is_doomed |= (is_name && name.len > name.least ? name.len : name.least) + value.least + 32 > d->capacity;
-  if (second == WHOLE) second = is_name ? insert(d, name.p, name.len, value.p, value.len) : BAD;
+  done = read_text(r, 7, &value);
+  *is_doomed |= (name.len > name.least ? name.len : name.least) + value.least + 32 > d->capacity;
+  if (done == WHOLE) done = is_name ? insert(d, name.p, name.len, value.p, value.len) : BAD;
   free(name.p);
   free(value.p);
-  return second;
+  return done;
 }
 
 static outcome read_instruction(strict_decoder *d, reader *r, int *is_doomed) {

@@ -1,5 +1,4 @@
 /* Bytes that grow. */
-#include <stdarg.h>
 #include <stdlib.h>
 #include <string.h>
 #include "server.h"
@@ -19,11 +18,15 @@ void add(bytes *b, const void *p, size_t len) {
 }
 
 void add_text(bytes *b, const char *format, ...) {
-  char text[1024];
   va_list arguments;
   va_start(arguments, format);
-  int len = vsnprintf(text, sizeof text, format, arguments);
+  add_text_of(b, format, arguments);
   va_end(arguments);
+}
+
+void add_text_of(bytes *b, const char *format, va_list arguments) {
+  char text[1024];
+  int len = vsnprintf(text, sizeof text, format, arguments);
   CHECK(len >= 0 && (size_t)len < sizeof text);
   add(b, text, (size_t)len);
 }

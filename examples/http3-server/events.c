@@ -1,5 +1,4 @@
 /* What QPACK did on a connection, a line of JSON each: for the page /live, and for a log. */
-#include <stdarg.h>
 #include <stdlib.h>
 #include "server.h"
 
@@ -25,14 +24,11 @@ static bytes begin_event(const connection *c, const char *kind) {
 }
 
 void add_event(connection *c, const char *kind, const char *format, ...) {
-  char text[512];
   bytes line = begin_event(c, kind);
   va_list arguments;
   va_start(arguments, format);
-  int len = vsnprintf(text, sizeof text, format, arguments);
+  add_text_of(&line, format, arguments);
   va_end(arguments);
-  CHECK(len >= 0 && (size_t)len < sizeof text);
-  add_text(&line, "%s", text);
   end_event(c, &line);
 }
 

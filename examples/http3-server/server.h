@@ -8,6 +8,7 @@
 #include <netinet/in.h>
 #include <ngtcp2/ngtcp2.h>
 #include <ngtcp2/ngtcp2_crypto.h>
+#include <stdarg.h>
 #include <stdint.h>
 #include <stdio.h>
 
@@ -24,6 +25,7 @@ typedef struct bytes {
 
 void add(bytes *b, const void *p, size_t len);
 void add_text(bytes *b, const char *format, ...) __attribute__((format(printf, 2, 3)));
+void add_text_of(bytes *b, const char *format, va_list arguments) __attribute__((format(printf, 2, 0)));
 void add_varint(bytes *b, uint64_t value);
 void add_hex(bytes *b, const uint8_t *p, size_t len);
 void add_json(bytes *b, const uint8_t *p, size_t len); /* a string, each byte as the character of its number */

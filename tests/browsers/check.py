@@ -94,6 +94,15 @@ def stop(process):
         return process.wait()
 
 
+def find_report(path):
+    """Returns the page's report, or None before the server logged it."""
+    if not os.path.exists(path):
+        return None
+    with open(path, encoding='ascii') as log:
+        line = next((line for line in log if '"event":"report"' in line and line.endswith('\n')), None)
+    return json.loads(json.loads(line)['text']) if line else None
+
+
 def run(browser, program, certificates, key, options, room):
     """Runs the server and a browser, and returns the page's report."""
     port = free_port()
@@ -106,9 +115,7 @@ def run(browser, program, certificates, key, options, room):
     try:
         while report is None and time.time() < until and server.poll() is None:
             time.sleep(0.2)
-            if os.path.exists(f'{room}/log'):
-                reports = [e['text'] for e in read_events(f'{room}/log') if e['event'] == 'report']
-                report = json.loads(reports[0]) if reports else None
+            report = find_report(f'{room}/log')
         time.sleep(0.3)
     finally:
         stop(opened)
