@@ -1,0 +1,211 @@
+#!/usr/bin/env python3
+"""Runs the commands and the snippets of README.md and docs/USING.md.
+
+    tests/snippets.py
+
+A command of RUN is run as the document has it, over a copy of the repository, and must print what its comment says after
+"prints". A snippet is compiled and run in its frame of tests/snippets/, or its lines are compared with a source that
+another test runs. The exit status is 1 if one fails, or if a block is neither run nor listed here. Needs a C and a C++
+compiler, make, pkg-config and cargo, and a dist/ of the sources as they are. If one is missing, nothing is run, and the
+last line says so.
+"""
+import os
+import re
+import shutil
+import signal
+import subprocess
+import sys
+import tempfile
+from pathlib import Path
+
+TOP = Path(__file__).resolve().parent.parent
+DOCUMENTS = ["README.md", "docs/USING.md"]
+TOOLS = ["cc", "c++", "make", "pkg-config", "cargo"]
+# The most seconds that one command may take.
+SECONDS = 60
+# Commands that are run, by their first word, and the folder of the room where each is run.
+RUN = {"printf": "h3_qpack", "make": "h3_qpack", "cc": "", "cargo": "app"}
+# Commands that are not run here: why, and where each is run instead.
+NOT_RUN = {
+    "./test": "runs this script, and is the first stage of .ci/run",
+    "c/check.sh": "./test runs it, as c",
+    "rust/check.sh": "./test runs it, as rust",
+    "examples/http3-server/serve": "opens a browser; .ci/browsers builds this server, and runs it with browsers",
+}
+# Parts of commands that need root, and what takes their place: the library is installed in a folder of the room.
+REPLACED = [(" && ldconfig", ""), ("PREFIX=/usr/local", "PREFIX=$ROOM/usr")]
+# Snippets by their first line. Each has a frame of tests/snippets/, or the source that has its lines.
+SNIPPETS = {
+    "h3_qpack_decoder_settings settings;": "tests/snippets/main.c",
+    "uint64_t id;": "tests/snippets/server.c",
+    "use h3_qpack::connection::{ConnectionDecoder, ConnectionEncoder, DecoderSettings, EncoderSettings, Reading};": (
+        "tests/snippets/main.rs"
+    ),
+    "let settings = EncoderSettings::new(SETTINGS.max_capacity, SETTINGS.max_blocked);": "crates/qpack_example/src/main.rt",
+}
+# A block of code: between fences, which name its language, or indented by four after an empty line.
+BLOCK = re.compile(r"^```(\w*)\n((?:.*\n)*?)```$|(?<=\n\n)((?:    .*\n)+)", re.M)
+COMMENT = re.compile(r"\s+(?:# |// |/\* )(.*?)(?: \*/)?$")
+CRATE = '[package]\nname = "app"\nversion = "0.1.0"\nedition = "2021"\n\n[workspace]\n'
+
+
+class Block:
+    """A block of code: its place, its language, or none for commands, and its lines."""
+
+    def __init__(self, document, text, found):
+        self.place = f"{document}:{text.count(chr(10), 0, found.start()) + 1}"
+        self.language = found[1] or ""
+        self.lines = [it.strip() for it in (found[2] or found[3]).splitlines() if it.strip()]
+
+    def first(self):
+        """Returns the first line without its comment, by which the block is listed."""
+        return COMMENT.sub("", self.lines[0])
+
+    def commands(self):
+        """Returns each line as a command and its comment."""
+        found = [(it, COMMENT.search(it)) for it in self.lines]
+        return [(COMMENT.sub("", it), comment[1] if comment else "") for it, comment in found]
+
+
+class Room:
+    """A folder with a copy of the repository, the snippets in their frames, and an empty crate beside it."""
+
+    def __init__(self, folder):
+        self.folder = folder
+        ignored = shutil.ignore_patterns(".git", "out", "build", "target")
+        shutil.copytree(TOP, folder / "h3_qpack", symlinks=True, ignore=ignored)
+        (folder / "app" / "src").mkdir(parents=True)
+        (folder / "app" / "Cargo.toml").write_text(CRATE)
+        library = folder / "usr" / "lib"
+        self.environment = {
+            **os.environ,
+            "ROOM": str(folder),
+            "PKG_CONFIG_PATH": str(library / "pkgconfig"),
+            "LD_LIBRARY_PATH": str(library),
+            "CARGO_NET_OFFLINE": "true",
+            "CARGO_TARGET_DIR": str(folder / "target"),
+        }
+
+    def run(self, command, folder):
+        """Runs a command of the shell in a folder of the room. Returns what it printed, and why it failed, if it did."""
+        pipes = {"stdin": subprocess.DEVNULL, "stdout": subprocess.PIPE, "stderr": subprocess.PIPE}
+        words = {"cwd": self.folder / folder, "env": self.environment, "start_new_session": True, "text": True}
+        with subprocess.Popen(command, shell=True, **words, **pipes) as running:
+            try:
+                printed, faults = running.communicate(timeout=SECONDS)
+            except subprocess.TimeoutExpired:
+                os.killpg(running.pid, signal.SIGKILL)
+                return "", f"no end after {SECONDS} seconds"
+        said = f"status {running.returncode}\n{printed}{faults}".rstrip()
+        return printed, said if running.returncode else ""
+
+    def run_command(self, command, comment):
+        """Runs a command of a document. Returns why it failed, if it did."""
+        folder = RUN[command.split()[0]]
+        for old, new in REPLACED:
+            command = command.replace(old, new)
+        printed, fault = self.run(command, folder)
+        foretold = re.match(r"prints ([^\s;,]+)", comment)
+        if not fault and foretold and printed.strip() != foretold[1]:
+            return f"it printed: {printed}"
+        return fault
+
+    def put(self, block, frame):
+        """Writes a snippet in its frame to where the commands of the documents expect a program."""
+        text = (TOP / frame).read_text(encoding="utf-8")
+        if text.count("SNIPPET\n") != 1:
+            return f"{frame} has not one line SNIPPET"
+        to = self.folder / "app" / "src" if frame.endswith(".rs") else self.folder
+        (to / Path(frame).name).write_text(text.replace("SNIPPET\n", "\n".join(block.lines) + "\n"), encoding="utf-8")
+        return ""
+
+    def run_program(self, frame):
+        """Compiles a program, one in C as C++ too, and runs it. Returns why that failed, if it did."""
+        if frame.endswith(".rs"):
+            return self.run("cargo run -q --offline", "app")[1]
+        strict, flags = "-Wall -Wextra -Werror", "$(pkg-config --cflags --libs h3_qpack)"
+        name = Path(frame).name
+        in_c = f"cc {strict} {name} {flags} -o program && ./program"
+        in_cpp = f"cp {name} {name}c && c++ {strict} {name}c {flags} -o program && ./program"
+        return self.run(f"{in_c} && {in_cpp}", "")[1]
+
+
+def read_blocks():
+    """Returns the blocks of all documents."""
+    texts = [(name, (TOP / name).read_text(encoding="utf-8")) for name in DOCUMENTS]
+    return [Block(name, text, found) for name, text in texts for found in BLOCK.finditer(text)]
+
+
+def is_run(command):
+    """Whether a command is run here."""
+    return command not in NOT_RUN and command.split()[0] in RUN
+
+
+def find_unlisted(blocks):
+    """Yields each command and snippet that is not listed, and each entry of the lists that no document has."""
+    commands = {command: it for it in blocks if not it.language for command, _ in it.commands()}
+    snippets = {it.first(): it for it in blocks if it.language}
+    for command, block in commands.items():
+        if command not in NOT_RUN and not is_run(command):
+            yield f"{block.place}: neither in RUN nor in NOT_RUN of tests/snippets.py: {command}"
+    for first, block in snippets.items():
+        if first not in SNIPPETS:
+            yield f"{block.place}: this block is not in SNIPPETS of tests/snippets.py"
+    for it in [*(set(NOT_RUN) - set(commands)), *(set(SNIPPETS) - set(snippets))]:
+        yield f"tests/snippets.py: no document has this: {it}"
+
+
+def compare(block, source):
+    """Yields each line of a snippet that the source does not have, in their order between empty lines."""
+    lines = [it.strip() for it in (TOP / source).read_text(encoding="utf-8").splitlines()]
+    for line, _ in block.commands():
+        if line not in lines:
+            yield f"{block.place}: {source} has no line: {line}"
+
+
+def why_not():
+    """Returns why nothing can be run here, or nothing."""
+    missing = [it for it in TOOLS if not shutil.which(it)]
+    if missing:
+        return f"{missing[0]} is not installed"
+    fits = subprocess.run(["bash", "-c", "cd c && . ./archive && fits_dist"], cwd=TOP).returncode == 0
+    return "" if fits else "dist/ is of other sources"
+
+
+def run_all(blocks, room):
+    """Runs the commands and the programs, and yields each fault with its place."""
+    frames = [(it, SNIPPETS[it.first()]) for it in blocks if SNIPPETS.get(it.first(), "").startswith("tests/")]
+    for block, frame in frames:
+        fault = room.put(block, frame)
+        if fault:
+            yield f"{block.place}: {fault}"
+    for block in blocks:
+        for command, comment in [] if block.language else block.commands():
+            fault = room.run_command(command, comment) if is_run(command) else ""
+            if fault:
+                yield f"{block.place}: {command}: {fault}"
+    for block, frame in frames:
+        fault = room.run_program(frame)
+        if fault:
+            yield f"{block.place}: in {frame}: {fault}"
+
+
+def main():
+    blocks = read_blocks()
+    faults = list(find_unlisted(blocks))
+    for it in blocks:
+        source = SNIPPETS.get(it.first(), "tests/") if it.language else "tests/"
+        faults += [] if source.startswith("tests/") else compare(it, source)
+    left_out = why_not()
+    if not left_out:
+        with tempfile.TemporaryDirectory(prefix="h3-qpack-snippets-") as folder:
+            faults += run_all(blocks, Room(Path(folder)))
+    for it in faults:
+        print(it)
+    not_run = f", nothing was run: {left_out}" if left_out else f", {len(NOT_RUN)} commands are run elsewhere"
+    print(f"snippets: {len(faults)} faults in {len(blocks)} blocks{not_run}")
+    return 1 if faults else 0
+
+
+if __name__ == "__main__":
+    sys.exit(main())
