@@ -41,7 +41,7 @@ SNIPPETS = {
     "use h3_qpack::connection::{ConnectionDecoder, ConnectionEncoder, DecoderSettings, EncoderSettings, Reading};": (
         "tests/snippets/main.rs"
     ),
-    "let settings = EncoderSettings::new(SETTINGS.max_capacity, SETTINGS.max_blocked);": "crates/qpack_example/src/main.rt",
+    "encoder.encode(4, &fields, section)?;": "crates/qpack_example/src/main.rt",
 }
 # A block of code: between fences, which name its language, or indented by four after an empty line.
 BLOCK = re.compile(r"^```(\w*)\n((?:.*\n)*?)```$|(?<=\n\n)((?:    .*\n)+)", re.M)
