@@ -5,7 +5,8 @@
 
 It reads the documents, the comments of the C header, the doc comments of the Rust crate, and the help of qpk. Code in
 them is left out. It prints each forbidden word with its file and line, the count of each watched word, and the number
-of words of all documents. The exit status is 1 if a forbidden word was found.
+of words of all documents: with code and the signs of tables, as wc counts them, and without. The exit status is 1 if a
+forbidden word was found.
 """
 import re
 import sys
@@ -121,11 +122,13 @@ def compile_words(words):
 def main():
     forbidden = compile_words({it: it for it in FORBIDDEN})
     watched = compile_words(WATCHED)
-    wrong, counts, words = [], dict.fromkeys(WATCHED, 0), 0
+    wrong, counts, words, words_of_prose = [], dict.fromkeys(WATCHED, 0), 0, 0
     for path, keep_prose in list_files():
         text = path.read_text(encoding="utf-8")
         name, prose = str(path.relative_to(TOP)), keep_prose(text)
-        words += len(text.split()) if path.suffix == ".md" else 0
+        if path.suffix == ".md":
+            words += len(text.split())
+            words_of_prose += len([it for it in prose.split() if re.search(r"\w", it)])
         for word, pattern in watched.items():
             counts[word] += len(pattern.findall(prose))
         for word, pattern in forbidden.items():
@@ -135,7 +138,7 @@ def main():
     for it in wrong:
         print(it)
     print("watched:", ", ".join(f"{word} {count}" for word, count in counts.items()))
-    print(f"words: {len(wrong)} forbidden, in documents of {words} words")
+    print(f"words: {len(wrong)} forbidden, in documents of {words} words, {words_of_prose} without code")
     return 1 if wrong else 0
 
 
