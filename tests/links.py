@@ -11,7 +11,7 @@ import sys
 from pathlib import Path
 
 TOP = Path(__file__).resolve().parent.parent
-DOCUMENTS = ["*.md", "docs/*.md", "dist/README.md", "rust/README.md", "examples/*/README.md"]
+DOCUMENTS = ["*.md", "docs/*.md", "dist/README.md", "rust/README.md", "bindings/README.md", "examples/*/README.md"]
 SOURCES = [
     "crates/*/src/**/*.rt", "crates/*/specs/**/*.antt", "crates/*/proofs/**/*.antt", "c/**/*.[ch]", "c/**/*.sh",
     "include/*.h", "rust/*/src/**/*.rs", "dist/*.c", "dist/qpk.1", "dist/Makefile", "dist/generate", "dist/check",

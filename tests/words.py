@@ -54,7 +54,8 @@ def list_files():
     """Returns the files that are read, each with the function that keeps its prose."""
     patterns = {
         prose_of_markdown: [
-            "*.md", "docs/*.md", "dist/README.md", "rust/README.md", "examples/*/README.md", "tests/definitions.md",
+            "*.md", "docs/*.md", "dist/README.md", "rust/README.md", "bindings/README.md", "examples/*/README.md",
+            "tests/definitions.md",
         ],
         prose_of_c: ["include/h3_qpack.h"],
         prose_of_rust: ["rust/h3_qpack/src/**/*.rs"],

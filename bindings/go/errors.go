@@ -1,0 +1,145 @@
+package h3qpack
+
+// #include "bridge.h"
+import "C"
+
+import (
+	"errors"
+	"fmt"
+)
+
+// ErrClosed is the error of a call after Close.
+var ErrClosed = errors.New("h3qpack: the encoder or decoder is closed: make another")
+
+// A Status says why a call failed. It is an error for errors.Is.
+type Status int32
+
+// These statuses are error codes of RFC 9204, section 6: close the connection with them. The encoder or decoder is
+// unusable then, and each later call that can fail returns the same status.
+const (
+	// ErrDecompressionFailed: a section is invalid, or one stream too many is blocked.
+	ErrDecompressionFailed Status = C.H3_QPACK_DECOMPRESSION_FAILED
+	// ErrEncoderStream: an instruction of the peer's encoder stream is invalid.
+	ErrEncoderStream Status = C.H3_QPACK_ENCODER_STREAM_ERROR
+	// ErrDecoderStream: an instruction of the peer's decoder stream is invalid.
+	ErrDecoderStream Status = C.H3_QPACK_DECODER_STREAM_ERROR
+)
+
+// With these statuses the connection goes on.
+const (
+	// ErrNoMemory: malloc or realloc failed. Repeat the call later.
+	ErrNoMemory Status = C.H3_QPACK_ERR_NO_MEMORY
+	// ErrBlocked: the section requires insertions that have not arrived. Keep it, and decode it again when
+	// [Decoder.NextReady] returns its stream.
+	ErrBlocked Status = C.H3_QPACK_BLOCKED
+	// ErrInvalid: an argument is out of its range, and nothing was done.
+	ErrInvalid Status = C.H3_QPACK_ERR_INVALID
+	// ErrTooLarge: the section exceeds MaxSectionSize. Refuse the message, and call [Decoder.CancelStream].
+	ErrTooLarge Status = C.H3_QPACK_ERR_TOO_LARGE
+	// ErrHeld: the capacity would evict entries that may still be referenced. Set it again after more acknowledgments.
+	ErrHeld Status = C.H3_QPACK_ERR_HELD
+	// ErrVersion: the package was compiled with a header that does not fit the library. Compile it again.
+	ErrVersion Status = C.H3_QPACK_ERR_VERSION
+)
+
+// texts says what each status is.
+var texts = map[Status]string{
+	ErrDecompressionFailed: "a section is invalid, or too many streams are blocked",
+	ErrEncoderStream:       "the peer's encoder stream is invalid",
+	ErrDecoderStream:       "the peer's decoder stream is invalid",
+	ErrNoMemory:            "out of memory: repeat the call later",
+	ErrBlocked:             "the section is blocked: keep it until NextReady returns its stream",
+	ErrInvalid:             "an argument is out of its range: nothing was done",
+	ErrTooLarge:            "the section is too large: refuse the message, and cancel its stream",
+	ErrHeld:                "entries may still be referenced: set the capacity after more acknowledgments",
+	ErrVersion:             "the library is of another version: compile the program with its header",
+}
+
+// Error returns what the status means.
+func (s Status) Error() string {
+	if text, ok := texts[s]; ok {
+		return text
+	}
+	return fmt.Sprintf("unknown status %d: the library is of another version", int32(s))
+}
+
+// Closes reports whether the connection must be closed.
+func (s Status) Closes() bool { return s > 0 }
+
+// Code returns the error code to close the connection with, or 0 if the connection goes on.
+func (s Status) Code() uint64 {
+	if !s.Closes() {
+		return 0
+	}
+	return uint64(s)
+}
+
+// An Error is why a call failed. errors.Is finds its status.
+type Error struct {
+	// Op is what failed, as "decode".
+	Op string
+	Status
+	// Number is the number, from 1, of the invalid field line of the section, or instruction of the stream. It is 0 if
+	// there is none: the prefix is invalid, say, or an earlier call reported the error.
+	Number uint64
+	// Offset is the position of its first byte in the section, or on the stream after its type.
+	Offset uint64
+	// Required is the Required Insert Count of a section that is blocked.
+	Required int
+	// Taken is, with ErrNoMemory from Receive, how many bytes were read. Pass the rest later, even if it is empty.
+	Taken int
+}
+
+// ranges says, for each call with arguments of a range, what ErrInvalid expected.
+var ranges = map[string]string{
+	"new encoder":   "MaxCapacity must be below 2^30; for a peer with more pass 0",
+	"new decoder":   "MaxCapacity must be below 2^30, and MaxBlocked below 65,535",
+	"encode":        "the stream must be below 2^62",
+	"decode":        "the stream must be below 2^62",
+	"cancel stream": "the stream must be below 2^62",
+	"set capacity":  "the capacity must be at most the peer's MaxCapacity",
+}
+
+// Error returns what failed, why and where, and what to do.
+func (e *Error) Error() string {
+	text := "h3qpack: " + e.Op + ": " + e.Status.Error()
+	switch {
+	case e.Status == ErrInvalid:
+		text += ": " + ranges[e.Op]
+	case e.Status == ErrBlocked:
+		text += fmt.Sprintf(", when insertion %d has arrived", e.Required)
+	case e.Number > 0 && e.Op == "receive":
+		text += fmt.Sprintf(", at instruction %d, byte %d", e.Number, e.Offset)
+	case e.Number > 0:
+		text += fmt.Sprintf(", at line %d, byte %d", e.Number, e.Offset)
+	}
+	if e.Closes() {
+		text += fmt.Sprintf(": close the connection with %#x", e.Code())
+	}
+	return text
+}
+
+// Unwrap returns the status.
+func (e *Error) Unwrap() error { return e.Status }
+
+// check returns the error of a status, or nil if the call succeeded.
+func check(op string, status C.int32_t) error {
+	if status == C.H3_QPACK_OK {
+		return nil
+	}
+	return &Error{Op: op, Status: Status(status)}
+}
+
+// checkReceived returns the error of a call that read bytes of a stream, or nil if it read all.
+func checkReceived(received C.h3_qpack_received) error {
+	if received.status == C.H3_QPACK_OK {
+		return nil
+	}
+	return &Error{
+		Op:     "receive",
+		Status: Status(received.status),
+		Number: uint64(received.number),
+		Offset: uint64(received.offset),
+		Taken:  int(received.taken),
+	}
+}

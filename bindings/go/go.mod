@@ -1,0 +1,3 @@
+module h3qpack
+
+go 1.19

@@ -1,0 +1,42 @@
+// Package h3qpack is QPACK, the header compression of HTTP/3 (RFC 9204). It calls the C library h3_qpack by cgo, which
+// finds it by pkg-config. Install the library first, in a clone of its repository:
+//
+//	make -C dist install PREFIX=/usr/local && ldconfig
+//
+// Each side of a connection has an [Encoder], made from the settings that the peer sent, and a [Decoder], made from the
+// settings that this side sent. The package does no I/O: pass it the bytes that you received, in order and without the
+// stream type (0x02 or 0x03), and send the bytes that it returns.
+//
+// An error of an end is an [*Error]. Its status says what happened, and can be tested:
+//
+//	fields, err := decoder.Decode(streamID, section)
+//	var failure *h3qpack.Error
+//	switch {
+//	case errors.Is(err, h3qpack.ErrBlocked):
+//		keep(streamID, section) // until NextReady returns streamID
+//	case errors.As(err, &failure) && failure.Closes():
+//		conn.CloseWithError(failure.Code(), err.Error())
+//	}
+//
+// Use an Encoder or a Decoder from one goroutine at a time. Close each: no finalizer does.
+package h3qpack
+
+// #cgo pkg-config: h3_qpack
+// #include "bridge.h"
+import "C"
+
+import "unsafe"
+
+// Version returns the version of the library's interface. This package needs the major version 1.
+func Version() (major, minor int) {
+	version := int(C.h3_qpack_version())
+	return version >> 16, version & 0xffff
+}
+
+// firstByte returns a pointer to the bytes, or nil if there are none.
+func firstByte(bytes []byte) *C.uint8_t {
+	if len(bytes) == 0 {
+		return nil
+	}
+	return (*C.uint8_t)(unsafe.Pointer(&bytes[0]))
+}

@@ -1,0 +1,137 @@
+"""Why a call failed."""
+
+from typing import Dict, Optional, Type
+
+from . import _library as lib
+
+
+class QpackError(Exception):
+    """A call failed. Unless it is a QpackConnectionError, the connection goes on."""
+
+
+class QpackConnectionError(QpackError):
+    """The peer broke a rule: close the connection with `code` (RFC 9204, section 6). The end is unusable.
+
+    Each later call of the end that can fail raises the same error. `number` is the number, from 1, of the invalid field
+    line of the section, or instruction of the stream. `offset` is the position of its first byte in the section, or on
+    the stream after its type. Both are 0 if there is none: the prefix is invalid, or an earlier call reported the error.
+    """
+
+    code = 0
+    cause = ""
+    unit = "instruction"
+
+    def __init__(self, number: int = 0, offset: int = 0) -> None:
+        place = f", at {self.unit} {number}, byte {offset}" if number else ""
+        super().__init__(f"{self.cause}{place}: close the connection with {self.code:#x}")
+        self.number = number
+        self.offset = offset
+
+
+class DecompressionFailed(QpackConnectionError):
+    """A section is invalid, or one stream too many is blocked."""
+
+    code = 0x200
+    cause = "a section is invalid, or too many streams are blocked"
+    unit = "line"
+
+
+class EncoderStreamError(QpackConnectionError):
+    """An instruction of the peer's encoder stream is invalid."""
+
+    code = 0x201
+    cause = "the peer's encoder stream is invalid"
+
+
+class DecoderStreamError(QpackConnectionError):
+    """An instruction of the peer's decoder stream is invalid."""
+
+    code = 0x202
+    cause = "the peer's decoder stream is invalid"
+
+
+class StreamBlocked(QpackError):
+    """The section requires insertions that have not arrived.
+
+    Keep the section, and decode it again when `Decoder.next_ready` returns its stream. `required` is its Required
+    Insert Count.
+    """
+
+    def __init__(self, required: int) -> None:
+        super().__init__(f"the section is blocked until insertion {required}: keep it until its stream is ready")
+        self.required = required
+
+
+class SectionTooLarge(QpackError):
+    """The section exceeds `max_section_size`. Refuse the message, and call `Decoder.cancel_stream`.
+
+    `number` is the line at which it does, or 0 if the section is too long to be within it.
+    """
+
+    def __init__(self, number: int = 0) -> None:
+        place = f" at line {number}" if number else ""
+        super().__init__(f"the section is too large{place}: refuse the message, and cancel its stream")
+        self.number = number
+
+
+class EntriesHeld(QpackError):
+    """The capacity would evict entries that the peer may still reference. Set it again after more acknowledgments."""
+
+    def __init__(self) -> None:
+        super().__init__("entries may still be referenced: set the capacity after more acknowledgments")
+
+
+class InvalidArgument(QpackError, ValueError):
+    """An argument is out of its range. Nothing was done."""
+
+
+class OutOfMemory(QpackError, MemoryError):
+    """`malloc` or `realloc` failed. Repeat the call later.
+
+    `taken` is, from `receive`, how many bytes were read. Pass the rest later, even if it is empty.
+    """
+
+    def __init__(self, taken: int = 0) -> None:
+        super().__init__("out of memory: repeat the call later")
+        self.taken = taken
+
+
+class VersionMismatch(QpackError):
+    """The library is of another version than this package."""
+
+    def __init__(self) -> None:
+        super().__init__("the library is of another version: install the one that this package is of")
+
+
+class EndClosed(QpackError, ValueError):
+    """The encoder or decoder was closed. Make another."""
+
+    def __init__(self) -> None:
+        super().__init__("the encoder or decoder is closed: make another")
+
+
+CODES: Dict[int, Type[QpackConnectionError]] = {
+    it.code: it for it in (DecompressionFailed, EncoderStreamError, DecoderStreamError)
+}
+
+
+def check(status: int, range_text: str = "an argument is out of its range", result: Optional[object] = None) -> None:
+    """Raises the error of a status. `result` is the struct that has it, which may say more."""
+    if status == lib.OK:
+        return
+    number, offset = getattr(result, "number", 0), getattr(result, "offset", 0)
+    if status in CODES:
+        raise CODES[status](number, offset)
+    if status == lib.BLOCKED:
+        raise StreamBlocked(getattr(result, "required", 0))
+    if status == lib.TOO_LARGE:
+        raise SectionTooLarge(number)
+    if status == lib.INVALID:
+        raise InvalidArgument(range_text)
+    if status == lib.NO_MEMORY:
+        raise OutOfMemory(getattr(result, "taken", 0))
+    if status == lib.HELD:
+        raise EntriesHeld()
+    if status == lib.VERSION_MISMATCH:
+        raise VersionMismatch()
+    raise QpackError(f"unknown status {status}: the library is of another version")
