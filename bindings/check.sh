@@ -8,24 +8,9 @@ set -uo pipefail
 cd "$(dirname "$0")" || exit 1
 script=bindings/check.sh
 . ../c/archive
+. ../tests/counted
 room=$(mktemp -d) || exit 1
 trap 'rm -rf "$room"' EXIT
-passed=0
-failed=0
-
-# Runs a command under a name, and counts whether it passed. Shows what it printed if it failed.
-try() {
-    local name=$1
-    shift
-    if "$@" >"$room/told" 2>&1; then
-        passed=$((passed + 1))
-        return
-    fi
-    failed=$((failed + 1))
-    tail -n 40 "$room/told"
-    echo "$script: FAILED: $name"
-    return 1
-}
 
 # Whether the programs that are named after a language are there. Says so where it is left out without them.
 has_tools() {
@@ -93,5 +78,4 @@ install_packages $(list_lacking cc make go pkg-config python3) || true
 export LD_LIBRARY_PATH=$room/usr/lib
 if has_tools Go cc make go pkg-config && build_library; then cd go && test_go; cd ..; fi
 if has_tools Python cc make python3 && build_library; then cd python && test_python; fi
-echo "$passed passed, $failed failed"
-[ "$failed" = 0 ]
+tell_count

@@ -17,6 +17,7 @@ typedef struct h3qpack_line {
 static inline h3_qpack_nv *h3qpack_make_fields(const uint8_t *text, const h3qpack_line *lines, size_t count) {
   h3_qpack_nv *fields = malloc((count + 1) * sizeof *fields);
   size_t i;
+  if (!text) text = (const uint8_t *)"";
   for (i = 0; fields && i < count; i++) {
     fields[i].name = text;
     fields[i].namelen = lines[i].namelen;

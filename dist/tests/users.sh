@@ -1,0 +1,94 @@
+#!/usr/bin/env bash
+# Builds and runs the small projects of users/, each of which uses the library as its build system does: by pkg-config after
+# make install, by CMake and by Meson, installed or in the project's tree, static and shared. A build system that is not
+# there is left out, and a line says so. The last line is 'N passed, M failed'.
+set -uo pipefail
+cd "$(dirname "$0")" || exit 1
+script=dist/tests/users.sh
+. ../../tests/counted
+room=$(mktemp -d) || exit 1
+trap 'rm -rf "$room"' EXIT
+dist=$(cd .. && pwd)
+
+# Whether the programs that are named are there. Says so where they are not.
+has() {
+    local name
+    for name in "$@"; do
+        command -v "$name" >/dev/null || { echo "$script: left out, as $name is not installed: $*"; return 1; }
+    done
+}
+
+# Runs the program of a project, over the shared library of an install.
+run_main() {
+    [ "$(LD_LIBRARY_PATH="$room/$1/lib" "$room/$2/main")" = 0000d1 ]
+}
+
+# Installs by make, and builds the project of pkg-config.
+use_pkg_config() {
+    make -s -C "$dist" BUILD="$room/make.build" PREFIX="$room/make" install && cp -R users "$room/make.users" &&
+        make -C "$room/make.users/pkg-config" && run_main make make.users/pkg-config
+}
+
+# The same with the static library alone.
+use_pkg_config_statically() {
+    rm "$room"/make/lib/*.so* "$room/make.users/pkg-config/main" && make -C "$room/make.users/pkg-config" &&
+        "$room/make.users/pkg-config/main" | grep -x 0000d1
+}
+
+# Builds a project of CMake, with more words for cmake.
+build_cmake() {
+    local source=$1 build=$2
+    shift 2
+    cmake -S "$source" -B "$room/$build" "$@" && cmake --build "$room/$build"
+}
+
+# Installs by CMake, and builds the project that finds it; then the one that has dist/ in its tree.
+use_cmake() {
+    build_cmake "$dist" "cmake.$1" -DBUILD_SHARED_LIBS="$1" -DCMAKE_INSTALL_PREFIX="$room/cmake-$1" \
+        -DCMAKE_INSTALL_LIBDIR=lib && cmake --install "$room/cmake.$1" &&
+        build_cmake users/cmake-installed "found.$1" -DCMAKE_PREFIX_PATH="$room/cmake-$1" &&
+        run_main "cmake-$1" "found.$1"
+}
+use_cmake_in_tree() {
+    build_cmake users/cmake-subdirectory "tree.$1" -DBUILD_SHARED_LIBS="$1" && run_main none "tree.$1"
+}
+
+# Builds a project of Meson, with more words for meson.
+build_meson() {
+    local source=$1 build=$2
+    shift 2
+    meson setup "$source" "$room/$build" "$@" && meson compile -C "$room/$build"
+}
+
+# Installs by Meson, and builds the project that finds it; then the one that has dist/ as a subproject.
+use_meson() {
+    build_meson "$dist" "meson.$1" --default-library="$1" --prefix="$room/meson-$1" --libdir=lib &&
+        meson install -C "$room/meson.$1" &&
+        PKG_CONFIG_PATH=$room/meson-$1/lib/pkgconfig build_meson users/meson-installed "meson.found.$1" &&
+        run_main "meson-$1" "meson.found.$1"
+}
+use_meson_in_tree() {
+    mkdir -p "$room/sub.$1" && cp -R users/. "$room/sub.$1" && mkdir "$room/sub.$1/meson-subproject/subprojects" &&
+        ln -s "$dist" "$room/sub.$1/meson-subproject/subprojects/h3_qpack" &&
+        PKG_CONFIG_LIBDIR=/nowhere build_meson "$room/sub.$1/meson-subproject" "meson.sub.$1" \
+            --default-library="$1" && run_main none "meson.sub.$1"
+}
+
+if has cc make pkg-config; then
+    export PKG_CONFIG_PATH=$room/make/lib/pkgconfig
+    try "pkg-config, shared" use_pkg_config
+    try "pkg-config, static" use_pkg_config_statically
+fi
+if has cc make cmake; then
+    for shared in OFF ON; do
+        try "CMake, find_package, BUILD_SHARED_LIBS=$shared" use_cmake "$shared"
+        try "CMake, add_subdirectory, BUILD_SHARED_LIBS=$shared" use_cmake_in_tree "$shared"
+    done
+fi
+if has cc meson ninja pkg-config; then
+    for kind in static shared; do
+        try "Meson, installed, $kind" use_meson "$kind"
+        try "Meson, subproject, $kind" use_meson_in_tree "$kind"
+    done
+fi
+tell_count
