@@ -88,7 +88,8 @@ class InvalidArgument(QpackError, ValueError):
 class OutOfMemory(QpackError, MemoryError):
     """`malloc` or `realloc` failed. Repeat the call later.
 
-    `taken` is, from `receive`, how many bytes were read. Pass the rest later, even if it is empty.
+    `taken` is, from `receive`, how many bytes were read. Pass the rest later, even if it is empty. A MemoryError that is
+    not an OutOfMemory is Python's own: close the connection, since what the call returned is lost.
     """
 
     def __init__(self, taken: int = 0) -> None:

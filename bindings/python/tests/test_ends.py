@@ -1,9 +1,12 @@
 """Both ends of a connection: round trips, blocked and cancelled streams, tables, refusals."""
 
+import contextlib
 import gc
+import resource
 import threading
 import unittest
-from typing import Any, Callable, List, Tuple, Type
+from pathlib import Path
+from typing import Any, Callable, Iterator, List, Tuple, Type
 
 from h3_qpack import (
     Decoder,
@@ -16,6 +19,7 @@ from h3_qpack import (
     Field,
     FieldLike,
     InvalidArgument,
+    OutOfMemory,
     QpackConnectionError,
     QpackError,
     SectionTooLarge,
@@ -31,6 +35,21 @@ REQUEST = [
     Field(b"x-trace", b"\xff\x00"),
 ]
 METHOD = b"\x00\x00\xd1"
+
+
+MEGABYTE = 1 << 20
+
+
+@contextlib.contextmanager
+def little_memory() -> Iterator[None]:
+    """Lets the process have four megabytes more than it has."""
+    limits = resource.getrlimit(resource.RLIMIT_AS)
+    pages = int(Path("/proc/self/statm").read_text().split()[0])
+    resource.setrlimit(resource.RLIMIT_AS, (pages * resource.getpagesize() + 4 * MEGABYTE, limits[1]))
+    try:
+        yield
+    finally:
+        resource.setrlimit(resource.RLIMIT_AS, limits)
 
 
 class EndsTest(unittest.TestCase):
@@ -229,6 +248,23 @@ class EndsTest(unittest.TestCase):
         encoded = encoder.encode(0, fields)
         self.assertGreater(len(encoded.section), 1500)
         self.assertEqual(decoder.decode(0, encoded.section), fields)
+
+    def test_out_of_memory(self) -> None:
+        most = 2**30 - 1
+        fields = [Field(b"x", 16 * MEGABYTE * b"\xff", wish=Wish.INSERT)]
+        with Encoder(max_capacity=most, max_blocked=1, capacity=most) as encoder:
+            with little_memory():
+                self.refused(OutOfMemory, encoder.encode, 0, fields)
+            encoded, stream = encoder.encode(0, fields), encoder.take_encoder_stream()
+        self.assertEqual(encoded.required, 1)
+        with Decoder(max_capacity=most, max_section_size=2**64 - 1) as decoder:
+            with little_memory():
+                taken = self.refused(OutOfMemory, decoder.receive, stream).taken
+            self.assertGreater(taken, 0)
+            decoder.receive(stream[taken:])
+            with little_memory():
+                self.refused(OutOfMemory, decoder.decode, 0, encoded.section)
+            self.assertEqual(decoder.decode(0, encoded.section), [fields[0]._replace(wish=Wish.NONE)])
 
     def test_threads(self) -> None:
         encoder, decoder = self.pair(0, 0)
