@@ -42,26 +42,40 @@ const (
 	ErrVersion Status = C.H3_QPACK_ERR_VERSION
 )
 
-// texts says what each status is.
-var texts = map[Status]string{
-	ErrDecompressionFailed: "a section is invalid, or too many streams are blocked",
-	ErrEncoderStream:       "the peer's encoder stream is invalid",
-	ErrDecoderStream:       "the peer's decoder stream is invalid",
-	ErrNoMemory:            "out of memory: repeat the call later",
-	ErrBlocked:             "the section is blocked: keep it until NextReady returns its stream",
-	ErrInvalid:             "an argument is out of its range: nothing was done",
-	ErrTooLarge:            "the section is too large: refuse the message, and cancel its stream",
-	ErrHeld:                "entries may still be referenced: set the capacity after more acknowledgments",
-	ErrVersion:             "the library is of another version: compile the program with its header",
+// texts says what each status means, and what to do, except with those that close the connection.
+var texts = map[Status]struct{ cause, advice string }{
+	ErrDecompressionFailed: {"a section is invalid, or too many streams are blocked", ""},
+	ErrEncoderStream:       {"the peer's encoder stream is invalid", ""},
+	ErrDecoderStream:       {"the peer's decoder stream is invalid", ""},
+	ErrNoMemory:            {"out of memory", "repeat the call later"},
+	ErrBlocked:             {"the section is blocked", "keep it until NextReady returns its stream"},
+	ErrInvalid:             {"an argument is out of its range", "correct the call"},
+	ErrTooLarge:            {"the section is too large", "refuse the message, and cancel its stream"},
+	ErrHeld:                {"entries may still be referenced", "set the capacity after more acknowledgments"},
+	ErrVersion:             {"the library is of another version", "compile the program with its header"},
 }
 
-// Error returns what the status means.
-func (s Status) Error() string {
+// cause returns what the status means.
+func (s Status) cause() string {
 	if text, ok := texts[s]; ok {
-		return text
+		return text.cause
 	}
-	return fmt.Sprintf("unknown status %d: the library is of another version", int32(s))
+	return fmt.Sprintf("unknown status %d", int32(s))
 }
+
+// advice returns what to do.
+func (s Status) advice() string {
+	if s.Closes() {
+		return fmt.Sprintf("close the connection with %#x", s.Code())
+	}
+	if text, ok := texts[s]; ok {
+		return text.advice
+	}
+	return "install the library that this package is of"
+}
+
+// Error returns what the status means, and what to do.
+func (s Status) Error() string { return s.cause() + ": " + s.advice() }
 
 // Closes reports whether the connection must be closed.
 func (s Status) Closes() bool { return s > 0 }
@@ -90,7 +104,7 @@ type Error struct {
 	Taken int
 }
 
-// ranges says, for each call with arguments of a range, what ErrInvalid expected.
+// ranges says what ErrInvalid expected, for each call.
 var ranges = map[string]string{
 	"new encoder":   "MaxCapacity must be below 2^30; for a peer with more pass 0",
 	"new decoder":   "MaxCapacity must be below 2^30, and MaxBlocked below 65,535",
@@ -102,21 +116,18 @@ var ranges = map[string]string{
 
 // Error returns what failed, why and where, and what to do.
 func (e *Error) Error() string {
-	text := "h3qpack: " + e.Op + ": " + e.Status.Error()
+	text, advice := "h3qpack: "+e.Op+": "+e.cause(), e.advice()
 	switch {
 	case e.Status == ErrInvalid:
-		text += ": " + ranges[e.Op]
+		advice = ranges[e.Op]
 	case e.Status == ErrBlocked:
-		text += fmt.Sprintf(", when insertion %d has arrived", e.Required)
+		text += fmt.Sprintf(" until insertion %d", e.Required)
 	case e.Number > 0 && e.Op == "receive":
 		text += fmt.Sprintf(", at instruction %d, byte %d", e.Number, e.Offset)
 	case e.Number > 0:
 		text += fmt.Sprintf(", at line %d, byte %d", e.Number, e.Offset)
 	}
-	if e.Closes() {
-		text += fmt.Sprintf(": close the connection with %#x", e.Code())
-	}
-	return text
+	return text + ": " + advice
 }
 
 // Unwrap returns the status.

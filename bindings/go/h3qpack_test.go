@@ -404,13 +404,29 @@ func TestVersion(t *testing.T) {
 	}
 }
 
-func TestStatuses(t *testing.T) {
-	for status, text := range texts {
-		if status.Error() != text || status.Closes() != (status.Code() != 0) {
-			t.Errorf("status %d: %v, code %#x", int32(status), status, status.Code())
+func TestMessages(t *testing.T) {
+	for _, row := range []struct {
+		err  error
+		text string
+	}{
+		{&Error{Op: "encode", Status: ErrInvalid},
+			"h3qpack: encode: an argument is out of its range: the stream must be below 2^62"},
+		{&Error{Op: "decode", Status: ErrTooLarge, Number: 2, Offset: 3},
+			"h3qpack: decode: the section is too large, at line 2, byte 3: refuse the message, and cancel its stream"},
+		{&Error{Op: "decode", Status: ErrBlocked, Required: 7},
+			"h3qpack: decode: the section is blocked until insertion 7: keep it until NextReady returns its stream"},
+		{&Error{Op: "receive", Status: ErrEncoderStream, Number: 2, Offset: 3},
+			"h3qpack: receive: the peer's encoder stream is invalid, at instruction 2, byte 3: close the connection with 0x201"},
+		{ErrNoMemory, "out of memory: repeat the call later"},
+		{Status(-99), "unknown status -99: install the library that this package is of"},
+	} {
+		if row.err.Error() != row.text {
+			t.Errorf("got %q, expected %q", row.err, row.text)
 		}
 	}
-	if text := Status(-99).Error(); !strings.Contains(text, "-99") {
-		t.Error(text)
+	for status := range texts {
+		if status.Closes() != (status.Code() != 0) || status.Closes() != (status.advice() != texts[status].advice) {
+			t.Errorf("%v: code %#x", status, status.Code())
+		}
 	}
 }

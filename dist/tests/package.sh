@@ -18,14 +18,15 @@ list_missing() {
     for name in "$@"; do command -v "$name" >/dev/null || echo "$name"; done
 }
 
-# Makes a small Debian system in $root, of the release and by the mirror of this one.
+# Makes a small Debian system in $root, of the release and by the mirror of this one, in ten minutes at most.
 make_system() {
     local source
     [ "$(id -u)" = 0 ] && [ -z "$(list_missing debootstrap)" ] || return
     # shellcheck disable=SC2016 # the dollars are of apt-get
     source=$(apt-get indextargets --format '$(CODENAME) $(REPO_URI)' 'Created-By: Packages' 'Component: main' | head -n 1)
     # shellcheck disable=SC2086 # words
-    [ -n "$source" ] && debootstrap --variant=minbase ${source% *} "$root" ${source#* } >"$room/bootstrapped" 2>&1
+    [ -n "$source" ] &&
+        timeout 600 debootstrap --variant=minbase ${source% *} "$root" ${source#* } >"$room/bootstrapped" 2>&1
 }
 
 # Installs or unpacks the packages.
@@ -71,7 +72,8 @@ try_qpk() {
 # The manual page and the completions are where man, bash and zsh look.
 check_files() {
     local share=$root/usr/share
-    zcat "$share/man/man1/qpk.1.gz" | cmp - ../qpk.1 && cmp "$share/bash-completion/completions/qpk" ../completions/qpk.bash &&
+    zcat "$share/man/man1/qpk.1.gz" | cmp - ../qpk.1 &&
+        cmp "$share/bash-completion/completions/qpk" ../completions/qpk.bash &&
         cmp "$share/zsh/vendor-completions/_qpk" ../completions/_qpk
 }
 
