@@ -35,10 +35,19 @@ run_go() {
     go test -count=1 -v "$@" ./... && grep -q '^--- PASS: Example' "$room/told"
 }
 
-# The pointers that Go passes to C are checked as strictly as go can. The cache of go is a fresh one: go would take what an
-# earlier pkg-config said from another.
+# Has all pointers checked that Go passes to C: when a program is built since Go 1.21, and when it runs before.
+check_pointers() {
+    if GOEXPERIMENT=cgocheck2 go version >/dev/null 2>&1; then
+        export GOEXPERIMENT=cgocheck2
+    else
+        export GODEBUG=cgocheck=2
+    fi
+}
+
+# The cache of go is a fresh one: go would take what an earlier pkg-config said from another.
 test_go() {
-    export PKG_CONFIG_PATH=$room/usr/lib/pkgconfig GODEBUG=cgocheck=2 GOPROXY=off GOTOOLCHAIN=local GOCACHE=$room/cache
+    export PKG_CONFIG_PATH=$room/usr/lib/pkgconfig GOPROXY=off GOTOOLCHAIN=local GOCACHE=$room/cache
+    check_pointers
     try "gofmt" check_layout
     try "go vet" go vet ./...
     try "go test" run_go
