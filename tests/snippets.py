@@ -30,6 +30,10 @@ NOT_RUN = {
     "./test": "runs this script, and is the first stage of .ci/run",
     "c/check.sh": "./test runs it, as c",
     "rust/check.sh": "./test runs it, as rust",
+    "go mod edit -require h3qpack@v0.0.0 -replace h3qpack=../h3_qpack/bindings/go && go build": (
+        "bindings/check.sh, in the gate, runs the package's tests and examples, with its own module file"
+    ),
+    "pip install ./bindings/python": "needs pip's build packages; bindings/check.sh, in the gate, runs the package's tests",
     "examples/http3-server/serve": "opens a browser; .ci/browsers builds this server, and runs it with browsers",
 }
 # Parts of commands that need root, and what takes their place: the library is installed in a folder of the room.
