@@ -61,6 +61,44 @@ static void use_settings(void) {
   h3_qpack_encoder_del(&e);
 }
 
+/* Whether an encoder that an error ended returns its status from each later call. */
+static int is_over(h3_qpack_encoder *e, int status) {
+  return h3_qpack_encoder_encode(e, 0, &get, 1, section, sizeof section).status == status &&
+         h3_qpack_encoder_set_peer_settings(e, 0, 0) == status && h3_qpack_encoder_set_capacity(e, 0) == status &&
+         h3_qpack_encoder_read_decoder(e, NULL, 0).status == status;
+}
+
+/* An encoder that is made before the peer's settings come, and those that end a connection. */
+static void take_peer_settings(void) {
+  h3_qpack_encoder e;
+  h3_qpack_decoder d;
+  CHECK(!new_encoder(&e, 0, 0) && !new_decoder(&d, 4096, 1, 100));
+  h3_qpack_encoded a = h3_qpack_encoder_encode(&e, 0, &custom, 1, section, sizeof section);
+  CHECK(a.status == H3_QPACK_OK && !a.required && !h3_qpack_encoder_get_encoder_streamlen(&e));
+  CHECK(h3_qpack_decoder_decode(&d, 0, section, a.len).status == H3_QPACK_OK);
+  check_fields(&d, &custom, 1);
+  hear(&e, (const uint8_t *)"\x40", 1);
+  CHECK(h3_qpack_encoder_set_peer_settings(NULL, 4096, 1) == H3_QPACK_ERR_INVALID);
+  CHECK(h3_qpack_encoder_set_peer_settings(&e, 1 << 30, 1) == H3_QPACK_ERR_INVALID);
+  CHECK(h3_qpack_encoder_set_peer_settings(&e, 4096, 1) == H3_QPACK_OK);
+  a = h3_qpack_encoder_encode(&e, 4, &custom, 1, section, sizeof section);
+  CHECK(a.status == H3_QPACK_OK && a.required == 1 && h3_qpack_encoder_get_capacity(&e) == 4096);
+  size_t len = h3_qpack_encoder_write_encoder(&e, stream, sizeof stream);
+  CHECK(h3_qpack_decoder_read_encoder(&d, stream, len).status == H3_QPACK_OK);
+  CHECK(h3_qpack_decoder_decode(&d, 4, section, a.len).status == H3_QPACK_OK);
+  check_fields(&d, &custom, 1);
+  CHECK(!h3_qpack_encoder_encode(&e, 8, &get, 1, section, sizeof section).required);
+  CHECK(h3_qpack_encoder_set_peer_settings(&e, 4096, 2) == H3_QPACK_OK);
+  CHECK(h3_qpack_encoder_set_peer_settings(&e, 4096, 1) == H3_QPACK_SETTINGS_ERROR);
+  CHECK(is_over(&e, H3_QPACK_SETTINGS_ERROR));
+  h3_qpack_encoder_del(&e);
+  CHECK(!new_encoder(&e, 4096, 1));
+  CHECK(h3_qpack_encoder_set_peer_settings(&e, 0, 1) == H3_QPACK_DECODER_STREAM_ERROR);
+  CHECK(is_over(&e, H3_QPACK_DECODER_STREAM_ERROR));
+  h3_qpack_encoder_del(&e);
+  h3_qpack_decoder_del(&d);
+}
+
 /* Null ends, null memory with a length, and lengths that are too great; null with a length of 0 is taken. */
 static void refuse_arguments(void) {
   h3_qpack_encoder none = {NULL}, e;
@@ -451,6 +489,7 @@ int main(int argc, char **argv) {
   add_random_lists(50);
   compare_versions();
   use_settings();
+  take_peer_settings();
   refuse_arguments();
   take_null_texts();
   keep_results();

@@ -7,8 +7,10 @@ use Rattle.qpack_spec.specs.Instruction.{DecoderInstruction}
 use Rattle.qpack_ends.specs.declared.encoder.EncodingError.{EncodingError}
 use Rattle.qpack_ends.specs.declared.encoder.EncodingError.TheVariants.{DecoderStream}
 use Rattle.qpack_ends.specs.declared.encoder.EncoderSettings.{EncoderSettings}
-use Rattle.qpack_ends.specs.Encoders.{Starts, Encodes, ReceivesBytes, SetsCapacity}
+use Rattle.qpack_ends.specs.Encoders.{Starts, Encodes, ReceivesBytes, SetsCapacity, TakesPeer}
 use Rattle.qpack_ends.specs.Hearing.{Receives}
+use Rattle.qpack_ends.specs.Wishes.{EncodesAsWished}
+use Rattle.qpack_codec.specs.declared.encoder.choices.Wish.{Wish}
 use Rattle.h3_qpack_c.specs.declared.answers.Encoded.{Encoded}
 use Rattle.h3_qpack_c.specs.declared.answers.Received.{Received}
 use Rattle.h3_qpack_c.specs.declared.encoder.State.{State}
@@ -34,11 +36,13 @@ told_of_encoding (Ok required) fields section before =
     }
 told_of_encoding (Err e) fields section before = record { status = of_encoding e; len = 0; required = 0; size = 0 }
 
--- a section is encoded as the end does it, and is copied to the caller's memory if it fits; refused, there is none
-pub record EncodesTo (old new : State) (stream : ℕ) (fields : List FieldLine) (before after : List ℕ) (told : Encoded) :
-    Type 0 where
+-- a section is encoded as the end does it, and as the caller wishes; it is copied to the caller's memory if it fits.
+-- Refused, there is none
+pub record EncodesTo (old new : State) (stream : ℕ) (fields : List FieldLine) (wishes : List Wish) (before after : List ℕ)
+    (told : Encoded) : Type 0 where
   pub answer : Result ℕ EncodingError
   pub encodes : Encodes old.end new.end stream fields [] new.section.items answer
+  pub wished : EncodesAsWished old.end new.end stream fields wishes [] new.section.items answer
   pub copied_is : after ≡ copied new.section.items before
   pub told_is : told ≡ told_of_encoding answer fields new.section.items before
 
@@ -70,5 +74,12 @@ pub record HearsTo (old new : State) (bytes : List ℕ) (told : Received) : Type
 pub record SetsCapacityTo (old new : State) (capacity : ℕ) (status : ℤ) : Type 0 where
   pub answer : Result ⊤ EncodingError
   pub sets : SetsCapacity old.end new.end capacity answer
+  pub section : new.section ≡ old.section
+  pub status_is : status ≡ of_encoding_call answer
+
+-- the settings of the peer are taken as the end does it
+pub record TakesPeerTo (old new : State) (maximum blocked : ℕ) (status : ℤ) : Type 0 where
+  pub answer : Result ⊤ EncodingError
+  pub takes : TakesPeer old.end new.end maximum blocked answer
   pub section : new.section ≡ old.section
   pub status_is : status ≡ of_encoding_call answer

@@ -1,5 +1,5 @@
 -- What calls answer in C: 0, below it what the connection outlives, above it the code that ends it (RFC 9204, section
--- 6).
+-- 6, and RFC 9114, section 8.1).
 use Rattle.std.specs.Prelude.{ℤ, pos, negsuc, Result, Ok, Err, ⊤}
 use Rattle.qpack_ends.specs.declared.encoder.EncodingError.{EncodingError}
 use Rattle.qpack_ends.specs.declared.encoder.EncodingError.TheVariants.{DecoderStream, CapacityTooLarge}
@@ -45,6 +45,9 @@ of_encoding (DecoderStream e) = pos 0x202
 of_encoding CapacityTooLarge = invalid
 of_encoding encoding.EntriesHeld = held
 of_encoding (encoding.NoStream stream) = invalid
+of_encoding encoding.MaximumChanged = pos 0x202
+of_encoding encoding.LimitLowered = pos 0x109
+of_encoding encoding.MaximumTooLarge = invalid
 of_encoding encoding.Memory = no_memory
 
 -- the status of an error of a line

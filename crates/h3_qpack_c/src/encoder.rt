@@ -3,9 +3,9 @@
 ghost use Rattle.h3_qpack_c.specs.declared.encoder.State.{State};
 ghost use Rattle.std.specs.Prelude.{◌≡◌, ◌<◌, ◌≤◌, ◌^◌, pos, length, map, IfOk, IfErr, ℤ};
 ghost use Rattle.qpack_ends.specs.declared.decoder.SettingsError.TheVariants.{CapacityTooLarge};
-ghost use Rattle.h3_qpack_c.specs.Crossing.{line_of_lent, copied, told_of_copy, Makes};
+ghost use Rattle.h3_qpack_c.specs.Crossing.{line_of_lent, wish_of_lent, copied, told_of_copy, Makes};
 ghost use Rattle.h3_qpack_c.specs.Encoding.{EncodesTo, HearsTo, SetsCapacityTo, TakesStream, told_of_hearing};
-ghost use Rattle.h3_qpack_c.specs.Encoding.{IsNew, KeepsNew};
+ghost use Rattle.h3_qpack_c.specs.Encoding.{IsNew, KeepsNew, TakesPeerTo};
 ghost use Rattle.qpack_ends.specs.declared.encoder.EncoderSettings.{EncoderSettings};
 ghost use Rattle.qpack_ends.specs.Risk.{streams_at_risk};
 
@@ -119,8 +119,8 @@ pub extern "C" fn h3q_encoder_encode(
     fields: &[Field],
     section: &mut [u8],
 ) -> Encoded
-    ensures { EncodesTo handle.old.value handle.new.value stream (map line_of_lent fields.now) section.old section.new
-        result }
+    ensures { EncodesTo handle.old.value handle.new.value stream (map line_of_lent fields.now)
+        (map wish_of_lent fields.now) section.old section.new result }
 {
     let state = state(handle);
     let answer = encode(state, stream, fields, section);
@@ -129,7 +129,8 @@ pub extern "C" fn h3q_encoder_encode(
 
 /// The same, of what a handle keeps.
 fn encode(state: &mut State, stream: u64, fields: &[Field], section: &mut [u8]) -> Encoded
-    ensures { EncodesTo state.old state.new stream (map line_of_lent fields.now) section.old section.new result }
+    ensures { EncodesTo state.old state.new stream (map line_of_lent fields.now) (map wish_of_lent fields.now) section.old
+        section.new result }
 {
     state.section.clear();
     match state.end.encode(stream, fields, &mut state.section) {
@@ -235,6 +236,30 @@ fn heard(answer: &Result<(), EncodingError>, taken: usize) -> Received
             number: 0,
             offset: 0,
         },
+    }
+}
+
+/// Applies the settings that the peer sent: its maximum capacity in bytes, and its limit of blocked streams.
+#[unsafe(no_mangle)]
+pub extern "C" fn h3q_encoder_set_peer_settings(
+    handle: &mut Handle,
+    max_capacity: usize,
+    max_blocked: usize,
+) -> i32
+    ensures { TakesPeerTo handle.old.value handle.new.value max_capacity max_blocked result }
+{
+    let state = state(handle);
+    let status = set_peer_settings(state, max_capacity, max_blocked);
+    status
+}
+
+/// The same, of what a handle keeps.
+fn set_peer_settings(state: &mut State, max_capacity: usize, max_blocked: usize) -> i32
+    ensures { TakesPeerTo state.old state.new max_capacity max_blocked result }
+{
+    match state.end.set_peer_settings(max_capacity, max_blocked) {
+        Ok(()) => DONE,
+        Err(error) => status_of_encoding(&error),
     }
 }
 

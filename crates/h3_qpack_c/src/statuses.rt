@@ -1,4 +1,5 @@
-//! What calls answer: 0, below it what the connection outlives, above it the code of RFC 9204, section 6, that ends it.
+//! What calls answer: 0, below it what the connection outlives, above it the code that ends it (RFC 9204,
+//! section 6, and RFC 9114, section 8.1).
 
 ghost use Rattle.std.specs.Prelude.{◌≡◌};
 ghost use Rattle.h3_qpack_c.specs.Statuses.{of_encoding, of_decoding, of_section, of_line};
@@ -35,13 +36,19 @@ pub(crate) const ENCODER_STREAM_ERROR: i32 = 0x201;
 /// QPACK_DECODER_STREAM_ERROR (RFC 9204, section 6).
 pub(crate) const DECODER_STREAM_ERROR: i32 = 0x202;
 
+/// H3_SETTINGS_ERROR (RFC 9114, section 8.1).
+pub(crate) const SETTINGS_ERROR: i32 = 0x109;
+
 /// The status of an error of an encoding end.
 pub(crate) fn status_of_encoding(error: &EncodingError) -> i32
     ensures { result ≡ of_encoding error.now }
 {
     match error {
-        EncodingError::DecoderStream(_) => DECODER_STREAM_ERROR,
-        EncodingError::CapacityTooLarge | EncodingError::NoStream(_) => INVALID,
+        EncodingError::DecoderStream(_) | EncodingError::MaximumChanged => DECODER_STREAM_ERROR,
+        EncodingError::LimitLowered => SETTINGS_ERROR,
+        EncodingError::CapacityTooLarge
+        | EncodingError::MaximumTooLarge
+        | EncodingError::NoStream(_) => INVALID,
         EncodingError::EntriesHeld => HELD,
         EncodingError::Memory => NO_MEMORY,
     }

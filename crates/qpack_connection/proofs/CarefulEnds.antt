@@ -11,7 +11,8 @@ use Rattle.qpack_ends.specs.declared.encoder.EncoderSettings.{EncoderSettings}
 use Rattle.qpack_ends.specs.declared.encoder.EncodingError.{EncodingError}
 use Rattle.qpack_ends.specs.declared.encoder.EncodingError.TheVariants.{DecoderStream, CapacityTooLarge}
 use Rattle.qpack_ends.specs.declared.encoder.EncodingError.TheVariants.{EntriesHeld, NoStream, Memory}
-use Rattle.qpack_ends.specs.Encoders.{EncodingEnd, IsSound, IsToBeTold, Starts, begun, begun_with}
+use Rattle.qpack_ends.specs.declared.encoder.EncodingError.TheVariants.{MaximumChanged, LimitLowered, MaximumTooLarge}
+use Rattle.qpack_ends.specs.Encoders.{EncodingEnd, IsSound, IsToBeTold, IsUnused, begun, begun_with}
 use Rattle.qpack_ends.specs.Encoders.{told, with_section, StopsForMemory, SetsCapacity}
 use Rattle.qpack_ends.specs.Encoders.{WritesSection, Encodes, ReceivesBytes}
 use Rattle.qpack_ends.specs.Hearing.{Receives}
@@ -36,7 +37,7 @@ pub record Stays (most : ℕ) (e : EncodingEnd) : Type 0 where
   pub most_is : e.settings.max_blocked ≡ most
   pub few : length (streams_at_risk e.table) ≤ most
 
-pub stays_first : (settings : EncoderSettings) (e : EncodingEnd) → Starts settings e → Stays settings.max_blocked e
+pub stays_first : (settings : EncoderSettings) (e : EncodingEnd) → IsUnused settings e → Stays settings.max_blocked e
 stays_first settings e s =
     record {
       table = subst (IsCarefulTable 4096) (sym s.table) (careful_first settings.max_capacity 4096);
@@ -210,6 +211,12 @@ stays_heard most old new bytes (Err CapacityTooLarge) k alive hears =
 stays_heard most old new bytes (Err EntriesHeld) k alive hears =
     let was = k.sound.stream alive in absurd (hears was.0 was.1 was.2)
 stays_heard most old new bytes (Err (NoStream s)) k alive hears =
+    let was = k.sound.stream alive in absurd (hears was.0 was.1 was.2)
+stays_heard most old new bytes (Err MaximumChanged) k alive hears =
+    let was = k.sound.stream alive in absurd (hears was.0 was.1 was.2)
+stays_heard most old new bytes (Err LimitLowered) k alive hears =
+    let was = k.sound.stream alive in absurd (hears was.0 was.1 was.2)
+stays_heard most old new bytes (Err MaximumTooLarge) k alive hears =
     let was = k.sound.stream alive in absurd (hears was.0 was.1 was.2)
 stays_heard most old new bytes (Err Memory) k alive hears =
     let was = k.sound.stream alive in absurd (hears was.0 was.1 was.2)

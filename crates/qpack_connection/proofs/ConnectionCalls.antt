@@ -187,6 +187,9 @@ module _ (e e' : EncodingEnd) (d : DecodingEnd) (er dr : ℕ) (ps : List (ℕ ×
   hearing_still (Err encoding.CapacityTooLarge) heard before bytes r = absurd r
   hearing_still (Err encoding.EntriesHeld) heard before bytes r = absurd r
   hearing_still (Err (encoding.NoStream s)) heard before bytes r = absurd r
+  hearing_still (Err encoding.MaximumChanged) heard before bytes r = absurd r
+  hearing_still (Err encoding.LimitLowered) heard before bytes r = absurd r
+  hearing_still (Err encoding.MaximumTooLarge) heard before bytes r = absurd r
   hearing_still (Err encoding.Memory) heard before bytes r = absurd r
 
   hearing_framed : (a : Result ⊤ EncodingError) (heard : List DecoderInstruction) (before bytes : List ℕ)
@@ -197,6 +200,9 @@ module _ (e e' : EncodingEnd) (d : DecodingEnd) (er dr : ℕ) (ps : List (ℕ ×
   hearing_framed (Err encoding.CapacityTooLarge) heard before bytes r = absurd r
   hearing_framed (Err encoding.EntriesHeld) heard before bytes r = absurd r
   hearing_framed (Err (encoding.NoStream s)) heard before bytes r = absurd r
+  hearing_framed (Err encoding.MaximumChanged) heard before bytes r = absurd r
+  hearing_framed (Err encoding.LimitLowered) heard before bytes r = absurd r
+  hearing_framed (Err encoding.MaximumTooLarge) heard before bytes r = absurd r
   hearing_framed (Err encoding.Memory) heard before bytes r = absurd r
 
   hear_makes : (position : ℕ) → IsReached (connection_of e d er dr ps)

@@ -7,7 +7,7 @@ use Rattle.std.specs.Prelude.{nat_eq}
 use Rattle.qpack_spec.specs.Table.{Table}
 use Rattle.qpack_ends.specs.declared.encoder.EncoderSettings.{EncoderSettings}
 use Rattle.qpack_ends.specs.declared.encoder.EncodingError.{EncodingError}
-use Rattle.qpack_ends.specs.Encoders.{EncodingEnd, Starts, IsSound, IsToBeTold, begun, WritesSection, WritesAlone}
+use Rattle.qpack_ends.specs.Encoders.{EncodingEnd, Starts, IsUnused, IsSound, IsToBeTold, begun, WritesSection, WritesAlone}
 use Rattle.qpack_ends.specs.Encoders.{ReceivesBytes, Encodes, SetsIt, first_capacity}
 use Rattle.qpack_ends.specs.Encoders as encoders
 
@@ -29,7 +29,20 @@ first_wanted d n most true within small settings agreed nothing = tt
 first_wanted d n most false within small settings agreed nothing =
     first_told d n most within small settings agreed nothing
 
-pub sound_first : (settings : EncoderSettings) (d : EncodingEnd) → Starts settings d → IsSound d
+-- a new end is unused
+pub unused_first : (settings : EncoderSettings) (d : EncodingEnd) → Starts settings d → IsUnused settings d
+unused_first settings d k =
+    record {
+      capacity_in_range = k.capacity_in_range;
+      settings_are = k.settings_are;
+      table = k.table;
+      wanted = k.wanted;
+      stream = ([], [], k.stream);
+      unsent = k.unsent;
+      failure = k.failure;
+    }
+
+pub sound_first : (settings : EncoderSettings) (d : EncodingEnd) → IsUnused settings d → IsSound d
 sound_first s d e =
     record {
       wanted = subst (λ (o : Option ℕ). IfSome o (λ m. IsToBeTold d m)) (sym e.wanted)
@@ -37,6 +50,6 @@ sound_first s d e =
           (nat_eq (min s.capacity s.max_capacity) 0) (omega arith) e.capacity_in_range
           (ap (λ x. x.max_capacity) e.settings_are) (ap (λ (t : Table). t.agreed_max) e.table)
           (ap (λ (t : Table). t.live) e.table));
-      stream = λ none. ([], [], e.stream);
+      stream = λ none. e.stream;
       failure = subst (λ (o : Option EncodingError). IfSome o (λ x. IsSome (encoders.code_of x))) (sym e.failure) tt;
     }

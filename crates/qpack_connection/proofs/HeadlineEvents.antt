@@ -207,6 +207,9 @@ module _ (settings : ConnectionSettings) (first : Connection) (begins : BeginsWi
       by encoding.Memory (inl within) stops = omega (arith, within.0, agreed)
       by encoding.Memory (inr above) stops = absurd (let y = subst IsOk above.1 stops in cc)
       by (encoding.NoStream q) within stops = absurd stops
+      by encoding.MaximumChanged within stops = absurd stops
+      by encoding.LimitLowered within stops = absurd stops
+      by encoding.MaximumTooLarge within stops = absurd stops
       by (encoding.DecoderStream y) within stops = absurd stops
 
   capacity_empty : (old new : EncodingEnd) (n : ℕ) (r : Result ⊤ EncodingError) → SetsCapacity old new n r

@@ -26,7 +26,8 @@ use Rattle.qpack_ends.specs.declared.encoder.EncoderSettings.{EncoderSettings}
 use Rattle.qpack_ends.specs.declared.encoder.EncodingError.{EncodingError}
 use Rattle.qpack_ends.specs.declared.encoder.EncodingError.TheVariants.{DecoderStream, CapacityTooLarge}
 use Rattle.qpack_ends.specs.declared.encoder.EncodingError.TheVariants.{EntriesHeld, NoStream, Memory}
-use Rattle.qpack_ends.specs.Encoders.{EncodingEnd, Starts, IsToBeTold, begun, begun_with, Encodes, WritesAlone}
+use Rattle.qpack_ends.specs.declared.encoder.EncodingError.TheVariants.{MaximumChanged, LimitLowered, MaximumTooLarge}
+use Rattle.qpack_ends.specs.Encoders.{EncodingEnd, IsUnused, IsToBeTold, begun, begun_with, Encodes, WritesAlone}
 use Rattle.qpack_ends.specs.Encoders.{StopsForMemory, GivesUpSection, SetsCapacity, ReceivesBytes}
 use Rattle.qpack_ends.specs.Encoders as encoders
 use Rattle.qpack_safety.specs.Refines.{Agrees}
@@ -159,7 +160,7 @@ keeps settings w h =
       };
     }
 
-holds_first : (settings : EncoderSettings) (w : Writer) → Starts settings w.end → w.sent ≡ [] → w.sections ≡ []
+holds_first : (settings : EncoderSettings) (w : Writer) → IsUnused settings w.end → w.sent ≡ [] → w.sections ≡ []
     → Holds settings w
 holds_first settings w s none nothing =
     record {
@@ -344,6 +345,9 @@ receive_unsent old new heard before bytes (Err (DecoderStream x)) call = ap (λ 
 receive_unsent old new heard before bytes (Err CapacityTooLarge) call = absurd call
 receive_unsent old new heard before bytes (Err EntriesHeld) call = absurd call
 receive_unsent old new heard before bytes (Err (NoStream s)) call = absurd call
+receive_unsent old new heard before bytes (Err MaximumChanged) call = absurd call
+receive_unsent old new heard before bytes (Err LimitLowered) call = absurd call
+receive_unsent old new heard before bytes (Err MaximumTooLarge) call = absurd call
 receive_unsent old new heard before bytes (Err Memory) call = absurd call
 
 -- a call that hears nothing
@@ -506,6 +510,9 @@ heard_by settings (Receive bytes answer) old new stays step = by old.failure ref
     received heard before (Err CapacityTooLarge) call = absurd call
     received heard before (Err EntriesHeld) call = absurd call
     received heard before (Err (NoStream s)) call = absurd call
+    received heard before (Err MaximumChanged) call = absurd call
+    received heard before (Err LimitLowered) call = absurd call
+    received heard before (Err MaximumTooLarge) call = absurd call
     received heard before (Err Memory) call = absurd call
 
     by : (o : Option EncodingError) → old.failure ≡ o → IfSome o (λ e. (answer ≡ Err e) × (new ≡ old))

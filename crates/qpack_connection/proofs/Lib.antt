@@ -41,3 +41,4 @@ pub mod LawfulTables
 pub mod LawfulWriters
 pub mod WrittenReports
 pub mod HeardFronts
+pub mod LateSettings

@@ -20,7 +20,7 @@ use Rattle.qpack_connection.specs.TwoEndsHeadline.{Fits, IsWithin, AllFit, AllAn
 use Rattle.qpack_connection.specs.TwoEndsHeadline.{TwoEndsAnswerWhatWasHanded}
 use Rattle.qpack_connection.specs.Waiting.{AreOfOneEach, IsNextOf}
 use Rattle.qpack_connection.proofs.RefinedCapacities.{new_refined}
-use Rattle.qpack_connection.proofs.FirstEnds.{sound_first}
+use Rattle.qpack_connection.proofs.FirstEnds.{sound_first, unused_first}
 use Rattle.qpack_connection.proofs.CarefulEnds.{stays_first}
 use Rattle.qpack_connection.proofs.WaitingStreams.{apart_from_none, none_waits_twice, all_at_risk}
 use Rattle.qpack_ends.specs.Risk.{streams_at_risk}
@@ -98,7 +98,7 @@ run_answers maximum limit most (call ∷ calls) old new steps k run fits =
 -- ---- the beginning
 
 new_sound : (c : Connection) → IsNew c → IsSound c.encoder
-new_sound c k = sound_first k.encoder_settings c.encoder k.encoder
+new_sound c k = sound_first k.encoder_settings c.encoder (unused_first k.encoder_settings c.encoder k.encoder)
 
 pub new_kept : (c : Connection) (k : IsNew c)
     → IsKept k.encoder_settings.max_capacity 4096 k.decoder_settings.max_blocked c []
@@ -108,7 +108,7 @@ new_kept c k =
       alive = record { encoder = k.encoder.failure; decoder = k.decoder.failure };
       sound = new_sound c k;
       most_at_risk = k.encoder_settings.max_blocked;
-      encoder = stays_first k.encoder_settings c.encoder k.encoder;
+      encoder = stays_first k.encoder_settings c.encoder (unused_first k.encoder_settings c.encoder k.encoder);
       within = k.blocks_within;
       settings = ap (λ x. x.max_blocked) k.decoder.settings_are;
       waiting = record {

@@ -22,6 +22,7 @@ use Rattle.qpack_ends.specs.declared.encoder.EncoderSettings.{EncoderSettings}
 use Rattle.qpack_ends.specs.declared.encoder.EncodingError.{EncodingError}
 use Rattle.qpack_ends.specs.declared.encoder.EncodingError.TheVariants.{DecoderStream, CapacityTooLarge}
 use Rattle.qpack_ends.specs.declared.encoder.EncodingError.TheVariants.{EntriesHeld, NoStream, Memory}
+use Rattle.qpack_ends.specs.declared.encoder.EncodingError.TheVariants.{MaximumChanged, LimitLowered, MaximumTooLarge}
 use Rattle.qpack_ends.specs.Encoders.{EncodingEnd, begun}
 use Rattle.qpack_ends.specs.Encoders.{told, StopsForMemory, SetsCapacity}
 use Rattle.qpack_ends.specs.Encoders.{WritesSection, WritesAlone, Encodes, ReceivesBytes}
@@ -233,6 +234,9 @@ hear_answers settings old new bytes (Err (DecoderStream x)) k alive l call =
 hear_answers settings old new bytes (Err CapacityTooLarge) k alive l call = absurd call
 hear_answers settings old new bytes (Err EntriesHeld) k alive l call = absurd call
 hear_answers settings old new bytes (Err (NoStream s)) k alive l call = absurd call
+hear_answers settings old new bytes (Err MaximumChanged) k alive l call = absurd call
+hear_answers settings old new bytes (Err LimitLowered) k alive l call = absurd call
+hear_answers settings old new bytes (Err MaximumTooLarge) k alive l call = absurd call
 hear_answers settings old new bytes (Err Memory) k alive l call = absurd call
 
 step_answers : (settings : EncoderSettings) (call : Call) (old new : EncodingEnd) → Stays settings.max_blocked old

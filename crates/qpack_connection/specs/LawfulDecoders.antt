@@ -13,7 +13,7 @@ use Rattle.qpack_spec.specs.Stream.{SpellsAll}
 use Rattle.qpack_spec.specs.Table.{insert_count, with_numbers, with_unacknowledged}
 use Rattle.qpack_ends.specs.declared.encoder.EncoderSettings.{EncoderSettings}
 use Rattle.qpack_ends.specs.declared.encoder.EncodingError.{EncodingError}
-use Rattle.qpack_ends.specs.Encoders.{EncodingEnd, Starts, begun, is_full, Encodes, SetsCapacity, StopsTelling}
+use Rattle.qpack_ends.specs.Encoders.{EncodingEnd, IsUnused, begun, is_full, Encodes, SetsCapacity, StopsTelling}
 use Rattle.qpack_ends.specs.Encoders.{ReceivesBytes}
 use Rattle.qpack_ends.specs.Hearing.{Receives}
 use Rattle.qpack_ends.specs.Risk.{streams_at_risk}
@@ -77,10 +77,10 @@ AllCareful settings [] old new run = Unit {0}
 AllCareful settings (call ∷ calls) old new run =
     Counts call old run.0 × IsCareful settings run.0 × AllCareful settings calls run.0 new run.2
 
--- for all calls from a new encoder on, whatever its peer writes
+-- for all calls from an unused encoder on, whatever its peer writes
 abbrev pub EncodersAreCareful : Type 0
 EncodersAreCareful =
-    (settings : EncoderSettings) (calls : List Call) (first last : EncodingEnd) → Starts settings first
+    (settings : EncoderSettings) (calls : List Call) (first last : EncodingEnd) → IsUnused settings first
     → (run : Run calls first last) → AllCareful settings calls first last run
 
 -- ---- with a lawful peer
@@ -135,8 +135,8 @@ AllAnswer settings [] old new run = Unit {0}
 AllAnswer settings (call ∷ calls) old new run =
     Answers settings call old × (run.0.failure ≡ None) × AllAnswer settings calls run.0 new run.2
 
--- for all calls from a new encoder on, with whatever lawful decoder
+-- for all calls from an unused encoder on, with whatever lawful decoder
 abbrev pub LawfulDecodersAreUnderstood : Type 0
 LawfulDecodersAreUnderstood =
-    (settings : EncoderSettings) (calls : List Call) (first last : EncodingEnd) → Starts settings first
+    (settings : EncoderSettings) (calls : List Call) (first last : EncodingEnd) → IsUnused settings first
     → (run : Run calls first last) → AreLawful calls first last run → AllAnswer settings calls first last run

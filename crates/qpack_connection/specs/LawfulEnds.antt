@@ -19,7 +19,7 @@ use Rattle.qpack_ends.specs.declared.encoder.EncoderSettings.{EncoderSettings}
 use Rattle.qpack_ends.specs.declared.decoder.DecoderSettings.{DecoderSettings}
 use Rattle.qpack_ends.specs.declared.section.Reading.TheVariants as reading
 use Rattle.qpack_ends.specs.Decoders.{DecodingEnd, Begins}
-use Rattle.qpack_ends.specs.Encoders.{EncodingEnd, Starts}
+use Rattle.qpack_ends.specs.Encoders.{EncodingEnd, IsUnused}
 use Rattle.qpack_connection.specs.LawfulDecoders.{Call, Encode, Receive, Sent, Step, Run}
 use Rattle.qpack_connection.specs.LawfulEncoders.{UnderWay, Encoder, IsLawful, IsUnderWay, KeepsToLimit, Decoder}
 use Rattle.qpack_connection.specs.LawfulEncoders as decoding
@@ -162,17 +162,17 @@ AllKeep settings (call ∷ calls) old new run =
     (k : KeepsToTheStandard settings run.0) × WritesSection settings k.instructions k.made call run.0
     × AllKeep settings calls run.0 new run.2
 
--- for all calls from a new encoder on, whatever its peer writes
+-- for all calls from an unused encoder on, whatever its peer writes
 abbrev pub EncodersKeepToTheStandard : Type 0
 EncodersKeepToTheStandard =
-    (settings : EncoderSettings) (calls : List Call) (first last : Writer) → Starts settings first.end
+    (settings : EncoderSettings) (calls : List Call) (first last : Writer) → IsUnused settings first.end
     → first.sent ≡ [] → first.sections ≡ [] → (run : WritesAll calls first last) → AllFit calls first last run
     → KeepsToTheStandard settings first × AllKeep settings calls first last run
 
--- and all calls from a new encoder on are such, with nothing sent and no section waiting at first
+-- and all calls from an unused encoder on are such, with nothing sent and no section waiting at first
 abbrev pub EncodersAreWriters : Type 0
 EncodersAreWriters =
-    (settings : EncoderSettings) (calls : List Call) (first last : EncodingEnd) → Starts settings first
+    (settings : EncoderSettings) (calls : List Call) (first last : EncodingEnd) → IsUnused settings first
     → Run calls first last
     → (w : Writer) × (w.end ≡ last) × WritesAll calls (record { end = first; sent = []; sections = [] }) w
 

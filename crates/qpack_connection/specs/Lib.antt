@@ -25,3 +25,4 @@ pub mod ArrivedSections
 pub mod SettledSections
 pub mod LawfulRows
 pub mod LawfulEnds
+pub mod LateSettings

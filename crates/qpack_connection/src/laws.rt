@@ -3,6 +3,8 @@
 ghost use Rattle.qpack_connection.specs.LawfulDecoders.{EncodersAreCareful, LawfulDecodersAreUnderstood};
 ghost use Rattle.qpack_connection.specs.LawfulEncoders.{LawfulEncodersAreUnderstood};
 ghost use Rattle.qpack_connection.specs.ArrivedSections.{SectionsArrive};
+ghost use Rattle.qpack_connection.specs.LateSettings.{NewEndsAreUnused, EndsWithoutATableStayUnused};
+ghost use Rattle.qpack_connection.specs.LateSettings.{LateSettingsAreAsEarly};
 ghost use Rattle.qpack_connection.specs.LawfulEnds.{EncodersKeepToTheStandard, DecodersWriteWhatTheyMay};
 ghost use Rattle.qpack_connection.specs.LawfulEnds.{EncodersAreWriters, HeardFrontsLeaveTheRest};
 ghost use Rattle.qpack_connection.specs.LawfulRows.{AppendixEncoderIsLawful, AppendixSectionsAreLawful};
@@ -73,6 +75,16 @@ pub fn encoders_are_careful()
 /// that the caller wishes to be inserted is inserted (RFC 9204, sections 2.1, 2.2.2 and 4.4).
 pub fn lawful_decoders_are_understood()
     ensures { LawfulDecodersAreUnderstood }
+{}
+
+/// An encoder may be made before the peer's SETTINGS arrive (RFC 9204, section 3.2.3). A new encoder of maximum 0 is
+/// unused, and stays so after any calls, unless an error ended the connection: it writes nothing on the encoder stream.
+/// [`ConnectionEncoder::set_peer_settings`](crate::ConnectionEncoder::set_peer_settings) then makes an unused encoder of
+/// the peer's settings. The laws of an encoder hold for all calls of an unused one.
+pub fn settings_may_come_late()
+    ensures new { NewEndsAreUnused }
+    ensures before { EndsWithoutATableStayUnused }
+    ensures after { LateSettingsAreAsEarly }
 {}
 
 /// A section is not blocked once the bytes were received that its own end had written by then, also where more was

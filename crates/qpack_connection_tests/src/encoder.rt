@@ -67,6 +67,15 @@ impl Subject for Encoder {
                 let received = self.receive(&words.bytes(alloc)?);
                 push_done(answer, received)
             }
+            "takes-settings" => {
+                let taken = self
+                    .end
+                    .set_peer_settings(words.count()?, words.count()?);
+                if taken.is_ok() {
+                    self.peer = peer_of(alloc, self.end.settings())?;
+                }
+                push_done(answer, taken)
+            }
             "sets" => push_done(answer, self.end.set_capacity(words.count()?)),
             "drops" => {
                 self.end.sent(words.count()?);
@@ -83,6 +92,7 @@ impl Subject for Encoder {
             "encodes 0 | a = \"\"",
             "encodes 4611686018427387904 | n = \"\"",
             "sets 4097",
+            "takes-settings 4096 16",
             "receives 01",
             "receives nothing",
         ]

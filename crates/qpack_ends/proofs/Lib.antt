@@ -14,6 +14,7 @@ pub mod StrictCounts
 pub mod Decoders
 pub mod LimitedSections
 pub mod Encoders
+pub mod BareEnds
 pub mod ReceivedStreams
 pub mod StrictHearing
 pub mod HeardBytes

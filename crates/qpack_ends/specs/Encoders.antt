@@ -17,6 +17,7 @@ use Rattle.qpack_ends.specs.declared.encoder.EncoderSettings.{EncoderSettings}
 use Rattle.qpack_ends.specs.declared.encoder.EncodingError.{EncodingError}
 use Rattle.qpack_ends.specs.declared.encoder.EncodingError.TheVariants.{DecoderStream, CapacityTooLarge}
 use Rattle.qpack_ends.specs.declared.encoder.EncodingError.TheVariants.{EntriesHeld, NoStream, Memory}
+use Rattle.qpack_ends.specs.declared.encoder.EncodingError.TheVariants.{MaximumChanged, LimitLowered, MaximumTooLarge}
 use Rattle.qpack_ends.specs.Risk.{streams_at_risk}
 use Rattle.qpack_ends.specs.Hearing.{StreamView, Receives, ReceivesMore, decoder_stream_error}
 
@@ -49,11 +50,31 @@ pub record Starts (settings : EncoderSettings) (d : EncodingEnd) : Type 0 where
   pub unsent : d.unsent ≡ []
   pub failure : d.failure ≡ None
 
+-- the stream is what some instructions and bytes make of it
+abbrev pub HasReceived : StreamView → Type 0
+HasReceived s = (heard : List DecoderInstruction) × (before : List ℕ) × Receives heard before s
+
+-- the end is as a new one of these settings, except that bytes of the decoder stream may have come
+pub record IsUnused (settings : EncoderSettings) (d : EncodingEnd) : Type 0 where
+  pub capacity_in_range : settings.max_capacity < 2 ^ 30
+  pub settings_are : d.settings ≡ settings
+  pub table : d.table ≡ empty_table 0 (Some settings.max_capacity) 4096
+  pub wanted : d.wanted ≡ first_capacity settings
+  pub stream : HasReceived d.stream
+  pub unsent : d.unsent ≡ []
+  pub failure : d.failure ≡ None
+
 -- ---- errors
 
--- the code of an error that ends the connection; none of one that does not (section 6)
+-- H3_SETTINGS_ERROR (RFC 9114, section 8.1)
+abbrev pub settings_error : ℕ
+settings_error = 0x109
+
+-- the code of an error that ends the connection (section 6, and RFC 9114, section 8.1); none of one that does not
 abbrev pub code_of : EncodingError → Option ℕ
 code_of (DecoderStream e) = Some decoder_stream_error
+code_of MaximumChanged = Some decoder_stream_error
+code_of LimitLowered = Some settings_error
 code_of e = None
 
 -- the error of a capacity that was not set, as an end's
@@ -71,16 +92,61 @@ pub record IsToBeTold (d : EncodingEnd) (capacity : ℕ) : Type 0 where
   pub agreed : d.table.agreed_max ≡ Some d.settings.max_capacity
   pub nothing_live : d.table.live ≡ []
 
--- the stream is what some instructions and bytes make of it
-abbrev pub HasReceived : StreamView → Type 0
-HasReceived s = (heard : List DecoderInstruction) × (before : List ℕ) × Receives heard before s
-
 -- the capacity that is to be told is one that the table takes, the stream was received unless it was refused, and the
 -- connection is ended only by an error that has a code
 pub record IsSound (d : EncodingEnd) : Type 0 where
   pub wanted : IfSome d.wanted (λ capacity. IsToBeTold d capacity)
   pub stream : d.failure ≡ None → HasReceived d.stream
   pub failure : IfSome d.failure (λ e. IsSome (code_of e))
+
+-- where the maximum is 0 the table is as it began: nothing was inserted, and no section waits for an acknowledgment
+abbrev pub IsBareAtZero : EncoderSettings → Table → Type 0
+IsBareAtZero settings t = settings.max_capacity ≡ 0 → t ≡ empty_table 0 (Some 0) 4096
+
+-- ---- the settings of the peer
+
+-- the settings, with what the peer sent
+abbrev pub of_peer : ℕ → ℕ → EncoderSettings → EncoderSettings
+of_peer maximum blocked s = record s { max_capacity = maximum; max_blocked = blocked }
+
+-- why an end with these settings does not take those of the peer, if it does not. The limit of blocked streams is not
+-- lowered (RFC 9114, section 7.2.4.2), and a maximum other than 0 stays (section 3.2.3). A new one is below 2^30
+abbrev pub peer_refusal : EncoderSettings → ℕ → ℕ → Option EncodingError
+peer_refusal s maximum blocked =
+    if nat_lt blocked s.max_blocked then Some LimitLowered
+    else if nat_eq maximum s.max_capacity then None
+    else if nat_lt 0 s.max_capacity then Some MaximumChanged
+    else if nat_lt maximum (2 ^ 30) then None else Some MaximumTooLarge
+
+-- the end with the settings of the peer. If the maximum is new, the table is an empty one of that maximum, whose capacity
+-- is to be told before the first section (section 3.2.3)
+abbrev pub with_peer : ℕ → ℕ → EncodingEnd → EncodingEnd
+with_peer maximum blocked d =
+    if nat_eq maximum d.settings.max_capacity
+    then record d { settings = of_peer maximum blocked d.settings }
+    else
+        record d {
+          settings = of_peer maximum blocked d.settings;
+          table = empty_table 0 (Some maximum) 4096;
+          wanted = first_capacity (of_peer maximum blocked d.settings);
+        }
+
+-- the end with an error, which is kept if it has a code
+abbrev pub kept_if : Option ℕ → EncodingError → EncodingEnd → EncodingEnd
+kept_if None e d = d
+kept_if (Some code) e d = record d { failure = Some e }
+
+abbrev pub refused : EncodingError → EncodingEnd → EncodingEnd
+refused e d = kept_if (code_of e) e d
+
+-- the settings of the peer were taken; or the connection was ended, and nothing changes; or why they were not taken
+abbrev pub TakesPeer : EncodingEnd → EncodingEnd → ℕ → ℕ → Result ⊤ EncodingError → Type 0
+TakesPeer old new maximum blocked (Ok done) =
+    (old.failure ≡ None) × (peer_refusal old.settings maximum blocked ≡ None) × (new ≡ with_peer maximum blocked old)
+TakesPeer old new maximum blocked (Err e) =
+    ((old.failure ≡ Some e) × (new ≡ old))
+    ⊎ ((old.failure ≡ None) × (peer_refusal old.settings maximum blocked ≡ Some e)
+    × (new ≡ refused e old))
 
 -- ---- a capacity
 

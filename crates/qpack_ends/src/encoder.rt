@@ -5,11 +5,12 @@ ghost use Rattle.std.specs.Prelude.{◌≡◌, ◌<◌, ◌≤◌, ◌^◌, None
 ghost use Rattle.std.specs.Prelude.{Err, OnOk, OnErr, IsSome, false, true, map, ◌+◌, ◌⊎◌, ◌++◌, vec_len, vec_capacity};
 ghost use Rattle.qpack_spec.specs.Field.{fields_of_lines};
 ghost use Rattle.qpack_spec.specs.Instruction.{DecoderInstruction};
-ghost use Rattle.qpack_spec.specs.Table.{empty_table};
+ghost use Rattle.qpack_spec.specs.Table.{empty_table, insert_count};
 ghost use Rattle.qpack_ends.specs.Hearing.{Receives};
 ghost use Rattle.qpack_ends.specs.Encoders.{Starts, first_capacity, code_of, capacity_failure, SetsCapacity};
 ghost use Rattle.qpack_ends.specs.Encoders.{TellsCapacity, Begins, ReceivesBytes, Checks, is_full, written_alone};
 ghost use Rattle.qpack_ends.specs.Encoders.{Encodes, begun, may_block, AsksToEncode, HasNoRoomAlone};
+ghost use Rattle.qpack_ends.specs.Encoders.{TakesPeer, peer_refusal, refused};
 ghost use Rattle.qpack_ends.specs.Risk.{streams_at_risk, with_limit, limit_for};
 ghost use Rattle.qpack_ends.specs.declared.choosing.Chooser.{Chooser as State};
 ghost use Rattle.qpack_ends.specs.Wishes.{by_wish};
@@ -45,6 +46,9 @@ pub const DEFAULT_UNACKNOWLEDGED: usize = 100;
 /// How many sections the table counts that may be blocked, cancelled ones among them.
 const MOST_BLOCKED: usize = 4_096;
 
+/// The least maximum capacity that is refused, in bytes.
+const CAPACITIES: usize = 1 << 30;
+
 /// What the peer sent as its settings (RFC 9204, section 5), and what this end wants of its table.
 #[derive(Clone, Copy, Debug, PartialEq, Eq, Drop)]
 pub struct EncoderSettings {
@@ -79,6 +83,25 @@ impl EncoderSettings {
         }
     }
 
+    /// Returns why an encoder with these settings does not take those of the peer, if it does not.
+    fn peer_refusal(&self, max_capacity: usize, max_blocked: usize) -> Option<EncodingError>
+        ensures { result ≡ peer_refusal self.now max_capacity max_blocked }
+    {
+        if max_blocked < self.max_blocked {
+            return Some(EncodingError::LimitLowered);
+        }
+        if max_capacity == self.max_capacity {
+            return None;
+        }
+        if self.max_capacity > 0 {
+            return Some(EncodingError::MaximumChanged);
+        }
+        if max_capacity >= CAPACITIES {
+            return Some(EncodingError::MaximumTooLarge);
+        }
+        None
+    }
+
     /// The capacity that is to be told before the first section; none of 0, which a table has from the start.
     fn first_capacity(&self) -> Option<usize>
         ensures { result ≡ first_capacity self.now }
@@ -107,20 +130,37 @@ pub enum EncodingError {
     /// No stream has this number, which is 2^62 or more; nothing was done.
     #[error("no stream has the number {0}")]
     NoStream(u64),
+    /// The peer's SETTINGS have another maximum capacity than the one that this end was made with, which is not 0. This
+    /// ends the connection (RFC 9204, section 3.2.3).
+    #[error("the peer changed its maximum capacity")]
+    MaximumChanged,
+    /// The peer's SETTINGS lower the limit of blocked streams. This ends the connection (RFC 9114, section 7.2.4.2).
+    #[error("the peer lowered its limit of blocked streams")]
+    LimitLowered,
+    /// The peer's maximum capacity is 2^30 bytes or more; nothing was done.
+    #[error("maximum capacity of the peer too large")]
+    MaximumTooLarge,
     /// No memory was left; the call can be made again.
     #[error("out of memory")]
     Memory,
 }
 
+/// H3_SETTINGS_ERROR (RFC 9114, section 8.1).
+pub const SETTINGS_ERROR: u64 = 0x109;
+
 impl EncodingError {
-    /// The code of the error that ends the connection (RFC 9204, section 6); none of what does not end it: a capacity
-    /// that can't be set, a number that no stream has, and want of memory.
+    /// The code of the error that ends the connection (RFC 9204, section 6, and RFC 9114, section 8.1). There is none if
+    /// the connection goes on.
     pub fn code(&self) -> Option<u64>
         ensures { result ≡ code_of self.now }
     {
         match self {
-            EncodingError::DecoderStream(_) => Some(DECODER_STREAM_ERROR),
+            EncodingError::DecoderStream(_) | EncodingError::MaximumChanged => {
+                Some(DECODER_STREAM_ERROR)
+            }
+            EncodingError::LimitLowered => Some(SETTINGS_ERROR),
             EncodingError::CapacityTooLarge
+            | EncodingError::MaximumTooLarge
             | EncodingError::EntriesHeld
             | EncodingError::NoStream(_)
             | EncodingError::Memory => None,
@@ -161,7 +201,7 @@ pub struct ConnectionEncoder {
 }
 
 impl Model for ConnectionEncoder {
-    ghost use Rattle.qpack_ends.specs.Encoders.{EncodingEnd, IsSound};
+    ghost use Rattle.qpack_ends.specs.Encoders.{EncodingEnd, IsSound, IsBareAtZero};
     ghost use Rattle.qpack_ends.specs.Risk.{TracksRisk};
 
     ghost Value = { EncodingEnd };
@@ -182,7 +222,7 @@ impl Model for ConnectionEncoder {
       stream = d.stream;
       unsent = d.unsent.bytes;
       failure = d.failure;
-    }) × TracksRisk d.at_risk.streams.items d.table.table };
+    }) × TracksRisk d.at_risk.streams.items d.table.table × IsBareAtZero d.settings d.table.table };
 }
 
 impl ConnectionEncoder {
@@ -265,6 +305,44 @@ impl ConnectionEncoder {
         ensures { self.new ≡ record self.old { unsent = drop many self.old.unsent } }
     {
         self.unsent.sent(many);
+    }
+
+    /// Applies the settings that the peer sent: its SETTINGS_QPACK_MAX_TABLE_CAPACITY in bytes, and its
+    /// SETTINGS_QPACK_BLOCKED_STREAMS, 0 for one that is missing. Call this when the peer's SETTINGS arrive at an encoder
+    /// that was made before: with a maximum and a limit of 0, or with the settings remembered for 0-RTT (RFC 9204,
+    /// section 3.2.3).
+    ///
+    /// Up to then an encoder of maximum 0 writes sections without references, which any peer can decode, and writes
+    /// nothing on its encoder stream. Afterwards it is as one that was made with the peer's settings. Takes no memory.
+    ///
+    /// # Errors
+    ///
+    /// In this order: the error that ended the connection, if one did; `LimitLowered` for a limit of blocked streams
+    /// below the one that this end has; `MaximumChanged` for another maximum, where this end has one above 0. The last
+    /// two end the connection. `MaximumTooLarge` is of a new maximum of 2^30 bytes or more: nothing changes, and the
+    /// encoder goes on without a table.
+    pub fn set_peer_settings(
+        &mut self,
+        max_capacity: usize,
+        max_blocked: usize,
+    ) -> Result<(), EncodingError>
+        ensures { TakesPeer self.old self.new max_capacity max_blocked result }
+    {
+        if let Some(failure) = self.failure {
+            return Err(failure);
+        }
+        if let Some(error) = self.settings.peer_refusal(max_capacity, max_blocked) {
+            return Err(self.refuse(error));
+        }
+        if max_capacity == self.settings.max_capacity {
+            self.settings.max_blocked = max_blocked;
+            return Ok(());
+        }
+        agree_on(&mut self.table.table, max_capacity);
+        self.settings.max_capacity = max_capacity;
+        self.settings.max_blocked = max_blocked;
+        self.wanted = self.settings.first_capacity();
+        Ok(())
     }
 
     /// Sets the capacity of the table in bytes, and writes the instruction that tells it (RFC 9204, sections 3.2.3 and
@@ -386,6 +464,17 @@ impl ConnectionEncoder {
                 Err(failure)
             }
         }
+    }
+
+    /// Returns an error, which is kept if it ends the connection.
+    fn refuse(&mut self, error: EncodingError) -> EncodingError
+        ensures is { result ≡ error }
+        ensures ends { self.new ≡ refused error self.old }
+    {
+        if error.code().is_some() {
+            self.failure = Some(error);
+        }
+        error
     }
 
     /// Whether a call for a stream can be answered.
@@ -523,6 +612,19 @@ fn limit_blocked(table: &mut DynamicTable, limit: usize)
     ensures { table.new ≡ record table.old { limit = limit } }
 {
     match table.set_max_blocked(limit) {
+        Ok(()) => {}
+        Err(_) => unreachable!(),
+    }
+}
+
+/// Agrees on a maximum capacity, before anything is inserted.
+fn agree_on(table: &mut DynamicTable, maximum: usize)
+    requires small { maximum < 2 ^ 30 }
+    requires empty { insert_count table.old ≡ 0 }
+    requires none { table.old.capacity ≡ 0 }
+    ensures { table.new ≡ record table.old { agreed_max = Some maximum } }
+{
+    match table.set_agreed_max(maximum) {
         Ok(()) => {}
         Err(_) => unreachable!(),
     }

@@ -42,7 +42,7 @@ pub use decoder::{ConnectionDecoder, DecoderSettings, Reading};
 pub use encoder::{ConnectionEncoder, EncoderSettings};
 pub use entries::Entries;
 pub use error::{
-    DecodingError, EncodingError, NoMemory, Place, SettingsError, QPACK_DECODER_STREAM_ERROR,
+    DecodingError, EncodingError, NoMemory, Place, SettingsError, H3_SETTINGS_ERROR, QPACK_DECODER_STREAM_ERROR,
     QPACK_DECOMPRESSION_FAILED, QPACK_ENCODER_STREAM_ERROR,
 };
 

@@ -158,6 +158,7 @@ extern "C" {
     fn h3q_encoder_stream(encoder: *mut Handle, out: *mut u8, out_len: usize) -> usize;
     fn h3q_encoder_stream_len(encoder: *mut Handle) -> usize;
     fn h3q_encoder_read(encoder: *mut Handle, bytes: *const u8, bytes_len: usize) -> Received;
+    fn h3q_encoder_set_peer_settings(encoder: *mut Handle, max_capacity: usize, max_blocked: usize) -> i32;
     fn h3q_encoder_set_capacity(encoder: *mut Handle, capacity: usize) -> i32;
     fn h3q_encoder_blocked(encoder: *mut Handle) -> usize;
     fn h3q_encoder_unacknowledged(encoder: *mut Handle) -> usize;
@@ -341,6 +342,12 @@ impl Encoder {
     pub(crate) fn read(&mut self, bytes: &[u8]) -> Received {
         // SAFETY: the end is one that `new` made, and the bytes are lent for the length of the call.
         unsafe { h3q_encoder_read(self.handle.get_mut(), bytes.as_ptr(), bytes.len()) }
+    }
+
+    /// Applies the settings of the peer, and returns a status.
+    pub(crate) fn set_peer_settings(&mut self, max_capacity: usize, max_blocked: usize) -> i32 {
+        // SAFETY: the end is one that `new` made.
+        unsafe { h3q_encoder_set_peer_settings(self.handle.get_mut(), max_capacity, max_blocked) }
     }
 
     /// Sets the capacity, and answers a status.

@@ -54,6 +54,30 @@ fn an_encoder_is_over_behind_its_decoder_stream() {
     assert_eq!((encoder.set_capacity(0), section), (Err(over), vec![7]));
 }
 
+#[test]
+fn settings_of_the_peer_come_late() {
+    let mut encoder = ConnectionEncoder::new(EncoderSettings::new(0, 0)).unwrap();
+    let mut section = Vec::new();
+    assert_eq!(encoder.encode(0, [("foo", "bar")], &mut section), Ok(0));
+    assert_eq!(encoder.encoder_stream_len(), 0);
+    let error = encoder.set_peer_settings(1 << 30, 16).unwrap_err();
+    assert_eq!((error, error.code()), (EncodingError::MaximumTooLarge, None));
+    assert_eq!(encoder.set_peer_settings(4096, 16), Ok(()));
+    assert_eq!(encoder.encode(4, [("foo", "bar")], &mut section), Ok(1));
+    assert_eq!(encoder.capacity(), 4096);
+    let lowered = EncodingError::LimitLowered;
+    assert_eq!(encoder.set_peer_settings(4096, 15), Err(lowered));
+    assert_eq!((lowered.code(), encoder.set_capacity(0)), (Some(0x109), Err(lowered)));
+}
+
+#[test]
+fn a_peer_changes_a_maximum_that_was_remembered() {
+    let mut encoder = encoder();
+    let over = EncodingError::DecoderStream { instruction: None };
+    assert_eq!(encoder.set_peer_settings(0, 1), Err(over));
+    assert_eq!((over.code(), encoder.set_capacity(0)), (Some(0x202), Err(over)));
+}
+
 fn told(stream: &str, place: &str) -> String {
     format!("the {stream} stream is refused at instruction {place}")
 }

@@ -149,6 +149,34 @@ impl ConnectionEncoder {
         }
     }
 
+    /// Applies the peer's SETTINGS to an encoder that was made before they arrived: its SETTINGS_QPACK_MAX_TABLE_CAPACITY
+    /// in bytes, and its SETTINGS_QPACK_BLOCKED_STREAMS, 0 for one that is missing (RFC 9204, section 3.2.3).
+    ///
+    /// Make such an encoder with 0 for both, or for 0-RTT with the settings that were remembered. Until this call an
+    /// encoder of maximum 0 writes sections that any peer can decode, and nothing on the encoder stream. Afterwards it is
+    /// as if made with the peer's settings.
+    ///
+    /// # Errors
+    /// - [`EncodingError::MaximumTooLarge`] if the maximum is new, and 2^30 or more. Nothing changes: pass 0 instead.
+    /// - [`EncodingError::DecoderStream`] if the encoder has another maximum, above 0. Close the connection.
+    /// - [`EncodingError::LimitLowered`] if the encoder has a greater limit of blocked streams. Close the connection.
+    /// - An earlier error after which the encoder is unusable.
+    ///
+    /// ```
+    /// # use h3_qpack::connection::{ConnectionEncoder, EncoderSettings};
+    /// let mut encoder = ConnectionEncoder::new(EncoderSettings::new(0, 0))?;
+    /// assert_eq!(encoder.encode(0, [("foo", "bar")], &mut Vec::new())?, 0); // before the peer's SETTINGS
+    /// encoder.set_peer_settings(4096, 16)?;
+    /// assert_eq!(encoder.encode(4, [("foo", "bar")], &mut Vec::new())?, 1); // references an insertion
+    /// # Ok::<(), Box<dyn std::error::Error>>(())
+    /// ```
+    pub fn set_peer_settings(&mut self, max_capacity: usize, max_blocked: usize) -> Result<(), EncodingError> {
+        match self.end.set_peer_settings(max_capacity, max_blocked) {
+            sys::OK => Ok(()),
+            status => Err(EncodingError::of(status, EncodingError::MaximumTooLarge, None)),
+        }
+    }
+
     /// Sets the capacity of the table, in bytes, at most the peer's maximum (RFC 9204, section 4.3.1).
     ///
     /// # Errors

@@ -9,6 +9,8 @@ pub const QPACK_DECOMPRESSION_FAILED: u64 = 0x200;
 pub const QPACK_ENCODER_STREAM_ERROR: u64 = 0x201;
 /// The encoder failed to interpret the decoder stream (RFC 9204, section 6).
 pub const QPACK_DECODER_STREAM_ERROR: u64 = 0x202;
+/// The peer's SETTINGS are not allowed (RFC 9114, section 8.1).
+pub const H3_SETTINGS_ERROR: u64 = 0x109;
 
 /// Where a line of a section, or an instruction of a stream, was refused.
 #[derive(Debug, Clone, Copy, PartialEq, Eq)]
@@ -87,12 +89,17 @@ impl std::error::Error for SettingsError {}
 #[derive(Debug, Clone, Copy, PartialEq, Eq)]
 #[non_exhaustive]
 pub enum EncodingError {
-    /// The decoder stream can't be interpreted (RFC 9204, section 4.4). Close the connection: the encoder is unusable, and
-    /// each later call returns this error.
+    /// The decoder stream can't be interpreted (RFC 9204, section 4.4), or the peer changed a maximum capacity that is not
+    /// 0 (section 3.2.3). Close the connection: the encoder is unusable, and each later call returns this error.
     DecoderStream {
         /// The place of the invalid instruction on the stream. `None` in an error of a call that does not read it.
         instruction: Option<Place>,
     },
+    /// The peer's SETTINGS lower its limit of blocked streams (RFC 9114, section 7.2.4.2). Close the connection: the
+    /// encoder is unusable, and each later call returns this error.
+    LimitLowered,
+    /// The peer's maximum capacity is new, and 2^30 or more; nothing was done. Pass 0 instead.
+    MaximumTooLarge,
     /// The number of the stream is 2^62 or more; nothing was done.
     StreamId,
     /// The capacity is above the peer's maximum; nothing was done.
@@ -106,10 +113,12 @@ pub enum EncodingError {
 }
 
 impl EncodingError {
-    /// The code of RFC 9204, section 6, to close the connection with; `None` where the encoder can go on.
+    /// Returns the code to close the connection with (RFC 9204, section 6, and RFC 9114, section 8.1). `None` if the
+    /// encoder can go on.
     pub fn code(&self) -> Option<u64> {
         match self {
             EncodingError::DecoderStream { .. } => Some(QPACK_DECODER_STREAM_ERROR),
+            EncodingError::LimitLowered => Some(H3_SETTINGS_ERROR),
             _ => None,
         }
     }
@@ -118,6 +127,7 @@ impl EncodingError {
     pub(crate) fn of(status: i32, invalid: EncodingError, instruction: Option<Place>) -> EncodingError {
         match status {
             DECODER_STREAM_ERROR => EncodingError::DecoderStream { instruction },
+            SETTINGS_ERROR => EncodingError::LimitLowered,
             sys::INVALID => invalid,
             sys::HELD => EncodingError::EntriesHeld,
             sys::NO_MEMORY => EncodingError::NoMemory,
@@ -133,6 +143,8 @@ impl fmt::Display for EncodingError {
             EncodingError::DecoderStream { instruction: Some(place) } => {
                 write!(f, "the decoder stream is refused at instruction {place}")
             }
+            EncodingError::LimitLowered => f.write_str("the peer lowered its limit of blocked streams"),
+            EncodingError::MaximumTooLarge => f.write_str("the peer's maximum capacity is 2^30 or more"),
             EncodingError::StreamId => f.write_str("no stream has that number"),
             EncodingError::CapacityTooLarge => f.write_str("the capacity is above the peer's maximum"),
             EncodingError::EntriesHeld => f.write_str("entries may still be referenced"),
@@ -236,3 +248,4 @@ impl From<NoMemory> for DecodingError {
 pub(crate) const DECOMPRESSION_FAILED: i32 = QPACK_DECOMPRESSION_FAILED as i32;
 const ENCODER_STREAM_ERROR: i32 = QPACK_ENCODER_STREAM_ERROR as i32;
 const DECODER_STREAM_ERROR: i32 = QPACK_DECODER_STREAM_ERROR as i32;
+const SETTINGS_ERROR: i32 = H3_SETTINGS_ERROR as i32;

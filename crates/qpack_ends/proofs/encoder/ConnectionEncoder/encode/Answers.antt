@@ -11,6 +11,7 @@ use Rattle.qpack_ends.specs.declared.encoder.EncodingError.{EncodingError}
 use Rattle.qpack_ends.specs.Encoders.{EncodingEnd, begun, is_full, may_block, with_section, Encodes, HasNoRoomAlone}
 use Rattle.qpack_ends.specs.Risk.{TracksRisk}
 use Rattle.qpack_ends.specs.Wishes.{KeepsWishes, limited, EncodesAsWished}
+use Rattle.qpack_ends.proofs.BareEnds.{encoded_bare, given_up_bare}
 use Rattle.qpack_ends.proofs.NoFields.{no_field, without_named, nothing_encoded, nothing_wished, alone_asks}
 use Rattle.qpack_ends.proofs.LimitedSections.{begun_wants, sound_with, tracks_put, tracks_known, tracks_given_up}
 use Rattle.qpack_ends.proofs.LimitedSections.{written_known, where_done, may_be}
@@ -36,6 +37,8 @@ invariant_of-self-in_err-required g c =
     subst (λ (l : List BlockedStream). TracksRisk l d.table) (sym c.make_room.ensures.same) c.self.invariant.1 in (
       sound_with d u c.write_section.new.unsent.bytes none c.self.invariant.0,
       tracks_given_up kept lines d.table u d.unsent c.write_section.new.unsent.bytes c.in_err-required.ensures.err tracks,
+      λ zero. (given_up_bare lines d.table u d.unsent c.write_section.new.unsent.bytes c.in_err-required.ensures.err
+          (c.self.invariant.2 zero)).0,
     )
 
 pub invariant_of-self-then-required-known_received_count : goal.invariant_of-self-then-required-known_received_count
@@ -64,6 +67,8 @@ invariant_of-self-then-required-known_received_count g c =
           d.unsent c.write_section.new.unsent.bytes c.in_ok-required.required written
           (omega (arith, c.if-required-known_received_count.true, c.known_received_count.ensures, same))
           c.in_ok-required.ensures.small tracks),
+      λ zero. (encoded_bare c.args.stream lines d.table u c.args.section.now.items c.write_section.new.section.items
+          d.unsent c.write_section.new.unsent.bytes c.in_ok-required.required written (c.self.invariant.2 zero)).0,
     )
 
 pub invariant_of-self-else-required-known_received_count : goal.invariant_of-self-else-required-known_received_count
@@ -90,6 +95,8 @@ invariant_of-self-else-required-known_received_count g c =
       tracks_known kept c.args.stream lines d.table u c.args.section.now.items c.write_section.new.section.items d.unsent
           c.write_section.new.unsent.bytes c.in_ok-required.required written
           (omega (arith, c.if-required-known_received_count.false, c.known_received_count.ensures, same)) tracks,
+      λ zero. (encoded_bare c.args.stream lines d.table u c.args.section.now.items c.write_section.new.section.items
+          d.unsent c.write_section.new.unsent.bytes c.in_ok-required.required written (c.self.invariant.2 zero)).0,
     )
 
 pub returns-then-required-known_received_count-clause-wishes :
@@ -174,6 +181,9 @@ invariant_of-self g c =
       sound_with d u d.unsent none c.self.invariant.0,
       tracks_given_up c.self.inside.at_risk.streams.items [] d.table u d.unsent d.unsent
           (gives_up_chosen_alone [] (Err codec.Memory) d.table u d.unsent c.give_up.ensures) c.self.invariant.1,
+      λ zero. (given_up_bare [] d.table u d.unsent d.unsent
+          (gives_up_chosen_alone [] (Err codec.Memory) d.table u d.unsent c.give_up.ensures)
+          (c.self.invariant.2 zero)).0,
     )
 
 pub returns-then-is_full-clause-memory : goal.returns-then-is_full-clause-memory

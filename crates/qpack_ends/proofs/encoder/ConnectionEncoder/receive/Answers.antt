@@ -3,6 +3,7 @@ use Rattle.std.specs.Prelude.{⊤}
 use Rattle.qpack_ends.specs.Encoders.{EncodingEnd}
 use Rattle.qpack_ends.specs.Hearing.{Receives, ReceivesMore}
 use Rattle.qpack_ends.specs.declared.hearing.DecoderStreamError.{DecoderStreamError}
+use Rattle.qpack_ends.proofs.BareEnds.{received_bare, refused_bare}
 use Rattle.qpack_ends.proofs.Encoders.{received_sound, refused_sound, received_tracks, refused_tracks, HearsAll}
 use Rattle.qpack_ends.proofs.encoder.ConnectionEncoder.receive.Goals as goal
 
@@ -25,6 +26,7 @@ invariant_of-self c =
       received_sound d t s bytes c.self.invariant.0 c.in_default.is hears,
       received_tracks d t s bytes c.self.inside.at_risk.streams.items c.keep_open.new.self.streams.items
           c.self.invariant.0 c.in_default.is hears c.keep_open.ensures c.self.invariant.1,
+      λ zero. received_bare d t s bytes c.self.invariant.0 c.in_default.is hears (c.self.invariant.2 zero),
     )
 
 pub invariant_of-self-in-Err : goal.invariant_of-self-in-Err
@@ -47,6 +49,8 @@ invariant_of-self-in-Err c =
       refused_tracks d t s bytes c.in-Err.error c.self.inside.at_risk.streams.items
           c.keep_open.new.self.streams.items c.self.invariant.0 c.in_default.is hears c.keep_open.ensures
           c.self.invariant.1,
+      λ zero. refused_bare d t s bytes c.in-Err.error c.self.invariant.0 c.in_default.is hears
+          (c.self.invariant.2 zero),
     )
 
 pub returns-in-Err-clause-receives : goal.returns-in-Err-clause-receives

@@ -1,5 +1,6 @@
 use Rattle.std.proofs.Common.{refl}
 use Rattle.qpack_ends.proofs.Encoders.{not_told}
+use Rattle.qpack_ends.proofs.BareEnds.{sized_bare}
 use Rattle.qpack_ends.proofs.LimitedSections.{tracks_capacity}
 use Rattle.qpack_ends.proofs.encoder.ConnectionEncoder.tell.Goals as goal
 
@@ -8,6 +9,8 @@ invariant_of-self c = (
   record { wanted = tt; stream = c.self.invariant.0.stream; failure = c.self.invariant.0.failure },
   tracks_capacity c.self.inside.at_risk.streams.items c.self.inside.table.table c.set_capacity.new.table
       c.args.capacity c.in-Ok.ensures.sets.0 c.self.invariant.1,
+  λ zero. (sized_bare c.self.inside.table.table c.set_capacity.new.table c.args.capacity c.in-Ok.ensures.sets.0
+      (c.self.invariant.2 zero)).1,
 )
 
 pub returns-in-Err : goal.returns-in-Err
