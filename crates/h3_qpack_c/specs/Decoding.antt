@@ -12,6 +12,7 @@ use Rattle.qpack_ends.specs.declared.section.Reading.{Reading}
 use Rattle.qpack_ends.specs.declared.section.Reading.TheVariants.{Fields, Blocked}
 use Rattle.qpack_ends.specs.declared.decoder.DecoderSettings.{DecoderSettings}
 use Rattle.qpack_ends.specs.Decoders.{Begins, Decodes, Cancels, ReceivesBytes, AsksToDecode}
+use Rattle.qpack_ends.specs.FieldSections.{IsRoomWithin}
 use Rattle.qpack_ends.specs.Receiving.{Receives}
 use Rattle.h3_qpack_c.specs.declared.answers.Decoding.{Decoding}
 use Rattle.h3_qpack_c.specs.declared.answers.Received.{Received}
@@ -25,7 +26,7 @@ InRange max_capacity max_blocked = (max_capacity < 2 ^ 30) × (max_blocked < 655
 
 -- an end at which nothing happened yet, and no field
 abbrev pub IsNew : DecoderSettings → State → Type 0
-IsNew settings s = Begins settings s.end × (s.fields ≡ [])
+IsNew settings s = Begins settings s.end × (s.fields ≡ record { fields = []; text_room = 0; fields_room = 0 })
 
 -- such an end is kept
 abbrev pub KeepsNew : DecoderSettings → Option State → Type 0
@@ -59,13 +60,15 @@ told_of_decoding (Ok (Blocked required)) fields =
     record { status = blocked; fields = 0; len = 0; required = required; number = 0; offset = 0 }
 told_of_decoding (Err e) fields = told_of_refusal e
 
--- a section is decoded as the end does it, and its fields are kept; where there are none, none are
+-- a section is decoded as the end does it, and its fields are kept; where there are none, none are. Memory is kept for no
+-- more fields than before, or than a section within the limit can have
 pub record DecodesTo (old new : State) (stream : ℕ) (bytes : List ℕ) (told : Decoding) : Type 0 where
   pub answer : Result Reading DecodingError
   pub decodes : Decodes old.end new.end stream
-      (strict_reading (window old.end.table) old.end.settings.max_section_size bytes) new.fields answer
+      (strict_reading (window old.end.table) old.end.settings.max_section_size bytes) new.fields.fields answer
   pub memory : answer ≡ Err Memory → AsksToDecode old.end stream bytes
-  pub told_is : told ≡ told_of_decoding answer new.fields
+  pub room : IsRoomWithin old.end.settings.max_section_size old.fields new.fields
+  pub told_is : told ≡ told_of_decoding answer new.fields.fields
 
 -- what is told of bytes of the encoder stream, of which so many were taken
 abbrev pub told_of_receiving : Result ℕ DecodingError → ℕ → Received

@@ -186,7 +186,7 @@ fn refused(error: &DecodingError) -> Decoding
 #[unsafe(no_mangle)]
 pub extern "C" fn h3q_decoder_field(handle: &mut Handle, index: usize, out: &mut [u8]) -> Given
     ensures same { handle.new.value ≡ handle.old.value }
-    ensures gives { Gives (slice_get handle.old.value.fields index) out.old out.new result }
+    ensures gives { Gives (slice_get handle.old.value.fields.fields index) out.old out.new result }
 {
     let state = state(handle);
     let answer = match state.fields.get(index) {
@@ -205,7 +205,7 @@ pub extern "C" fn h3q_decoder_fields(
     out: &mut [u8],
 ) -> Written
     ensures same { handle.new.value ≡ handle.old.value }
-    ensures gives { GivesAll handle.old.value.fields told.old told.new out.old out.new result }
+    ensures gives { GivesAll handle.old.value.fields.fields told.old told.new out.old out.new result }
 {
     let state = state(handle);
     let answer = give_all(&state.fields, told, out);

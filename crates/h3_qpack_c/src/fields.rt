@@ -136,7 +136,7 @@ fn told_of(field: &FieldLine) -> Given
 /// Copies the fields of a section to a caller's memory, if there is room for what is told of each, and for their names
 /// and values one behind the other. It answers how many bytes these have, at most 2^64 - 1.
 pub(crate) fn give_all(section: &FieldSection, told: &mut [Given], out: &mut [u8]) -> Written
-    ensures { GivesAll section.now told.old told.new out.old out.new result }
+    ensures { GivesAll section.now.fields told.old told.new out.old out.new result }
 {
     let len = text_len(section);
     if section.len() > told.len() || len > out.len() {
@@ -162,7 +162,7 @@ pub(crate) fn list_size(fields: &[Field]) -> usize
 
 /// How many bytes the names and values have, at most 2^64 - 1.
 pub(crate) fn text_len(section: &FieldSection) -> usize
-    ensures { result ≡ crossing.text_len section.now }
+    ensures { result ≡ crossing.text_len section.now.fields }
 {
     let mut len = 0usize;
     for index in 0..section.len() {
@@ -177,10 +177,10 @@ pub(crate) fn text_len(section: &FieldSection) -> usize
 
 /// Copies the fields of a section to memory that has room for them.
 fn put_all(section: &FieldSection, told: &mut [Given], out: &mut [u8])
-    requires places { length section.now ≤ length told.old }
-    requires text { length (text_of section.now) ≤ length out.old }
-    ensures told { told.new ≡ written_over (map told_of_field section.now) told.old }
-    ensures text { out.new ≡ written_over (text_of section.now) out.old }
+    requires places { length section.now.fields ≤ length told.old }
+    requires text { length (text_of section.now.fields) ≤ length out.old }
+    ensures told { told.new ≡ written_over (map told_of_field section.now.fields) told.old }
+    ensures text { out.new ≡ written_over (text_of section.now.fields) out.old }
 {
     let mut at = 0;
     for index in 0..section.len() {

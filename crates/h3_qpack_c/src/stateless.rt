@@ -70,7 +70,7 @@ fn tell(
     told: &mut [Given],
     out: &mut [u8],
 ) -> DecodedAlone
-    ensures { GivesAlone answer.now fields.now told.old told.new out.old out.new result }
+    ensures { GivesAlone answer.now fields.now.fields told.old told.new out.old out.new result }
 {
     match answer {
         Ok(Reading::Fields { .. }) => {

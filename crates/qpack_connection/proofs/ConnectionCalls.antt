@@ -20,6 +20,7 @@ use Rattle.qpack_connection.specs.declared.connection.Outcome.TheVariants as out
 use Rattle.qpack_connection.specs.declared.connection.Skip.{Skip}
 use Rattle.qpack_connection.specs.declared.connection.Skip.TheVariants.{StreamCancelled}
 use Rattle.qpack_connection.specs.declared.connection.fields.OwnedFieldLine.{OwnedFieldLine}
+use Rattle.qpack_ends.specs.FieldSections.{SectionView}
 use Rattle.qpack_ends.specs.declared.decoder.DecodingError.{DecodingError}
 use Rattle.qpack_ends.specs.declared.decoder.DecodingError.TheVariants as decoding
 use Rattle.qpack_ends.specs.declared.encoder.EncodingError.{EncodingError}
@@ -379,19 +380,19 @@ module _ (e : EncodingEnd) (d d' : DecodingEnd) (er dr : ℕ) (ps qs : List (ℕ
   live_of true o h = absurd cc
   live_of false o h = refl
 
-  decode_makes : (s : ℕ) (bytes : List ℕ) (fields : List FieldLine) (answer : Result Reading DecodingError)
+  decode_makes : (s : ℕ) (bytes : List ℕ) (shown : SectionView) (answer : Result Reading DecodingError)
       → HasBytes (oldest_undecoded (stream_at ps s)) bytes → decode_skip (stream_at ps s) ≡ None
-      → Decodes d d' s (strict_reading (window d.table) d.settings.max_section_size bytes) fields answer
+      → Decodes d d' s (strict_reading (window d.table) d.settings.max_section_size bytes) shown.fields answer
       → (answer ≡ Err decoding.Memory → AsksToDecode d s bytes) → Reads s answer
       → Goes (connection_of e d er dr ps) (connection_of e d' er dr qs) (event.Decode s)
-      (outcome.Decoded answer fields)
-  decode_makes s bytes fields answer has live call memory reads =
+      (outcome.Decoded answer shown)
+  decode_makes s bytes shown answer has live call memory reads =
       let f = found_section (oldest_undecoded (stream_at ps s)) bytes has in
       let k = f.0 in
       let called = subst (λ (b : List ℕ). Decodes d d' s
-      (strict_reading (window d.table) d.settings.max_section_size b) fields answer) f.2 call in
+      (strict_reading (window d.table) d.settings.max_section_size b) shown.fields answer) f.2 call in
       let framed = decoder.decode_framed d d' s
-      (strict_reading (window d.table) d.settings.max_section_size k.bytes) fields answer called in (
+      (strict_reading (window d.table) d.settings.max_section_size k.bytes) shown.fields answer called in (
         live,
         record {
           next = with_reading s answer
@@ -410,15 +411,15 @@ module _ (e : EncodingEnd) (d d' : DecodingEnd) (er dr : ℕ) (ps qs : List (ℕ
         },
       )
 
-  pub decode_goes : (now : Connection) (s : ℕ) (bytes : List ℕ) (fields : List FieldLine)
+  pub decode_goes : (now : Connection) (s : ℕ) (bytes : List ℕ) (shown : SectionView)
       (answer : Result Reading DecodingError) → connection_of e d er dr ps ≡ now
       → HasBytes (oldest_undecoded (stream_at ps s)) bytes → decode_skip (stream_at ps s) ≡ None
-      → Decodes d d' s (strict_reading (window d.table) d.settings.max_section_size bytes) fields answer
+      → Decodes d d' s (strict_reading (window d.table) d.settings.max_section_size bytes) shown.fields answer
       → (answer ≡ Err decoding.Memory → AsksToDecode d s bytes) → Reads s answer
-      → Goes now (connection_of e d' er dr qs) (event.Decode s) (outcome.Decoded answer fields)
-  decode_goes now s bytes fields answer same has live call memory reads =
+      → Goes now (connection_of e d' er dr qs) (event.Decode s) (outcome.Decoded answer shown)
+  decode_goes now s bytes shown answer same has live call memory reads =
       goes_from (connection_of e d er dr ps) now (connection_of e d' er dr qs) (event.Decode s)
-      (outcome.Decoded answer fields) same (decode_makes s bytes fields answer has live call memory reads)
+      (outcome.Decoded answer shown) same (decode_makes s bytes shown answer has live call memory reads)
 
   -- the streams behind one that is cancelled
   abbrev pub Gives : ℕ → Result ⊤ DecodingError → Type 0

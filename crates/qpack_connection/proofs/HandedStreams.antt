@@ -7,6 +7,7 @@ use Rattle.std.specs.Option.{is_some}
 use Rattle.std.specs.Prelude.{nat_eq, slice_get}
 use Rattle.qpack_spec.specs.Field.{FieldLine}
 use Rattle.qpack_spec.specs.Session.{RequestStream, stream_at, with_stream, oldest_undecoded}
+use Rattle.qpack_ends.specs.FieldSections.{SectionView}
 use Rattle.qpack_ends.specs.declared.decoder.DecodingError.{DecodingError}
 use Rattle.qpack_ends.specs.declared.section.Reading.{Reading}
 use Rattle.qpack_connection.specs.declared.connection.Outcome.{Outcome}
@@ -130,12 +131,12 @@ one_changed hs ps q h st new are s = both (nat_eq q s) refl
 -- ---- what a decode and a cancellation answer
 
 pub decode_answers : (limit : ℕ) (f : SoFar) (s : ℕ) (h : HandedStream) (st : RequestStream SentSection)
-    (k : SentSection) (r : Result Reading DecodingError) (fields : List FieldLine) → st.cancelled ≡ false
-    → oldest_undecoded st ≡ Some k → IsStream s h st → AnswersSection limit f s (handed_of k) r fields
-    → AnswersDecode limit f s h.cancelled h.sections (Decoded r fields)
-decode_answers limit f s h st k r fields live e is a =
-    subst (λ (c : Bool). AnswersDecode limit f s c h.sections (Decoded r fields)) (sym (is.cancelled ∙ live))
-    (subst (λ (l : List HandedSection). AnswersDecode limit f s false l (Decoded r fields))
+    (k : SentSection) (r : Result Reading DecodingError) (shown : SectionView) → st.cancelled ≡ false
+    → oldest_undecoded st ≡ Some k → IsStream s h st → AnswersSection limit f s (handed_of k) r shown.fields
+    → AnswersDecode limit f s h.cancelled h.sections (Decoded r shown)
+decode_answers limit f s h st k r shown live e is a =
+    subst (λ (c : Bool). AnswersDecode limit f s c h.sections (Decoded r shown)) (sym (is.cancelled ∙ live))
+    (subst (λ (l : List HandedSection). AnswersDecode limit f s false l (Decoded r shown))
     (sym (next_is s h st k e is)) a)
 
 skipped_is : (x y : Skip) → Some x ≡ Some y → Skipped y ≡ Skipped x

@@ -12,6 +12,7 @@ use Rattle.qpack_spec.proofs.PutTables.{count_put}
 use Rattle.qpack_spec.proofs.StrictReadings.{strict_are_within}
 use Rattle.qpack_safety.specs.AbstractSession.{abstract_start}
 use Rattle.qpack_safety.specs.TwoEnds.{after_end_steps}
+use Rattle.qpack_ends.specs.FieldSections.{SectionView}
 use Rattle.qpack_ends.specs.Blocked.{without, with_blocked}
 use Rattle.qpack_ends.specs.Decoders.{DecodingEnd, acknowledged, blocked_streams}
 use Rattle.qpack_ends.specs.Decoders as decoders
@@ -313,12 +314,12 @@ module _ (settings : ConnectionSettings) (first : Connection) (begins : BeginsWi
   abbrev limit : ℕ
   limit = settings.decoder.max_section_size
 
-  decode_right : (h : SoFar) (old new : Connection) (s : ℕ) (fields : List FieldLine) (r : Result Reading DecodingError)
-      (step : Step (Decode s fields r) old new) → Kept settings first h old
-      → AnswersSection limit h s (handed_of step.section) r fields
-      → Answers settings h (event.Decode s) (outcome.Decoded r fields)
-  decode_right h old new s fields r step k a =
-      decode_answers limit h s (h.streams s) (stream_at old.streams s) step.section r fields step.live step.is_next
+  decode_right : (h : SoFar) (old new : Connection) (s : ℕ) (shown : SectionView) (r : Result Reading DecodingError)
+      (step : Step (Decode s shown.fields r) old new) → Kept settings first h old
+      → AnswersSection limit h s (handed_of step.section) r shown.fields
+      → Answers settings h (event.Decode s) (outcome.Decoded r shown)
+  decode_right h old new s shown r step k a =
+      decode_answers limit h s (h.streams s) (stream_at old.streams s) step.section r shown step.live step.is_next
       (k.streams s) a
 
   -- one that leaves the streams
@@ -352,20 +353,20 @@ module _ (settings : ConnectionSettings) (first : Connection) (begins : BeginsWi
       (strict_are_within (window old.decoder.table) old.decoder.settings.max_section_size step.section.bytes fields
       required step.call.1.0))
 
-  pub decoded : (h : SoFar) (old new : Connection) (s : ℕ) (fields : List FieldLine) (r : Result Reading DecodingError)
-      (step : Step (Decode s fields r) old new) → Fits (Decode s fields r) old new step → Kept settings first h old
-      → Right h (event.Decode s) (outcome.Decoded r fields) new
-  decoded h old new s fields (Ok (reading.Fields required)) step fits k =
-      let call = Decode s fields (Ok (reading.Fields required)) in
+  pub decoded : (h : SoFar) (old new : Connection) (s : ℕ) (shown : SectionView) (r : Result Reading DecodingError)
+      (step : Step (Decode s shown.fields r) old new) → Fits (Decode s shown.fields r) old new step → Kept settings first h old
+      → Right h (event.Decode s) (outcome.Decoded r shown) new
+  decoded h old new s shown (Ok (reading.Fields required)) step fits k =
+      let call = Decode s shown.fields (Ok (reading.Fields required)) in
       let d = done h call old new step fits k in
       let a = d.answers.0 in
-      let next : SoFar = after (event.Decode s) (outcome.Decoded (Ok (reading.Fields required)) fields) h in
+      let next : SoFar = after (event.Decode s) (outcome.Decoded (Ok (reading.Fields required)) shown) h in
       let keeps = acknowledged_keeps_table old.decoder step.decoder s required step.call.1.1 in (
-        decode_right h old new s fields (Ok (reading.Fields required)) step k (
+        decode_right h old new s shown (Ok (reading.Fields required)) step k (
           a.0,
           a.1,
           λ told. omega (arith, a.2, k.decoder.told told),
-          within_limit h old new s fields required step k a.0,
+          within_limit h old new s shown.fields required step k a.0,
         ),
         stepped next call old new step k.follows fits d.blocked
             (sent_call first old new h.required call k.sent step fits)
@@ -387,13 +388,13 @@ module _ (settings : ConnectionSettings) (first : Connection) (begins : BeginsWi
             (stream_at old.streams s) step.section step.is_next (k.streams s)) k.streams))
             (still_empty h old new k (ap (λ (c : Connection). c.encoder) step.new_is)),
       )
-  decoded h old new s fields (Ok (reading.Blocked required)) step fits k =
+  decoded h old new s shown (Ok (reading.Blocked required)) step fits k =
       let r : Result Reading DecodingError = Ok (reading.Blocked required) in
-      let a = (done h (Decode s fields r) old new step fits k).answers.0 in
+      let a = (done h (Decode s shown.fields r) old new step fits k).answers.0 in
       let b : BlockedStream = record { stream = s; required = required } in
       let is = step.call.1.3 in (
-        decode_right h old new s fields r step k (a.0, a.1, omega (arith, a.2, k.decoder.least)),
-        decode_stepped h (b ∷ others s h.waiting) old new s fields r step (with_blocked b old.decoder.blocked) fits k
+        decode_right h old new s shown r step k (a.0, a.1, omega (arith, a.2, k.decoder.least)),
+        decode_stepped h (b ∷ others s h.waiting) old new s shown.fields r step (with_blocked b old.decoder.blocked) fits k
             (ap (λ (c : Connection). c.decoder) step.new_is) (ap (λ (c : Connection). c.streams) step.new_is)
             (ap (λ (c : Connection). c.encoder) step.new_is)
             (record {
@@ -404,42 +405,42 @@ module _ (settings : ConnectionSettings) (first : Connection) (begins : BeginsWi
             (one_counted (insert_count old.decoder.table) s required h.waiting old.decoder.blocked
             (omega (arith, a.1, a.2)) k.decoder.counted),
       )
-  decoded h old new s fields (Err (decoding.Section q e)) step fits k =
+  decoded h old new s shown (Err (decoding.Section q e)) step fits k =
       let r : Result Reading DecodingError = Err (decoding.Section q e) in
-      let d = done h (Decode s fields r) old new step fits k in
+      let d = done h (Decode s shown.fields r) old new step fits k in
       let a = d.answers.0 in
       let keeps = refused_keeps old.decoder step.decoder s q _ e d.alive.decoder step.call.1 in (
-        decode_right h old new s fields r step k (
+        decode_right h old new s shown r step k (
           a.0,
           a.1,
           is_of_limit e _ a.2 keeps.1,
           omega (arith, a.3, ap (λ (x : DecoderSettings). x.max_section_size) k.decoder.settings_are),
         ),
-        decode_stepped h (others s h.waiting) old new s fields r step (without s old.decoder.blocked) fits k
+        decode_stepped h (others s h.waiting) old new s shown.fields r step (without s old.decoder.blocked) fits k
             (ap (λ (c : Connection). c.decoder) step.new_is) (ap (λ (c : Connection). c.streams) step.new_is)
             (ap (λ (c : Connection). c.encoder) step.new_is) keeps.0
             (others_counted (insert_count old.decoder.table) s h.waiting old.decoder.blocked k.decoder.counted),
       )
-  decoded h old new s fields (Err decoding.Memory) step fits k =
+  decoded h old new s shown (Err decoding.Memory) step fits k =
       let r : Result Reading DecodingError = Err decoding.Memory in
-      let d = done h (Decode s fields r) old new step fits k in (
-        decode_right h old new s fields r step k d.answers.0,
-        decode_stepped h h.waiting old new s fields r step old.decoder.blocked fits k
+      let d = done h (Decode s shown.fields r) old new step fits k in (
+        decode_right h old new s shown r step k d.answers.0,
+        decode_stepped h h.waiting old new s shown.fields r step old.decoder.blocked fits k
             (ap (λ (c : Connection). c.decoder) step.new_is) (ap (λ (c : Connection). c.streams) step.new_is)
             (ap (λ (c : Connection). c.encoder) step.new_is)
             (memory_keeps old.decoder step.decoder s _ d.alive.decoder step.call.1) k.decoder.counted,
       )
-  decoded h old new s fields (Err (decoding.NoStream q)) step fits k =
-      let a = (done h (Decode s fields (Err (decoding.NoStream q))) old new step fits k).answers.0 in
+  decoded h old new s shown (Err (decoding.NoStream q)) step fits k =
+      let a = (done h (Decode s shown.fields (Err (decoding.NoStream q))) old new step fits k).answers.0 in
       absurd (omega (
         arith,
         a.2,
         is_number s (h.streams s) (stream_at old.streams s) step.section step.is_next (k.streams s),
       ))
-  decoded h old new s fields (Err (decoding.TooManyBlocked q)) step fits k =
-      absurd (done h (Decode s fields (Err (decoding.TooManyBlocked q))) old new step fits k).answers.0
-  decoded h old new s fields (Err (decoding.EncoderStream place e)) step fits k =
-      absurd (done h (Decode s fields (Err (decoding.EncoderStream place e))) old new step fits k).answers.0
+  decoded h old new s shown (Err (decoding.TooManyBlocked q)) step fits k =
+      absurd (done h (Decode s shown.fields (Err (decoding.TooManyBlocked q))) old new step fits k).answers.0
+  decoded h old new s shown (Err (decoding.EncoderStream place e)) step fits k =
+      absurd (done h (Decode s shown.fields (Err (decoding.EncoderStream place e))) old new step fits k).answers.0
 
   -- a cancellation
   pub cancelled : (h : SoFar) (old new : Connection) (s : ℕ) (r : Result ⊤ DecodingError)

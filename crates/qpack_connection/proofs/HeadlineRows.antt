@@ -6,6 +6,7 @@ use Rattle.std.specs.Global.{Vec}
 use denote.RawPtr.{null_ptr}
 use Rattle.qpack_spec.specs.Field.{FieldLine}
 use Rattle.qpack_codec.specs.declared.encoder.choices.Wish.TheVariants.{Unmarked}
+use Rattle.qpack_ends.specs.FieldSections.{SectionView}
 use Rattle.qpack_ends.specs.declared.decoder.DecodingError.TheVariants as decoding
 use Rattle.qpack_ends.specs.declared.encoder.EncodingError.TheVariants as encoding
 use Rattle.qpack_ends.specs.declared.section.LineError.TheVariants.{TooLarge}
@@ -57,15 +58,19 @@ settings most limit =
       most_unacknowledged = 100;
     }
 
+-- fields that were answered, in as much memory as it may be
+abbrev shown : List FieldLine → SectionView
+shown fields = record { fields = fields; text_room = 0; fields_room = 0 }
+
 -- an encode of these fields, and a decode that answered these
 abbrev encode : ℕ → (fields : List OwnedFieldLine) → length fields < 2 ^ 63 → Event
 encode s fields few = event.Encode s (vec fields few)
 
 abbrev decoded : ℕ → List FieldLine → Outcome
-decoded required fields = Decoded (Ok (Fields required)) fields
+decoded required fields = Decoded (Ok (Fields required)) (shown fields)
 
 abbrev waits : ℕ → Outcome
-waits required = Decoded (Ok (Blocked required)) []
+waits required = Decoded (Ok (Blocked required)) (shown [])
 
 abbrev events : List Event
 events =
@@ -118,10 +123,10 @@ abbrev Answered : ConnectionSettings → ℕ → Outcome → Type 0
 Answered settings n o = EventsAnswerWhatWasHanded settings (take (suc n) events) (take n outcomes ++ o ∷ [])
 
 -- memory may be refused, or a section be past the limit
-no_memory : Answered (settings 1 1000) 6 (Decoded (Err decoding.Memory) [])
+no_memory : Answered (settings 1 1000) 6 (Decoded (Err decoding.Memory) (shown []))
 no_memory = grind arith
 
-past_the_limit : Answered (settings 1 67) 6 (Decoded (Err (decoding.Section 0 (Line 2 5 (TooLarge 68)))) [])
+past_the_limit : Answered (settings 1 67) 6 (Decoded (Err (decoding.Section 0 (Line 2 5 (TooLarge 68)))) (shown []))
 past_the_limit = grind arith
 
 -- ---- runs that differ by one thing
@@ -170,7 +175,7 @@ waits_for_another_count : Refused 4 (waits 2)
 waits_for_another_count r = grind (r, arith)
 
 -- of waits: with fields, where all was received that is required, or none where it was not
-waits_with_fields : Refused 4 (Decoded (Ok (Blocked 1)) (line 1 2 false ∷ []))
+waits_with_fields : Refused 4 (Decoded (Ok (Blocked 1)) (shown (line 1 2 false ∷ [])))
 waits_with_fields r = grind (r, arith)
 
 waits_in_vain : Refused 6 (waits 1)
@@ -209,16 +214,16 @@ encoder_stream_refused r = grind (r, arith)
 decoder_stream_refused : Refused 9 (Heard (Err encoding.Memory))
 decoder_stream_refused r = grind (r, arith)
 
-count_at_zero : Refused 6 (Decoded (Err (decoding.Section 0 CountAtZero)) [])
+count_at_zero : Refused 6 (Decoded (Err (decoding.Section 0 CountAtZero)) (shown []))
 count_at_zero r = grind (r, arith)
 
-within_the_limit : Refused 6 (Decoded (Err (decoding.Section 0 TooLong)) [])
+within_the_limit : Refused 6 (Decoded (Err (decoding.Section 0 TooLong)) (shown []))
 within_the_limit r = grind (r, arith)
 
-too_many_blocked : Refused 4 (Decoded (Err (decoding.TooManyBlocked 0)) [])
+too_many_blocked : Refused 4 (Decoded (Err (decoding.TooManyBlocked 0)) (shown []))
 too_many_blocked r = grind (r, arith)
 
-memory_with_fields : Refused 6 (Decoded (Err decoding.Memory) (line 1 2 false ∷ []))
+memory_with_fields : Refused 6 (Decoded (Err decoding.Memory) (shown (line 1 2 false ∷ [])))
 memory_with_fields r = grind (r, arith)
 
 no_room_to_decode : Refused 6 NoRoom

@@ -160,7 +160,7 @@ AnswersSection limit h s next (Err e) fields = ⊥
 abbrev pub AnswersDecode : ℕ → SoFar → ℕ → Bool → List HandedSection → Outcome → Type 0
 AnswersDecode limit h s true sections o = o ≡ outcome.Skipped StreamCancelled
 AnswersDecode limit h s false [] o = o ≡ outcome.Skipped NothingToDecode
-AnswersDecode limit h s false (next ∷ more) (outcome.Decoded r fields) = AnswersSection limit h s next r fields
+AnswersDecode limit h s false (next ∷ more) (outcome.Decoded r fields) = AnswersSection limit h s next r fields.fields
 AnswersDecode limit h s false (next ∷ more) o = ⊥
 
 -- a cancellation is done, or no stream has the number. Or memory was refused for the bytes that are sent for it, of

@@ -1,5 +1,5 @@
 -- The fields of a section, each a name and a value cut out of one text.
-use Rattle.std.specs.Prelude.{◌≡◌, ◌≤◌, ℕ, List, [], ◌∷◌, Option, None, Some, map, slice_range}
+use Rattle.std.specs.Prelude.{◌≡◌, ◌≤◌, ◌/◌, ℕ, max, List, [], ◌∷◌, Option, None, Some, map, slice_range}
 use Rattle.qpack_spec.specs.Field.{FieldLine}
 use Rattle.qpack_base.specs.HeaderFields.{line_of}
 use Rattle.qpack_base.specs.declared.field.FieldLine.{FieldLine as LentLine}
@@ -29,6 +29,28 @@ abbrev pub AreInTurn : ℕ → List Span → ℕ → Type 0
 AreInTurn at [] len = at ≡ len
 AreInTurn at (s ∷ spans) len =
     (s.start ≡ at) × (s.start ≤ s.middle) × (s.middle ≤ s.end) × AreInTurn s.end spans len
+
+-- the fields of a section, and how many bytes of names and values, and how many fields, there is memory for
+pub record SectionView : Type 0 where
+  pub fields : List FieldLine
+  pub text_room : ℕ
+  pub fields_room : ℕ
+
+-- memory was made for no more than these bytes and fields, and none was given back
+pub record GrowsTo (bytes fields : ℕ) (old new : SectionView) : Type 0 where
+  pub text_most : new.text_room ≤ max old.text_room bytes
+  pub fields_most : new.fields_room ≤ max old.fields_room fields
+  pub text_kept : old.text_room ≤ new.text_room
+  pub fields_kept : old.fields_room ≤ new.fields_room
+
+-- the same of a section within a limit on the sum of its fields' sizes: each field takes 32 bytes of it (section 3.2.1)
+abbrev pub GrowsWithin : ℕ → SectionView → SectionView → Type 0
+GrowsWithin limit old new = GrowsTo limit (limit / 32) old new
+
+-- there is memory for no more than before, or than a section within a limit can use
+pub record IsRoomWithin (limit : ℕ) (old new : SectionView) : Type 0 where
+  pub text_most : new.text_room ≤ max old.text_room limit
+  pub fields_most : new.fields_room ≤ max old.fields_room (limit / 32)
 
 -- the next field is given, and those behind it are left; or there is none
 abbrev pub GivesNext : List FieldLine → Option LentLine → List FieldLine → Type 0

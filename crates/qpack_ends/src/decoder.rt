@@ -1,9 +1,10 @@
 //! The decoding end of a connection, made from what it sends as its settings (RFC 9204, sections 2.2, 4.4 and 5).
 
-ghost use Rattle.std.specs.Prelude.{◌≡◌, ◌<◌, ◌≤◌, ◌^◌, None, Some, Err, IfOk, IfErr, IfSome, List, ℕ, drop, length};
+ghost use Rattle.std.specs.Prelude.{◌≡◌, ◌<◌, ◌≤◌, ◌^◌, None, Some, Err, OnOk, IfOk, IfErr, IfSome, List, ℕ, drop, length};
 ghost use Rattle.qpack_spec.specs.StrictReading.{strict_reading};
 ghost use Rattle.qpack_spec.specs.Table.{Table, empty_table, insert_count, window};
 ghost use Rattle.qpack_ends.specs.Blocked.{ready};
+ghost use Rattle.qpack_ends.specs.FieldSections.{GrowsWithin, IsRoomWithin};
 ghost use Rattle.qpack_ends.specs.Receiving.{Receives};
 ghost use Rattle.qpack_ends.specs.Decoders.{Begins, FailsSettings, Checks, Reports, Acknowledges, BlocksStream};
 ghost use Rattle.qpack_ends.specs.Decoders.{TakesReading, DecodesInto, Decodes, Cancels, AsksToDecode, refused};
@@ -260,10 +261,13 @@ impl ConnectionDecoder {
         fields: &mut FieldSection,
     ) -> Result<Reading, DecodingError>
         ensures decodes { Decodes self.old self.new stream
-            (strict_reading (window self.old.table) self.old.settings.max_section_size section.now) fields.new result }
+            (strict_reading (window self.old.table) self.old.settings.max_section_size section.now) fields.new.fields result }
         // Memory is refused only where the section asks for it, where the stream may come to be blocked and is not counted
         // with this count, or where an acknowledgment is written.
         ensures memory { result ≡ Err Memory → AsksToDecode self.old stream section.now }
+        ensures room { IsRoomWithin self.old.settings.max_section_size fields.old fields.new }
+        // Memory is given back only where a section is refused, and only what one within the limit can't use.
+        ensures kept { OnOk result (GrowsWithin self.old.settings.max_section_size fields.old fields.new) }
     {
         fields.clear();
         self.check(stream)?;
@@ -336,8 +340,10 @@ impl ConnectionDecoder {
         fields: &mut FieldSection,
     ) -> Result<Reading, DecodingError>
         ensures decodes { DecodesInto self.old self.new stream
-            (strict_reading (window self.old.table) self.old.settings.max_section_size section.now) fields.new result }
+            (strict_reading (window self.old.table) self.old.settings.max_section_size section.now) fields.new.fields result }
         ensures memory { result ≡ Err Memory → AsksToDecode self.old stream section.now }
+        ensures room { IsRoomWithin self.old.settings.max_section_size fields.old fields.new }
+        ensures kept { OnOk result (GrowsWithin self.old.settings.max_section_size fields.old fields.new) }
     {
         match read_section(&self.table, section, self.settings.max_section_size, fields) {
             Ok(reading) => {

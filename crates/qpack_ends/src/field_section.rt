@@ -1,13 +1,13 @@
 //! The fields of a section, in memory that is kept from section to section.
 
-ghost use Rattle.std.specs.Prelude.{◌≡◌, ◌≤◌, ℕ, List, [], length, nat_eq, slice_get, vec_capacity, Err};
+ghost use Rattle.std.specs.Prelude.{◌≡◌, ◌≤◌, ◌/◌, ℕ, List, [], length, nat_eq, slice_get, vec_capacity, Err};
 ghost use Rattle.std.specs.Option.{option_map};
 ghost use Rattle.std.specs.List.{AllByRecursion};
 ghost use Rattle.qpack_spec.specs.Bytes.{Begins};
 ghost use Rattle.qpack_spec.specs.StrictReading.{strict_lines_at};
 ghost use Rattle.qpack_wire.specs.Memory.{AsksLine};
 ghost use Rattle.qpack_base.specs.HeaderFields.{line_of};
-ghost use Rattle.qpack_ends.specs.FieldSections.{IsWithin, field_at as field_of_span};
+ghost use Rattle.qpack_ends.specs.FieldSections.{IsWithin, GrowsTo, GrowsWithin, field_at as field_of_span};
 ghost use Rattle.qpack_ends.specs.Lines.{under};
 ghost use Rattle.qpack_ends.specs.Sections.{ReadsLines};
 ghost use Rattle.qpack_ends.specs.declared.section.SectionError.TheVariants.{Memory};
@@ -45,64 +45,59 @@ fn field_at<'a>(text: &'a [u8], span: &Span) -> FieldLine<'a>
     }
 }
 
-/// The fields of a section: names and values one after the other in one text, which holds nothing else. Its memory is kept from section to
-/// section. Read under a limit of n bytes it has room for no more than n bytes of text, and for n / 32 fields of 32
-/// bytes each: both together take at most 2n bytes. Only `expect` or a greater limit makes room for more, and that is
-/// given back when a section is refused.
+/// The fields of a section: names and values one after the other in one text, which holds nothing else. Its memory is
+/// kept from section to section. Reading under a limit of n bytes makes room for at most n bytes of text, and for n / 32
+/// fields of 32 bytes each: both together take at most 2n bytes. Only `expect` or a greater limit makes room for more,
+/// and that is given back when a section is refused.
 #[derive(Debug, Drop)]
 pub struct FieldSection {
     text: Vec<u8>,
     spans: Vec<Span>,
-    /// The most bytes of text that there may be room for: the greatest limit, or what was expected.
-    most_bytes: usize,
-    /// The most fields that there may be room for.
-    most_fields: usize,
 }
 
 impl Model for FieldSection {
-    ghost use Rattle.std.specs.Prelude.{◌≤◌, List, length, vec_capacity};
-    ghost use Rattle.qpack_spec.specs.Field.{FieldLine};
-    ghost use Rattle.qpack_base.specs.HeaderFields.{line_of};
-    ghost use Rattle.qpack_ends.specs.FieldSections.{AreInTurn, fields_in};
+    ghost use Rattle.std.specs.Prelude.{length, vec_capacity};
+    ghost use Rattle.qpack_ends.specs.FieldSections.{SectionView, AreInTurn, fields_in};
 
-    ghost Value = { List FieldLine };
+    ghost Value = { SectionView };
 
-    ghost view = { λ s. fields_in s.text.items s.spans.items };
+    ghost view = { λ s. record {
+      fields = fields_in s.text.items s.spans.items;
+      text_room = vec_capacity s.text;
+      fields_room = vec_capacity s.spans;
+    } };
 
-    ghost invariant = { λ s. AreInTurn 0 s.spans.items (length s.text.items) ×
-        (vec_capacity s.text ≤ s.most_bytes) × (vec_capacity s.spans ≤ s.most_fields) };
+    ghost invariant = { λ s. AreInTurn 0 s.spans.items (length s.text.items) };
 }
 
 impl FieldSection {
     /// A section without fields. Takes no memory.
     pub fn new(alloc: Global) -> FieldSection
-        ensures { result ≡ [] }
+        ensures { result ≡ record { fields = []; text_room = 0; fields_room = 0 } }
     {
         FieldSection {
             text: Vec::new(alloc),
             spans: Vec::new(alloc),
-            most_bytes: 0,
-            most_fields: 0,
         }
     }
 
     /// How many fields there are.
     pub fn len(&self) -> usize
-        ensures { result ≡ length self.now }
+        ensures { result ≡ length self.now.fields }
     {
         self.spans.len()
     }
 
     /// Whether there is no field.
     pub fn is_empty(&self) -> bool
-        ensures { result ≡ nat_eq (length self.now) 0 }
+        ensures { result ≡ nat_eq (length self.now.fields) 0 }
     {
         self.spans.is_empty()
     }
 
     /// The field at an index, from 0.
     pub fn get(&self, index: usize) -> Option<FieldLine<'_>>
-        ensures { option_map line_of result ≡ slice_get self.now index }
+        ensures { option_map line_of result ≡ slice_get self.now.fields index }
     {
         self.iter().at(index)
     }
@@ -110,7 +105,7 @@ impl FieldSection {
     /// The fields, in the order of their lines.
     #[tactic(auto, using(crate::proofs::SpansInTurn::all_within))]
     pub fn iter(&self) -> Fields<'_>
-        ensures { result ≡ self.now }
+        ensures { result ≡ self.now.fields }
     {
         Fields {
             text: &self.text,
@@ -118,22 +113,21 @@ impl FieldSection {
         }
     }
 
-    /// Makes room for so many fields more, and for so many bytes more of their names and values, as far as there is
-    /// memory. It changes how often memory is asked for later, and nothing else.
+    /// Makes room for this many fields, and for this many bytes of their names and values, as far as there is memory.
+    /// It changes how often memory is asked for later, and nothing else.
     pub fn expect(&mut self, fields: usize, bytes: usize)
-        ensures { self.new ≡ self.old }
+        ensures same { self.new.fields ≡ self.old.fields }
+        ensures room { GrowsTo bytes fields self.old self.new }
     {
-        let most_fields = self.spans.len().saturating_add(fields);
-        let most_bytes = self.text.len().saturating_add(bytes);
+        let fields = fields.saturating_sub(self.spans.len());
+        let bytes = bytes.saturating_sub(self.text.len());
         let _is_made = self.spans.reserve_exact(fields).is_ok()
             && self.text.reserve_exact(bytes).is_ok();
-        self.most_fields = self.most_fields.max(most_fields);
-        self.most_bytes = self.most_bytes.max(most_bytes);
     }
 
     /// Drops every field; the memory is kept.
     pub fn clear(&mut self)
-        ensures { self.new ≡ [] }
+        ensures { self.new ≡ record self.old { fields = [] } }
     {
         self.text.clear();
         self.spans.clear();
@@ -141,14 +135,16 @@ impl FieldSection {
 
     /// Drops every field. Memory past what a section within the limit can use is given back.
     pub(crate) fn clear_within(&mut self, limit: u64)
-        ensures { self.new ≡ [] }
+        ensures none { self.new.fields ≡ [] }
+        ensures text { self.new.text_room ≤ limit }
+        ensures fields { self.new.fields_room ≤ limit / 32 }
+        ensures text_kept { self.old.text_room ≤ limit → self.new.text_room ≡ self.old.text_room }
+        ensures fields_kept { self.old.fields_room ≤ limit / 32 → self.new.fields_room ≡ self.old.fields_room }
     {
         self.text.clear();
         self.spans.clear();
-        self.most_bytes = limit as usize;
-        self.most_fields = limit as usize / ESTIMATED_OVERHEAD_BYTES;
-        shrink_within(&mut self.text, self.most_bytes);
-        shrink_within(&mut self.spans, self.most_fields);
+        shrink_within(&mut self.text, limit as usize);
+        shrink_within(&mut self.spans, limit as usize / ESTIMATED_OVERHEAD_BYTES);
     }
 
     /// Reads the lines of a section to the end of the cursor, where there is no field.
@@ -157,15 +153,13 @@ impl FieldSection {
         lines: &Lines<I>,
         buf: &mut Cursor,
     ) -> Result<(), SectionError>
-        requires { self.old ≡ [] }
-        ensures exact { ReadsLines result self.new
+        requires { self.old.fields ≡ [] }
+        ensures exact { ReadsLines result self.new.fields
             (strict_lines_at (length buf.old.rest) (under lines.now buf.old.total) 0 0 buf.old.rest) }
         ensures memory { result ≡ Err Memory → Begins AsksLine buf.old.rest }
+        ensures room { GrowsWithin lines.now.limit self.old self.new }
     {
         self.text.clear();
-        let limit = lines.limit as usize;
-        self.most_bytes = self.most_bytes.max(limit);
-        self.most_fields = self.most_fields.max(limit / ESTIMATED_OVERHEAD_BYTES);
         read_lines(lines, buf, &mut self.text, &mut self.spans)
     }
 }

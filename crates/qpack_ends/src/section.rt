@@ -1,12 +1,13 @@
 //! Field sections, read strictly and up to a limit on their fields' sizes (RFC 9204, sections 2.2 and 4.5).
 
-ghost use Rattle.std.specs.Prelude.{◌≡◌, ◌-◌, ◌^◌, ◌&&◌, [], Ok, min, nat_eq, nat_lt, Err};
+ghost use Rattle.std.specs.Prelude.{◌≡◌, ◌-◌, ◌^◌, ◌&&◌, [], Ok, OnOk, min, nat_eq, nat_lt, Err};
 ghost use Rattle.qpack_spec.specs.Bytes.{Begins};
 ghost use Rattle.qpack_spec.specs.LengthLaws.{longest_section as longest};
 ghost use Rattle.qpack_spec.specs.StrictReading.{strict_reading, strict_section_behind};
 ghost use Rattle.qpack_spec.specs.Table.{window};
 ghost use Rattle.qpack_wire.specs.Memory.{AsksLine, AsksSectionForMemory};
 ghost use Rattle.qpack_wire.specs.Prefixes.{prefix_of};
+ghost use Rattle.qpack_ends.specs.FieldSections.{GrowsWithin, IsRoomWithin};
 ghost use Rattle.qpack_ends.specs.Lines.{line_error_of};
 ghost use Rattle.qpack_ends.specs.Sections.{ReadsSection, ReadsInto, section_error_of, code_of, line_code_of};
 ghost use Rattle.qpack_ends.specs.declared.section.SectionError.TheVariants.{Memory};
@@ -158,9 +159,12 @@ pub fn read_section<I: EntryIndex>(
     limit: u64,
     fields: &mut FieldSection,
 ) -> Result<Reading, SectionError>
-    ensures exact { ReadsSection result fields.new (strict_reading (window table.now) limit section.now) }
+    ensures exact { ReadsSection result fields.new.fields (strict_reading (window table.now) limit section.now) }
     // Memory is refused only behind a prefix, and there only behind a line or a string whose payload is not empty.
     ensures memory { result ≡ Err Memory → AsksSectionForMemory section.now }
+    ensures room { IsRoomWithin limit fields.old fields.new }
+    // Memory is given back only where a section is refused, and only what one within the limit can't use.
+    ensures kept { OnOk result (GrowsWithin limit fields.old fields.new) }
 {
     fields.clear();
     let reading = read_into(table, section, limit, fields);
@@ -178,9 +182,10 @@ fn read_into<I: EntryIndex>(
     limit: u64,
     fields: &mut FieldSection,
 ) -> Result<Reading, SectionError>
-    requires { fields.old ≡ [] }
-    ensures exact { ReadsInto result fields.new (strict_reading (window table.now) limit section.now) }
+    requires { fields.old.fields ≡ [] }
+    ensures exact { ReadsInto result fields.new.fields (strict_reading (window table.now) limit section.now) }
     ensures memory { result ≡ Err Memory → AsksSectionForMemory section.now }
+    ensures room { GrowsWithin limit fields.old fields.new }
 {
     if section.len() as u64 > longest_section(limit) {
         return Err(SectionError::TooLong);
@@ -198,10 +203,11 @@ fn read_behind<I: EntryIndex>(
     buf: &mut Cursor,
     fields: &mut FieldSection,
 ) -> Result<Reading, SectionError>
-    requires { fields.old ≡ [] }
-    ensures exact { ReadsInto result fields.new (strict_section_behind (window table.now) limit buf.old.total
+    requires { fields.old.fields ≡ [] }
+    ensures exact { ReadsInto result fields.new.fields (strict_section_behind (window table.now) limit buf.old.total
         (Ok (prefix_of prefix, buf.old.rest))) }
     ensures memory { result ≡ Err Memory → Begins AsksLine buf.old.rest }
+    ensures room { GrowsWithin limit fields.old fields.new }
 {
     let maximum = table.agreed_max();
     if counts_at_zero(&prefix, maximum) {

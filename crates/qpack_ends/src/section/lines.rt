@@ -120,6 +120,7 @@ fn append_string(
     ensures memory { result ≡ Err NoRoom → Begins (HoldsPayload size) buf.old.rest }
     ensures left { IfOk result (λ len. vec_len text.new + (most - len) ≤ vec_len text.old + most) }
     ensures room { vec_capacity text.new ≤ max (vec_capacity text.old) (vec_len text.old + most) }
+    ensures kept { vec_capacity text.old ≤ vec_capacity text.new }
 {
     match prefix_string::decode_within(size, most, buf, text) {
         Ok(len) => Ok(len),
@@ -140,6 +141,7 @@ fn append_name(field: &HeaderField, most: usize, text: &mut Vec<u8>) -> Result<u
     ensures exact { AppendsName most text.old.items text.new.items result (Ok (field_of field.now)) }
     ensures left { IfOk result (λ len. vec_len text.new + (most - len) ≤ vec_len text.old + most) }
     ensures room { vec_capacity text.new ≤ max (vec_capacity text.old) (vec_len text.old + most) }
+    ensures kept { vec_capacity text.old ≤ vec_capacity text.new }
 {
     Ok(append_within(field.name.as_slice(), most, text)?)
 }
@@ -149,6 +151,7 @@ fn append_name(field: &HeaderField, most: usize, text: &mut Vec<u8>) -> Result<u
 fn append_field(field: &HeaderField, most: usize, text: &mut Vec<u8>) -> Result<Lengths, LineError>
     ensures exact { AppendsEntry most text.old.items text.new.items result (Ok (field_of field.now)) }
     ensures room { vec_capacity text.new ≤ max (vec_capacity text.old) (vec_len text.old + most) }
+    ensures kept { vec_capacity text.old ≤ vec_capacity text.new }
 {
     let name = append_name(field, most, text)?;
     let value = append_within(field.value.as_slice(), most.saturating_sub(name), text)?;
@@ -202,6 +205,7 @@ impl<I: EntryIndex> Lines<'_, I> {
             (entry_of (under self.now 0) reference index) }
         ensures left { IfOk result (λ len. vec_len text.new + (most - len) ≤ vec_len text.old + most) }
         ensures room { vec_capacity text.new ≤ max (vec_capacity text.old) (vec_len text.old + most) }
+        ensures kept { vec_capacity text.old ≤ vec_capacity text.new }
     {
         match reference {
             Reference::Static => append_name(&StaticTable::get(index)?, most, text),
@@ -236,6 +240,7 @@ impl<I: EntryIndex> Lines<'_, I> {
         ensures exact { AppendsEntry most text.old.items text.new.items result
             (entry_of (under self.now 0) reference index) }
         ensures room { vec_capacity text.new ≤ max (vec_capacity text.old) (vec_len text.old + most) }
+        ensures kept { vec_capacity text.old ≤ vec_capacity text.new }
     {
         match reference {
             Reference::Static => append_field(&StaticTable::get(index)?, most, text),
@@ -273,6 +278,7 @@ impl<I: EntryIndex> Lines<'_, I> {
             (field_of_form (under self.now 0) (made_at (Index size (indexed_line reference)) buf.old.rest)) }
         ensures memory { result ≡ Err NoRoom → AsksInForm (Index size (indexed_line reference)) buf.old.rest }
         ensures room { vec_capacity text.new ≤ max (vec_capacity text.old) (vec_len text.old + most) }
+        ensures kept { vec_capacity text.old ≤ vec_capacity text.new }
     {
         let index = read_index(size, buf)?;
         self.append_entry(reference, index, most, text)
@@ -294,6 +300,7 @@ impl<I: EntryIndex> Lines<'_, I> {
             (field_of_form (under self.now 0) (made_at (IndexAndValue size (named_line reference)) buf.old.rest)) }
         ensures memory { result ≡ Err NoRoom → AsksInForm (IndexAndValue size (named_line reference)) buf.old.rest }
         ensures room { vec_capacity text.new ≤ max (vec_capacity text.old) (vec_len text.old + most) }
+        ensures kept { vec_capacity text.old ≤ vec_capacity text.new }
     {
         let index = read_index(size, buf)?;
         match self.append_name_of(reference, index, most, text) {
@@ -322,6 +329,7 @@ impl<I: EntryIndex> Lines<'_, I> {
             (field_of_form (under self.now 0) (form_at line_form buf.old.rest)) }
         ensures memory { result ≡ Err NoRoom → Begins AsksLine buf.old.rest }
         ensures room { vec_capacity text.new ≤ max (vec_capacity text.old) (vec_len text.old + most) }
+        ensures kept { vec_capacity text.old ≤ vec_capacity text.new }
     {
         if first < 16 {
             self.append_named(Reference::PostBase, POST_BASE_NAMED_SIZE, most, buf, text)
@@ -350,6 +358,7 @@ fn append_literal(most: usize, buf: &mut Cursor, text: &mut Vec<u8>) -> Result<L
         (field_of_form u (made_at (NameAndValue 4 Literal) buf.old.rest)) }
     ensures memory { result ≡ Err NoRoom → AsksInForm (NameAndValue 4 Literal) buf.old.rest }
     ensures room { vec_capacity text.new ≤ max (vec_capacity text.old) (vec_len text.old + most) }
+    ensures kept { vec_capacity text.old ≤ vec_capacity text.new }
 {
     let name = append_string(NAME_SIZE, most, buf, text)?;
     let value = append_string(VALUE_SIZE, most.saturating_sub(name), buf, text)?;
@@ -401,6 +410,8 @@ fn read_line<I: EntryIndex>(
     ensures held { IfOk result (λ with. vec_len text.new + 32 * vec_len spans.new ≤ with) }
     ensures text { vec_capacity text.new ≤ max (vec_capacity text.old) lines.now.limit }
     ensures spans { vec_capacity spans.new ≤ max (vec_capacity spans.old) (lines.now.limit / 32) }
+    ensures kept_text { vec_capacity text.old ≤ vec_capacity text.new }
+    ensures kept_spans { vec_capacity spans.old ≤ vec_capacity spans.new }
 {
     let start = text.len();
     let most = most_of_field(lines.limit, sum);
@@ -474,6 +485,8 @@ pub(crate) fn read_lines<I: EntryIndex>(
     ensures memory { result ≡ Err OutOfMemory → Begins AsksLine buf.old.rest }
     ensures text { vec_capacity text.new ≤ max (vec_capacity text.old) lines.now.limit }
     ensures spans { vec_capacity spans.new ≤ max (vec_capacity spans.old) (lines.now.limit / 32) }
+    ensures kept_text { vec_capacity text.old ≤ vec_capacity text.new }
+    ensures kept_spans { vec_capacity spans.old ≤ vec_capacity spans.new }
 {
     let mut sum = 0u64;
     while let Some(byte) = buf.chunk().first() {

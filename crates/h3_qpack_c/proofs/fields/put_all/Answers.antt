@@ -10,7 +10,7 @@ use Rattle.h3_qpack_c.proofs.fields.put_all.Goals.{in-Some, in_default}
 
 pub put-at-requires : goal.put-at-requires
 put-at-requires c =
-    let fields = c.args.section.now in
+    let fields = c.args.section.now.fields in
     let i = c.loop-index.index in
     let f = line_of c.in-Some.field in
     let written = text_of (take i fields) in
@@ -29,7 +29,7 @@ put-at-requires c =
 pub loop-index-preserved : goal.loop-index-preserved
 loop-index-preserved c = elim c.match-get.branch [
   | in-Some w ↦
-      let fields = c.args.section.now in
+      let fields = c.args.section.now.fields in
       let i = c.loop-index.index in
       let f = line_of w.in-Some.field in
       let is = sym c.get.ensures ∙ ap (option_map line_of) w.in-Some.is in
@@ -55,7 +55,7 @@ loop-index-preserved c = elim c.match-get.branch [
             (w.out-is ∙ w.put-at.ensures.written)
             ∙ ap (λ (x : List ℕ). written_over x c.args.out.now) (sym next);
       }
-  | in_default w ↦ absurd (some_within c.args.section.now c.loop-index.index
+  | in_default w ↦ absurd (some_within c.args.section.now.fields c.loop-index.index
       (omega (arith, c.loop-index-test.true, c.len-index-end.ensures))
       (sym c.get.ensures ∙ ap (option_map line_of) w.in_default.is))
 ]

@@ -4,7 +4,7 @@ use Rattle.h3_qpack_c.proofs.fields.put_all.Given as goal
 
 abbrev pub invariant-loop-index : goal.invariant-loop-index
 invariant-loop-index l = record {
-  at : l.at ≡ length (text_of (take l.index l.section));
-  told : l.told ≡ written_over (map told_of_field (take l.index l.section)) l.fn.told;
-  text : l.out ≡ written_over (text_of (take l.index l.section)) l.fn.out;
+  at : l.at ≡ length (text_of (take l.index l.section.fields));
+  told : l.told ≡ written_over (map told_of_field (take l.index l.section.fields)) l.fn.told;
+  text : l.out ≡ written_over (text_of (take l.index l.section.fields)) l.fn.out;
 }

@@ -9,7 +9,7 @@ use Rattle.h3_qpack_c.proofs.fields.text_len.Goals.{in-Some, in_default}
 pub loop-index-preserved : goal.loop-index-preserved
 loop-index-preserved c = elim c.match-get.branch [
   | in-Some w ↦
-      let fields = c.args.section.now in
+      let fields = c.args.section.now.fields in
       let f = line_of w.in-Some.field in
       let is = sym c.get.ensures ∙ ap (option_map line_of) w.in-Some.is in
       omega (
@@ -22,7 +22,7 @@ loop-index-preserved c = elim c.match-get.branch [
         length-append (text_of (take c.loop-index.index fields)) (text_of_field f),
         length-append f.field.name f.field.value,
       )
-  | in_default w ↦ absurd (some_within c.args.section.now c.loop-index.index
+  | in_default w ↦ absurd (some_within c.args.section.now.fields c.loop-index.index
       (omega (arith, c.loop-index-test.true, c.len-index-end.ensures))
       (sym c.get.ensures ∙ ap (option_map line_of) w.in_default.is))
 ]

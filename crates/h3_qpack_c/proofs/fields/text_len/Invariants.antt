@@ -3,4 +3,4 @@ use Rattle.h3_qpack_c.specs.Crossing.{text_of}
 use Rattle.h3_qpack_c.proofs.fields.text_len.Given as goal
 
 abbrev pub invariant-loop-index : goal.invariant-loop-index
-invariant-loop-index l = l.len ≡ min (length (text_of (take l.index l.section))) (2 ^ 64 - 1)
+invariant-loop-index l = l.len ≡ min (length (text_of (take l.index l.section.fields))) (2 ^ 64 - 1)

@@ -42,6 +42,8 @@ loop-byte-preserved g c =
       held = c.in-Ok.ensures.held;
       text = omega (arith, c.in-Ok.ensures.text, c.loop-byte.invariant.text);
       spans = omega (arith, c.in-Ok.ensures.spans, c.loop-byte.invariant.spans);
+      kept_text = omega (arith, c.in-Ok.ensures.kept_text, c.loop-byte.invariant.kept_text);
+      kept_spans = omega (arith, c.in-Ok.ensures.kept_spans, c.loop-byte.invariant.kept_spans);
     }
 
 pub returns-in-Err-clause-exact : goal.returns-in-Err-clause-exact

@@ -20,6 +20,8 @@ invariant-loop-byte g l = record {
   held : vec_len l.text + 32 * vec_len l.spans ≤ l.sum;
   text : vec_capacity l.text ≤ max (vec_capacity l.fn.text) l.fn.lines.limit;
   spans : vec_capacity l.spans ≤ max (vec_capacity l.fn.spans) (l.fn.lines.limit / 32);
+  kept_text : vec_capacity l.fn.text ≤ vec_capacity l.text;
+  kept_spans : vec_capacity l.fn.spans ≤ vec_capacity l.spans;
 }
 
 abbrev pub decreases-loop-byte : goal.decreases-loop-byte
