@@ -61,7 +61,6 @@ static void read_settings(connection *c, const uint8_t *at, size_t len) {
   take_settings(c, capacity, blocked);
   add_event(c, "settings", ",\"capacity\":%llu,\"blocked\":%llu", (unsigned long long)capacity,
             (unsigned long long)blocked);
-  for (stream *s = c->streams; s; s = s->next) receive_on(c, s); /* what arrived before */
 }
 
 static void read_control(connection *c, stream *s) {
@@ -105,7 +104,6 @@ static void receive_request(connection *c, stream *s) {
   uint64_t type;
   const uint8_t *at;
   size_t len;
-  if (!c->has_settings) return; /* an answer needs the encoder */
   while (!c->is_closing && !s->is_given_up && find_frame(s, &type, &at, &len)) {
     if (type == HEADERS_FRAME && !read_section(c, s, at, len)) return;
     if (type == DATA_FRAME) add(&s->body, at, len);

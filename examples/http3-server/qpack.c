@@ -11,31 +11,32 @@ static void fail(connection *c, int32_t status, const char *why) {
   end_connection(c, status > 0 ? (uint64_t)status : H3_INTERNAL_ERROR, why);
 }
 
-/* The decoder has this side's settings. The encoder needs the peer's, so until they arrive it has no table. */
+/* The decoder has this side's settings. The encoder has the peer's; until they arrive, those of a peer without a table. */
 void open_qpack(connection *c) {
-  h3_qpack_decoder_settings settings;
-  h3_qpack_decoder_settings_default(&settings);
-  settings.max_capacity = option.capacity;
-  settings.max_blocked = option.blocked;
-  settings.max_section_size = option.limit;
-  CHECK(h3_qpack_decoder_new(&c->decoder, &settings) == H3_QPACK_OK);
+  h3_qpack_decoder_settings ours;
+  h3_qpack_decoder_settings_default(&ours);
+  ours.max_capacity = option.capacity;
+  ours.max_blocked = option.blocked;
+  ours.max_section_size = option.limit;
+  CHECK(h3_qpack_decoder_new(&c->decoder, &ours) == H3_QPACK_OK);
+  h3_qpack_encoder_settings theirs;
+  h3_qpack_encoder_settings_default(&theirs);
+  theirs.capacity = option.encoder_capacity;
+  CHECK(h3_qpack_encoder_new(&c->encoder, &theirs) == H3_QPACK_OK);
 }
 
 /* The SETTINGS frame of the peer arrived. A maximum of 2^30 or more is taken as no table. */
 void take_settings(connection *c, uint64_t max_capacity, uint64_t max_blocked) {
-  h3_qpack_encoder_settings settings;
-  h3_qpack_encoder_settings_default(&settings);
-  settings.max_capacity = max_capacity < (1u << 30) ? max_capacity : 0;
-  settings.max_blocked = max_blocked;
-  settings.capacity = option.encoder_capacity;
-  CHECK(h3_qpack_encoder_new(&c->encoder, &settings) == H3_QPACK_OK);
+  if (max_capacity >= 1u << 30) max_capacity = 0;
+  int status = h3_qpack_encoder_set_peer_settings(&c->encoder, max_capacity, max_blocked);
+  if (status) fail(c, status, "settings");
   c->has_settings = 1;
 }
 
 /* Bytes of the peer's encoder stream or decoder stream arrived. Insertions may unblock sections. */
 void read_instructions(connection *c, stream *s) {
   int is_encoder_stream = s->type == 2;
-  if (!s->in.len || (!is_encoder_stream && !c->has_settings)) return;
+  if (!s->in.len) return;
   add_bytes_event(c, "received", (unsigned)s->type, s->in.at, s->in.len);
   h3_qpack_received r = is_encoder_stream ? h3_qpack_decoder_read_encoder(&c->decoder, s->in.at, s->in.len)
                                           : h3_qpack_encoder_read_decoder(&c->encoder, s->in.at, s->in.len);
@@ -118,7 +119,7 @@ void send_instructions(connection *c) {
   uint8_t piece[2048];
   size_t len;
   if (!c->is_open) return;
-  while (c->has_settings && now() >= c->encoder_stream_due &&
+  while (now() >= c->encoder_stream_due &&
          (len = h3_qpack_encoder_write_encoder(&c->encoder, piece, sizeof piece))) {
     add_bytes_event(c, "sent", 2, piece, len);
     send_on(c, &c->own[ENCODER], piece, len);

@@ -1,8 +1,8 @@
 -- An encoding end of maximum 0 is unused after any calls, and with the settings of its peer it is as one made with them.
-use Rattle.std.proofs.Common.{◌≡◌, ◌≤◌, ◌<◌, ◌^◌, ℕ, Bool, true, false, cond, List, [], ◌∷◌, ◌++◌, drop, min, Option, None}
+use Rattle.std.proofs.Common.{◌≡◌, ◌<◌, ◌^◌, ℕ, Bool, true, false, cond, List, [], ◌∷◌, ◌++◌, drop, min, Option, None}
 use Rattle.std.proofs.Common.{IfSome, zero, suc, Some, Result, Ok, Err, inl, inr, refl, sym, ap, subst, ◌∙◌, arith}
-use Rattle.std.specs.Prelude.{⊤, ◌⊎◌, nat_eq, nat_lt}
-use Rattle.std.proofs.lemmas.Bool.{cond_both, eq-eqb, eqb-true, ltb-true, ltb-false, lt-ltb}
+use Rattle.std.specs.Prelude.{⊤, nat_eq, nat_lt}
+use Rattle.std.proofs.lemmas.Bool.{cond_both, eq-eqb, eqb-true, ltb-true}
 use Rattle.qpack_spec.specs.Field.{FieldLine}
 use Rattle.qpack_spec.specs.Instruction.{DecoderInstruction}
 use Rattle.qpack_spec.specs.Table.{Table, empty_table}
@@ -12,9 +12,8 @@ use Rattle.qpack_ends.specs.declared.encoder.EncodingError.TheVariants.{DecoderS
 use Rattle.qpack_ends.specs.declared.encoder.EncodingError.TheVariants.{EntriesHeld, NoStream, Memory}
 use Rattle.qpack_ends.specs.declared.encoder.EncodingError.TheVariants.{MaximumChanged, LimitLowered, MaximumTooLarge}
 use Rattle.qpack_ends.specs.Encoders.{EncodingEnd, IsUnused, begun, begun_with, first_capacity, with_section, Encodes}
-use Rattle.qpack_ends.specs.Encoders.{SetsCapacity, ReceivesBytes, StopsForMemory, of_peer, with_peer, peer_refusal}
-use Rattle.qpack_ends.specs.Encoders.{TakesPeer, WritesSection, GivesUpSection}
-use Rattle.qpack_ends.specs.Hearing.{Receives}
+use Rattle.qpack_ends.specs.Encoders.{SetsCapacity, ReceivesBytes, StopsForMemory, of_peer, peer_refusal}
+use Rattle.qpack_ends.specs.Encoders.{WritesSection, GivesUpSection}
 use Rattle.qpack_ends.proofs.BareEnds.{bare, encoded_bare, given_up_bare, sized_bare, heard_bare}
 use Rattle.qpack_connection.specs.LawfulDecoders.{Call, Encode, SetCapacity, Receive, Sent, Step, Run}
 use Rattle.qpack_connection.specs.LateSettings.{EndsWithoutATableStayUnused, LateSettingsAreAsEarly}
@@ -23,25 +22,25 @@ use Rattle.qpack_connection.specs.LateSettings.{EndsWithoutATableStayUnused, Lat
 
 -- no capacity is to be told
 none_first : (s : EncoderSettings) → s.max_capacity ≡ 0 → first_capacity s ≡ None
-none_first s zero = rw (eq-eqb (min s.capacity s.max_capacity) 0 (omega (arith, zero))) refl
+none_first s no_table = rw (eq-eqb (min s.capacity s.max_capacity) 0 (omega (arith, no_table))) refl
 
 none_wanted : (settings : EncoderSettings) (d : EncodingEnd) → settings.max_capacity ≡ 0 → IsUnused settings d
     → begun d ≡ d
-none_wanted settings d zero k = ap (λ (o : Option ℕ). begun_with o d) (k.wanted ∙ none_first settings zero)
+none_wanted settings d no_table k = ap (λ (o : Option ℕ). begun_with o d) (k.wanted ∙ none_first settings no_table)
 
 is_bare : (settings : EncoderSettings) (d : EncodingEnd) → settings.max_capacity ≡ 0 → IsUnused settings d
     → d.table ≡ bare
-is_bare settings d zero k = k.table ∙ ap (λ (n : ℕ). let t : Table = empty_table 0 (Some n) 4096 in t) zero
+is_bare settings d no_table k = k.table ∙ ap (λ (n : ℕ). let t : Table = empty_table 0 (Some n) 4096 in t) no_table
 
 -- another end that differs in its table and in what is to be sent, and has neither
 unused_with : (settings : EncoderSettings) (old new : EncodingEnd) (t : Table) (b : List ℕ)
     → settings.max_capacity ≡ 0 → IsUnused settings old → t ≡ bare → b ≡ [] → new ≡ with_section t b old
     → IsUnused settings new
-unused_with settings old new t b zero k is none same =
+unused_with settings old new t b no_table k is none same =
     subst (IsUnused settings) (sym same) (record {
       capacity_in_range = k.capacity_in_range;
       settings_are = k.settings_are;
-      table = is ∙ sym (is_bare settings old zero k) ∙ k.table;
+      table = is ∙ sym (is_bare settings old no_table k) ∙ k.table;
       wanted = k.wanted;
       stream = k.stream;
       unsent = none;
@@ -53,59 +52,59 @@ unused_with settings old new t b zero k is none same =
 unused_encode : (settings : EncoderSettings) (old new : EncodingEnd) (s : ℕ) (fields : List FieldLine)
     (section : List ℕ) (answer : Result ℕ EncodingError) → settings.max_capacity ≡ 0 → IsUnused settings old
     → Encodes old new s fields [] section answer → IsUnused settings new
-unused_encode settings old new s fields section (Ok required) zero k (checks, inl w) =
+unused_encode settings old new s fields section (Ok required) no_table k (checks, inl w) =
     let x = subst (λ (d : EncodingEnd). WritesSection d new s fields [] section required)
-    (none_wanted settings old zero k) w in
+    (none_wanted settings old no_table k) w in
     let same = encoded_bare s fields old.table new.table [] section old.unsent new.unsent required x.section
-    (is_bare settings old zero k) in
-    unused_with settings old new new.table new.unsent zero k same.0 (same.1 ∙ k.unsent) x.new_is
-unused_encode settings old new s fields section (Ok required) zero k (checks, inr w) =
-    subst (IsUnused settings) (sym (w.new_is ∙ none_wanted settings old zero k)) k
-unused_encode settings old new s fields section (Err e) zero k (same, inl h) = subst (IsUnused settings) (sym h.1) k
-unused_encode settings old new s fields section (Err e) zero k (same, inr h) = by h.2.1
+    (is_bare settings old no_table k) in
+    unused_with settings old new new.table new.unsent no_table k same.0 (same.1 ∙ k.unsent) x.new_is
+unused_encode settings old new s fields section (Ok required) no_table k (checks, inr w) =
+    subst (IsUnused settings) (sym (w.new_is ∙ none_wanted settings old no_table k)) k
+unused_encode settings old new s fields section (Err e) no_table k (same, inl h) = subst (IsUnused settings) (sym h.1) k
+unused_encode settings old new s fields section (Err e) no_table k (same, inr h) = by h.2
   where
     by : StopsForMemory old new s fields → IsUnused settings new
     by (inl none) = subst (IsUnused settings) (sym none.1) k
-    by (inr (inl begins)) = subst (IsUnused settings) (sym (begins.1 ∙ none_wanted settings old zero k)) k
+    by (inr (inl begins)) = subst (IsUnused settings) (sym (begins.1 ∙ none_wanted settings old no_table k)) k
     by (inr (inr g)) =
         let x = subst (λ (d : EncodingEnd). GivesUpSection d new fields)
-        (none_wanted settings old zero k) g in
+        (none_wanted settings old no_table k) g in
         let same = given_up_bare fields old.table new.table old.unsent new.unsent x.lines
-        (is_bare settings old zero k) in
-        unused_with settings old new new.table new.unsent zero k same.0 (same.1 ∙ k.unsent) x.new_is
+        (is_bare settings old no_table k) in
+        unused_with settings old new new.table new.unsent no_table k same.0 (same.1 ∙ k.unsent) x.new_is
 
 unused_capacity : (settings : EncoderSettings) (old new : EncodingEnd) (n : ℕ) (answer : Result ⊤ EncodingError)
     → settings.max_capacity ≡ 0 → IsUnused settings old → SetsCapacity old new n answer → IsUnused settings new
-unused_capacity settings old new n (Ok done) zero k (live, inl none) = subst (IsUnused settings) (sym none.1) k
-unused_capacity settings old new n (Ok done) zero k (live, inr (some, tells)) =
-    let size = sized_bare old.table new.table n tells.0 (is_bare settings old zero k) in
-    absurd (some (ap (λ (s : EncoderSettings). s.max_capacity) k.settings_are ∙ zero, size.0))
-unused_capacity settings old new n (Err e) zero k (inl ended) = subst (IsUnused settings) (sym ended.1) k
-unused_capacity settings old new n (Err e) zero k (inr stops) = subst (IsUnused settings) (sym stops.2.2.1) k
+unused_capacity settings old new n (Ok done) no_table k (live, inl none) = subst (IsUnused settings) (sym none.1) k
+unused_capacity settings old new n (Ok done) no_table k (live, inr (some, tells)) =
+    let size = sized_bare old.table new.table n tells.0 (is_bare settings old no_table k) in
+    absurd (some (ap (λ (s : EncoderSettings). s.max_capacity) k.settings_are ∙ no_table, size.0))
+unused_capacity settings old new n (Err e) no_table k (inl ended) = subst (IsUnused settings) (sym ended.1) k
+unused_capacity settings old new n (Err e) no_table k (inr stops) = subst (IsUnused settings) (sym stops.2.1) k
 
 unused_received : (settings : EncoderSettings) (old new : EncodingEnd) (heard : List DecoderInstruction)
     (before bytes : List ℕ) (answer : Result ⊤ EncodingError) → settings.max_capacity ≡ 0 → IsUnused settings old
     → new.failure ≡ None → ReceivesBytes heard before old new bytes answer → IsUnused settings new
-unused_received settings old new heard before bytes (Ok done) zero k live call =
-    let bare_now = heard_bare old.table new.table call.0.more call.0.applies (is_bare settings old zero k) in
+unused_received settings old new heard before bytes (Ok done) no_table k live call =
+    let bare_now = heard_bare old.table new.table call.0.more call.0.applies (is_bare settings old no_table k) in
     subst (IsUnused settings) (sym call.1) (record {
       capacity_in_range = k.capacity_in_range;
       settings_are = k.settings_are;
-      table = bare_now ∙ sym (is_bare settings old zero k) ∙ k.table;
+      table = bare_now ∙ sym (is_bare settings old no_table k) ∙ k.table;
       wanted = k.wanted;
       stream = (heard ++ call.0.more, before ++ bytes, call.0.behind_them);
       unsent = k.unsent;
       failure = k.failure;
     })
-unused_received settings old new heard before bytes (Err (DecoderStream e)) zero k live call =
+unused_received settings old new heard before bytes (Err (DecoderStream e)) no_table k live call =
     absurd (let x = sym (ap (λ (d : EncodingEnd). d.failure) call.1) ∙ live in cc)
-unused_received settings old new heard before bytes (Err CapacityTooLarge) zero k live call = absurd call
-unused_received settings old new heard before bytes (Err EntriesHeld) zero k live call = absurd call
-unused_received settings old new heard before bytes (Err (NoStream s)) zero k live call = absurd call
-unused_received settings old new heard before bytes (Err MaximumChanged) zero k live call = absurd call
-unused_received settings old new heard before bytes (Err LimitLowered) zero k live call = absurd call
-unused_received settings old new heard before bytes (Err MaximumTooLarge) zero k live call = absurd call
-unused_received settings old new heard before bytes (Err Memory) zero k live call = absurd call
+unused_received settings old new heard before bytes (Err CapacityTooLarge) no_table k live call = absurd call
+unused_received settings old new heard before bytes (Err EntriesHeld) no_table k live call = absurd call
+unused_received settings old new heard before bytes (Err (NoStream s)) no_table k live call = absurd call
+unused_received settings old new heard before bytes (Err MaximumChanged) no_table k live call = absurd call
+unused_received settings old new heard before bytes (Err LimitLowered) no_table k live call = absurd call
+unused_received settings old new heard before bytes (Err MaximumTooLarge) no_table k live call = absurd call
+unused_received settings old new heard before bytes (Err Memory) no_table k live call = absurd call
 
 none_left : (n : ℕ) (b : List ℕ) → b ≡ [] → drop n b ≡ []
 none_left n b none = ap (drop n) none ∙ by n
@@ -116,14 +115,14 @@ none_left n b none = ap (drop n) none ∙ by n
 
 unused_call : (settings : EncoderSettings) (call : Call) (old new : EncodingEnd) → settings.max_capacity ≡ 0
     → IsUnused settings old → new.failure ≡ None → Step call old new → IsUnused settings new
-unused_call settings (Encode s fields wishes section answer) old new zero k live step =
-    unused_encode settings old new s fields section answer zero k step.0
-unused_call settings (SetCapacity n answer) old new zero k live step =
-    unused_capacity settings old new n answer zero k step
-unused_call settings (Receive bytes answer) old new zero k live step =
-    unused_received settings old new k.stream.0 k.stream.1 bytes answer zero k live
+unused_call settings (Encode s fields wishes section answer) old new no_table k live step =
+    unused_encode settings old new s fields section answer no_table k step.0
+unused_call settings (SetCapacity n answer) old new no_table k live step =
+    unused_capacity settings old new n answer no_table k step
+unused_call settings (Receive bytes answer) old new no_table k live step =
+    unused_received settings old new k.stream.0 k.stream.1 bytes answer no_table k live
     (step.0 k.failure k.stream.0 k.stream.1 k.stream.2)
-unused_call settings (Sent n) old new zero k live step =
+unused_call settings (Sent n) old new no_table k live step =
     subst (IsUnused settings) (sym step) (record {
       capacity_in_range = k.capacity_in_range;
       settings_are = k.settings_are;
@@ -169,12 +168,12 @@ ended_run (call ∷ calls) old new e ended run =
 -- ---- calls in turn
 
 pub unused_still : EndsWithoutATableStayUnused
-unused_still settings [] first last zero k run live = subst (IsUnused settings) (sym run) k
-unused_still settings (call ∷ calls) first last zero k run live =
-    unused_still settings calls run.0 last zero (by run.0.failure refl) run.2 live
+unused_still settings [] first last no_table k run live = subst (IsUnused settings) (sym run) k
+unused_still settings (call ∷ calls) first last no_table k run live =
+    unused_still settings calls run.0 last no_table (by run.0.failure refl) run.2 live
   where
     by : (o : Option EncodingError) → run.0.failure ≡ o → IsUnused settings run.0
-    by None alive = unused_call settings call first run.0 zero k alive run.1
+    by None alive = unused_call settings call first run.0 no_table k alive run.1
     by (Some e) ended = absurd (let x = sym (ended_run calls run.0 last e ended run.2) ∙ live in cc)
 
 -- ---- the settings of the peer
@@ -182,9 +181,10 @@ unused_still settings (call ∷ calls) first last zero k run live =
 -- a maximum that is taken in the place of 0 is below 2^30
 taken_small : (s : EncoderSettings) (maximum blocked : ℕ) → s.max_capacity ≡ 0
     → nat_eq maximum s.max_capacity ≡ false → peer_refusal s maximum blocked ≡ None → maximum < 2 ^ 30
-taken_small s maximum blocked zero new taken =
+taken_small s maximum blocked no_table new taken =
     cond_both (nat_lt blocked s.max_blocked) _ _ (λ o. o ≡ None → maximum < 2 ^ 30) (λ _ e. absurd cc)
-    (λ _ e. at_new (rw new e))
+    (λ _ e. cond_both (nat_eq maximum s.max_capacity) _ _ (λ o. o ≡ None → maximum < 2 ^ 30)
+    (λ same q. absurd (let x = sym same ∙ new in cc)) (λ _ q. at_new q) e)
     taken
   where
     at_new : cond (nat_lt 0 s.max_capacity) (Some MaximumChanged)
@@ -196,14 +196,14 @@ taken_small s maximum blocked zero new taken =
         e
 
 pub late_as_early : LateSettingsAreAsEarly
-late_as_early settings old new maximum blocked zero k taken =
-    by (nat_eq maximum old.settings.max_capacity) refl taken.2.1
+late_as_early settings old new maximum blocked no_table k taken =
+    by (nat_eq maximum old.settings.max_capacity) refl taken.2
   where
     here : old.settings ≡ settings
     here = k.settings_are
 
     none : old.settings.max_capacity ≡ 0
-    none = ap (λ (s : EncoderSettings). s.max_capacity) here ∙ zero
+    none = ap (λ (s : EncoderSettings). s.max_capacity) here ∙ no_table
 
     same_peer : of_peer maximum blocked old.settings ≡ of_peer maximum blocked settings
     same_peer = ap (of_peer maximum blocked) here
@@ -221,9 +221,9 @@ late_as_early settings old new maximum blocked zero k taken =
         subst (IsUnused (of_peer maximum blocked settings)) (sym is) (record {
           capacity_in_range = omega (arith, at);
           settings_are = same_peer;
-          table = is_bare settings old zero k
+          table = is_bare settings old no_table k
               ∙ ap (λ (n : ℕ). let t : Table = empty_table 0 (Some n) 4096 in t) (sym at);
-          wanted = k.wanted ∙ none_first settings zero ∙ sym (none_first (of_peer maximum blocked settings) at);
+          wanted = k.wanted ∙ none_first settings no_table ∙ sym (none_first (of_peer maximum blocked settings) at);
           stream = k.stream;
           unsent = k.unsent;
           failure = k.failure;

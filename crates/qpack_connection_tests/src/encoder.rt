@@ -68,9 +68,7 @@ impl Subject for Encoder {
                 push_done(answer, received)
             }
             "takes-settings" => {
-                let taken = self
-                    .end
-                    .set_peer_settings(words.count()?, words.count()?);
+                let taken = self.end.set_peer_settings(words.count()?, words.count()?);
                 if taken.is_ok() {
                     self.peer = peer_of(alloc, self.end.settings())?;
                 }

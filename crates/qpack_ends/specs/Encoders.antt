@@ -125,11 +125,11 @@ with_peer maximum blocked d =
     if nat_eq maximum d.settings.max_capacity
     then record d { settings = of_peer maximum blocked d.settings }
     else
-        record d {
-          settings = of_peer maximum blocked d.settings;
-          table = empty_table 0 (Some maximum) 4096;
-          wanted = first_capacity (of_peer maximum blocked d.settings);
-        }
+    record d {
+      settings = of_peer maximum blocked d.settings;
+      table = empty_table 0 (Some maximum) 4096;
+      wanted = first_capacity (of_peer maximum blocked d.settings);
+    }
 
 -- the end with an error, which is kept if it has a code
 abbrev pub kept_if : Option ℕ → EncodingError → EncodingEnd → EncodingEnd
