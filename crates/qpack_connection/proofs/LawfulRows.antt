@@ -48,7 +48,7 @@ use Rattle.qpack_connection.specs.LawfulRows.{AppendixDecoderIsLawful, AppendixS
 use Rattle.qpack_connection.specs.LawfulRows.{AppendixDecoderIsPeer}
 
 -- all that has to unfold
-rows : ℕ
+unfoldable pub rows : ℕ
 unfolding computed strict_apply is_never_indexed
 rows = 0
 
@@ -60,7 +60,7 @@ ReadInTurn form_of bytes [] = bytes ≡ []
 ReadInTurn form_of bytes (l ∷ ls) =
     (rest : List ℕ) × (form_at form_of bytes ≡ Ok (l, rest)) × ReadInTurn form_of rest ls
 
-read_spelled : {L : Type 0} (form_of : ℕ → Option (Form L)) (bytes : List ℕ) (ls : List L)
+pub read_spelled : {L : Type 0} (form_of : ℕ → Option (Form L)) (bytes : List ℕ) (ls : List L)
     → ReadInTurn form_of bytes ls → SpellsAll (λ t x. Spells L form_of t x) bytes ls
 read_spelled form_of bytes [] e = e
 read_spelled form_of bytes (l ∷ ls) e =
@@ -181,12 +181,12 @@ appendix_encoder many = (
 -- ---- lines
 
 -- one byte that is an integer
-number : (n b : ℕ) → b % 2 ^ n < full n → SpellsInteger n (b ∷ []) (b / 2 ^ n) (b % 2 ^ n)
+pub number : (n b : ℕ) → b % 2 ^ n < full n → SpellsInteger n (b ∷ []) (b / 2 ^ n) (b % 2 ^ n)
 number n b low =
     record { stands = (refl, inl (record { alone = refl; below = low; is = refl })); few = lit≤ tt }
 
 -- the prefix of two bytes
-prefix : (c d : ℕ) → Prefix
+unfoldable pub prefix : (c d : ℕ) → Prefix
 prefix c d = record { count = c % 2 ^ 8; sign = nat_eq (d / 2 ^ 7) 1; delta = d % 2 ^ 7 }
 
 prefix_spelled : (c d : ℕ) → c % 2 ^ 8 < full 8 → d % 2 ^ 7 < full 7 → SpellsPrefix (c ∷ d ∷ []) (prefix c d)
@@ -287,7 +287,7 @@ above_line made required base b f names low is may free =
       references = (may, tt);
     }
 
-below_line : (made : History) (required base b : ℕ) (f : Field) → line_form b ≡ Some (Index 6 IndexedDynamic)
+pub below_line : (made : History) (required base b : ℕ) (f : Field) → line_form b ≡ Some (Index 6 IndexedDynamic)
     → b % 2 ^ 6 < full 6 → IsInsertion made.inserted (base - b % 2 ^ 6) f
     → MayBeReferenced made required (base - b % 2 ^ 6) → is_never_indexed b ≡ false
     → SpellsField made required base (b ∷ []) (unmarked f)
@@ -429,11 +429,11 @@ name_marked =
 -- ---- sections
 
 -- a section whose prefix is two bytes
-section : (made : History) (required base c d : ℕ) (fields : List FieldLine) (tail : List ℕ) → base < 2 ^ 64
-    → c % 2 ^ 8 < full 8 → d % 2 ^ 7 < full 7 → TellsPrefix 220 required base (prefix c d)
+pub section : (maximum : ℕ) (made : History) (required base c d : ℕ) (fields : List FieldLine) (tail : List ℕ) → base < 2 ^ 64
+    → c % 2 ^ 8 < full 8 → d % 2 ^ 7 < full 7 → TellsPrefix maximum required base (prefix c d)
     → SpellsAll (SpellsField made required base) tail fields → required ≤ length made.inserted
-    → (0 < required → made.dropped < required) → IsLawfulSection 220 made required fields (c ∷ d ∷ tail)
-section made required base c d fields tail small low below tells lines inserted held =
+    → (0 < required → made.dropped < required) → IsLawfulSection maximum made required fields (c ∷ d ∷ tail)
+section maximum made required base c d fields tail small low below tells lines inserted held =
     record {
       base = base;
       small = small;
@@ -501,21 +501,21 @@ tells_names =
 
 static_section : IsLawfulSection 220 encoder_begun.made 0 (unmarked index_html ∷ []) section_static
 static_section =
-    section encoder_begun.made 0 0 0 0 (unmarked index_html ∷ []) (0x51 ∷ 0x0b ∷ codes "/index.html") (lit≤ tt)
+    section 220 encoder_begun.made 0 0 0 0 (unmarked index_html ∷ []) (0x51 ∷ 0x0b ∷ codes "/index.html") (lit≤ tt)
     (lit≤ tt) (lit≤ tt) tells_none (0x51 ∷ 0x0b ∷ codes "/index.html", [], refl, static_line, refl) (lit≤ tt)
     (λ e. absurd (omega (arith, e)))
 
 marked_section : IsLawfulSection 220 encoder_begun.made 0 (record { field = index_html; never_indexed = true } ∷ [])
     section_marked
 marked_section =
-    section encoder_begun.made 0 0 0 0 (record { field = index_html; never_indexed = true } ∷ [])
+    section 220 encoder_begun.made 0 0 0 0 (record { field = index_html; never_indexed = true } ∷ [])
     (0x71 ∷ 0x0b ∷ codes "/index.html") (lit≤ tt) (lit≤ tt) (lit≤ tt) tells_none
     (0x71 ∷ 0x0b ∷ codes "/index.html", [], refl, marked_line, refl) (lit≤ tt) (λ e. absurd (omega (arith, e)))
 
 post_base_section : IsLawfulSection 220 encoder_first.made 2 fields_post_base section_post_base
 unfolding rows
 post_base_section =
-    section encoder_first.made 2 0 0x03 0x81 fields_post_base (0x10 ∷ 0x11 ∷ []) (lit≤ tt) (lit≤ tt) (lit≤ tt)
+    section 220 encoder_first.made 2 0 0x03 0x81 fields_post_base (0x10 ∷ 0x11 ∷ []) (lit≤ tt) (lit≤ tt) (lit≤ tt)
     tells_post_base (
       0x10 ∷ [],
       0x11 ∷ [],
@@ -535,7 +535,7 @@ dynamic_section : IsLawfulSection 220 encoder_duplicate.made 4 fields_dynamic se
 unfolding rows
 dynamic_section =
     let made = encoder_duplicate.made in
-    section made 4 4 0x05 0x00 fields_dynamic (0x80 ∷ 0xc1 ∷ 0x81 ∷ []) (lit≤ tt) (lit≤ tt) (lit≤ tt) tells_dynamic (
+    section 220 made 4 4 0x05 0x00 fields_dynamic (0x80 ∷ 0xc1 ∷ 0x81 ∷ []) (lit≤ tt) (lit≤ tt) (lit≤ tt) tells_dynamic (
       0x80 ∷ [],
       0xc1 ∷ 0x81 ∷ [],
       refl,
@@ -560,7 +560,7 @@ above_section : IsLawfulSection 220 encoder_duplicate.made 4 fields_dynamic sect
 unfolding rows
 above_section =
     let made = encoder_duplicate.made in
-    section made 4 5 0x05 0x01 fields_dynamic (0x81 ∷ 0xc1 ∷ 0x82 ∷ []) (lit≤ tt) (lit≤ tt) (lit≤ tt) tells_above (
+    section 220 made 4 5 0x05 0x01 fields_dynamic (0x81 ∷ 0xc1 ∷ 0x82 ∷ []) (lit≤ tt) (lit≤ tt) (lit≤ tt) tells_above (
       0x81 ∷ [],
       0xc1 ∷ 0x82 ∷ [],
       refl,
@@ -583,7 +583,7 @@ above_section =
 
 names_section : IsLawfulSection 220 encoder_duplicate.made 4 fields_names section_names
 names_section =
-    section encoder_duplicate.made 4 2 0x05 0x81 fields_names _ (lit≤ tt) (lit≤ tt) (lit≤ tt) tells_names (
+    section 220 encoder_duplicate.made 4 2 0x05 0x81 fields_names _ (lit≤ tt) (lit≤ tt) (lit≤ tt) tells_names (
       0x40 ∷ 0x01 ∷ 0x78 ∷ [],
       _,
       refl,

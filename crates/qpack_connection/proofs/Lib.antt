@@ -42,3 +42,4 @@ pub mod LawfulWriters
 pub mod WrittenReports
 pub mod HeardFronts
 pub mod LateSettings
+pub mod RecordedRows

@@ -26,3 +26,4 @@ pub mod SettledSections
 pub mod LawfulRows
 pub mod LawfulEnds
 pub mod LateSettings
+pub mod RecordedRows

@@ -3,6 +3,7 @@
 ghost use Rattle.qpack_connection.specs.LawfulDecoders.{EncodersAreCareful, LawfulDecodersAreUnderstood};
 ghost use Rattle.qpack_connection.specs.LawfulEncoders.{LawfulEncodersAreUnderstood};
 ghost use Rattle.qpack_connection.specs.ArrivedSections.{SectionsArrive};
+ghost use Rattle.qpack_connection.specs.RecordedRows.{OtherEncodersAreLawful};
 ghost use Rattle.qpack_connection.specs.LateSettings.{NewEndsAreUnused, EndsWithoutATableStayUnused};
 ghost use Rattle.qpack_connection.specs.LateSettings.{LateSettingsAreAsEarly};
 ghost use Rattle.qpack_connection.specs.LawfulEnds.{EncodersKeepToTheStandard, DecodersWriteWhatTheyMay};
@@ -111,6 +112,13 @@ pub fn ends_of_the_standard_are_lawful()
     ensures decoder_stream { AppendixDecoderIsLawful }
     ensures order { AppendixSectionsAreInOrder }
     ensures peers { AppendixDecoderIsPeer }
+{}
+
+/// What the laws ask of a peer is met by what other encoders wrote, as it was recorded: the encoder streams of Chromium
+/// and Firefox as they begin, a section of Chromium's that references all of its insertions, and the encoder stream of
+/// nghttp3, which evicts entries.
+pub fn other_encoders_are_lawful()
+    ensures { OtherEncodersAreLawful }
 {}
 
 /// What [`ConnectionEncoder`](crate::ConnectionEncoder) writes is what the laws of a decoder ask of its peer, whatever
