@@ -49,7 +49,8 @@ type Encoded struct {
 	Size int
 }
 
-// NewEncoder makes an encoder for a peer that sent the settings. Call Close when the connection ends.
+// NewEncoder makes an encoder for a peer that sent the settings, or that sends them later, to SetPeerSettings. Call Close
+// when the connection ends.
 //
 // It fails with ErrInvalid if a setting is out of its range.
 func NewEncoder(settings EncoderSettings) (*Encoder, error) {
@@ -104,6 +105,20 @@ func (e *Encoder) Receive(bytes []byte) error {
 		return ErrClosed
 	}
 	return checkReceived(C.h3_qpack_encoder_read_decoder(&e.end, firstByte(bytes), C.size_t(len(bytes))))
+}
+
+// SetPeerSettings applies the peer's SETTINGS to an encoder that was made before they arrived: its
+// SETTINGS_QPACK_MAX_TABLE_CAPACITY, in bytes, and its SETTINGS_QPACK_BLOCKED_STREAMS, 0 for one that is missing. Make
+// such an encoder with 0 for both, or for 0-RTT with the settings that were remembered.
+//
+// It fails with ErrDecoderStream if the encoder has another maximum, above 0, and with ErrSettings if it has a greater
+// limit of blocked streams: close the connection. It fails with ErrInvalid for a new maximum of 2^30 or more: pass 0.
+func (e *Encoder) SetPeerSettings(maxCapacity, maxBlocked uint64) error {
+	if e.end.at == nil {
+		return ErrClosed
+	}
+	status := C.h3_qpack_encoder_set_peer_settings(&e.end, C.uint64_t(maxCapacity), C.uint64_t(maxBlocked))
+	return check("set peer settings", C.int32_t(status))
 }
 
 // SetCapacity sets the capacity of the table, in bytes. An error changes nothing.

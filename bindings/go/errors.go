@@ -14,15 +14,17 @@ var ErrClosed = errors.New("h3qpack: the encoder or decoder is closed: make anot
 // A Status says why a call failed. It is an error for errors.Is.
 type Status int32
 
-// These statuses are error codes of RFC 9204, section 6: close the connection with them. The encoder or decoder is
-// unusable then, and each later call that can fail returns the same status.
+// These statuses are error codes of RFC 9204, section 6, and of RFC 9114, section 8.1: close the connection with them. The
+// encoder or decoder is unusable then, and each later call that can fail returns the same status.
 const (
 	// ErrDecompressionFailed: a section is invalid, or one stream too many is blocked.
 	ErrDecompressionFailed Status = C.H3_QPACK_DECOMPRESSION_FAILED
 	// ErrEncoderStream: an instruction of the peer's encoder stream is invalid.
 	ErrEncoderStream Status = C.H3_QPACK_ENCODER_STREAM_ERROR
-	// ErrDecoderStream: an instruction of the peer's decoder stream is invalid.
+	// ErrDecoderStream: an instruction of the peer's decoder stream is invalid, or the peer changed its maximum capacity.
 	ErrDecoderStream Status = C.H3_QPACK_DECODER_STREAM_ERROR
+	// ErrSettings: the peer lowered its limit of blocked streams.
+	ErrSettings Status = C.H3_QPACK_SETTINGS_ERROR
 )
 
 // With these statuses the connection goes on.
@@ -47,6 +49,7 @@ var texts = map[Status]struct{ cause, advice string }{
 	ErrDecompressionFailed: {"a section is invalid, or too many streams are blocked", ""},
 	ErrEncoderStream:       {"the peer's encoder stream is invalid", ""},
 	ErrDecoderStream:       {"the peer's decoder stream is invalid", ""},
+	ErrSettings:            {"the peer lowered its limit of blocked streams", ""},
 	ErrNoMemory:            {"out of memory", "repeat the call later"},
 	ErrBlocked:             {"the section is blocked", "keep it until NextReady returns its stream"},
 	ErrInvalid:             {"an argument is out of its range", "correct the call"},
@@ -106,12 +109,13 @@ type Error struct {
 
 // ranges says what ErrInvalid expected, for each call.
 var ranges = map[string]string{
-	"new encoder":   "MaxCapacity must be below 2^30; for a peer with more pass 0",
-	"new decoder":   "MaxCapacity must be below 2^30, and MaxBlocked below 65,535",
-	"encode":        "the stream must be below 2^62",
-	"decode":        "the stream must be below 2^62",
-	"cancel stream": "the stream must be below 2^62",
-	"set capacity":  "the capacity must be at most the peer's MaxCapacity",
+	"new encoder":       "MaxCapacity must be below 2^30; for a peer with more pass 0",
+	"new decoder":       "MaxCapacity must be below 2^30, and MaxBlocked below 65,535",
+	"encode":            "the stream must be below 2^62",
+	"decode":            "the stream must be below 2^62",
+	"cancel stream":     "the stream must be below 2^62",
+	"set capacity":      "the capacity must be at most the peer's MaxCapacity",
+	"set peer settings": "maxCapacity must be below 2^30; for a peer with more pass 0",
 }
 
 // Error returns what failed, why and where, and what to do.

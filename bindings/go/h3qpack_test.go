@@ -242,6 +242,37 @@ func TestInvalidDecoderStream(t *testing.T) {
 	expect(t, err, ErrDecoderStream)
 }
 
+func TestPeerSettings(t *testing.T) {
+	encoder, _ := newPair(t, 0, 0)
+	_, decoder := newPair(t, 4096, 16)
+	fields := []Field{{Name: "foo", Value: "bar"}}
+	early := encode(t, encoder, 0, fields)
+	if early.Required != 0 || len(encoder.TakeEncoderStream()) != 0 {
+		t.Fatal("an encoder without settings used a table")
+	}
+	got, err := decoder.Decode(0, early.Section)
+	expectFields(t, got, err, fields)
+	expect(t, encoder.SetPeerSettings(1<<30, 16), ErrInvalid)
+	must(t, encoder.SetPeerSettings(4096, 16))
+	late := encode(t, encoder, 4, fields)
+	must(t, decoder.Receive(encoder.TakeEncoderStream()))
+	got, err = decoder.Decode(4, late.Section)
+	expectFields(t, got, err, fields)
+	if late.Required != 1 || encoder.Capacity() != 4096 {
+		t.Fatalf("required %d, capacity %d", late.Required, encoder.Capacity())
+	}
+	if failure := expect(t, encoder.SetPeerSettings(4096, 15), ErrSettings); failure.Code() != 0x109 {
+		t.Fatalf("code %#x", failure.Code())
+	}
+	expect(t, encoder.SetCapacity(0), ErrSettings)
+	other, _ := newPair(t, 4096, 16)
+	expect(t, other.SetPeerSettings(0, 16), ErrDecoderStream)
+	must(t, other.Close())
+	if err := other.SetPeerSettings(0, 16); err != ErrClosed {
+		t.Fatal(err)
+	}
+}
+
 func TestCapacity(t *testing.T) {
 	encoder, decoder := newPair(t, 4096, 16)
 	must(t, encoder.SetCapacity(100))

@@ -35,6 +35,7 @@ from ._errors import (
     QpackConnectionError,
     QpackError,
     SectionTooLarge,
+    SettingsError,
     StreamBlocked,
     VersionMismatch,
 )
@@ -58,6 +59,7 @@ __all__ = [
     "QpackConnectionError",
     "QpackError",
     "SectionTooLarge",
+    "SettingsError",
     "StreamBlocked",
     "VersionMismatch",
     "Wish",

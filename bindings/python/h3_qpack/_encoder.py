@@ -85,6 +85,19 @@ class Encoder(End):
         received = self._call("read_decoder", lent, len(lent))
         check(received.status, result=received)
 
+    def set_peer_settings(self, max_capacity: int, max_blocked: int) -> None:
+        """Applies the peer's SETTINGS to an encoder that was made before they arrived.
+
+        Make such an encoder without settings, or for 0-RTT with those that were remembered. Pass 0 for a setting that is
+        missing. Until this call an encoder without settings writes sections that any peer can decode.
+
+        Raises DecoderStreamError if the encoder has another maximum, above 0, and SettingsError if it has a greater limit
+        of blocked streams: close the connection. Raises InvalidArgument for a new maximum of 2^30 or more: pass 0.
+        """
+        range_text = "max_capacity must be below 2^30, and max_blocked 0 or more; for a peer with more pass 0"
+        given = [in_range(it, 1 << 62, range_text) for it in (max_capacity, max_blocked)]
+        check(self._call("set_peer_settings", *given), range_text)
+
     def set_capacity(self, capacity: int) -> None:
         """Sets the capacity of the table, in bytes. An error changes nothing.
 

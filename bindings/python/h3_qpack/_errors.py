@@ -10,7 +10,9 @@ class QpackError(Exception):
 
 
 class QpackConnectionError(QpackError):
-    """The peer broke a rule: close the connection with `code` (RFC 9204, section 6). The end is unusable.
+    """The peer broke a rule: close the connection with `code`. The end is unusable.
+
+    The code is of RFC 9204, section 6, or of RFC 9114, section 8.1.
 
     Each later call of the end that can fail raises the same error. `number` is the number, from 1, of the invalid field
     line of the section, or instruction of the stream. `offset` is the position of its first byte in the section, or on
@@ -44,10 +46,17 @@ class EncoderStreamError(QpackConnectionError):
 
 
 class DecoderStreamError(QpackConnectionError):
-    """An instruction of the peer's decoder stream is invalid."""
+    """An instruction of the peer's decoder stream is invalid, or the peer changed its maximum capacity."""
 
     code = 0x202
     cause = "the peer's decoder stream is invalid"
+
+
+class SettingsError(QpackConnectionError):
+    """The peer lowered its limit of blocked streams."""
+
+    code = 0x109
+    cause = "the peer lowered its limit of blocked streams"
 
 
 class StreamBlocked(QpackError):
@@ -112,7 +121,7 @@ class EndClosed(QpackError, ValueError):
 
 
 CODES: Dict[int, Type[QpackConnectionError]] = {
-    it.code: it for it in (DecompressionFailed, EncoderStreamError, DecoderStreamError)
+    it.code: it for it in (DecompressionFailed, EncoderStreamError, DecoderStreamError, SettingsError)
 }
 
 

@@ -106,6 +106,7 @@ FUNCTIONS: Dict[str, Tuple[Any, List[Any]]] = {
     "encoder_get_encoder_streamlen": (c_size_t, [END]),
     "encoder_write_encoder": (c_size_t, [END, *COPY]),
     "encoder_read_decoder": (Received, [END, *BYTES]),
+    "encoder_set_peer_settings": (c_int, [END, c_uint64, c_uint64]),
     "encoder_set_capacity": (c_int, [END, c_size_t]),
     "encoder_get_num_blocked": (c_size_t, [END]),
     "encoder_get_num_unacked": (c_size_t, [END]),

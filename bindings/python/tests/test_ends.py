@@ -23,6 +23,7 @@ from h3_qpack import (
     QpackConnectionError,
     QpackError,
     SectionTooLarge,
+    SettingsError,
     StreamBlocked,
     Wish,
     library_version,
@@ -104,6 +105,23 @@ class EndsTest(unittest.TestCase):
         for end in (encoder, decoder):
             self.assertEqual(end.entries(), [Field(b"trace", b"17"), Field(b"foo", b"bar")])
             self.assertEqual((end.table_size, end.capacity), (13 + 2 * 32, 4096))
+
+    def test_peer_settings(self) -> None:
+        encoder, (_, decoder) = self.pair(0, 0)[0], self.pair()
+        fields = [Field(b"foo", b"bar")]
+        early = encoder.encode(0, fields)
+        self.assertEqual((early.required, encoder.take_encoder_stream()), (0, b""))
+        self.assertEqual(decoder.decode(0, early.section), fields)
+        for wrong in ((1 << 30, 16), (-1, 0), (0, 1 << 62)):
+            self.refused(InvalidArgument, encoder.set_peer_settings, *wrong)
+        encoder.set_peer_settings(4096, 16)
+        late = encoder.encode(4, fields)
+        self.assertEqual((late.required, encoder.capacity), (1, 4096))
+        decoder.receive(encoder.take_encoder_stream())
+        self.assertEqual(decoder.decode(4, late.section), fields)
+        self.assertEqual(self.refused(SettingsError, encoder.set_peer_settings, 4096, 15).code, 0x109)
+        self.refused(SettingsError, encoder.set_capacity, 0)
+        self.refused(DecoderStreamError, self.pair()[0].set_peer_settings, 0, 16)
 
     def test_wishes(self) -> None:
         encoder, _ = self.pair()
