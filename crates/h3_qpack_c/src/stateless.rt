@@ -1,6 +1,6 @@
 //! Sections without a dynamic table, and without an end.
 
-ghost use Rattle.std.specs.Prelude.{◌≡◌, ◌⊎◌, map};
+ghost use Rattle.std.specs.Prelude.{◌≡◌, ◌⊎◌, [], map};
 ghost use Rattle.h3_qpack_c.specs.Alone.{DecodesAlone, GivesAlone, told_of_refusal};
 ghost use Rattle.qpack_ends.specs.Encoders.{written_alone};
 ghost use Rattle.h3_qpack_c.specs.Crossing.{line_of_lent, copied, told_of_copy};
@@ -17,6 +17,9 @@ use std::alloc::Global;
 /// The most room that is made before a section is written, in bytes.
 const MOST_ROOM: usize = 4096;
 
+/// The section of no field: a prefix whose count and base are 0 (RFC 9204, section 4.5.1).
+const NO_FIELDS: [u8; 2] = [0, 0];
+
 /// How many bytes of a section are taken for a line, where room is made before it is read.
 const LINE_LEN: usize = 4;
 
@@ -27,10 +30,14 @@ pub extern "C" fn h3q_encode_stateless(
     fields: &[Field],
     section: &mut [u8],
 ) -> Written
+    // Memory is refused only where there is a field.
     ensures { ((result ≡ told_of_copy (written_alone (map line_of_lent fields.now)) section.old)
         × (section.new ≡ copied (written_alone (map line_of_lent fields.now)) section.old))
-        ⊎ ((result ≡ record { status = no_memory; len = 0 }) × (section.new ≡ section.old)) }
+        ⊎ ((fields.now ≡ [] → ⊥) × (result ≡ record { status = no_memory; len = 0 }) × (section.new ≡ section.old)) }
 {
+    if fields.is_empty() {
+        return write(&NO_FIELDS, section);
+    }
     let mut bytes = Vec::new(alloc);
     // As much as the caller expects; where that is refused, the section may find less.
     let _is_made = bytes.reserve(section.len().min(MOST_ROOM)).is_ok();
