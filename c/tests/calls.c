@@ -70,9 +70,11 @@ static int is_over(h3_qpack_encoder *e, int status) {
 
 /* An encoder that is made before the peer's settings come, and those that end a connection. */
 static void take_peer_settings(void) {
+  h3_qpack_encoder_settings none;
   h3_qpack_encoder e;
   h3_qpack_decoder d;
-  CHECK(!new_encoder(&e, 0, 0) && !new_decoder(&d, 4096, 1, 100));
+  h3_qpack_encoder_settings_default(&none);
+  CHECK(!h3_qpack_encoder_new(&e, &none) && !new_decoder(&d, 4096, 1, 100));
   h3_qpack_encoded a = h3_qpack_encoder_encode(&e, 0, &custom, 1, section, sizeof section);
   CHECK(a.status == H3_QPACK_OK && !a.required && !h3_qpack_encoder_get_encoder_streamlen(&e));
   CHECK(h3_qpack_decoder_decode(&d, 0, section, a.len).status == H3_QPACK_OK);
