@@ -66,13 +66,14 @@ H3_QPACK_INLINE uint32_t h3_qpack_version(void);
 
 /* ---- Statuses */
 
-/* A status above 0 is an error code of section 6: close the connection with it. The encoder or decoder is unusable
- * then. Each later encode, decode, read, set_capacity and cancel_stream returns the same status again. |number| and
- * |offset| still locate that first error in the call that returned it, and are 0 in others. The calls that only read the
- * last result still succeed: after a failed encode or decode the result is empty. */
+/* A status above 0 is an error code, of section 6 or of RFC 9114, section 8.1: close the connection with it. The encoder
+ * or decoder is unusable then. Each later encode, decode, read, set_peer_settings, set_capacity and cancel_stream returns
+ * the same status again. |number| and |offset| still locate that first error in the call that returned it, and are 0 in
+ * others. The calls that only read the last result still succeed: after a failed encode or decode the result is empty. */
 #define H3_QPACK_DECOMPRESSION_FAILED 0x200
 #define H3_QPACK_ENCODER_STREAM_ERROR 0x201
 #define H3_QPACK_DECODER_STREAM_ERROR 0x202
+#define H3_QPACK_SETTINGS_ERROR 0x109 /* H3_SETTINGS_ERROR */
 
 /* With any other status the connection goes on. */
 #define H3_QPACK_OK 0
@@ -211,7 +212,7 @@ H3_QPACK_INLINE void h3_qpack_encoder_del(h3_qpack_encoder *encoder);
  *   H3_QPACK_ERR_NO_MEMORY  there is no section: encode the fields again later.
  *   H3_QPACK_ERR_INVALID    a pointer is NULL and its length is not 0, a length is above PTRDIFF_MAX, or |stream_id| is
  *                           2^62 or more.
- *   H3_QPACK_DECODER_STREAM_ERROR  h3_qpack_encoder_read_decoder returned it before. */
+ *   above 0                 an earlier call returned it. */
 H3_QPACK_INLINE h3_qpack_encoded h3_qpack_encoder_encode(h3_qpack_encoder *encoder, uint64_t stream_id,
                                                          const h3_qpack_nv *nva, size_t nvlen, uint8_t *section,
                                                          size_t sectionlen);
@@ -238,6 +239,23 @@ H3_QPACK_INLINE size_t h3_qpack_encoder_write_encoder(h3_qpack_encoder *encoder,
 H3_QPACK_INLINE h3_qpack_received h3_qpack_encoder_read_decoder(h3_qpack_encoder *encoder, const uint8_t *src,
                                                                 size_t srclen);
 
+/* Applies the peer's SETTINGS to an encoder that was made before they arrived (section 3.2.3). |max_capacity| is its
+ * SETTINGS_QPACK_MAX_TABLE_CAPACITY, in bytes, and |max_blocked| its SETTINGS_QPACK_BLOCKED_STREAMS; 0 for one that is
+ * missing.
+ *
+ * Make such an encoder with 0 for both, or for 0-RTT with the settings that were remembered. Until this call an encoder
+ * of maximum 0 writes sections that any peer can decode, and nothing on the encoder stream. Afterwards it is as if made
+ * with the peer's settings.
+ *
+ * Returns a status:
+ *   H3_QPACK_OK
+ *   H3_QPACK_ERR_INVALID           |max_capacity| is new, and 2^30 or more. Nothing changes: pass 0 instead.
+ *   H3_QPACK_DECODER_STREAM_ERROR  |max_capacity| is not the maximum that the encoder has, which is above 0.
+ *   H3_QPACK_SETTINGS_ERROR        |max_blocked| is below the limit that the encoder has (RFC 9114, section 7.2.4.2).
+ * If an earlier call returned a status above 0, this one returns it again. */
+H3_QPACK_INLINE int h3_qpack_encoder_set_peer_settings(h3_qpack_encoder *encoder, uint64_t max_capacity,
+                                                       uint64_t max_blocked);
+
 /* Sets the capacity of the table, in bytes, at most the peer's maximum, and evicts what does not fit (section 3.2.3).
  *
  * Returns a status. With an error nothing changes:
@@ -246,7 +264,7 @@ H3_QPACK_INLINE h3_qpack_received h3_qpack_encoder_read_decoder(h3_qpack_encoder
  *   H3_QPACK_ERR_HELD       the table has entries that the peer may still reference: call it again after more
  *                           acknowledgments.
  *   H3_QPACK_ERR_NO_MEMORY  call it again later.
- *   H3_QPACK_DECODER_STREAM_ERROR  h3_qpack_encoder_read_decoder returned it before. */
+ *   above 0                 an earlier call returned it. */
 H3_QPACK_INLINE int h3_qpack_encoder_set_capacity(h3_qpack_encoder *encoder, size_t capacity);
 
 /* Returns how many streams may be blocked at the peer (section 2.1.2): of a section on each it is not known that the peer
@@ -444,6 +462,7 @@ h3_qpack_written h3q_encoder_section(h3_qpack_encoder *encoder, uint8_t *section
 size_t h3q_encoder_stream(h3_qpack_encoder *encoder, uint8_t *out, size_t outlen);
 size_t h3q_encoder_stream_len(h3_qpack_encoder *encoder);
 h3_qpack_received h3q_encoder_read(h3_qpack_encoder *encoder, const uint8_t *src, size_t srclen);
+int32_t h3q_encoder_set_peer_settings(h3_qpack_encoder *encoder, size_t max_capacity, size_t max_blocked);
 int32_t h3q_encoder_set_capacity(h3_qpack_encoder *encoder, size_t capacity);
 size_t h3q_encoder_blocked(h3_qpack_encoder *encoder);
 size_t h3q_encoder_unacknowledged(h3_qpack_encoder *encoder);
@@ -548,6 +567,13 @@ H3_QPACK_INLINE h3_qpack_received h3_qpack_encoder_read_decoder(h3_qpack_encoder
   h3_qpack_received invalid = {H3_QPACK_ERR_INVALID, 0, 0, 0};
   if (!H3Q_IS_END(encoder) || !H3Q_IS_MEMORY(src, srclen)) return invalid;
   return h3q_encoder_read(encoder, H3Q_LEND(const uint8_t, src), srclen);
+}
+
+H3_QPACK_INLINE int h3_qpack_encoder_set_peer_settings(h3_qpack_encoder *encoder, uint64_t max_capacity,
+                                                       uint64_t max_blocked) {
+  if (!H3Q_IS_END(encoder) || (size_t)max_capacity != max_capacity || (size_t)max_blocked != max_blocked)
+    return H3_QPACK_ERR_INVALID;
+  return h3q_encoder_set_peer_settings(encoder, (size_t)max_capacity, (size_t)max_blocked);
 }
 
 H3_QPACK_INLINE int h3_qpack_encoder_set_capacity(h3_qpack_encoder *encoder, size_t capacity) {
