@@ -1,0 +1,170 @@
+#!/usr/bin/env python3
+"""Tests dist/qpk-capture: packets as tshark prints them, to the lines that qpk show reads.
+
+    tests/captures.py
+
+It needs neither tshark nor qpk. It ends with a line 'N passed, 0 failed', and with status 1 if a test failed.
+"""
+import importlib.machinery
+import importlib.util
+import io
+import sys
+import traceback
+from pathlib import Path
+
+TOP = Path(__file__).resolve().parent.parent
+CLIENT, SERVER = ("10.0.0.1", "50000"), ("10.0.0.2", "443")
+SETTINGS = "00 04 05 01 50 00 07 10"  # a control stream: capacity 4096, and 16 blocked streams
+
+
+def load():
+    """Returns the script as a module."""
+    sys.dont_write_bytecode = True
+    loader = importlib.machinery.SourceFileLoader("qpk_capture", str(TOP / "dist" / "qpk-capture"))
+    module = importlib.util.module_from_spec(importlib.util.spec_from_loader(loader.name, loader))
+    sys.modules[loader.name] = module
+    loader.exec_module(module)
+    return module
+
+
+capture = load()
+
+
+def field(name, show, inner=""):
+    """Returns a field of a packet."""
+    value = show.replace(" ", "") if name == "quic.stream_data" else ""
+    return f'<field name="{name}" show="{show}" value="{value}">{inner}</field>'
+
+
+def packet(time, source, target, *pieces, connection=0):
+    """Returns a packet with pieces of streams: the stream, the offset, or none where it is 0, and the bytes."""
+    fields = [field("frame.time_relative", time), field("ip.src", source[0]), field("ip.dst", target[0])]
+    fields += [field("udp.srcport", source[1]), field("udp.dstport", target[1])]
+    fields += [field("quic.connection.number", str(connection))]
+    for stream, offset, data in pieces:
+        fields += [field("quic.stream.stream_id", str(stream), field("quic.stream.direction", "0"))]
+        fields += [field("quic.stream.offset", str(offset))] if offset else []
+        fields += [field("quic.stream_data", data)]
+    return f"<packet><proto name='quic'>{''.join(fields)}</proto></packet>"
+
+
+def connections(*packets):
+    """Returns the connections of packets."""
+    pieces = capture.read_pieces(io.BytesIO(f"<pdml>{''.join(packets)}</pdml>".encode()))
+    return [capture.connect(number, pieces[number]) for number in sorted(pieces)]
+
+
+def lines(*packets):
+    """Returns the lines of the one connection of packets."""
+    (connection,) = connections(*packets)
+    return connection.lines
+
+
+def test_both_directions():
+    """Each line has its time, and the mark of the end that sent it."""
+    assert lines(
+        packet("0.001234567", SERVER, CLIENT, (3, 0, SETTINGS)),
+        packet("0.002", CLIENT, SERVER, (2, 0, "00 04 00"), (6, 0, "02 3f e1 1f"), (0, 0, "01 03 00 00 d1")),
+        packet("0.003", SERVER, CLIENT, (11, 0, "03 80"), (0, 0, "01 03 00 00 d9 00 02 68 69")),
+    ) == [
+        "@0.001234 < s 4096 16",
+        "@0.002 > s 0 0",
+        "@0.002 > e 3fe11f",
+        "@0.002 > b 0 0000d1",
+        "@0.003 < d 80",
+        "@0.003 < b 0 0000d9",
+    ]
+
+
+def test_pieces_come_in_any_order():
+    """Bytes are taken in the order of the stream, once each, and a frame or a type may be cut anywhere."""
+    assert lines(
+        packet("1", CLIENT, SERVER, (6, 3, "1f 62 94")),
+        packet("2", CLIENT, SERVER, (0, 0, "01"), (6, 0, "02")),
+        packet("3", CLIENT, SERVER, (6, 1, "3f e1 1f 62"), (0, 4, "d1"), (0, 1, "03 00 00")),
+    ) == ["@3 > e 3fe11f6294", "@3 > b 0 0000d1"]
+
+
+def test_data_is_left_out():
+    """The payload of DATA is passed over, also where it goes on in the next packets; a second section is read."""
+    assert lines(
+        packet("1", CLIENT, SERVER, (4, 0, "01 02 00 00 00 40 64"), (2, 0, "00")),
+        packet("2", CLIENT, SERVER, (4, 7, "01" * 60)),
+        packet("3", CLIENT, SERVER, (4, 67, "01" * 40 + "01 03 00 00 d1")),
+    ) == ["@1 > b 4 0000", "@3 > b 4 0000d1"]
+
+
+def test_pushes():
+    """The push ID of a promise and of a push stream is left out."""
+    assert lines(
+        packet("1", SERVER, CLIENT, (0, 0, "05 04 07 00 00 d1"), (15, 0, "01 40")),
+        packet("2", SERVER, CLIENT, (15, 2, "07 01 03 00 00 d9")),
+    ) == ["@1 < b 0 0000d1", "@2 < b 15 0000d9"]
+
+
+def test_other_streams_and_frames():
+    """Streams and frames of other types have no lines."""
+    assert not lines(
+        packet("1", CLIENT, SERVER, (2, 0, "00 07 01 00 21 00"), (14, 0, "21 02 3f e1 1f"), (0, 0, "21 01 00")),
+    )
+
+
+def test_what_is_missing_is_reported():
+    """A stream ends at bytes that the capture does not contain."""
+    (connection,) = connections(packet("1", CLIENT, SERVER, (6, 0, "02 3f"), (6, 4, "62 94")))
+    assert connection.lines == ["@1 > e 3f"]
+    assert list(connection.gaps()) == ["> stream 6: bytes from 2 to 4 are not in the capture"]
+
+
+def test_connections():
+    """Connections are apart, and a capture that begins with the server knows who it is by its streams."""
+    first, second = connections(
+        packet("1", SERVER, CLIENT, (3, 0, SETTINGS), connection=0),
+        packet("2", SERVER, CLIENT, (7, 0, "02 20"), connection=5),
+        packet("3", CLIENT, SERVER, (2, 0, SETTINGS), connection=5),
+    )
+    assert (first.number, first.client, first.server) == (0, CLIENT, SERVER)
+    assert second.name() == "connection 5, 10.0.0.1:50000 > 10.0.0.2:443"
+    assert second.lines == ["@2 < e 20", "@3 > s 4096 16"]
+
+
+def test_a_frame_that_ends_within_an_integer_is_refused():
+    """SETTINGS that are cut are named."""
+    try:
+        lines(packet("1", SERVER, CLIENT, (3, 0, "00 04 01 41")))
+    except capture.CaptureError as error:
+        assert str(error) == "stream 3 has a frame of type 4 that ends within an integer"
+    else:
+        raise AssertionError("it was read")
+
+
+def test_one_stream():
+    """Of what qpk prints, the lines about a stream are kept, with those below them."""
+    text = (
+        "0.1 > encoder 0: set capacity 64\n  0 of 64 bytes\n0.2 > section 4: required insert count 0, base 0\n"
+        "  2 static 17, :method: GET\n0.3 > section 44: blocked until insertion 1\n0.4 < decoder 0: acknowledge stream 4\n"
+        "0.5 < decoder 1: cancel stream 44\n0.6 < stream 4: given up\n"
+    )
+    kept = capture.of_stream(text, 4).splitlines()
+    assert [it[:12] for it in kept] == ["0.2 > sectio", "  2 static 1", "0.4 < decode", "0.6 < stream"]
+    objects = '{"line":1,"section":4}\n{"line":2,"encoder":0}\n{"line":3,"decoder":0,"stream":4}\n{"line":4,"section":44}\n'
+    assert capture.of_stream(objects, 4) == '{"line":1,"section":4}\n{"line":3,"decoder":0,"stream":4}\n'
+
+
+def main():
+    """Runs all tests."""
+    passed = failed = 0
+    for name, test in sorted(globals().items()):
+        if name.startswith("test_"):
+            try:
+                test()
+                passed += 1
+            except Exception:  # pylint: disable=broad-except # a test may fail in any way
+                failed += 1
+                print(f"{name}:\n{traceback.format_exc()}")
+    print(f"{passed} passed, {failed} failed")
+    return 1 if failed else 0
+
+
+if __name__ == "__main__":
+    sys.exit(main())
