@@ -70,8 +70,13 @@ full_faults() { echo 0000d1 | "$qpk" decode 41 2>/dev/full; }
 needless_faults() { echo 0000d1 | "$qpk" decode 42 2>&-; }
 run_script() { printf 'encode\t4\tfoo\tbar\ntodecoder\t7\ndecode\t4\n' | "$qpk" run 4096 1; }
 inspect() { printf 'e\t6294e7838c767f01\n' | "$qpk" inspect 4096; }
-show() { printf 'b\t4\t0000d1\n' | "$qpk" show 4096 16; }
-show_recording() { printf '\0\0\0\0\0\0\0\004\0\0\0\003\0\0\321' | "$qpk" show --qif 4096 16; }
+show() { printf 'b\t4\t0000d1\n' | "$qpk" show; }
+show_recording() { printf '\0\0\0\0\0\0\0\004\0\0\0\003\0\0\321' | "$qpk" show --qif; }
+show_file() { printf '# a recording\nb 4 0000d1\n' >"$room/recording" && "$qpk" show --max-capacity 0 "$room/recording" </dev/null; }
+show_no_file_faults() { "$qpk" show "$room/none" </dev/null; }
+check() { printf 'd 00\n' | "$qpk" check -; }
+explain() { "$qpk" explain --max-capacity 64 0000 d1 </dev/null; }
+explain_input() { echo 84 | "$qpk" explain --decoder-stream; }
 words_with_blanks() { "$qpk" 'decode 42' "it's \"one\"" '' </dev/null; }
 no_words() { "$qpk" </dev/null; }
 help() { "$qpk" --help </dev/null; }
@@ -94,6 +99,11 @@ try_all() {
     try inspect "1$line" "insert literal 666f6f 626172$line" "qpk: refused: dynamic table error: BadRelativeIndex(1)$line"
     try show "0$line" "section 4: required insert count 0, base 0${line}  2 static 17, :method: GET$line" ""
     try show_recording "0$line" "section 4: required insert count 0, base 0${line}  2 static 17, :method: GET$line" ""
+    try show_file "0$line" "section 4: required insert count 0, base 0${line}  2 static 17, :method: GET$line" ""
+    try show_no_file_faults "1$line" "" "qpk: $room/none is not a file that can be read$line"
+    try check "1$line" - ""
+    try explain "0$line" - ""
+    try explain_input "0$line" "   0  84  1 0000100     acknowledge a section of stream 4$line" ""
     try words_with_blanks "1$line" "" "$usage"
     try no_words "1$line" "" "$usage"
     try help "0$line" - ""

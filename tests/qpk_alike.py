@@ -146,22 +146,41 @@ def recording_cases(proved: str) -> Iterator[Case]:
         half = recording[: len(recording) // 2 + 1]
         yield Case("decode --qif", ("decode", "--qif", *settings), recording)
         yield Case("decode --qif cut", ("decode", "--qif", *settings), half)
-        yield Case("show --qif", ("show", "--qif", *settings), recording)
-        table = ("show", "--qif", "--json", "--table", str(min(capacity, 4096)), str(blocked))
+        yield Case("show --qif", ("show", "--qif", *limits(*settings)), recording)
+        yield Case("check --qif", ("check", "--qif", *limits(*settings)), recording)
+        table = ("show", "--qif", "--json", "--table", *limits(str(min(capacity, 4096)), str(blocked)))
         yield Case("show --qif --json --table", table, recording[:4000])
 
 
+def limits(capacity: str, blocked: str) -> Tuple[str, ...]:
+    """Returns the words that give the limits of an encoder."""
+    return ("--max-capacity", capacity, "--max-blocked", blocked)
+
+
 def connection_cases(numbers: random.Random) -> Iterator[Case]:
-    """Connections of nghttp3, in words and as they are inspected."""
+    """Connections of nghttp3, in words, judged, and as they are inspected; and their bytes, explained."""
     for file in sorted(RECORDED.glob("nghttp3_*.txt")):
         text = file.read_bytes()
         capacity, blocked = file.stem.split("_")[1:3]
         for options in ((), ("--json",), ("--table",), ("--json", "--table")):
-            yield Case(" ".join(["show", *options]), ("show", *options, capacity, blocked), text)
+            yield Case(" ".join(["show", *options]), ("show", *options, *limits(capacity, blocked)), text)
+        yield Case("check", ("check", *limits(capacity, blocked)), text)
         yield Case("inspect", ("inspect", capacity), without_streams(text))
         for _ in range(3):
-            yield Case("show cut", ("show", capacity, blocked), text[: numbers.randrange(len(text))])
-            yield Case("broken show", ("show", capacity, blocked), break_text(text, numbers))
+            yield Case("show cut", ("show", *limits(capacity, blocked)), text[: numbers.randrange(len(text))])
+            yield Case("broken show", ("show", *limits(capacity, blocked)), break_text(text, numbers))
+            yield Case("broken check", ("check", "--json", *limits(capacity, blocked)), break_text(text, numbers))
+        yield from explain_cases(text, numbers)
+
+
+def explain_cases(text: bytes, numbers: random.Random) -> Iterator[Case]:
+    """Some lines of a connection, each with its bytes explained, whole and cut."""
+    kinds = {b"b": ("explain",), b"e": ("explain", "--encoder-stream"), b"d": ("explain", "--decoder-stream")}
+    for line in numbers.sample(text.splitlines(), 10):
+        parts = line.split(b"\t")
+        words = kinds[parts[0]]
+        yield Case("explain", words, parts[-1])
+        yield Case("explain cut", (*words, parts[-1][: numbers.randrange(len(parts[-1])) // 2 * 2]))
 
 
 def without_streams(text: bytes) -> bytes:
@@ -177,7 +196,8 @@ def word_cases() -> Iterator[Case]:
         *("", "--help", "--help x", "--version", "-h", "help", "prove", "ENCODE", "encode x", "encode -- x", "decode"),
         *("decode 12x", "decode -1", "decode +5", "decode 007", f"decode {2**64 - 1}", f"decode {2**64}"),
         *("decode --hex", "decode --hex --json 1", "run", "run 1", "run a b", "run 1 2 3", "inspect", "inspect x"),
-        *(f"inspect {2**63}", "show", "show 1", "show --json 1", "show --bad 1 2", "show --json --json 1 2"),
+        *(f"inspect {2**63}", "show", "show 1", "show --json --max-blocked", "show --bad", "show --json --json -"),
+        *("check", "check --table", "check --max-capacity x", "explain", "explain 0", "explain 00 --bad", "help show", "help x"),
         *("encode --qif", "encode --qif 1 2 3", "encode --qif 1 2 2", "decode --qif 1", "decode --qif 1 x"),
     ):
         yield from word_case(*text.split())
@@ -192,7 +212,7 @@ def word_cases() -> Iterator[Case]:
     yield from word_case(b"\xff\xfe")
     for length in lengths:
         yield from word_case("decode", "1" * length)
-        yield from word_case("show", "x" * length, "16")
+        yield from word_case("show", "x" * length)
     yield from word_case("x" * 131_071)
     yield from word_case("decode", *["y"] * 3000)
 
@@ -218,7 +238,7 @@ def system_cases() -> Iterator[Case]:
         (("decode", "12x"), b""),
         (run_words, run_text),
         (("inspect", "4096"), b"b\t0000d1\n"),
-        (("show", "4096", "16"), b"b\t4\t0000d1\n"),
+        (("show",), b"b\t4\t0000d1\n"),
         (("encode", "--qif", "0", "0", "0"), read_lists()[0]),
         (("--help",), b""),
     ):
@@ -238,7 +258,7 @@ def large_cases() -> Iterator[Case]:
         (("decode", "42"), b"0" * 15_000_000),
         (("inspect", "4096"), b"b\t0000d1\n" * 50_000),
         (("run", "4096", "8"), b"encode\t4\tfoo\tbar\ntoencoder\t99\ntodecoder\t99\n" * 8000),
-        (("show", "4096", "16"), b"b\t4\t0000" + b"d1" * 100_000 + b"\n"),
+        (("show",), b"b\t4\t0000" + b"d1" * 100_000 + b"\n"),
     ):
         for system in (PLAIN, System(memory=40), System(stdout="full"), System(stdout="broken")):
             yield Case("large", words, text, system)

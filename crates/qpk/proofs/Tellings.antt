@@ -1,14 +1,15 @@
 -- A refusal and the line that tells it.
-use Rattle.std.proofs.Common.{◌≡◌, ℕ, List, Option, Some, None, Result, Ok, Err, refl, sym, subst, inl, inr}
+use Rattle.std.proofs.Common.{◌≡◌, ◌≢◌, ℕ, List, Option, Some, None, Result, Ok, Err, refl, sym, subst, inl, inr}
 use Rattle.std.specs.Io.KnownBytes.{Appends}
-use Rattle.std.specs.Prelude.{String, codes, IfSome, OnOk, OnErr, string_bytes}
+use Rattle.std.specs.Prelude.{String, codes, IfSome, OnOk, OnErr}
 use Rattle.qpk.specs.Refusals.{AppendsPart, AppendsFront, MayWantMemory, TellsBy, refusal_line}
 use Rattle.qpack_codec.specs.declared.error.DecoderError.{DecoderError}
-use Rattle.qpk.specs.Serving.{HasFault, EndsFor, EndsForCommand, Stops, IsInspection, input_of}
+use Rattle.qpk.specs.Serving.{HasStatus, TellsFound, HasFault, EndsFor, EndsForCommand, Stops, IsInspection, input_of}
 use Rattle.qpk.specs.declared.command.Command.{Command}
 use Rattle.qpk.specs.declared.command.Command.TheVariants.{Help, Encode, Decode, DecodeHex, Inspect, Run, Show}
-use Rattle.qpk.specs.declared.command.Command.TheVariants.{DecodeJson, EncodeLists, DecodeRecords}
-use Rattle.qpk.specs.Commands.{TellsWords, WordsFault}
+use Rattle.qpk.specs.declared.command.Command.TheVariants.{DecodeJson, EncodeLists, DecodeRecords, Version, Check}
+use Rattle.qpk.specs.declared.command.Command.TheVariants.{ExplainWords, ExplainInput}
+use Rattle.qpk.specs.Commands.{KeepsWord, TellsWords, WordsFault}
 use Rattle.qpk.specs.declared.text.Fault.{Fault}
 use Rattle.qpk.specs.declared.text.Fault.TheVariants.{Memory}
 use Rattle.qpk.specs.declared.refusal.Refusal.{Refusal}
@@ -29,14 +30,18 @@ pub told_of_memory : (r : Refusal) (P : List ℕ → Type 0) (written : List ℕ
 told_of_memory r P written e may wrote = (refusal.Fault Memory, inr (may, refl), subst P e wrote)
 
 memory_has : (command : Command) (bytes : List ℕ) → HasFault command bytes Memory
-memory_has Help bytes = refl
+memory_has (Help topic) bytes = refl
+memory_has Version bytes = refl
 memory_has Encode bytes = tt
 memory_has (Decode limit) bytes = tt
 memory_has (DecodeHex limit) bytes = tt
 memory_has (DecodeJson limit) bytes = tt
 memory_has (Inspect capacity) bytes = tt
 memory_has (Run capacity limit) bytes = tt
-memory_has (Show options maximum limit) bytes = tt
+memory_has (Show options) bytes = tt
+memory_has (Check options) bytes = tt
+memory_has (ExplainWords options) bytes = tt
+memory_has (ExplainInput options) bytes = tt
 memory_has (EncodeLists settings) bytes = tt
 memory_has (DecodeRecords settings) bytes = tt
 
@@ -49,18 +54,18 @@ memory_may_be command (Some bytes) = memory_has command bytes
 words_memory : (r : Refusal) (fault : WordsFault) → MayWantMemory r → TellsWords r fault
     → TellsWords (refusal.Fault Memory) fault
 words_memory refusal.Usage fault may tells = absurd may
-words_memory refusal.OtherCount fault may tells = absurd may
-words_memory (refusal.BadWord wanted word) fault may tells = (refl, wanted, string_bytes word, tells)
+words_memory (refusal.Missing topic wanted) fault may tells = (refl, subst KeepsWord (sym tells) tt)
+words_memory (refusal.BadWord topic wanted word) fault may tells = (refl, subst KeepsWord (sym tells) tt)
 words_memory refusal.Input fault may tells = absurd may
 words_memory refusal.Output fault may tells = absurd may
-words_memory (refusal.Fault f) fault may tells = (refl, tells.1, tells.2, tells.3)
+words_memory (refusal.Fault f) fault may tells = (refl, tells.1)
 
 -- a command that ends for a fault may as well end for want of memory
 command_memory : (command : Command) (input old new : Option (List ℕ)) (r : Refusal) → MayWantMemory r
     → EndsForCommand command input old new r → EndsForCommand command input old new (refusal.Fault Memory)
 command_memory command input old new refusal.Usage may ends = absurd may
-command_memory command input old new refusal.OtherCount may ends = absurd may
-command_memory command input old new (refusal.BadWord wanted word) may ends = absurd ends
+command_memory command input old new (refusal.Missing topic wanted) may ends = absurd ends
+command_memory command input old new (refusal.BadWord topic wanted word) may ends = absurd ends
 command_memory command input old new refusal.Input may ends = absurd may
 command_memory command input old new refusal.Output may ends = absurd may
 command_memory command input old new (refusal.Fault fault) may (inl h) =
@@ -95,13 +100,43 @@ ends_told words input old new r P ends (told, inr (may, e), wrote) = (
 
 pub stops_inspecting : (command : Command) (bytes out : List ℕ) (e : DecoderError) → Stops command bytes out e
     → IsInspection command
-stops_inspecting Help bytes out e stops = stops
+stops_inspecting (Help topic) bytes out e stops = stops
+stops_inspecting Version bytes out e stops = stops
 stops_inspecting Encode bytes out e stops = stops
 stops_inspecting (Decode limit) bytes out e stops = stops
 stops_inspecting (DecodeHex limit) bytes out e stops = stops
 stops_inspecting (DecodeJson limit) bytes out e stops = stops
 stops_inspecting (Inspect capacity) bytes out e stops = tt
 stops_inspecting (Run capacity limit) bytes out e stops = stops
-stops_inspecting (Show options maximum limit) bytes out e stops = stops
+stops_inspecting (Show options) bytes out e stops = stops
+stops_inspecting (Check options) bytes out e stops = stops
+stops_inspecting (ExplainWords options) bytes out e stops = stops
+stops_inspecting (ExplainInput options) bytes out e stops = stops
 stops_inspecting (EncodeLists settings) bytes out e stops = stops
 stops_inspecting (DecodeRecords settings) bytes out e stops = stops
+
+-- a status that is not 0 tells that something was refused or found
+pub found_of : (command : Command) (status : ℕ) → HasStatus command status → status ≢ 0 → TellsFound command status
+found_of command status (inl none) other = absurd (other none)
+found_of command status (inr found) other = found
+
+-- what an inspection stops at is the input, where that is known
+pub inspected_input : (command : Command) (input : Option (List ℕ)) (bytes out : List ℕ) (e : DecoderError)
+    → IsInspection command → IfSome (input_of command input) (λ all. bytes ≡ all) → Stops command bytes out e
+    → IfSome input (λ all. Stops command all out e)
+inspected_input (Inspect capacity) None bytes out e is read stops = tt
+inspected_input (Inspect capacity) (Some all) bytes out e is read stops =
+    subst (λ (b : List ℕ). Stops (Inspect capacity) b out e) read stops
+inspected_input (Help topic) input bytes out e is read stops = absurd is
+inspected_input Version input bytes out e is read stops = absurd is
+inspected_input Encode input bytes out e is read stops = absurd is
+inspected_input (Decode limit) input bytes out e is read stops = absurd is
+inspected_input (DecodeHex limit) input bytes out e is read stops = absurd is
+inspected_input (DecodeJson limit) input bytes out e is read stops = absurd is
+inspected_input (Run capacity limit) input bytes out e is read stops = absurd is
+inspected_input (Show options) input bytes out e is read stops = absurd is
+inspected_input (Check options) input bytes out e is read stops = absurd is
+inspected_input (ExplainWords options) input bytes out e is read stops = absurd is
+inspected_input (ExplainInput options) input bytes out e is read stops = absurd is
+inspected_input (EncodeLists settings) input bytes out e is read stops = absurd is
+inspected_input (DecodeRecords settings) input bytes out e is read stops = absurd is

@@ -3,10 +3,11 @@ use Rattle.std.specs.Prelude.{◌≡◌, ℕ, ◌<◌, List, ◌++◌, codes, le
 use Rattle.std.specs.Fmt.{decimal}
 use Rattle.std.specs.Io.KnownBytes.{Appends}
 use Rattle.qpk.specs.ErrorWords.{decoder_words, recording_words}
-use Rattle.qpk.specs.Usage.{help_text, usage_line}
+use Rattle.qpk.specs.Usage.{usage_line, usage_of}
+use Rattle.qpk.specs.declared.usage.Topic.{Topic}
 use Rattle.qpk.specs.declared.text.Fault.{Fault}
 use Rattle.qpk.specs.declared.text.Fault.TheVariants.{NoTab, BadEvent, NotHexadecimal, Refused, Capacity, Limit}
-use Rattle.qpk.specs.declared.text.Fault.TheVariants.{Memory, Recording}
+use Rattle.qpk.specs.declared.text.Fault.TheVariants.{Memory, Recording, Told}
 use Rattle.qpk.specs.declared.refusal.Refusal.{Refusal}
 use Rattle.qpk.specs.declared.refusal.Refusal.TheVariants as refusal
 use Rattle.qpk.specs.declared.refusal.Wanted.{Wanted}
@@ -21,6 +22,7 @@ fault_text (Refused e) = codes "refused: " ++ decoder_words e
 fault_text Capacity = codes "refused: capacity"
 fault_text Limit = codes "refused: limit"
 fault_text (Recording e) = recording_words e
+fault_text (Told reason) = string_bytes reason
 fault_text Memory = codes "refused: memory"
 
 -- the line that tells it
@@ -30,19 +32,37 @@ fault_line fault = codes "qpk: " ++ fault_text fault ++ codes "\n"
 -- what a word is not
 abbrev pub wanted_words : Wanted → List ℕ
 wanted_words wanted.Option = codes "not an option here"
-wanted_words wanted.Number = codes "not a whole number below 2^64"
 wanted_words wanted.Acknowledged = codes "neither 0 nor 1"
+wanted_words wanted.Command = codes "not a command"
+wanted_words wanted.Nothing = codes "one word too many"
+wanted_words w = codes "not a whole number below 2^64"
 
--- the line that tells a word at fault, and all commands
-abbrev pub bad_word_line : Wanted → List ℕ → List ℕ
-bad_word_line wanted word =
-    codes "qpk: \"" ++ word ++ codes "\" is " ++ wanted_words wanted ++ codes "\n" ++ help_text
+-- the name of a word in the lines of how a command is called
+abbrev pub name_of : Wanted → List ℕ
+name_of wanted.Option = codes "an option"
+name_of wanted.Number = codes "a number"
+name_of wanted.Acknowledged = codes "ACK, which is 0 or 1,"
+name_of wanted.Command = codes "COMMAND"
+name_of wanted.Nothing = codes "nothing"
+name_of wanted.Capacity = codes "CAPACITY"
+name_of wanted.Blocked = codes "BLOCKED"
+name_of wanted.Limit = codes "LIMIT"
+name_of wanted.MaxCapacity = codes "the number after --max-capacity"
+name_of wanted.MaxBlocked = codes "the number after --max-blocked"
 
--- the line that tells a refusal; of the words of an addition to the usage it tells all commands
+-- how a command is called, and that a word is missing
+abbrev pub missing_line : Topic → Wanted → List ℕ
+missing_line t w = usage_of t ++ codes "qpk: " ++ name_of w ++ codes " is missing\n"
+
+-- how a command is called, and a word at fault
+abbrev pub bad_word_line : Topic → Wanted → List ℕ → List ℕ
+bad_word_line t w word = usage_of t ++ codes "qpk: \"" ++ word ++ codes "\" is " ++ wanted_words w ++ codes "\n"
+
+-- the line that tells a refusal; of the words of an addition to the usage it tells how the command is called
 abbrev pub refusal_line : Refusal → List ℕ
 refusal_line refusal.Usage = usage_line
-refusal_line refusal.OtherCount = help_text
-refusal_line (refusal.BadWord wanted word) = bad_word_line wanted (string_bytes word)
+refusal_line (refusal.Missing t w) = missing_line t w
+refusal_line (refusal.BadWord t w word) = bad_word_line t w (string_bytes word)
 refusal_line refusal.Input = codes "qpk: refused: input\n"
 refusal_line refusal.Output = codes "qpk: refused: output\n"
 refusal_line (refusal.Fault fault) = fault_line fault
@@ -50,8 +70,8 @@ refusal_line (refusal.Fault fault) = fault_line fault
 -- its line may want memory: it tells a word, or a fault
 abbrev pub MayWantMemory : Refusal → Type 0
 MayWantMemory refusal.Usage = ⊥
-MayWantMemory refusal.OtherCount = ⊥
-MayWantMemory (refusal.BadWord wanted word) = Unit {0}
+MayWantMemory (refusal.Missing t w) = Unit {0}
+MayWantMemory (refusal.BadWord t w word) = Unit {0}
 MayWantMemory refusal.Input = ⊥
 MayWantMemory refusal.Output = ⊥
 MayWantMemory (refusal.Fault fault) = Unit {0}

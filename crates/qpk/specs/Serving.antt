@@ -1,5 +1,5 @@
 -- What the program does with its words and its input.
-use Rattle.std.specs.Prelude.{◌≡◌, ℕ, ◌⊎◌, List, [], ◌∷◌, ◌++◌, Ok, Result, Err, Option, None, Some, map}
+use Rattle.std.specs.Prelude.{◌≡◌, ℕ, Bool, false, ◌⊎◌, List, [], ◌∷◌, ◌++◌, Ok, Result, Err, Option, None, Some, map}
 use Rattle.std.specs.Prelude.{codes, IfSome}
 use Rattle.std.specs.Prelude.{string_bytes, String}
 use Rattle.std.specs.Fmt.{decimal}
@@ -11,11 +11,12 @@ use Rattle.qpk.specs.Answers.{encode_answer, without_feed, FailsText, FailsHexad
 use Rattle.qpk.specs.Commands.{WordsFault, TellsWords, command_of}
 use Rattle.qpk.specs.declared.command.Command.{Command}
 use Rattle.qpk.specs.declared.command.Command.TheVariants.{Help, Encode, Decode, DecodeHex, Inspect, Run, Show}
-use Rattle.qpk.specs.declared.command.Command.TheVariants.{DecodeJson, EncodeLists, DecodeRecords}
+use Rattle.qpk.specs.declared.command.Command.TheVariants.{DecodeJson, EncodeLists, DecodeRecords, Version, Check}
+use Rattle.qpk.specs.declared.command.Command.TheVariants.{ExplainWords, ExplainInput}
 use Rattle.qpk.specs.Json.{section_json}
 use Rattle.qpk.specs.Notes.{IsNoteOf}
 use Rattle.qpk.specs.Refusals.{AppendsPart, AppendsFront}
-use Rattle.qpk.specs.Usage.{help_text}
+use Rattle.qpk.specs.Usage.{help_text, version_line}
 use Rattle.qpk.specs.declared.refusal.Refusal.{Refusal}
 use Rattle.qpk.specs.declared.refusal.Refusal.TheVariants as refusal
 use Rattle.qpk.specs.declared.text.Fault.{Fault}
@@ -44,19 +45,35 @@ abbrev pub hexadecimal_answer : List Field → List ℕ
 hexadecimal_answer fs =
     hexadecimal_fields fs ++ codes "size " ++ decimal (saturated_size (total_size fs)) ++ 10 ∷ []
 
--- the input that a command answers, where it is known: help answers none
+-- a command that reads no input: its answer is known, or its words have the bytes
+abbrev pub ReadsNone : Command → Type 0
+ReadsNone (Help topic) = Unit {0}
+ReadsNone Version = Unit {0}
+ReadsNone (ExplainWords options) = Unit {0}
+ReadsNone command = ⊥
+
+-- the words ask for a command that reads no input
+abbrev pub AsksForNone : {Z : Type 0} → List (String Z) → Type 0
+AsksForNone words = (command : Command) × AsksFor words command × ReadsNone command
+
+-- the input that a command answers, where it is known: help and the version answer none
 abbrev pub input_of : Command → Option (List ℕ) → Option (List ℕ)
-input_of Help input = Some []
+input_of (Help topic) input = Some []
+input_of Version input = Some []
+input_of (ExplainWords options) input = None
 input_of command input = input
 
--- an input can't be read, or there is no memory for it; help reads none
+-- an input can't be read, or there is no memory for it; help and the version read none
 abbrev pub FailsToRead : Command → Refusal → Type 0
-FailsToRead Help r = ⊥
+FailsToRead (Help topic) r = ⊥
+FailsToRead Version r = ⊥
 FailsToRead command r = (r ≡ refusal.Input) ⊎ (r ≡ refusal.Fault Memory)
 
--- the output that answers a command's input; what is shown has the clauses of `qpk_show`, and its text none
+-- the output that answers a command's input; what is shown, judged and explained has the clauses of `qpk_show` and of the
+-- crates below it, and its text none
 abbrev pub Answers : Command → List ℕ → List ℕ → Type 0
-Answers Help input out = out ≡ help_text
+Answers (Help topic) input out = out ≡ help_text topic
+Answers Version input out = out ≡ version_line
 Answers Encode input out = (text : List ℕ) × (encode_answer input ≡ Ok text) × (out ≡ text ++ 10 ∷ [])
 Answers (Decode limit) input out =
     (block : List ℕ) × (fs : List Field) × (decode_of (without_feed input) ≡ Ok block)
@@ -69,7 +86,10 @@ Answers (DecodeJson limit) input out =
     × (stateless_reading limit block ≡ Ok fs) × (out ≡ section_json fs)
 Answers (Inspect capacity) input out = PrintsInspection capacity input out None
 Answers (Run capacity limit) input out = PrintsRun capacity limit input out
-Answers (Show options maximum limit) input out = Unit {0}
+Answers (Show options) input out = Unit {0}
+Answers (Check options) input out = Unit {0}
+Answers (ExplainWords options) input out = Unit {0}
+Answers (ExplainInput options) input out = Unit {0}
 Answers (EncodeLists settings) input out = Unit {0}
 Answers (DecodeRecords settings) input out = Unit {0}
 
@@ -90,16 +110,40 @@ Prints command input out (Some e) = Stops command input out e
 
 -- the fault that stands in a command's input, or want of memory
 abbrev pub HasFault : Command → List ℕ → Fault → Type 0
-HasFault Help input fault = fault ≡ Memory
+HasFault (Help topic) input fault = fault ≡ Memory
+HasFault Version input fault = fault ≡ Memory
 HasFault Encode input fault = FailsText fault (encode_answer input)
 HasFault (Decode limit) input fault = FailsHexadecimal fault limit (decode_of (without_feed input))
 HasFault (DecodeHex limit) input fault = FailsHexadecimal fault limit (decode_of (without_feed input))
 HasFault (DecodeJson limit) input fault = FailsHexadecimal fault limit (decode_of (without_feed input))
 HasFault (Inspect capacity) input fault = FailsInspection capacity input fault
 HasFault (Run capacity limit) input fault = HasRunFault capacity limit input fault
-HasFault (Show options maximum limit) input fault = Unit {0}
+HasFault (Show options) input fault = Unit {0}
+HasFault (Check options) input fault = Unit {0}
+HasFault (ExplainWords options) input fault = Unit {0}
+HasFault (ExplainInput options) input fault = Unit {0}
 HasFault (EncodeLists settings) input fault = Unit {0}
 HasFault (DecodeRecords settings) input fault = Unit {0}
+
+-- only what is shown, judged or explained has something that is refused or found, which the status tells
+abbrev pub MayFind : Command → Bool → Type 0
+MayFind (Show options) found = Unit {0}
+MayFind (Check options) found = Unit {0}
+MayFind (ExplainWords options) found = Unit {0}
+MayFind (ExplainInput options) found = Unit {0}
+MayFind command found = found ≡ false
+
+-- the status where something was refused or found
+abbrev pub TellsFound : Command → ℕ → Type 0
+TellsFound (Show options) status = status ≡ 2
+TellsFound (Check options) status = status ≡ 1
+TellsFound (ExplainWords options) status = status ≡ 2
+TellsFound (ExplainInput options) status = status ≡ 2
+TellsFound command status = ⊥
+
+-- the status of an answer
+abbrev pub HasStatus : Command → ℕ → Type 0
+HasStatus command status = (status ≡ 0) ⊎ TellsFound command status
 
 -- the output that a command's input asks for, or the fault that stands there
 abbrev pub AnswersInput : Command → List ℕ → Result Output Fault → Type 0
@@ -127,10 +171,23 @@ abbrev pub IsAnswered : {Z : Type 0} → List (String Z) → Option (List ℕ) �
 IsAnswered words input old new note =
     (command : Command) × AsksFor words command × IsAnsweredBy command input old new note
 
+-- the same, and the status
+abbrev pub EndsWell : {Z : Type 0} → List (String Z) → Option (List ℕ) → Option (List ℕ) → Option (List ℕ)
+    → Option (List ℕ) → ℕ → Type 0
+EndsWell words input old new note status =
+    (command : Command) × AsksFor words command × IsAnsweredBy command input old new note × HasStatus command status
+
 -- what was said: all of it, or a part, where a write failed
 abbrev pub SaysNote : Option (List ℕ) → Option (List ℕ) → Option (List ℕ) → Type 0
 SaysNote old new None = new ≡ old
 SaysNote old new (Some line) = AppendsFront old new line
+
+-- the command that the words ask for is answered, and the status tells that something was refused or found
+abbrev pub IsFound : {Z : Type 0} → List (String Z) → Option (List ℕ) → Option (List ℕ) → Option (List ℕ)
+    → Option (List ℕ) → Option (List ℕ) → ℕ → Type 0
+IsFound words input old new said saying status =
+    (note : Option (List ℕ)) × (command : Command) × AsksFor words command × IsAnsweredBy command input old new note
+    × TellsFound command status × SaysNote said saying note
 
 -- it ended for its words, which the refusal tells, and nothing was written
 abbrev pub EndsForWords : {Z : Type 0} → List (String Z) → Option (List ℕ) → Option (List ℕ) → Refusal → Type 0
@@ -142,8 +199,8 @@ EndsForWords words old new r =
 -- it. The input is what the reader gives, where that is known, and the output what the writer held before and after
 abbrev pub EndsForCommand : Command → Option (List ℕ) → Option (List ℕ) → Option (List ℕ) → Refusal → Type 0
 EndsForCommand command input old new refusal.Usage = ⊥
-EndsForCommand command input old new refusal.OtherCount = ⊥
-EndsForCommand command input old new (refusal.BadWord wanted word) = ⊥
+EndsForCommand command input old new (refusal.Missing topic wanted) = ⊥
+EndsForCommand command input old new (refusal.BadWord topic wanted word) = ⊥
 EndsForCommand command input old new refusal.Input = FailsToRead command refusal.Input × (new ≡ old)
 EndsForCommand command input old new refusal.Output =
     IfSome (input_of command input) (λ bytes. (out : List ℕ) × (refused : Option DecoderError)

@@ -1,23 +1,33 @@
 //! What the words of a call ask for.
 
-ghost use Rattle.std.specs.Prelude.{◌≡◌, false, map, string_bytes};
-ghost use Rattle.qpk.specs.Commands.{BadWord as FaultOfWord, ReadsWords, TellsWords, command_of, decode_of, encode_of};
-ghost use Rattle.qpk.specs.Commands.{help_alone, is_option, lists_of, no_option, one_number, only_number, only_numbers};
-ghost use Rattle.qpk.specs.Commands.{or_other_words, read_acknowledged, read_number, records_of, show_of, two_numbers};
-ghost use Rattle.qpk.specs.Commands.{with_option};
+ghost use Rattle.std.specs.Prelude.{◌≡◌, map, string_bytes};
+ghost use Rattle.qpk.specs.Commands.{BadWord as FaultOfWord, ReadsWords, SplitsNumber, TellsWords, at_number, command_of};
+ghost use Rattle.qpk.specs.Commands.{connection_of, connection_words, decode_of, encode_of, explain_of, explain_words};
+ghost use Rattle.qpk.specs.Commands.{finished_connection, finished_explain, help_alone, help_of, inspect_of, is_help};
+ghost use Rattle.qpk.specs.Commands.{is_option, lists_of, no_more, no_option, one_number, only_number, only_numbers};
+ghost use Rattle.qpk.specs.Commands.{or_other_words, read_acknowledged, read_number, records_of, run_of, topic_for};
+ghost use Rattle.qpk.specs.Commands.{topic_of, version_alone, with_connection_option, with_connection_word};
+ghost use Rattle.qpk.specs.Commands.{with_connection_words, with_explain_word, with_explain_words};
 ghost use Rattle.qpk.specs.Scripts.{number_of};
 
 use crate::refusal::{Refusal, Wanted};
 use crate::script::parts;
 use crate::text::Fault;
+use crate::usage::Topic;
 use qpk_qif::session::{DecoderSettings, EncoderSettings};
+use qpk_view::check::CheckOptions;
+use qpk_view::events::Settings;
+use qpk_view::explain::{ExplainOptions, Kind};
+use qpk_view::show::ShowOptions;
 use std::alloc::Global;
 
 /// What the words ask for.
 #[derive(Clone, Copy)]
 pub enum Command {
-    /// Print all commands with examples; no input is read.
-    Help,
+    /// Print the help on a command, or on all; no input is read.
+    Help(Topic),
+    /// Print the version; no input is read.
+    Version,
     /// Encode the fields of the input's lines.
     Encode,
     /// Encode the header lists of the input, in QIF, to a recording of the offline interop format.
@@ -34,23 +44,18 @@ pub enum Command {
     Inspect(usize),
     /// Run the events of the input on a session of this capacity in bytes, where so many blocks may be blocked.
     Run(usize, usize),
-    /// Show a connection with this maximum table capacity in bytes, where so many streams may be blocked.
-    Show(ShowOptions, usize, usize),
-}
-
-/// What stands in the input of `qpk show`, and what is printed of it.
-#[derive(Clone, Copy)]
-pub struct ShowOptions {
-    /// Whether the table is printed behind each instruction.
-    pub table: bool,
-    /// Whether objects of JSON are printed.
-    pub json: bool,
-    /// Whether the input is a recording of the offline interop format, and no lines.
-    pub qif: bool,
+    /// Show a connection.
+    Show(ShowOptions),
+    /// Judge a connection.
+    Check(CheckOptions),
+    /// Explain the bytes that the words have, without a word of the input.
+    ExplainWords(ExplainOptions),
+    /// Explain the bytes of the input.
+    ExplainInput(ExplainOptions),
 }
 
 /// Returns what the words ask for, without the program's name; or that they ask for nothing, and of an addition to the
-/// usage's four commands the word at fault, if one is. Memory is asked for to keep that word.
+/// usage's four commands what is missing, or the word at fault. Memory is asked for to keep that word.
 pub fn read_command(alloc: Global, words: &[String]) -> Result<Command, Refusal>
     ensures { ReadsWords result (command_of (map string_bytes words.now)) }
 {
@@ -58,8 +63,11 @@ pub fn read_command(alloc: Global, words: &[String]) -> Result<Command, Refusal>
         return Err(Refusal::Usage);
     };
     let name = name.as_str();
-    if name == "--help" {
-        return read_help(rest);
+    if is_help(name) || name == "help" {
+        return read_help(alloc, rest);
+    }
+    if name == "--version" {
+        return read_version(alloc, rest);
     }
     if name == "encode" {
         return read_encode(alloc, rest);
@@ -68,17 +76,28 @@ pub fn read_command(alloc: Global, words: &[String]) -> Result<Command, Refusal>
         return read_decode(alloc, rest);
     }
     if name == "inspect" {
-        let capacity = only_number(rest)?;
-        return Ok(Command::Inspect(capacity as usize));
+        return read_inspect(alloc, rest);
     }
     if name == "run" {
-        let (capacity, limit) = only_numbers(rest)?;
-        return Ok(Command::Run(capacity as usize, limit as usize));
+        return read_run(alloc, rest);
     }
     if name == "show" {
-        return read_show(alloc, rest);
+        return read_connection(alloc, false, rest);
+    }
+    if name == "check" {
+        return read_connection(alloc, true, rest);
+    }
+    if name == "explain" {
+        return read_explain(alloc, rest);
     }
     Err(Refusal::Usage)
+}
+
+/// Whether a word asks for help.
+fn is_help(word: &str) -> bool
+    ensures { result ≡ is_help word.now }
+{
+    word == "--help" || word == "-h"
 }
 
 /// Returns the number that these words are, and nothing else.
@@ -113,17 +132,72 @@ fn or_usage(word: &str) -> Result<u64, Refusal>
     }
 }
 
-/// Returns what the words behind `--help` ask for: none may stand there.
-fn read_help(rest: &[String]) -> Result<Command, Refusal>
-    ensures { ReadsWords result (help_alone (map string_bytes rest.now)) }
+/// Returns what the words after `help` ask for: a command, or all.
+fn read_help(alloc: Global, rest: &[String]) -> Result<Command, Refusal>
+    ensures { ReadsWords result (help_of (map string_bytes rest.now)) }
 {
-    if rest.is_empty() {
-        return Ok(Command::Help);
-    }
-    Err(Refusal::OtherCount)
+    let Some((name, more)) = rest.split_first() else {
+        return Ok(Command::Help(Topic::All));
+    };
+    no_more(alloc, Topic::All, more)?;
+    Ok(Command::Help(topic_of(alloc, name.as_str())?))
 }
 
-/// What the words behind `encode` ask for.
+/// Returns the command of a name.
+fn topic_of(alloc: Global, name: &str) -> Result<Topic, Refusal>
+    ensures { ReadsWords result (topic_of name.now) }
+{
+    if name == "encode" {
+        return Ok(Topic::Encode);
+    }
+    if name == "decode" {
+        return Ok(Topic::Decode);
+    }
+    if name == "inspect" {
+        return Ok(Topic::Inspect);
+    }
+    if name == "run" {
+        return Ok(Topic::Run);
+    }
+    if name == "show" {
+        return Ok(Topic::Show);
+    }
+    if name == "explain" {
+        return Ok(Topic::Explain);
+    }
+    if name == "check" {
+        return Ok(Topic::Check);
+    }
+    Err(bad_word(alloc, Topic::All, Wanted::Command, name))
+}
+
+/// Returns the help on a command, after which no word may come.
+fn help_alone(alloc: Global, topic: Topic, rest: &[String]) -> Result<Command, Refusal>
+    ensures { ReadsWords result (help_alone topic (map string_bytes rest.now)) }
+{
+    no_more(alloc, topic, rest)?;
+    Ok(Command::Help(topic))
+}
+
+/// Returns what `--version` asks for, after which no word may come.
+fn read_version(alloc: Global, rest: &[String]) -> Result<Command, Refusal>
+    ensures { ReadsWords result (version_alone (map string_bytes rest.now)) }
+{
+    no_more(alloc, Topic::All, rest)?;
+    Ok(Command::Version)
+}
+
+/// Refuses words.
+fn no_more(alloc: Global, topic: Topic, words: &[String]) -> Result<(), Refusal>
+    ensures { ReadsWords result (no_more topic (map string_bytes words.now)) }
+{
+    match words.split_first() {
+        None => Ok(()),
+        Some((word, _)) => Err(bad_word(alloc, topic, Wanted::Nothing, word.as_str())),
+    }
+}
+
+/// Returns what the words after `encode` ask for.
 fn read_encode(alloc: Global, rest: &[String]) -> Result<Command, Refusal>
     ensures { ReadsWords result (encode_of (map string_bytes rest.now)) }
 {
@@ -133,20 +207,24 @@ fn read_encode(alloc: Global, rest: &[String]) -> Result<Command, Refusal>
     if first.as_str() == "--qif" {
         return read_lists(alloc, behind);
     }
+    if is_help(first.as_str()) {
+        return help_alone(alloc, Topic::Encode, behind);
+    }
     Err(Refusal::Usage)
 }
 
-/// What the words behind `encode --qif` ask for: two numbers, and 0 or 1.
+/// Returns what the words after `encode --qif` ask for: two numbers, and 0 or 1.
 fn read_lists(alloc: Global, words: &[String]) -> Result<Command, Refusal>
     ensures { ReadsWords result (lists_of (map string_bytes words.now)) }
 {
-    no_option(alloc, words)?;
-    let [capacity, blocked, acknowledged] = words else {
-        return Err(Refusal::OtherCount);
+    no_option(alloc, Topic::Encode, words)?;
+    let (capacity, words) = split_number(alloc, Topic::Encode, Wanted::Capacity, words)?;
+    let (blocked, words) = split_number(alloc, Topic::Encode, Wanted::Blocked, words)?;
+    let Some((acknowledged, more)) = words.split_first() else {
+        return Err(Refusal::Missing(Topic::Encode, Wanted::Acknowledged));
     };
-    let capacity = read_number(alloc, capacity.as_str())?;
-    let blocked = read_number(alloc, blocked.as_str())?;
     let acknowledged = read_acknowledged(alloc, acknowledged.as_str())?;
+    no_more(alloc, Topic::Encode, more)?;
     Ok(Command::EncodeLists(EncoderSettings {
         capacity: capacity as usize,
         blocked: blocked as usize,
@@ -164,21 +242,24 @@ fn read_acknowledged(alloc: Global, word: &str) -> Result<bool, Refusal>
     if word == "1" {
         return Ok(true);
     }
-    Err(bad_word(alloc, Wanted::Acknowledged, word))
+    Err(bad_word(alloc, Topic::Encode, Wanted::Acknowledged, word))
 }
 
-/// What the words behind `decode --qif` ask for: two numbers.
+/// Returns what the words after `decode --qif` ask for: two numbers.
 fn read_records(alloc: Global, words: &[String]) -> Result<Command, Refusal>
     ensures { ReadsWords result (records_of (map string_bytes words.now)) }
 {
-    let (capacity, blocked) = two_numbers(alloc, words)?;
+    no_option(alloc, Topic::Decode, words)?;
+    let (capacity, words) = split_number(alloc, Topic::Decode, Wanted::Capacity, words)?;
+    let (blocked, more) = split_number(alloc, Topic::Decode, Wanted::Blocked, words)?;
+    no_more(alloc, Topic::Decode, more)?;
     Ok(Command::DecodeRecords(DecoderSettings {
         capacity: capacity as usize,
         blocked: blocked as usize,
     }))
 }
 
-/// What the words behind `decode` ask for.
+/// Returns what the words after `decode` ask for.
 fn read_decode(alloc: Global, rest: &[String]) -> Result<Command, Refusal>
     ensures { ReadsWords result (decode_of (map string_bytes rest.now)) }
 {
@@ -192,116 +273,387 @@ fn read_decode(alloc: Global, rest: &[String]) -> Result<Command, Refusal>
         if first.as_str() == "--qif" {
             return read_records(alloc, behind);
         }
+        if is_help(first.as_str()) {
+            return help_alone(alloc, Topic::Decode, behind);
+        }
     }
     Ok(Command::Decode(only_number(rest)?))
 }
 
-/// What the words behind `show` ask for: options in any order, and two numbers.
-fn read_show(alloc: Global, words: &[String]) -> Result<Command, Refusal>
-    ensures { ReadsWords result (show_of (record { table = false; json = false; qif = false }) (map string_bytes
-        words.now)) }
+/// Returns what the words after `inspect` ask for.
+fn read_inspect(alloc: Global, rest: &[String]) -> Result<Command, Refusal>
+    ensures { ReadsWords result (inspect_of (map string_bytes rest.now)) }
 {
-    let mut options = ShowOptions {
+    if let Some((first, behind)) = rest.split_first() {
+        if is_help(first.as_str()) {
+            return help_alone(alloc, Topic::Inspect, behind);
+        }
+    }
+    let capacity = only_number(rest)?;
+    Ok(Command::Inspect(capacity as usize))
+}
+
+/// Returns what the words after `run` ask for.
+fn read_run(alloc: Global, rest: &[String]) -> Result<Command, Refusal>
+    ensures { ReadsWords result (run_of (map string_bytes rest.now)) }
+{
+    if let Some((first, behind)) = rest.split_first() {
+        if is_help(first.as_str()) {
+            return help_alone(alloc, Topic::Run, behind);
+        }
+    }
+    let (capacity, limit) = only_numbers(rest)?;
+    Ok(Command::Run(capacity as usize, limit as usize))
+}
+
+/// Which number the next word is.
+#[derive(Clone, Copy, PartialEq)]
+enum Expected {
+    /// It is an option, or none is left.
+    None,
+    /// The maximum capacity.
+    MaxCapacity,
+    /// How many streams may be blocked.
+    MaxBlocked,
+}
+
+/// What the words of `show` or `check` say so far.
+#[derive(Clone, Copy)]
+struct ConnectionWords {
+    is_check: bool,
+    table: bool,
+    json: bool,
+    qif: bool,
+    max_capacity: usize,
+    max_blocked: usize,
+    expected: Expected,
+}
+
+/// Returns what `show` or `check` says where it has no words.
+fn connection_words(is_check: bool) -> ConnectionWords
+    ensures { result ≡ connection_words is_check }
+{
+    ConnectionWords {
+        is_check,
         table: false,
         json: false,
         qif: false,
-    };
-    let mut rest = words;
-    while let Some((first, behind)) = rest.split_first() {
-        if !is_option(first.as_str()) {
-            break;
-        }
-        options = with_option(alloc, options, first.as_str())?;
-        rest = behind;
+        max_capacity: 4096,
+        max_blocked: 100,
+        expected: Expected::None,
     }
-    let (maximum, limit) = two_numbers(alloc, rest)?;
-    Ok(Command::Show(options, maximum as usize, limit as usize))
 }
 
-/// Options with one more.
-fn with_option(alloc: Global, options: ShowOptions, word: &str) -> Result<ShowOptions, Refusal>
-    ensures { ReadsWords result (with_option options word.now) }
+/// Returns what the words after `show` or `check` ask for.
+fn read_connection(alloc: Global, is_check: bool, rest: &[String]) -> Result<Command, Refusal>
+    ensures { ReadsWords result (connection_of is_check (map string_bytes rest.now)) }
 {
-    if word == "--table" {
-        return Ok(ShowOptions {
-            table: true,
-            ..options
-        });
+    if let Some((first, behind)) = rest.split_first() {
+        if is_help(first.as_str()) {
+            return help_alone(alloc, topic_for(is_check), behind);
+        }
+    }
+    let words = read_connection_words(alloc, is_check, rest)?;
+    finish_connection(words)
+}
+
+/// Returns what the words after `show` or `check` say.
+fn read_connection_words(
+    alloc: Global,
+    is_check: bool,
+    rest: &[String],
+) -> Result<ConnectionWords, Refusal>
+    ensures { ReadsWords result (with_connection_words (connection_words is_check) (map string_bytes rest.now)) }
+{
+    let mut words = connection_words(is_check);
+    let mut left = rest;
+    while let Some((first, behind)) = left.split_first() {
+        words = with_connection_word(alloc, words, first.as_str())?;
+        left = behind;
+    }
+    Ok(words)
+}
+
+/// Returns the command that words of `show` or `check` ask for, if no number is missing.
+fn finish_connection(words: ConnectionWords) -> Result<Command, Refusal>
+    ensures { ReadsWords result (finished_connection words) }
+{
+    let topic = topic_for(words.is_check);
+    match words.expected {
+        Expected::MaxCapacity => return Err(Refusal::Missing(topic, Wanted::MaxCapacity)),
+        Expected::MaxBlocked => return Err(Refusal::Missing(topic, Wanted::MaxBlocked)),
+        Expected::None => {}
+    }
+    let settings = Settings {
+        max_capacity: words.max_capacity,
+        max_blocked: words.max_blocked,
+    };
+    if words.is_check {
+        return Ok(Command::Check(CheckOptions {
+            json: words.json,
+            qif: words.qif,
+            settings,
+        }));
+    }
+    Ok(Command::Show(ShowOptions {
+        table: words.table,
+        json: words.json,
+        qif: words.qif,
+        settings,
+    }))
+}
+
+/// Returns the topic of `show` or `check`.
+fn topic_for(is_check: bool) -> Topic
+    ensures { result ≡ topic_for is_check }
+{
+    if is_check { Topic::Check } else { Topic::Show }
+}
+
+/// Returns what words of `show` or `check` say with one more.
+fn with_connection_word(
+    alloc: Global,
+    words: ConnectionWords,
+    word: &str,
+) -> Result<ConnectionWords, Refusal>
+    ensures { ReadsWords result (with_connection_word words word.now) }
+{
+    let topic = topic_for(words.is_check);
+    match words.expected {
+        Expected::MaxCapacity => {
+            let max_capacity = read_number(alloc, topic, word)? as usize;
+            Ok(ConnectionWords {
+                max_capacity,
+                expected: Expected::None,
+                ..words
+            })
+        }
+        Expected::MaxBlocked => {
+            let max_blocked = read_number(alloc, topic, word)? as usize;
+            Ok(ConnectionWords {
+                max_blocked,
+                expected: Expected::None,
+                ..words
+            })
+        }
+        Expected::None => with_connection_option(alloc, words, word),
+    }
+}
+
+/// Returns what words of `show` or `check` say with an option more.
+fn with_connection_option(
+    alloc: Global,
+    words: ConnectionWords,
+    word: &str,
+) -> Result<ConnectionWords, Refusal>
+    ensures { ReadsWords result (with_connection_option words word.now) }
+{
+    if word == "-" {
+        return Ok(words);
     }
     if word == "--json" {
-        return Ok(ShowOptions {
+        return Ok(ConnectionWords {
             json: true,
-            ..options
+            ..words
         });
     }
     if word == "--qif" {
-        return Ok(ShowOptions {
-            qif: true,
-            ..options
+        return Ok(ConnectionWords { qif: true, ..words });
+    }
+    if word == "--max-capacity" {
+        return Ok(ConnectionWords {
+            expected: Expected::MaxCapacity,
+            ..words
         });
     }
-    Err(bad_word(alloc, Wanted::Option, word))
+    if word == "--max-blocked" {
+        return Ok(ConnectionWords {
+            expected: Expected::MaxBlocked,
+            ..words
+        });
+    }
+    if word == "--table" && !words.is_check {
+        return Ok(ConnectionWords {
+            table: true,
+            ..words
+        });
+    }
+    Err(bad_word(alloc, topic_for(words.is_check), Wanted::Option, word))
+}
+
+/// What the words of `explain` say so far.
+#[derive(Clone, Copy)]
+struct ExplainWords {
+    kind: Kind,
+    max_capacity: usize,
+    /// Whether the next word is the maximum capacity.
+    expects_capacity: bool,
+    /// Whether a word has bytes.
+    has_bytes: bool,
+}
+
+/// Returns what `explain` says where it has no words.
+fn explain_words() -> ExplainWords
+    ensures { result ≡ explain_words }
+{
+    ExplainWords {
+        kind: Kind::Section,
+        max_capacity: 4096,
+        expects_capacity: false,
+        has_bytes: false,
+    }
+}
+
+/// Returns what the words after `explain` ask for.
+fn read_explain(alloc: Global, rest: &[String]) -> Result<Command, Refusal>
+    ensures { ReadsWords result (explain_of (map string_bytes rest.now)) }
+{
+    if let Some((first, behind)) = rest.split_first() {
+        if is_help(first.as_str()) {
+            return help_alone(alloc, Topic::Explain, behind);
+        }
+    }
+    let words = read_explain_words(alloc, rest)?;
+    finish_explain(words)
+}
+
+/// Returns what the words after `explain` say.
+fn read_explain_words(alloc: Global, rest: &[String]) -> Result<ExplainWords, Refusal>
+    ensures { ReadsWords result (with_explain_words explain_words (map string_bytes rest.now)) }
+{
+    let mut words = explain_words();
+    let mut left = rest;
+    while let Some((first, behind)) = left.split_first() {
+        words = with_explain_word(alloc, words, first.as_str())?;
+        left = behind;
+    }
+    Ok(words)
+}
+
+/// Returns the command that words of `explain` ask for, if no number is missing.
+fn finish_explain(words: ExplainWords) -> Result<Command, Refusal>
+    ensures { ReadsWords result (finished_explain words) }
+{
+    if words.expects_capacity {
+        return Err(Refusal::Missing(Topic::Explain, Wanted::MaxCapacity));
+    }
+    let options = ExplainOptions {
+        kind: words.kind,
+        max_capacity: words.max_capacity,
+    };
+    if words.has_bytes {
+        return Ok(Command::ExplainWords(options));
+    }
+    Ok(Command::ExplainInput(options))
+}
+
+/// Returns what words of `explain` say with one more.
+fn with_explain_word(
+    alloc: Global,
+    words: ExplainWords,
+    word: &str,
+) -> Result<ExplainWords, Refusal>
+    ensures { ReadsWords result (with_explain_word words word.now) }
+{
+    if words.expects_capacity {
+        let max_capacity = read_number(alloc, Topic::Explain, word)? as usize;
+        return Ok(ExplainWords {
+            max_capacity,
+            expects_capacity: false,
+            ..words
+        });
+    }
+    if word == "-" {
+        return Ok(words);
+    }
+    if word == "--max-capacity" {
+        return Ok(ExplainWords {
+            expects_capacity: true,
+            ..words
+        });
+    }
+    if word == "--encoder-stream" {
+        return Ok(ExplainWords {
+            kind: Kind::EncoderStream,
+            ..words
+        });
+    }
+    if word == "--decoder-stream" {
+        return Ok(ExplainWords {
+            kind: Kind::DecoderStream,
+            ..words
+        });
+    }
+    if is_option(word) {
+        return Err(bad_word(alloc, Topic::Explain, Wanted::Option, word));
+    }
+    Ok(ExplainWords {
+        has_bytes: true,
+        ..words
+    })
 }
 
 /// Whether a word begins as an option does.
-fn is_option(word: &str) -> bool
+pub fn is_option(word: &str) -> bool
     ensures { result ≡ is_option word.now }
 {
     word.as_bytes().starts_with(b"--")
 }
 
 /// Refuses words of which the first begins as an option does.
-fn no_option(alloc: Global, words: &[String]) -> Result<(), Refusal>
-    ensures { ReadsWords result (no_option (map string_bytes words.now)) }
+fn no_option(alloc: Global, topic: Topic, words: &[String]) -> Result<(), Refusal>
+    ensures { ReadsWords result (no_option topic (map string_bytes words.now)) }
 {
     if let Some((first, _)) = words.split_first() {
         if is_option(first.as_str()) {
-            return Err(bad_word(alloc, Wanted::Option, first.as_str()));
+            return Err(bad_word(alloc, topic, Wanted::Option, first.as_str()));
         }
     }
     Ok(())
 }
 
-/// The number that a word says, behind which no other stands.
+/// Splits off the number that the first word says.
+fn split_number<'a>(
+    alloc: Global,
+    topic: Topic,
+    wanted: Wanted,
+    words: &'a [String],
+) -> Result<(u64, &'a [String]), Refusal>
+    ensures { SplitsNumber result (at_number topic wanted (map string_bytes words.now)) }
+{
+    let Some((word, rest)) = words.split_first() else {
+        return Err(Refusal::Missing(topic, wanted));
+    };
+    let number = read_number(alloc, topic, word.as_str())?;
+    Ok((number, rest))
+}
+
+/// Returns the limit that a word says, after which no other comes.
 fn one_number(alloc: Global, words: &[String]) -> Result<u64, Refusal>
     ensures { ReadsWords result (one_number (map string_bytes words.now)) }
 {
-    no_option(alloc, words)?;
-    let [word] = words else {
-        return Err(Refusal::OtherCount);
-    };
-    read_number(alloc, word.as_str())
+    no_option(alloc, Topic::Decode, words)?;
+    let (number, more) = split_number(alloc, Topic::Decode, Wanted::Limit, words)?;
+    no_more(alloc, Topic::Decode, more)?;
+    Ok(number)
 }
 
-/// The numbers that two words say, behind which no other stands.
-fn two_numbers(alloc: Global, words: &[String]) -> Result<(u64, u64), Refusal>
-    ensures { ReadsWords result (two_numbers (map string_bytes words.now)) }
-{
-    no_option(alloc, words)?;
-    let [first, second] = words else {
-        return Err(Refusal::OtherCount);
-    };
-    let first = read_number(alloc, first.as_str())?;
-    let second = read_number(alloc, second.as_str())?;
-    Ok((first, second))
-}
-
-/// The number that a word says.
-fn read_number(alloc: Global, word: &str) -> Result<u64, Refusal>
-    ensures { ReadsWords result (read_number word.now) }
+/// Returns the number that a word says.
+fn read_number(alloc: Global, topic: Topic, word: &str) -> Result<u64, Refusal>
+    ensures { ReadsWords result (read_number topic word.now) }
 {
     match parts::read_number(word.as_bytes()) {
         Some(number) => Ok(number),
-        None => Err(bad_word(alloc, Wanted::Number, word)),
+        None => Err(bad_word(alloc, topic, Wanted::Number, word)),
     }
 }
 
-/// The refusal of a word that is not what should stand at its place.
-fn bad_word(alloc: Global, wanted: Wanted, word: &str) -> Refusal
-    ensures { TellsWords result (FaultOfWord wanted word.now) }
+/// Returns the refusal of a word of a command that is not what it should be.
+fn bad_word(alloc: Global, topic: Topic, wanted: Wanted, word: &str) -> Refusal
+    ensures { TellsWords result (FaultOfWord topic wanted word.now) }
 {
     match String::from_str(alloc, word) {
-        Ok(word) => Refusal::BadWord(wanted, word),
+        Ok(word) => Refusal::BadWord(topic, wanted, word),
         Err(_) => Refusal::Fault(Fault::Memory),
     }
 }

@@ -14,7 +14,6 @@ pub mod refusal;
 mod run;
 mod script;
 pub mod serve;
-mod show;
 pub mod text;
-mod usage;
+pub mod usage;
 mod writing;

@@ -2,11 +2,12 @@
 
 ghost use Rattle.std.specs.Prelude.{◌≡◌, IfOk, OnErr};
 ghost use Rattle.std.specs.Cow.{cow_str_bytes};
-ghost use Rattle.qpk.specs.Refusals.{MayWantMemory, bad_word_line, fault_line, refusal_line, wanted_words};
+ghost use Rattle.qpk.specs.Refusals.{MayWantMemory, bad_word_line, fault_line, missing_line, name_of, refusal_line};
+ghost use Rattle.qpk.specs.Refusals.{wanted_words};
 ghost use Rattle.qpk.specs.declared.refusal.Refusal.TheVariants.{Fault as Refused};
 
 use crate::text::Fault;
-use crate::usage::{help, usage};
+use crate::usage::{Topic, usage, usage_of};
 use std::alloc::{AllocError, Global};
 use std::borrow::CowStr;
 
@@ -15,10 +16,10 @@ use std::borrow::CowStr;
 pub enum Refusal {
     /// The words are none of the usage's, and no addition to them.
     Usage,
-    /// Behind the name of an addition there are too few words, or too many.
-    OtherCount,
-    /// This word of an addition is not what should stand at its place.
-    BadWord(Wanted, String),
+    /// This word of a command is missing.
+    Missing(Topic, Wanted),
+    /// This word of a command is not what it should be.
+    BadWord(Topic, Wanted, String),
     /// The input could not be read.
     Input,
     /// The answer could not be written.
@@ -27,8 +28,8 @@ pub enum Refusal {
     Fault(Fault),
 }
 
-/// What should stand at the place of a word.
-#[derive(Clone, Copy, Debug)]
+/// What a word should be.
+#[derive(Clone, Copy, Debug, PartialEq)]
 pub enum Wanted {
     /// An option of the command.
     Option,
@@ -36,6 +37,20 @@ pub enum Wanted {
     Number,
     /// Whether blocks are acknowledged.
     Acknowledged,
+    /// The name of a command.
+    Command,
+    /// No word.
+    Nothing,
+    /// A capacity.
+    Capacity,
+    /// How many streams may be blocked.
+    Blocked,
+    /// The greatest sum of sizes.
+    Limit,
+    /// The number of `--max-capacity`.
+    MaxCapacity,
+    /// The number of `--max-blocked`.
+    MaxBlocked,
 }
 
 impl From<Fault> for Refusal {
@@ -47,16 +62,18 @@ impl From<Fault> for Refusal {
 }
 
 impl Refusal {
-    /// Returns the line that tells it; of the words of an addition all commands, behind the line of a word at fault. Memory
-    /// is asked for only to tell a word, the number of a line, or a refusal of the decoder.
+    /// Returns the line that tells it; of the words of an addition, after the lines of how it is called. Memory is asked
+    /// for only to tell a word, the number of a line, or a refusal of the decoder.
     pub fn line(&self, alloc: Global) -> Result<CowStr<'static, Global>, AllocError>
         ensures line { IfOk result (λ line. cow_str_bytes line ≡ refusal_line self.now) }
         ensures memory { OnErr result (MayWantMemory self.now) }
     {
         match self {
             Refusal::Usage => Ok(CowStr::Borrowed(usage())),
-            Refusal::OtherCount => Ok(CowStr::Borrowed(help())),
-            Refusal::BadWord(wanted, word) => bad_word_line(alloc, *wanted, word.as_str()),
+            Refusal::Missing(topic, wanted) => missing_line(alloc, *topic, *wanted),
+            Refusal::BadWord(topic, wanted, word) => {
+                bad_word_line(alloc, *topic, *wanted, word.as_str())
+            }
             Refusal::Input => Ok(CowStr::Borrowed("qpk: refused: input\n")),
             Refusal::Output => Ok(CowStr::Borrowed("qpk: refused: output\n")),
             Refusal::Fault(fault) => fault_line(alloc, fault),
@@ -64,18 +81,51 @@ impl Refusal {
     }
 }
 
-/// The line that tells a word at fault, and all commands.
+/// The lines of how a command is called, and the line that tells that a word is missing.
+fn missing_line(
+    alloc: Global,
+    topic: Topic,
+    wanted: Wanted,
+) -> Result<CowStr<'static, Global>, AllocError>
+    ensures { IfOk result (λ line. cow_str_bytes line ≡ missing_line topic wanted) }
+{
+    let usage = usage_of(topic);
+    let name = name_of(wanted);
+    let mut line = format!(in alloc; "{usage}qpk: {name}")?;
+    line.push_str(" is missing\n")?;
+    Ok(CowStr::Owned(line))
+}
+
+/// The name of a word in the lines of how a command is called.
+fn name_of(wanted: Wanted) -> &'static str
+    ensures { result.now ≡ name_of wanted }
+{
+    match wanted {
+        Wanted::Option => "an option",
+        Wanted::Number => "a number",
+        Wanted::Acknowledged => "ACK, which is 0 or 1,",
+        Wanted::Command => "COMMAND",
+        Wanted::Nothing => "nothing",
+        Wanted::Capacity => "CAPACITY",
+        Wanted::Blocked => "BLOCKED",
+        Wanted::Limit => "LIMIT",
+        Wanted::MaxCapacity => "the number after --max-capacity",
+        Wanted::MaxBlocked => "the number after --max-blocked",
+    }
+}
+
+/// The lines of how a command is called, and the line that tells a word at fault.
 fn bad_word_line(
     alloc: Global,
+    topic: Topic,
     wanted: Wanted,
     word: &str,
 ) -> Result<CowStr<'static, Global>, AllocError>
-    ensures { IfOk result (λ line. cow_str_bytes line ≡ bad_word_line wanted word.now) }
+    ensures { IfOk result (λ line. cow_str_bytes line ≡ bad_word_line topic wanted word.now) }
 {
+    let usage = usage_of(topic);
     let words = wanted_words(wanted);
-    let mut line = format!(in alloc; "qpk: \"{word}\" is {words}\n")?;
-    line.push_str(help())?;
-    Ok(CowStr::Owned(line))
+    Ok(CowStr::Owned(format!(in alloc; "{usage}qpk: \"{word}\" is {words}\n")?))
 }
 
 /// What a word is not.
@@ -84,8 +134,10 @@ fn wanted_words(wanted: Wanted) -> &'static str
 {
     match wanted {
         Wanted::Option => "not an option here",
-        Wanted::Number => "not a whole number below 2^64",
         Wanted::Acknowledged => "neither 0 nor 1",
+        Wanted::Command => "not a command",
+        Wanted::Nothing => "one word too many",
+        _ => "not a whole number below 2^64",
     }
 }
 
@@ -94,9 +146,11 @@ fn fault_line(alloc: Global, fault: &Fault) -> Result<CowStr<'static, Global>, A
     ensures { IfOk result (λ line. cow_str_bytes line ≡ fault_line fault.now) }
 {
     match fault {
-        Fault::NoTab(_) | Fault::BadEvent(_) | Fault::Refused(_) | Fault::Recording(_) => {
-            Ok(CowStr::Owned(format!(in alloc; "qpk: {fault}\n")?))
-        }
+        Fault::NoTab(_)
+        | Fault::BadEvent(_)
+        | Fault::Refused(_)
+        | Fault::Recording(_)
+        | Fault::Told(_) => Ok(CowStr::Owned(format!(in alloc; "qpk: {fault}\n")?)),
         Fault::NotHexadecimal => Ok(CowStr::Borrowed("qpk: not hexadecimal\n")),
         Fault::Capacity => Ok(CowStr::Borrowed("qpk: refused: capacity\n")),
         Fault::Limit => Ok(CowStr::Borrowed("qpk: refused: limit\n")),

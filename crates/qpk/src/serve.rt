@@ -1,6 +1,7 @@
 //! The program over any reader and writers.
 
 ghost use Rattle.std.specs.Prelude.{◌≡◌, ◌≢◌, ◌⊎◌, ◌++◌, ◌∷◌, [], List, ℕ, Option, None, Some, IfOk, IfErr, IfSome};
+ghost use Rattle.std.specs.Prelude.{false};
 ghost use Rattle.std.specs.Prelude.{string_bytes};
 ghost use Rattle.std.specs.Io.KnownBytes.{Appends};
 ghost use Rattle.std.specs.Option.{option_map};
@@ -8,39 +9,54 @@ ghost use Rattle.qpack_spec.specs.Field.{total_size};
 ghost use Rattle.qpack_spec.specs.Stateless.{saturated_size};
 ghost use Rattle.qpack_codec.specs.Stateless.{fields_in};
 ghost use Rattle.qpk.specs.Refusals.{AppendsFront, TellsBy, refusal_line};
-ghost use Rattle.qpk.specs.Serving.{AsksFor, AsksForNothing, AnswersInput, EndsFor, EndsForCommand, FailsToRead};
-ghost use Rattle.qpk.specs.Serving.{IsAnswered, IsAnsweredBy, SaysNote};
+ghost use Rattle.qpk.specs.Usage.{help_text};
+ghost use Rattle.qpk.specs.Serving.{AsksForNone, AsksForNothing, AnswersInput, EndsFor, EndsForCommand, EndsWell};
+ghost use Rattle.qpk.specs.Serving.{FailsToRead, HasStatus, IsAnswered, IsAnsweredBy, IsFound, MayFind, ReadsNone};
+ghost use Rattle.qpk.specs.Serving.{SaysNote};
 ghost use Rattle.qpk.specs.Serving.{hexadecimal_answer, input_of, printed_fields};
-ghost use Rattle.qpk.specs.declared.command.Command.TheVariants.{DecodeHex, DecodeJson, Help};
+ghost use Rattle.qpk.specs.declared.command.Command.TheVariants.{DecodeHex, DecodeJson};
+ghost use Rattle.qpk.specs.declared.refusal.Refusal.TheVariants.{Fault as FaultRefused, Input as InputRefused};
+ghost use Rattle.qpk.specs.declared.text.Fault.TheVariants.{Memory};
 
-use crate::command::{Command, ShowOptions, read_command};
+use crate::command::{Command, is_option, read_command};
 use crate::inspect::inspect;
 use crate::json::section_json;
 use crate::note::note_of;
 use crate::printing::{push_fields, push_hexadecimal_fields};
 use crate::refusal::Refusal;
 use crate::run::run_script;
-use crate::show::{self, Agreed};
 use crate::text::{Fault, decode_text, encode_text};
-use crate::usage::help;
+use crate::usage::{Topic, VERSION, details_of, usage_of};
 use crate::writing::write_bytes;
 use h3_qpack::coding::NoMemory;
 use h3_qpack::{Decoded, DecoderError};
 use qpk_qif::session::{decode_records, encode_lists};
-use std::alloc::Global;
+use qpk_view::check::check;
+use qpk_view::explain::explain;
+use qpk_view::show::{View, show};
+use std::alloc::{AllocError, Global};
 use std::borrow::CowStr;
 use std::io::{ErrorKind, Read, Write};
 
-/// What is written for an input, and the refusal that ends it.
+/// What is written for an input, the refusal that ends it, and whether something is refused or found in it.
 #[derive(Drop)]
 struct Output {
     bytes: Vec<u8>,
     refused: Option<DecoderError>,
+    has_found: bool,
+}
+
+/// What is to be said of an input that was answered, and the exit status.
+#[derive(Drop)]
+struct Ending {
+    note: Option<String>,
+    status: u8,
 }
 
 /// Runs the program on its words, without its name, and its three streams, and returns the exit status:
-/// 0 if the answer was written to the output, and else 1, with the line of the refusal written to the faults. A write to
-/// the faults that fails is passed over.
+/// 0 if the answer was written to the output; 2 if it was, and `show` or `explain` has something in it that is refused; 1 if
+/// it was, and `check` found something, and else with the line of the refusal written to the faults. A write to the faults
+/// that fails is passed over.
 pub fn serve<R: Read, W: Write, E: Write>(
     alloc: Global,
     words: &[String],
@@ -55,16 +71,19 @@ pub fn serve<R: Read, W: Write, E: Write>(
     // Else why: other words, an input that can't be read or has a fault, a refusal further on, before which all is
     // written, or an output that can't be written, which then has a part of what is asked for. The line of it is
     // written to the faults, as far as they take it. There is no other status.
-    ensures refused { result ≢ 0 → (result ≡ 1) × (refusal : Refusal)
+    // Or the answer was written, and the status tells that something was refused or found.
+    ensures refused { result ≢ 0 → ((result ≡ 1) × (refusal : Refusal)
         × EndsFor words.now (R.remaining input.old) (W.contents output.old) (W.contents output.new) refusal
-        × AppendsFront (E.contents faults.old) (E.contents faults.new) (refusal_line refusal) }
-    // Help reads no input, nor do words that ask for nothing.
-    ensures unread { AsksFor words.now Help ⊎ AsksForNothing words.now → input.new ≡ input.old }
+        × AppendsFront (E.contents faults.old) (E.contents faults.new) (refusal_line refusal))
+        ⊎ IsFound words.now (R.remaining input.old) (W.contents output.old) (W.contents output.new)
+        (E.contents faults.old) (E.contents faults.new) result }
+    // Help reads no input, nor do words that ask for nothing or have the bytes.
+    ensures unread { AsksForNone words.now ⊎ AsksForNothing words.now → input.new ≡ input.old }
 {
     match run(alloc, words, input, output) {
-        Ok(note) => {
-            say_note(note, faults);
-            0
+        Ok(ending) => {
+            say_note(ending.note, faults);
+            ending.status
         }
         Err(refusal) => refuse(alloc, &refusal, faults),
     }
@@ -100,63 +119,97 @@ pub fn refuse<E: Write>(alloc: Global, refusal: &Refusal, faults: &mut E) -> u8
     1
 }
 
-/// Answers the words and the input at the output, and gives what is to be said of the input.
+/// Answers the words and the input at the output, and gives what is to be said of the input, and the status.
 fn run<R: Read, W: Write>(
     alloc: Global,
     words: &[String],
     input: &mut R,
     output: &mut W,
-) -> Result<Option<String>, Refusal>
-    ensures answered { IfOk result (λ note.
-        IsAnswered words.now (R.remaining input.old) (W.contents output.old) (W.contents output.new)
-        (option_map string_bytes note)) }
+) -> Result<Ending, Refusal>
+    ensures answered { IfOk result (λ e.
+        EndsWell words.now (R.remaining input.old) (W.contents output.old) (W.contents output.new)
+        (option_map string_bytes e.note) e.status) }
     ensures refused { IfErr result
         (EndsFor words.now (R.remaining input.old) (W.contents output.old) (W.contents output.new)) }
-    ensures unread { AsksFor words.now Help ⊎ AsksForNothing words.now → input.new ≡ input.old }
+    ensures unread { AsksForNone words.now ⊎ AsksForNothing words.now → input.new ≡ input.old }
 {
     let command = read_command(alloc, words)?;
-    run_command(alloc, command, input, output)
+    run_command(alloc, command, words, input, output)
 }
 
-/// Answers a command and the input at the output, and gives what is to be said of the input.
+/// Answers a command of these words and the input at the output, and gives what is to be said of the input, and the status.
 #[tactic(auto, using(crate::proofs::Tellings::stops_inspecting))]
 fn run_command<R: Read, W: Write>(
     alloc: Global,
     command: Command,
+    words: &[String],
     input: &mut R,
     output: &mut W,
-) -> Result<Option<String>, Refusal>
-    ensures answered { IfOk result (λ note.
+) -> Result<Ending, Refusal>
+    ensures answered { IfOk result (λ e.
         IsAnsweredBy command (R.remaining input.old) (W.contents output.old) (W.contents output.new)
-        (option_map string_bytes note)) }
+        (option_map string_bytes e.note) × HasStatus command e.status) }
     ensures refused { IfErr result
         (EndsForCommand command (R.remaining input.old) (W.contents output.old) (W.contents output.new)) }
-    ensures unread { command ≡ Help → input.new ≡ input.old }
+    ensures unread { ReadsNone command → input.new ≡ input.old }
 {
-    let bytes = read_input(alloc, command, input)?;
+    let bytes = read_input(alloc, command, words, input)?;
     let answer = answer(alloc, command, &bytes)?;
     let note = match note_of(alloc, command, &bytes) {
         Ok(note) => note,
         Err(fault) => return Err(Refusal::Fault(fault)),
     };
     write_bytes(output, &answer.bytes).map_err(|_| Refusal::Output)?;
+    let status = status_of(command, answer.has_found);
     match answer.refused {
-        None => Ok(note),
+        None => Ok(Ending { note, status }),
         Some(e) => Err(Refusal::Fault(Fault::Refused(e))),
     }
 }
 
-/// The input that a command answers: all of it, and none for help.
-fn read_input<R: Read>(alloc: Global, command: Command, input: &mut R) -> Result<Vec<u8>, Refusal>
+/// Returns the status of a command's answer, in which something is refused or found, or not.
+fn status_of(command: Command, has_found: bool) -> u8
+    requires { MayFind command has_found }
+    ensures { HasStatus command result }
+{
+    if !has_found {
+        return 0;
+    }
+    match command {
+        Command::Check(_) => 1,
+        Command::Show(_) | Command::ExplainWords(_) | Command::ExplainInput(_) => 2,
+        _ => 0,
+    }
+}
+
+/// Returns the input that a command answers: all of it, none for help, and the bytes of the words where they have them.
+fn read_input<R: Read>(
+    alloc: Global,
+    command: Command,
+    words: &[String],
+    input: &mut R,
+) -> Result<Vec<u8>, Refusal>
     ensures read { IfOk result (λ bytes.
         IfSome (input_of command (R.remaining input.old)) (λ all. bytes.items ≡ all)) }
     ensures refused { IfErr result (FailsToRead command) }
-    ensures unread { command ≡ Help → input.new ≡ input.old }
+    ensures unread { ReadsNone command → input.new ≡ input.old }
+{
+    match command {
+        Command::Help(_) | Command::Version => Ok(Vec::new(alloc)),
+        Command::ExplainWords(_) => match bytes_of(alloc, words) {
+            Ok(bytes) => Ok(bytes),
+            Err(_) => Err(Refusal::Fault(Fault::Memory)),
+        },
+        _ => read_all(alloc, input),
+    }
+}
+
+/// Returns all of the input.
+fn read_all<R: Read>(alloc: Global, input: &mut R) -> Result<Vec<u8>, Refusal>
+    ensures read { IfOk result (λ bytes. IfSome (R.remaining input.old) (λ all. bytes.items ≡ all)) }
+    ensures refused { IfErr result (λ r. (r ≡ InputRefused) ⊎ (r ≡ FaultRefused Memory)) }
 {
     let mut bytes = Vec::new(alloc);
-    if let Command::Help = command {
-        return Ok(bytes);
-    }
     match input.read_to_end(&mut bytes) {
         Ok(_) => Ok(bytes),
         Err(e) if e.kind() == ErrorKind::OutOfMemory => Err(Refusal::Fault(Fault::Memory)),
@@ -164,12 +217,29 @@ fn read_input<R: Read>(alloc: Global, command: Command, input: &mut R) -> Result
     }
 }
 
+/// Returns the words of `explain` that have bytes, with blanks between them.
+fn bytes_of(alloc: Global, words: &[String]) -> Result<Vec<u8>, AllocError> {
+    let mut bytes = Vec::new(alloc);
+    let mut is_number = true;
+    for word in words {
+        let is_bytes = !is_number && !is_option(word.as_str()) && word.as_str() != "-";
+        is_number = word.as_str() == "--max-capacity";
+        if is_bytes {
+            bytes.extend_from_slice(word.as_bytes())?;
+            bytes.push(b' ')?;
+        }
+    }
+    Ok(bytes)
+}
+
 /// What is written for an input, and the refusal that ends it.
 fn answer(alloc: Global, command: Command, input: &[u8]) -> Result<Output, Fault>
-    ensures { AnswersInput command input.now result }
+    ensures answers { AnswersInput command input.now result }
+    ensures found { IfOk result (λ a. MayFind command a.has_found) }
 {
     match command {
-        Command::Help => Ok(whole(String::from_str(alloc, help())?)),
+        Command::Help(topic) => Ok(whole(help(alloc, topic)?)),
+        Command::Version => Ok(whole(String::from_str(alloc, VERSION)?)),
         Command::Encode => {
             let mut text = encode_text(alloc, input)?;
             text.push('\n')?;
@@ -186,34 +256,45 @@ fn answer(alloc: Global, command: Command, input: &[u8]) -> Result<Output, Fault
             Ok(Output {
                 bytes: inspection.text.into_bytes(),
                 refused: inspection.refused,
+                has_found: false,
             })
         }
         Command::EncodeLists(settings) => Ok(of_bytes(encode_lists(alloc, settings, input)?)),
         Command::DecodeRecords(settings) => Ok(of_bytes(decode_records(alloc, settings, input)?)),
         Command::Run(capacity, limit) => Ok(whole(run_script(alloc, capacity, limit, input)?)),
-        Command::Show(options, maximum, limit) => {
-            show_connection(alloc, Agreed { maximum, limit }, options, input)
+        Command::Show(options) => Ok(viewed(show(alloc, options, input)?)),
+        Command::Check(options) => Ok(viewed(check(alloc, options, input)?)),
+        Command::ExplainWords(options) | Command::ExplainInput(options) => {
+            Ok(viewed(explain(alloc, options, input)?))
         }
     }
 }
 
-/// What is shown of a connection.
-fn show_connection(
-    alloc: Global,
-    agreed: Agreed,
-    options: ShowOptions,
-    input: &[u8],
-) -> Result<Output, Fault>
-    ensures { IfOk result (λ i. i.refused ≡ None) }
+/// Returns the help on a command.
+fn help(alloc: Global, topic: Topic) -> Result<String, AllocError>
+    ensures { IfOk result (λ text. string_bytes text ≡ help_text topic) }
 {
-    let text = show::show(alloc, agreed, options, input)?;
-    Ok(whole(text))
+    let mut text = String::from_str(alloc, usage_of(topic))?;
+    text.push_str(details_of(topic))?;
+    Ok(text)
+}
+
+/// An answer in which something may be refused or found.
+fn viewed(view: View) -> Output
+    ensures { result.refused ≡ None }
+{
+    Output {
+        bytes: view.text.into_bytes(),
+        refused: None,
+        has_found: view.has_found,
+    }
 }
 
 /// An answer in text that no refusal ends.
 fn whole(text: String) -> Output
     ensures bytes { result.bytes.items ≡ string_bytes text }
     ensures refused { result.refused ≡ None }
+    ensures found { result.has_found ≡ false }
 {
     of_bytes(text.into_bytes())
 }
@@ -222,10 +303,12 @@ fn whole(text: String) -> Output
 fn of_bytes(bytes: Vec<u8>) -> Output
     ensures bytes { result.bytes ≡ bytes }
     ensures refused { result.refused ≡ None }
+    ensures found { result.has_found ≡ false }
 {
     Output {
         bytes,
         refused: None,
+        has_found: false,
     }
 }
 
@@ -242,7 +325,8 @@ fn show_fields(alloc: Global, decoded: &Decoded) -> Result<String, NoMemory>
 
 /// What is written for a block whose fields are told in hexadecimal, up to a sum of sizes in bytes.
 fn decode_to_hexadecimal(alloc: Global, input: &[u8], limit: u64) -> Result<Output, Fault>
-    ensures { AnswersInput (DecodeHex limit) input.now result }
+    ensures answers { AnswersInput (DecodeHex limit) input.now result }
+    ensures found { IfOk result (λ a. a.has_found ≡ false) }
 {
     let text = show_hexadecimal(alloc, &decode_text(alloc, input, limit)?)?;
     Ok(whole(text))
@@ -250,7 +334,8 @@ fn decode_to_hexadecimal(alloc: Global, input: &[u8], limit: u64) -> Result<Outp
 
 /// What is written for a block whose fields are told as an object of JSON, up to a sum of sizes in bytes.
 fn decode_to_json(alloc: Global, input: &[u8], limit: u64) -> Result<Output, Fault>
-    ensures { AnswersInput (DecodeJson limit) input.now result }
+    ensures answers { AnswersInput (DecodeJson limit) input.now result }
+    ensures found { IfOk result (λ a. a.has_found ≡ false) }
 {
     let text = section_json(alloc, &decode_text(alloc, input, limit)?)?;
     Ok(whole(text))

@@ -39,6 +39,8 @@ pub enum Fault {
     Limit,
     /// Header lists were not encoded to a recording, or a recording was not decoded.
     Recording(session::Fault),
+    /// The input is not what it should be, for this reason.
+    Told(String),
     /// No memory was left.
     Memory,
 }
@@ -55,6 +57,7 @@ impl fmt::Display for Fault {
             Fault::Capacity => f.write_str("refused: capacity"),
             Fault::Limit => f.write_str("refused: limit"),
             Fault::Recording(e) => write!(f, "{}", RecordingWords(e)),
+            Fault::Told(reason) => f.write_str(reason.as_str()),
             Fault::Memory => f.write_str("refused: memory"),
         }
     }
@@ -70,6 +73,16 @@ impl From<session::Fault> for Fault {
             session::Fault::Limit => Fault::Limit,
             session::Fault::Memory => Fault::Memory,
             e => Fault::Recording(e),
+        }
+    }
+}
+
+impl From<qpk_view::fault::Fault> for Fault {
+    fn from(e: qpk_view::fault::Fault) -> Fault {
+        match e {
+            qpk_view::fault::Fault::Input(reason) => Fault::Told(reason),
+            qpk_view::fault::Fault::Capacity => Fault::Capacity,
+            qpk_view::fault::Fault::Memory => Fault::Memory,
         }
     }
 }

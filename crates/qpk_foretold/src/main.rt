@@ -2,7 +2,7 @@
 //! Each is run as `qpk` runs it; the first that prints anything else ends this program with an error. Then header lists
 //! and recordings of the offline interop format are held so, and what is refused of them. At last recordings of
 //! connections are shown and inspected, and the lists of a corpus encoded to recordings, and held against the lists that
-//! were sent.
+//! were sent. What `show`, `check` and `explain` print of a few lines was written and read by people.
 #![tactic(auto)]
 
 mod cases;
@@ -24,6 +24,9 @@ struct Counts {
     inspections: usize,
     encodes: usize,
     decodes: usize,
+    shows: usize,
+    checks: usize,
+    explanations: usize,
 }
 
 impl Counts {
@@ -34,6 +37,9 @@ impl Counts {
             Some("inspect") => &mut self.inspections,
             Some("encode") => &mut self.encodes,
             Some("decode") => &mut self.decodes,
+            Some("show") => &mut self.shows,
+            Some("check") => &mut self.checks,
+            Some("explain") => &mut self.explanations,
             _ => bail!("a case has none of the commands that are counted"),
         };
         *count = count.saturating_add(1);
@@ -49,6 +55,9 @@ fn hold_all(rt: &HostRuntime, file: &str) -> Result<Counts> {
         inspections: 0,
         encodes: 0,
         decodes: 0,
+        shows: 0,
+        checks: 0,
+        explanations: 0,
     };
     let mut number = 0usize;
     for case in &read_cases(rt.alloc(), text.as_str())? {
@@ -70,6 +79,21 @@ fn main(rt: HostRuntime) -> Result<()> {
     println!(rt;
         "{} lists and {} recordings were answered as foretold",
         qif.encodes, qif.decodes
+    )?;
+    let shown = hold_all(&rt, "shown.txt")?;
+    println!(rt;
+        "{} recordings of a few lines were shown as they should be",
+        shown.shows
+    )?;
+    let checked = hold_all(&rt, "checked.txt")?;
+    println!(rt;
+        "{} recordings of a few lines were judged as they should be",
+        checked.checks
+    )?;
+    let explained = hold_all(&rt, "explained.txt")?;
+    println!(rt;
+        "{} texts of bytes were explained as they should be",
+        explained.explanations
     )?;
     let recordings = hold_recordings(&rt)?;
     println!(rt; "{recordings} recordings were shown as the lists that were sent")?;

@@ -15,11 +15,11 @@ struct Recording {
 const RECORDINGS: [Recording; 2] = [
     Recording {
         file: "nghttp3_256_8_ack.txt",
-        words: "show 256 8",
+        words: "show --max-capacity 256 --max-blocked 8",
     },
     Recording {
         file: "nghttp3_4096_100_ack.txt",
-        words: "show 4096 100",
+        words: "show",
     },
 ];
 

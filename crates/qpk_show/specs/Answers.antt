@@ -28,6 +28,7 @@ use Rattle.qpack_spec.specs.Table.{Table, put, apply_encoder_instruction}
 use Rattle.qpack_spec.specs.Window.{TableRefusal}
 use Rattle.qpack_wire.specs.StreamLines.{encoder_instruction_of, decoder_instruction_of}
 use Rattle.qpk_show.specs.Streams.{Stream}
+use Rattle.qpk_show.specs.Awaited as awaited
 use Rattle.qpk_show.specs.Showing as one
 use Rattle.qpk_show.specs.Showing.{Observed}
 use Rattle.qpk_show.specs.declared.shown.Shown.{Shown as ReadShown}
@@ -170,6 +171,8 @@ IsShown (shown.NotApplied offset line e) x =
 IsShown (shown.NoEncoderInstruction offset e) x =
     (k : KindFault) × (fault_of e ≡ Some k) × (x ≡ one.NoEncoderInstruction offset k)
 IsShown (shown.Told offset line) x = x ≡ one.Told offset (decoder_instruction_of line)
+IsShown (shown.NotTold offset line fault) x =
+    x ≡ one.NotTold offset (decoder_instruction_of line) (awaited.refusal_of fault)
 IsShown (shown.NoDecoderInstruction offset e) x =
     (k : KindFault) × (fault_of e ≡ Some k) × (x ≡ one.NoDecoderInstruction offset k)
 IsShown (shown.Section stream was_blocked reading) x =

@@ -6,14 +6,15 @@ use Rattle.std.specs.Prelude.{Result, Ok, Err}
 use Rattle.std.specs.List.{list_any}
 use Rattle.qpack_spec.specs.Field.{Field}
 use Rattle.qpack_spec.specs.Instruction.{EncoderInstruction, DecoderInstruction}
-use Rattle.qpack_spec.specs.StrictInstructions.{strict_apply}
+use Rattle.qpack_spec.specs.StrictInstructions.{HearingRefusal, strict_apply}
 use Rattle.qpack_spec.specs.Table.{Table, empty_table, insert_count}
 use Rattle.qpack_spec.specs.Window.{TableRefusal}
 use Rattle.qpack_wire.specs.Alone.{KindFault}
 use Rattle.qpack_wire.specs.StreamLines.{encoder_instruction_at, decoder_instruction_at}
 use Rattle.qpack_codec.specs.Receiving.{field_to_insert}
 use Rattle.qpk_show.specs.Streams.{Stream, refused, next_of}
-use Rattle.qpk_show.specs.Sections.{Reading, Blocked, shown_section}
+use Rattle.qpk_show.specs.Sections.{Reading, Lines, Blocked, Refused, shown_section}
+use Rattle.qpk_show.specs.Awaited.{Awaited, hear, nothing_awaited, with_sent}
 
 -- a field section that came, and is not shown yet: its stream, its bytes, and how many insertions it waits for, if that
 -- is known
@@ -23,13 +24,14 @@ pub record Arrived : Type 0 where
   pub waits_for : Option ℕ
 
 -- what came of a connection: the table behind the instructions that were taken, how many streams may be blocked, the
--- two streams, and the sections that are not shown yet, in the order in which they came
+-- two streams, the sections that are not shown yet, in the order in which they came, and what the decoder stream may tell
 pub record Observed : Type 0 where
   pub table : Table
   pub limit : ℕ
   pub encoder_stream : Stream
   pub decoder_stream : Stream
   pub arrived : List Arrived
+  pub awaited : Awaited
 
 -- an onlooker to whom nothing came: the table begins at capacity 0 with this maximum (section 3.2.2)
 abbrev pub observed_at_first : ℕ → ℕ → Observed
@@ -40,6 +42,7 @@ observed_at_first maximum limit =
       encoder_stream = record { received = []; taken = 0; is_refused = false };
       decoder_stream = record { received = []; taken = 0; is_refused = false };
       arrived = [];
+      awaited = nothing_awaited;
     }
 
 -- a section more, behind those that came before
@@ -55,14 +58,15 @@ abbrev pub without_stream : Observed → ℕ → Observed
 without_stream o stream = record o { arrived = of_other_streams stream o.arrived }
 
 -- what is shown: an encoder instruction that was applied, at the offset of its stream where it begins, with the field
--- that it inserts; one that the table refuses; bytes that are none; a decoder instruction; bytes that are none; a
--- section of a stream, and whether it was blocked before; one that is blocked until so many insertions; and one that
--- would be, where no more streams may be blocked (section 2.1.2)
+-- that it inserts; one that the table refuses; bytes that are none; a decoder instruction; one that the sections and
+-- insertions before it refuse; bytes that are none; a section of a stream, and whether it was blocked before; one that is
+-- blocked until so many insertions; and one that would be, where no more streams may be blocked (section 2.1.2)
 pub data Shown : Type 0 where
   Applied : (offset : ℕ) (instruction : EncoderInstruction) (inserted : Option Field) → Shown
   NotApplied : (offset : ℕ) (instruction : EncoderInstruction) (refusal : TableRefusal) → Shown
   NoEncoderInstruction : (offset : ℕ) (fault : KindFault) → Shown
   Told : (offset : ℕ) (instruction : DecoderInstruction) → Shown
+  NotTold : (offset : ℕ) (instruction : DecoderInstruction) (refusal : HearingRefusal) → Shown
   NoDecoderInstruction : (offset : ℕ) (fault : KindFault) → Shown
   Section : (stream : ℕ) (was_blocked : Bool) (reading : Reading) → Shown
   BlockedUntil : (stream required : ℕ) → Shown
@@ -111,6 +115,18 @@ blocked_at o index a required =
     )
     else (TooManyBlocked a.stream required, o)
 
+-- the required insert count of a section, 0 if it has none
+abbrev pub required_of : Reading → ℕ
+required_of (Lines required base lines stop) = required
+required_of (Blocked required) = required
+required_of (Refused refusal) = 0
+
+-- a section with a required insert count is to be acknowledged, from the moment on when it came
+abbrev pub noted : Observed → Arrived → ℕ → Observed
+noted o a required =
+    if is_waiting a || nat_eq required 0 then o
+    else record o { awaited = with_sent o.awaited a.stream required }
+
 -- a section that was taken from this index, and read: it waits there, or it is shown
 abbrev pub section_read : Observed → ℕ → Arrived → Reading → Shown × Observed
 section_read o index a (Blocked required) = blocked_at o index a required
@@ -118,10 +134,15 @@ section_read o index a reading = (Section a.stream (is_waiting a) reading, o)
 
 -- ---- instructions
 
+-- a decoder instruction: what it makes of what is awaited, or why it is refused, which ends the stream
+abbrev pub heard : Observed → ℕ → DecoderInstruction → Stream → Result Awaited HearingRefusal → Shown × Observed
+heard o offset i s (Ok w) = (Told offset i, record o { awaited = w; decoder_stream = s })
+heard o offset i s (Err refusal) = (NotTold offset i refusal, record o { decoder_stream = refused s })
+
 -- what the next bytes of the decoder stream are
 abbrev pub told : Observed → ℕ → Result (Option DecoderInstruction) KindFault × Stream → Option (Shown × Observed)
 told o offset (Ok None, s) = None
-told o offset (Ok (Some i), s) = Some (Told offset i, record o { decoder_stream = s })
+told o offset (Ok (Some i), s) = Some (heard o offset i s (hear (insert_count o.table) o.awaited i))
 told o offset (Err fault, s) = Some (NoDecoderInstruction offset fault, record o { decoder_stream = s })
 
 abbrev pub next_told : Observed → Option (Shown × Observed)
@@ -146,11 +167,15 @@ next_taken o = taken o o.encoder_stream.taken (next_of encoder_instruction_at o.
 
 -- ---- the next thing
 
+-- a section that was taken from this index, and read: it is noted, and then it waits there, or it is shown
+abbrev pub section_tried : Observed → ℕ → Arrived → Reading → Shown × Observed
+section_tried o index a reading = section_read (noted o a (required_of reading)) index a reading
+
 -- the section at an index, if it is there
 abbrev pub section_at : Observed → ℕ → Option Arrived → Option (Shown × Observed)
 section_at o index None = None
 section_at o index (Some a) =
-    Some (section_read (record o { arrived = remove o.arrived index }) index a (shown_section o.table a.bytes))
+    Some (section_tried (record o { arrived = remove o.arrived index }) index a (shown_section o.table a.bytes))
 
 -- the first section that can be read now, or else the next instruction
 abbrev pub next_by : Observed → Option ℕ → Option (Shown × Observed)

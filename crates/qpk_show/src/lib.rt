@@ -2,6 +2,7 @@
 //! each instruction and each line is, where it stands, and what it means.
 #![tactic(auto)]
 
+pub mod awaited;
 pub mod instruction;
 pub mod observer;
 pub mod section;

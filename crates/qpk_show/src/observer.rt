@@ -2,21 +2,24 @@
 //! other.
 
 ghost use Rattle.std.specs.Prelude.{◌≡◌, ◌^◌, ◌≤◌, ◌<◌, ◌++◌, ◌∷◌, [], ℕ, List, None, Some, position, length, set};
-ghost use Rattle.std.specs.Prelude.{remove};
+ghost use Rattle.std.specs.Prelude.{Ok, remove};
 ghost use Rattle.std.specs.Prelude.{slice_get, IfOk, OnOk, OnErr, OnErr, MatchOption, ◌&&◌, not};
 ghost use Rattle.std.specs.List.{list_any};
 ghost use Rattle.qpack_spec.specs.Table.{insert_count};
 ghost use Rattle.qpk_show.specs.Showing.{is_due, waits_on, blocked_streams, may_wait, next_shown, next_told};
 ghost use Rattle.qpk_show.specs.Showing.{next_taken};
 ghost use Rattle.qpack_spec.specs.StrictInstructions.{strict_apply};
-ghost use Rattle.qpack_wire.specs.StreamLines.{encoder_instruction_of};
+ghost use Rattle.qpack_wire.specs.StreamLines.{decoder_instruction_of, encoder_instruction_of};
 ghost use Rattle.qpk_show.specs.Showing.{section_at, observed_at_first, with_section, without_stream, is_waiting};
-ghost use Rattle.qpk_show.specs.Showing.{applied, blocked_at, section_read, of_other_streams};
-ghost use Rattle.qpk_show.specs.Sections.{shown_section};
+ghost use Rattle.qpk_show.specs.Showing.{applied, blocked_at, heard, noted, of_other_streams, required_of};
+ghost use Rattle.qpk_show.specs.Showing.{section_read, section_tried};
+ghost use Rattle.qpk_show.specs.Awaited.{hear};
+ghost use Rattle.qpk_show.specs.Sections.{Reading as ReadingOf, shown_section};
 ghost use Rattle.qpk_show.specs.Streams.{cut_of};
-ghost use Rattle.qpk_show.specs.Answers.{ShowsNext, ShowsOne, no_encoder_instruction, no_decoder_instruction};
+ghost use Rattle.qpk_show.specs.Answers.{IsReading, ShowsNext, ShowsOne, no_encoder_instruction, no_decoder_instruction};
 ghost use Rattle.qpk_show.specs.Answers.{not_applied};
 
+use crate::awaited::Awaited;
 use crate::instruction::apply_instruction;
 use crate::section::{Reading, read_section};
 use crate::shown::Shown;
@@ -47,6 +50,7 @@ pub struct Observer {
     encoder_stream: Stream,
     decoder_stream: Stream,
     arrived: Vec<Arrived>,
+    awaited: Awaited,
 }
 
 impl Model for Arrived {
@@ -94,6 +98,7 @@ impl Model for Observer {
       encoder_stream = o.encoder_stream;
       decoder_stream = o.decoder_stream;
       arrived = o.arrived.items;
+      awaited = o.awaited;
     } };
 }
 
@@ -115,6 +120,7 @@ impl Observer {
             encoder_stream: Stream::new(alloc),
             decoder_stream: Stream::new(alloc),
             arrived: Vec::new(alloc),
+            awaited: Awaited::new(alloc),
         })
     }
 
@@ -224,9 +230,36 @@ impl Observer {
     fn show_taken(&mut self, index: usize, arrived: Arrived) -> Result<Shown, NoMemory>
         requires { index ≤ length self.old.arrived }
         ensures { ShowsOne result self.new
-            (Some (section_read self.old index arrived (shown_section self.old.table arrived.bytes))) }
+            (Some (section_tried self.old index arrived (shown_section self.old.table arrived.bytes))) }
     {
         let reading = read_section(&self.table, &arrived.bytes)?;
+        self.note(&arrived, &reading)?;
+        self.show_read(index, arrived, reading)
+    }
+
+    /// Notes that a section with a required insert count is to be acknowledged, where it was not tried before.
+    fn note(&mut self, arrived: &Arrived, reading: &Reading) -> Result<(), AllocError>
+        ensures { (r : ReadingOf) → IsReading reading.now r
+            → OnOk result (self.new ≡ noted self.old arrived.now (required_of r)) }
+    {
+        let required = reading.required();
+        if arrived.is_waiting() || required == 0 {
+            return Ok(());
+        }
+        self.awaited.add(arrived.stream, required)
+    }
+
+    /// Shows a section that was taken from this index and read, or has it wait there.
+    fn show_read(
+        &mut self,
+        index: usize,
+        arrived: Arrived,
+        reading: Reading,
+    ) -> Result<Shown, NoMemory>
+        requires { index ≤ length self.old.arrived }
+        ensures { (r : ReadingOf) → IsReading reading r
+            → ShowsOne result self.new (Some (section_read self.old index arrived r)) }
+    {
         if let Reading::Blocked(required) = reading {
             return self.block(index, arrived, required);
         }
@@ -305,8 +338,27 @@ impl Observer {
             .next::<DecoderLine>(self.table.allocator())
         {
             Ok(None) => Ok(None),
-            Ok(Some(line)) => Ok(Some(Shown::Told { offset, line })),
+            Ok(Some(line)) => Ok(Some(self.show_told(offset, line))),
             Err(error) => no_decoder_instruction(offset, error),
+        }
+    }
+
+    /// Holds a decoder instruction that was taken against the sections and insertions before it. On error the stream ends.
+    fn show_told(&mut self, offset: usize, line: DecoderLine) -> Shown
+        ensures { ShowsOne (Ok result) self.new (Some (heard self.old offset (decoder_instruction_of line)
+            self.old.decoder_stream (hear (insert_count self.old.table) self.old.awaited
+            (decoder_instruction_of line)))) }
+    {
+        match self.awaited.hear(self.table.total_inserted(), &line) {
+            Ok(()) => Shown::Told { offset, line },
+            Err(fault) => {
+                self.decoder_stream.refuse();
+                Shown::NotTold {
+                    offset,
+                    line,
+                    fault,
+                }
+            }
         }
     }
 }

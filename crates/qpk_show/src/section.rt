@@ -10,7 +10,8 @@ ghost use Rattle.qpack_wire.specs.Lines.{line_of_indexed, line_of_literal_with_n
 ghost use Rattle.qpack_wire.specs.Prefixes.{prefix_of};
 ghost use Rattle.qpack_codec.specs.Sections.{GivesLineField};
 ghost use Rattle.qpk_show.specs.Sections.{reference_of, shown_field, shown_line_at, shown_lines, shown_section};
-ghost use Rattle.qpk_show.specs.Sections.{shown_section_behind};
+ghost use Rattle.qpk_show.specs.Sections.{Reading as ReadingOf, shown_section_behind};
+ghost use Rattle.qpk_show.specs.Showing.{required_of};
 ghost use Rattle.qpk_show.specs.Answers.{unreadable_line, meaningless_line, under, DecodesLine, GivesField};
 ghost use Rattle.qpk_show.specs.Answers.{ReadsLine, AreLines, IsReading};
 
@@ -88,6 +89,19 @@ pub enum Reading {
     Blocked(usize),
     /// It is refused for its prefix.
     Refused(PrefixRefusal),
+}
+
+impl Reading {
+    /// Returns the required insert count of the section, 0 if it has none.
+    pub fn required(&self) -> usize
+        ensures { (r : ReadingOf) → IsReading self.now r → result ≡ required_of r }
+    {
+        match self {
+            Reading::Lines { required, .. } => *required,
+            Reading::Blocked(required) => *required,
+            Reading::Refused(_) => 0,
+        }
+    }
 }
 
 /// Why a line is not read: it gives no field, or no memory was left.

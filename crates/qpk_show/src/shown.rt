@@ -1,5 +1,6 @@
 //! What an onlooker is shown of a connection.
 
+use crate::awaited::HearingFault;
 use crate::section::Reading;
 use qpack_base::field::HeaderField;
 use qpack_base::parse_error::ParseError;
@@ -40,6 +41,15 @@ pub enum Shown {
         offset: usize,
         /// What it is.
         line: DecoderLine,
+    },
+    /// A decoder instruction that the sections and insertions before it refuse; the stream ends here.
+    NotTold {
+        /// Where it begins.
+        offset: usize,
+        /// What it is.
+        line: DecoderLine,
+        /// Why it is refused.
+        fault: HearingFault,
     },
     /// Bytes that are no decoder instruction; the stream ends here.
     NoDecoderInstruction {

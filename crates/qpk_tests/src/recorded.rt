@@ -1,6 +1,6 @@
 //! Header lists encoded to recordings, and recordings decoded.
 
-use crate::running::{HELP, refuse, run};
+use crate::running::{refuse, run};
 use std::alloc::Global;
 use std::process::Abort;
 use std::test::Fail;
@@ -78,16 +78,5 @@ fn lists_and_settings_that_are_refused_are_told(rt: HostRuntime) -> Result<(), F
         alloc,
         "qpk: refused: limit\n",
         &[("encode --qif 4096 65535 1", "")],
-    )?;
-    refuse(
-        &rt,
-        alloc,
-        HELP,
-        &[
-            ("encode --qif", ""),
-            ("encode --qif 1 1", ""),
-            ("decode --qif 1", ""),
-            ("decode --qif 1 1 1", ""),
-        ],
     )
 }

@@ -16,44 +16,6 @@ pub const REFUSED_OUTPUT: &str = "qpk: refused: output\n";
 pub const USAGE: &str =
     "usage: qpk encode | qpk decode LIMIT | qpk run CAPACITY LIMIT | qpk inspect CAPACITY\n";
 
-/// What `--help` prints, and what other words of an addition get.
-pub const HELP: &str = "\
-usage: qpk encode | decode [--hex | --json] LIMIT | inspect CAPACITY
-       qpk run CAPACITY LIMIT
-       qpk show [--table] [--json] [--qif] MAXIMUM BLOCKED
-       qpk encode --qif CAPACITY BLOCKED ACK | decode --qif CAPACITY BLOCKED
-QPACK (RFC 9204) by lines: a command reads its input, and prints the answer.
-
-encode   fields, NAME TAB VALUE each, to a block in hexadecimal
-  printf ':method\\tGET\\n' | ./qpk encode
-  0000d1
-  a carriage return before a line feed is part of the value
-decode   a block to its fields, whose sizes may sum to LIMIT bytes
-  printf '0000d1\\n' | ./qpk decode 42
-  :method\tGET
-  size 42
-  with --hex, to NAME TAB VALUE in hexadecimal, a minus for nothing; with --json,
-  to an object, where what is not UTF-8 is an object with its bytes as hex
-  encode --qif, header lists in QIF to a recording of the offline interop format,
-  each acknowledged at once if ACK is 1, never if it is 0; decode --qif, back
-inspect  a recorded connection: e TAB HEX, its encoder stream; b TAB HEX, blocks
-  printf 'b\\t0000d1\\n' | ./qpk inspect 4096
-  prefix 0 0
-  indexed static 17
-  fields 1 42
-run      a script of events on two ends, where LIMIT blocks may be blocked
-  printf 'encode\\t4\\tfoo\\tbar\\n' | ./qpk run 4096 1
-  encoded 1 028010 6294e7838c767f
-show     a recorded connection in words: e TAB HEX and d TAB HEX, its streams;
-         b TAB STREAM TAB HEX, a section; c TAB STREAM, reading is given up
-  printf 'b\\t4\\t0000d1\\n' | ./qpk show 4096 16
-  section 4: required insert count 0, base 0
-    2 static 17, :method: GET
-  with --table, and the table behind each instruction; with --json, an object a
-  line; with --qif, of a recording of the offline interop format; or with several
---help   this text; no input is read
-";
-
 /// The words that the program is given, its input, and what it writes to its output and its faults.
 #[derive(Clone, Copy)]
 pub struct Case {
@@ -186,19 +148,36 @@ pub fn refuse(
     Ok(())
 }
 
-/// Runs words of an addition of which one is at fault: this line tells it, with all commands after it.
+/// Runs words of a command of which one is at fault or missing: the lines of how it is called come first, and this line last.
 pub fn refuse_word(
     rt: &impl Abort,
     alloc: Global,
+    command: &str,
     line: &'static str,
     words: &[&'static str],
 ) -> Result<(), Fail> {
+    let usage = format!(in alloc; "usage: qpk {command}")?;
     for words in words {
         let answer = run(rt, alloc, words, b"", "")?;
         assert!(rt; answer.output.is_empty());
-        let told = answer.faults.strip_prefix(line.as_bytes());
-        assert!(rt; told == Some(HELP.as_bytes()));
+        assert!(rt; answer.faults.starts_with(usage.as_str().as_bytes()));
+        let told = answer.faults.strip_suffix(line.as_bytes());
+        assert!(rt; told.is_some_and(|usage| lines_in(usage) <= 3));
         assert_eq!(rt; answer.status, 1);
+    }
+    Ok(())
+}
+
+/// How many lines are in a text.
+fn lines_in(text: &[u8]) -> usize {
+    text.iter().filter(|byte| **byte == b'\n').count()
+}
+
+/// Runs cases that end with this status, and say nothing on standard error.
+pub fn hold_found(rt: &impl Abort, alloc: Global, status: u8, cases: &[Case]) -> Result<(), Fail> {
+    for case in cases {
+        let answer = run(rt, alloc, case.words, case.input.as_bytes(), case.output)?;
+        answer.holds(rt, case.output, "", status);
     }
     Ok(())
 }

@@ -1,6 +1,6 @@
 //! Readers and writers that fail.
 
-use crate::running::{HELP, REFUSED_MEMORY, REFUSED_OUTPUT, USAGE, wants_memory, words};
+use crate::running::{REFUSED_MEMORY, REFUSED_OUTPUT, USAGE, wants_memory, words};
 use qpk::serve::serve;
 use std::alloc::Global;
 use std::io::{self, Cursor, ErrorKind, Read, Write};
@@ -200,7 +200,7 @@ fn help_reads_no_input(rt: HostRuntime) -> Result<(), Fail> {
     let mut input = BrokenReader(b"");
     let status = serve(alloc, &words, &mut input, &mut out, &mut faults);
     if status == 0 {
-        assert_eq!(rt; out.as_slice(), HELP.as_bytes());
+        assert!(rt; out.starts_with(b"usage: qpk COMMAND"));
     } else {
         assert!(rt; wants_memory(faults.taken()));
     }

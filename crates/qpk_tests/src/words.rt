@@ -1,14 +1,14 @@
 //! What the program does with its words: the four commands, and what is added to them.
 
-use crate::running::{Case, HELP, USAGE, hold, refuse, refuse_word, run};
+use crate::running::{Case, USAGE, hold, refuse, refuse_word, run};
 use std::test::Fail;
 
 // The examples of the help.
 const HELPED: [Case; 5] = [
     Case {
-        words: "--help",
+        words: "--version",
         input: "",
-        output: HELP,
+        output: "qpk 0.1.0\n",
         fault: "",
     },
     Case {
@@ -38,16 +38,40 @@ const HELPED: [Case; 5] = [
 ];
 
 #[test]
-fn help_is_printed_and_its_examples_hold(rt: HostRuntime) -> Result<(), Fail> {
+fn the_examples_of_help_hold(rt: HostRuntime) -> Result<(), Fail> {
     hold(&rt, rt.alloc(), &HELPED)
+}
+
+// Help of a command can be asked for in three ways, and that of all commands too.
+#[test]
+fn help_is_printed_for_each_way_to_ask(rt: HostRuntime) -> Result<(), Fail> {
+    let alloc = rt.alloc();
+    let ways = [
+        ["help", "-h", "--help"],
+        ["help encode", "encode -h", "encode --help"],
+        ["help decode", "decode -h", "decode --help"],
+        ["help inspect", "inspect -h", "inspect --help"],
+        ["help run", "run -h", "run --help"],
+        ["help show", "show -h", "show --help"],
+        ["help check", "check -h", "check --help"],
+        ["help explain", "explain -h", "explain --help"],
+    ];
+    for [first, second, third] in ways {
+        let help = run(&rt, alloc, first, b"x", "")?;
+        help.says(&rt, "", 0);
+        assert!(rt; help.output.starts_with(b"usage: qpk "));
+        for words in [second, third] {
+            let same = run(&rt, alloc, words, b"x", "")?;
+            same.says(&rt, "", 0);
+            assert!(rt; same.output == help.output);
+        }
+    }
+    Ok(())
 }
 
 // Words that are none of the four commands, and numbers that are none, get the usage alone: one line.
 const OTHER: &[(&str, &str)] = &[
     ("", ""),
-    ("help", ""),
-    ("help 1 2", ""),
-    ("-h", ""),
     ("Encode", ":method\tGET\n"),
     ("encode 1", ":method\tGET\n"),
     ("encode encode", ""),
@@ -80,59 +104,135 @@ fn other_words_and_numbers_get_the_usage(rt: HostRuntime) -> Result<(), Fail> {
     refuse(&rt, rt.alloc(), USAGE, OTHER)
 }
 
-// Too many words behind an addition, or too few: no word is at fault.
 #[test]
-fn additions_of_too_many_words_or_too_few_get_the_help(rt: HostRuntime) -> Result<(), Fail> {
-    let words = [
-        ("--help encode", ""),
-        ("decode --hex", "0000"),
-        ("decode --json 1 1", "0000"),
-        ("show", ""),
-        ("show --table", ""),
-        ("show --table 1", ""),
-        ("show 1 1 --table", ""),
-    ];
-    refuse(&rt, rt.alloc(), HELP, &words)
-}
-
-#[test]
-fn a_word_at_fault_of_an_addition_is_named(rt: HostRuntime) -> Result<(), Fail> {
+fn a_word_that_is_missing_is_named(rt: HostRuntime) -> Result<(), Fail> {
     let alloc = rt.alloc();
     refuse_word(
         &rt,
         alloc,
-        "qpk: \"--hex\" is not an option here\n",
-        &[
-            "decode --json --hex 1",
-            "decode --qif --hex 1 1",
-            "show --table --hex 1 1",
-            "show --hex",
-        ],
+        "decode",
+        "qpk: LIMIT is missing\n",
+        &["decode --hex", "decode --json"],
     )?;
     refuse_word(
         &rt,
         alloc,
-        "qpk: \"12x\" is not a whole number below 2^64\n",
-        &[
-            "decode --hex 12x",
-            "show --table 12x 1",
-            "encode --qif 12x 1 0",
-            "encode --qif 1 12x 2",
-            "decode --qif 12x 1",
-        ],
+        "encode",
+        "qpk: CAPACITY is missing\n",
+        &["encode --qif"],
     )?;
     refuse_word(
         &rt,
         alloc,
-        "qpk: \"18446744073709551616\" is not a whole number below 2^64\n",
+        "decode",
+        "qpk: CAPACITY is missing\n",
+        &["decode --qif"],
+    )?;
+    refuse_word(
+        &rt,
+        alloc,
+        "decode",
+        "qpk: BLOCKED is missing\n",
+        &["decode --qif 1"],
+    )?;
+    let line = "qpk: ACK, which is 0 or 1, is missing\n";
+    refuse_word(&rt, alloc, "encode", line, &["encode --qif 1 1"])?;
+    let line = "qpk: the number after --max-capacity is missing\n";
+    refuse_word(
+        &rt,
+        alloc,
+        "show",
+        line,
+        &["show --max-capacity", "show --json --max-capacity"],
+    )?;
+    refuse_word(&rt, alloc, "explain", line, &["explain 00 --max-capacity"])?;
+    let line = "qpk: the number after --max-blocked is missing\n";
+    refuse_word(&rt, alloc, "check", line, &["check --max-blocked"])
+}
+
+#[test]
+fn a_word_at_fault_is_named(rt: HostRuntime) -> Result<(), Fail> {
+    let alloc = rt.alloc();
+    let line = "qpk: \"--hex\" is not an option here\n";
+    refuse_word(
+        &rt,
+        alloc,
+        "decode",
+        line,
+        &["decode --json --hex 1", "decode --qif --hex 1 1"],
+    )?;
+    refuse_word(
+        &rt,
+        alloc,
+        "show",
+        line,
+        &["show --table --hex", "show --hex"],
+    )?;
+    refuse_word(&rt, alloc, "explain", line, &["explain 00 --hex"])?;
+    let line = "qpk: \"--table\" is not an option here\n";
+    refuse_word(&rt, alloc, "check", line, &["check --table"])?;
+    let line = "qpk: \"12x\" is not a whole number below 2^64\n";
+    refuse_word(
+        &rt,
+        alloc,
+        "decode",
+        line,
+        &["decode --hex 12x", "decode --qif 12x 1"],
+    )?;
+    refuse_word(
+        &rt,
+        alloc,
+        "encode",
+        line,
+        &["encode --qif 12x 1 0", "encode --qif 1 12x 2"],
+    )?;
+    refuse_word(
+        &rt,
+        alloc,
+        "show",
+        line,
+        &["show --max-capacity 12x", "show --max-blocked 12x"],
+    )?;
+    refuse_word(
+        &rt,
+        alloc,
+        "explain",
+        line,
+        &["explain --max-capacity 12x 00"],
+    )?;
+    let line = "qpk: \"18446744073709551616\" is not a whole number below 2^64\n";
+    refuse_word(
+        &rt,
+        alloc,
+        "decode",
+        line,
         &["decode --hex 18446744073709551616"],
     )?;
+    let line = "qpk: \"2\" is neither 0 nor 1\n";
+    refuse_word(&rt, alloc, "encode", line, &["encode --qif 1 1 2"])
+}
+
+#[test]
+fn a_word_too_many_is_named(rt: HostRuntime) -> Result<(), Fail> {
+    let alloc = rt.alloc();
+    let line = "qpk: \"1\" is one word too many\n";
     refuse_word(
         &rt,
         alloc,
-        "qpk: \"2\" is neither 0 nor 1\n",
-        &["encode --qif 1 1 2"],
-    )
+        "decode",
+        line,
+        &["decode --json 7 1", "decode --qif 7 7 1"],
+    )?;
+    refuse_word(
+        &rt,
+        alloc,
+        "encode",
+        line,
+        &["encode --qif 7 7 0 1", "encode --help 1"],
+    )?;
+    refuse_word(&rt, alloc, "COMMAND", line, &["--version 1", "help show 1"])?;
+    let line = "qpk: \"foo\" is not a command\n";
+    refuse_word(&rt, alloc, "COMMAND", line, &["help foo", "-h foo"])
 }
 
 // A carriage return before a line feed is part of the value. Of header lists in QIF a note says so.

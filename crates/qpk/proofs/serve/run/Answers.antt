@@ -4,7 +4,7 @@ use Rattle.qpk.proofs.serve.run.Goals as goal
 
 pub returns-clause-answered : goal.returns-clause-answered
 returns-clause-answered g c =
-    IfOk-weaker c.run_command.result _ _ (λ note h. (c.in_ok-command.command, c.in_ok-command.ensures, h))
+    IfOk-weaker c.run_command.result _ _ (λ note h. (c.in_ok-command.command, c.in_ok-command.ensures, h.0, h.1))
     c.run_command.ensures.answered
 
 pub returns-clause-refused : goal.returns-clause-refused

@@ -1,9 +1,16 @@
+use Rattle.std.proofs.Common.{inl, inr}
 use Rattle.qpk.specs.Refusals.{AppendsFront}
-use Rattle.qpk.proofs.Tellings.{ends_told}
+use Rattle.qpk.proofs.Tellings.{ends_told, found_of}
 use Rattle.qpk.proofs.serve.serve.Goals as goal
 
 pub returns-in-Ok-clause-answered : goal.returns-in-Ok-clause-answered
-returns-in-Ok-clause-answered g c = λ _. (_, c.in-Ok.ensures.answered, c.say_note.ensures)
+returns-in-Ok-clause-answered g c = λ _.
+    let well = c.in-Ok.ensures.answered in (_, (well.0, well.1, well.2), c.say_note.ensures)
+
+pub returns-in-Ok-clause-refused : goal.returns-in-Ok-clause-refused
+returns-in-Ok-clause-refused g c = λ other.
+    let well = c.in-Ok.ensures.answered in
+    inr (_, well.0, well.1, well.2, found_of well.0 _ well.3 other, c.say_note.ensures)
 
 pub returns-in-Err-clause-refused : goal.returns-in-Err-clause-refused
 returns-in-Err-clause-refused g c = λ _.
@@ -11,4 +18,4 @@ returns-in-Err-clause-refused g c = λ _.
     (g.W.Write.contents c.run.new.output) c.in-Err.refusal
     (AppendsFront (g.E.Write.contents c.args.faults.now) (g.E.Write.contents c.refuse.new.faults))
     c.in-Err.ensures.refused c.refuse.ensures.told in
-    (c.refuse.ensures.status, told.0, told.1, told.2)
+    inl (c.refuse.ensures.status, told.0, told.1, told.2)

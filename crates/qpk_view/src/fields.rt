@@ -1,19 +1,24 @@
 //! Fields as text that can be read one way only: `NAME: VALUE`. A backslash stands twice, and a byte that is no
 //! printable character of ASCII, and in a name a blank too, as `\x` and two digits. So the first colon with a blank
-//! behind it parts name and value.
+//! after it separates name and value.
 
-use h3_qpack::HeaderField;
+use qpack_base::field::HeaderField;
 use std::alloc::AllocError;
 
 /// Appends a field.
-pub fn push_field(text: &mut String, field: &HeaderField) -> Result<(), AllocError> {
-    push_bytes(text, field.name.as_slice(), b'!')?;
+pub(crate) fn push_field(text: &mut String, field: &HeaderField) -> Result<(), AllocError> {
+    push_name(text, field)?;
     text.push_str(": ")?;
     push_bytes(text, field.value.as_slice(), b' ')
 }
 
+/// Appends the name of a field.
+pub(crate) fn push_name(text: &mut String, field: &HeaderField) -> Result<(), AllocError> {
+    push_bytes(text, field.name.as_slice(), b'!')
+}
+
 /// Appends bytes; those from `least` to the tilde, but the backslash, stand for themselves.
-fn push_bytes(text: &mut String, bytes: &[u8], least: u8) -> Result<(), AllocError> {
+pub(crate) fn push_bytes(text: &mut String, bytes: &[u8], least: u8) -> Result<(), AllocError> {
     for byte in bytes {
         push_byte(text, *byte, least)?;
     }

@@ -1,18 +1,19 @@
 //! The live entries of a dynamic table.
 
-use h3_qpack::HeaderField;
-use h3_qpack::dynamic::ReceivedTable;
+use qpack_base::field::HeaderField;
+use qpack_table::dynamic::ReceivedTable;
 use std::ops::Range;
 
 /// A live entry, with its absolute index, from 1, and its size in bytes.
-pub struct Entry<'a> {
-    pub index: usize,
-    pub size: usize,
-    pub field: &'a HeaderField,
+#[derive(Drop)]
+pub(crate) struct Entry<'a> {
+    pub(crate) index: usize,
+    pub(crate) size: usize,
+    pub(crate) field: &'a HeaderField,
 }
 
 /// The live entries of a table, the newest first.
-pub fn live_entries(table: &ReceivedTable) -> LiveEntries<'_> {
+pub(crate) fn live_entries(table: &ReceivedTable) -> LiveEntries<'_> {
     LiveEntries {
         table,
         relative: 0..table.total_inserted(),
@@ -21,7 +22,7 @@ pub fn live_entries(table: &ReceivedTable) -> LiveEntries<'_> {
 
 /// Live entries that are still to come.
 #[derive(Drop)]
-pub struct LiveEntries<'a> {
+pub(crate) struct LiveEntries<'a> {
     table: &'a ReceivedTable,
     /// Their relative indexes, and behind these such as have no entry.
     relative: Range<usize>,

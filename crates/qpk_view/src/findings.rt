@@ -1,0 +1,266 @@
+//! A finding: where, what is wrong, the section of RFC 9204 that says so, the code that ends the connection, and a cause.
+
+use crate::causes;
+use crate::place::Place;
+use qpack_base::parse_error::ParseError;
+use qpack_base::{prefix_int, prefix_string};
+use qpack_codec::DecoderError;
+use qpack_table::dynamic::{self, ReceivedTable};
+use qpack_wire::stream::{DecoderLine, Duplicate, EncoderLine, InsertCountIncrement};
+use qpk_show::awaited::HearingFault;
+use qpk_show::section::{LineFault, PrefixRefusal};
+use std::alloc::AllocError;
+
+/// What a finding is about.
+#[derive(Clone, Copy)]
+pub(crate) enum Subject {
+    /// An instruction of the encoder stream: its offset, and its number from 1.
+    Encoder(usize, usize),
+    /// An instruction of the decoder stream.
+    Decoder(usize, usize),
+    /// A section of this stream, at this offset.
+    Section(u64, usize),
+    /// A record of the offline interop.
+    Record(usize),
+}
+
+/// The code that ends the connection (RFC 9204, section 6).
+#[derive(Clone, Copy)]
+pub(crate) enum Code {
+    Decompression,
+    EncoderStream,
+    DecoderStream,
+    /// It is no error of the connection yet.
+    None,
+}
+
+/// The section of RFC 9204 that says what is wrong, the code, and a likely cause.
+#[derive(Clone, Copy)]
+pub(crate) struct Rule {
+    section: &'static str,
+    code: Code,
+    cause: &'static str,
+}
+
+/// What the end of a recording cuts.
+pub(crate) const CUT: Rule = Rule {
+    section: "4.2",
+    code: Code::None,
+    cause: causes::MORE_FOLLOWS,
+};
+/// A section that waits to the end.
+pub(crate) const NEVER_UNBLOCKED: Rule = Rule {
+    section: "2.1.2",
+    code: Code::None,
+    cause: causes::NEVER_COMES,
+};
+/// A section that may not wait.
+pub(crate) const TOO_MANY_BLOCKED: Rule = Rule {
+    section: "2.1.2",
+    code: Code::Decompression,
+    cause: causes::TOO_MANY_BLOCKED,
+};
+
+/// Returns the rule of a section that is broken.
+fn broken(section: &'static str, code: Code, cause: &'static str) -> Rule {
+    Rule {
+        section,
+        code,
+        cause,
+    }
+}
+
+/// The rule of an encoder instruction at an offset, which the table refuses.
+pub(crate) fn rule_of_instruction(
+    offset: usize,
+    line: &EncoderLine,
+    error: &DecoderError,
+    table: &ReceivedTable,
+) -> Rule {
+    let code = Code::EncoderStream;
+    if let EncoderLine::DynamicTableSizeUpdate(_) = line {
+        return broken("4.3.1", code, causes::ABOVE_MAXIMUM);
+    }
+    match error {
+        DecoderError::DynamicTable(dynamic::Error::MaxTableSizeReached) => {
+            broken("3.2.2", code, cause_of_no_room(table))
+        }
+        DecoderError::DynamicTable(_) => broken("2.2.3", code, cause_of_no_entry(offset, line)),
+        _ => broken("3.1", code, causes::STATIC_INDEX),
+    }
+}
+
+/// Why there may be no room for an insertion.
+fn cause_of_no_room(table: &ReceivedTable) -> &'static str {
+    if table.max_mem_size() > 0 {
+        return causes::TOO_LARGE;
+    }
+    if table.total_inserted() > 0 {
+        return causes::CAPACITY_IS_ZERO_AGAIN;
+    }
+    causes::NO_CAPACITY
+}
+
+/// Why an instruction may reference no entry.
+fn cause_of_no_entry(offset: usize, line: &EncoderLine) -> &'static str {
+    match line {
+        EncoderLine::Duplicate(Duplicate(2)) if offset == 0 => causes::ENCODER_TYPE,
+        _ => causes::INSTRUCTION_INDEX,
+    }
+}
+
+/// The rule of bytes of a stream that are no instruction.
+pub(crate) fn rule_of_bytes(code: Code, error: ParseError) -> Rule {
+    broken(section_of(error), code, causes::UNREADABLE)
+}
+
+/// The section that bytes break which can't be read.
+fn section_of(error: ParseError) -> &'static str {
+    match error {
+        ParseError::String(_) => "4.1.2",
+        _ => "4.1.1",
+    }
+}
+
+/// The rule of a decoder instruction at an offset that is refused. Its stream had a section to acknowledge or not.
+pub(crate) fn rule_of_hearing(
+    offset: usize,
+    line: &DecoderLine,
+    fault: HearingFault,
+    had_section: bool,
+) -> Rule {
+    let code = Code::DecoderStream;
+    match fault {
+        HearingFault::ZeroIncrement => broken("4.4.3", code, causes::NOTHING_CAME),
+        HearingFault::PastInsertions(_) => broken("4.4.3", code, cause_of_increment(offset, line)),
+        HearingFault::UnknownStream(_) if had_section => {
+            broken("4.4.1", code, causes::ACKNOWLEDGED_TWICE)
+        }
+        HearingFault::UnknownStream(_) => broken("4.4.1", code, causes::NOTHING_TO_ACKNOWLEDGE),
+    }
+}
+
+/// Why an increment may pass the insertions.
+fn cause_of_increment(offset: usize, line: &DecoderLine) -> &'static str {
+    match line {
+        DecoderLine::InsertCountIncrement(InsertCountIncrement(3)) if offset == 0 => {
+            causes::DECODER_TYPE
+        }
+        _ => causes::COUNTED_TWICE,
+    }
+}
+
+/// The rule of a section that is refused for its prefix.
+pub(crate) fn rule_of_prefix(refusal: &PrefixRefusal) -> Rule {
+    let code = Code::Decompression;
+    match refusal {
+        PrefixRefusal::NoPrefix(e) => broken("4.5.1", code, cause_of_bytes(*e)),
+        PrefixRefusal::BadPrefix(ParseError::InvalidBase(_)) => {
+            broken("4.5.1.2", code, causes::BAD_BASE)
+        }
+        PrefixRefusal::BadPrefix(_) => broken("4.5.1.1", code, causes::BAD_COUNT),
+        PrefixRefusal::CountAtZero => broken("4.5.1.1", code, causes::COUNT_AT_ZERO),
+    }
+}
+
+/// Why bytes of a section can't be read.
+fn cause_of_bytes(error: ParseError) -> &'static str {
+    match error {
+        ParseError::Integer(prefix_int::Error::UnexpectedEnd)
+        | ParseError::String(prefix_string::Error::UnexpectedEnd) => causes::CUT_SECTION,
+        _ => causes::UNREADABLE,
+    }
+}
+
+/// The rule of a line of a section that gives no field.
+pub(crate) fn rule_of_line(fault: &LineFault) -> Rule {
+    let code = Code::Decompression;
+    match fault {
+        LineFault::Unreadable(e) => broken(section_of(*e), code, cause_of_bytes(*e)),
+        LineFault::PastRequired(_) => broken("2.2.3", code, causes::PAST_REQUIRED),
+        LineFault::Meaningless(DecoderError::InvalidStaticIndex(_)) => {
+            broken("3.1", code, causes::STATIC_INDEX)
+        }
+        LineFault::Meaningless(_) => broken("2.2.3", code, causes::EVICTED),
+    }
+}
+
+/// Appends a finding as a line.
+pub(crate) fn push_finding(
+    text: &mut String,
+    place: Place<'_>,
+    subject: Subject,
+    reason: &str,
+    rule: Rule,
+) -> Result<(), AllocError> {
+    write!(text, "line {}: ", place.line)?;
+    place.push(text)?;
+    push_subject(text, subject)?;
+    write!(text, ": {reason} [RFC 9204, section {}", rule.section)?;
+    match name_of(rule.code) {
+        Some((code, name)) => write!(text, "; 0x{code:04x} {name}")?,
+        None => {}
+    }
+    writeln!(text, "]; likely cause: {}", rule.cause)
+}
+
+/// Appends what a finding is about.
+fn push_subject(text: &mut String, subject: Subject) -> Result<(), AllocError> {
+    match subject {
+        Subject::Encoder(offset, number) => {
+            write!(text, "encoder stream, byte {offset}, instruction {number}")
+        }
+        Subject::Decoder(offset, number) => {
+            write!(text, "decoder stream, byte {offset}, instruction {number}")
+        }
+        Subject::Section(stream, offset) => write!(
+            text,
+            "section of stream {stream}, byte {offset}"
+        ),
+        Subject::Record(offset) => write!(text, "record at byte {offset}"),
+    }
+}
+
+/// Appends a finding as an object of JSON.
+pub(crate) fn push_finding_object(
+    text: &mut String,
+    place: Place<'_>,
+    subject: Subject,
+    reason: &str,
+    rule: Rule,
+) -> Result<(), AllocError> {
+    place.push_members(text)?;
+    match subject {
+        Subject::Encoder(offset, number) => {
+            write!(text, "\"encoder\":{offset},\"instruction_number\":{number}")?;
+        }
+        Subject::Decoder(offset, number) => {
+            write!(text, "\"decoder\":{offset},\"instruction_number\":{number}")?;
+        }
+        Subject::Section(stream, offset) => write!(
+            text,
+            "\"section\":{stream},\"offset\":{offset}"
+        )?,
+        Subject::Record(offset) => write!(text, "\"record\":{offset}")?,
+    }
+    write!(
+        text,
+        ",\"fault\":\"{reason}\",\"rfc9204\":\"{}\"",
+        rule.section
+    )?;
+    match name_of(rule.code) {
+        Some((code, name)) => write!(text, ",\"code\":{code},\"code_name\":\"{name}\"")?,
+        None => {}
+    }
+    writeln!(text, ",\"cause\":\"{}\"}}", rule.cause)
+}
+
+/// Returns a code and its name.
+fn name_of(code: Code) -> Option<(u64, &'static str)> {
+    match code {
+        Code::Decompression => Some((0x200, "QPACK_DECOMPRESSION_FAILED")),
+        Code::EncoderStream => Some((0x201, "QPACK_ENCODER_STREAM_ERROR")),
+        Code::DecoderStream => Some((0x202, "QPACK_DECODER_STREAM_ERROR")),
+        Code::None => None,
+    }
+}

@@ -1,0 +1,21 @@
+//! What people are shown of QPACK (RFC 9204): a recorded connection in words or as JSON, what is wrong with it, and bytes
+//! with the meaning of their bits.
+#![tactic(auto)]
+
+mod bits;
+mod causes;
+pub mod check;
+mod digits;
+mod entries;
+pub mod events;
+pub mod explain;
+pub mod fault;
+mod fields;
+mod findings;
+mod json;
+mod place;
+mod printing;
+mod reasons;
+mod recording;
+pub mod show;
+mod watch;
