@@ -2,12 +2,14 @@
 _qpk() {
     local words=
     if [ "$COMP_CWORD" = 1 ]; then
-        words='encode decode show inspect run --help'
+        words='encode decode show check explain inspect run help --version'
     else
         case ${COMP_WORDS[1]} in
         encode) words='--qif' ;;
         decode) words='--hex --json --qif' ;;
-        show) words='--json --table --qif' ;;
+        show) words='--table --json --max-capacity --max-blocked --qif' ;;
+        check) words='--json --max-capacity --max-blocked --qif' ;;
+        explain) words='--encoder-stream --decoder-stream --max-capacity' ;;
         esac
     fi
     mapfile -t COMPREPLY < <(compgen -W "$words" -- "${COMP_WORDS[COMP_CWORD]}")
