@@ -162,7 +162,7 @@ def main():
             except Exception:  # pylint: disable=broad-except # a test may fail in any way
                 failed += 1
                 print(f"{name}:\n{traceback.format_exc()}")
-    print(f"{passed} passed, {failed} failed")
+    print(f"captures: {passed} tests of dist/qpk-capture passed, {failed} failed")
     return 1 if failed else 0
 
 
