@@ -3,7 +3,7 @@
 
     tests/captures.py
 
-It needs neither tshark nor qpk. It ends with a line 'N passed, 0 failed', and with status 1 if a test failed.
+It needs neither tshark nor qpk. It ends with a line 'captures: N tests .. passed', and with status 1 if a test failed.
 """
 import importlib.machinery
 import importlib.util
