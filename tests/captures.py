@@ -1,19 +1,26 @@
 #!/usr/bin/env python3
-"""Tests dist/qpk-capture: packets as tshark prints them, to the lines that qpk show reads.
+"""Tests dist/qpk-capture: packets as tshark prints them, to the lines that qpk show reads; and a capture of Chromium.
 
     tests/captures.py
 
-It needs neither tshark nor qpk. It ends with a line 'captures: N tests .. passed', and with status 1 if a test failed.
+In tests/captured are the first 60 packets between Chromium 156 and examples/http3-server, with their secrets; the lines that
+qpk-capture printed of them; and the lists of fields of Chromium's own log. Without tshark the lines are taken as they are.
+It ends with a line 'captures: N tests .. passed', and with status 1 if a test failed.
 """
 import importlib.machinery
 import importlib.util
 import io
+import json
+import shutil
+import subprocess
 import sys
 import traceback
 from pathlib import Path
 
 TOP = Path(__file__).resolve().parent.parent
 CLIENT, SERVER = ("10.0.0.1", "50000"), ("10.0.0.2", "443")
+CAPTURED = TOP / "tests" / "captured"
+KEPT = CAPTURED / "chromium.txt"
 SETTINGS = "00 04 05 01 50 00 07 10"  # a control stream: capacity 4096, and 16 blocked streams
 
 
@@ -149,6 +156,35 @@ def test_one_stream():
     assert [it[:12] for it in kept] == ["0.2 > sectio", "  2 static 1", "0.4 < decode", "0.6 < stream"]
     objects = '{"line":1,"section":4}\n{"line":2,"encoder":0}\n{"line":3,"decoder":0,"stream":4}\n{"line":4,"section":44}\n'
     assert capture.of_stream(objects, 4) == '{"line":1,"section":4}\n{"line":3,"decoder":0,"stream":4}\n'
+
+
+def run(*words):
+    """Returns what a program prints, which ends with status 0."""
+    return subprocess.run([*map(str, words)], stdout=subprocess.PIPE, encoding="utf-8", check=True).stdout
+
+
+def logged(fields):
+    """Returns the fields that qpk shows as Chromium logs them."""
+    return sorted(f"{field['name']}: {field['value']}" for field in fields)
+
+
+def test_chromium_by_tshark():
+    """The lines of the capture are those that are kept."""
+    if shutil.which("tshark"):
+        assert run(TOP / "dist" / "qpk-capture", "lines", CAPTURED / "chromium.pcapng") == KEPT.read_text("utf-8")
+
+
+def test_chromium():
+    """Each list of fields is that of Chromium's log, and nothing is wrong."""
+    lists = {"client": {}, "server": {}}
+    for line in run(TOP / "qpk", "show", "--json", KEPT).splitlines():
+        it = json.loads(line)
+        if "lines" in it:
+            lists[it["from"]][str(it["section"])] = logged(it["lines"])
+    expected = json.loads((CAPTURED / "chromium.json").read_text("utf-8"))
+    assert lists == {end: {stream: sorted(log) for stream, log in own.items()} for end, own in expected.items()}
+    assert sum(map(len, lists.values())) == 18
+    run(TOP / "qpk", "check", KEPT)
 
 
 def main():

@@ -24,7 +24,8 @@ class Chromium:
              f'--origin-to-force-quic-on=localhost:{port}', f'--ignore-certificate-errors-spki-list={key}',
              f'--log-net-log={room}/net.json', '--net-log-capture-mode=Everything',
              f'https://localhost:{port}/test.html'],
-            stdout=subprocess.DEVNULL, stderr=subprocess.DEVNULL, start_new_session=True)
+            env={**os.environ, 'SSLKEYLOGFILE': f'{room}/secrets'}, stdout=subprocess.DEVNULL,
+            stderr=subprocess.DEVNULL, start_new_session=True)
 
     def compare(self, room, received, sent):
         """Checks that the log has each list of fields, and returns how many were compared."""
@@ -123,7 +124,8 @@ class Firefox:
             for name, value in settings.items():
                 file.write(f'user_pref({json.dumps(name)}, {json.dumps(value)});\n')
         environment = {**os.environ, 'HOME': profile, 'MOZ_HEADLESS': '1', 'MOZ_CRASHREPORTER_DISABLE': '1',
-                       'MOZ_LOG': 'timestamp,nsHttp:4', 'MOZ_LOG_FILE': f'{room}/firefox'}
+                       'MOZ_LOG': 'timestamp,nsHttp:4', 'MOZ_LOG_FILE': f'{room}/firefox',
+                       'SSLKEYLOGFILE': f'{room}/secrets'}
         environment.pop('DISPLAY', None)
         return subprocess.Popen(
             ['firefox-esr', '--headless', '--no-remote', '--profile', profile, f'https://localhost:{port}/test.html'],

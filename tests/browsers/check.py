@@ -3,9 +3,10 @@
 
 A page makes 170 requests, twelve at once, of which 20 are aborted, under four settings, in Chromium and in Firefox. It
 compares the fields of requests and answers that it knows. nghttp3 decodes each section again, both ways, and finds the
-fields that the server logged. And the browser's own log has the same lists. It needs chromium or firefox-esr, and on
-Debian libnss3-tools for Firefox, the packages of the server and libnghttp3-3. A browser that is not installed is left
-out. It uses addresses of this machine alone. The last line is 'N passed, M failed'.
+fields that the server logged. And the browser's own log has the same lists. One run with Chromium is captured, where
+dumpcap and tshark are installed: qpk show must read the same lists in the capture, and qpk check find nothing wrong. It
+needs chromium or firefox-esr, and on Debian libnss3-tools for Firefox, the packages of the server and libnghttp3-3. A
+browser that is not installed is left out. It uses addresses of this machine alone. The last line is 'N passed, M failed'.
 
     --planted    plants three faults in a copy of the server, and checks that each is found by each browser's run
 """
@@ -19,6 +20,7 @@ import sys
 import tempfile
 import time
 
+import capture
 from browsers import BROWSERS
 from nghttp3 import Decoder, Failure
 
@@ -43,6 +45,8 @@ FAULTS = {
         '    send_on(c, &c->own[ENCODER], piece, len);',
         '    static int pieces;\n    if (++pieces != 20) send_on(c, &c->own[ENCODER], piece, len);'),
 }
+# The run that is captured.
+CAPTURED = ('Chromium', 'a table of 4,096 bytes')
 SECONDS = 60
 
 
@@ -103,9 +107,10 @@ def find_report(path):
     return json.loads(json.loads(line)['text']) if line else None
 
 
-def run(browser, program, certificates, key, options, room):
+def run(browser, program, certificates, key, options, room, is_captured):
     """Runs the server and a browser, and returns the page's report."""
     port = free_port()
+    capturing = capture.start(port, room) if is_captured else None
     server = subprocess.Popen(
         [program, '--port', str(port), '--folder', f'{HERE}/pages', '--log', f'{room}/log',
          '--certificate', f'{certificates}/certificate.pem', '--key', f'{certificates}/key.pem', *options],
@@ -120,6 +125,8 @@ def run(browser, program, certificates, key, options, room):
     finally:
         stop(opened)
         status = stop(server)
+        if capturing:
+            stop(capturing)
     if report is None:
         raise Failure(f'the page did not report within {SECONDS} seconds')
     if status:
@@ -127,10 +134,10 @@ def run(browser, program, certificates, key, options, room):
     return report
 
 
-def check(browser, program, certificates, key, options):
+def check(browser, program, certificates, key, options, is_captured=False):
     """Runs a setting, and returns what was compared. Raises Failure if anything differs."""
     with tempfile.TemporaryDirectory() as room:
-        report = run(browser, program, certificates, key, options, room)
+        report = run(browser, program, certificates, key, options, room, is_captured)
         if report['wrong']:
             raise Failure('the page found ' + report['wrong'][0])
         if report['protocols'] != ['h3']:
@@ -145,8 +152,9 @@ def check(browser, program, certificates, key, options):
         if decode_again(events, 'sent', 'section sent', 'settings') != sent:
             raise Failure('nghttp3 decodes other fields of what was sent')
         compared = browser.compare(room, received, sent)
+        shown = f', {capture.compare(room, received, sent)} by qpk in the capture' if is_captured else ''
         return (f"{report['compared']} fields by the page, {len(received) + len(sent)} lists by nghttp3, "
-                f"{compared} by {browser.name}'s log")
+                f"{compared} by {browser.name}'s log{shown}")
 
 
 def build(folder, sources):
@@ -196,7 +204,8 @@ def try_settings(browser, program, folder, key):
     passed = []
     for name, options in SETTINGS.items():
         try:
-            compared = check(browser, program, folder, key, options)
+            is_captured = (browser.name, name) == CAPTURED and capture.is_possible()
+            compared = check(browser, program, folder, key, options, is_captured)
             print(f'tests/browsers: {browser.name}, {name}: {compared}', flush=True)
             passed.append(True)
         except Failure as why:

@@ -1,0 +1,72 @@
+"""A capture of a run by dumpcap, and the lists of fields that qpk reads in it by tshark."""
+import collections
+import json
+import os
+import shutil
+import subprocess
+import time
+
+from nghttp3 import Failure
+
+QPK = os.path.join(os.path.dirname(os.path.abspath(__file__)), '..', '..', 'qpk')
+PROGRAMS = ('dumpcap', 'tshark')
+
+
+def is_possible():
+    """Whether datagrams can be captured here: with dumpcap and tshark, as a user who may."""
+    if not all(map(shutil.which, PROGRAMS)):
+        return False
+    interfaces = subprocess.run(['dumpcap', '-D'], capture_output=True, text=True, check=False)
+    return 'lo' in interfaces.stdout.split()
+
+
+def start(port, room):
+    """Begins to capture the datagrams of a port, and returns the process."""
+    process = subprocess.Popen(
+        ['dumpcap', '-q', '-i', 'lo', '-f', f'udp port {port}', '-w', f'{room}/capture.pcapng'],
+        stderr=subprocess.DEVNULL)
+    until = time.time() + 10
+    while not os.path.exists(f'{room}/capture.pcapng'):
+        if time.time() > until or process.poll() is not None:
+            raise Failure('dumpcap did not begin')
+        time.sleep(0.1)
+    return process
+
+
+def run_qpk(*words):
+    """Returns what qpk prints of a capture in which nothing is wrong."""
+    ran = subprocess.run([QPK, *words], capture_output=True, encoding='utf-8', check=False)
+    if ran.returncode:
+        raise Failure(f'qpk {words[0]} ended with {ran.returncode}: {(ran.stderr or ran.stdout).strip()[:300]}')
+    return ran.stdout
+
+
+def text_of(value):
+    """Returns a name or a value of qpk's JSON as text, a character a byte."""
+    data = value.encode() if isinstance(value, str) else bytes.fromhex(value['hex'])
+    return data.decode('latin-1')
+
+
+def read_lists(printed):
+    """Returns the lists of what qpk show --json printed: for each end that sent them, how often each came on which
+    stream."""
+    lists = {'client': collections.Counter(), 'server': collections.Counter()}
+    for line in printed.splitlines():
+        it = json.loads(line)
+        if 'lines' in it:
+            fields = tuple((text_of(field['name']), text_of(field['value'])) for field in it['lines'])
+            lists[it['from']][it['section'], fields] += 1
+    return lists
+
+
+def compare(room, received, sent):
+    """Checks that qpk reads the lists that the server received and sent, and finds nothing wrong. Returns how many."""
+    words = (f'{room}/capture.pcapng', '--keys', f'{room}/secrets')
+    lists = read_lists(run_qpk('show', *words, '--json'))
+    for end, logged in (('client', received), ('server', sent)):
+        expected = collections.Counter((stream, tuple(map(tuple, fields))) for (_, stream), fields in logged.items())
+        if lists[end] != expected:
+            other = (expected - lists[end]) + (lists[end] - expected)
+            raise Failure(f'qpk show reads other lists of the {end} on the streams {sorted(stream for stream, _ in other)}')
+    run_qpk('check', *words)
+    return sum(map(len, (received, sent)))
