@@ -8,6 +8,9 @@ import subprocess
 
 from nghttp3 import Failure
 
+# The page gives up so many requests, whose responses may not be logged.
+GIVEN_UP = 20
+
 
 class Chromium:
     """Chromium. Its log has the fields of each stream, both ways."""
@@ -85,8 +88,6 @@ class Firefox:
     """Firefox. Its log has the requests and the responses as of HTTP/1.1, and not their streams."""
     name, programs = 'Firefox', ['firefox-esr', 'certutil']
     NOT_COMPARED = {'connection', 'te', 'host'}
-    # The page gives up so many requests, whose responses may not be logged.
-    GIVEN_UP = 20
     SETTINGS = {
         'network.http.http3.enable': True,
         'network.http.http3.disable_when_third_party_roots_found': False,
@@ -153,7 +154,7 @@ class Firefox:
             if responses[form]:
                 responses[form] -= 1
                 compared += 1
-        if compared < len(received) + len(sent) - self.GIVEN_UP:
+        if compared < len(received) + len(sent) - GIVEN_UP:
             raise Failure(f"Firefox's log has only {compared - len(received)} of {len(sent)} responses")
         return compared
 

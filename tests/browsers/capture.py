@@ -6,6 +6,7 @@ import shutil
 import subprocess
 import time
 
+from browsers import GIVEN_UP
 from nghttp3 import Failure
 
 QPK = os.path.join(os.path.dirname(os.path.abspath(__file__)), '..', '..', 'qpk')
@@ -60,13 +61,17 @@ def read_lists(printed):
 
 
 def compare(room, received, sent):
-    """Checks that qpk reads the lists that the server received and sent, and finds nothing wrong. Returns how many."""
+    """Checks that qpk reads the lists that the server received and sent, and finds nothing wrong. Returns how many it
+    read. Of as many streams as are given up, a list may be sent and not received, or encoded and not sent."""
     words = (f'{room}/capture.pcapng', '--keys', f'{room}/secrets')
     lists = read_lists(run_qpk('show', *words, '--json'))
+    compared = 0
     for end, logged in (('client', received), ('server', sent)):
         expected = collections.Counter((stream, tuple(map(tuple, fields))) for (_, stream), fields in logged.items())
-        if lists[end] != expected:
-            other = (expected - lists[end]) + (lists[end] - expected)
-            raise Failure(f'qpk show reads other lists of the {end} on the streams {sorted(stream for stream, _ in other)}')
+        lacking, other = expected - lists[end], lists[end] - expected
+        streams = {stream for stream, _ in lacking} & {stream for stream, _ in other}
+        if streams or sum((lacking + other).values()) > GIVEN_UP:
+            raise Failure(f'qpk show reads {other} of the {end}, and not {lacking}'[:300])
+        compared += sum((expected & lists[end]).values())
     run_qpk('check', *words)
-    return sum(map(len, (received, sent)))
+    return compared

@@ -6,7 +6,9 @@ compares the fields of requests and answers that it knows. nghttp3 decodes each 
 fields that the server logged. And the browser's own log has the same lists. One run with Chromium is captured, where
 dumpcap and tshark are installed: qpk show must read the same lists in the capture, and qpk check find nothing wrong. It
 needs chromium or firefox-esr, and on Debian libnss3-tools for Firefox, the packages of the server and libnghttp3-3. A
-browser that is not installed is left out. It uses addresses of this machine alone. The last line is 'N passed, M failed'.
+browser that is not installed is left out. It uses addresses of this machine alone.
+
+The last line is 'N passed, M failed'.
 
     --planted    plants three faults in a copy of the server, and checks that each is found by each browser's run
 """
