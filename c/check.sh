@@ -141,6 +141,11 @@ choose_more bounds
 compile bounds bounds.c -O2
 run "$room/bounds"
 cat "$room/told"
+choose_more held
+compile held held.c -O2
+run "$room/held" "$corpus"
+compile tails tails.c -O2
+run "$room/tails" 200 1 65536
 choose_more bench
 compile bench bench.c -O2
 run "$room/bench" "$corpus" 3

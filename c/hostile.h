@@ -1,52 +1,9 @@
-/* What the cases of hostile.c are made of: a meter, an allocator that counts, bytes of the wire, fields that a peer or
- * an application would choose, and calls of the ends. */
+/* What the cases of hostile.c are made of: a meter, bytes of the wire, fields that a peer or an application would choose,
+ * and calls of the ends. */
 #ifndef HOSTILE_H
 #define HOSTILE_H
 
-#include <malloc.h>
-#include "tests/common.h"
-
-/* ---- Memory: how much the library has, in how many blocks, and the most that it had since a case began. To be linked with
- * --wrap=malloc, --wrap=realloc and --wrap=free. A block takes what malloc says; the program's own come from
- * __real_malloc. |most_moving| has 8 bytes more for each block, and a block that is enlarged twice, as before and as after
- * it. */
-
-static size_t live, blocks, most_live, most_moving;
-
-void *__real_malloc(size_t size);
-void *__real_realloc(void *p, size_t size);
-void __real_free(void *p);
-void *__wrap_malloc(size_t size);
-void *__wrap_realloc(void *p, size_t size);
-void __wrap_free(void *p);
-
-static void *count_block(void *p, size_t before) {
-  if (!p) return p;
-  blocks++;
-  live += malloc_usable_size(p);
-  if (live > most_live) most_live = live;
-  if (live + before + 8 * blocks > most_moving) most_moving = live + before + 8 * blocks;
-  return p;
-}
-
-static void *uncount_block(void *p) {
-  blocks -= p != NULL;
-  live -= malloc_usable_size(p);
-  return p;
-}
-
-void *__wrap_malloc(size_t size) { return count_block(__real_malloc(size), 0); }
-
-void *__wrap_realloc(void *p, size_t size) {
-  size_t before = malloc_usable_size(p);
-  void *q = __real_realloc(p, size);
-  if (!q) return q;
-  live -= before;
-  blocks -= p != NULL;
-  return count_block(q, before);
-}
-
-void __wrap_free(void *p) { __real_free(uncount_block(p)); }
+#include "counted.h"
 
 /* ---- The meter: a line for each case, with what a call took, and a byte where bytes are handed in. */
 
