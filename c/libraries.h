@@ -85,29 +85,6 @@ static void close_our_encoder(void *at) {
   h3_qpack_encoder_del(&both->encoder);
 }
 
-/* nghttp3 asks this program for memory, where a linker can count it. */
-static void *their_malloc(size_t size, void *data) {
-  (void)data;
-  return malloc(size);
-}
-
-static void their_free(void *p, void *data) {
-  (void)data;
-  free(p);
-}
-
-static void *their_calloc(size_t count, size_t size, void *data) {
-  (void)data;
-  return calloc(count, size);
-}
-
-static void *their_realloc(void *p, size_t size, void *data) {
-  (void)data;
-  return realloc(p, size);
-}
-
-static const nghttp3_mem their_memory = {NULL, their_malloc, their_free, their_calloc, their_realloc};
-
 typedef struct {
   nghttp3_qpack_encoder *encoder;
   nghttp3_qpack_decoder *decoder;
