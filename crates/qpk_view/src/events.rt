@@ -62,7 +62,7 @@ pub(crate) fn read_event<'a>(
     if is_left_out(&words) {
         return Ok(None);
     }
-    let (time, rest) = split_time(&words);
+    let (time, rest) = split_time(alloc, line, &words)?;
     let (end, name, rest) = split_end(rest);
     let (act, has_half) = read_act(alloc, line, name, rest)?;
     if has_half && !is_cut {
@@ -94,14 +94,27 @@ fn is_left_out(words: &[&str]) -> bool {
     }
 }
 
-/// Splits the word of a time off, if it is there, without its `@`.
-fn split_time<'a, 'b>(words: &'b [&'a str]) -> (&'a str, &'b [&'a str]) {
-    if let Some((first, rest)) = words.split_first() {
-        if let Some(time) = first.strip_prefix("@") {
-            return (time, rest);
-        }
+/// Splits the word of a time off, if it is there, without its `@`. The time is printed as it is, in JSON too.
+fn split_time<'a, 'b>(
+    alloc: Global,
+    line: usize,
+    words: &'b [&'a str],
+) -> Result<(&'a str, &'b [&'a str]), Fault> {
+    let Some((first, rest)) = words.split_first() else {
+        return Ok(("", words));
+    };
+    match first.strip_prefix("@") {
+        Some(time) if is_printed_as_it_is(time) => Ok((time, rest)),
+        Some(_) => Err(Fault::Input(format!(in alloc;
+            "line {line}: its time has a quotation mark, a backslash or a control character"
+        )?)),
+        None => Ok(("", words)),
     }
-    ("", words)
+}
+
+/// Whether a string of JSON has this text without an escape, and a terminal shows it.
+fn is_printed_as_it_is(text: &str) -> bool {
+    text.as_bytes().iter().all(|byte| !byte.is_ascii_control() && *byte != b'"' && *byte != b'\\')
 }
 
 /// Splits the mark of an end off, if it is there, and the name of what came.

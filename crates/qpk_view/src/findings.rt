@@ -2,11 +2,12 @@
 
 use crate::causes;
 use crate::place::Place;
+use crate::reasons::{is_decoder_type, is_encoder_type};
 use qpack_base::parse_error::ParseError;
 use qpack_base::{prefix_int, prefix_string};
 use qpack_codec::DecoderError;
 use qpack_table::dynamic::{self, ReceivedTable};
-use qpack_wire::stream::{DecoderLine, Duplicate, EncoderLine, InsertCountIncrement};
+use qpack_wire::stream::{DecoderLine, EncoderLine};
 use qpk_show::awaited::HearingFault;
 use qpk_show::section::{LineFault, PrefixRefusal};
 use std::alloc::AllocError;
@@ -103,9 +104,10 @@ fn cause_of_no_room(table: &ReceivedTable) -> &'static str {
 
 /// Why an instruction may reference no entry.
 fn cause_of_no_entry(offset: usize, line: &EncoderLine) -> &'static str {
-    match line {
-        EncoderLine::Duplicate(Duplicate(2)) if offset == 0 => causes::ENCODER_TYPE,
-        _ => causes::INSTRUCTION_INDEX,
+    if is_encoder_type(offset, line) {
+        causes::ENCODER_TYPE
+    } else {
+        causes::INSTRUCTION_INDEX
     }
 }
 
@@ -142,11 +144,10 @@ pub(crate) fn rule_of_hearing(
 
 /// Why an increment may pass the insertions.
 fn cause_of_increment(offset: usize, line: &DecoderLine) -> &'static str {
-    match line {
-        DecoderLine::InsertCountIncrement(InsertCountIncrement(3)) if offset == 0 => {
-            causes::DECODER_TYPE
-        }
-        _ => causes::COUNTED_TWICE,
+    if is_decoder_type(offset, line) {
+        causes::DECODER_TYPE
+    } else {
+        causes::COUNTED_TWICE
     }
 }
 

@@ -114,7 +114,8 @@ fn push_not_applied(
     table: &ReceivedTable,
 ) -> Result<(), AllocError> {
     write!(text, "encoder {offset}: ")?;
-    push_instruction(text, line)?;
+    push_instruction(text, line, None)?;
+    text.push_str(", ")?;
     push_refused(text, number)?;
     reasons::push_not_applied(text, line, error, table)?;
     push_encoder_hint(text, offset, line)?;
@@ -177,7 +178,7 @@ fn push_applied(
     inserted: Option<&HeaderField>,
     total: usize,
 ) -> Result<(), AllocError> {
-    push_instruction_at(text, line, total.saturating_sub(1))?;
+    push_instruction(text, line, Some(total.saturating_sub(1)))?;
     if let Some(field) = inserted {
         write!(text, " as entry {total}, ")?;
         push_field(text, field)?;
@@ -185,44 +186,35 @@ fn push_applied(
     text.push('\n')
 }
 
-/// Appends what an instruction is, before its entry; this many insertions were made before it.
-fn push_instruction_at(
+/// Appends what an instruction is, before its entry. After this many insertions an index references an entry that is
+/// named too.
+fn push_instruction(
     text: &mut String,
     line: &EncoderLine,
-    before: usize,
+    inserted: Option<usize>,
 ) -> Result<(), AllocError> {
     match line {
         EncoderLine::DynamicTableSizeUpdate(size) => write!(text, "set capacity {}", size.0),
         EncoderLine::Duplicate(index) => {
-            let entry = before.saturating_sub(index.0);
-            write!(text, "duplicate {} (entry {entry})", index.0)
+            write!(text, "duplicate {}", index.0)?;
+            push_entry(text, inserted, index.0)
         }
         EncoderLine::InsertWithNameRef(InsertWithNameRef::Static { index, .. }) => {
             write!(text, "insert with the name of static {index}")
         }
         EncoderLine::InsertWithNameRef(InsertWithNameRef::Dynamic { index, .. }) => {
-            let entry = before.saturating_sub(*index);
-            write!(
-                text,
-                "insert with the name of dynamic {index} (entry {entry})"
-            )
+            write!(text, "insert with the name of dynamic {index}")?;
+            push_entry(text, inserted, *index)
         }
         EncoderLine::InsertWithoutNameRef(_) => text.push_str("insert"),
     }
 }
 
-/// Appends what an instruction is that was not applied.
-fn push_instruction(text: &mut String, line: &EncoderLine) -> Result<(), AllocError> {
-    match line {
-        EncoderLine::DynamicTableSizeUpdate(size) => write!(text, "set capacity {}, ", size.0),
-        EncoderLine::Duplicate(index) => write!(text, "duplicate {}, ", index.0),
-        EncoderLine::InsertWithNameRef(InsertWithNameRef::Static { index, .. }) => {
-            write!(text, "insert with the name of static {index}, ")
-        }
-        EncoderLine::InsertWithNameRef(InsertWithNameRef::Dynamic { index, .. }) => {
-            write!(text, "insert with the name of dynamic {index}, ")
-        }
-        EncoderLine::InsertWithoutNameRef(_) => text.push_str("insert, "),
+/// Appends the entry that a relative index references after this many insertions, if that is known.
+fn push_entry(text: &mut String, inserted: Option<usize>, index: usize) -> Result<(), AllocError> {
+    match inserted {
+        Some(inserted) => write!(text, " (entry {})", inserted.saturating_sub(index)),
+        None => Ok(()),
     }
 }
 

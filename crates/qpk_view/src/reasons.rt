@@ -35,18 +35,30 @@ pub(crate) fn push_not_applied(
     }
 }
 
-/// Appends that a stream may begin with its type, if the first instruction is what that type would be.
+/// Whether an encoder instruction at an offset is what the type of its stream, left in, would be.
+pub(crate) fn is_encoder_type(offset: usize, line: &EncoderLine) -> bool {
+    offset == 0 && matches!(line, EncoderLine::Duplicate(Duplicate(2)))
+}
+
+/// Whether a decoder instruction at an offset is what the type of its stream, left in, would be.
+pub(crate) fn is_decoder_type(offset: usize, line: &DecoderLine) -> bool {
+    offset == 0
+        && matches!(
+            line,
+            DecoderLine::InsertCountIncrement(InsertCountIncrement(3))
+        )
+}
+
+/// Appends that the encoder stream may begin with its type, if its first instruction is what that would be.
 pub(crate) fn push_encoder_hint(
     text: &mut String,
     offset: usize,
     line: &EncoderLine,
 ) -> Result<(), AllocError> {
-    match line {
-        EncoderLine::Duplicate(Duplicate(2)) if offset == 0 => {
-            text.push_str("; does the stream begin with its type, the byte 0x02?")
-        }
-        _ => Ok(()),
+    if is_encoder_type(offset, line) {
+        text.push_str("; does the stream begin with its type, the byte 0x02?")?;
     }
+    Ok(())
 }
 
 /// The same of the decoder stream.
@@ -55,12 +67,10 @@ pub(crate) fn push_decoder_hint(
     offset: usize,
     line: &DecoderLine,
 ) -> Result<(), AllocError> {
-    match line {
-        DecoderLine::InsertCountIncrement(InsertCountIncrement(3)) if offset == 0 => {
-            text.push_str("; does the stream begin with its type, the byte 0x03?")
-        }
-        _ => Ok(()),
+    if is_decoder_type(offset, line) {
+        text.push_str("; does the stream begin with its type, the byte 0x03?")?;
     }
+    Ok(())
 }
 
 /// Appends why there is no room for an insertion.
