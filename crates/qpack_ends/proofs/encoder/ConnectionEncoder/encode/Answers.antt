@@ -8,6 +8,7 @@ use Rattle.qpack_codec.specs.declared.error.EncoderError.TheVariants as codec
 use Rattle.qpack_codec.proofs.ChosenBlocks.{gives_up_chosen_alone}
 use Rattle.qpack_ends.specs.declared.blocked.BlockedStream.{BlockedStream}
 use Rattle.qpack_ends.specs.declared.encoder.EncodingError.{EncodingError}
+use Rattle.qpack_ends.specs.contracts.encoder.ConnectionEncoder.{the_view}
 use Rattle.qpack_ends.specs.Encoders.{EncodingEnd, begun, is_full, may_block, with_section, Encodes, HasNoRoomAlone}
 use Rattle.qpack_ends.specs.Risk.{TracksRisk}
 use Rattle.qpack_ends.specs.Wishes.{KeepsWishes, limited, EncodesAsWished}
@@ -20,14 +21,7 @@ use Rattle.qpack_ends.proofs.encoder.ConnectionEncoder.encode.Goals as goal
 
 pub invariant_of-self-in_err-required : goal.invariant_of-self-in_err-required
 invariant_of-self-in_err-required g c =
-    let d : EncodingEnd = record {
-      settings = c.self.inside.settings;
-      table = c.self.inside.table.table;
-      wanted = c.self.inside.wanted;
-      stream = c.self.inside.stream;
-      unsent = c.self.inside.unsent.bytes;
-      failure = c.self.inside.failure;
-    } in
+    let d : EncodingEnd = the_view c.self.inside in
     let lines = map g.H.AsField.line c.args.fields.now in
     let u = c.write_section.new.table.table in
     let kept = c.make_room.new.self.streams.items in
@@ -43,14 +37,7 @@ invariant_of-self-in_err-required g c =
 
 pub invariant_of-self-then-required-known_received_count : goal.invariant_of-self-then-required-known_received_count
 invariant_of-self-then-required-known_received_count g c =
-    let d : EncodingEnd = record {
-      settings = c.self.inside.settings;
-      table = c.self.inside.table.table;
-      wanted = c.self.inside.wanted;
-      stream = c.self.inside.stream;
-      unsent = c.self.inside.unsent.bytes;
-      failure = c.self.inside.failure;
-    } in
+    let d : EncodingEnd = the_view c.self.inside in
     let lines = map g.H.AsField.line c.args.fields.now in
     let u = c.write_section.new.table.table in
     let kept = c.make_room.new.self.streams.items in
@@ -73,14 +60,7 @@ invariant_of-self-then-required-known_received_count g c =
 
 pub invariant_of-self-else-required-known_received_count : goal.invariant_of-self-else-required-known_received_count
 invariant_of-self-else-required-known_received_count g c =
-    let d : EncodingEnd = record {
-      settings = c.self.inside.settings;
-      table = c.self.inside.table.table;
-      wanted = c.self.inside.wanted;
-      stream = c.self.inside.stream;
-      unsent = c.self.inside.unsent.bytes;
-      failure = c.self.inside.failure;
-    } in
+    let d : EncodingEnd = the_view c.self.inside in
     let lines = map g.H.AsField.line c.args.fields.now in
     let u = c.write_section.new.table.table in
     let kept = c.make_room.new.self.streams.items in
@@ -102,22 +82,8 @@ invariant_of-self-else-required-known_received_count g c =
 pub returns-then-required-known_received_count-clause-wishes :
     goal.returns-then-required-known_received_count-clause-wishes
 returns-then-required-known_received_count-clause-wishes g c full =
-    let d : EncodingEnd = record {
-      settings = c.self.inside.settings;
-      table = c.self.inside.table.table;
-      wanted = c.self.inside.wanted;
-      stream = c.self.inside.stream;
-      unsent = c.self.inside.unsent.bytes;
-      failure = c.self.inside.failure;
-    } in
-    let new : EncodingEnd = record {
-      settings = c.self.inside.settings;
-      table = c.write_section.new.table.table;
-      wanted = c.self.inside.wanted;
-      stream = c.self.inside.stream;
-      unsent = c.write_section.new.unsent.bytes;
-      failure = c.self.inside.failure;
-    } in
+    let d : EncodingEnd = the_view c.self.inside in
+    let new : EncodingEnd = with_section c.write_section.new.table.table c.write_section.new.unsent.bytes d in
     let lines = map g.H.AsField.line c.args.fields.now in
     let wishes = map g.H.AsField.wish c.args.fields.now in
     let before = c.args.section.now.items in
@@ -135,22 +101,8 @@ returns-then-required-known_received_count-clause-wishes g c full =
 pub returns-else-required-known_received_count-clause-wishes :
     goal.returns-else-required-known_received_count-clause-wishes
 returns-else-required-known_received_count-clause-wishes g c full =
-    let d : EncodingEnd = record {
-      settings = c.self.inside.settings;
-      table = c.self.inside.table.table;
-      wanted = c.self.inside.wanted;
-      stream = c.self.inside.stream;
-      unsent = c.self.inside.unsent.bytes;
-      failure = c.self.inside.failure;
-    } in
-    let new : EncodingEnd = record {
-      settings = c.self.inside.settings;
-      table = c.write_section.new.table.table;
-      wanted = c.self.inside.wanted;
-      stream = c.self.inside.stream;
-      unsent = c.write_section.new.unsent.bytes;
-      failure = c.self.inside.failure;
-    } in
+    let d : EncodingEnd = the_view c.self.inside in
+    let new : EncodingEnd = with_section c.write_section.new.table.table c.write_section.new.unsent.bytes d in
     let lines = map g.H.AsField.line c.args.fields.now in
     let wishes = map g.H.AsField.wish c.args.fields.now in
     let before = c.args.section.now.items in
@@ -167,14 +119,7 @@ returns-else-required-known_received_count-clause-wishes g c full =
 
 pub invariant_of-self : goal.invariant_of-self
 invariant_of-self g c =
-    let d : EncodingEnd = record {
-      settings = c.self.inside.settings;
-      table = c.self.inside.table.table;
-      wanted = c.self.inside.wanted;
-      stream = c.self.inside.stream;
-      unsent = c.self.inside.unsent.bytes;
-      failure = c.self.inside.failure;
-    } in
+    let d : EncodingEnd = the_view c.self.inside in
     let u = c.give_up.new.self.table in
     let none : d.wanted ≡ None =
     ap (λ (x : EncodingEnd). x.wanted) (c.self.view_is ∙ c.in_ok-begin.ensures) ∙ begun_wants c.args.self.now in (
@@ -195,14 +140,7 @@ returns-then-is_full-clause-memory g c refused =
 
 pub returns-then-is_empty-clause-encodes : goal.returns-then-is_empty-clause-encodes
 returns-then-is_empty-clause-encodes g c =
-    let d : EncodingEnd = record {
-      settings = c.self.inside.settings;
-      table = c.self.inside.table.table;
-      wanted = c.self.inside.wanted;
-      stream = c.self.inside.stream;
-      unsent = c.self.inside.unsent.bytes;
-      failure = c.self.inside.failure;
-    } in
+    let d : EncodingEnd = the_view c.self.inside in
     let new : EncodingEnd = with_section c.give_up.new.self.table d.unsent d in
     let before = c.args.section.now.items in
     let after = c.encode_nothing.new.section.items in
@@ -221,14 +159,7 @@ returns-then-is_empty-clause-encodes g c =
 
 pub returns-then-is_empty-clause-wishes : goal.returns-then-is_empty-clause-wishes
 returns-then-is_empty-clause-wishes g c =
-    let d : EncodingEnd = record {
-      settings = c.self.inside.settings;
-      table = c.self.inside.table.table;
-      wanted = c.self.inside.wanted;
-      stream = c.self.inside.stream;
-      unsent = c.self.inside.unsent.bytes;
-      failure = c.self.inside.failure;
-    } in
+    let d : EncodingEnd = the_view c.self.inside in
     let new : EncodingEnd = with_section c.give_up.new.self.table d.unsent d in
     let before = c.args.section.now.items in
     let after = c.encode_nothing.new.section.items in

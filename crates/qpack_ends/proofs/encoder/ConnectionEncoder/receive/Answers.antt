@@ -1,5 +1,6 @@
 use Rattle.std.proofs.Common.{subst, sym, refl, Ok, Err, Result}
 use Rattle.std.specs.Prelude.{⊤}
+use Rattle.qpack_ends.specs.contracts.encoder.ConnectionEncoder.{the_view}
 use Rattle.qpack_ends.specs.Encoders.{EncodingEnd}
 use Rattle.qpack_ends.specs.Hearing.{Receives, ReceivesMore}
 use Rattle.qpack_ends.specs.declared.hearing.DecoderStreamError.{DecoderStreamError}
@@ -9,14 +10,7 @@ use Rattle.qpack_ends.proofs.encoder.ConnectionEncoder.receive.Goals as goal
 
 pub invariant_of-self : goal.invariant_of-self
 invariant_of-self c =
-    let d : EncodingEnd = record {
-      settings = c.self.inside.settings;
-      table = c.self.inside.table.table;
-      wanted = c.self.inside.wanted;
-      stream = c.self.inside.stream;
-      unsent = c.self.inside.unsent.bytes;
-      failure = c.self.inside.failure;
-    } in
+    let d : EncodingEnd = the_view c.self.inside in
     let t = c.receive-received.new.table in
     let s = c.receive-received.new.self in
     let bytes = c.args.buf.now.rest in
@@ -31,14 +25,7 @@ invariant_of-self c =
 
 pub invariant_of-self-in-Err : goal.invariant_of-self-in-Err
 invariant_of-self-in-Err c =
-    let d : EncodingEnd = record {
-      settings = c.self.inside.settings;
-      table = c.self.inside.table.table;
-      wanted = c.self.inside.wanted;
-      stream = c.self.inside.stream;
-      unsent = c.self.inside.unsent.bytes;
-      failure = c.self.inside.failure;
-    } in
+    let d : EncodingEnd = the_view c.self.inside in
     let t = c.receive-received.new.table in
     let s = c.receive-received.new.self in
     let bytes = c.args.buf.now.rest in
