@@ -25,7 +25,7 @@ use Rattle.qpack_ends.specs.declared.decoder.DecodingError.{DecodingError}
 use Rattle.qpack_ends.specs.declared.decoder.DecodingError.TheVariants as decoding
 use Rattle.qpack_ends.specs.declared.encoder.EncodingError.{EncodingError}
 use Rattle.qpack_ends.specs.declared.encoder.EncodingError.TheVariants as encoding
-use Rattle.qpack_ends.specs.declared.receiving.EncoderStreamError.{EncoderStreamError}
+use Rattle.qpack_ends.specs.declared.encoder_stream.EncoderStreamError.{EncoderStreamError}
 use Rattle.qpack_ends.specs.declared.section.Reading.{Reading}
 use Rattle.qpack_ends.specs.declared.section.Reading.TheVariants as reading
 use Rattle.qpack_connection.specs.ConnectionEvents.{connection_of, Shows, IsReached, HasBytes, decoded_with}

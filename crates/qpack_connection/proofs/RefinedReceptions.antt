@@ -28,8 +28,8 @@ use Rattle.qpack_safety.proofs.Shown.{increments_writable}
 use Rattle.qpack_safety.proofs.TwoEnds.{Holds, holds_started, holds_behind, reporting_is}
 use Rattle.qpack_ends.specs.declared.decoder.DecodingError.{DecodingError}
 use Rattle.qpack_ends.specs.declared.decoder.DecodingError.TheVariants as decoding
-use Rattle.qpack_ends.specs.declared.receiving.EncoderStreamError.{EncoderStreamError}
-use Rattle.qpack_ends.specs.declared.receiving.EncoderStreamError.TheVariants.{Refused, Memory}
+use Rattle.qpack_ends.specs.declared.encoder_stream.EncoderStreamError.{EncoderStreamError}
+use Rattle.qpack_ends.specs.declared.encoder_stream.EncoderStreamError.TheVariants.{Refused, Memory}
 use Rattle.qpack_connection.specs.Connections.{Connection, next_of, behind_received, with_decoder}
 use Rattle.qpack_ends.specs.Decoders.{DecodingEnd, received, with_report, unreported, EndsReceiving}
 use Rattle.qpack_ends.specs.Decoders.{ReceivesBytes}

@@ -23,8 +23,8 @@ use Rattle.qpack_connection.specs.Connections.{SentSection}
 use Rattle.qpack_ends.specs.declared.decoder.DecoderSettings.{DecoderSettings}
 use Rattle.qpack_ends.specs.Decoders.{DecodingEnd, Begins, acknowledged, with_report, Checks, blocked_behind}
 use Rattle.qpack_ends.specs.Decoders.{IsNotAnswered, StopsDecoding, Decodes, cancelled, Cancels}
-use Rattle.qpack_ends.specs.declared.receiving.EncoderStreamError.{EncoderStreamError}
-use Rattle.qpack_ends.specs.declared.receiving.EncoderStreamError.TheVariants as stream
+use Rattle.qpack_ends.specs.declared.encoder_stream.EncoderStreamError.{EncoderStreamError}
+use Rattle.qpack_ends.specs.declared.encoder_stream.EncoderStreamError.TheVariants as stream
 use Rattle.qpack_ends.specs.Decoders.{received, EndsReceiving, ReceivesBytes}
 use Rattle.qpack_ends.specs.Receiving.{ReceivesMore}
 use Rattle.qpack_connection.proofs.LawfulPieces.{encoder_streams_taken}

@@ -23,7 +23,7 @@ use Rattle.qpack_ends.specs.declared.decoder.DecoderSettings.{DecoderSettings}
 use Rattle.qpack_ends.specs.declared.decoder.DecodingError.{DecodingError}
 use Rattle.qpack_ends.specs.declared.decoder.DecodingError.TheVariants.{EncoderStream, Section, TooManyBlocked}
 use Rattle.qpack_ends.specs.declared.decoder.DecodingError.TheVariants.{NoStream, Memory}
-use Rattle.qpack_ends.specs.declared.receiving.EncoderStreamError.{EncoderStreamError}
+use Rattle.qpack_ends.specs.declared.encoder_stream.EncoderStreamError.{EncoderStreamError}
 use Rattle.qpack_ends.specs.declared.section.Reading.{Reading}
 use Rattle.qpack_ends.specs.declared.section.Reading.TheVariants as reading
 use Rattle.qpack_ends.specs.Decoders.{DecodingEnd, acknowledged, with_report, received, cancelled, Checks}

@@ -6,9 +6,9 @@ use Rattle.qpack_spec.specs.LawfulStreams.{IsLawfulStream}
 use Rattle.qpack_spec.specs.Stream.{SpellsAll}
 use Rattle.qpack_spec.specs.Table.{Table}
 use Rattle.qpack_codec.specs.declared.error.DecoderError.{DecoderError}
-use Rattle.qpack_ends.specs.declared.hearing.DecoderStreamError.{DecoderStreamError}
+use Rattle.qpack_ends.specs.declared.decoder_stream.DecoderStreamError.{DecoderStreamError}
 use Rattle.qpack_ends.specs.declared.place.Place.{Place}
-use Rattle.qpack_ends.specs.declared.receiving.EncoderStreamError.TheVariants.{Refused}
+use Rattle.qpack_ends.specs.declared.encoder_stream.EncoderStreamError.TheVariants.{Refused}
 use Rattle.qpack_ends.specs.Hearing as hearing
 use Rattle.qpack_ends.specs.Hearing.{hear_in_turn}
 use Rattle.qpack_ends.specs.Receiving as receiving

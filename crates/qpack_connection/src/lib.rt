@@ -13,16 +13,16 @@ pub use qpack_base::field::FieldLine;
 pub use qpack_codec::encoder::{AsField, Wish, WishedField};
 pub use qpack_ends::blocked::BlockedStream;
 pub use qpack_ends::decoder::{ConnectionDecoder, DecoderSettings, DecodingError, SettingsError};
-pub use qpack_ends::encoder::{ConnectionEncoder, EncoderSettings, EncodingError};
-pub use qpack_ends::field_section::{FieldSection, Fields};
-pub use qpack_ends::hearing::{
+pub use qpack_ends::decoder_stream::{
     DECODER_STREAM_ERROR, DecoderStream, DecoderStreamError, HearingError,
 };
+pub use qpack_ends::encoder::{ConnectionEncoder, EncoderSettings, EncodingError};
+pub use qpack_ends::encoder_stream::{ENCODER_STREAM_ERROR, EncoderStream, EncoderStreamError};
+pub use qpack_ends::field_section::{FieldSection, Fields};
 pub use qpack_ends::place::Place;
-pub use qpack_ends::receiving::{ENCODER_STREAM_ERROR, EncoderStream, EncoderStreamError};
 pub use qpack_ends::section::{
     DECOMPRESSION_FAILED, LineError, Reading, SectionError, longest_section, read_section,
 };
 pub use qpack_ends::{
-    blocked, decoder, encoder, field_section, hearing, place, receiving, section,
+    blocked, decoder, decoder_stream, encoder, encoder_stream, field_section, place, section,
 };

@@ -10,8 +10,8 @@ use Rattle.qpack_ends.specs.declared.place.Place.{Place}
 use Rattle.std.specs.Prelude.{⊤}
 use Rattle.qpack_ends.specs.Decoders.{stream_failure}
 use Rattle.qpack_ends.specs.declared.decoder.DecodingError.TheVariants as decoding
-use Rattle.qpack_ends.specs.declared.receiving.EncoderStreamError.{EncoderStreamError}
-use Rattle.qpack_ends.specs.declared.receiving.EncoderStreamError.TheVariants.{Refused, Memory}
+use Rattle.qpack_ends.specs.declared.encoder_stream.EncoderStreamError.{EncoderStreamError}
+use Rattle.qpack_ends.specs.declared.encoder_stream.EncoderStreamError.TheVariants.{Refused, Memory}
 
 -- no stream is refused for memory
 not_refused : (t : Table) (rest : List ℕ) → Refuses t rest decoder.Memory → ⊥

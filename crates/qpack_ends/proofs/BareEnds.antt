@@ -20,7 +20,7 @@ use Rattle.qpack_spec.proofs.StrictSections.{no_room}
 use Rattle.qpack_codec.specs.ChosenSections.{EncodesChosen, GivesUpChosen}
 use Rattle.qpack_ends.specs.Encoders.{EncodingEnd, IsSound}
 use Rattle.qpack_ends.specs.Hearing.{StreamView}
-use Rattle.qpack_ends.specs.declared.hearing.DecoderStreamError.{DecoderStreamError}
+use Rattle.qpack_ends.specs.declared.decoder_stream.DecoderStreamError.{DecoderStreamError}
 use Rattle.qpack_ends.proofs.Encoders.{takes_capacity, HearsAll}
 
 -- the table of such an end

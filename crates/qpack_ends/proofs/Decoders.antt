@@ -2,7 +2,7 @@
 use Rattle.std.proofs.Common.{◌≡◌, ℕ, List, Ok, Err, refl, sym, subst}
 use Rattle.qpack_spec.specs.Table.{Table, insert_count}
 use Rattle.qpack_ends.specs.declared.decoder.DecodingError.{DecodingError}
-use Rattle.qpack_ends.specs.declared.receiving.EncoderStreamError.{EncoderStreamError}
+use Rattle.qpack_ends.specs.declared.encoder_stream.EncoderStreamError.{EncoderStreamError}
 use Rattle.qpack_ends.specs.Receiving.{StreamView, ReceivesMore}
 use Rattle.qpack_ends.specs.Decoders.{DecodingEnd, received, refused, stream_failure, Reports, ReceivesBytes}
 

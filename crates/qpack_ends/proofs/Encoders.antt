@@ -24,7 +24,7 @@ use Rattle.qpack_ends.specs.Hearing.{StreamView, Receives, ReceivesMore}
 use Rattle.qpack_ends.specs.declared.encoder.EncodingError.{EncodingError}
 use Rattle.qpack_ends.specs.declared.encoder.EncodingError.TheVariants.{DecoderStream, CapacityTooLarge}
 use Rattle.qpack_ends.specs.declared.encoder.EncodingError.TheVariants.{EntriesHeld, Memory}
-use Rattle.qpack_ends.specs.declared.hearing.DecoderStreamError.{DecoderStreamError}
+use Rattle.qpack_ends.specs.declared.decoder_stream.DecoderStreamError.{DecoderStreamError}
 use Rattle.qpack_ends.specs.declared.blocked.BlockedStream.{BlockedStream}
 use Rattle.qpack_ends.specs.Risk.{TracksRisk, still_at_risk}
 use Rattle.qpack_ends.proofs.LimitedSections.{tracks_hearing}

@@ -22,8 +22,8 @@ use Rattle.qpack_codec.specs.Hearing as weak
 use Rattle.qpack_codec.proofs.Hearing.{line_refused, no_line, found_line}
 use Rattle.qpack_ends.specs.Hearing.{strict_hear, Applies, Refuses, bad_bytes, bad_instruction}
 use Rattle.qpack_ends.specs.Hearing.{HearsOne, HearsNext}
-use Rattle.qpack_ends.specs.declared.hearing.HearingError.{HearingError}
-use Rattle.qpack_ends.specs.declared.hearing.HearingError.TheVariants as error
+use Rattle.qpack_ends.specs.declared.decoder_stream.HearingError.{HearingError}
+use Rattle.qpack_ends.specs.declared.decoder_stream.HearingError.TheVariants as error
 
 -- ---- the one fault of a decoder instruction
 

@@ -20,9 +20,9 @@ use Rattle.qpack_ends.specs.Hearing.{HearingRefusal, strict_hear, hear_in_turn, 
 use Rattle.qpack_ends.specs.Hearing.{bad_bytes, bad_instruction, StreamView, StandsBehind, Receives, HasRefused}
 use Rattle.qpack_ends.specs.Hearing.{HearsMore}
 use Rattle.qpack_ends.specs.Places.{first_place, passed, behind}
-use Rattle.qpack_ends.specs.declared.hearing.DecoderStreamError.{DecoderStreamError}
+use Rattle.qpack_ends.specs.declared.decoder_stream.DecoderStreamError.{DecoderStreamError}
 use Rattle.qpack_ends.specs.declared.place.Place.{Place}
-use Rattle.qpack_ends.specs.declared.hearing.HearingError.{HearingError}
+use Rattle.qpack_ends.specs.declared.decoder_stream.HearingError.{HearingError}
 
 -- ---- what waits is short
 

@@ -23,8 +23,8 @@ use Rattle.qpack_ends.specs.Receiving.{bad_bytes, bad_instruction, no_capacity, 
 use Rattle.qpack_ends.specs.Receiving.{StreamView, HasReceived, Receives, HasRefused, TakesUpTo, TakesFrom}
 use Rattle.qpack_ends.specs.Receiving.{IsBehind, ReceivesMore, FindsWanted, IsShort, stream_error_at}
 use Rattle.qpack_ends.specs.Receiving.{TakesIn, RefusesFront, FailsReceiving, ReceivesFront}
-use Rattle.qpack_ends.specs.declared.receiving.EncoderStreamError.{EncoderStreamError}
-use Rattle.qpack_ends.specs.declared.receiving.EncoderStreamError.TheVariants as stream
+use Rattle.qpack_ends.specs.declared.encoder_stream.EncoderStreamError.{EncoderStreamError}
+use Rattle.qpack_ends.specs.declared.encoder_stream.EncoderStreamError.TheVariants as stream
 use Rattle.qpack_ends.proofs.PlacedTaking.{none_taken}
 
 -- ---- what was taken of further bytes

@@ -9,7 +9,7 @@ use Rattle.qpack_spec.specs.Window.{TableRefusal}
 use Rattle.qpack_base.specs.Refusals.{IsRefusedFor}
 use Rattle.qpack_table.specs.Tables.{oldest_required}
 use Rattle.qpack_ends.specs.Hearing.{strict_hear, known_at_least, TellsRefusal}
-use Rattle.qpack_ends.specs.declared.hearing.HearingError.TheVariants as error
+use Rattle.qpack_ends.specs.declared.decoder_stream.HearingError.TheVariants as error
 
 -- ---- increments
 

@@ -10,9 +10,9 @@ use Rattle.qpack_spec.specs.Instruction.{decoder_instruction_form, SpellsDecoder
 use Rattle.qpack_spec.specs.Stream.{SpellsAll}
 use Rattle.qpack_spec.specs.Table.{Table}
 use Rattle.qpack_ends.specs.Places.{behind}
-use Rattle.qpack_ends.specs.declared.hearing.DecoderStreamError.{DecoderStreamError}
-use Rattle.qpack_ends.specs.declared.hearing.HearingError.{HearingError}
-use Rattle.qpack_ends.specs.declared.hearing.HearingError.TheVariants as error
+use Rattle.qpack_ends.specs.declared.decoder_stream.DecoderStreamError.{DecoderStreamError}
+use Rattle.qpack_ends.specs.declared.decoder_stream.HearingError.{HearingError}
+use Rattle.qpack_ends.specs.declared.decoder_stream.HearingError.TheVariants as error
 use Rattle.qpack_ends.specs.declared.place.Place.{Place}
 -- ---- one instruction
 

@@ -17,8 +17,8 @@ use Rattle.qpack_codec.specs.declared.error.DecoderError.{DecoderError}
 use Rattle.qpack_codec.specs.declared.error.DecoderError.TheVariants as decoder
 use Rattle.qpack_ends.specs.Places.{first_place, passed, behind}
 use Rattle.qpack_ends.specs.declared.place.Place.{Place}
-use Rattle.qpack_ends.specs.declared.receiving.EncoderStreamError.{EncoderStreamError}
-use Rattle.qpack_ends.specs.declared.receiving.EncoderStreamError.TheVariants.{Refused, Memory}
+use Rattle.qpack_ends.specs.declared.encoder_stream.EncoderStreamError.{EncoderStreamError}
+use Rattle.qpack_ends.specs.declared.encoder_stream.EncoderStreamError.TheVariants.{Refused, Memory}
 -- ---- one instruction
 
 -- what a strict decoder makes of an instruction, which of them insert, whether bytes begin one that does, and what

@@ -25,7 +25,7 @@ use crate::at_risk::StreamsAtRisk;
 use crate::blocked::BlockedStream;
 use crate::choosing::Chooser;
 use crate::decoder::{STREAMS, SettingsError};
-use crate::hearing::{DECODER_STREAM_ERROR, DecoderStream, DecoderStreamError};
+use crate::decoder_stream::{DECODER_STREAM_ERROR, DecoderStream, DecoderStreamError};
 use crate::unsent::Unsent;
 use qpack_base::coding::Cursor;
 use qpack_codec::EncoderError;

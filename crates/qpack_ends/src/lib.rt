@@ -6,25 +6,25 @@ mod at_risk;
 pub mod blocked;
 mod choosing;
 pub mod decoder;
+pub mod decoder_stream;
 pub mod encoder;
+pub mod encoder_stream;
 pub mod field_section;
-pub mod hearing;
 pub mod place;
-pub mod receiving;
 mod room;
 pub mod section;
 mod unsent;
 
 pub use blocked::BlockedStream;
 pub use decoder::{ConnectionDecoder, DecoderSettings, DecodingError, SettingsError};
+pub use decoder_stream::{DECODER_STREAM_ERROR, DecoderStream, DecoderStreamError, HearingError};
 pub use encoder::{ConnectionEncoder, EncoderSettings, EncodingError};
+pub use encoder_stream::{ENCODER_STREAM_ERROR, EncoderStream, EncoderStreamError};
 pub use field_section::{FieldSection, Fields};
-pub use hearing::{DECODER_STREAM_ERROR, DecoderStream, DecoderStreamError, HearingError};
 pub use place::Place;
 pub use qpack_base::coding::Cursor;
 pub use qpack_base::field::FieldLine;
 pub use qpack_codec::encoder::{AsField, Wish, WishedField};
-pub use receiving::{ENCODER_STREAM_ERROR, EncoderStream, EncoderStreamError};
 pub use section::{
     DECOMPRESSION_FAILED, LineError, Reading, SectionError, longest_section, read_section,
 };

@@ -1,7 +1,7 @@
 use Rattle.std.proofs.Common.{inr, arith, ◌≡◌, ◌∙◌, sym, subst, ap, Result, Ok, Err}
 use Rattle.std.specs.Prelude.{⊤}
 use Rattle.qpack_ends.specs.declared.decoder.DecodingError.TheVariants.{Memory}
-use Rattle.qpack_ends.specs.declared.receiving.EncoderStreamError.{EncoderStreamError}
+use Rattle.qpack_ends.specs.declared.encoder_stream.EncoderStreamError.{EncoderStreamError}
 use Rattle.qpack_spec.specs.Table.{insert_count}
 use Rattle.std.proofs.lemmas.Result.{err_from_is_err_and}
 use Rattle.qpack_ends.specs.Decoders.{DecodingEnd, ReceivesBytes}

@@ -3,7 +3,7 @@ use Rattle.std.specs.Prelude.{⊤}
 use Rattle.qpack_ends.specs.contracts.encoder.ConnectionEncoder.{the_view}
 use Rattle.qpack_ends.specs.Encoders.{EncodingEnd}
 use Rattle.qpack_ends.specs.Hearing.{Receives, ReceivesMore}
-use Rattle.qpack_ends.specs.declared.hearing.DecoderStreamError.{DecoderStreamError}
+use Rattle.qpack_ends.specs.declared.decoder_stream.DecoderStreamError.{DecoderStreamError}
 use Rattle.qpack_ends.proofs.BareEnds.{received_bare, refused_bare}
 use Rattle.qpack_ends.proofs.Encoders.{received_sound, refused_sound, received_tracks, refused_tracks, HearsAll}
 use Rattle.qpack_ends.proofs.encoder.ConnectionEncoder.receive.Goals as goal

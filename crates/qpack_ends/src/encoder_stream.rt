@@ -1,0 +1,301 @@
+//! The encoder stream as a strict decoder receives it: handed in once, cut anywhere (RFC 9204, section 4.3).
+
+ghost use Rattle.std.specs.Prelude.{◌≡◌, ◌<◌, ◌≤◌, ℕ, [], List, length, Err, OnOk};
+ghost use Rattle.qpack_spec.specs.Form.{Truncates};
+ghost use Rattle.qpack_spec.specs.Instruction.{encoder_instruction_form};
+ghost use Rattle.qpack_spec.specs.Table.{Table, insert_count};
+ghost use Rattle.qpack_ends.specs.Receiving.{begins_unlawfully, TakesNextStrictly, TakesAllStrictly, FindsWanted};
+ghost use Rattle.qpack_ends.specs.Receiving.{Receives, ReceivesFront, ReceivesMore, AsksToReceive, PassesOne};
+ghost use Rattle.qpack_ends.specs.Receiving.{stream_error_at, answer_at, stream_code_of};
+ghost use Rattle.qpack_table.specs.declared.dynamic.Error.TheVariants.{MaxTableSizeReached};
+ghost use Rattle.qpack_codec.specs.declared.error.DecoderError.TheVariants.{DynamicTable as DynamicTableError, Memory};
+ghost use Rattle.qpack_ends.specs.declared.encoder_stream.EncoderStreamError.TheVariants.{Memory as NoRoom};
+
+use crate::place::Place;
+use qpack_base::coding::Cursor;
+use qpack_codec::decoder::{DecoderError, take_instruction};
+use qpack_table::dynamic::{self, DynamicTable, EntryIndex};
+use qpack_wire::stream;
+use std::alloc::Global;
+use std::marker::Model;
+use thiserror::Error;
+
+/// The least first byte of an instruction that inserts a field that it spells.
+const LEAST_INSERTION: u8 = 64;
+
+/// Why the encoder stream was not received.
+#[derive(Clone, Copy, Debug, PartialEq, Drop, Error)]
+pub enum EncoderStreamError {
+    /// The instruction at this place is refused.
+    #[error("in instruction {} at offset {}: {error}", .place.number, .place.offset)]
+    Refused {
+        /// Where the instruction stands on the stream.
+        place: Place,
+        /// Why; never want of memory.
+        error: DecoderError,
+    },
+    /// No memory was left.
+    #[error("out of memory")]
+    Memory,
+}
+
+/// QPACK_ENCODER_STREAM_ERROR: the encoder stream can't be interpreted (RFC 9204, section 6).
+pub const ENCODER_STREAM_ERROR: u64 = 0x201;
+
+impl EncoderStreamError {
+    /// The code of the error that ends the connection (RFC 9204, section 6); none of want of memory, which is the
+    /// receiver's own.
+    pub fn code(&self) -> Option<u64>
+        ensures { result ≡ stream_code_of self.now }
+    {
+        match self {
+            EncoderStreamError::Refused { .. } => Some(ENCODER_STREAM_ERROR),
+            EncoderStreamError::Memory => None,
+        }
+    }
+
+    /// The error of the instruction at this place.
+    fn at(place: Place, error: DecoderError) -> EncoderStreamError
+        ensures { result ≡ stream_error_at place error }
+    {
+        match error {
+            DecoderError::Memory => EncoderStreamError::Memory,
+            error => EncoderStreamError::Refused { place, error },
+        }
+    }
+}
+
+/// The encoder stream, as far as it was received: what waits of it, and no table, which each call is lent.
+#[derive(Debug, Drop)]
+pub struct EncoderStream {
+    /// The bytes that were received and not taken: of an instruction that is not whole, or wants memory.
+    pending: Vec<u8>,
+    /// How many bytes there must be before they are read again; 0 where they are read in any case.
+    wanted: usize,
+    /// The place of the first instruction that was not taken.
+    place: Place,
+}
+
+impl Model for EncoderStream {
+    ghost use Rattle.qpack_ends.specs.Receiving.{StreamView};
+
+    ghost Value = { StreamView };
+
+    ghost view = { λ s. record { pending = s.pending.items; wanted = s.wanted; place = s.place } };
+}
+
+impl EncoderStream {
+    /// A stream of which nothing was received. Takes no memory.
+    pub fn new(alloc: Global) -> EncoderStream
+        ensures { (table : Table) → Receives table table [] result }
+    {
+        EncoderStream {
+            pending: Vec::new(alloc),
+            wanted: 0,
+            place: Place::first(),
+        }
+    }
+
+    /// How many bytes wait: those of an instruction that is not whole, and where memory was refused one after it for each
+    /// call.
+    pub fn waiting(&self) -> usize
+        ensures { result ≡ length self.now.pending }
+    {
+        self.pending.len()
+    }
+
+    /// Receives the bytes that the cursor has left, which follow on the stream, and applies each instruction that
+    /// stands whole by now. They are read where they are; only a rest that is not whole is kept: fewer than four bytes
+    /// for each byte of the capacity, and ten more.
+    ///
+    /// Refused is an instruction whose bytes are (`InvalidInteger`, `InvalidString`), that names nothing
+    /// (`InvalidStaticIndex`, `DynamicTable`), or that the table refuses (`DynamicTable`), where also an insertion at
+    /// capacity 0 is refused, by its first byte, and a truncated one once its field can't fit. The error tells its
+    /// place on the stream, the same however it is cut. Then the table is as before that instruction, and what waits is
+    /// unspecified. Where memory is refused, those before the instruction stay applied, and the cursor is moved past the
+    /// bytes that were taken in. Then what the cursor has left is offered again, even if that is nothing.
+    pub fn receive<I: EntryIndex>(
+        &mut self,
+        table: &mut DynamicTable<I>,
+        buf: &mut Cursor,
+    ) -> Result<(), EncoderStreamError>
+        ensures receives { (start : Table) (before : List ℕ) → Receives start table.old before self.old
+            → ReceivesMore start table.old table.new before buf.old.rest buf.new.rest self.old self.new result }
+        // Memory is refused only for an instruction, or for bytes that are left.
+        ensures memory { result ≡ Err NoRoom → AsksToReceive table.new buf.new.rest self.new }
+        ensures grows { insert_count table.old ≤ insert_count table.new }
+        ensures total { buf.new.total ≡ buf.old.total }
+    {
+        match self.receive_bytes(table, buf) {
+            Ok(()) => Ok(()),
+            Err(error) => Err(EncoderStreamError::at(self.place, error)),
+        }
+    }
+
+    /// The same; the instruction that is refused is the first one that was not taken.
+    fn receive_bytes<I: EntryIndex>(
+        &mut self,
+        table: &mut DynamicTable<I>,
+        buf: &mut Cursor,
+    ) -> Result<(), DecoderError>
+        ensures receives { (start : Table) (before : List ℕ) → Receives start table.old before self.old
+            → ReceivesMore start table.old table.new before buf.old.rest buf.new.rest self.old self.new
+            (answer_at self.new.place result) }
+        ensures memory { result ≡ Err Memory → AsksToReceive table.new buf.new.rest self.new }
+        ensures grows { insert_count table.old ≤ insert_count table.new }
+        ensures total { buf.new.total ≡ buf.old.total }
+    {
+        while self.waiting() > 0 {
+            self.receive_front(table, buf)?;
+            if buf.remaining() == 0 {
+                return Ok(());
+            }
+        }
+        self.receive_rest(table, buf)
+    }
+
+    /// Takes in as many bytes as the instruction that waits is known to want, or one, and applies what is whole then.
+    fn receive_front<I: EntryIndex>(
+        &mut self,
+        table: &mut DynamicTable<I>,
+        buf: &mut Cursor,
+    ) -> Result<(), DecoderError>
+        ensures receives { (start : Table) (before : List ℕ) → Receives start table.old before self.old
+            → ReceivesFront start table.new before buf.old.rest buf.new.rest self.old self.new
+            (answer_at self.new.place result) }
+        ensures moves { OnOk result (0 < length buf.new.rest → length buf.new.rest < length buf.old.rest) }
+        ensures memory { result ≡ Err Memory → AsksToReceive table.new buf.new.rest self.new }
+        ensures grows { insert_count table.old ≤ insert_count table.new }
+        ensures total { buf.new.total ≡ buf.old.total }
+    {
+        let wanted = self.wanted;
+        let missing = wanted.saturating_sub(self.pending.len()).max(1);
+        let count = missing.min(buf.remaining());
+        let front = &buf.chunk()[..count];
+        self.pending.extend_from_slice(front)?;
+        buf.advance(count);
+        self.wanted = 0;
+        if self.pending.len() >= wanted {
+            take_whole(table, &mut self.place, &mut self.pending)?;
+        }
+        self.wanted = find_wanted(table, &self.pending)?;
+        Ok(())
+    }
+
+    /// Receives the bytes where none wait: each instruction is read from them, and a rest that is not whole is kept.
+    fn receive_rest<I: EntryIndex>(
+        &mut self,
+        table: &mut DynamicTable<I>,
+        buf: &mut Cursor,
+    ) -> Result<(), DecoderError>
+        ensures receives { (start : Table) (before : List ℕ) → Receives start table.old before self.old
+            → self.old.pending ≡ [] → ReceivesMore start table.old table.new before buf.old.rest buf.new.rest self.old
+            self.new (answer_at self.new.place result) }
+        ensures memory { result ≡ Err Memory → AsksToReceive table.new buf.new.rest self.new }
+        ensures grows { insert_count table.old ≤ insert_count table.new }
+        ensures total { buf.new.total ≡ buf.old.total }
+    {
+        self.wanted = 0;
+        take_all_strictly(table, &mut self.place, buf)?;
+        let wanted = find_wanted(table, buf.chunk())?;
+        self.pending.extend_from_slice(buf.chunk())?;
+        buf.advance(buf.remaining());
+        self.wanted = wanted;
+        Ok(())
+    }
+}
+
+/// Takes all instructions that stand whole at the front of the bytes, from this place, and drops their bytes. At the
+/// first one that is refused it ends, with its place; for memory, its bytes are kept.
+fn take_whole<I: EntryIndex>(
+    table: &mut DynamicTable<I>,
+    place: &mut Place,
+    pending: &mut Vec<u8>,
+) -> Result<(), DecoderError>
+    ensures { TakesAllStrictly table.old table.new place.old place.new pending.old.items pending.new.items result }
+{
+    let mut buf = Cursor::new(pending);
+    let taken = take_all_strictly(table, place, &mut buf);
+    let passed = buf.position();
+    pending.drain(..passed);
+    taken
+}
+
+/// Takes all instructions that stand whole at the cursor, from this place, and moves past them. At the first one that
+/// is refused it ends, with its place; for memory, the cursor stays before that.
+fn take_all_strictly<I: EntryIndex>(
+    table: &mut DynamicTable<I>,
+    place: &mut Place,
+    buf: &mut Cursor,
+) -> Result<(), DecoderError>
+    ensures takes { TakesAllStrictly table.old table.new place.old place.new buf.old.rest buf.new.rest result }
+    ensures total { buf.new.total ≡ buf.old.total }
+{
+    while take_and_pass(table, place, buf)? {}
+    Ok(())
+}
+
+/// Takes the instruction at the cursor, and moves the cursor and the place past it; answers whether one stood whole.
+fn take_and_pass<I: EntryIndex>(
+    table: &mut DynamicTable<I>,
+    place: &mut Place,
+    buf: &mut Cursor,
+) -> Result<bool, DecoderError>
+    ensures takes { TakesNextStrictly table.old table.new buf.old.rest buf.new.rest result }
+    ensures passes { PassesOne place.old place.new buf.old.rest buf.new.rest result }
+    ensures total { buf.new.total ≡ buf.old.total }
+{
+    let before = buf.remaining();
+    if !take_strictly(table, buf)? {
+        return Ok(false);
+    }
+    *place = place.pass(before - buf.remaining());
+    Ok(true)
+}
+
+/// Takes the instruction at the cursor and moves past it; answers whether one stood whole. At capacity 0 an insertion
+/// is refused by its first byte.
+fn take_strictly<I: EntryIndex>(
+    table: &mut DynamicTable<I>,
+    buf: &mut Cursor,
+) -> Result<bool, DecoderError>
+    ensures takes { TakesNextStrictly table.old table.new buf.old.rest buf.new.rest result }
+    ensures total { buf.new.total ≡ buf.old.total }
+{
+    if begins_unlawfully(table, buf.chunk()) {
+        return Err(does_not_fit());
+    }
+    take_instruction(table, buf)
+}
+
+/// Whether the bytes begin an insertion at capacity 0 (RFC 9204, section 3.2.2).
+fn begins_unlawfully<I: EntryIndex>(table: &DynamicTable<I>, bytes: &[u8]) -> bool
+    ensures { result ≡ begins_unlawfully table.now bytes.now }
+{
+    match bytes.first() {
+        Some(first) => table.max_mem_size() == 0 && *first >= LEAST_INSERTION,
+        None => false,
+    }
+}
+
+/// How many bytes there must be before an instruction can stand there that is truncated yet. Refused if its field can't
+/// fit.
+fn find_wanted<I: EntryIndex>(
+    table: &DynamicTable<I>,
+    pending: &[u8],
+) -> Result<usize, DecoderError>
+    ensures finds { Truncates encoder_instruction_form pending.now → FindsWanted table.now pending.now result }
+    ensures no_memory { result ≡ Err Memory → ⊥ }
+{
+    if stream::least_field_size(pending) > table.max_mem_size() {
+        return Err(does_not_fit());
+    }
+    Ok(stream::wanted(pending))
+}
+
+/// The error that a field does not fit.
+fn does_not_fit() -> DecoderError
+    ensures { result ≡ DynamicTableError MaxTableSizeReached }
+{
+    DecoderError::DynamicTable(dynamic::Error::MaxTableSizeReached)
+}
