@@ -1,4 +1,4 @@
-//! Fields, owned and lent.
+//! Fields, owned and borrowed.
 
 use std::borrow::Cow;
 use std::fmt;
@@ -72,7 +72,7 @@ fn text_of(bytes: &[u8]) -> Cow<'_, str> {
     String::from_utf8_lossy(bytes)
 }
 
-/// A field that is lent: to an encoder by its caller, or by a decoder.
+/// A borrowed field: passed to an encoder, or returned by a decoder.
 #[derive(Debug, Clone, Copy, PartialEq, Eq, Hash)]
 pub struct FieldLine<'a> {
     /// The name. HTTP/3 requires lower case.

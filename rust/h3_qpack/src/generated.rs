@@ -1,6 +1,6 @@
 //! The library, as the assembly that was generated from its proved code, and the functions that it calls for memory, as
 //! assembly that was generated from C. The files are those of the repository's folder `dist`: its README says how they
-//! are made, and how they are held against the proof.
+//! are made, and how they are checked against the proof.
 
 #[cfg(all(target_os = "linux", target_arch = "x86_64", target_pointer_width = "64"))]
 std::arch::global_asm!(

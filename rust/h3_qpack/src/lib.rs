@@ -39,7 +39,8 @@ mod sys;
 pub use field::{HeaderField, ESTIMATED_OVERHEAD_BYTES};
 pub use stateless::{decode_stateless, encode_stateless, Decoded, DecoderError, EncoderError, Error};
 
-/// The version of the library that is linked: it breaks with the first number, and grows with the second.
+/// Returns the version of the linked library, major and minor. A new major number breaks the interface, a new minor one
+/// adds to it.
 pub fn library_version() -> (u16, u16) {
     let version = sys::version();
     ((version >> 16) as u16, version as u16)

@@ -206,7 +206,7 @@ fn first_room(len: usize, max_size: u64) -> (usize, usize) {
     (fields, len.saturating_mul(2).min(limit))
 }
 
-/// Copies fields to ones of their own.
+/// Copies borrowed fields to owned ones.
 fn own_fields(lent: Fields<'_>) -> Result<Decoded, DecoderError> {
     let mut decoded = Decoded { fields: Vec::new(), dyn_ref: false, mem_size: 0 };
     make_room(&mut decoded.fields, lent.len())?;

@@ -1,11 +1,11 @@
-//! The exports of the proved library, as `include/h3_qpack.h` declares them, behind calls that are safe: all of this
-//! crate's unsafe code. What the header asks of a caller is kept here:
+//! Safe calls of the exports of the proved library, as `include/h3_qpack.h` declares them: all of this crate's unsafe
+//! code. This module keeps what the header asks of a caller:
 //!
-//! - an end is what its `_new` wrote, is freed once, by `Drop`, and is never copied, for its handle is private;
-//! - null, memory that ends too early and lengths above `isize::MAX` can't be, for all memory that is lent is a slice,
-//!   or the room of a vector;
-//! - what is lent to be written is lent by `&mut`, so it overlaps nothing else;
-//! - an end is used by one thread at a time, for the ends are `Send` and not `Sync`.
+//! - An end is what its `_new` wrote. `Drop` frees it once, and it is never copied, for its handle is private.
+//! - All memory that is passed is a slice, or the room of a vector. So it is not null, it is as long as it says, and no
+//!   length is above `isize::MAX`.
+//! - Memory that a call writes is passed by `&mut`, so it overlaps nothing else.
+//! - One thread at a time uses an end, for the ends are `Send` and not `Sync`.
 
 use crate::field::Wish;
 use std::cell::UnsafeCell;
@@ -17,7 +17,7 @@ use std::ptr;
 pub(crate) const OK: i32 = 0;
 /// The allocator refused; the call can be made again.
 pub(crate) const NO_MEMORY: i32 = -1;
-/// The memory that was lent is too small.
+/// The memory that was passed is too small.
 pub(crate) const NO_ROOM: i32 = -2;
 /// The section waits for insertions.
 pub(crate) const BLOCKED: i32 = -3;
@@ -37,7 +37,7 @@ const INSERT: u8 = 0x08;
 /// The flag of a field for which nothing is to be inserted.
 const REUSE: u8 = 0x10;
 
-/// A field that is lent: `h3_qpack_nv`.
+/// A borrowed field: `h3_qpack_nv`.
 #[repr(C)]
 pub(crate) struct Lent<'a> {
     name: *const u8,
@@ -212,7 +212,7 @@ pub(crate) fn version() -> u32 {
     unsafe { h3q_version() }
 }
 
-/// The room behind what a vector holds, to be written by a call. It may not be initialised; no call reads it.
+/// Returns the room after the items of a vector, which a call writes. It may not be initialised; no call reads it.
 fn room_of<T>(items: &mut Vec<T>) -> (*mut T, usize) {
     let room = items.spare_capacity_mut();
     (room.as_mut_ptr().cast(), room.len())
@@ -240,7 +240,7 @@ unsafe fn take_given(bytes: &mut Vec<u8>, given: &Given) {
     }
 }
 
-/// Encodes fields without a table, to the room behind what a vector holds.
+/// Encodes fields without a table, to the room after the items of a vector.
 pub(crate) fn encode_stateless(fields: &[Lent<'_>], section: &mut Vec<u8>) -> Written {
     let (room, room_len) = room_of(section);
     // SAFETY: the fields and the room are lent for the length of the call, and do not overlap. At status OK the call
@@ -285,7 +285,7 @@ pub(crate) trait Table {
     fn entry(&self, index: usize, bytes: &mut Vec<u8>) -> Given;
 }
 
-/// An encoding end. Its cell makes it no `Sync`: a call that only asks is handed the end to itself, too.
+/// An encoding end. Its cell makes it no `Sync`: a call that only reads also has the end to itself.
 pub(crate) struct Encoder {
     handle: UnsafeCell<Handle>,
 }
@@ -310,7 +310,7 @@ impl Encoder {
         }
     }
 
-    /// Encodes fields for a stream, to the room behind what a vector holds.
+    /// Encodes fields for a stream, to the room after the items of a vector.
     pub(crate) fn encode(&mut self, stream_id: u64, fields: &[Lent<'_>], section: &mut Vec<u8>) -> Encoded {
         let (room, room_len) = room_of(section);
         let handle = self.handle.get_mut();
@@ -418,7 +418,7 @@ impl Drop for Encoder {
     }
 }
 
-/// A decoding end. Its cell makes it no `Sync`: a call that only asks is handed the end to itself, too.
+/// A decoding end. Its cell makes it no `Sync`: a call that only reads also has the end to itself.
 pub(crate) struct Decoder {
     handle: UnsafeCell<Handle>,
     /// The number of fields of the section that was decoded last, and the bytes of their names and values.

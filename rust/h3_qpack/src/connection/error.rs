@@ -22,7 +22,7 @@ pub struct Place {
 }
 
 impl Place {
-    /// The place that was told, if one was.
+    /// Returns the place that the library reported, if it reported one.
     pub(crate) fn told(number: u64, offset: u64) -> Option<Place> {
         if number == 0 {
             None
@@ -204,7 +204,7 @@ impl DecodingError {
         }
     }
 
-    /// The error of a status, with the place that was told beside it, and how many bytes were taken.
+    /// Returns the error of a status, with the place that was reported with it, and how many bytes were taken.
     pub(crate) fn of(status: i32, place: Option<Place>, taken: usize) -> DecodingError {
         match status {
             DECOMPRESSION_FAILED => DecodingError::DecompressionFailed { line: place },
