@@ -54,7 +54,7 @@ pub enum DecodingError {
     /// The encoder stream is refused at an instruction.
     #[error("encoder stream: in instruction {} at offset {}: {error}", .place.number, .place.offset)]
     EncoderStream {
-        /// Where the instruction stands on the stream.
+        /// Where the instruction is on the stream.
         place: Place,
         /// Why.
         error: DecoderError,
@@ -85,8 +85,8 @@ pub(crate) const STREAMS: u64 = 1 << 62;
 const BLOCKED_LIMITS: usize = 65_535;
 
 impl DecodingError {
-    /// The code of the error that ends the connection (RFC 9204, section 6); none of what does not end it: the reader's
-    /// own limit, a number that no stream has, and want of memory.
+    /// Returns the code of the error that ends the connection (RFC 9204, section 6). Returns `None` for an error that
+    /// does not end it: the reader's own limit, an invalid stream number, or out of memory.
     pub fn code(&self) -> Option<u64>
         ensures { result ≡ code_of self.now }
     {
@@ -122,7 +122,7 @@ impl From<NoMemory> for DecodingError {
 /// The decoding end of a connection.
 ///
 /// It takes the bytes of the encoder stream and the field sections of streams, and writes the decoder stream. An error
-/// that has a code ends the connection: from then on every call that could fail answers it again.
+/// that has a code ends the connection: from then on every call that can fail returns that error.
 #[derive(Debug, Drop)]
 pub struct ConnectionDecoder {
     settings: DecoderSettings,
@@ -215,7 +215,7 @@ impl ConnectionDecoder {
         self.blocked.count(self.table.total_inserted())
     }
 
-    /// How many bytes of the encoder stream wait for those behind them.
+    /// Returns how many bytes of the encoder stream wait for the rest of their instruction.
     pub fn waiting(&self) -> usize
         ensures { result ≡ length self.now.stream.pending }
     {
@@ -229,7 +229,7 @@ impl ConnectionDecoder {
         self.unsent.as_slice()
     }
 
-    /// So many bytes of the decoder stream were sent, or all: they are dropped.
+    /// Drops this many bytes of the decoder stream, or all if there are fewer. Call this after they were sent.
     pub fn sent(&mut self, many: usize)
         ensures { self.new ≡ record self.old { unsent = drop many self.old.unsent } }
     {
@@ -245,15 +245,15 @@ impl ConnectionDecoder {
     }
 
     /// Decodes a field section that came on a stream (RFC 9204, section 2.2), as `read_section` reads it, with the
-    /// limit of the settings. Where no fields are answered there are none in `fields`.
+    /// limit of the settings. Unless it returns `Reading::Fields`, `fields` is empty.
     ///
-    /// Fields of a section that requires insertions are acknowledged, behind increments for what is not reported; the
-    /// stream is blocked no more. A section that is blocked is not kept: its stream is counted as blocked while
-    /// insertions are missing, and once `next_ready` tells the stream the section is handed in again. Refused are, in
-    /// this order: every call behind an error that ended the connection, by that error; a number that no stream has
-    /// (`NoStream`); what `read_section` refuses (`Section`); and a stream more than may be blocked (`TooManyBlocked`).
-    /// After `Section` the stream is blocked no more. Another error that has no code changes nothing, but that increments
-    /// may have been written where memory was refused.
+    /// It acknowledges the fields of a section that requires insertions, after increments for insertions not yet
+    /// reported, and the stream is no longer blocked. It does not keep a blocked section. The stream counts as blocked
+    /// while insertions are missing; once `next_ready` returns the stream, pass the section again. It fails, checking
+    /// in this order, after an error that ended the connection, with that error; with `NoStream` if the stream number
+    /// is invalid; with `Section` if `read_section` fails; and with `TooManyBlocked` if one stream too many would be
+    /// blocked. After `Section` the stream is no longer blocked. Any other error without a code changes nothing, except
+    /// that increments may have been written before memory ran out.
     pub fn decode(
         &mut self,
         stream: u64,
@@ -292,12 +292,13 @@ impl ConnectionDecoder {
         Ok(())
     }
 
-    /// Receives the bytes of the encoder stream that the cursor has left, which follow on those of the calls before,
-    /// cut anywhere (RFC 9204, sections 4.2 and 4.3), as `EncoderStream::receive` does, and answers how many insertions
-    /// were ever made. They are reported by increments of 64 and one of the rest (section 4.4.3).
+    /// Receives the bytes left at the cursor, which continue those of earlier calls and may be cut anywhere (RFC 9204,
+    /// sections 4.2 and 4.3), as `EncoderStream::receive` does. Returns how many insertions were ever made. It reports
+    /// them by increments of 64 and one of the rest (section 4.4.3).
     ///
-    /// An instruction that is refused ends the connection (`EncoderStream`); those before it stay applied. After want
-    /// of memory what the cursor has left is offered again, be it nothing; insertions that were made are reported then.
+    /// A rejected instruction ends the connection (`EncoderStream`); the instructions before it stay applied. After
+    /// `Memory`, call again with the bytes left at the cursor, even if there are none; that call reports the insertions
+    /// that were made.
     pub fn receive(&mut self, buf: &mut Cursor) -> Result<usize, DecodingError>
         ensures receives { self.old.failure ≡ None → (start : Table) (before : List ℕ)
             → Receives start self.old.table before self.old.stream
@@ -318,7 +319,7 @@ impl ConnectionDecoder {
         Ok(self.table.total_inserted())
     }
 
-    /// Whether a call for a stream can be answered.
+    /// Returns the error of a call for a stream, if the connection ended or the stream number is invalid.
     fn check(&self, stream: u64) -> Result<(), DecodingError>
         ensures checks { Checks self.now stream result }
         ensures no_memory { result ≡ Err Memory → ⊥ }
@@ -332,7 +333,7 @@ impl ConnectionDecoder {
         Ok(())
     }
 
-    /// Reads a section, and does what its reading asks for; refused, fields may stand in `fields`.
+    /// Reads a section, and acts on the result. On error there may be fields in `fields`.
     fn decode_into(
         &mut self,
         stream: u64,
@@ -407,7 +408,7 @@ impl ConnectionDecoder {
         Ok(())
     }
 
-    /// Hands on an error, which is kept if it ends the connection.
+    /// Returns the error, and keeps it if it ends the connection.
     fn refuse(&mut self, error: DecodingError) -> DecodingError
         ensures is { result ≡ error }
         ensures ends { self.new ≡ refused error self.old }

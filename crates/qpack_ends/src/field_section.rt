@@ -20,7 +20,7 @@ use qpack_table::dynamic::EntryIndex;
 use std::alloc::Global;
 use std::marker::Model;
 
-/// Where a field stands in a text, in bytes from its start, and how its line was spelled.
+/// Where a field is in a text, in bytes from its start, and how its line was spelled.
 #[derive(Clone, Copy, Debug, Drop)]
 pub(crate) struct Span {
     /// Where the name begins.
@@ -45,10 +45,10 @@ fn field_at<'a>(text: &'a [u8], span: &Span) -> FieldLine<'a>
     }
 }
 
-/// The fields of a section: names and values one after the other in one text, which holds nothing else. Its memory is
-/// kept from section to section. Reading under a limit of n bytes makes room for at most n bytes of text, and for n / 32
-/// fields of 32 bytes each: both together take at most 2n bytes. Only `expect` or a greater limit makes room for more,
-/// and that is given back when a section is refused.
+/// The fields of a section: names and values one after the other in one text, which holds nothing else. It keeps its
+/// memory from section to section. Reading under a limit of n bytes makes room for at most n bytes of text, and for n /
+/// 32 fields of 32 bytes each: both together take at most 2n bytes. Only `expect` or a greater limit makes room for
+/// more, which is given back when a section is rejected.
 #[derive(Debug, Drop)]
 pub struct FieldSection {
     text: Vec<u8>,
@@ -113,8 +113,8 @@ impl FieldSection {
         }
     }
 
-    /// Makes room for this many fields, and for this many bytes of their names and values, as far as there is memory.
-    /// It changes how often memory is asked for later, and nothing else.
+    /// Makes room for this many fields, and for this many bytes of their names and values, as far as memory permits.
+    /// This affects only how often later calls ask for memory.
     pub fn expect(&mut self, fields: usize, bytes: usize)
         ensures same { self.new.fields ≡ self.old.fields }
         ensures room { GrowsTo bytes fields self.old self.new }

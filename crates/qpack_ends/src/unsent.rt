@@ -117,8 +117,8 @@ impl Unsent {
         write_increments(insertions, &mut self.bytes)
     }
 
-    /// Sets the capacity of the table, and appends the instruction that tells it. On error the bytes are as before. With
-    /// room for eleven bytes, which no number exceeds, it asks for no memory.
+    /// Sets the capacity of the table, and appends the instruction that announces it. On error the bytes are unchanged.
+    /// With room for eleven bytes, the longest instruction, it asks for no memory.
     pub(crate) fn set_capacity(
         &mut self,
         table: &mut DynamicTable,
