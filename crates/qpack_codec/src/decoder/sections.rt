@@ -57,9 +57,9 @@ pub(super) fn read_section<I: EntryIndex>(
     })
 }
 
-/// An empty list, with room for as many fields as there can be lines in so many bytes, but for at most 16 (a list of 16
-/// fields of 64 bytes is 1 KiB; greater blocks are slower to ask for and to free). Where memory is refused it has none,
-/// and asks for it as fields come.
+/// Returns an empty list with room for as many fields as there can be lines in this many bytes, up to 16. (A list of 16
+/// fields of 64 bytes is 1 KiB; larger blocks are slower to allocate and to free.) If memory is refused the list has no
+/// room, and asks for it as fields come.
 pub(crate) fn room_for_fields(alloc: Global, bytes: usize) -> Vec<HeaderField>
     ensures { result.items ≡ [] }
 {

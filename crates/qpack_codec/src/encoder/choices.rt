@@ -67,10 +67,10 @@ impl Choice {
     }
 }
 
-/// What chooses for the fields of a section, one after the other. Whatever is chosen, the section means its fields.
+/// A chooser for the fields of a section, one after the other. Whatever it chooses, the section means its fields.
 pub trait Chooses {
-    // How it chooses for one field: what it is before, the table, the field line, what is asked for it, what is chosen,
-    // and what it is after.
+    // How it chooses for one field: its state before, the table, the field line, the wish, the choice, and its state
+    // after.
     ghost chooses: { Self → Table → Line → Asked → Chosen → Self → Type 0 };
 
     /// Called before the first field of a section.
