@@ -99,7 +99,7 @@ pub fn decode_stateless(
     ensures finished { OnOk result (IsFinished buf.old buf.new) }
     // Memory is refused only if a prefix is followed by a whole line, or by a string whose payload is not empty.
     ensures memory { result ≡ Err Memory → AsksSectionForMemory buf.old.rest }
-    // All of this in one clause, as reading from left to right.
+    // The clauses above as one function, which reads from left to right.
     ensures exact { DecodesStateless result (stateless_reading max_size buf.old.rest) }
 {
     read_stateless(alloc, buf, max_size)

@@ -29,7 +29,7 @@ pub type RelativeIndex = usize;
 /// An index counted up from the first entry ever inserted, which has 1 (RFC 9204, section 3.2.4).
 pub type AbsoluteIndex = usize;
 
-/// Why an index references no live entry. Each tells the index as it was handed in.
+/// Why an index references no live entry. Each variant has the index that was passed.
 #[derive(Clone, Copy, Debug, PartialEq, Drop, ThisError)]
 pub enum Error {
     /// The entry of this relative index is dropped, or before the first one, or nothing is live.
@@ -77,7 +77,7 @@ impl Default for VirtualAddressSpace {
 }
 
 impl VirtualAddressSpace {
-    /// One entry more is inserted, of which fewer than 2^62 ever were; its absolute index is answered.
+    /// Counts one more entry as inserted, of which fewer than 2^62 ever were, and returns its absolute index.
     pub fn add(&mut self) -> AbsoluteIndex
         requires { self.old.total < 2 ^ 62 }
         ensures index { result ≡ self.old.total + 1 }
@@ -122,7 +122,7 @@ impl VirtualAddressSpace {
     pub fn relative_base(&self, base: usize, index: RelativeIndex) -> Result<usize, Error>
         ensures found { IfOk result (IsPositionOf self.now (relative_index base index)) }
         ensures tested { IsOk result ↔ IsNotEvicted self.now base index }
-        // Under a base up to the total it is answered exactly where the entry is live.
+        // Under a base up to the total it succeeds exactly if the entry is live.
         ensures live { base ≤ self.now.total → (IsOk result ↔ IsLive self.now (relative_index base index)) }
         ensures refused { IfErr result (λ e. e ≡ NoRelative index) }
     {
@@ -184,8 +184,7 @@ impl VirtualAddressSpace {
         self.dropped
     }
 
-    /// The position of an absolute index, from 0 at the oldest live entry. Of dropped entries there is
-    /// none.
+    /// Returns the position of an absolute index, from 0 at the oldest live entry, or `None` if the entry was dropped.
     fn position(&self, absolute: AbsoluteIndex) -> Option<usize>
         ensures found { IfSome result (IsPositionOf self.now absolute) }
         ensures above { IsSome result ↔ (self.now.dropped < absolute) }

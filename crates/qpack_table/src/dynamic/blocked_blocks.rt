@@ -50,7 +50,7 @@ impl BlockedBlocks {
         self.keys.len()
     }
 
-    /// A block is blocked that requires so many insertions. On error, which is want of memory alone, nothing changes.
+    /// Keeps a blocked block that requires this many insertions. On error, which is `Memory` only, nothing changes.
     pub(super) fn push(&mut self, required: usize) -> Result<(), AllocError>
         ensures kept { OnOk result (IsKeptBehind required self.old self.new) }
         ensures counts { OnOk result (counts_of self.new ≡ counts_of self.old ++ required ∷ []) }

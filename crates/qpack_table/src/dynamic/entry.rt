@@ -72,7 +72,7 @@ pub(super) fn lower_uses(entries: &mut VecDeque<Entry>, dropped: usize, referenc
     }
 }
 
-/// The oldest entries go; the sum of their sizes is answered.
+/// Drops the oldest entries, and returns the sum of their sizes.
 pub(super) fn drop_oldest<I: EntryIndex>(
     entries: &mut VecDeque<Entry>,
     index: &mut I,
@@ -119,7 +119,8 @@ fn make_room(entries: &mut VecDeque<Entry>) -> Result<(), AllocError>
     grow(entries)
 }
 
-/// Makes room for an entry where there is none. It is a call of its own, so that whoever finds room saves no registers.
+/// Makes room for an entry if there is none. It is a call of its own, so that a caller that has room saves no
+/// registers.
 #[inline(never)]
 fn grow(entries: &mut VecDeque<Entry>) -> Result<(), AllocError>
     ensures items { entries.new.items ≡ entries.old.items }
@@ -128,9 +129,9 @@ fn grow(entries: &mut VecDeque<Entry>) -> Result<(), AllocError>
     entries.reserve(1)
 }
 
-/// The oldest entries go, and another comes in behind the newest; the sum of their sizes is counted along. Refused,
-/// which is for memory alone, none goes and none comes in. With free room for it the list is not grown. The key is
-/// that of the entry's field.
+/// Drops the oldest entries, appends another after the newest, and updates the sum of their sizes. On error, which is
+/// for memory only, nothing changes. With free room for the entry the list does not grow. The key is that of the
+/// entry's field.
 #[inline(always)]
 pub(super) fn replace_oldest<I: EntryIndex>(
     entries: &mut VecDeque<Entry>,

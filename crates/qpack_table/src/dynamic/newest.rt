@@ -24,7 +24,8 @@ impl DynamicTable {
         self.newest_line(&field.as_line(), steps)
     }
 
-    /// The same of a field that is lent.
+    /// Returns the absolute index of the newest live entry with a borrowed field, counting comparisons as
+    /// `newest_equal` does.
     fn newest_line(&self, field: &FieldLine<'_>, steps: &mut Steps) -> Option<AbsoluteIndex>
         ensures found { result ≡ newest_index self.now (is_field (line_of field.now).field) }
         ensures steps { Counts (length self.now.live) steps.old.count steps.new.count }
@@ -40,7 +41,7 @@ impl DynamicTable {
         self.newest_line(field, &mut Steps::new())
     }
 
-    /// The same of a field with such hashes.
+    /// Returns the absolute index of the newest live entry with the field, which has these hashes.
     #[inline(always)]
     pub(super) fn newest_hashed(
         &self,
@@ -76,7 +77,7 @@ impl DynamicTable {
         self.newest_named(name, &mut Steps::new())
     }
 
-    /// The same of a name with such a hash.
+    /// Returns the absolute index of the newest live entry with the name, which has this hash.
     pub(super) fn newest_hashed_name(&self, name: &[u8], hashes: Hashes) -> Option<AbsoluteIndex>
         requires { hashes.name ≡ name_hash name.now }
         ensures { result ≡ newest_index self.now (has_name name.now) }

@@ -76,7 +76,7 @@ impl OpenBlocks {
         self.references.remove(&key)
     }
 
-    /// Opens a block. On error, which is want of memory alone, nothing changes.
+    /// Opens a block. On error, which is `Memory` only, nothing changes.
     pub(super) fn push(&mut self, stream_id: u64, references: Vec<usize>) -> Result<(), AllocError>
         ensures ok { OnOk result
             (self.new ≡ self.old ++ record { stream = stream_id; entries = references.items } ∷ []) }

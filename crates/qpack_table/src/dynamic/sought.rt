@@ -1,4 +1,4 @@
-//! A field that is sought once: what is asked of the table for it after that hashes and searches nothing again.
+//! A field that is looked up once: later questions to the table about it hash and search nothing again.
 
 ghost use Rattle.std.specs.Prelude.{◌≡◌, None, IfOk, IfSome};
 ghost use Rattle.qpack_base.specs.HeaderFields.{line_of};
@@ -54,8 +54,8 @@ impl SoughtField {
         self.static_name
     }
 
-    /// A hash of the field, its name and its value, which is the same whatever table it is sought in. It is taken now
-    /// if it was not.
+    /// Returns a hash of the field, its name and its value, which is the same for every table. Computes it unless it is
+    /// known.
     #[inline(always)]
     pub fn hash(&self, field: &FieldLine<'_>) -> u32 {
         match self.hashes {

@@ -148,7 +148,7 @@ impl DynamicTable {
 }
 
 impl DynamicTable<NoIndex> {
-    /// The same of a table that only receives.
+    /// Returns an empty table of a decoder, without an index.
     pub fn without_index(alloc: Global) -> ReceivedTable
         ensures { result ≡ empty_table 0 None 0 }
     {
@@ -310,8 +310,8 @@ impl<I: EntryIndex> DynamicTable<I> {
         !entry.sent || dropped + position < self.known_received_count
     }
 
-    /// The least number of oldest entries whose removal lets the rest fit so many bytes, if each of them is evictable:
-    /// the walk ends at the first that is not (RFC 9204, sections 2.1.1 and 3.2.2).
+    /// Returns the least number of oldest entries whose removal lets the rest fit this many bytes, if each of them is
+    /// evictable. Stops at the first that is not (RFC 9204, sections 2.1.1 and 3.2.2).
     fn evictable_count(&self, room: usize) -> Option<usize>
         ensures least { IfSome result (λ evicted. evicted ≡ eviction_count room (fields_in self.now.live)) }
         ensures evictable { IfSome result (λ evicted. can_evict self.now evicted ≡ true) }
@@ -330,7 +330,7 @@ impl<I: EntryIndex> DynamicTable<I> {
         Some(evicted)
     }
 
-    /// How many of the oldest entries go before a field of so many bytes stands, if each of them is evictable.
+    /// Returns how many of the oldest entries are evicted for a field of this many bytes, if each of them is evictable.
     pub(super) fn evictable_for(&self, size: usize) -> Option<usize>
         requires fits { size ≤ self.now.capacity }
         ensures least { IfSome result
@@ -342,8 +342,8 @@ impl<I: EntryIndex> DynamicTable<I> {
         self.evictable_count(self.max_mem_size() - size)
     }
 
-    /// Inserts a field behind the newest one, once so many of the oldest are evicted. On error, which is for
-    /// memory alone, nothing changes.
+    /// Inserts a field as the newest, and evicts this many of the oldest entries. On error, which is for memory only,
+    /// nothing changes.
     fn insert(&mut self, field: HeaderField, sent: bool, evicted: usize) -> Result<(), AllocError>
         requires few { insert_count self.old < 2 ^ 62 }
         requires fits { field_size (field_of field) ≤ self.old.capacity }
@@ -355,7 +355,7 @@ impl<I: EntryIndex> DynamicTable<I> {
         self.insert_hashed(field, sent, evicted, key)
     }
 
-    /// The same of a field with such a key.
+    /// Inserts a field with this key, as `insert` does.
     #[inline(always)]
     pub(super) fn insert_hashed(
         &mut self,
@@ -389,10 +389,9 @@ impl<I: EntryIndex> DynamicTable<I> {
         Ok(())
     }
 
-    /// Puts a field, as a decoder does: entries that have to go are evicted then (RFC 9204, section 3.2.2). It is
-    /// passed over at capacity 0, behind the 2^62th insertion and where an entry that is not evictable would have to be
-    /// evicted, and refused if it is larger than the capacity. Only a field that is inserted takes memory. Refused,
-    /// nothing changes.
+    /// Inserts a field, as a decoder does, and evicts entries as needed (RFC 9204, section 3.2.2). Does nothing at
+    /// capacity 0, after the 2^62th insertion, and if an entry that is not evictable would be evicted. Fails if the
+    /// field is larger than the capacity. Only an insertion takes memory. On error nothing changes.
     #[tactic(auto, using(crate::proofs::Changes::put_without_entry))]
     pub fn put(&mut self, field: HeaderField) -> Result<(), Error>
         ensures { ChangesWithMemory (IsInserted self.old (field_of field)) result
@@ -461,7 +460,7 @@ impl<I: EntryIndex> DynamicTable<I> {
         Ok(())
     }
 
-    /// Tells whether `set_max_size` sets this capacity, or why it refuses it. Nothing changes.
+    /// Returns whether `set_max_size` would set this capacity, or its error. Nothing changes.
     pub fn check_max_size(&self, size: usize) -> Result<(), Error>
         ensures ok { OnOk result (IsOk (with_capacity self.now size)) }
         ensures err { IfErr result (λ e. IsRefusedFor (with_capacity self.now size) (refusal_of e)) }
@@ -470,7 +469,8 @@ impl<I: EntryIndex> DynamicTable<I> {
         Ok(())
     }
 
-    /// How many of the oldest entries go before a capacity of so many bytes is set, or why it is refused.
+    /// Returns how many of the oldest entries are evicted for a capacity of this many bytes, or the error of
+    /// `set_max_size`.
     fn evicted_for_capacity(&self, size: usize) -> Result<usize, Error>
         ensures within { OnOk result (size ≤ greatest_capacity self.now.agreed_max) }
         ensures small { OnOk result (size < 2 ^ 30) }
@@ -493,8 +493,8 @@ pub struct DynamicTableDecoder<'a, I: EntryIndex = Index> {
 }
 
 impl<I: EntryIndex> DynamicTableDecoder<'_, I> {
-    /// The field that a line's relative index names (RFC 9204, section 3.2.5). A base above the total may name
-    /// a position behind the newest entry, which is told as that.
+    /// Returns the field that a line's relative index references (RFC 9204, section 3.2.5). Under a base above the
+    /// total, the index may reference a position after the newest entry; the error is then `BadIndex`.
     pub fn get_relative(&self, index: usize) -> Result<&HeaderField, Error>
         ensures { LooksUp result (relative_field (window self.now.table.now) self.now.base index) }
     {

@@ -42,8 +42,8 @@ impl DynamicTable {
         Some(greatest_in(self.unacknowledged.oldest(stream_id)?))
     }
 
-    /// An acknowledgment of a stream releases its oldest block that is not acknowledged yet. It is refused where
-    /// there is none, and takes no memory (RFC 9204, section 4.4.1).
+    /// Releases the oldest unacknowledged block of a stream, for an acknowledgment. Fails if there is none, and takes
+    /// no memory (RFC 9204, section 4.4.1).
     pub fn untrack_block(&mut self, stream_id: u64) -> Result<(), Error>
         ensures { Changes result (apply_decoder_instruction self.old (Acknowledgment stream_id)) self.old self.new }
     {
