@@ -53,7 +53,7 @@ pub fn decode(size: u8, buf: &mut Cursor) -> Result<(u8, u64), Error>
         (result ≡ Ok (flags, value)) × MovesPast encoding buf.old buf.new }
     ensures overflow { (result ≡ Err Overflow) ↔ Begins (OverflowsInteger size) buf.old.rest }
     ensures truncated { (result ≡ Err Truncated) ↔ TruncatesInteger size buf.old.rest }
-    // The same, as reading from left to right.
+    // The clauses above as one function, which reads from left to right.
     ensures exact { ReadsInteger buf.old buf.new result (integer_at size buf.old.rest) }
 {
     read(size, buf)

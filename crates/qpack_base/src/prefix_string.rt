@@ -141,7 +141,7 @@ pub fn decode(alloc: Global, size: u8, buf: &mut Cursor) -> Result<Vec<u8>, Erro
         Begins (λ encoding. RefusesString size encoding (BadHuffman fault)) buf.old.rest → GivesFault result fault }
     // Memory is refused only to a whole payload.
     ensures memory { result ≡ Err NoRoom → Begins (HoldsPayload size) buf.old.rest }
-    // The same, as reading from left to right.
+    // The clauses above as one function, which reads from left to right.
     ensures exact { ReadsString buf.old buf.new result (string_at size buf.old.rest) }
 {
     read(alloc, size, buf)
