@@ -51,7 +51,7 @@ impl HeaderField {
         self.as_line().mem_size()
     }
 
-    /// The field as a line that lends its name and its value, and that may be indexed.
+    /// Borrows the field as a line that may be indexed.
     #[inline(always)]
     pub fn as_line(&self) -> FieldLine<'_>
         ensures { line_of result ≡ unmarked (field_of self.now) }
@@ -89,7 +89,7 @@ impl HeaderField {
     }
 }
 
-/// A field line (RFC 9110, section 5): a field that is lent, and whether it is to stay a literal wherever it is sent on
+/// A field line (RFC 9110, section 5): a borrowed field, and whether it is to stay a literal wherever it is sent on
 /// (RFC 9204, section 7.1.3).
 #[derive(Clone, Copy, Debug, PartialEq, Drop)]
 pub struct FieldLine<'a> {
@@ -146,7 +146,7 @@ impl fmt::Display for HeaderField {
     }
 }
 
-/// What `==` answers: whether the two names and the two values are the same bytes, however each is held.
+/// Returns what `==` returns: whether the two names and the two values are the same bytes, however each is stored.
 pub fn equality_is_of_bytes(field: &HeaderField, other: &HeaderField) -> bool
     ensures operator { result ≡ ⟦<HeaderField as PartialEq>⟧.eq field.now other.now }
     ensures bytes { IsTrue result ↔ (field_of field.now ≡ field_of other.now) }
@@ -154,8 +154,8 @@ pub fn equality_is_of_bytes(field: &HeaderField, other: &HeaderField) -> bool
     field == other
 }
 
-/// What `cmp` answers: the order of the names, then that of the values, each byte by byte. Fields that are equal,
-/// and no others, tie.
+/// Returns what `cmp` returns: the order of the names, then that of the values, each byte by byte. Only equal fields
+/// tie.
 pub fn order_is_of_bytes(field: &HeaderField, other: &HeaderField) -> Ordering
     ensures operator { result ≡ ⟦<HeaderField as Ord>⟧.cmp field.now other.now }
     ensures bytes { result ≡ field_cmp (field_of field.now) (field_of other.now) }
@@ -164,9 +164,9 @@ pub fn order_is_of_bytes(field: &HeaderField, other: &HeaderField) -> Ordering
     field.cmp(other)
 }
 
-/// Feeds a field to a hasher and another to a second one, whatever hashers they are, and answers whether the
-/// fields are equal. A hasher is fed the bytes of the name and of the value, each behind their number, however
-/// they are held: so equal fields hash alike.
+/// Feeds one field to a hasher and another to a second one, whatever hashers they are, and returns whether the fields
+/// are equal. A hasher gets the length and the bytes of the name, then those of the value, however they are stored: so
+/// equal fields hash alike.
 pub fn equal_fields_hash_alike<H: Hasher>(
     field: &HeaderField,
     other: &HeaderField,

@@ -35,7 +35,7 @@ impl From<coding::UnexpectedEnd> for Error {
     }
 }
 
-/// The further bytes that are read behind a full prefix, at most.
+/// The most further bytes that are read after a full prefix.
 const MOST_GROUPS: u8 = 9;
 
 /// Reads the integer at the cursor, with a prefix of `size` bits: the flags, which are the bits above
@@ -118,7 +118,7 @@ pub fn encode<A: Allocator>(
     Ok(())
 }
 
-/// The same of a value that fills the prefix.
+/// Appends the spelling as `encode` does, for a value that fills the prefix.
 #[inline(never)]
 fn encode_long<A: Allocator>(
     size: u8,
@@ -136,7 +136,7 @@ fn encode_long<A: Allocator>(
     Ok(())
 }
 
-/// The same into the free room.
+/// Appends the spelling as `encode` does, into the free room.
 #[inline(always)]
 pub(crate) fn put<A: Allocator>(size: u8, flags: u8, value: u64, buf: &mut Vec<u8, A>)
     requires least { 1 ≤ size }
@@ -151,7 +151,7 @@ pub(crate) fn put<A: Allocator>(size: u8, flags: u8, value: u64, buf: &mut Vec<u
     }
 }
 
-/// The same of a value that fills the prefix.
+/// Appends the spelling as `put` does, for a value that fills the prefix.
 #[inline(never)]
 #[tactic(auto, unfolding(qpack_spec::specs::Integer::written_integer))]
 fn put_long<A: Allocator>(size: u8, flags: u8, value: u64, buf: &mut Vec<u8, A>)
@@ -182,7 +182,7 @@ pub(crate) fn short(size: u8, flags: u8, value: u64) -> Option<u8>
     Some(first_byte(size, flags, value))
 }
 
-/// The same, if it is two bytes.
+/// The shortest spelling of a value, under the flags, as `short` has it, if it is two bytes.
 #[inline(always)]
 #[tactic(auto, unfolding(qpack_spec::specs::Integer::written_integer), using(crate::proofs::WrittenGroups::written_steps))]
 pub(crate) fn paired(size: u8, flags: u8, value: u64) -> Option<(u8, u8)>

@@ -75,7 +75,7 @@ impl StaticTable {
         StaticTable::find_line(&field.as_line())
     }
 
-    /// The same of a field that is lent.
+    /// Returns the index of a borrowed field, as `find` does.
     pub fn find_line(field: &FieldLine<'_>) -> Option<usize>
         ensures { result ≡ static_index (line_of field.now).field }
     {
@@ -128,8 +128,8 @@ fn has_value(index: usize, value: &[u8]) -> bool
     row(index).is_some_and(|row| is_value(value, row.1))
 }
 
-/// Whether two values are equal. Most differ in length, and their bytes are looked at in a call of its own, so that a
-/// look for a value stays in line.
+/// Returns whether two values are equal. Most differ in length; the comparison of bytes is a call of its own, so that a
+/// search for a value stays inlined.
 #[inline(always)]
 fn is_value(value: &[u8], known: &[u8]) -> bool
     ensures { result ≡ bytes_eq value.now known.now }
@@ -140,7 +140,7 @@ fn is_value(value: &[u8], known: &[u8]) -> bool
     same_bytes(value, known)
 }
 
-/// The same of values of one length.
+/// Returns whether two values of one length are equal.
 #[inline(never)]
 fn same_bytes(value: &[u8], known: &[u8]) -> bool
     ensures { result ≡ bytes_eq value.now known.now }

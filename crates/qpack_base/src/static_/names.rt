@@ -1,5 +1,5 @@
-//! The names of the static table, each with its positions (RFC 9204, Appendix A). They stand in three parts, since
-//! what a check takes grows faster than the references of a function.
+//! The names of the static table, each with its positions (RFC 9204, Appendix A). They are in three parts, since the
+//! cost of a check grows faster than the references of a function.
 
 ghost use Rattle.std.specs.Prelude.{◌≡◌, ◌^◌, [], slice_index_or};
 ghost use Rattle.qpack_base.specs.StaticFields.{AreNamesOfLength, AreNamesBetween, names_at, name_rows_at};

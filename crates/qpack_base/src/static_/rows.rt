@@ -1,5 +1,5 @@
-//! The rows of the static table (RFC 9204, Appendix A). They stand in four parts, since what a check takes grows
-//! faster than the references of a function.
+//! The rows of the static table (RFC 9204, Appendix A). They are in four parts, since the cost of a check grows faster
+//! than the references of a function.
 
 ghost use Rattle.std.specs.Prelude.{◌≡◌, take, drop, slice_get};
 ghost use Rattle.std.specs.Option.{option_map};
