@@ -1,5 +1,5 @@
-//! QPACK (RFC 9204) for programs in C, and in whatever calls C: the exports behind `include/h3_qpack.h`, which says
-//! what each asks of its caller. An end of a connection lives behind a handle, which each call is lent.
+//! QPACK (RFC 9204) for programs in C, and in any language that calls C: the exports of `include/h3_qpack.h`, which
+//! says what each requires of its caller. Each call borrows the handle of an end of a connection.
 #![tactic(auto)]
 
 ghost use Rattle.std.specs.Prelude.{◌≡◌};

@@ -1,5 +1,5 @@
-//! What calls answer: 0, below it what the connection outlives, above it the code that ends it (RFC 9204,
-//! section 6, and RFC 9114, section 8.1).
+//! What calls return: 0, a number below it if the connection goes on after the error, and the code that ends the
+//! connection above it (RFC 9204, section 6, and RFC 9114, section 8.1).
 
 ghost use Rattle.std.specs.Prelude.{◌≡◌};
 ghost use Rattle.h3_qpack_c.specs.Statuses.{of_encoding, of_decoding, of_section, of_line};
@@ -12,7 +12,7 @@ pub(crate) const DONE: i32 = 0;
 /// No memory was left; the call can be made again.
 pub(crate) const NO_MEMORY: i32 = -1;
 
-/// The caller's memory is too small; the lengths tell how much is wanted.
+/// The caller's memory is too small; the lengths say how much is needed.
 pub(crate) const NO_ROOM: i32 = -2;
 
 /// The section waits for insertions.
