@@ -15,7 +15,7 @@ use qpack_base::field::HeaderField;
 use qpack_codec::decoder::ack_header;
 
 impl Session {
-    /// Does what the events say, one by one, and appends what each answers. There is room for that.
+    /// Performs the events one by one, and appends the outcome of each. There is room for them.
     pub(super) fn perform_all(&mut self, events: &[Event], outcomes: &mut Vec<Outcome>)
         requires room { vec_len outcomes.old + length events.now ≤ vec_capacity outcomes.old }
         ensures { PerformsAll self.old self.new events.now outcomes.old.items outcomes.new.items }
@@ -80,7 +80,7 @@ impl Session {
         }
     }
 
-    /// So many more bytes of the encoder stream come to the decoder, behind those that it left.
+    /// Delivers this many more bytes of the encoder stream to the decoder, after those that it left.
     pub(super) fn deliver_to_decoder(&mut self, count: usize) -> Outcome
         ensures goes { Follows self.old self.new (ToDecoder count) result }
         ensures asks { IsAskedFor self.old self.new (ToDecoder count) result }
@@ -97,7 +97,7 @@ impl Session {
         Outcome::Delivered(answer)
     }
 
-    /// So many more bytes of the decoder stream come to the encoder, behind those that it left.
+    /// Delivers this many more bytes of the decoder stream to the encoder, after those that it left.
     pub(super) fn deliver_to_encoder(&mut self, count: usize) -> Outcome
         ensures goes { Follows self.old self.new (ToEncoder count) result }
         ensures asks { IsAskedFor self.old self.new (ToEncoder count) result }

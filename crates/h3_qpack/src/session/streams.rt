@@ -194,8 +194,8 @@ impl Streams {
         }
     }
 
-    /// Encodes a block of the fields for a stream, and keeps it (RFC 9204, section 2.1). Room for it is made first.
-    /// On error, which is want of memory alone, no block is kept.
+    /// Encodes a block of the fields for a stream, and keeps it (RFC 9204, section 2.1). It makes room for it first. On
+    /// error, which is `Memory` only, no block is kept.
     pub(super) fn encode(
         &mut self,
         alloc: Global,
