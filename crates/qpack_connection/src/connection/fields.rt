@@ -1,4 +1,4 @@
-//! Field lines that are owned, as a connection keeps those that were handed to its encoding end.
+//! Owned field lines, as a connection keeps those that were passed to its encoding end.
 
 ghost use Rattle.std.specs.Prelude.{◌≡◌, ◌<◌, ◌^◌, IfOk, length};
 ghost use Rattle.std.specs.List.{AllByRecursion};
@@ -22,7 +22,7 @@ pub struct OwnedFieldLine {
     pub value: Vec<u8>,
     /// Whether the field is never to be indexed (RFC 9204, section 7.1.3).
     pub never_indexed: bool,
-    /// What the encoding end is asked to do for the field.
+    /// The wish for the field, which the encoding end takes into account.
     pub wish: Wish,
 }
 

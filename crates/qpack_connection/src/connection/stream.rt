@@ -14,7 +14,7 @@ use std::marker::Model;
 /// A section that the encoding end wrote.
 #[derive(Debug, Drop)]
 pub(super) struct Section {
-    /// What was handed to its encode.
+    /// The fields that were passed to its encode.
     fields: Vec<OwnedFieldLine>,
     bytes: Vec<u8>,
     /// Its required insert count.
@@ -95,8 +95,8 @@ impl Stream {
         Some(section.bytes())
     }
 
-    /// The oldest section that was not decoded is, which required so many insertions; one that required any was
-    /// acknowledged.
+    /// Marks the oldest section that was not decoded as decoded. It required this many insertions; one that required
+    /// any was acknowledged.
     pub(super) fn mark_decoded(&mut self, required: usize)
         requires { self.old.decoded < length self.old.blocks }
         ensures { self.new ≡ decoded_with required self.old }

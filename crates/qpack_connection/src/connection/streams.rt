@@ -63,7 +63,7 @@ impl Streams {
         Ok(())
     }
 
-    /// The oldest section of a stream that was not decoded is, which required so many insertions.
+    /// Marks the oldest section of a stream that was not decoded as decoded. It required this many insertions.
     pub(super) fn mark_decoded(&mut self, number: u64, required: usize)
         requires { (stream_at self.old number).decoded < length (stream_at self.old number).blocks }
         ensures { ChangesStream number (decoded_with required (stream_at self.old number)) self.old self.new }
