@@ -25,7 +25,7 @@ use instructions::inspect_instructions;
 pub struct Inspection {
     /// The printed lines.
     pub text: String,
-    /// Why the events behind them were not inspected, if they were not.
+    /// Why the events after them were not inspected, if they were not.
     pub refused: Option<DecoderError>,
 }
 

@@ -24,7 +24,7 @@ pub fn section_json(alloc: Global, decoded: &Decoded) -> Result<String, AllocErr
     Ok(text)
 }
 
-/// The same as a value.
+/// Returns the object as a value.
 fn section_value(alloc: Global, decoded: &Decoded) -> Result<Value, AllocError>
     requires { decoded.now.mem_size ≡ saturated_size (total_size (fields_in decoded.now.fields.items)) }
     ensures { IfOk result (λ v. view v ≡ section_data (fields_in decoded.now.fields.items)) }

@@ -1,4 +1,4 @@
-//! Texts of which each line stands for something.
+//! Texts with one item a line.
 
 ghost use Rattle.std.specs.Prelude.{ℕ, List, Option};
 ghost use Rattle.qpk_qif.specs.Lines.{lines_of};
@@ -8,9 +8,9 @@ use crate::text::Fault;
 use qpk_qif::lines::split_line;
 use std::alloc::Global;
 
-/// What a line of a text may stand for.
+/// An item that a line of a text may be.
 pub trait FromLine: Drop {
-    // The values of the definitions, the one that an item stands for, and the one that a line does, if it does.
+    // The values of the definitions, the value of an item, and the value of a line, if it has one.
     ghost Value: { Type 0 };
 
     ghost value: { Self → Value };

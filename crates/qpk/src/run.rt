@@ -14,8 +14,8 @@ use h3_qpack::dynamic;
 use h3_qpack::session::{Event, Session};
 use std::alloc::{AllocError, Global};
 
-/// Runs the events of a script, a line each, on a session with this capacity in bytes and this limit of blocked blocks;
-/// answers what they print. The script is read whole before the session begins.
+/// Runs the events of a script, a line each, on a session with this capacity in bytes and this limit of blocked blocks,
+/// and returns what they print. It reads the whole script before the session begins.
 pub fn run_script(
     alloc: Global,
     capacity: usize,
@@ -88,7 +88,7 @@ fn written_stream<'a>(session: &'a Session, event: &Event) -> &'a [u8]
     }
 }
 
-/// The newest block of the stream that is encoded for, empty if there is none.
+/// Returns the newest block of the stream that is encoded for, empty if there is none.
 fn made_block<'a>(session: &'a Session, event: &Event) -> &'a [u8]
     ensures { result.now ≡ stored_block_bytes (event_of event.now) session.now }
 {

@@ -14,7 +14,7 @@ pub(crate) mod parts;
 
 use parts::{read_field_parts, read_number, split_part};
 
-/// The events of a script, a line each; or the first line that is none.
+/// Returns the events of a script, a line each, or the first line that is no event.
 pub fn read_script(alloc: Global, text: &[u8]) -> Result<Vec<Event>, Fault>
     ensures { ReadsScript result (script_events text.now) }
 {

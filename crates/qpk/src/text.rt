@@ -31,11 +31,11 @@ pub enum Fault {
     BadEvent(usize),
     /// The text is no hexadecimal.
     NotHexadecimal,
-    /// Bytes were not decoded: those that the text stands for, or those of an event.
+    /// Bytes were not decoded: those of the text in hexadecimal, or those of an event.
     Refused(DecoderError),
     /// A table may not have this capacity.
     Capacity,
-    /// So many blocks may not be blocked.
+    /// The limit of blocked blocks is too large.
     Limit,
     /// Header lists were not encoded to a recording, or a recording was not decoded.
     Recording(session::Fault),
@@ -158,8 +158,8 @@ impl FromLine for HeaderField {
     }
 }
 
-/// The fields of the block that the text stands for in hexadecimal, in either case, with or without
-/// a line feed at its end, up to a sum of sizes.
+/// Returns the fields of the block that the text has in hexadecimal, in either case, with or without a line feed at its
+/// end, up to a sum of sizes.
 pub fn decode_text(alloc: Global, text: &[u8], max_size: u64) -> Result<Decoded, Fault>
     ensures { DecodesText result max_size (decode_of (without_feed text.now)) }
 {

@@ -9,7 +9,7 @@ use qpk_qif::lines::split_field;
 use std::alloc::Global;
 use std::str;
 
-/// The first part, and what stands behind its TAB, if it has one.
+/// Returns the first part, and the text after its TAB, if it has one.
 pub fn split_part(text: &[u8]) -> (&[u8], Option<&[u8]>)
     ensures { parts_of text.now ≡ result.0.now ∷ parts_behind result.1 }
 {
