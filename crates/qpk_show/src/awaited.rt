@@ -25,11 +25,11 @@ pub enum HearingFault {
     ZeroIncrement,
     /// It raises the known received count by this, above the insertions made (RFC 9204, section 4.4.3).
     PastInsertions(usize),
-    /// It acknowledges a section of this stream, which has none that waits (RFC 9204, section 4.4.1).
+    /// It acknowledges a section of this stream, on which none waits (RFC 9204, section 4.4.1).
     UnknownStream(u64),
 }
 
-/// What the decoder stream may tell.
+/// What the decoder stream may report.
 #[derive(Debug, Drop)]
 pub(crate) struct Awaited {
     /// How many insertions are known to be received.

@@ -103,9 +103,9 @@ impl Model for Observer {
 }
 
 impl Observer {
-    /// An onlooker to whom nothing came, of a connection with this maximum table capacity in bytes, where so many
-    /// streams may be blocked. The table begins at capacity 0 (RFC 9204, section 3.2.2). A maximum from 2^30 on is
-    /// refused.
+    /// Returns an onlooker who has seen nothing, of a connection with this maximum table capacity in bytes and this
+    /// limit of blocked streams. The table begins at capacity 0 (RFC 9204, section 3.2.2). Returns `None` if the
+    /// maximum is 2^30 or more.
     pub fn new(alloc: Global, maximum: usize, limit: usize) -> Option<Observer>
         ensures { MatchOption result (2 ^ 30 ≤ maximum)
             (λ o. (maximum < 2 ^ 30) × (o ≡ observed_at_first maximum limit)) }
@@ -124,21 +124,21 @@ impl Observer {
         })
     }
 
-    /// The table behind the instructions that were shown.
+    /// Returns the table after the instructions that were shown.
     pub fn table(&self) -> &ReceivedTable
         ensures { result.now ≡ self.now.table }
     {
         &self.table
     }
 
-    /// The front of an encoder instruction that does not stand whole, where nothing is to be shown.
+    /// Returns the front of an encoder instruction that is not whole, once there is nothing to show.
     pub fn encoder_cut(&self) -> Option<Cut>
         ensures { result ≡ cut_of self.now.encoder_stream }
     {
         self.encoder_stream.cut()
     }
 
-    /// The front of a decoder instruction that does not stand whole, where nothing is to be shown.
+    /// Returns the front of a decoder instruction that is not whole, once there is nothing to show.
     pub fn decoder_cut(&self) -> Option<Cut>
         ensures { result ≡ cut_of self.now.decoder_stream }
     {
@@ -189,7 +189,7 @@ impl Observer {
         drop_stream(&mut self.arrived, stream);
     }
 
-    /// Shows the next thing, or none where more has to come. For want of memory what is left is unspecified.
+    /// Shows the next thing, or `None` if more has to come. If memory runs out, what is left is unspecified.
     #[tactic(auto, unfolding(crate::specs::Showing::next_shown))]
     pub fn next(&mut self) -> Result<Option<Shown>, NoMemory>
         ensures { ShowsNext result self.old self.new (next_shown self.old) }
@@ -343,7 +343,7 @@ impl Observer {
         }
     }
 
-    /// Holds a decoder instruction that was taken against the sections and insertions before it. On error the stream ends.
+    /// Checks a decoder instruction that was read by the sections and insertions before it. On error the stream ends.
     fn show_told(&mut self, offset: usize, line: DecoderLine) -> Shown
         ensures { ShowsOne (Ok result) self.new (Some (heard self.old offset (decoder_instruction_of line)
             self.old.decoder_stream (hear (insert_count self.old.table) self.old.awaited

@@ -82,10 +82,10 @@ pub enum Reading {
         base: usize,
         /// The lines that mean a field, in order.
         lines: Vec<LineShown>,
-        /// The line behind them that means none, if there is one.
+        /// The line after them that means no field, if there is one.
         stop: Option<Stop>,
     },
-    /// It waits for so many insertions.
+    /// It waits for this many insertions.
     Blocked(usize),
     /// It is refused for its prefix.
     Refused(PrefixRefusal),
@@ -111,7 +111,7 @@ enum LineError {
     Memory,
 }
 
-/// The error of bytes that are no line; want of memory stays what it is.
+/// Returns the error of bytes that are no line; out of memory stays itself.
 fn unreadable(e: ParseError) -> LineError
     ensures { result ≡ unreadable_line e }
 {
@@ -121,7 +121,7 @@ fn unreadable(e: ParseError) -> LineError
     }
 }
 
-/// The error of a line that means nothing; want of memory stays what it is.
+/// Returns the error of a line without a meaning; out of memory stays itself.
 fn meaningless(e: DecoderError) -> LineError
     ensures { result ≡ meaningless_line e }
 {
@@ -328,7 +328,7 @@ pub fn read_section(table: &ReceivedTable, section: &[u8]) -> Result<Reading, No
     }
 }
 
-/// Reads a section of this length behind its prefix.
+/// Reads a section of this length after its prefix.
 fn read_behind(
     table: &ReceivedTable,
     section: usize,

@@ -71,7 +71,7 @@ impl Stream {
         })
     }
 
-    /// Appends bytes. On error, which is want of memory alone, nothing changes.
+    /// Appends bytes. On error, which is `Memory` only, nothing changes.
     pub fn receive(&mut self, bytes: &[u8]) -> Result<(), AllocError>
         ensures ok { OnOk result (self.new ≡ record self.old { received = self.old.received ++ bytes.now }) }
         ensures err { OnErr result (self.new ≡ self.old) }
@@ -86,8 +86,8 @@ impl Stream {
         self.is_refused = true;
     }
 
-    /// Takes the next line, or none where none stands whole. At bytes that are no line the stream is refused, and no
-    /// line is taken of it any more.
+    /// Takes the next line, or `None` if none is whole. At bytes that are no line the stream is refused, and no more
+    /// lines are taken of it.
     pub fn next<W: Wire>(&mut self, alloc: Global) -> Result<Option<W>, ParseError>
         ensures answers { AnswersLine W.line_of self.new result (next_of W.read self.old) }
         ensures stays { result ≡ Ok None → self.new ≡ self.old }
