@@ -3,7 +3,7 @@
 ghost use Rattle.std.specs.Prelude.{◌≡◌, ◌+◌, ◌<◌, ◌==◌, ◌∷◌, ℕ, Some, None, MatchOption, length, take, drop, position};
 ghost use Rattle.qpk_qif.specs.Lines.{lines_of, field_of_line};
 
-/// What stands before the first such byte, and what stands behind it.
+/// Returns the bytes before the first such byte, and those after it.
 fn split_at_byte(bytes: &[u8], byte: u8) -> Option<(&[u8], &[u8])>
     ensures { MatchOption result (position (λ b. b == byte) bytes.now ≡ None) (λ parts. (index : ℕ)
         × (position (λ b. b == byte) bytes.now ≡ Some index)
@@ -20,7 +20,7 @@ fn index_of(bytes: &[u8], byte: u8) -> Option<usize>
     bytes.iter().position(|b| *b == byte)
 }
 
-/// The first line of a text that is not empty, without its line feed, and what stands behind it.
+/// Returns the first line of a text that is not empty, without its line feed, and the text after it.
 pub fn split_line(text: &[u8]) -> (&[u8], &[u8])
     requires { 0 < length text.now }
     ensures lines { lines_of text.now ≡ result.0.now ∷ lines_of result.1.now }

@@ -343,7 +343,7 @@ impl Observer {
         }
     }
 
-    /// Checks a decoder instruction that was read by the sections and insertions before it. On error the stream ends.
+    /// Checks a decoder instruction against the sections and insertions before it. On error the stream ends.
     fn show_told(&mut self, offset: usize, line: DecoderLine) -> Shown
         ensures { ShowsOne (Ok result) self.new (Some (heard self.old offset (decoder_instruction_of line)
             self.old.decoder_stream (hear (insert_count self.old.table) self.old.awaited

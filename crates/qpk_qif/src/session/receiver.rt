@@ -35,7 +35,7 @@ pub(super) struct Receiver {
     decoder: Decoder,
     /// How many streams may be blocked.
     limit: usize,
-    /// What came of an instruction that does not stand whole yet.
+    /// The bytes of an instruction that is not whole yet.
     pending: Vec<u8>,
     /// The number of the last record of the encoder stream.
     number: usize,
@@ -95,7 +95,7 @@ impl Receiver {
         Ok(())
     }
 
-    /// Takes the instructions that stand whole.
+    /// Applies the whole instructions.
     fn take_instructions(&mut self, alloc: Global) -> Result<(), Fault> {
         let mut unsent = Vec::new(alloc);
         let mut cursor = Cursor::new(&self.pending);
@@ -130,7 +130,7 @@ impl Receiver {
         Ok(())
     }
 
-    /// Reads the block of a stream and a record, and answers whether it was read; else it waits for insertions.
+    /// Reads the block of a stream and a record, and returns whether it was read; otherwise it waits for insertions.
     fn read(&mut self, stream: u64, number: usize, bytes: &[u8]) -> Result<bool, Fault> {
         match self.decoder.decode_header(&mut Cursor::new(bytes)) {
             Ok(decoded) => {

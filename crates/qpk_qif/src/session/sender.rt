@@ -85,7 +85,7 @@ impl Sender {
         Ok(())
     }
 
-    /// Hears what a decoder writes that received so many insertions and then decoded the block of a stream with this
+    /// Hears what a decoder writes that received this many insertions and then decoded the block of a stream with this
     /// required insert count.
     fn acknowledge(
         &mut self,
