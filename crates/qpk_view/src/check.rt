@@ -30,8 +30,8 @@ pub struct CheckOptions {
     pub settings: Settings,
 }
 
-/// Judges a recording: a finding a line, or one line that says that there is none. Refused are a maximum capacity from
-/// 2^30 on, and an input that is no recording.
+/// Judges a recording: a finding a line, or one line that says that there is none. Fails if the maximum capacity is
+/// 2^30 or more, or if the input is no recording.
 pub fn check(alloc: Global, options: CheckOptions, input: &[u8]) -> Result<View, Fault> {
     let recording = read_recording(alloc, options.qif, input)?;
     let mut judge = Judge {
@@ -88,7 +88,7 @@ struct Waiting {
     end: Option<End>,
 }
 
-/// What was seen of one encoder and of the decoder that answers it.
+/// What was seen of one encoder and of its decoder.
 #[derive(Drop)]
 struct Judged {
     encoder_instructions: usize,
@@ -165,7 +165,7 @@ impl Judged {
     }
 }
 
-/// Someone who is shown a recording, and judges it.
+/// A watcher that judges a recording.
 #[derive(Drop)]
 struct Judge {
     report: Report,
@@ -216,7 +216,7 @@ impl Judge {
     }
 }
 
-/// Judges what is seen of an encoder, and of the decoder that answers it.
+/// Judges what is seen of an encoder and of its decoder.
 fn judge_sight(
     alloc: Global,
     judged: &mut Judged,

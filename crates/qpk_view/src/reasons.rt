@@ -61,7 +61,7 @@ pub(crate) fn push_encoder_hint(
     Ok(())
 }
 
-/// The same of the decoder stream.
+/// Appends that the decoder stream may begin with its type, if its first instruction is what that would be.
 pub(crate) fn push_decoder_hint(
     text: &mut String,
     offset: usize,
