@@ -31,7 +31,8 @@ pub record RefinesSection (k : SentSection) (b : AbstractBlock) : Type 0 where
   pub are_bytes : AllByRecursion IsByteField (fields_of_lines k.fields)
   pub short : length k.bytes < 2 ^ 63
 
--- a request stream's sections are those, and as many of them are decoded and acknowledged
+-- a request stream's sections are those, as many of them are decoded and acknowledged, and it is cancelled if that one
+-- is
 pub record RefinesStream (k : RequestStream SentSection) (st : AbstractStream) : Type 0 where
   pub sections : Agrees RefinesSection k.blocks st.blocks
   pub decoded_is : k.decoded ≡ st.decoded
