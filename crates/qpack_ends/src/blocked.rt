@@ -89,7 +89,7 @@ impl BlockedStreams {
         }
     }
 
-    /// The stream is there no more.
+    /// Removes the stream.
     pub(crate) fn forget(&mut self, stream: u64)
         ensures others { self.new ≡ without stream self.old }
         ensures few { (inserted : ℕ) → blocked_among inserted self.new ≤ blocked_among inserted self.old }
@@ -110,7 +110,7 @@ impl BlockedStreams {
         Some(first.stream)
     }
 
-    /// Whether as many streams are blocked as may be. They are counted only where there are as many.
+    /// Returns whether as many streams are blocked as may be. It counts them only if there are that many.
     fn is_full(&self, inserted: usize, most: usize) -> bool
         ensures { result ≡ nat_le most (blocked_among inserted self.now) }
     {
@@ -127,7 +127,7 @@ impl BlockedStreams {
         }
     }
 
-    /// How many insertions a stream waits for, if it is there.
+    /// Returns how many insertions a stream waits for, if it is there.
     fn required(&self, stream: u64) -> Option<usize>
         ensures { result ≡ required_of stream self.now }
     {

@@ -98,7 +98,7 @@ impl DecodingError {
         }
     }
 
-    /// The error of an encoder stream.
+    /// Returns the error of an encoder stream.
     fn of_stream(error: EncoderStreamError) -> DecodingError
         ensures { result ≡ stream_failure error }
     {
@@ -164,9 +164,9 @@ impl Model for ConnectionDecoder {
 }
 
 impl ConnectionDecoder {
-    /// A decoding end that sends these settings. Its table has the capacity 0 until the peer sets one (RFC 9204,
-    /// section 3.2.3). Refused are a maximum capacity of 2^30 bytes or more, and then a limit of 65,535 blocked streams
-    /// or more. Takes no memory.
+    /// Returns a decoding end that sends these settings. Its table has capacity 0 until the peer sets another (RFC
+    /// 9204, section 3.2.3). Fails if the maximum capacity is 2^30 bytes or more, then if the limit is 65,535 blocked
+    /// streams or more. Takes no memory.
     pub fn new(alloc: Global, settings: DecoderSettings) -> Result<ConnectionDecoder, SettingsError>
         ensures ok { IfOk result (λ d. Begins settings d) }
         ensures err { IfErr result (FailsSettings settings) }
@@ -186,28 +186,28 @@ impl ConnectionDecoder {
         })
     }
 
-    /// The settings.
+    /// Returns the settings.
     pub fn settings(&self) -> DecoderSettings
         ensures { result ≡ self.now.settings }
     {
         self.settings
     }
 
-    /// The table.
+    /// Returns the table.
     pub fn table(&self) -> &ReceivedTable
         ensures { result.now ≡ self.now.table }
     {
         &self.table
     }
 
-    /// The error that ended the connection, if one did.
+    /// Returns the error that ended the connection, if one did.
     pub fn failure(&self) -> Option<DecodingError>
         ensures { result ≡ self.now.failure }
     {
         self.failure
     }
 
-    /// How many streams are blocked: those that wait for insertions yet.
+    /// Returns how many streams are blocked: those that still wait for insertions.
     pub fn blocked(&self) -> usize
         ensures exact { result ≡ blocked_streams self.now }
         ensures few { result ≤ self.now.settings.max_blocked }
@@ -222,7 +222,7 @@ impl ConnectionDecoder {
         self.stream.waiting()
     }
 
-    /// The bytes of the decoder stream that are to be sent, in order (RFC 9204, section 4.4).
+    /// Returns the bytes of the decoder stream that are to be sent, in order (RFC 9204, section 4.4).
     pub fn decoder_stream(&self) -> &[u8]
         ensures { result.now ≡ self.now.unsent }
     {
@@ -236,8 +236,8 @@ impl ConnectionDecoder {
         self.unsent.sent(many);
     }
 
-    /// A blocked stream of which the section can be decoded now: of those, the one that waited for the fewest insertions,
-    /// and of those with as many the one with the lowest number.
+    /// Returns a blocked stream whose section can now be decoded. If there are several, it is the one that waited for
+    /// the fewest insertions, and of those with as many the one with the lowest number.
     pub fn next_ready(&self) -> Option<u64>
         ensures { result ≡ ready (insert_count self.now.table) self.now.blocked }
     {
@@ -381,7 +381,7 @@ impl ConnectionDecoder {
         Ok(())
     }
 
-    /// A stream comes to be blocked; where it is one too many, that ends the connection.
+    /// Marks a stream as blocked, or ends the connection if it is one too many.
     fn block(&mut self, stream: u64, required: usize) -> Result<(), DecodingError>
         ensures { BlocksStream self.old self.new stream required result }
     {
@@ -420,7 +420,7 @@ impl ConnectionDecoder {
     }
 }
 
-/// An empty table of capacity 0, with this maximum capacity.
+/// Returns an empty table of capacity 0, with this maximum capacity.
 fn new_table(alloc: Global, max_capacity: usize) -> Result<ReceivedTable, SettingsError>
     ensures ok { IfOk result (λ t. (max_capacity < 2 ^ 30) × (t ≡ empty_table 0 (Some max_capacity) 0)) }
     ensures err { IfErr result (λ e. (e ≡ CapacityTooLarge) × (2 ^ 30 ≤ max_capacity)) }

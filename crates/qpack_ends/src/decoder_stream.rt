@@ -49,7 +49,7 @@ pub struct DecoderStreamError {
 }
 
 impl DecoderStreamError {
-    /// The code of the error that ends the connection (RFC 9204, section 6).
+    /// Returns the code of the error that ends the connection (RFC 9204, section 6).
     pub fn code(&self) -> u64
         ensures { result ≡ decoder_stream_error }
     {
@@ -79,7 +79,7 @@ impl Model for DecoderStream {
 }
 
 impl DecoderStream {
-    /// A stream of which nothing was received.
+    /// Returns a stream of which nothing was received.
     pub fn new() -> DecoderStream
         ensures { Receives [] [] result }
     {
@@ -89,7 +89,7 @@ impl DecoderStream {
         }
     }
 
-    /// How many bytes wait: those of an instruction that is not whole, which are nine at most.
+    /// Returns how many bytes wait: those of an instruction that is not whole, which are nine at most.
     pub fn waiting(&self) -> usize
         ensures exact { result ≡ length self.now.pending }
         ensures few { result < 10 }
@@ -206,7 +206,7 @@ fn raise(table: &mut DynamicTable, increment: usize) -> Result<(), HearingError>
     Ok(())
 }
 
-/// Whether an increment raises the known received count above the insertions that were made.
+/// Returns whether an increment raises the known received count above the insertions that were made.
 fn is_past_insertions(table: &DynamicTable, increment: usize) -> bool
     ensures { result ≡ nat_lt (insert_count table.now) (table.now.known_received_count + increment) }
 {
@@ -232,7 +232,7 @@ fn acknowledge(table: &mut DynamicTable, stream_id: u64) -> Result<(), HearingEr
     }
 }
 
-/// The known received count is at least this.
+/// Raises the known received count to at least this.
 fn raise_to(table: &mut DynamicTable, count: usize)
     ensures { table.new ≡ known_at_least count table.old }
 {

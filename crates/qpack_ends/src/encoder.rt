@@ -168,7 +168,7 @@ impl EncodingError {
         }
     }
 
-    /// The error of a capacity that was not set.
+    /// Returns the error of a capacity that was not set.
     fn of_capacity(error: EncoderError) -> EncodingError
         ensures { result ≡ capacity_failure error }
     {
@@ -250,36 +250,36 @@ impl ConnectionEncoder {
         })
     }
 
-    /// The settings, as they were given.
+    /// Returns the settings, as they were passed.
     pub fn settings(&self) -> EncoderSettings
         ensures { result ≡ self.now.settings }
     {
         self.settings
     }
 
-    /// The table.
+    /// Returns the table.
     pub fn table(&self) -> &DynamicTable
         ensures { result.now ≡ self.now.table }
     {
         &self.table.table
     }
 
-    /// The error that ended the connection, if one did.
+    /// Returns the error that ended the connection, if one did.
     pub fn failure(&self) -> Option<EncodingError>
         ensures { result ≡ self.now.failure }
     {
         self.failure
     }
 
-    /// How many sections wait for acknowledgments, of all streams (RFC 9204, section 4.4.1).
+    /// Returns how many sections wait for acknowledgments, of all streams (RFC 9204, section 4.4.1).
     pub fn unacknowledged(&self) -> usize
         ensures { result ≡ length self.now.table.unacknowledged }
     {
         self.table.table.unacknowledged_blocks()
     }
 
-    /// How many streams may be blocked: those with a section that is neither acknowledged nor cancelled, and requires
-    /// insertions which the peer is not known to have received (RFC 9204, section 2.1.2).
+    /// Returns how many streams may be blocked: those with a section that is neither acknowledged nor cancelled, and
+    /// requires insertions which the peer is not known to have received (RFC 9204, section 2.1.2).
     pub fn blocked(&self) -> usize
         ensures { result ≡ length (streams_at_risk self.now.table) }
     {
@@ -294,7 +294,7 @@ impl ConnectionEncoder {
         self.stream.waiting()
     }
 
-    /// The bytes of the encoder stream that are to be sent, in order (RFC 9204, section 4.3).
+    /// Returns the bytes of the encoder stream that are to be sent, in order (RFC 9204, section 4.3).
     pub fn encoder_stream(&self) -> &[u8]
         ensures { result.now ≡ self.now.unsent }
     {
@@ -495,7 +495,7 @@ impl ConnectionEncoder {
         Ok(())
     }
 
-    /// Whether as many sections wait for acknowledgments as may.
+    /// Returns whether as many sections wait for acknowledgments as may.
     fn is_full(&self) -> bool
         ensures { result ≡ is_full self.now }
     {
@@ -634,7 +634,7 @@ fn agree_on(table: &mut DynamicTable, maximum: usize)
     }
 }
 
-/// An empty table of capacity 0, with the maximum capacity of these settings.
+/// Returns an empty table of capacity 0, with the maximum capacity of these settings.
 fn new_table(alloc: Global, settings: EncoderSettings) -> Result<DynamicTable, SettingsError>
     ensures ok { IfOk result (λ t. (settings.max_capacity < 2 ^ 30)
         × (t ≡ empty_table 0 (Some settings.max_capacity) 4096)) }

@@ -54,7 +54,7 @@ impl EncoderStreamError {
         }
     }
 
-    /// The error of the instruction at this place.
+    /// Returns the error of the instruction at this place.
     fn at(place: Place, error: DecoderError) -> EncoderStreamError
         ensures { result ≡ stream_error_at place error }
     {
@@ -86,7 +86,7 @@ impl Model for EncoderStream {
 }
 
 impl EncoderStream {
-    /// A stream of which nothing was received. Takes no memory.
+    /// Returns a stream of which nothing was received. Takes no memory.
     pub fn new(alloc: Global) -> EncoderStream
         ensures { (table : Table) → Receives table table [] result }
     {
@@ -97,8 +97,8 @@ impl EncoderStream {
         }
     }
 
-    /// How many bytes wait: those of an instruction that is not whole, and where memory was refused one after it for each
-    /// call.
+    /// Returns how many bytes wait: those of an instruction that is not whole, and, after memory was refused, one more
+    /// for each call.
     pub fn waiting(&self) -> usize
         ensures { result ≡ length self.now.pending }
     {
@@ -271,7 +271,7 @@ fn take_strictly<I: EntryIndex>(
     take_instruction(table, buf)
 }
 
-/// Whether the bytes begin an insertion at capacity 0 (RFC 9204, section 3.2.2).
+/// Returns whether the bytes begin an insertion at capacity 0 (RFC 9204, section 3.2.2).
 fn begins_unlawfully<I: EntryIndex>(table: &DynamicTable<I>, bytes: &[u8]) -> bool
     ensures { result ≡ begins_unlawfully table.now bytes.now }
 {
@@ -296,7 +296,7 @@ fn find_wanted<I: EntryIndex>(
     Ok(stream::wanted(pending))
 }
 
-/// The error that a field does not fit.
+/// Returns the error that a field does not fit.
 fn does_not_fit() -> DecoderError
     ensures { result ≡ DynamicTableError MaxTableSizeReached }
 {

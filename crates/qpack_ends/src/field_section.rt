@@ -33,7 +33,7 @@ pub(crate) struct Span {
     pub(crate) never_indexed: bool,
 }
 
-/// The field of a span.
+/// Returns the field of a span.
 fn field_at<'a>(text: &'a [u8], span: &Span) -> FieldLine<'a>
     requires { IsWithin (length text.now) span.now }
     ensures { line_of result ≡ field_of_span text.now span.now }
@@ -71,7 +71,7 @@ impl Model for FieldSection {
 }
 
 impl FieldSection {
-    /// A section without fields. Takes no memory.
+    /// Returns a section without fields. Takes no memory.
     pub fn new(alloc: Global) -> FieldSection
         ensures { result ≡ record { fields = []; text_room = 0; fields_room = 0 } }
     {
@@ -81,28 +81,28 @@ impl FieldSection {
         }
     }
 
-    /// How many fields there are.
+    /// Returns how many fields there are.
     pub fn len(&self) -> usize
         ensures { result ≡ length self.now.fields }
     {
         self.spans.len()
     }
 
-    /// Whether there is no field.
+    /// Returns whether there is no field.
     pub fn is_empty(&self) -> bool
         ensures { result ≡ nat_eq (length self.now.fields) 0 }
     {
         self.spans.is_empty()
     }
 
-    /// The field at an index, from 0.
+    /// Returns the field at an index, from 0.
     pub fn get(&self, index: usize) -> Option<FieldLine<'_>>
         ensures { option_map line_of result ≡ slice_get self.now.fields index }
     {
         self.iter().at(index)
     }
 
-    /// The fields, in the order of their lines.
+    /// Returns the fields, in the order of their lines.
     #[tactic(auto, using(crate::proofs::SpansInTurn::all_within))]
     pub fn iter(&self) -> Fields<'_>
         ensures { result ≡ self.now.fields }
@@ -186,7 +186,7 @@ impl<'a> Model for Fields<'a> {
 }
 
 impl<'a> Fields<'a> {
-    /// The field at an index of those that are still to come, from 0.
+    /// Returns the field at an index of those that are still to come, from 0.
     fn at(&self, index: usize) -> Option<FieldLine<'a>>
         ensures { option_map line_of result ≡ slice_get self.now index }
     {

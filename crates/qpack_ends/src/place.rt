@@ -13,7 +13,7 @@ pub struct Place {
 }
 
 impl Place {
-    /// The first instruction's place.
+    /// Returns the first instruction's place.
     pub fn first() -> Place
         ensures { result ≡ first_place }
     {

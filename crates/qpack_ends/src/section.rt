@@ -128,7 +128,7 @@ impl From<DecoderError> for LineError {
 impl From<ParseError> for SectionError {
     ghost from_gives = { λ e r. r ≡ section_error_of e };
 
-    /// The error of a prefix.
+    /// Returns the error of a prefix.
     fn from(e: ParseError) -> SectionError {
         match DecoderError::from(e) {
             DecoderError::Memory => SectionError::Memory,
@@ -137,7 +137,7 @@ impl From<ParseError> for SectionError {
     }
 }
 
-/// The most bytes that a section can have whose fields' sizes sum to this many, at most 2^64 - 1.
+/// Returns the most bytes that a section can have whose fields' sizes sum to this many, at most 2^64 - 1.
 pub fn longest_section(size: u64) -> u64
     ensures { result ≡ min (longest size) (2 ^ 64 - 1) }
 {
@@ -228,7 +228,7 @@ fn read_behind<I: EntryIndex>(
     Ok(Reading::Fields { required })
 }
 
-/// Whether a prefix has a count where the maximum capacity is 0 (RFC 9204, section 4.5.1.1).
+/// Returns whether a prefix has a count where the maximum capacity is 0 (RFC 9204, section 4.5.1.1).
 fn counts_at_zero(prefix: &HeaderPrefix, maximum: usize) -> bool
     ensures { result ≡ (nat_eq maximum 0 && nat_lt 0 (prefix_of prefix.now).count) }
 {

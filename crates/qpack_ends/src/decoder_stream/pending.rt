@@ -25,7 +25,7 @@ impl Model for Pending {
 }
 
 impl Pending {
-    /// No bytes.
+    /// Returns an empty list of bytes.
     pub(crate) fn new() -> Pending
         ensures { result ≡ [] }
     {
@@ -35,7 +35,7 @@ impl Pending {
         }
     }
 
-    /// The bytes.
+    /// Returns the bytes.
     pub(crate) fn as_slice(&self) -> &[u8]
         ensures { result.now ≡ self.now }
     {

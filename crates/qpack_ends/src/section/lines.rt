@@ -365,7 +365,7 @@ fn append_literal(most: usize, buf: &mut Cursor, text: &mut Vec<u8>) -> Result<L
     Ok(Lengths { name, value })
 }
 
-/// Whether the first byte of a line asks that its field stay a literal (RFC 9204, sections 4.5.4 to 4.5.6).
+/// Returns whether the first byte of a line asks that its field stay a literal (RFC 9204, sections 4.5.4 to 4.5.6).
 #[tactic(auto, unfolding(qpack_spec::specs::StrictReading::is_never_indexed))]
 fn is_never_indexed(first: u8) -> bool
     ensures { result ≡ is_never_indexed first }
@@ -381,7 +381,7 @@ fn is_never_indexed(first: u8) -> bool
     }
 }
 
-/// How many bytes a field may have so that the sizes, which have this sum so far, don't pass the limit with it.
+/// Returns how many bytes a field may have so that the sizes, which have this sum so far, don't pass the limit with it.
 fn most_of_field(limit: u64, sum: u64) -> usize
     ensures { result ≡ limit - sum - 32 }
 {
