@@ -64,7 +64,7 @@ impl<I: EntryIndex> Model for Decoder<I> {
 impl<I: EntryIndex> From<DynamicTable<I>> for Decoder<I> {
     ghost from_gives = { λ t d. d ≡ record { table = t; unreported = 0 } };
 
-    /// A decoder over a table, the insertions of which are reported.
+    /// Returns a decoder over a table, the insertions of which are reported.
     fn from(table: DynamicTable<I>) -> Decoder<I> {
         Decoder {
             table,
@@ -74,7 +74,7 @@ impl<I: EntryIndex> From<DynamicTable<I>> for Decoder<I> {
 }
 
 impl<I: EntryIndex> Decoder<I> {
-    /// The table.
+    /// Returns the table.
     pub fn table(&self) -> &DynamicTable<I>
         ensures { result.now ≡ self.now.table }
     {

@@ -55,7 +55,7 @@ impl<D: WritesSections> Model for Encoder<D> {
 impl From<DynamicTable> for Encoder {
     ghost from_gives = { λ t e. e ≡ t };
 
-    /// An encoder over a table.
+    /// Returns an encoder over a table.
     fn from(table: DynamicTable) -> Encoder {
         Encoder {
             table: EncoderTable { table },
@@ -64,14 +64,14 @@ impl From<DynamicTable> for Encoder {
 }
 
 impl Encoder {
-    /// An encoder over an empty table, of capacity 0 and with no block that may be blocked.
+    /// Returns an encoder over an empty table, of capacity 0 and with no block that may be blocked.
     pub fn new(alloc: Global) -> Encoder
         ensures { result ≡ empty_table 0 None 0 }
     {
         Encoder::from(DynamicTable::new(alloc))
     }
 
-    /// The table.
+    /// Returns the table.
     pub fn table(&self) -> &DynamicTable
         ensures { result.now ≡ self.now }
     {

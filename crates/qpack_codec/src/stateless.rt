@@ -161,7 +161,7 @@ fn read_stateless_field(
     }
 }
 
-/// The field that a line means without a dynamic table.
+/// Returns the field that a line means without a dynamic table.
 #[tactic(auto, unfolding(qpack_spec::specs::Reading::static_field))]
 fn stateless_field_of_line(line: BlockLine) -> Result<HeaderField, DecoderError>
     ensures { GivesStatelessField result (stateless_field (line_of line)) }

@@ -73,7 +73,7 @@ fn is_passed(answer: &Result<(), DecoderError>) -> bool
     }
 }
 
-/// Whether an error of the table refuses what an instruction asks for, and no index.
+/// Returns whether an error of the table refuses what an instruction asks for, and no index.
 fn is_refused_by_table(e: &dynamic::Error) -> bool
     ensures { result ≡ is_passed (Err (DynamicTableError e.now)) }
 {
@@ -113,7 +113,7 @@ fn apply_encoder_line<I: EntryIndex>(
     }
 }
 
-/// The field that an insertion with a name reference asks for (RFC 9204, section 4.3.2).
+/// Returns the field that an insertion with a name reference asks for (RFC 9204, section 4.3.2).
 #[tactic(auto, unfolding(qpack_spec::specs::Table::apply_encoder_instruction))]
 fn with_name<I: EntryIndex>(
     table: &DynamicTable<I>,
@@ -131,7 +131,7 @@ fn with_name<I: EntryIndex>(
     }
 }
 
-/// The field that a duplicate asks for (RFC 9204, section 4.3.4).
+/// Returns the field that a duplicate asks for (RFC 9204, section 4.3.4).
 #[tactic(auto, unfolding(qpack_spec::specs::Table::apply_encoder_instruction))]
 fn duplicated<I: EntryIndex>(
     table: &DynamicTable<I>,

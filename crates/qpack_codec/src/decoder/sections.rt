@@ -102,7 +102,7 @@ fn read_field<I: EntryIndex>(
     field_of_line(table, line)
 }
 
-/// The field that a line means (RFC 9204, sections 4.5.2 to 4.5.6).
+/// Returns the field that a line means (RFC 9204, sections 4.5.2 to 4.5.6).
 #[tactic(auto, unfolding(qpack_spec::specs::Reading::line_field))]
 fn field_of_line<I: EntryIndex>(
     table: &DynamicTableDecoder<'_, I>,
@@ -121,7 +121,7 @@ fn field_of_line<I: EntryIndex>(
     }
 }
 
-/// The field that an indexed field line means.
+/// Returns the field that an indexed field line means.
 #[inline(always)]
 #[tactic(auto, unfolding(qpack_spec::specs::Reading::line_field, qpack_spec::specs::Reading::static_field))]
 fn field_of_indexed<I: EntryIndex>(
@@ -137,7 +137,7 @@ fn field_of_indexed<I: EntryIndex>(
     }
 }
 
-/// The field that a literal field line with a name reference means.
+/// Returns the field that a literal field line with a name reference means.
 #[inline(always)]
 #[tactic(auto, unfolding(qpack_spec::specs::Reading::line_field, qpack_spec::specs::Reading::static_field))]
 fn field_of_literal_with_name_ref<I: EntryIndex>(

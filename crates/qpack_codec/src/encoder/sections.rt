@@ -26,7 +26,7 @@ pub trait WritesSections {
     // The table.
     ghost table: { Self → Table };
 
-    /// What the table takes its memory of.
+    /// Returns the allocator of the table.
     fn memory(&self) -> Global;
 
     /// Encodes a field section of borrowed field lines for a stream, as `Encoder::encode` does; only inserted fields
@@ -219,7 +219,7 @@ pub(super) fn encode_items<
     }
 }
 
-/// What an iterator gives, in order.
+/// Collects what an iterator gives, in order.
 fn gather<H: Drop, T: Iterator<Item = H> + Drop>(
     alloc: Global,
     fields: T,
