@@ -37,7 +37,7 @@ impl DynamicTable {
         Ok(())
     }
 
-    /// The greatest absolute index that the block in progress references, 0 if it references none.
+    /// Returns the greatest absolute index that the block in progress references, 0 if it references none.
     pub(super) fn greatest_reference(&self) -> usize
         ensures exact { result ≡ greatest_of self.now.referenced }
         ensures inserted { result ≤ insert_count self.now }
@@ -45,7 +45,7 @@ impl DynamicTable {
         greatest_in(&self.referenced)
     }
 
-    /// The block in progress is given up: what it references is referenced no more. It takes no memory.
+    /// Gives up the block in progress: what it references is referenced no more. It takes no memory.
     pub(super) fn release_references(&mut self)
         ensures { self.new ≡ without_references self.old }
     {
@@ -117,7 +117,7 @@ fn grow(numbers: &mut Vec<usize>) -> Result<(), AllocError>
     numbers.reserve(1)
 }
 
-/// The block in progress waits for an acknowledgment, if it references an entry. On error nothing changes.
+/// Keeps the block in progress until it is acknowledged, if it references an entry. On error nothing changes.
 fn open_block(
     entries: &mut VecDeque<Entry>,
     dropped: usize,
@@ -147,7 +147,7 @@ fn open_block(
     Ok(())
 }
 
-/// The greatest of these numbers, 0 if there are none.
+/// Returns the greatest of these numbers, 0 if there are none.
 pub(super) fn greatest_in(numbers: &[usize]) -> usize
     ensures { result ≡ greatest_of numbers.now }
 {

@@ -91,7 +91,7 @@ pub struct DynamicTableEncoder<'a> {
 }
 
 impl DynamicTableEncoder<'_> {
-    /// The capacity of the table in bytes. The live fields fit it.
+    /// Returns the capacity of the table in bytes. The live fields fit it.
     pub fn max_size(&self) -> usize
         ensures exact { result ≡ self.now.table.now.capacity }
         ensures most { result < 2 ^ 30 }
@@ -100,21 +100,21 @@ impl DynamicTableEncoder<'_> {
         self.table.max_mem_size()
     }
 
-    /// The base of the block, which is the insert count at its start.
+    /// Returns the base of the block, which is the insert count at its start.
     pub fn base(&self) -> usize
         ensures { result ≡ self.now.base }
     {
         self.base
     }
 
-    /// How many insertions were ever made.
+    /// Returns how many insertions were ever made.
     pub fn total_inserted(&self) -> usize
         ensures { result ≡ insert_count self.now.table.now }
     {
         self.table.total_inserted()
     }
 
-    /// The maximum capacity in bytes, which is at least the capacity (RFC 9204, section 3.2.3).
+    /// Returns the maximum capacity in bytes, which is at least the capacity (RFC 9204, section 3.2.3).
     pub fn agreed_max(&self) -> usize
         ensures exact { result ≡ maximum_capacity self.now.table.now.agreed_max self.now.table.now.capacity }
         ensures most { self.now.table.now.capacity ≤ result }
@@ -123,8 +123,8 @@ impl DynamicTableEncoder<'_> {
         self.table.agreed_max()
     }
 
-    /// The required insert count so far: the greatest absolute index that the block references, 0 if it references no
-    /// entry (RFC 9204, section 2.1.2).
+    /// Returns the required insert count so far: the greatest absolute index that the block references, 0 if it
+    /// references no entry (RFC 9204, section 2.1.2).
     pub fn required_insert_count(&self) -> usize
         ensures exact { result ≡ greatest_of self.now.table.now.referenced }
         ensures inserted { result ≤ insert_count self.now.table.now }
@@ -229,51 +229,52 @@ impl DynamicTableEncoder<'_> {
         self.table.insert_sought(self.base, field, found.sought())
     }
 
-    /// How many entries were evicted since the table was empty. The oldest live entry has the next absolute index.
+    /// Returns how many entries were evicted since the table was empty. The oldest live entry has the next absolute
+    /// index.
     pub fn total_dropped(&self) -> usize
         ensures { result ≡ self.now.table.now.dropped }
     {
         self.table.total_dropped()
     }
 
-    /// The sum of the live fields' sizes in bytes (RFC 9204, section 3.2.1).
+    /// Returns the sum of the live fields' sizes in bytes (RFC 9204, section 3.2.1).
     pub fn used(&self) -> usize
         ensures { result ≡ total_size (fields_in self.now.table.now.live) }
     {
         self.table.used()
     }
 
-    /// The size of a live entry in bytes, by its absolute index (RFC 9204, section 3.2.1).
+    /// Returns the size of a live entry in bytes, by its absolute index (RFC 9204, section 3.2.1).
     pub fn entry_size(&self, absolute: usize) -> Option<usize>
         ensures { result ≡ option_map field_size (absolute_entry (window self.now.table.now) absolute) }
     {
         self.table.entry_size(absolute)
     }
 
-    /// Whether an entry is live and equals a field, byte for byte.
+    /// Returns whether an entry is live and equals a field, byte for byte.
     pub fn is_equal(&self, absolute: usize, field: &FieldLine<'_>) -> bool
         ensures { result ≡ passes_at self.now.table.now (is_field (line_of field.now).field) absolute }
     {
         self.table.is_equal(absolute, field)
     }
 
-    /// Whether one more block may be blocked (RFC 9204, section 2.1.2).
+    /// Returns whether one more block may be blocked (RFC 9204, section 2.1.2).
     pub fn is_below_limit(&self) -> bool
         ensures { result ≡ below_limit self.now.table.now }
     {
         self.table.is_below_limit()
     }
 
-    /// Whether an entry may be referenced: one more block may be blocked, or the decoder is known to have received it
-    /// (RFC 9204, section 2.1.2).
+    /// Returns whether an entry may be referenced: one more block may be blocked, or the decoder is known to have
+    /// received it (RFC 9204, section 2.1.2).
     pub fn may_reference(&self, absolute: usize) -> bool
         ensures { result ≡ may_reference self.now.table.now absolute }
     {
         self.table.may_reference(absolute)
     }
 
-    /// Whether there is room for a field: it fits, insertions are left, and each entry that has to be evicted for it is
-    /// evictable (RFC 9204, section 2.1.1).
+    /// Returns whether there is room for a field: it fits, insertions are left, and each entry that has to be evicted
+    /// for it is evictable (RFC 9204, section 2.1.1).
     pub fn has_room(&self, field: &FieldLine<'_>) -> bool
         ensures { result ≡ has_room self.now.table.now (line_of field.now).field }
     {
@@ -290,7 +291,7 @@ impl DynamicTableEncoder<'_> {
         self.table.seek(field, static_name)
     }
 
-    /// The absolute index of the newest entry with the name of a field. Nothing is referenced.
+    /// Returns the absolute index of the newest entry with the name of a field. Nothing is referenced.
     #[inline(always)]
     pub fn newest_name(&self, field: &FieldLine<'_>, sought: &SoughtField) -> Option<usize>
         requires { AreHashesIn (line_of field.now).field sought.now }

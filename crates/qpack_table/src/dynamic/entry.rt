@@ -26,7 +26,7 @@ pub struct Entry {
     pub(super) uses: usize,
 }
 
-/// The position of the live entry with an absolute index.
+/// Returns the position of the live entry with an absolute index.
 fn position_of(entries: &VecDeque<Entry>, dropped: usize, absolute: usize) -> Option<usize>
     ensures found { IfSome result (λ position.
         (absolute ≡ dropped + position + 1) × (position < length entries.now.items)) }
@@ -41,7 +41,7 @@ fn position_of(entries: &VecDeque<Entry>, dropped: usize, absolute: usize) -> Op
     }
 }
 
-/// No live entry is one that the block in progress references any more, of which these are all.
+/// Clears the marks of the live entries that the block in progress references; these are all of them.
 pub(super) fn clear_references(entries: &mut VecDeque<Entry>, dropped: usize, references: &[usize])
     ensures live { entries_of entries.new.items ≡ entries_of entries.old.items }
     ensures uses { uses_of entries.new.items ≡ uses_of entries.old.items }
@@ -55,7 +55,7 @@ pub(super) fn clear_references(entries: &mut VecDeque<Entry>, dropped: usize, re
     }
 }
 
-/// A block is given up that references these entries: each of the live ones has one use less.
+/// Lowers the uses of each live entry among these by one, for a block that referenced them and is given up.
 pub(super) fn lower_uses(entries: &mut VecDeque<Entry>, dropped: usize, references: &[usize])
     requires { AreCounted dropped entries.old.items references.now }
     ensures live { entries_of entries.new.items ≡ entries_of entries.old.items }

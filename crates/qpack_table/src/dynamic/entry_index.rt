@@ -28,7 +28,7 @@ pub trait EntryIndex: Drop {
     // There is room for one entry more, with such a key.
     ghost has_room: { Self.Key → Self → Type 0 };
 
-    /// The key of a field.
+    /// Returns the key of a field.
     fn key_of(field: &FieldLine<'_>) -> Self::Key
         ensures { is_key_of result (line_of field.now).field };
 
@@ -52,7 +52,7 @@ pub trait EntryIndex: Drop {
         requires room { has_room key self.old }
         ensures index { is_index_of self.new dropped entries.now.items };
 
-    /// The oldest entry, which is about to be popped, goes out. It takes no memory, and the room that was made stays.
+    /// Removes the oldest entry, which is about to be popped. It takes no memory, and the room that was made stays.
     fn leave(&mut self, entries: &VecDeque<Entry>, dropped: usize)
         requires some { 0 < length entries.now.items }
         requires few { dropped + length entries.now.items < 2 ^ 64 }

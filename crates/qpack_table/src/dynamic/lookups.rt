@@ -95,15 +95,15 @@ impl DynamicTable {
         Ok(lookup_under(base, absolute))
     }
 
-    /// Whether one more block may be blocked (RFC 9204, section 2.1.2).
+    /// Returns whether one more block may be blocked (RFC 9204, section 2.1.2).
     pub(super) fn is_below_limit(&self) -> bool
         ensures { result ≡ below_limit self.now }
     {
         self.blocked.len() < self.max_blocked
     }
 
-    /// Whether an entry may be referenced: one more block may be blocked, or it is known to be received (RFC 9204,
-    /// section 2.1.2).
+    /// Returns whether an entry may be referenced: one more block may be blocked, or it is known to be received (RFC
+    /// 9204, section 2.1.2).
     pub(super) fn may_reference(&self, absolute: usize) -> bool
         ensures { result ≡ may_reference self.now absolute }
     {
@@ -127,14 +127,14 @@ impl DynamicTable {
         self.evictable_for(size)
     }
 
-    /// Whether there is room for a field.
+    /// Returns whether there is room for a field.
     pub(super) fn has_room(&self, field: &FieldLine<'_>) -> bool
         ensures { result ≡ has_room self.now (line_of field.now).field }
     {
         self.room_for(field).is_some()
     }
 
-    /// How many of the oldest entries go before a field is inserted, if one more block may be blocked and there is
+    /// Returns how many of the oldest entries are evicted for a field, if one more block may be blocked and there is
     /// room.
     #[inline(always)]
     fn insertable(&self, field: &FieldLine<'_>) -> Option<usize>
@@ -339,7 +339,7 @@ fn stored(
     }
 }
 
-/// An absolute index, if it is that of an entry that was not dropped.
+/// Returns an absolute index, if it is that of an entry that was not dropped.
 fn above(newest: Option<usize>, dropped: usize) -> Option<usize>
     ensures { result ≡ kept_index newest dropped }
 {

@@ -15,8 +15,8 @@ use crate::vas::AbsoluteIndex;
 use qpack_base::field::{FieldLine, HeaderField};
 
 impl DynamicTable {
-    /// The absolute index of the newest live entry with the field. It is compared with at most as many entries as the
-    /// number of live ones has binary digits, and each comparison is counted.
+    /// Returns the absolute index of the newest live entry with the field. It is compared with at most as many entries
+    /// as the number of live ones has binary digits, and each comparison is counted.
     pub fn newest_equal(&self, field: &HeaderField, steps: &mut Steps) -> Option<AbsoluteIndex>
         ensures found { result ≡ newest_index self.now (is_field (field_of field.now)) }
         ensures steps { Counts (length self.now.live) steps.old.count steps.new.count }
@@ -34,7 +34,7 @@ impl DynamicTable {
             .newest_equal(&self.entries, self.vas.total_dropped(), field, steps)
     }
 
-    /// The absolute index of the newest live entry with the field, uncounted.
+    /// Returns the absolute index of the newest live entry with the field, uncounted.
     pub(super) fn newest_field(&self, field: &FieldLine<'_>) -> Option<AbsoluteIndex>
         ensures { result ≡ newest_index self.now (is_field (line_of field.now).field) }
     {
@@ -60,8 +60,8 @@ impl DynamicTable {
         )
     }
 
-    /// The absolute index of the newest live entry with the name, whose comparisons are bounded and counted as those of
-    /// [`DynamicTable::newest_equal`].
+    /// Returns the absolute index of the newest live entry with the name, whose comparisons are bounded and counted as
+    /// those of [`DynamicTable::newest_equal`].
     pub fn newest_named(&self, name: &[u8], steps: &mut Steps) -> Option<AbsoluteIndex>
         ensures found { result ≡ newest_index self.now (has_name name.now) }
         ensures steps { Counts (length self.now.live) steps.old.count steps.new.count }
@@ -70,7 +70,7 @@ impl DynamicTable {
             .newest_of_name(&self.entries, self.vas.total_dropped(), name, steps)
     }
 
-    /// The absolute index of the newest live entry with the name, uncounted.
+    /// Returns the absolute index of the newest live entry with the name, uncounted.
     pub(super) fn newest_of_name(&self, name: &[u8]) -> Option<AbsoluteIndex>
         ensures { result ≡ newest_index self.now (has_name name.now) }
     {

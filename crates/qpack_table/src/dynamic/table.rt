@@ -90,7 +90,7 @@ impl<I: EntryIndex> Model for DynamicTable<I> {
 }
 
 impl DynamicTable {
-    /// An empty table, of capacity 0 and with no block that may be blocked.
+    /// Returns an empty table, of capacity 0 and with no block that may be blocked.
     pub fn new(alloc: Global) -> DynamicTable
         ensures { result ≡ empty_table 0 None 0 }
     {
@@ -157,7 +157,7 @@ impl DynamicTable<NoIndex> {
 }
 
 impl<I: EntryIndex> DynamicTable<I> {
-    /// An empty table, of capacity 0 and with no block that may be blocked, with an index of no entry.
+    /// Returns an empty table, of capacity 0 and with no block that may be blocked, with an index of no entry.
     fn with_index(alloc: Global, index: I) -> DynamicTable<I>
         requires { (dropped : ℕ) → I.is_index_of index dropped [] }
         ensures { result ≡ empty_table 0 None 0 }
@@ -176,28 +176,28 @@ impl<I: EntryIndex> DynamicTable<I> {
         }
     }
 
-    /// How many insertions were ever made.
+    /// Returns how many insertions were ever made.
     pub fn total_inserted(&self) -> usize
         ensures { result ≡ insert_count self.now }
     {
         self.vas.total_inserted()
     }
 
-    /// How many entries were evicted.
+    /// Returns how many entries were evicted.
     pub(super) fn total_dropped(&self) -> usize
         ensures { result ≡ self.now.dropped }
     {
         self.vas.total_dropped()
     }
 
-    /// The sum of the live fields' sizes in bytes.
+    /// Returns the sum of the live fields' sizes in bytes.
     pub(super) fn used(&self) -> usize
         ensures { result ≡ total_size (fields_in self.now.live) }
     {
         self.mem_size
     }
 
-    /// The size in bytes of the live entry with an absolute index.
+    /// Returns the size in bytes of the live entry with an absolute index.
     pub(super) fn entry_size(&self, absolute: usize) -> Option<usize>
         ensures { result ≡ option_map field_size (absolute_entry (window self.now) absolute) }
     {
@@ -211,7 +211,7 @@ impl<I: EntryIndex> DynamicTable<I> {
         }
     }
 
-    /// Whether the entry with an absolute index is live and equals a field.
+    /// Returns whether the entry with an absolute index is live and equals a field.
     pub(super) fn is_equal(&self, absolute: usize, field: &FieldLine<'_>) -> bool
         ensures { result ≡ passes_at self.now (is_field (line_of field.now).field) absolute }
     {
@@ -228,7 +228,7 @@ impl<I: EntryIndex> DynamicTable<I> {
         }
     }
 
-    /// The capacity in bytes, which is below 2^30. The live fields fit it.
+    /// Returns the capacity in bytes, which is below 2^30. The live fields fit it.
     pub fn max_mem_size(&self) -> usize
         ensures exact { result ≡ self.now.capacity }
         ensures most { result < 2 ^ 30 }
@@ -237,12 +237,12 @@ impl<I: EntryIndex> DynamicTable<I> {
         self.capacities.capacity()
     }
 
-    /// What the table takes its memory of.
+    /// Returns the allocator of the table.
     pub fn allocator(&self) -> Global {
         *self.entries.allocator()
     }
 
-    /// The table under the base of a block.
+    /// Returns the table under the base of a block.
     pub fn decoder(&self, base: usize) -> DynamicTableDecoder<'_, I>
         ensures table { result.table.now ≡ self.now }
         ensures base { result.base ≡ base }
@@ -250,7 +250,7 @@ impl<I: EntryIndex> DynamicTable<I> {
         DynamicTableDecoder { table: self, base }
     }
 
-    /// The live field of an instruction's relative index, 0 the newest (RFC 9204, section 3.2.5).
+    /// Returns the live field of an instruction's relative index, 0 the newest (RFC 9204, section 3.2.5).
     pub fn get_relative(&self, index: usize) -> Result<&HeaderField, Error>
         ensures found { IfOk result (λ field. relative_entry (window self.now) index ≡ Some (field_of field.now)) }
         ensures refused { IfErr result
@@ -260,7 +260,7 @@ impl<I: EntryIndex> DynamicTable<I> {
         self.field_at(position)
     }
 
-    /// The live field of a line's relative index under a base (RFC 9204, section 3.2.5).
+    /// Returns the live field of a line's relative index under a base (RFC 9204, section 3.2.5).
     fn get_relative_base(&self, base: usize, index: usize) -> Result<&HeaderField, Error>
         ensures { LooksUp result (relative_field (window self.now) base index) }
     {
@@ -268,7 +268,7 @@ impl<I: EntryIndex> DynamicTable<I> {
         self.field_at(position)
     }
 
-    /// The live field of a line's post-base index (RFC 9204, section 3.2.6).
+    /// Returns the live field of a line's post-base index (RFC 9204, section 3.2.6).
     fn get_postbase(&self, base: usize, index: usize) -> Result<&HeaderField, Error>
         ensures { LooksUp result (post_base_field (window self.now) base index) }
     {
@@ -276,14 +276,14 @@ impl<I: EntryIndex> DynamicTable<I> {
         self.field_at(position)
     }
 
-    /// The address space, which is that of what both ends share.
+    /// Returns the address space, which is that of what both ends share.
     fn positions(&self) -> &VirtualAddressSpace
         ensures { result.now ≡ positions_of (window self.now) }
     {
         &self.vas
     }
 
-    /// The live field at a position.
+    /// Returns the live field at a position.
     fn field_at(&self, position: usize) -> Result<&HeaderField, Error>
         ensures found { IfOk result
             (λ field. slice_get (fields_in self.now.live) position ≡ Some (field_of field.now)) }
@@ -296,8 +296,8 @@ impl<I: EntryIndex> DynamicTable<I> {
         }
     }
 
-    /// Whether the live entry at a position is evictable: no block references it, and it was not sent or is known
-    /// to be received (RFC 9204, section 2.1.1).
+    /// Returns whether the live entry at a position is evictable: no block references it, and it was not sent or is
+    /// known to be received (RFC 9204, section 2.1.1).
     fn is_evictable(&self, position: usize) -> bool
         requires { position < length self.now.live }
         ensures { IsEvictableAt self.now position result }
@@ -414,7 +414,7 @@ impl<I: EntryIndex> DynamicTable<I> {
         Ok(self.insert(field, false, evicted)?)
     }
 
-    /// The greatest capacity that may be set, in bytes.
+    /// Returns the greatest capacity that may be set, in bytes.
     fn greatest_capacity(&self) -> usize
         ensures agreed_max { result ≡ greatest_capacity self.now.agreed_max }
         ensures most { result < 2 ^ 30 }
@@ -422,8 +422,8 @@ impl<I: EntryIndex> DynamicTable<I> {
         self.capacities.greatest()
     }
 
-    /// The maximum capacity in bytes: what was agreed, and the present capacity until something is (RFC 9204, section
-    /// 3.2.3).
+    /// Returns the maximum capacity in bytes: what was agreed, and the present capacity until something is (RFC 9204,
+    /// section 3.2.3).
     pub fn agreed_max(&self) -> usize
         ensures exact { result ≡ maximum_capacity self.now.agreed_max self.now.capacity }
         ensures most { self.now.capacity ≤ result }
@@ -501,7 +501,7 @@ impl<I: EntryIndex> DynamicTableDecoder<'_, I> {
         self.table.get_relative_base(self.base, index)
     }
 
-    /// The field that a line's post-base index names (RFC 9204, section 3.2.6).
+    /// Returns the field that a line's post-base index references (RFC 9204, section 3.2.6).
     pub fn get_postbase(&self, index: usize) -> Result<&HeaderField, Error>
         ensures { LooksUp result (post_base_field (window self.now.table.now) self.now.base index) }
     {
