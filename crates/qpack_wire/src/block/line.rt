@@ -39,7 +39,7 @@ pub enum HeaderBlockField {
 }
 
 impl HeaderBlockField {
-    /// The form of a line that begins with this byte.
+    /// Returns the form of a line that begins with this byte.
     pub fn decode(first: u8) -> HeaderBlockField
         ensures { result ≡ field_of_first first }
     {

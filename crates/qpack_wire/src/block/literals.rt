@@ -341,7 +341,7 @@ pub struct Literal {
 }
 
 impl Literal {
-    /// A name and a value.
+    /// Returns a name and a value.
     pub fn new(name: Vec<u8>, value: Vec<u8>) -> Literal
         ensures { line_of_literal result ≡ LiteralLine name.items value.items }
     {

@@ -191,8 +191,8 @@ fn required_count(
     Ok(required as usize)
 }
 
-/// The greatest number of the residue `count - 1` modulo twice the entries that is at most the total
-/// and the entries; 0 if none is above 0.
+/// Returns the greatest number of the residue `count - 1` modulo twice the entries that is at most the total and the
+/// entries; 0 if none is above 0.
 #[tactic(auto, using(crate::proofs::Prefixes::window_at))]
 fn number_in_window(count: usize, total_inserted: usize, max_entries: usize) -> u128
     requires some { 0 < count }

@@ -31,7 +31,7 @@ pub enum DecoderInstruction {
 }
 
 impl DecoderInstruction {
-    /// The decoder instruction that begins with this byte.
+    /// Returns the decoder instruction that begins with this byte.
     pub fn decode(first: u8) -> DecoderInstruction
         ensures { result ≡ decoder_instruction_of_first first }
     {

@@ -35,7 +35,7 @@ pub enum EncoderInstruction {
 }
 
 impl EncoderInstruction {
-    /// The encoder instruction that begins with this byte.
+    /// Returns the encoder instruction that begins with this byte.
     pub fn decode(first: u8) -> EncoderInstruction
         ensures { result ≡ encoder_instruction_of_first first }
     {

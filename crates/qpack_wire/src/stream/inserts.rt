@@ -57,14 +57,14 @@ pub enum InsertWithNameRef {
 }
 
 impl InsertWithNameRef {
-    /// A value under a name of the static table.
+    /// Returns a value under a name of the static table.
     pub fn new_static(index: usize, value: Vec<u8>) -> InsertWithNameRef
         ensures { encoder_instruction_of_insert_with_name_ref result ≡ InsertStaticName index value.items }
     {
         InsertWithNameRef::Static { index, value }
     }
 
-    /// A value under a name of the dynamic table.
+    /// Returns a value under a name of the dynamic table.
     pub fn new_dynamic(index: usize, value: Vec<u8>) -> InsertWithNameRef
         ensures { encoder_instruction_of_insert_with_name_ref result ≡ InsertDynamicName index value.items }
     {
@@ -184,7 +184,7 @@ pub struct InsertWithoutNameRef {
 }
 
 impl InsertWithoutNameRef {
-    /// A name and a value.
+    /// Returns a name and a value.
     pub fn new(name: Vec<u8>, value: Vec<u8>) -> InsertWithoutNameRef
         ensures { encoder_instruction_of_insert_without_name_ref result ≡ InsertLiteralName name.items value.items }
     {

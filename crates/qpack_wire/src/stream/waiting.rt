@@ -86,7 +86,7 @@ fn value_wanted(seen: usize, buf: &mut Cursor) -> usize
     }
 }
 
-/// How many bytes there are up to the end of a payload of this length that begins at the cursor.
+/// Returns how many bytes there are up to the end of a payload of this length that begins at the cursor.
 fn string_end(len: u64, buf: &Cursor) -> usize
     ensures { result ≡ min (string_end_of buf.now.total len buf.now.rest) (2 ^ 64 - 1) }
 {
@@ -150,7 +150,7 @@ fn least_texts(buf: &mut Cursor) -> usize
     name.saturating_add(least_string(buf))
 }
 
-/// How long the string at the cursor is at least.
+/// Returns how long the string at the cursor is at least.
 fn least_string(buf: &mut Cursor) -> usize
     ensures { result ≡ least_string_of (integer_at 7 buf.old.rest) }
 {
@@ -160,7 +160,7 @@ fn least_string(buf: &mut Cursor) -> usize
     }
 }
 
-/// How long a text is at least whose payload has this length: no code has more than 31 bits.
+/// Returns how long a text is at least whose payload has this length: no code has more than 31 bits.
 fn least_text(flags: u8, len: u64) -> usize
     ensures { result ≡ least_text_of flags len }
 {
