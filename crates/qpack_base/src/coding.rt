@@ -51,7 +51,7 @@ impl<'a> Model for Cursor<'a> {
 }
 
 impl<'a> Cursor<'a> {
-    /// A cursor at the front of a slice.
+    /// Returns a cursor at the front of a slice.
     pub fn new(bytes: &'a [u8]) -> Cursor<'a>
         ensures rest { result.rest ≡ bytes.now }
         ensures total { result.total ≡ length bytes.now }
@@ -72,21 +72,21 @@ impl<'a> Cursor<'a> {
         }
     }
 
-    /// How many bytes are left.
+    /// Returns how many bytes are left.
     pub fn remaining(&self) -> usize
         ensures { result ≡ length self.now.rest }
     {
         self.rest.len()
     }
 
-    /// The bytes that are left.
+    /// Returns the bytes that are left.
     pub fn chunk(&self) -> &'a [u8]
         ensures { result.now ≡ self.now.rest }
     {
         self.rest
     }
 
-    /// How many bytes were passed.
+    /// Returns how many bytes were passed.
     pub fn position(&self) -> usize
         ensures { result + length self.now.rest ≡ self.now.total }
     {

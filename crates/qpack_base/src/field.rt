@@ -25,7 +25,7 @@ pub struct HeaderField {
 }
 
 impl HeaderField {
-    /// The field of two byte vectors.
+    /// Returns the field of two byte vectors.
     pub fn new(name: Vec<u8>, value: Vec<u8>) -> HeaderField
         ensures { field_of result ≡ record { name = name.items; value = value.items } }
     {
@@ -35,7 +35,7 @@ impl HeaderField {
         }
     }
 
-    /// A copy of two byte slices.
+    /// Copies two byte slices into a field.
     pub fn from_pair(alloc: Global, name: &[u8], value: &[u8]) -> Result<HeaderField, NoMemory>
         ensures { IfOk result (λ field. field_of field ≡ record { name = name.now; value = value.now }) }
     {
@@ -44,7 +44,7 @@ impl HeaderField {
         Ok(HeaderField::new(name, value))
     }
 
-    /// The size of the field in a table, in bytes, at most 2^64 - 1 (RFC 9204, section 3.2.1).
+    /// Returns the size of the field in a table, in bytes, at most 2^64 - 1 (RFC 9204, section 3.2.1).
     pub fn mem_size(&self) -> usize
         ensures { result ≡ min (field_size (field_of self.now)) (2 ^ 64 - 1) }
     {
@@ -59,7 +59,7 @@ impl HeaderField {
         FieldLine::new(self.name.as_slice(), self.value.as_slice())
     }
 
-    /// The field with another value.
+    /// Returns the field with another value.
     pub fn with_value(&self, value: Vec<u8>) -> Result<HeaderField, NoMemory>
         ensures { IfOk result (λ field. field_of field ≡
             record { name = (field_of self.now).name; value = value.items }) }
@@ -70,14 +70,14 @@ impl HeaderField {
         })
     }
 
-    /// The name and the value.
+    /// Returns the name and the value.
     pub fn into_inner(self) -> (CowSlice<'static, u8>, CowSlice<'static, u8>)
         ensures { result ≡ (self.name, self.value) }
     {
         (self.name, self.value)
     }
 
-    /// The name, a TAB and the value as text, with U+FFFD for what is no UTF-8.
+    /// Returns the name, a TAB and the value as text, with U+FFFD for what is no UTF-8.
     pub fn to_text(&self, alloc: Global) -> Result<String, NoMemory>
         ensures { IfOk result (λ text. string_bytes text ≡ text_of (field_of self.now)) }
     {
@@ -102,7 +102,7 @@ pub struct FieldLine<'a> {
 }
 
 impl<'a> FieldLine<'a> {
-    /// The line of a field that may be indexed.
+    /// Returns the line of a field that may be indexed.
     #[inline(always)]
     pub fn new(name: &'a [u8], value: &'a [u8]) -> FieldLine<'a>
         ensures { line_of result ≡ unmarked (record { name = name.now; value = value.now }) }
@@ -114,7 +114,7 @@ impl<'a> FieldLine<'a> {
         }
     }
 
-    /// The line of a field that is never to be indexed.
+    /// Returns the line of a field that is never to be indexed.
     #[inline(always)]
     pub fn never_indexed(name: &'a [u8], value: &'a [u8]) -> FieldLine<'a>
         ensures { line_of result ≡
@@ -127,7 +127,7 @@ impl<'a> FieldLine<'a> {
         }
     }
 
-    /// The size of the field in a table, in bytes, at most 2^64 - 1 (RFC 9204, section 3.2.1).
+    /// Returns the size of the field in a table, in bytes, at most 2^64 - 1 (RFC 9204, section 3.2.1).
     pub fn mem_size(&self) -> usize
         ensures { result ≡ min (field_size (line_of self.now).field) (2 ^ 64 - 1) }
     {

@@ -167,7 +167,8 @@ fn put_long<A: Allocator>(size: u8, flags: u8, value: u64, buf: &mut Vec<u8, A>)
     put_groups(value - most, buf);
 }
 
-/// The shortest spelling of a value, under the flags, which are cut to the bits above the prefix, if it is one byte.
+/// Returns the shortest spelling of a value, under the flags, which are cut to the bits above the prefix, if it is one
+/// byte.
 #[inline(always)]
 #[tactic(auto, unfolding(qpack_spec::specs::Integer::written_integer))]
 pub(crate) fn short(size: u8, flags: u8, value: u64) -> Option<u8>
@@ -182,7 +183,7 @@ pub(crate) fn short(size: u8, flags: u8, value: u64) -> Option<u8>
     Some(first_byte(size, flags, value))
 }
 
-/// The shortest spelling of a value, under the flags, as `short` has it, if it is two bytes.
+/// Returns the shortest spelling of a value, under the flags, as `short` has it, if it is two bytes.
 #[inline(always)]
 #[tactic(auto, unfolding(qpack_spec::specs::Integer::written_integer), using(crate::proofs::WrittenGroups::written_steps))]
 pub(crate) fn paired(size: u8, flags: u8, value: u64) -> Option<(u8, u8)>
@@ -197,7 +198,7 @@ pub(crate) fn paired(size: u8, flags: u8, value: u64) -> Option<(u8, u8)>
     Some((first_byte(size, flags, most), (value - most) as u8))
 }
 
-/// The prefix under the flags, which are cut to the bits above it.
+/// Returns the prefix under the flags, which are cut to the bits above it.
 #[inline(always)]
 fn first_byte(size: u8, flags: u8, prefix: u64) -> u8
     requires least { 1 ≤ size }
@@ -209,7 +210,7 @@ fn first_byte(size: u8, flags: u8, prefix: u64) -> u8
     (high + prefix) as u8
 }
 
-/// How many bytes the shortest spelling of the value has, with a prefix of `size` bits.
+/// Returns how many bytes the shortest spelling of the value has, with a prefix of `size` bits.
 #[tactic(auto, unfolding(qpack_spec::specs::Integer::written_integer))]
 pub(crate) fn encoded_len(size: u8, value: u64) -> usize
     requires least { 1 ≤ size }
@@ -232,7 +233,7 @@ fn power(bits: u8) -> u64
     1 << bits
 }
 
-/// How many groups of seven bits the value takes.
+/// Returns how many groups of seven bits the value takes.
 #[tactic(auto, using(crate::proofs::WrittenGroups::written_steps))]
 fn groups_len(value: u64) -> usize
     ensures len { result ≡ length (written_groups 9 value) }

@@ -226,7 +226,8 @@ fn append<A: Allocator>(
     append_measured(size, flags, value, buf)
 }
 
-/// Whether there is room for two bytes and the payload of this text, which has at most four bytes for each of the text.
+/// Returns whether there is room for two bytes and the payload of this text, which has at most four bytes for each of
+/// the text.
 #[inline(always)]
 fn has_ample_room<A: Allocator>(value: &[u8], buf: &Vec<u8, A>) -> bool
     ensures { IsTrue result → vec_len buf.now + 4 * length value.now + 2 ≤ vec_capacity buf.now }
@@ -469,14 +470,14 @@ fn read_text_within<A: Allocator>(
     Ok(len)
 }
 
-/// No fewer bytes than any payload of this length means, since no code has fewer than five bits.
+/// Returns an upper bound of the bytes that a payload of this length means, since no code has fewer than five bits.
 fn longest_text(payload: &[u8]) -> usize
     ensures { result ≡ length payload.now / 5 * 8 + 6 }
 {
     payload.len() / 5 * 8 + 6
 }
 
-/// How many bytes the text has that a coded payload means.
+/// Returns how many bytes the text has that a coded payload means.
 fn text_len(payload: &[u8]) -> Result<usize, HuffmanDecodingError>
     ensures ok { IfOk result (λ len. (value : List ℕ) × (text_of_bits (bits_of_bytes payload.now) ≡ Ok value) ×
         (len ≡ length value)) }
