@@ -54,7 +54,7 @@ impl Model for Handle {
 }
 
 impl Handle {
-    /// The end that a handle keeps.
+    /// Returns the end that a handle keeps.
     fn into_box(self, alloc: Global) -> Box<State>
         ensures { result.value ≡ self.value }
     {
@@ -63,7 +63,7 @@ impl Handle {
     }
 }
 
-/// An end at which nothing happened yet.
+/// Returns an end at which nothing happened yet.
 fn begin(alloc: Global, settings: DecoderSettings) -> Result<State, SettingsError>
     ensures ok { IfOk result (IsNew settings) }
     ensures err { IfErr result (FailsSettings settings) }
@@ -276,7 +276,7 @@ fn received(answer: &Result<usize, DecodingError>, taken: usize) -> Received
     }
 }
 
-/// How many insertions were ever received.
+/// Returns how many insertions were ever received.
 #[unsafe(no_mangle)]
 pub extern "C" fn h3q_decoder_insert_count(handle: &mut Handle) -> usize
     ensures same { handle.new.value ≡ handle.old.value }
@@ -287,7 +287,7 @@ pub extern "C" fn h3q_decoder_insert_count(handle: &mut Handle) -> usize
     count
 }
 
-/// How many streams are blocked.
+/// Returns how many streams are blocked.
 #[unsafe(no_mangle)]
 pub extern "C" fn h3q_decoder_blocked(handle: &mut Handle) -> usize
     ensures same { handle.new.value ≡ handle.old.value }
@@ -336,7 +336,7 @@ fn take_stream(state: &mut State, out: &mut [u8]) -> usize
     taken
 }
 
-/// How many bytes of the decoder stream are to be taken.
+/// Returns how many bytes of the decoder stream are to be taken.
 #[unsafe(no_mangle)]
 pub extern "C" fn h3q_decoder_stream_len(handle: &mut Handle) -> usize
     ensures same { handle.new.value ≡ handle.old.value }

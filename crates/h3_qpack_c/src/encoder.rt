@@ -47,7 +47,7 @@ impl Model for Handle {
 }
 
 impl Handle {
-    /// The end that a handle keeps.
+    /// Returns the end that a handle keeps.
     fn into_box(self, alloc: Global) -> Box<State>
         ensures { result.value ≡ self.value }
     {
@@ -56,7 +56,7 @@ impl Handle {
     }
 }
 
-/// An end at which nothing happened yet.
+/// Returns an end at which nothing happened yet.
 fn begin(alloc: Global, settings: EncoderSettings) -> Result<State, SettingsError>
     ensures ok { IfOk result (IsNew settings) }
     ensures err { IfErr result (λ e. (e ≡ CapacityTooLarge) × (2 ^ 30 ≤ settings.max_capacity)) }
@@ -183,7 +183,7 @@ fn take_stream(state: &mut State, out: &mut [u8]) -> usize
     taken
 }
 
-/// How many bytes of the encoder stream are to be taken.
+/// Returns how many bytes of the encoder stream are to be taken.
 #[unsafe(no_mangle)]
 pub extern "C" fn h3q_encoder_stream_len(handle: &mut Handle) -> usize
     ensures same { handle.new.value ≡ handle.old.value }
@@ -283,7 +283,7 @@ fn set_capacity(state: &mut State, capacity: usize) -> i32
     }
 }
 
-/// How many streams may be blocked.
+/// Returns how many streams may be blocked.
 #[unsafe(no_mangle)]
 pub extern "C" fn h3q_encoder_blocked(handle: &mut Handle) -> usize
     ensures same { handle.new.value ≡ handle.old.value }

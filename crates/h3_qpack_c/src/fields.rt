@@ -160,7 +160,7 @@ pub(crate) fn list_size(fields: &[Field]) -> usize
     size
 }
 
-/// How many bytes the names and values have, at most 2^64 - 1.
+/// Returns how many bytes the names and values have, at most 2^64 - 1.
 pub(crate) fn text_len(section: &FieldSection) -> usize
     ensures { result ≡ crossing.text_len section.now.fields }
 {

@@ -12,7 +12,7 @@ mod stateless;
 mod statuses;
 mod tables;
 
-/// The version of this interface: 65,536 for each breaking change, 1 for each addition.
+/// Returns the version of this interface: 65,536 for each breaking change, 1 for each addition.
 #[unsafe(no_mangle)]
 pub extern "C" fn h3q_version() -> u32
     ensures { result ≡ 65536 }

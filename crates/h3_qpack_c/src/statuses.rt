@@ -39,7 +39,7 @@ pub(crate) const DECODER_STREAM_ERROR: i32 = 0x202;
 /// H3_SETTINGS_ERROR (RFC 9114, section 8.1).
 pub(crate) const SETTINGS_ERROR: i32 = 0x109;
 
-/// The status of an error of an encoding end.
+/// Returns the status of an error of an encoding end.
 pub(crate) fn status_of_encoding(error: &EncodingError) -> i32
     ensures { result ≡ of_encoding error.now }
 {
@@ -54,7 +54,7 @@ pub(crate) fn status_of_encoding(error: &EncodingError) -> i32
     }
 }
 
-/// The status of an error of a decoding end.
+/// Returns the status of an error of a decoding end.
 pub(crate) fn status_of_decoding(error: &DecodingError) -> i32
     ensures { result ≡ of_decoding error.now }
 {
@@ -67,7 +67,7 @@ pub(crate) fn status_of_decoding(error: &DecodingError) -> i32
     }
 }
 
-/// The status of an error of a section.
+/// Returns the status of an error of a section.
 pub(crate) fn status_of_section(error: &SectionError) -> i32
     ensures { result ≡ of_section error.now }
 {
@@ -79,7 +79,7 @@ pub(crate) fn status_of_section(error: &SectionError) -> i32
     }
 }
 
-/// The status of an error of a line.
+/// Returns the status of an error of a line.
 pub(crate) fn status_of_line(error: &LineError) -> i32
     ensures { result ≡ of_line error.now }
 {
