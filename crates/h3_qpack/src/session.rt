@@ -205,7 +205,7 @@ impl Session {
         let _ = &self.encoder;
     }
 
-    /// How many blocks were encoded for a stream.
+    /// Returns how many blocks were encoded for a stream.
     pub fn blocks(&self, stream: u64) -> usize
         ensures { result ≡ length (stream_at self.now.streams stream).blocks }
     {
@@ -225,28 +225,28 @@ impl Session {
         }
     }
 
-    /// All bytes of the encoder stream.
+    /// Returns all bytes of the encoder stream.
     pub fn encoder_bytes(&self) -> &[u8]
         ensures { result.now ≡ self.now.encoder_stream }
     {
         &self.encoder_stream
     }
 
-    /// All bytes of the decoder stream.
+    /// Returns all bytes of the decoder stream.
     pub fn decoder_bytes(&self) -> &[u8]
         ensures { result.now ≡ self.now.decoder_stream }
     {
         &self.decoder_stream
     }
 
-    /// The encoder.
+    /// Returns the encoder.
     pub fn encoder(&self) -> &Encoder
         ensures { result.now ≡ self.now.encoder }
     {
         &self.encoder
     }
 
-    /// The decoder.
+    /// Returns the decoder.
     pub fn decoder(&self) -> &Decoder
         ensures { result.now ≡ self.now.decoder }
     {
@@ -254,7 +254,7 @@ impl Session {
     }
 }
 
-/// An empty table of this capacity, under this maximum capacity.
+/// Returns an empty table of this capacity, under this maximum capacity.
 fn empty_table(
     alloc: Global,
     capacity: usize,
