@@ -56,7 +56,7 @@ impl ConnectionSettings {
         }
     }
 
-    /// What the encoding end is made from.
+    /// Returns the settings of the encoding end.
     pub fn encoder(&self) -> EncoderSettings
         ensures { result ≡ encoder_settings self.now }
     {
@@ -208,14 +208,14 @@ impl Connection {
         let _ = &self.ends;
     }
 
-    /// The encoding end. What it has to send is all of the encoder stream, from the start.
+    /// Returns the encoding end. What it has to send is all of the encoder stream, from the start.
     pub fn encoder(&self) -> &ConnectionEncoder
         ensures { result.now ≡ record self.now.encoder { unsent = self.now.encoder_stream.written } }
     {
         self.ends.encoder()
     }
 
-    /// The decoding end. What it has to send is all of the decoder stream, from the start.
+    /// Returns the decoding end. What it has to send is all of the decoder stream, from the start.
     pub fn decoder(&self) -> &ConnectionDecoder
         ensures { result.now ≡ record self.now.decoder { unsent = self.now.decoder_stream.written } }
     {

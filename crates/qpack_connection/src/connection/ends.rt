@@ -70,7 +70,7 @@ impl Ends {
         }
     }
 
-    /// A section of the fields is encoded for a stream.
+    /// Encodes a section of the fields for a stream.
     fn encode(&mut self, number: u64, fields: Vec<OwnedFieldLine>) -> Outcome
         ensures { Goes self.old self.new (Encode number fields) result }
     {
@@ -84,7 +84,7 @@ impl Ends {
         Outcome::Encoded(answer)
     }
 
-    /// The encoding end sets a capacity.
+    /// Sets the capacity of the encoding end.
     fn set_capacity(&mut self, capacity: usize) -> Outcome
         ensures { Goes self.old self.new (SetCapacity capacity) result }
     {
@@ -144,7 +144,7 @@ impl Ends {
         }
     }
 
-    /// A stream is given up. Room to keep that is made first.
+    /// Gives a stream up. It makes room to keep that first.
     fn cancel(&mut self, number: u64) -> Outcome
         ensures { Goes self.old self.new (Cancel number) result }
     {
@@ -164,14 +164,14 @@ impl Ends {
         }
     }
 
-    /// The encoding end. What it has to send is all that it ever wrote.
+    /// Returns the encoding end. What it has to send is all that it ever wrote.
     pub(super) fn encoder(&self) -> &ConnectionEncoder
         ensures { result.now ≡ record self.now.encoder { unsent = self.now.encoder_stream.written } }
     {
         &self.encoder
     }
 
-    /// The decoding end. What it has to send is all that it ever wrote.
+    /// Returns the decoding end. What it has to send is all that it ever wrote.
     pub(super) fn decoder(&self) -> &ConnectionDecoder
         ensures { result.now ≡ record self.now.decoder { unsent = self.now.decoder_stream.written } }
     {

@@ -27,7 +27,7 @@ pub struct OwnedFieldLine {
 }
 
 impl OwnedFieldLine {
-    /// A copy of a field line, for which its mark alone asks.
+    /// Returns a copy of a field line, for which its mark alone asks.
     pub fn copy(alloc: Global, line: FieldLine<'_>) -> Result<OwnedFieldLine, NoMemory>
         ensures { IfOk result (λ owned. line_of_owned owned ≡ line_of line.entry) }
     {
@@ -58,7 +58,8 @@ impl AsField for OwnedFieldLine {
     }
 }
 
-/// The fields are bytes. Their types say so of each once it is read, and what is proved of a connection rests on it.
+/// Recalls that the fields are bytes. Their types say so of each once it is read, and what is proved of a connection
+/// rests on it.
 pub(super) fn recall_fields(fields: &[OwnedFieldLine])
     ensures { AllByRecursion IsByteField (fields_of_lines (lines_of fields.now)) }
 {
@@ -67,7 +68,7 @@ pub(super) fn recall_fields(fields: &[OwnedFieldLine])
     }
 }
 
-/// The field's name and its value are bytes.
+/// Recalls that the field's name and its value are bytes.
 fn recall_field(field: &OwnedFieldLine)
     ensures { IsByteField (line_of_owned field.now).field }
 {
@@ -75,14 +76,14 @@ fn recall_field(field: &OwnedFieldLine)
     recall_bytes(&field.value);
 }
 
-/// The numbers of the slice are bytes.
+/// Recalls that the numbers of the slice are bytes.
 fn recall_bytes(bytes: &[u8])
     ensures { AreBytes bytes.now }
 {
     let _len = bytes.len();
 }
 
-/// What is in memory takes fewer than 2^63 bytes.
+/// Recalls that what is in memory takes fewer than 2^63 bytes.
 pub(super) fn recall_length(bytes: &[u8])
     ensures { length bytes.now < 2 ^ 63 }
 {
