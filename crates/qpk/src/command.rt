@@ -93,7 +93,7 @@ pub fn read_command(alloc: Global, words: &[String]) -> Result<Command, Refusal>
     Err(Refusal::Usage)
 }
 
-/// Whether a word asks for help.
+/// Returns whether a word asks for help.
 fn is_help(word: &str) -> bool
     ensures { result ≡ is_help word.now }
 {
@@ -232,7 +232,7 @@ fn read_lists(alloc: Global, words: &[String]) -> Result<Command, Refusal>
     }))
 }
 
-/// Whether blocks are acknowledged, which a word says.
+/// Returns whether a word says that blocks are acknowledged.
 fn read_acknowledged(alloc: Global, word: &str) -> Result<bool, Refusal>
     ensures { ReadsWords result (read_acknowledged word.now) }
 {
@@ -593,7 +593,7 @@ fn with_explain_word(
     })
 }
 
-/// Whether a word begins as an option does.
+/// Returns whether a word begins as an option does.
 pub fn is_option(word: &str) -> bool
     ensures { result ≡ is_option word.now }
 {

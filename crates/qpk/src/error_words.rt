@@ -114,7 +114,7 @@ impl fmt::Display for EncoderWords<'_> {
     }
 }
 
-/// An integer that could not be read.
+/// Returns the words of an integer that could not be read.
 fn integer_words(e: &prefix_int::Error) -> &'static str
     ensures { result.now ≡ integer_words e.now }
 {
@@ -124,7 +124,7 @@ fn integer_words(e: &prefix_int::Error) -> &'static str
     }
 }
 
-/// An integer that could not be read, by its name.
+/// Returns the name of an integer that could not be read.
 fn integer_name(e: &prefix_int::Error) -> &'static str
     ensures { result.now ≡ integer_name e.now }
 {
@@ -217,7 +217,7 @@ impl fmt::Display for WindowName<'_> {
     }
 }
 
-/// What the dynamic table refused, by its name.
+/// Returns the name of what the dynamic table refused.
 fn table_name(e: &dynamic::Error) -> Words
     ensures { counted_words result.front.now result.number result.back.now ≡ table_name e.now }
 {
@@ -235,7 +235,7 @@ fn table_name(e: &dynamic::Error) -> Words
     }
 }
 
-/// An index of no live entry, by the name of its kind.
+/// Returns the name of the kind of an index of no live entry.
 fn address_name(e: &vas::Error) -> Words
     ensures { counted_words result.front.now result.number result.back.now ≡ address_name e.now }
 {

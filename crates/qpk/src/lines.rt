@@ -17,12 +17,12 @@ pub trait FromLine: Drop {
 
     ghost of_line: { List ℕ → Option Value };
 
-    /// The item of a line, if it has one.
+    /// Returns the item of a line, if it has one.
     fn from_line(alloc: Global, line: &[u8]) -> Result<Option<Self>, Fault>
         ensures { ReadsItem value result (of_line line.now) };
 }
 
-/// The items of a text's lines; or the number of the first line that has none, counted from 1.
+/// Returns the items of a text's lines; or the number of the first line that has none, counted from 1.
 pub fn read_lines<T: FromLine>(alloc: Global, text: &[u8]) -> Result<Result<Vec<T>, usize>, Fault>
     ensures { ReadsItems T.value result (items_from T.of_line 1 (lines_of text.now)) }
 {

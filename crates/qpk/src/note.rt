@@ -33,7 +33,7 @@ fn return_note(alloc: Global, input: &[u8]) -> Result<Option<String>, AllocError
     Ok(Some(note))
 }
 
-/// The number, counted from 1, of the first line that ends in a carriage return and a line feed.
+/// Returns the number, counted from 1, of the first line that ends in a carriage return and a line feed.
 fn return_line(input: &[u8]) -> Option<usize>
     ensures { result ≡ return_line 1 input.now }
 {

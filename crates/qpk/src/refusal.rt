@@ -96,7 +96,7 @@ fn missing_line(
     Ok(CowStr::Owned(line))
 }
 
-/// The name of a word in the lines of how a command is called.
+/// Returns the name of a word in the lines of how a command is called.
 fn name_of(wanted: Wanted) -> &'static str
     ensures { result.now ≡ name_of wanted }
 {
@@ -128,7 +128,7 @@ fn bad_word_line(
     Ok(CowStr::Owned(format!(in alloc; "{usage}qpk: \"{word}\" is {words}\n")?))
 }
 
-/// What a word is not.
+/// Returns what a word is not.
 fn wanted_words(wanted: Wanted) -> &'static str
     ensures { result.now ≡ wanted_words wanted }
 {

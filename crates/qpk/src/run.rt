@@ -44,7 +44,7 @@ fn run_session(
     run_events(&mut session, events, text)
 }
 
-/// A session with this capacity in bytes and this limit of blocked blocks.
+/// Returns a session with this capacity in bytes and this limit of blocked blocks.
 fn begin(alloc: Global, capacity: usize, limit: usize) -> Result<Session, Fault>
     ensures { BeginsRun result capacity limit }
 {
@@ -78,7 +78,7 @@ fn run_event(session: &mut Session, event: &Event, text: &mut String) -> Result<
     push_outcome_lines(text, &outcome, made_block(session, event), added)
 }
 
-/// The stream that an event adds bytes to, if it adds any.
+/// Returns the stream that an event adds bytes to, if it adds any.
 fn written_stream<'a>(session: &'a Session, event: &Event) -> &'a [u8]
     ensures { result.now ≡ stored_stream_bytes (event_of event.now) session.now }
 {

@@ -50,7 +50,7 @@ impl FromLine for Event {
     }
 }
 
-/// The event of this name that has a number alone.
+/// Returns the event of this name that has a number alone.
 fn number_event(name: &[u8], number: u64) -> Option<Event>
     ensures { IsItem event_of result (event_of_number name.now number) }
 {

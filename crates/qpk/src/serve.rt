@@ -232,7 +232,7 @@ fn bytes_of(alloc: Global, words: &[String]) -> Result<Vec<u8>, AllocError> {
     Ok(bytes)
 }
 
-/// What is written for an input, and the refusal that ends it.
+/// Returns what is written for an input, and the refusal that ends it.
 fn answer(alloc: Global, command: Command, input: &[u8]) -> Result<Output, Fault>
     ensures answers { AnswersInput command input.now result }
     ensures found { IfOk result (λ a. MayFind command a.has_found) }
@@ -312,7 +312,7 @@ fn of_bytes(bytes: Vec<u8>) -> Output
     }
 }
 
-/// The fields, a line each, and the line of their size.
+/// Returns the fields, a line each, and the line of their size.
 fn show_fields(alloc: Global, decoded: &Decoded) -> Result<String, NoMemory>
     requires { decoded.now.mem_size ≡ saturated_size (total_size (fields_in decoded.now.fields.items)) }
     ensures { IfOk result (λ text. string_bytes text ≡ printed_fields (fields_in decoded.now.fields.items)) }
@@ -341,7 +341,7 @@ fn decode_to_json(alloc: Global, input: &[u8], limit: u64) -> Result<Output, Fau
     Ok(whole(text))
 }
 
-/// The fields in hexadecimal, a line each, and the line of their size.
+/// Returns the fields in hexadecimal, a line each, and the line of their size.
 fn show_hexadecimal(alloc: Global, decoded: &Decoded) -> Result<String, NoMemory>
     requires { decoded.now.mem_size ≡ saturated_size (total_size (fields_in decoded.now.fields.items)) }
     ensures { IfOk result (λ text. string_bytes text ≡ hexadecimal_answer (fields_in decoded.now.fields.items)) }

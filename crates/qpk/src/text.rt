@@ -122,8 +122,8 @@ impl From<DecoderError> for Fault {
     }
 }
 
-/// The stateless block of the fields of the text's lines, `name TAB value` each, in lower-case
-/// hexadecimal; or the first line without a TAB.
+/// Returns the stateless block of the fields of the text's lines, `name TAB value` each, in lower-case hexadecimal; or
+/// the first line without a TAB.
 pub fn encode_text(alloc: Global, text: &[u8]) -> Result<String, Fault>
     ensures { EncodesText result (encode_answer text.now) }
 {
@@ -136,7 +136,7 @@ pub fn encode_text(alloc: Global, text: &[u8]) -> Result<String, Fault>
     Ok(hex::encode(alloc, block.as_slice())?)
 }
 
-/// The fields of the text's lines.
+/// Returns the fields of the text's lines.
 fn read_field_lines(alloc: Global, text: &[u8]) -> Result<Vec<HeaderField>, Fault>
     ensures { ReadsFields result (fields_from 1 (lines_of text.now)) }
 {

@@ -45,7 +45,7 @@ impl FromLine for Event {
     }
 }
 
-/// The event of this name, with these bytes.
+/// Returns the event of this name, with these bytes.
 fn event_named(name: &[u8], bytes: Vec<u8>) -> Option<Event>
     ensures { IsItem event_of result (event_named name.now bytes.items) }
 {

@@ -54,7 +54,7 @@ fn inspect_next(
     Ok(true)
 }
 
-/// The instruction at the cursor, which is moved past it, or none of a truncated one.
+/// Returns the instruction at the cursor, and moves past it; or `None` if it is truncated.
 fn next_instruction(alloc: Global, buf: &mut Cursor) -> Result<Option<EncoderLine>, DecoderError>
     ensures reads { ReadsNext buf.old.rest buf.new.rest result }
     ensures total { buf.new.total ≡ buf.old.total }
